@@ -1,16 +1,17 @@
 -- One client and a user who does nothing, stepped together.
 use Rattle.nit_actor.proofs.Basics.{Action, Belongs, Bool, Call, Calls, Entry, Line, List, Option}
-use Rattle.nit_actor.proofs.Basics.{PassModel, Reply, Role, RoomModel, Sight, Some, StepTogether}
-use Rattle.nit_actor.proofs.Basics.{UserBelongs, UserPassModel, [], action_of, actions_to_be}
-use Rattle.nit_actor.proofs.Basics.{after_arrival, ap, ap₂, arith, arrived_one, call_of_line}
-use Rattle.nit_actor.proofs.Basics.{calls_in, cond, count_by, drop, drop_at, false, idle_user}
-use Rattle.nit_actor.proofs.Basics.{is_phase, length, length-drop, map, refl, replicate, role_of}
-use Rattle.nit_actor.proofs.Basics.{slice_get, subst, suc, sum_by-cons, sym, user_actions_from}
+use Rattle.nit_actor.proofs.Basics.{PassModel, Reply, Role, RoomModel, Sight, Some, StepOn}
+use Rattle.nit_actor.proofs.Basics.{StepTogether, UserBelongs, UserPassModel, [], action_of}
+use Rattle.nit_actor.proofs.Basics.{actions_to_be, after_arrival, ap, ap₂, arith, arrived_one}
+use Rattle.nit_actor.proofs.Basics.{call_of_line, calls_in, cond, count_by, drop, drop_at, false}
+use Rattle.nit_actor.proofs.Basics.{idle_user, is_phase, length, length-drop, map, refl, replicate}
+use Rattle.nit_actor.proofs.Basics.{role_of, subst, suc, sum_by-cons, sym, user_actions_from}
 use Rattle.nit_actor.proofs.Basics.{user_actions_to_do}
-use Rattle.std.proofs.Common.{zero, ℕ, ◌++◌, ◌+◌, ◌∙◌, ◌∷◌, ◌≡◌, ◌≤◌}
+use Rattle.std.proofs.Common.{slice_get, zero, ℕ, ◌++◌, ◌+◌, ◌∙◌, ◌∷◌, ◌≡◌, ◌≤◌}
 use Rattle.nit_events.specs.declared.entry.Entry.TheVariants as entry
 use Rattle.nit_script.specs.declared.line.Line.TheVariants as line
 use Rattle.nit_script.specs.declared.line.InputLine.TheVariants as input
+use Rattle.nit_actor.proofs.RoleLemmas.{fits_belongs, role_fits, user_again}
 
 -- ---- what is left of a list
 
@@ -65,25 +66,23 @@ pub step_on : (r r' : RoomModel) (p p' : PassModel) (u : UserPassModel) (l : Lin
     (sight : Sight)
     → StepTogether r p u → slice_get p.script p.next ≡ Some l → is_phase l ≡ false
     → r'.parts ≡ r.parts → r'.phase ≡ r.phase → r'.arrived ≡ r.arrived
-    → p' ≡ record p { next = p.next + 1; met = met; seen = seen; sight = sight } → StepTogether r' p' u
+    → p' ≡ record p { next = p.next + 1; met = met; seen = seen; sight = sight } → StepOn r p u r' p' u
 step_on r r' p p' u l met seen sight s at other parts phase arrived is =
-    subst (λ (q : PassModel). StepTogether r' q u) (sym is)
+    subst (λ (q : PassModel). StepOn r p u r' q u) (sym is)
     (record {
-      one = ap (λ x. length x.scripts) parts ∙ s.one;
-      belongs = subst (λ x. Belongs x (record p { next = p.next + 1; met = met; seen = seen; sight = sight }))
-          (sym parts)
-          (record {
-            name = s.belongs.name;
-            script = s.belongs.script;
-            plan = s.belongs.plan;
-            donation =
-                s.belongs.donation;
-          });
-      user_belongs = subst (λ x. UserBelongs x u) (sym parts) s.user_belongs;
-      phase = s.phase ∙ sym phase;
-      user_phase = s.user_phase ∙ sym phase;
-      arrived = arrived ∙ s.arrived;
-      idle = s.idle ∙ ap idle_user (drop_at p.script p.next l at) ∙ idle_on l (drop (p.next + 1) p.script) other;
+      step = record {
+        one = ap (λ x. length x.scripts) parts ∙ s.one;
+        belongs = subst (λ x. Belongs x (record p { next = p.next + 1; met = met; seen = seen; sight = sight }))
+            (sym parts) (fits_belongs r.parts _ (role_fits r.parts p s.belongs));
+        user_belongs = subst (λ x. UserBelongs x u) (sym parts) s.user_belongs;
+        phase = s.phase ∙ sym phase;
+        user_phase = s.user_phase ∙ sym phase;
+        arrived = arrived ∙ s.arrived;
+        idle = s.idle ∙ ap idle_user (drop_at p.script p.next l at) ∙ idle_on l (drop (p.next + 1) p.script) other;
+      };
+      pass = record { same = refl; next = refl };
+      user_same = refl;
+      parts = parts;
     })
 
 -- ---- the end of a phase
@@ -103,50 +102,37 @@ both_arrived : (n phase arrived : ℕ) → n ≡ 1 → arrived ≡ 1 → after_a
 both_arrived n phase arrived one has = ap (λ (x : ℕ). after_arrival x phase arrived) one
     ∙ ap (λ (x : ℕ). after_arrival 1 phase x) has
 
-pub phase_on : (r : RoomModel) (p : PassModel) (u : UserPassModel) (n m : ℕ) (seen known : List Entry)
+pub phase_ended : (r r1 r2 : RoomModel) (p p' : PassModel) (u u' : UserPassModel) (n m : ℕ) (seen known : List Entry)
     → StepTogether r p u → slice_get p.script p.next ≡ Some line.Phase
-    → StepTogether (arrived_one (arrived_one r n) m) (record p { next = p.next + 1; phase = p.phase + 1; seen = seen })
-    (record u { next = u.next + 1; phase = u.phase + 1; seen = known })
-phase_on r p u n m seen known s at =
+    → r1 ≡ arrived_one r n → r2 ≡ arrived_one r1 m
+    → p' ≡ record p { next = p.next + 1; phase = p.phase + 1; seen = seen }
+    → u' ≡ record u { next = u.next + 1; phase = u.phase + 1; seen = known } → StepOn r p u r2 p' u'
+phase_ended r r1 r2 p p' u u' n m seen known s at is_first is_second passed user_passed =
+    let rooms : r2 ≡ arrived_one (arrived_one r n) m = is_second ∙ ap (λ (x : RoomModel). arrived_one x m) is_first in
     let first = one_arrived (length r.parts.scripts) r.phase r.arrived s.one s.arrived in
     let then = both_arrived (length r.parts.scripts) (arrived_one r n).phase (arrived_one r n).arrived s.one
     (ap (λ x. x.1) first) in
     let served : (arrived_one (arrived_one r n) m).phase ≡ r.phase + 1 = ap (λ x. x.0) then
     ∙ ap (λ (x : ℕ × ℕ). x.0 + 1) first in
-    record {
-      one = s.one;
-      belongs = record {
-        name = s.belongs.name;
-        script = s.belongs.script;
-        plan = s.belongs.plan;
-        donation =
-            s.belongs.donation;
-      };
-      user_belongs = record {
-        number = s.user_belongs.number;
-        name = s.user_belongs.name;
-        input =
-            s.user_belongs.input;
-      };
-      phase = ap (λ (x : ℕ). x + 1) s.phase ∙ sym served;
-      user_phase = ap (λ (x : ℕ). x + 1) s.user_phase ∙ sym served;
-      arrived = ap (λ x. x.1) then;
-      idle = others_left u.next u.input input.Phase (idle_user (drop (p.next + 1) p.script))
-          (s.idle ∙ ap idle_user (drop_at p.script p.next line.Phase at) ∙ idle_phase (drop (p.next + 1) p.script));
-    }
-
-pub phase_ended : (r r1 r2 : RoomModel) (p p' : PassModel) (u u' : UserPassModel) (n m : ℕ) (seen known : List Entry)
-    → StepTogether r p u → slice_get p.script p.next ≡ Some line.Phase
-    → r1 ≡ arrived_one r n → r2 ≡ arrived_one r1 m
-    → p' ≡ record p { next = p.next + 1; phase = p.phase + 1; seen = seen }
-    → u' ≡ record u { next = u.next + 1; phase = u.phase + 1; seen = known } → StepTogether r2 p' u'
-phase_ended r r1 r2 p p' u u' n m seen known s at first second passed user_passed =
-    let rooms : r2 ≡ arrived_one (arrived_one r n) m = second ∙ ap (λ (x : RoomModel). arrived_one x m) first in
-    subst (λ (x : RoomModel). StepTogether x p' u') (sym rooms)
-    (subst (λ (x : PassModel). StepTogether (arrived_one (arrived_one r n) m) x u') (sym passed)
-    (subst (λ (x : UserPassModel). StepTogether (arrived_one (arrived_one r n) m)
+    subst (λ (x : RoomModel). StepOn r p u x p' u') (sym rooms)
+    (subst (λ (x : PassModel). StepOn r p u (arrived_one (arrived_one r n) m) x u') (sym passed)
+    (subst (λ (x : UserPassModel). StepOn r p u (arrived_one (arrived_one r n) m)
     (record p { next = p.next + 1; phase = p.phase + 1; seen = seen }) x) (sym user_passed)
-    (phase_on r p u n m seen known s at)))
+    (record {
+      step = record {
+        one = s.one;
+        belongs = fits_belongs r.parts _ (role_fits r.parts p s.belongs);
+        user_belongs = user_again r.parts u _ s.user_belongs refl;
+        phase = ap (λ (x : ℕ). x + 1) s.phase ∙ sym served;
+        user_phase = ap (λ (x : ℕ). x + 1) s.user_phase ∙ sym served;
+        arrived = ap (λ x. x.1) then;
+        idle = others_left u.next u.input input.Phase (idle_user (drop (p.next + 1) p.script))
+            (s.idle ∙ ap idle_user (drop_at p.script p.next line.Phase at) ∙ idle_phase (drop (p.next + 1) p.script));
+      };
+      pass = record { same = refl; next = refl };
+      user_same = refl;
+      parts = refl;
+    })))
 
 -- ---- at the end
 
@@ -185,15 +171,6 @@ nothing_recorded entries now p p' l at none same role next =
     ∙ ap₂ (λ (r : Role) (n : ℕ). map action_of entries ++ map (Calls r.sid) (calls_in (drop n r.script))) role next
     ∙ ap (λ (cs : List Call). map action_of entries ++ map (Calls p.sid) cs) (sym (none (drop (p.next + 1) p.script))
     ∙ ap calls_in (sym (drop_at p.script p.next l at)))
-
-pub all_recorded : (p : PassModel) (entries : List Entry) → p.next ≡ length p.script
-    → actions_to_be entries p ≡ map action_of entries
-all_recorded p entries ended = ap (λ (ls : List Line). map action_of entries ++ map (Calls p.sid) (calls_in ls))
-    (nothing_left p.script p.next ended) ∙ nothing_behind (map action_of entries)
-  where
-    nothing_behind : (xs : List Action) → xs ++ [] ≡ xs
-    nothing_behind [] = refl
-    nothing_behind (x ∷ xs) = ap (λ (ys : List Action). x ∷ ys) (nothing_behind xs)
 
 -- ---- the idle user's deeds
 

@@ -2,7 +2,7 @@ pub mod RoleLemmas
 pub mod PhaseCounts
 pub mod Pairs
 pub mod LeastPhases
-pub mod PictureLemmas
+pub mod Shots
 pub mod IdleUserLemmas
 pub mod ForCallers
 pub mod Basics

@@ -1,7 +1,7 @@
 -- What the lines that are done tell of a count of lines, such as that of the phases that they end.
 use Rattle.nit_actor.proofs.Basics.{Bool, List, Some, ap, arith, cond, count_by, counted_more}
-use Rattle.nit_actor.proofs.Basics.{length, slice_get, subst, sum_by-take-le, take}
-use Rattle.std.proofs.Common.{take_all, true, ℕ, ◌+◌, ◌≡◌, ◌≤◌}
+use Rattle.nit_actor.proofs.Basics.{length, subst, sum_by-take-le, take}
+use Rattle.std.proofs.Common.{slice_get, take_all, true, ℕ, ◌+◌, ◌≡◌, ◌≤◌}
 
 -- before a line that counts there are fewer than in all
 pub counted_fewer : {X : Type 0} (p : X → Bool) (xs : List X) (k : ℕ) (x : X) → slice_get xs k ≡ Some x → p x ≡ true

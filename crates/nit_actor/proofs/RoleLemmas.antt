@@ -1,8 +1,8 @@
 -- The roles of actors, one of which did a line.
 use Rattle.nit_actor.proofs.Basics.{Belongs, IsRoleIn, List, OpeningParts, PassModel, Role}
 use Rattle.nit_actor.proofs.Basics.{UserBelongs, UserPassModel, UserRole, [], ap, arith, get_or}
-use Rattle.nit_actor.proofs.Basics.{length, map, refl, role_of, set, slice_index_or, subst, suc}
-use Rattle.nit_actor.proofs.Basics.{sym, user_role_of}
+use Rattle.nit_actor.proofs.Basics.{length, length-map, map, refl, role_of, set, slice_index_or}
+use Rattle.nit_actor.proofs.Basics.{subst, suc, sym, user_role_of}
 use Rattle.std.proofs.Common.{zero, ℕ, ◌<◌, ◌∙◌, ◌∷◌, ◌≡◌, All}
 
 -- ---- lists of any actors
@@ -20,12 +20,8 @@ image_at f [] k d = refl
 image_at f (x ∷ xs) zero d = refl
 image_at f (x ∷ xs) (suc k) d = image_at f xs k d
 
-image_long : {X R : Type 0} (f : X → R) (xs : List X) → length (map f xs) ≡ length xs
-image_long f [] = refl
-image_long f (x ∷ xs) = ap suc (image_long f xs)
-
 same_long : {X R : Type 0} (f : X → R) (xs ys : List X) → map f xs ≡ map f ys → length xs ≡ length ys
-same_long {R = R} f xs ys e = sym (image_long f xs) ∙ ap (λ (rs : List R). length rs) e ∙ image_long f ys
+same_long {R = R} f xs ys e = sym (length-map xs f) ∙ ap (λ (rs : List R). length rs) e ∙ length-map ys f
 
 -- what holds of some roles holds of the same roles
 pub all_again : {X R : Type 0} (f : X → R) (P : R → Type 0) (xs ys : List X) → map f xs ≡ map f ys

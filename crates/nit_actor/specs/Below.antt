@@ -1,4 +1,5 @@
 -- The words of the library and of the crates below that are used here, and the crate's plain types.
+pub use Rattle.nit_actor.specs.declared.crew.Unstarted.{Unstarted}
 pub use Rattle.nit_actor.specs.declared.pair.Pair.{Pair}
 pub use Rattle.nit_clip.specs.ClipGrammar.{clip_phases, is_clip_phase}
 pub use Rattle.nit_clip.specs.declared.line.ClipLine.{ClipLine}
@@ -26,8 +27,10 @@ pub use Rattle.nit_overlay.specs.Frame.{shown}
 pub use Rattle.nit_plan.specs.Calls.{calls_in, user_actions_from, user_actions_to_do}
 pub use Rattle.nit_plan.specs.Plan.{PlanModel}
 pub use Rattle.nit_report.specs.Picture.{picture, picture_length}
+pub use Rattle.nit_rounds.specs.Desks.{IsSameDesk}
 pub use Rattle.nit_rounds.specs.RoundsRun.{put_state_of_desk, shot_name}
 pub use Rattle.nit_rounds.specs.Shots.{AreShotsOf, ShotsBehind}
+pub use Rattle.nit_rounds.specs.declared.desk.Desk.{Desk}
 pub use Rattle.nit_scene.specs.RawWords.{pixel_count}
 pub use Rattle.nit_scene.specs.StateScenery.{scenery_of}
 pub use Rattle.nit_script.specs.Phases.{is_phase, phases}
@@ -36,8 +39,8 @@ pub use Rattle.nit_script.specs.declared.line.Line.{Line}
 pub use Rattle.nit_script.specs.declared.line.Stroke.{Stroke}
 pub use Rattle.nit_stack.specs.Sources.{pixel}
 pub use Rattle.nit_store.specs.Puts.{PutState, PutsAll, PutsNext}
-pub use Rattle.nit_store.specs.Store.{File}
+pub use Rattle.nit_store.specs.Store.{File, StoreModel}
 pub use Rattle.nit_word.specs.Inks.{IsWord}
 pub use Rattle.nit_word.specs.Sight.{Sight}
 pub use Rattle.std.specs.List.{cons_option, slice_index_or}
-pub use Rattle.std.specs.Prelude.{slice_get, slice_index}
+pub use Rattle.std.specs.Prelude.{slice_index}

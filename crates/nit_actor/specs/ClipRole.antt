@@ -1,9 +1,9 @@
 -- Who a client with a clip script is and what it has to do. No line that it does changes this.
-use Rattle.std.specs.Prelude.{◌≡◌, ◌==◌, ℕ, Bool, true, List, slice_get, Some}
+use Rattle.std.specs.Prelude.{◌≡◌, ◌==◌, ℕ, Bool, true, List, length, slice_get, Some}
 use Rattle.nit_actor.specs.Below.{AreTogether, Belongs, BookName, ClipBelongs, ClipLine}
 use Rattle.nit_actor.specs.Below.{ClipPassModel, OpeningParts, PassModel, clip_number, clip_phases}
 use Rattle.nit_actor.specs.Below.{phases}
-use Rattle.nit_actor.specs.Role.{Role, IsRoleIn, role_of}
+use Rattle.nit_actor.specs.Role.{Role, IsOneOn, IsRoleIn, IsThrough, role_of}
 
 -- a client's with the clipboard: its number, that of its share, the name of its room's book, and
 -- its clip script
@@ -28,6 +28,31 @@ pub record IsPairIn (parts : OpeningParts) (p : PassModel) (q : ClipPassModel) :
   pub pass : Belongs parts p
   pub clip : ClipBelongs parts q
   pub together : GoTogether p q
+
+-- ---- what a client with a clip script did
+
+-- One more line of the client's pass is done. Both passes keep their roles, and go together.
+pub record PairIsOneOn (p : PassModel) (q : ClipPassModel) (p' : PassModel) (q' : ClipPassModel)
+    : Type 0 where
+  pub pass : IsOneOn p p'
+  pub clip_same : clip_role_of q' ≡ clip_role_of q
+  pub together : GoTogether p' q'
+
+-- All lines of both passes are done. They keep their roles, and go together.
+pub record PairIsThrough (p : PassModel) (q : ClipPassModel) (p' : PassModel) (q' : ClipPassModel)
+    : Type 0 where
+  pub pass : IsThrough p p'
+  pub clip_same : clip_role_of q' ≡ clip_role_of q
+  pub clip_done : q'.next ≡ length q'.script
+  pub together : GoTogether p' q'
+
+-- Only clip calls were done: the pass stands where it stood, and may know more, and the clip pass is
+-- further on in its phase.
+pub record DidClips (parts : OpeningParts) (p : PassModel) (q : ClipPassModel) (p' : PassModel)
+    (q' : ClipPassModel) : Type 0 where
+  pub pass : p' ≡ record p { met = p'.met; seen = p'.seen }
+  pub clip : q' ≡ record q { next = q'.next; seen = q'.seen }
+  pub pair : IsPairIn parts p' q'
 
 -- ---- a pass and a clip pass that go to one thread
 

@@ -1,5 +1,5 @@
 -- Who an actor is and what it has to do. No line that it does changes this.
-use Rattle.std.specs.Prelude.{◌≡◌, ℕ, List, slice_get, Some}
+use Rattle.std.specs.Prelude.{◌≡◌, ◌+◌, ℕ, List, length, slice_get, Some}
 use Rattle.nit_actor.specs.Below.{BookName, InputLine, Line, OpeningParts, PassModel, PlanModel}
 use Rattle.nit_actor.specs.Below.{UserPassModel, donation_of}
 
@@ -20,6 +20,16 @@ role_of p = record {
   plan = p.plan;
   donation = p.donation;
 }
+
+-- a client's pass keeps its role, and one more of its lines is done
+pub record IsOneOn (before after' : PassModel) : Type 0 where
+  pub same : role_of after' ≡ role_of before
+  pub next : after'.next ≡ before.next + 1
+
+-- it keeps its role, and all its lines are done
+pub record IsThrough (before after' : PassModel) : Type 0 where
+  pub same : role_of after' ≡ role_of before
+  pub done : after'.next ≡ length after'.script
 
 -- the user's: its number, the name of its room's book, and the input script
 pub record UserRole : Type 0 where

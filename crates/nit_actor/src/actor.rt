@@ -1,7 +1,7 @@
 //! What an actor is, and what a client's thread does.
 
-ghost use Rattle.std.specs.Prelude.{◌≡◌, ◌+◌, Some, length, slice_get};
-ghost use Rattle.nit_actor.specs.Terms.{Belongs, HasMetPhase, Stroke, role_of};
+ghost use Rattle.std.specs.Prelude.{◌≡◌, ◌+◌, Some, slice_get};
+ghost use Rattle.nit_actor.specs.Terms.{Belongs, HasMetPhase, IsOneOn, IsThrough, Stroke, role_of};
 ghost use Rattle.nit_script.specs.declared.line.Line.TheVariants as lines;
 
 use crate::gate::{Checkpoint, Gate};
@@ -93,8 +93,7 @@ pub fn run_actor<'a, N: Name, G: Gate, R: Wait>(
     pass: &mut Pass<'a>,
 )
     requires belongs { Belongs N.parts pass.old }
-    ensures same { role_of pass.new ≡ role_of pass.old }
-    ensures done { pass.new.next ≡ length pass.new.script }
+    ensures { IsThrough pass.old pass.new }
 {
     run_lines(rt, &gated.work(), pass)
 }
@@ -106,8 +105,7 @@ fn run_lines<'a, N: Name, K: Checkpoint, R: Wait>(
     pass: &mut Pass<'a>,
 )
     requires belongs { Belongs N.parts pass.old }
-    ensures same { role_of pass.new ≡ role_of pass.old }
-    ensures done { pass.new.next ≡ length pass.new.script }
+    ensures { IsThrough pass.old pass.new }
 {
     'lines: while let Some(line) = pass.next() {
         do_line(rt, work, pass, &line);
@@ -124,8 +122,7 @@ pub(crate) fn do_line<'a, N: Name, K: Checkpoint, R: Wait>(
 )
     requires belongs { Belongs N.parts pass.old }
     requires next { slice_get pass.old.script pass.old.next ≡ Some line.now }
-    ensures same { role_of pass.new ≡ role_of pass.old }
-    ensures next { pass.new.next ≡ pass.old.next + 1 }
+    ensures { IsOneOn pass.old pass.new }
 {
     wait_for_stroke(rt, work.hall, pass, line);
     work.checkpoint.reach(pass.sid(), pass.line() + 1);

@@ -1,10 +1,9 @@
 //! All actors of a run beside each other: each client on a thread of its own, the user on the
 //! calling one.
 
-ghost use Rattle.std.specs.Prelude.{◌≡◌, ◌*◌, ◌≤◌, All, [], length, map, vec_len, vec_capacity};
-ghost use Rattle.nit_actor.specs.Terms.{Belongs, IsPairIn, PutsShotsBehind, UserBelongs};
-ghost use Rattle.nit_actor.specs.Terms.{pair_role_of, picture_length, put_state_of_desk, role_of};
-ghost use Rattle.nit_actor.specs.Terms.{user_role_of};
+ghost use Rattle.std.specs.Prelude.{◌≡◌, All, length, map, vec_len};
+ghost use Rattle.nit_actor.specs.Terms.{Belongs, CanShoot, HasPlaceFor, IsPairIn, TakesAllShots};
+ghost use Rattle.nit_actor.specs.Terms.{pair_role_of, role_of};
 
 use crate::actor::Actor;
 use crate::crew::{Own, Unstarted, run_crew};
@@ -28,26 +27,12 @@ pub struct Mine<'a, 's, S> {
 }
 
 impl<'a, 's, W: UserTurns<'a>, A: Actor<W>, S: Store> Own<A, W> for Mine<'a, 's, S> {
-    ghost use Rattle.std.specs.Prelude.{◌≡◌, ◌*◌, length};
-    ghost use Rattle.nit_report.specs.Picture.{picture_length};
-    ghost use Rattle.nit_hall.specs.Pass.{UserBelongs};
-    ghost use Rattle.nit_rounds.specs.RoundsRun.{put_state_of_desk};
-    ghost use Rattle.nit_actor.specs.Role.{user_role_of};
-    ghost use Rattle.nit_actor.specs.Pictures.{PutsShotsBehind};
+    ghost use Rattle.nit_actor.specs.UserShots.{CanShoot, TakesAllShots};
 
-    ghost ready = { λ m. UserBelongs W.parts m.user
-        × (length m.desk.frame.items ≡ W.parts.config.width * W.parts.config.height)
-        × (length m.desk.text.items ≡ picture_length W.parts.config.width W.parts.config.height) };
+    ghost ready = { λ m. CanShoot W.parts m.user m.desk };
 
     ghost kept = { λ before after'.
-        (user_role_of after'.user ≡ user_role_of before.user)
-        × (after'.user.next ≡ length after'.user.input)
-        × PutsShotsBehind W.parts before.user.seen after'.user.seen
-        (put_state_of_desk (S.shown before.desk.store.now) before.desk.fault before.desk.tried)
-        (put_state_of_desk (S.shown after'.desk.store.now) after'.desk.fault after'.desk.tried)
-        × (length after'.desk.frame.items ≡ length before.desk.frame.items)
-        × (length after'.desk.text.items ≡ length before.desk.text.items)
-        × (after'.desk.store.ghost_name ≡ before.desk.store.ghost_name) };
+        TakesAllShots S.shown W.parts before.user after'.user before.desk after'.desk };
 
     fn run_mine<R: Wait>(self, rt: &R, work: &W, actors: &mut [A]) -> Self {
         let Mine { mut user, mut desk } = self;
@@ -55,6 +40,7 @@ impl<'a, 's, W: UserTurns<'a>, A: Actor<W>, S: Store> Own<A, W> for Mine<'a, 's,
         Mine { user, desk }
     }
 
+    #[tactic(auto, using(crate::proofs::Shots::ready_again, crate::proofs::Shots::also))]
     fn kept_twice() {}
 }
 
@@ -73,24 +59,12 @@ pub fn run_beside<'a, 's, N: Name + Send + Sync, G: Gate, S: Store, R: Threads +
     mine: Mine<'a, 's, S>,
 ) -> Mine<'a, 's, S>
     requires passes { All (Belongs N.parts) passes.old.items }
-    requires user { UserBelongs N.parts mine.user }
-    requires frame { length mine.desk.frame.items ≡ N.parts.config.width * N.parts.config.height }
-    requires text { length mine.desk.text.items
-        ≡ picture_length N.parts.config.width N.parts.config.height }
-    requires waiting { unstarted.waiting.items ≡ [] }
-    requires flags { vec_len passes.old ≤ length unstarted.raised.now }
-    requires room { vec_len passes.old ≤ vec_capacity unstarted.waiting }
+    requires ready { CanShoot N.parts mine.user mine.desk }
+    requires place { HasPlaceFor (vec_len passes.old) unstarted }
     ensures same { map role_of passes.new.items ≡ map role_of passes.old.items }
     ensures done { All (λ p. p.next ≡ length p.script) passes.new.items }
-    ensures user_same { user_role_of result.user ≡ user_role_of mine.entry.user }
-    ensures user_done { result.user.next ≡ length result.user.input }
-    ensures put { PutsShotsBehind N.parts mine.entry.user.seen result.user.seen
-        (put_state_of_desk
-        (S.shown mine.entry.desk.store.now) mine.entry.desk.fault mine.entry.desk.tried)
-        (put_state_of_desk (S.shown result.desk.store.now) result.desk.fault result.desk.tried) }
-    ensures frame { length result.desk.frame.items ≡ length mine.entry.desk.frame.items }
-    ensures text { length result.desk.text.items ≡ length mine.entry.desk.text.items }
-    ensures same_store { result.desk.store.ghost_name ≡ mine.entry.desk.store.ghost_name }
+    ensures user { TakesAllShots S.shown N.parts mine.entry.user result.user mine.entry.desk
+        result.desk }
 {
     run_crew(rt, &gated.work(), unstarted, passes, mine)
 }
@@ -111,26 +85,14 @@ pub fn run_beside_clips<'a, 's, N: Name + Send + Sync, G: Gate, S: Store, R: Thr
     mine: Mine<'a, 's, S>,
 ) -> Mine<'a, 's, S>
     requires pairs { All (λ b. IsPairIn N.parts b.pass b.clip) pairs.old.items }
-    requires user { UserBelongs N.parts mine.user }
-    requires frame { length mine.desk.frame.items ≡ N.parts.config.width * N.parts.config.height }
-    requires text { length mine.desk.text.items
-        ≡ picture_length N.parts.config.width N.parts.config.height }
-    requires waiting { unstarted.waiting.items ≡ [] }
-    requires flags { vec_len pairs.old ≤ length unstarted.raised.now }
-    requires room { vec_len pairs.old ≤ vec_capacity unstarted.waiting }
+    requires ready { CanShoot N.parts mine.user mine.desk }
+    requires place { HasPlaceFor (vec_len pairs.old) unstarted }
     ensures same { map (λ b. pair_role_of b.pass b.clip) pairs.new.items
         ≡ map (λ b. pair_role_of b.pass b.clip) pairs.old.items }
     ensures done { All (λ b. (b.pass.next ≡ length b.pass.script)
         × (b.clip.next ≡ length b.clip.script)) pairs.new.items }
-    ensures user_same { user_role_of result.user ≡ user_role_of mine.entry.user }
-    ensures user_done { result.user.next ≡ length result.user.input }
-    ensures put { PutsShotsBehind N.parts mine.entry.user.seen result.user.seen
-        (put_state_of_desk
-        (S.shown mine.entry.desk.store.now) mine.entry.desk.fault mine.entry.desk.tried)
-        (put_state_of_desk (S.shown result.desk.store.now) result.desk.fault result.desk.tried) }
-    ensures frame { length result.desk.frame.items ≡ length mine.entry.desk.frame.items }
-    ensures text { length result.desk.text.items ≡ length mine.entry.desk.text.items }
-    ensures same_store { result.desk.store.ghost_name ≡ mine.entry.desk.store.ghost_name }
+    ensures user { TakesAllShots S.shown N.parts mine.entry.user result.user mine.entry.desk
+        result.desk }
 {
     run_crew(rt, &gated.work(), unstarted, pairs, mine)
 }

@@ -3,8 +3,8 @@
 //! A closure whose result names a lifetime says nothing of its result. So what starts threads is
 //! generic in the type of a pass, and what is known of a pass that comes back is its role alone.
 
-ghost use Rattle.std.specs.Prelude.{◌≡◌, ◌+◌, ◌≤◌, All, [], length, map, vec_len, vec_capacity};
-ghost use Rattle.nit_actor.specs.Terms.{IsStarted};
+ghost use Rattle.std.specs.Prelude.{◌≡◌, ◌+◌, ◌≤◌, All, length, map, vec_len, vec_capacity};
+ghost use Rattle.nit_actor.specs.Terms.{HasPlaceFor, IsStarted};
 
 use crate::actor::Actor;
 use std::marker::PhantomData;
@@ -178,10 +178,8 @@ fn run_all<P: Actor<W> + Send + Drop, U: Own<P, W> + Drop, W: Sync, R: Threads +
     own: U,
 ) -> (Vec<P>, U)
     requires fits { All (λ p. P.fits (P.role p)) passes.items }
-    requires waiting { unstarted.waiting.items ≡ [] }
+    requires place { HasPlaceFor (vec_len passes) unstarted }
     requires ready { U.ready own }
-    requires flags { vec_len passes ≤ length unstarted.raised.now }
-    requires room { vec_len passes ≤ vec_capacity unstarted.waiting }
     ensures passes { map P.role result.0.items ≡ map P.role passes.items }
     ensures kept { U.kept own result.1 }
 {
@@ -190,10 +188,8 @@ fn run_all<P: Actor<W> + Send + Drop, U: Own<P, W> + Drop, W: Sync, R: Threads +
         rt,
         |scope| -> (Vec<P>, U)
             requires fits { All (λ p. P.fits (P.role p)) passes.items }
-            requires waiting { unstarted.waiting.items ≡ [] }
+            requires place { HasPlaceFor (vec_len passes) unstarted }
             requires ready { U.ready own }
-            requires flags { vec_len passes ≤ length unstarted.raised.now }
-            requires room { vec_len passes ≤ vec_capacity unstarted.waiting }
             ensures passes { map P.role result.0.items ≡ map P.role passes.items }
             ensures kept { U.kept own result.1 }
         {
@@ -215,10 +211,8 @@ pub(crate) fn run_crew<
     R: Threads + Wait + Sync,
 >(rt: &R, work: &W, unstarted: Unstarted<'_, P>, passes: &mut Vec<P>, own: U) -> U
     requires fits { All (λ p. P.fits (P.role p)) passes.old.items }
-    requires waiting { unstarted.waiting.items ≡ [] }
+    requires place { HasPlaceFor (vec_len passes.old) unstarted }
     requires ready { U.ready own }
-    requires flags { vec_len passes.old ≤ length unstarted.raised.now }
-    requires room { vec_len passes.old ≤ vec_capacity unstarted.waiting }
     ensures same { map P.role passes.new.items ≡ map P.role passes.old.items }
     ensures done { All (λ p. P.left p ≡ None) passes.new.items }
     ensures kept { U.kept own result }

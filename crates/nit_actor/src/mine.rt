@@ -1,11 +1,10 @@
 //! What the calling thread does: the user, and the clients whose threads could not be started, by
 //! turns.
 
-ghost use Rattle.std.specs.Prelude.{◌≡◌, ◌*◌, All, None, Some, length, map};
-ghost use Rattle.nit_actor.specs.Terms.{Belongs, IsLeastOf, IsPairIn, NoneIsBefore};
-ghost use Rattle.nit_actor.specs.Terms.{PutsShotsBehind, UserBelongs, lesser, pair_role_of};
-ghost use Rattle.nit_actor.specs.Terms.{phases_left, picture_length, put_state_of_desk, role_of};
-ghost use Rattle.nit_actor.specs.Terms.{user_phase_left, user_role_of};
+ghost use Rattle.std.specs.Prelude.{◌≡◌, All, None, Some, length, map};
+ghost use Rattle.nit_actor.specs.Terms.{Belongs, CanShoot, IsLeastOf, IsPairIn, NoneIsBefore};
+ghost use Rattle.nit_actor.specs.Terms.{TakesAllShots, lesser, pair_role_of, phases_left, role_of};
+ghost use Rattle.nit_actor.specs.Terms.{user_phase_left};
 
 use crate::actor::Actor;
 use crate::gate::Gate;
@@ -30,20 +29,10 @@ pub fn run_mine<'a, N: Name, G: Gate, S: Store, R: Wait>(
     desk: &mut Desk<S>,
 )
     requires passes { All (Belongs N.parts) passes.old }
-    requires user { UserBelongs N.parts user.old }
-    requires frame { length desk.old.frame.items ≡ N.parts.config.width * N.parts.config.height }
-    requires text { length desk.old.text.items
-        ≡ picture_length N.parts.config.width N.parts.config.height }
+    requires ready { CanShoot N.parts user.old desk.old }
     ensures same { map role_of passes.new ≡ map role_of passes.old }
     ensures done { All (λ p. p.next ≡ length p.script) passes.new }
-    ensures user_same { user_role_of user.new ≡ user_role_of user.old }
-    ensures user_done { user.new.next ≡ length user.new.input }
-    ensures put { PutsShotsBehind N.parts user.old.seen user.new.seen
-        (put_state_of_desk (S.shown desk.old.store.now) desk.old.fault desk.old.tried)
-        (put_state_of_desk (S.shown desk.new.store.now) desk.new.fault desk.new.tried) }
-    ensures frame { length desk.new.frame.items ≡ length desk.old.frame.items }
-    ensures text { length desk.new.text.items ≡ length desk.old.text.items }
-    ensures same_store { desk.new.store.ghost_name ≡ desk.old.store.ghost_name }
+    ensures user { TakesAllShots S.shown N.parts user.old user.new desk.old desk.new }
 {
     run_turns(rt, &gated.work(), passes, user, desk)
 }
@@ -62,30 +51,20 @@ pub fn run_mine_clips<'a, N: Name, G: Gate, S: Store, R: Wait>(
     desk: &mut Desk<S>,
 )
     requires pairs { All (λ b. IsPairIn N.parts b.pass b.clip) pairs.old }
-    requires user { UserBelongs N.parts user.old }
-    requires frame { length desk.old.frame.items ≡ N.parts.config.width * N.parts.config.height }
-    requires text { length desk.old.text.items
-        ≡ picture_length N.parts.config.width N.parts.config.height }
+    requires ready { CanShoot N.parts user.old desk.old }
     ensures same { map (λ b. pair_role_of b.pass b.clip) pairs.new
         ≡ map (λ b. pair_role_of b.pass b.clip) pairs.old }
     ensures pairs { All (λ b. IsPairIn N.parts b.pass b.clip) pairs.new }
     ensures done { All (λ b. (b.pass.next ≡ length b.pass.script)
         × (b.clip.next ≡ length b.clip.script)) pairs.new }
-    ensures user_same { user_role_of user.new ≡ user_role_of user.old }
-    ensures user_done { user.new.next ≡ length user.new.input }
-    ensures put { PutsShotsBehind N.parts user.old.seen user.new.seen
-        (put_state_of_desk (S.shown desk.old.store.now) desk.old.fault desk.old.tried)
-        (put_state_of_desk (S.shown desk.new.store.now) desk.new.fault desk.new.tried) }
-    ensures frame { length desk.new.frame.items ≡ length desk.old.frame.items }
-    ensures text { length desk.new.text.items ≡ length desk.old.text.items }
-    ensures same_store { desk.new.store.ghost_name ≡ desk.old.store.ghost_name }
+    ensures user { TakesAllShots S.shown N.parts user.old user.new desk.old desk.new }
 {
     run_turns(rt, &gated.work(), pairs, user, desk)
 }
 
 /// Does all that is left of these actors and of the user, by turns. In each turn those of the least
 /// phase that has a line left do what is next.
-#[tactic(auto, using(crate::proofs::LeastPhases::user_not_before))]
+#[tactic(auto, using(crate::proofs::LeastPhases::user_not_before, crate::proofs::Shots::nothing))]
 pub(crate) fn run_turns<'a, W: UserTurns<'a>, A: Actor<W>, S: Store, R: Wait>(
     rt: &R,
     work: &W,
@@ -94,20 +73,10 @@ pub(crate) fn run_turns<'a, W: UserTurns<'a>, A: Actor<W>, S: Store, R: Wait>(
     desk: &mut Desk<S>,
 )
     requires fits { All (λ a. A.fits (A.role a)) actors.old }
-    requires user { UserBelongs W.parts user.old }
-    requires frame { length desk.old.frame.items ≡ W.parts.config.width * W.parts.config.height }
-    requires text { length desk.old.text.items
-        ≡ picture_length W.parts.config.width W.parts.config.height }
+    requires ready { CanShoot W.parts user.old desk.old }
     ensures same { map A.role actors.new ≡ map A.role actors.old }
     ensures done { All (λ a. A.left a ≡ None) actors.new }
-    ensures user_same { user_role_of user.new ≡ user_role_of user.old }
-    ensures user_done { user.new.next ≡ length user.new.input }
-    ensures put { PutsShotsBehind W.parts user.old.seen user.new.seen
-        (put_state_of_desk (S.shown desk.old.store.now) desk.old.fault desk.old.tried)
-        (put_state_of_desk (S.shown desk.new.store.now) desk.new.fault desk.new.tried) }
-    ensures frame { length desk.new.frame.items ≡ length desk.old.frame.items }
-    ensures text { length desk.new.text.items ≡ length desk.old.text.items }
-    ensures same_store { desk.new.store.ghost_name ≡ desk.old.store.ghost_name }
+    ensures user { TakesAllShots S.shown W.parts user.old user.new desk.old desk.new }
 {
     'turns: for _ in rt.forever() {
         let Some(phase) = least_phase(actors, user) else {

@@ -1,8 +1,9 @@
 //! A client with its clip script, and what its thread does.
 
-ghost use Rattle.std.specs.Prelude.{◌≡◌, ◌+◌, ◌⊎◌, Some, length, slice_get};
-ghost use Rattle.nit_actor.specs.Terms.{Belongs, ClipBelongs, GoTogether, IsAtClipPhase, IsAtPhase};
-ghost use Rattle.nit_actor.specs.Terms.{IsAtPhaseEnd, IsPairIn, clip_role_of, role_of};
+ghost use Rattle.std.specs.Prelude.{◌≡◌, ◌⊎◌, Some, length, slice_get};
+ghost use Rattle.nit_actor.specs.Terms.{Belongs, ClipBelongs, DidClips, GoTogether, IsAtClipPhase};
+ghost use Rattle.nit_actor.specs.Terms.{IsAtPhase, IsAtPhaseEnd, IsPairIn, PairIsOneOn};
+ghost use Rattle.nit_actor.specs.Terms.{PairIsThrough};
 
 use crate::actor::{Actor, do_line};
 use crate::gate::{Checkpoint, Gate};
@@ -71,11 +72,7 @@ pub fn run_clips<'a, N: Name, G: Gate, R: Wait>(
     requires belongs { Belongs N.parts pass.old }
     requires clip_belongs { ClipBelongs N.parts clip.old }
     requires together { GoTogether pass.old clip.old }
-    ensures same { role_of pass.new ≡ role_of pass.old }
-    ensures clip_same { clip_role_of clip.new ≡ clip_role_of clip.old }
-    ensures done { pass.new.next ≡ length pass.new.script }
-    ensures clip_done { clip.new.next ≡ length clip.new.script }
-    ensures together { GoTogether pass.new clip.new }
+    ensures { PairIsThrough pass.old clip.old pass.new clip.new }
 {
     run_pair(rt, &gated.work(), pass, clip)
 }
@@ -88,11 +85,7 @@ fn run_pair<'a, N: Name, K: Checkpoint, R: Wait>(
     clip: &mut ClipPass<'a>,
 )
     requires pair { IsPairIn N.parts pass.old clip.old }
-    ensures same { role_of pass.new ≡ role_of pass.old }
-    ensures clip_same { clip_role_of clip.new ≡ clip_role_of clip.old }
-    ensures done { pass.new.next ≡ length pass.new.script }
-    ensures clip_done { clip.new.next ≡ length clip.new.script }
-    ensures together { GoTogether pass.new clip.new }
+    ensures { PairIsThrough pass.old clip.old pass.new clip.new }
 {
     'lines: while let Some(line) = pass.next() {
         do_pair_line(rt, work, pass, clip, &line);
@@ -112,10 +105,7 @@ fn do_pair_line<'a, N: Name, K: Checkpoint, R: Wait>(
 )
     requires pair { IsPairIn N.parts pass.old clip.old }
     requires next { slice_get pass.old.script pass.old.next ≡ Some line.now }
-    ensures same { role_of pass.new ≡ role_of pass.old }
-    ensures clip_same { clip_role_of clip.new ≡ clip_role_of clip.old }
-    ensures next { pass.new.next ≡ pass.old.next + 1 }
-    ensures together { GoTogether pass.new clip.new }
+    ensures { PairIsOneOn pass.old clip.old pass.new clip.new }
 {
     match line {
         Line::Phase => end_phase(rt, work, pass, clip),
@@ -138,10 +128,7 @@ fn end_phase<'a, N: Name, K: Checkpoint, R: Wait>(
 )
     requires pair { IsPairIn N.parts pass.old clip.old }
     requires next { IsAtPhase pass.old }
-    ensures same { role_of pass.new ≡ role_of pass.old }
-    ensures clip_same { clip_role_of clip.new ≡ clip_role_of clip.old }
-    ensures next { pass.new.next ≡ pass.old.next + 1 }
-    ensures together { GoTogether pass.new clip.new }
+    ensures { PairIsOneOn pass.old clip.old pass.new clip.new }
 {
     do_phase_clips(rt, work.hall, pass, clip);
     let _before = pass.phase();
@@ -161,9 +148,7 @@ fn do_phase_clips<'a, N: Name, R: Wait>(
 )
     requires pair { IsPairIn N.parts pass.old clip.old }
     requires next { IsAtPhase pass.old }
-    ensures pass { pass.new ≡ record pass.old { met = pass.new.met; seen = pass.new.seen } }
-    ensures clip { clip.new ≡ record clip.old { next = clip.new.next; seen = clip.new.seen } }
-    ensures pair { IsPairIn N.parts pass.new clip.new }
+    ensures did { DidClips N.parts pass.old clip.old pass.new clip.new }
     ensures clip_next { IsAtClipPhase clip.new }
 {
     do_clips(rt, hall, pass, clip);
@@ -180,11 +165,7 @@ fn do_last_clips<'a, N: Name, R: Wait>(
 )
     requires pair { IsPairIn N.parts pass.old clip.old }
     requires done { pass.old.next ≡ length pass.old.script }
-    ensures same { role_of pass.new ≡ role_of pass.old }
-    ensures clip_same { clip_role_of clip.new ≡ clip_role_of clip.old }
-    ensures done { pass.new.next ≡ length pass.new.script }
-    ensures clip_done { clip.new.next ≡ length clip.new.script }
-    ensures together { GoTogether pass.new clip.new }
+    ensures { PairIsThrough pass.old clip.old pass.new clip.new }
 {
     do_clips(rt, hall, pass, clip);
     let _after = (pass.phase(), clip.phase(), clip.done());
@@ -200,9 +181,7 @@ fn do_clips<'a, N: Name, R: Wait>(
 )
     requires pair { IsPairIn N.parts pass.old clip.old }
     requires at { IsAtPhaseEnd pass.old }
-    ensures pass { pass.new ≡ record pass.old { met = pass.new.met; seen = pass.new.seen } }
-    ensures clip { clip.new ≡ record clip.old { next = clip.new.next; seen = clip.new.seen } }
-    ensures pair { IsPairIn N.parts pass.new clip.new }
+    ensures did { DidClips N.parts pass.old clip.old pass.new clip.new }
     ensures ended { IsAtClipPhase clip.new ⊎ (clip.new.next ≡ length clip.new.script) }
 {
     'calls: while let Some(ClipLine::Call(_)) = clip.next() {

@@ -1,9 +1,9 @@
 //! A run of one client, without a lock and on the calling thread.
 
 ghost use Rattle.std.specs.Prelude.{◌≡◌, ◌+◌, ◌++◌, Some, drop, length, map, slice_get};
-ghost use Rattle.nit_actor.specs.Terms.{Belongs, Calls, IsAtPhase, IsAtStroke, IsOpen};
-ghost use Rattle.nit_actor.specs.Terms.{StepTogether, action_of, actions_to_be, calls_in, role_of};
-ghost use Rattle.nit_actor.specs.Terms.{sight_after_line, user_role_of};
+ghost use Rattle.nit_actor.specs.Terms.{AreAlone, Belongs, Calls, IsAtPhase, IsAtStroke, IsOpen};
+ghost use Rattle.nit_actor.specs.Terms.{IsThrough, StepOn, StepTogether, action_of, actions_to_be};
+ghost use Rattle.nit_actor.specs.Terms.{calls_in, sight_after_line, user_role_of};
 
 use nit_hall::{Pass, Room, UserPass};
 use nit_script::Line;
@@ -12,10 +12,8 @@ use nit_script::Line;
 /// else. The user ends each phase together with the client, so the pass is always ready and nothing
 /// waits. The calls of the lines are recorded, in order, and nothing else is. It takes no memory.
 pub fn run_alone<'a>(room: &mut Room<'a>, pass: &mut Pass<'a>, user: &mut UserPass<'a>)
-    requires step { StepTogether room.old pass.old user.old }
-    requires open { IsOpen room.old.scene.entries }
-    ensures same { role_of pass.new ≡ role_of pass.old }
-    ensures done { pass.new.next ≡ length pass.new.script }
+    requires alone { AreAlone room.old pass.old user.old }
+    ensures pass { IsThrough pass.old pass.new }
     ensures user_same { user_role_of user.new ≡ user_role_of user.old }
     ensures user_done { user.new.next ≡ length user.new.input }
     ensures parts { room.new.parts ≡ room.old.parts }
@@ -32,15 +30,10 @@ pub fn run_alone<'a>(room: &mut Room<'a>, pass: &mut Pass<'a>, user: &mut UserPa
 
 /// Does the client's next line, which is this one. Where it ends a phase, the user ends it too.
 fn do_line<'a>(room: &mut Room<'a>, pass: &mut Pass<'a>, user: &mut UserPass<'a>, line: &Line)
-    requires step { StepTogether room.old pass.old user.old }
-    requires open { IsOpen room.old.scene.entries }
+    requires alone { AreAlone room.old pass.old user.old }
     requires next { slice_get pass.old.script pass.old.next ≡ Some line.now }
-    ensures step { StepTogether room.new pass.new user.new }
+    ensures on { StepOn room.old pass.old user.old room.new pass.new user.new }
     ensures open { IsOpen room.new.scene.entries }
-    ensures same { role_of pass.new ≡ role_of pass.old }
-    ensures next { pass.new.next ≡ pass.old.next + 1 }
-    ensures user_same { user_role_of user.new ≡ user_role_of user.old }
-    ensures parts { room.new.parts ≡ room.old.parts }
     ensures recorded { actions_to_be room.new.scene.entries pass.new
         ≡ actions_to_be room.old.scene.entries pass.old }
 {
@@ -72,11 +65,7 @@ fn stroke<'a>(room: &Room<'a>, pass: &mut Pass<'a>)
 fn end_phase<'a>(room: &mut Room<'a>, pass: &mut Pass<'a>, user: &mut UserPass<'a>)
     requires step { StepTogether room.old pass.old user.old }
     requires next { IsAtPhase pass.old }
-    ensures step { StepTogether room.new pass.new user.new }
-    ensures same { role_of pass.new ≡ role_of pass.old }
-    ensures next { pass.new.next ≡ pass.old.next + 1 }
-    ensures user_same { user_role_of user.new ≡ user_role_of user.old }
-    ensures parts { room.new.parts ≡ room.old.parts }
+    ensures on { StepOn room.old pass.old user.old room.new pass.new user.new }
     ensures scene { room.new.scene ≡ room.old.scene }
 {
     room.arrive(pass);

@@ -1,9 +1,9 @@
 //! The user's turns and lines, over a hall.
 
 ghost use Rattle.std.specs.Prelude.{◌≡◌, ◌*◌, ◌+◌, All, Some, length, slice_get};
-ghost use Rattle.nit_actor.specs.Terms.{GrowsQuietly, IsAtDevice, IsAtShot, IsAtUserPhase, IsWord};
-ghost use Rattle.nit_actor.specs.Terms.{PutsShotsBehind, TellsShot, UserBelongs, picture_length};
-ghost use Rattle.nit_actor.specs.Terms.{put_state_of_desk, user_phase_left, user_role_of};
+ghost use Rattle.nit_actor.specs.Terms.{CanShoot, IsAtDevice, IsAtShot, IsAtUserPhase, IsQuietlyOn};
+ghost use Rattle.nit_actor.specs.Terms.{IsWord, TakesShots, TellsShot, UserBelongs};
+ghost use Rattle.nit_actor.specs.Terms.{user_phase_left};
 
 use crate::gate::Checkpoint;
 use crate::work::Work;
@@ -15,14 +15,10 @@ use std::sync::Wait;
 
 /// What all actors of a run share, as the turns of the user go through it.
 pub(crate) trait UserTurns<'a> {
-    ghost use Rattle.std.specs.Prelude.{◌≡◌, ◌*◌, ◌+◌, ◌∷◌, [], Some, length};
+    ghost use Rattle.std.specs.Prelude.{◌≡◌, ◌+◌, ◌∷◌, [], Some};
     ghost use Rattle.nit_hall.specs.OpeningParts.{OpeningParts};
-    ghost use Rattle.nit_report.specs.Picture.{picture_length};
-    ghost use Rattle.nit_hall.specs.Pass.{UserBelongs};
     ghost use Rattle.nit_actor.specs.PhasesLeft.{NoneIsBefore, user_phase_left};
-    ghost use Rattle.nit_actor.specs.Pictures.{PutsShotsBehind};
-    ghost use Rattle.nit_actor.specs.Role.{user_role_of};
-    ghost use Rattle.nit_rounds.specs.RoundsRun.{put_state_of_desk};
+    ghost use Rattle.nit_actor.specs.UserShots.{CanShoot, TakesShots};
 
     /// Of which opening the run is.
     ghost parts: { OpeningParts };
@@ -36,26 +32,18 @@ pub(crate) trait UserTurns<'a> {
         phase: u32,
         desk: &mut Desk<S>,
     )
-        requires belongs { UserBelongs parts user.old }
+        requires ready { CanShoot parts user.old desk.old }
         requires least { NoneIsBefore user_phase_left phase (user.old ∷ []) }
-        requires frame { length desk.old.frame.items ≡ parts.config.width * parts.config.height }
-        requires text { length desk.old.text.items
-            ≡ picture_length parts.config.width parts.config.height }
-        ensures same { user_role_of user.new ≡ user_role_of user.old }
         ensures in_phase { user_phase_left user.old ≡ Some phase
             → user.new.next ≡ user.old.next + 1 }
         ensures others { (user.old.phase ≡ phase → ⊥) → user.new ≡ user.old }
-        ensures put { PutsShotsBehind parts user.old.seen user.new.seen
-            (put_state_of_desk (S.shown desk.old.store.now) desk.old.fault desk.old.tried)
-            (put_state_of_desk (S.shown desk.new.store.now) desk.new.fault desk.new.tried) }
-        ensures frame { length desk.new.frame.items ≡ length desk.old.frame.items }
-        ensures text { length desk.new.text.items ≡ length desk.old.text.items }
-        ensures same_store { desk.new.store.ghost_name ≡ desk.old.store.ghost_name };
+        ensures shots { TakesShots S.shown parts user.old user.new desk.old desk.new };
 }
 
 impl<'h, 'a, N: Name, K: Checkpoint> UserTurns<'a> for Work<'h, 'a, N, K> {
     ghost parts = { N.parts };
 
+    #[tactic(auto, using(crate::proofs::Shots::nothing))]
     fn user_turn<S: Store, R: Wait>(
         &self,
         rt: &R,
@@ -87,9 +75,7 @@ pub(crate) fn user_phase_left(user: &UserPass<'_>) -> Option<u32>
 fn do_device<'a, N: Name, R: Wait>(rt: &R, hall: &Hall<'a, N>, user: &mut UserPass<'a>)
     requires belongs { UserBelongs N.parts user.old }
     requires next { IsAtDevice user.old }
-    ensures same { user_role_of user.new ≡ user_role_of user.old }
-    ensures next { user.new.next ≡ user.old.next + 1 }
-    ensures seen { GrowsQuietly user.old.seen user.new.seen }
+    ensures { IsQuietlyOn user.old user.new }
 {
     let _known = user.next();
     hall.user_next(rt, user);
@@ -100,9 +86,7 @@ fn do_device<'a, N: Name, R: Wait>(rt: &R, hall: &Hall<'a, N>, user: &mut UserPa
 fn end_phase<'a, N: Name, R: Wait>(rt: &R, hall: &Hall<'a, N>, user: &mut UserPass<'a>)
     requires belongs { UserBelongs N.parts user.old }
     requires next { IsAtUserPhase user.old }
-    ensures same { user_role_of user.new ≡ user_role_of user.old }
-    ensures next { user.new.next ≡ user.old.next + 1 }
-    ensures seen { GrowsQuietly user.old.seen user.new.seen }
+    ensures { IsQuietlyOn user.old user.new }
 {
     let _known = user.next();
     hall.arrive_user(rt, user);
@@ -136,19 +120,10 @@ fn shoot<'a, N: Name, S: Store, R: Wait>(
     user: &mut UserPass<'a>,
     desk: &mut Desk<S>,
 )
-    requires belongs { UserBelongs N.parts user.old }
+    requires ready { CanShoot N.parts user.old desk.old }
     requires next { IsAtShot user.old }
-    requires frame { length desk.old.frame.items ≡ N.parts.config.width * N.parts.config.height }
-    requires text { length desk.old.text.items
-        ≡ picture_length N.parts.config.width N.parts.config.height }
-    ensures same { user_role_of user.new ≡ user_role_of user.old }
     ensures next { user.new.next ≡ user.old.next + 1 }
-    ensures put { PutsShotsBehind N.parts user.old.seen user.new.seen
-        (put_state_of_desk (S.shown desk.old.store.now) desk.old.fault desk.old.tried)
-        (put_state_of_desk (S.shown desk.new.store.now) desk.new.fault desk.new.tried) }
-    ensures frame { length desk.new.frame.items ≡ length desk.old.frame.items }
-    ensures text { length desk.new.text.items ≡ length desk.old.text.items }
-    ensures same_store { desk.new.store.ghost_name ≡ desk.old.store.ghost_name }
+    ensures shots { TakesShots S.shown N.parts user.old user.new desk.old desk.new }
 {
     let (width, height) = hall.size();
     let _known = user.next();
@@ -159,6 +134,7 @@ fn shoot<'a, N: Name, S: Store, R: Wait>(
 
 /// Does the user's next line, which is this one, and passes the gate before it. The picture of a
 /// shot is put, unless a put was refused before.
+#[tactic(auto, using(crate::proofs::Shots::quietly))]
 fn do_user_line<'a, N: Name, K: Checkpoint, S: Store, R: Wait>(
     rt: &R,
     work: &Work<'_, 'a, N, K>,
@@ -166,19 +142,10 @@ fn do_user_line<'a, N: Name, K: Checkpoint, S: Store, R: Wait>(
     line: &InputLine,
     desk: &mut Desk<S>,
 )
-    requires belongs { UserBelongs N.parts user.old }
+    requires ready { CanShoot N.parts user.old desk.old }
     requires next { slice_get user.old.input user.old.next ≡ Some line.now }
-    requires frame { length desk.old.frame.items ≡ N.parts.config.width * N.parts.config.height }
-    requires text { length desk.old.text.items
-        ≡ picture_length N.parts.config.width N.parts.config.height }
-    ensures same { user_role_of user.new ≡ user_role_of user.old }
     ensures next { user.new.next ≡ user.old.next + 1 }
-    ensures put { PutsShotsBehind N.parts user.old.seen user.new.seen
-        (put_state_of_desk (S.shown desk.old.store.now) desk.old.fault desk.old.tried)
-        (put_state_of_desk (S.shown desk.new.store.now) desk.new.fault desk.new.tried) }
-    ensures frame { length desk.new.frame.items ≡ length desk.old.frame.items }
-    ensures text { length desk.new.text.items ≡ length desk.old.text.items }
-    ensures same_store { desk.new.store.ghost_name ≡ desk.old.store.ghost_name }
+    ensures shots { TakesShots S.shown N.parts user.old user.new desk.old desk.new }
 {
     work.checkpoint.reach(work.hall.clients(), user.line() + 1);
     match line {

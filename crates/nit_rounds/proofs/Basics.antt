@@ -52,8 +52,8 @@ pub use Rattle.std.proofs.Common.{Bool, List, [], add-one, add-zero, ap, append-
 pub use Rattle.std.proofs.Common.{ap₂, arith, codes, cond, count_by, drop, drop-drop, drop-set-lt}
 pub use Rattle.std.proofs.Common.{false, fold, get_or, get_or-set_other, get_or-set_same, inl, inr}
 pub use Rattle.std.proofs.Common.{le_of_eq, le_trans, length-append, length-drop, length-set, map}
-pub use Rattle.std.proofs.Common.{map-id, max, nat_lt, refl, replicate, set, slice_index, subst}
-pub use Rattle.std.proofs.Common.{suc, sym, take_at, true, zero, zero-add, ℕ, ◌∙◌}
+pub use Rattle.std.proofs.Common.{nat_lt, refl, replicate, set, slice_index, subst, suc, sym}
+pub use Rattle.std.proofs.Common.{take_at, true, zero, zero-add, ℕ, ◌∙◌}
 pub use Rattle.std.proofs.Math.Nat.{mul-le-mul_right}
 pub use Rattle.std.proofs.lemmas.Bool.{and_parts, cases_Bool, cases_eq, cases_lt, eq-eqb, eqb-true}
 pub use Rattle.std.proofs.lemmas.Bool.{false≢true, lt-ltb, ltb-true, ne_eqb, or_parts}
@@ -70,5 +70,6 @@ pub use Rattle.std.proofs.lemmas.List.Folds.{flat_map-map}
 pub use Rattle.std.proofs.lemmas.List.FromFn.{get_or-map-range_with_len, get_or-range_with_len}
 pub use Rattle.std.proofs.lemmas.List.FromFn.{length-range_with_len}
 pub use Rattle.std.proofs.lemmas.List.Sums.{fold-append, sum_by-append, sum_by-cons}
-pub use Rattle.std.proofs.lemmas.Option.{get_or_from_slice_get, same_Some, slice_get_within}
+pub use Rattle.std.proofs.lemmas.Option.{get_or_from_slice_get, same_Some, slice_get-get_or}
+pub use Rattle.std.proofs.lemmas.Option.{slice_get_within}
 pub use Rattle.std.proofs.lemmas.Str.{IsUtf8-append, IsUtf8-from_ascii}

@@ -5,13 +5,13 @@ use Rattle.nit_rounds.proofs.Basics.{List, None, Option, SceneModel, ShotFrame, 
 use Rattle.nit_rounds.proofs.Basics.{ShowsLine, Sight, Some, State, [], add-zero, after, after_turn}
 use Rattle.nit_rounds.proofs.Basics.{ap, cases_Bool, cond, dirty, done_after, drawn_shot, entry_of}
 use Rattle.nit_rounds.proofs.Basics.{false, fold-append, frame, frame_of, get_or-map-range_with_len}
-use Rattle.nit_rounds.proofs.Basics.{glass_in, inl, line_by, next_shot, opening_drawing, pixel}
-use Rattle.nit_rounds.proofs.Basics.{pixel_count, range_with_len, same_config, same_frame}
-use Rattle.nit_rounds.proofs.Basics.{scenery_of, shots, shots_after, slice_index_or, source_at}
-use Rattle.nit_rounds.proofs.Basics.{state_after, state_now, tables_after, word_after_entry}
+use Rattle.nit_rounds.proofs.Basics.{glass_in, inl, inr, length, line_by, map, next_shot}
+use Rattle.nit_rounds.proofs.Basics.{opening_drawing, pixel, pixel_count, range_with_len, refl}
+use Rattle.nit_rounds.proofs.Basics.{same_config, same_frame, scenery_of, shots, shots_after}
+use Rattle.nit_rounds.proofs.Basics.{slice_index_or, source_at, state_after, state_now, subst, sym}
+use Rattle.nit_rounds.proofs.Basics.{tables_after, true, word_after_entry, zero-add, ℕ}
+use Rattle.std.proofs.Common.{◌*◌, ◌++◌, ◌+◌, ◌<◌, ◌==◌, ◌∙◌, ◌∷◌, ◌≡◌}
 use Rattle.nit_rounds.specs.Drawing.{drawn}
-use Rattle.std.proofs.Common.{inr, length, map, refl, subst, sym, true, zero-add, ℕ, ◌*◌, ◌++◌, ◌+◌}
-use Rattle.std.proofs.Common.{◌<◌, ◌==◌, ◌∙◌, ◌∷◌, ◌≡◌}
 use Rattle.nit_script.specs.declared.line.InputLine.TheVariants as input
 use Rattle.nit_rounds.proofs.TableWords.{AreOf, held_word}
 use Rattle.nit_rounds.proofs.ShownFrames.{shows_more}

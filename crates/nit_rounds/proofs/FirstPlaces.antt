@@ -1,11 +1,11 @@
 -- All actors stand at their first lines: nothing is done yet.
+use Rattle.nit_rounds.specs.Places.{left_from}
 use Rattle.nit_rounds.proofs.Basics.{ActorLine, ArePlaces, InputLine, Line, LineTurn, List, Place}
 use Rattle.nit_rounds.proofs.Basics.{Places, StandsAt, [], actors, ap, arith, flat_map}
 use Rattle.nit_rounds.proofs.Basics.{get_or-replicate, in_phase, lefts, length, map, phase_count}
 use Rattle.nit_rounds.proofs.Basics.{phase_rounds, range_with_len, refl, replicate, rounds}
 use Rattle.nit_rounds.proofs.Basics.{script_of, subst, suc, sym, turns_left, turns_of}
 use Rattle.std.proofs.Common.{zero, ℕ, ◌++◌, ◌+◌, ◌-◌, ◌<◌, ◌∙◌, ◌∷◌, ◌≡◌, ◌≤◌}
-use Rattle.nit_rounds.specs.Places.{left_from}
 use Rattle.nit_rounds.proofs.Scripts.{below}
 use Rattle.nit_rounds.proofs.PlaceLemmas.{actors_long}
 use Rattle.nit_rounds.proofs.PhaseRest.{at_begin}

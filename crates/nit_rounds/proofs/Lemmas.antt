@@ -5,8 +5,8 @@ pub use Rattle.nit_rounds.proofs.Basics.{IsUtf8, Line, LineTurn, List, NoneHas, 
 pub use Rattle.nit_rounds.proofs.Basics.{SceneModel, Sight, Some, ap, arith, donation_of, entry_of}
 pub use Rattle.nit_rounds.proofs.Basics.{few_digits, get_or_default, glass_after, glass_in}
 pub use Rattle.nit_rounds.proofs.Basics.{is_stale, length, line_here, no_sight, put_state_of_desk}
-pub use Rattle.nit_rounds.proofs.Basics.{refl, script_in, settled, slice_get, slice_index_or}
-pub use Rattle.nit_rounds.proofs.Basics.{state_now, subst, sym, told_at, with_words, ℕ, ◌∙◌}
+pub use Rattle.nit_rounds.proofs.Basics.{refl, script_in, settled, state_now, subst, sym, told_at}
+pub use Rattle.nit_rounds.proofs.Basics.{with_words, ℕ, ◌∙◌}
 pub use Rattle.nit_rounds.proofs.Copies.{all_drawn, glass_there, row_drawn, rows_to}
 pub use Rattle.nit_rounds.proofs.Counts.{as_many_as_lines, few_acts}
 pub use Rattle.nit_rounds.proofs.DrawnAsReplayed.{as_replayed}

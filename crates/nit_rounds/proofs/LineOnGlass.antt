@@ -2,9 +2,9 @@
 use Rattle.nit_rounds.proofs.Basics.{Area, FitsInto, IsDonation, IsPaintedTo, IsPlanOf, Line, List}
 use Rattle.nit_rounds.proofs.Basics.{None, PlanModel, Sight, Some, Step, ap, ap₂, arith, false}
 use Rattle.nit_rounds.proofs.Basics.{get_or, get_or_from_slice_get, glass_after, ink, is_set_by}
-use Rattle.nit_rounds.proofs.Basics.{length, mul-le-mul_right, plan_of_script, refl, slice_get}
-use Rattle.nit_rounds.proofs.Basics.{static, step_of, subst, table_size, with_words, words_after}
-use Rattle.std.proofs.Common.{sym, ℕ, ◌%◌, ◌*◌, ◌+◌, ◌/◌, ◌∙◌, ◌≡◌, ◌≤◌, slice_index}
+use Rattle.nit_rounds.proofs.Basics.{mul-le-mul_right, plan_of_script, refl, slice_index, static}
+use Rattle.nit_rounds.proofs.Basics.{step_of, table_size, with_words, words_after}
+use Rattle.std.proofs.Common.{length, slice_get, subst, sym, ℕ, ◌%◌, ◌*◌, ◌+◌, ◌/◌, ◌∙◌, ◌≡◌, ◌≤◌}
 
 -- what the laws of scripts say
 abbrev pub AreLong : Type 0

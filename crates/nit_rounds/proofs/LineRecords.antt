@@ -3,9 +3,9 @@ use Rattle.nit_rounds.proofs.Basics.{AreQuietBut, ByClient, Call, Configuration,
 use Rattle.nit_rounds.proofs.Basics.{IsDonation, IsGlass, IsMoved, IsRecorded, Line, List, None}
 use Rattle.nit_rounds.proofs.Basics.{Option, Reply, SceneModel, Sight, Some, Stale, State, [], ap}
 use Rattle.nit_rounds.proofs.Basics.{arith, donation_of, entry_of, get_or-set_other, glass_after}
-use Rattle.nit_rounds.proofs.Basics.{glass_in, length, no_sight, same_Some, slice_get, state_now}
-use Rattle.std.proofs.Common.{length-append, refl, set, subst, sym, ℕ, ◌++◌, ◌+◌, ◌-◌, ◌∙◌, ◌∷◌}
-use Rattle.std.proofs.Common.{◌≡◌, ◌≤◌}
+use Rattle.nit_rounds.proofs.Basics.{glass_in, length, no_sight, same_Some, state_now}
+use Rattle.std.proofs.Common.{slice_get, length-append, refl, set, subst, sym, ℕ, ◌++◌, ◌+◌, ◌-◌}
+use Rattle.std.proofs.Common.{◌∙◌, ◌∷◌, ◌≡◌, ◌≤◌}
 use Rattle.nit_events.specs.declared.entry.Entry.TheVariants as entry
 use Rattle.nit_script.specs.declared.line.Line.TheVariants as line
 use Rattle.nit_rounds.proofs.Copies.{with_glass_of}

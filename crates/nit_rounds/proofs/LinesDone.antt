@@ -6,8 +6,8 @@ use Rattle.nit_rounds.proofs.Basics.{get_or-range_with_len, get_or_at, get_or_pa
 use Rattle.nit_rounds.proofs.Basics.{input_by_user, input_lines_of, inr, length, length-append}
 use Rattle.nit_rounds.proofs.Basics.{length-map, length-range_with_len, line_by, lines_of, map}
 use Rattle.nit_rounds.proofs.Basics.{ne_eqb, range_with_len, refl, rounds, slice_get, subst, suc}
-use Rattle.nit_rounds.proofs.Basics.{sym, take, take_at, turns_from, zero-add, ℕ}
-use Rattle.std.proofs.Common.{◌++◌, ◌+◌, ◌<◌, ◌∙◌, ◌∷◌, ◌≡◌}
+use Rattle.nit_rounds.proofs.Basics.{sym, take_at, turns_from}
+use Rattle.std.proofs.Common.{zero-add, ℕ, take, ◌++◌, ◌+◌, ◌<◌, ◌∙◌, ◌∷◌, ◌≡◌}
 use Rattle.nit_rounds.proofs.Scripts.{client_part, user_part}
 
 -- ---- all lines

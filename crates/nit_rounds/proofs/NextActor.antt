@@ -5,9 +5,9 @@ use Rattle.nit_rounds.proofs.Basics.{Place, Places, Some, StandsAt, [], actors, 
 use Rattle.nit_rounds.proofs.Basics.{cases_eq, cases_lt, ends_phase, false, get_or, get_or-map}
 use Rattle.nit_rounds.proofs.Basics.{get_or-set_other, get_or-set_same, get_or_default, in_phase}
 use Rattle.nit_rounds.proofs.Basics.{inl, inr, is_active, left_at, left_from, lefts, length}
-use Rattle.nit_rounds.proofs.Basics.{length-map, length-set, map, phase_count, script_of, slice_get}
-use Rattle.nit_rounds.proofs.Basics.{stepped, turn_by, turns_left}
-use Rattle.std.proofs.Common.{refl, set, subst, suc, sym, true, zero, ℕ, ◌+◌, ◌<◌, ◌∙◌, ◌∷◌, ◌≡◌}
+use Rattle.nit_rounds.proofs.Basics.{length-map, length-set, map, phase_count, script_of}
+use Rattle.nit_rounds.proofs.Basics.{slice_get-get_or, stepped, turn_by, turns_left}
+use Rattle.std.proofs.Common.{slice_get, set, subst, suc, sym, true, ℕ, ◌+◌, ◌<◌, ◌∙◌, ◌∷◌, ◌≡◌}
 use Rattle.std.proofs.Common.{◌≤◌}
 use Rattle.nit_script.specs.declared.line.Line.TheVariants as line
 use Rattle.nit_script.specs.declared.line.InputLine.TheVariants as input_line
@@ -279,11 +279,6 @@ step_place scripts input at kept turn place is =
           (actors scripts input));
     }
 
-some_at : {X : Type 0} (xs : List X) (n : ℕ) (d : X) → n < length xs → slice_get xs n ≡ Some (get_or xs n d)
-some_at [] n d inside = absurd (omega arith)
-some_at (x ∷ xs) zero d inside = refl
-some_at (x ∷ xs) (suc n) d inside = some_at xs n d (omega arith)
-
 -- the place at which the present actor stands
 abbrev present : Places → Place
 present at = get_or at.places at.actor first_place
@@ -312,7 +307,7 @@ step_ends scripts input at kept turn ends told after is =
     let inner : (present at).line < length (script_of scripts input at.actor) = present_inside scripts input at turn in
     let same : ends ≡ ends_phase (line_at scripts input at (present at)) =
     told (line_at scripts input at (present at))
-    (some_at (script_of scripts input at.actor) (present at).line (ByUser input_line.Shot) inner) in
+    (slice_get-get_or (script_of scripts input at.actor) (present at).line (ByUser input_line.Shot) inner) in
     subst (λ (p : Place). IsBehind scripts input at
     (record { places = set at.places at.actor p; phase = at.phase; actor = at.actor + 1 })
     (record {

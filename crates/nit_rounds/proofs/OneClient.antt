@@ -7,8 +7,8 @@ use Rattle.nit_rounds.proofs.Basics.{calls_from, calls_of, calls_to_make, done, 
 use Rattle.nit_rounds.proofs.Basics.{first_state, input_by_user, input_lines_of, length, line_by}
 use Rattle.nit_rounds.proofs.Basics.{lines_of, map, ne_eqb, refl, rounds, subst, suc, sym}
 use Rattle.nit_rounds.proofs.Basics.{user_actions_from, user_actions_of, user_actions_to_do}
-use Rattle.nit_journal.proofs.ForCallers.{as_many}
 use Rattle.std.proofs.Common.{true, zero, ℕ, ◌++◌, ◌==◌, ◌∙◌, ◌∷◌, ◌≡◌, if◌then◌else◌}
+use Rattle.nit_journal.proofs.ForCallers.{as_many}
 use Rattle.nit_events.specs.declared.entry.Entry.TheVariants as entry
 use Rattle.nit_script.specs.declared.line.Line.TheVariants as line
 use Rattle.nit_script.specs.declared.line.InputLine.TheVariants as input

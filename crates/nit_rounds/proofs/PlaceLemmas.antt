@@ -6,10 +6,10 @@ use Rattle.nit_rounds.proofs.Basics.{clients_from, cond, drop, drop_all, drop_mo
 use Rattle.nit_rounds.proofs.Basics.{eq-eqb, eqb-true, false, false≢true, get_or, get_or_default}
 use Rattle.nit_rounds.proofs.Basics.{in_phase, inl, inr, is_active, is_input_phase, is_phase}
 use Rattle.nit_rounds.proofs.Basics.{left_at, lefts, length, length-append, length-map, lt-ltb}
-use Rattle.nit_rounds.proofs.Basics.{ltb-true, map, nat_lt, refl, script_of, set, slice_get}
+use Rattle.nit_rounds.proofs.Basics.{ltb-true, map, nat_lt, refl, same_Some, script_of, set}
 use Rattle.nit_rounds.proofs.Basics.{stepped, turns_from}
-use Rattle.std.proofs.Common.{subst, suc, sym, true, zero, zero-add, ℕ, ◌+◌, ◌<◌, ◌==◌, ◌∙◌, ◌∷◌}
-use Rattle.std.proofs.Common.{◌≡◌, ◌≤◌}
+use Rattle.std.proofs.Common.{slice_get, subst, suc, sym, true, zero, zero-add, ℕ, ◌+◌, ◌<◌, ◌==◌}
+use Rattle.std.proofs.Common.{◌∙◌, ◌∷◌, ◌≡◌, ◌≤◌}
 use Rattle.nit_rounds.proofs.OneActor.{later}
 use Rattle.nit_rounds.proofs.Scripts.{script_of_client, script_of_user}
 
@@ -36,13 +36,10 @@ pub user_long : (scripts : List (List Line)) (input : List InputLine) (k : ℕ) 
     → length input ≡ length (script_of scripts input k)
 user_long scripts input k low high = sym (ap length (script_user scripts input k low high) ∙ length-map input ByUser)
 
-some_same : {X : Type 0} (x y : X) → Some x ≡ Some y → x ≡ y
-some_same x y e = cc
-
 end_in : {L : Type 0} (f : L → ActorLine) (ls : List L) (n : ℕ) (l : L) (d : ActorLine) → n < length ls
     → l ≡ get_or ls n l → slice_get (map f ls) n ≡ Some d → f l ≡ d
 end_in f [] n l d inside is e = absurd (omega arith)
-end_in f (x ∷ ls) zero l d inside is e = ap f is ∙ some_same (f x) d e
+end_in f (x ∷ ls) zero l d inside is e = ap f is ∙ same_Some (f x) d e
 end_in f (x ∷ ls) (suc n) l d inside is e = end_in f ls n l d (omega arith) is e
 
 pub client_inside : (scripts : List (List Line)) (input : List InputLine) (k n : ℕ) (x y : List Line)

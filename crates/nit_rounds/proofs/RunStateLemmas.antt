@@ -14,12 +14,11 @@ use Rattle.nit_rounds.proofs.Basics.{in_bar, ink, inl, input_lines_of, inr, leng
 use Rattle.nit_rounds.proofs.Basics.{length-set, length-take-le, line_by, lines_of, map, map-append}
 use Rattle.nit_rounds.proofs.Basics.{no_sight, painted_from, pixel, pixel_count, refl, replay}
 use Rattle.nit_rounds.proofs.Basics.{rounds, script_in, set, shot_frames_of, shots, shots_after}
-use Rattle.nit_rounds.proofs.Basics.{slice_get, slice_get_within, slice_index_or, source_at}
-use Rattle.nit_rounds.proofs.Basics.{source_under, state_now, subst, sym, tables_after, take}
-use Rattle.nit_rounds.proofs.Basics.{turn_of, words_after, words_left}
-use Rattle.std.proofs.Common.{true, zero-add, ℕ, ◌++◌, ◌+◌, ◌<◌, ◌∙◌, ◌∷◌, ◌≡◌, ◌≢◌, ◌≤◌}
+use Rattle.nit_rounds.proofs.Basics.{slice_get, slice_get_within, source_at, source_under}
+use Rattle.nit_rounds.proofs.Basics.{state_now, tables_after, turn_of, words_after, words_left}
+use Rattle.std.proofs.Common.{slice_index_or, subst, sym, take, true, zero-add, ℕ, ◌++◌, ◌+◌, ◌<◌}
+use Rattle.std.proofs.Common.{◌∙◌, ◌∷◌, ◌≡◌, ◌≢◌, ◌≤◌}
 use Rattle.nit_events.specs.declared.entry.Entry.TheVariants as entry
-use Rattle.nit_script.specs.declared.line.Line.TheVariants as line
 use Rattle.nit_script.specs.declared.line.InputLine.TheVariants as input
 use Rattle.nit_rounds.specs.declared.turn.Turn.TheVariants as turn
 use Rattle.nit_rounds.proofs.DrawingLemmas.{done_more, drawn_more, moved_on, none_drawn}

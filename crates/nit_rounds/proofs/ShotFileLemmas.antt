@@ -1,15 +1,14 @@
 -- The files of the shots of some entries.
 use Rattle.nit_rounds.proofs.Basics.{Entry, File, List, ShotsBehind, Some, [], ap, append-nil}
-use Rattle.nit_rounds.proofs.Basics.{arith, length, refl, shot_name, shots, slice_get}
-use Rattle.std.proofs.Common.{subst, suc, sym, ℕ, ◌++◌, ◌+◌, ◌∙◌, ◌∷◌, ◌≡◌}
+use Rattle.nit_rounds.proofs.Basics.{arith, length, refl, shot_name, shots, slice_get, subst}
+use Rattle.std.proofs.Common.{suc, sym, ℕ, ◌++◌, ◌∙◌, ◌∷◌, ◌≡◌, append_assoc}
 use Rattle.nit_events.specs.declared.entry.Entry.TheVariants as entry
 
 abbrev Picturing : Type 1
 Picturing = List Entry → List ℕ → Type 0
 
 behind : (front js : List Entry) (e : Entry) → (front ++ e ∷ []) ++ js ≡ front ++ (e ∷ js)
-behind [] js e = refl
-behind (x ∷ front) js e = ap (λ ys. x ∷ ys) (behind front js e)
+behind front js e = append_assoc front (e ∷ []) js
 
 -- without a shot there is none
 pub no_files : (Pic : Picturing) (front more : List Entry) → shots more ≡ 0 → ShotsBehind Pic front more []

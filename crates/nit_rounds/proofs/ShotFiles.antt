@@ -8,8 +8,8 @@ use Rattle.nit_rounds.proofs.Basics.{cases_Bool, cond, drawn_by_shot, drawn_shot
 use Rattle.nit_rounds.proofs.Basics.{first_state, fold, fold-append, inl, inr, length, length_push}
 use Rattle.nit_rounds.proofs.Basics.{map, opening_drawing, picture_of, refl, replay, replay_from}
 use Rattle.nit_rounds.proofs.Basics.{rounds, shoots, shot_file, shot_name, shots, shots_after}
-use Rattle.nit_rounds.proofs.Basics.{shots_of, slice_get, subst, suc, sym, true, turns_before, zero}
-use Rattle.std.proofs.Common.{ℕ, ◌++◌, ◌+◌, ◌∙◌, ◌∷◌, ◌≡◌}
+use Rattle.nit_rounds.proofs.Basics.{shots_of, subst, suc, sym, true, turns_before, zero}
+use Rattle.std.proofs.Common.{slice_get, ℕ, ◌++◌, ◌+◌, ◌∙◌, ◌∷◌, ◌≡◌}
 use Rattle.nit_rounds.specs.Drawing.{drawn}
 use Rattle.nit_events.specs.declared.entry.Entry.TheVariants as entry
 use Rattle.nit_script.specs.declared.line.InputLine.TheVariants as input

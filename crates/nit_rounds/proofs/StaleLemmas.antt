@@ -6,9 +6,9 @@ use Rattle.nit_rounds.proofs.Basics.{get_or-set_same, get_or_past, glass_after, 
 use Rattle.nit_rounds.proofs.Basics.{inked_sight, inl, inr, is_in_area, is_number_in, is_set_by}
 use Rattle.nit_rounds.proofs.Basics.{is_stale, length, length-set, no_sight, or_parts, refl}
 use Rattle.nit_rounds.proofs.Basics.{same_Some, set, set-set, set_long, set_where, slice_get}
-use Rattle.nit_rounds.proofs.Basics.{slice_index, static, step_of, subst, sym, told_at, told_words}
+use Rattle.nit_rounds.proofs.Basics.{slice_index, static, step_of, subst, told_at, told_words}
 use Rattle.nit_rounds.proofs.Basics.{with_words, word_at, words_after}
-use Rattle.std.proofs.Common.{true, ℕ, ◌%◌, ◌+◌, ◌/◌, ◌<◌, ◌||◌, ◌∙◌, ◌≡◌, ◌≤◌}
+use Rattle.std.proofs.Common.{sym, true, ℕ, ◌%◌, ◌+◌, ◌/◌, ◌<◌, ◌||◌, ◌∙◌, ◌≡◌, ◌≤◌}
 use Rattle.nit_rounds.proofs.Copies.{with_glass_of}
 use Rattle.nit_rounds.proofs.LineOnGlass.{AreLong, StayElsewhere}
 

@@ -7,10 +7,10 @@ use Rattle.nit_rounds.proofs.Basics.{PlanModel, SceneModel, Shoots, Sight, Some,
 use Rattle.nit_rounds.proofs.Basics.{actions_of_line, actions_of_turns, ap, arith, donation_of}
 use Rattle.nit_rounds.proofs.Basics.{drop, get_or, get_or_default, get_or_from_slice_get}
 use Rattle.nit_rounds.proofs.Basics.{glass_after, glass_in, length, option_map, plan_in, rounds}
-use Rattle.nit_rounds.proofs.Basics.{script_in, settled, slice_get, slice_get_within, state_now}
-use Rattle.nit_rounds.proofs.Basics.{takes_place, turn_of}
-use Rattle.std.proofs.Common.{length-set, refl, set, subst, suc, sym, true, zero, ℕ, ◌<◌, ◌∙◌, ◌∷◌}
-use Rattle.std.proofs.Common.{◌≡◌, ◌≤◌}
+use Rattle.nit_rounds.proofs.Basics.{script_in, settled, slice_get_within, state_now, takes_place}
+use Rattle.nit_rounds.proofs.Basics.{turn_of}
+use Rattle.std.proofs.Common.{slice_get, length-set, refl, set, subst, suc, sym, true, zero, ℕ, ◌<◌}
+use Rattle.std.proofs.Common.{◌∙◌, ◌∷◌, ◌≡◌, ◌≤◌}
 use Rattle.nit_script.specs.declared.line.Line.TheVariants as line
 use Rattle.nit_script.specs.declared.line.InputLine.TheVariants as input
 use Rattle.nit_rounds.specs.declared.turn.Turn.TheVariants as turn

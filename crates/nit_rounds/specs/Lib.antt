@@ -15,9 +15,11 @@ pub mod TurnActions
 pub mod Places
 pub mod RoundsRun
 pub mod ShotFrames
+pub mod Desks
 pub mod Drawing
 pub mod Shots
 pub mod RunState
 pub mod Stale
+pub mod LineDrawing
 pub mod Below
 pub mod Terms

@@ -26,10 +26,12 @@ pub use Rattle.nit_rounds.specs.Below.{state_now, static, step_of, sum, table_si
 pub use Rattle.nit_rounds.specs.Below.{told_at, told_words, unrefused, user_actions_from}
 pub use Rattle.nit_rounds.specs.Below.{user_actions_of, user_actions_to_do, with_words, words_after}
 pub use Rattle.nit_rounds.specs.Below.{words_left, zeros}
+pub use Rattle.nit_rounds.specs.Desks.{IsSameDesk, KeepsFrame}
 pub use Rattle.nit_rounds.specs.Drawing.{Drawing, PutsShots, after_turn, done_after, drawn}
 pub use Rattle.nit_rounds.specs.Drawing.{drawn_shot, entry_of, frame_of, opening_drawing}
 pub use Rattle.nit_rounds.specs.Drawing.{picture_of, shot_frames_of, shots_after, shots_of}
 pub use Rattle.nit_rounds.specs.Drawing.{state_after, tables_after, word_after_entry, word_from}
+pub use Rattle.nit_rounds.specs.LineDrawing.{CanDraw, HasDrawn, HasSession}
 pub use Rattle.nit_rounds.specs.Places.{ArePlaces, HasTurn, IsAtTurn, IsFirstActive, IsNextTurn}
 pub use Rattle.nit_rounds.specs.Places.{NoneHas, StandsAt, is_active, left_at, left_from, lefts}
 pub use Rattle.nit_rounds.specs.Places.{rest_of_phase, script_of, stepped, turn_by, turn_of}

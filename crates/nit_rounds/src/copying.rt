@@ -1,8 +1,8 @@
 //! Copies of a session's own glass to the scene's glass for it.
 
-ghost use Rattle.std.specs.Prelude.{◌≡◌, ◌+◌, ◌*◌, ◌<◌, ◌≤◌, length, slice_set};
-ghost use Rattle.nit_rounds.specs.Terms.{glass_in, is_number_in, most_side, set_where, told_at};
-ghost use Rattle.nit_rounds.specs.Terms.{with_words};
+ghost use Rattle.std.specs.Prelude.{◌≡◌, ◌+◌, ◌*◌, ◌<◌, ◌≤◌, slice_set};
+ghost use Rattle.nit_rounds.specs.Terms.{HasSession, glass_in, is_number_in, most_side, set_where};
+ghost use Rattle.nit_rounds.specs.Terms.{told_at, with_words};
 
 use nit_plan::Area;
 use nit_scene::Scene;
@@ -11,8 +11,7 @@ use nit_word::Inked;
 /// Sets the words of the area's places in the scene's glass for the session to those of its own
 /// glass, which has the same ink. The buffer has `w` columns, and all places of the area.
 pub(crate) fn copy_area(scene: &mut Scene<Inked>, sid: u32, own: &Inked, w: u32, area: Area)
-    requires session { sid < length scene.old.config.clients }
-    requires glasses { sid < length scene.old.glasses }
+    requires session { HasSession scene.old sid }
     requires wide { w ≤ most_side }
     requires tall { area.y + area.h ≤ most_side }
     requires columns { area.x + area.w ≤ w }

@@ -1,9 +1,9 @@
 //! Where the pictures of a run are put.
 
 ghost use Rattle.std.specs.Prelude.{◌≡◌, ◌*◌, ◌≤◌, All, length, take};
-ghost use Rattle.nit_rounds.specs.Terms.{IsWord, PutsFile, PutsNext, most_height, most_width};
-ghost use Rattle.nit_rounds.specs.Terms.{picture, picture_length, picture_name, put_state_of_desk};
-ghost use Rattle.nit_rounds.specs.Terms.{shot_name, unrefused};
+ghost use Rattle.nit_rounds.specs.Terms.{IsWord, KeepsFrame, PutsFile, PutsNext, most_height};
+ghost use Rattle.nit_rounds.specs.Terms.{most_width, picture, picture_length, picture_name};
+ghost use Rattle.nit_rounds.specs.Terms.{put_state_of_desk, shot_name, unrefused};
 ghost use Rattle.nit_rounds.specs.declared.desk.PictureName.TheVariants as name;
 
 use crate::viewer::Viewer;
@@ -50,9 +50,7 @@ impl<S: Store> Desk<'_, S> {
         ensures put { PutsNext (picture_name name, picture width height self.old.frame.items)
             (put_state_of_desk (S.shown self.old.store.now) self.old.fault self.old.tried)
             (put_state_of_desk (S.shown self.new.store.now) self.new.fault self.new.tried) }
-        ensures frame { self.new.frame.items ≡ self.old.frame.items }
-        ensures text { length self.new.text.items ≡ length self.old.text.items }
-        ensures same_store { self.new.store.ghost_name ≡ self.old.store.ghost_name }
+        ensures kept { KeepsFrame self.old self.new }
     {
         if self.fault.is_none() {
             ppm_into(&mut self.text, width, height, &self.frame);
@@ -69,9 +67,7 @@ impl<S: Store> Desk<'_, S> {
         ensures put { PutsNext (picture_name name, picture width height frame.now)
             (put_state_of_desk (S.shown self.old.store.now) self.old.fault self.old.tried)
             (put_state_of_desk (S.shown self.new.store.now) self.new.fault self.new.tried) }
-        ensures frame { self.new.frame.items ≡ self.old.frame.items }
-        ensures text { length self.new.text.items ≡ length self.old.text.items }
-        ensures same_store { self.new.store.ghost_name ≡ self.old.store.ghost_name }
+        ensures kept { KeepsFrame self.old self.new }
     {
         if self.fault.is_none() {
             ppm_into(&mut self.text, width, height, frame);
@@ -100,6 +96,7 @@ impl<S: Store> Desk<'_, S> {
 impl<S: Store> Viewer for Desk<'_, S> {
     ghost use Rattle.std.specs.Prelude.{◌≡◌, ◌*◌, length};
     ghost use Rattle.nit_report.specs.Picture.{picture_length};
+    ghost use Rattle.nit_rounds.specs.Desks.{IsSameDesk};
     ghost use Rattle.nit_rounds.specs.RoundsRun.{put_state_of_desk};
     ghost use Rattle.nit_rounds.specs.ShotFrames.{shot_file};
     ghost use Rattle.nit_store.specs.Puts.{PutsNext};
@@ -110,9 +107,7 @@ impl<S: Store> Viewer for Desk<'_, S> {
         PutsNext (shot_file f)
         (put_state_of_desk (S.shown before.store.now) before.fault before.tried)
         (put_state_of_desk (S.shown after'.store.now) after'.fault after'.tried)
-        × (length after'.frame.items ≡ length before.frame.items)
-        × (length after'.text.items ≡ length before.text.items)
-        × (after'.store.ghost_name ≡ before.store.ghost_name) };
+        × IsSameDesk before after' };
 
     fn shoot(&mut self, scene: &mut Scene<Inked>) {
         let (width, height) = scene.size();

@@ -1,8 +1,7 @@
 //! What a client's line draws on the own glass of its session.
 
-ghost use Rattle.std.specs.Prelude.{◌≡◌, ◌+◌, ◌<◌, ℕ, false, length, slice_set};
-ghost use Rattle.nit_rounds.specs.Terms.{IsBehind, IsDonation, IsPlanOf, Step, donation_of};
-ghost use Rattle.nit_rounds.specs.Terms.{glass_after, glass_in, is_set_by};
+ghost use Rattle.std.specs.Prelude.{◌≡◌, ◌<◌, ℕ, false, slice_set};
+ghost use Rattle.nit_rounds.specs.Terms.{CanDraw, HasDrawn, Step, glass_in, is_set_by};
 
 use crate::part::Part;
 use crate::stale::{Stale, add};
@@ -23,23 +22,12 @@ pub(crate) fn draw_line(
     line: usize,
     stale: Option<Stale>,
 ) -> Option<Stale>
-    requires session { part.sid < length scene.old.config.clients }
-    requires glasses { part.sid < length scene.old.glasses }
-    requires line { line < length part.script.now }
-    requires donation { IsDonation (donation_of scene.old.config part.sid) }
-    requires plan { IsPlanOf part.script.now (donation_of scene.old.config part.sid) part.plan.now }
-    requires own { own.old
-        ≡ glass_after part.sid part.script.now (donation_of scene.old.config part.sid) line }
-    requires behind { IsBehind stale part.sid (glass_in scene.old.glasses part.sid) own.old }
-    ensures own { own.new
-        ≡ glass_after part.entry.sid part.entry.script.now
-        (donation_of scene.old.config part.entry.sid) (line + 1) }
+    requires draw { CanDraw scene.old part line stale own.old }
+    ensures drawn { HasDrawn scene.old scene.new part.entry line result own.new }
     ensures scene { scene.new ≡ record scene.old {
       glasses = slice_set scene.old.glasses part.entry.sid
           (glass_in scene.new.glasses part.entry.sid);
     } }
-    ensures behind { IsBehind result part.entry.sid
-        (glass_in scene.new.glasses part.entry.sid) own.new }
 {
     buffer_within_table();
     one_more_line();

@@ -5,8 +5,8 @@ ghost use Rattle.nit_rounds.specs.Terms.{AreRoundsOf, AreShotsOf, ByClient, ByUs
 ghost use Rattle.nit_rounds.specs.Terms.{Entry, InputLine, IsDrawnPicture, IsLegal, IsWhole, Line};
 ghost use Rattle.nit_rounds.specs.Terms.{LineTurn, action_of, actions_of_turns, calls_to_make};
 ghost use Rattle.nit_rounds.specs.Terms.{drawn, drawn_by_shot, input_lines_of, lines_of};
-ghost use Rattle.nit_rounds.specs.Terms.{picture_of, pixel, replay, rounds, shot_name, shots};
-ghost use Rattle.nit_rounds.specs.Terms.{shots_of, slice_get, slice_index_or, sum, take, turn_of};
+ghost use Rattle.nit_rounds.specs.Terms.{picture_of, replay, rounds, shot_name, shots, shots_of};
+ghost use Rattle.nit_rounds.specs.Terms.{slice_get, slice_index_or, sum, take, turn_of};
 ghost use Rattle.nit_rounds.specs.Terms.{user_actions_to_do};
 ghost use Rattle.nit_events.specs.declared.entry.Entry.TheVariants as entry;
 ghost use Rattle.nit_rounds.specs.declared.turn.Turn.TheVariants as turn;

@@ -2,15 +2,15 @@
 
 ghost use Rattle.std.specs.Prelude.{true, ◌≡◌, ◌+◌, ◌-◌, ◌*◌, ◌<◌, ◌≤◌, ◌++◌, ◌∷◌, [], List, None};
 ghost use Rattle.nit_rounds.specs.Terms.{AreBehind, AreQuiet, AreQuietBut, ByClient, ByUser};
-ghost use Rattle.nit_rounds.specs.Terms.{FitsInputLine, IsBehind, IsDevice, IsDonation, IsGlass};
-ghost use Rattle.nit_rounds.specs.Terms.{IsMoved, IsOpen, IsPlanOf, IsPlanned, IsRecorded};
-ghost use Rattle.nit_rounds.specs.Terms.{IsRoundsRun, IsSetUp, IsShowing, IsUnderWay};
+ghost use Rattle.nit_rounds.specs.Terms.{CanDraw, FitsInputLine, HasDrawn, HasSession, IsDevice};
+ghost use Rattle.nit_rounds.specs.Terms.{IsGlass, IsMoved, IsOpen, IsPlanned, IsRecorded};
+ghost use Rattle.nit_rounds.specs.Terms.{IsRoundsRun, IsSameDesk, IsSetUp, IsShowing, IsUnderWay};
 ghost use Rattle.nit_rounds.specs.Terms.{IsUserRecorded, Line, LineTurn, Option, PutsShots};
 ghost use Rattle.nit_rounds.specs.Terms.{SceneModel, ShowsEach, ShowsLine, Sight, Some};
-ghost use Rattle.nit_rounds.specs.Terms.{actions_of_turns, donation_of, entry_of, glass_after};
-ghost use Rattle.nit_rounds.specs.Terms.{glass_in, length, picture_length, put_state_of_desk};
-ghost use Rattle.nit_rounds.specs.Terms.{rounds, settled, shot_frames_of, slice_get, slice_set};
-ghost use Rattle.nit_rounds.specs.Terms.{state_now, takes_place, turn_of};
+ghost use Rattle.nit_rounds.specs.Terms.{actions_of_turns, entry_of, glass_in, length};
+ghost use Rattle.nit_rounds.specs.Terms.{picture_length, put_state_of_desk, rounds, settled};
+ghost use Rattle.nit_rounds.specs.Terms.{shot_frames_of, slice_get, slice_set, state_now};
+ghost use Rattle.nit_rounds.specs.Terms.{takes_place, turn_of};
 ghost use Rattle.nit_events.specs.declared.call.Call.{Call as CallOf};
 ghost use Rattle.nit_events.specs.declared.call.Reply.{Reply as ReplyOf};
 ghost use Rattle.nit_events.specs.declared.event.Routed.{Routed as RoutedOf};
@@ -45,25 +45,14 @@ fn client_line(
     line: usize,
     stale: Option<Stale>,
 ) -> Option<Stale>
-    requires session { part.sid < length scene.old.config.clients }
-    requires glasses { part.sid < length scene.old.glasses }
-    requires line { line < length part.script.now }
-    requires donation { IsDonation (donation_of scene.old.config part.sid) }
-    requires plan { IsPlanOf part.script.now (donation_of scene.old.config part.sid) part.plan.now }
-    requires own { own.old
-        ≡ glass_after part.sid part.script.now (donation_of scene.old.config part.sid) line }
-    requires behind { IsBehind stale part.sid (glass_in scene.old.glasses part.sid) own.old }
+    requires draw { CanDraw scene.old part line stale own.old }
     requires quiet { AreQuietBut part.sid scene.old.glasses }
     requires spare { (call : CallOf) → slice_get part.script.now line ≡ Some (lines.Call call)
         → 1 ≤ scene.old.spare }
     requires open { IsOpen scene.old.entries }
-    ensures own { own.new
-        ≡ glass_after part.entry.sid part.entry.script.now
-        (donation_of scene.old.config part.entry.sid) (line + 1) }
+    ensures drawn { HasDrawn scene.old scene.new part.entry line result own.new }
     ensures glasses { scene.new.glasses
         ≡ slice_set scene.old.glasses part.entry.sid (glass_in scene.new.glasses part.entry.sid) }
-    ensures behind { IsBehind result part.entry.sid
-        (glass_in scene.new.glasses part.entry.sid) own.new }
     ensures config { scene.new.config ≡ scene.old.config }
     ensures open { IsOpen scene.new.entries }
     ensures spare { length scene.new.entries + scene.new.spare
@@ -84,8 +73,7 @@ fn client_line(
 
 /// A session's call of the scene, by the session's own glass.
 fn call_scene(scene: &mut Scene<Inked>, own: &mut Inked, sid: u32, call: &Call)
-    requires session { sid < length scene.old.config.clients }
-    requires glasses { sid < length scene.old.glasses }
+    requires session { HasSession scene.old sid }
     requires own { IsGlass scene.old.config sid own.old }
     requires quiet_own { own.old.log ≡ None }
     requires quiet { AreQuietBut sid scene.old.glasses }
@@ -256,9 +244,7 @@ pub fn run_rounds<S: Store>(
         (rounds parts.entry.scripts.now parts.entry.input.now)
         (put_state_of_desk (S.shown desk.old.store.now) desk.old.fault desk.old.tried)
         (put_state_of_desk (S.shown desk.new.store.now) desk.new.fault desk.new.tried) }
-    ensures frame { length desk.new.frame.items ≡ length desk.old.frame.items }
-    ensures text { length desk.new.text.items ≡ length desk.old.text.items }
-    ensures same_store { desk.new.store.ghost_name ≡ desk.old.store.ghost_name }
+    ensures desk { IsSameDesk desk.old desk.new }
 {
     run_viewed(scene, owns, parts, desk);
 }

@@ -4,8 +4,8 @@
 //! a row that cover each other are copied once.
 
 ghost use Rattle.std.specs.Prelude.{◌≡◌, ◌+◌, ◌<◌, ◌≤◌, ◌&&◌, ◌||◌, true, ℕ, None, Some, IfSome};
-ghost use Rattle.nit_rounds.specs.Terms.{AreBehind, FitsInto, IsBehind, IsButFor, glass_in};
-ghost use Rattle.nit_rounds.specs.Terms.{is_stale, length, most_side, nat_le, slice_set};
+ghost use Rattle.nit_rounds.specs.Terms.{AreBehind, FitsInto, HasSession, IsBehind, IsButFor};
+ghost use Rattle.nit_rounds.specs.Terms.{glass_in, is_stale, length, most_side, nat_le, slice_set};
 
 use crate::copying::copy_area;
 use nit_plan::Area;
@@ -46,8 +46,7 @@ fn lies_in(inner: &Stale, outer: &Stale) -> bool
 /// What is stale when two areas of the own glass are: the larger one where it has all words of the
 /// other. Else the words of the earlier one are copied first.
 fn merge(scene: &mut Scene<Inked>, own: &Inked, earlier: Stale, later: Stale) -> Stale
-    requires session { later.sid < length scene.old.config.clients }
-    requires glasses { later.sid < length scene.old.glasses }
+    requires session { HasSession scene.old later.sid }
     requires same { earlier.sid ≡ later.sid }
     requires earlier { FitsInto own.now.size earlier }
     requires later { FitsInto own.now.size later }
@@ -76,8 +75,7 @@ pub(crate) fn add(
     stale: Option<Stale>,
     later: Stale,
 ) -> Stale
-    requires session { later.sid < length scene.old.config.clients }
-    requires glasses { later.sid < length scene.old.glasses }
+    requires session { HasSession scene.old later.sid }
     requires same { IfSome stale (λ a. a.sid ≡ later.sid) }
     requires earlier { IfSome stale (FitsInto own.now.size) }
     requires later { FitsInto own.now.size later }

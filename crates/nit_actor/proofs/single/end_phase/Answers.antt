@@ -5,8 +5,8 @@ pub arrive_user-requires-clause-next : goal.arrive_user-requires-clause-next
 arrive_user-requires-clause-next c = user_at_phase c.args.room.now c.args.pass.now c.args.user.now c.requires.step
     c.requires.next
 
-pub returns-clause-step : goal.returns-clause-step
-returns-clause-step c =
+pub returns-clause-on : goal.returns-clause-on
+returns-clause-on c =
     phase_ended c.args.room.now c.arrive.new.self c.arrive_user.new.self c.args.pass.now c.arrive.new.pass
     c.args.user.now c.arrive_user.new.user _ _ _ _
     c.requires.step c.requires.next c.arrive.ensures.room c.arrive_user.ensures.room c.arrive.ensures.pass

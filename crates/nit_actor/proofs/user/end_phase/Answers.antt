@@ -1,14 +1,16 @@
-use Rattle.nit_actor.proofs.Lemmas.{UserPassModel, ap, quiet_phase, take, user_actions_in, ◌∙◌}
+use Rattle.nit_actor.proofs.Lemmas.{UserPassModel, ap, quiet_phase, user_role_of}
 use Rattle.nit_actor.proofs.user.end_phase.Goals as goal
 
-pub returns-clause-seen : goal.returns-clause-seen
-returns-clause-seen g c =
+pub returns : goal.returns
+returns g c =
     let u = c.args.user.now in
-    quiet_phase u.input u.next u.seen c.arrive_user.new.user.seen
+    let is = c.arrive_user.ensures.user in
+    quiet_phase u c.arrive_user.new.user
     (record {
+      same = ap user_role_of is;
+      next = ap (λ (v : UserPassModel). v.next) is;
       line_is = c.requires.next;
       before_is = c.next-known.ensures.known;
-      after_is = c.next-known-2.ensures.known
-          ∙ ap (λ (v : UserPassModel). user_actions_in (take v.next v.input)) c.arrive_user.ensures.user;
+      after_is = c.next-known-2.ensures.known;
     })
     c.arrive_user.ensures.grows

@@ -16,7 +16,7 @@ pub last_picture-scene-requires-clause-user : goal.last_picture-scene-requires-c
 last_picture-scene-requires-clause-user g c =
     subst (λ (q : OpeningParts). IsDoneUser q c.run_beside-mine.result.user) (sym c.into_room.ensures.parts)
     (user_done g.N.Name.parts c.args.opened.user c.run_beside-mine.result.user c.requires.ready.user_belongs
-    c.run_beside-mine.ensures.user_same c.run_beside-mine.ensures.user_done)
+    c.run_beside-mine.ensures.user.shots.same c.run_beside-mine.ensures.user.done)
 
 pub returns : goal.returns
 returns g c =
@@ -43,7 +43,7 @@ returns g c =
     subst (λ (last : StoreModel). HasRun first (setup_in parts) last c.leave_texts.result) (search rules)
     (beside_leaves parts c.args.opened.user.seen mine.result.user.seen first (shown c.leave_texts.new.store) at final
     journal c.leave_texts.result
-    c.requires.ready.fresh mine.ensures.put ended.known
+    c.requires.ready.fresh mine.ensures.user.shots.put ended.known
     (subst (λ (q : OpeningParts). IsLegal q.config journal) is ended.legal)
     (subst (λ (q : OpeningParts). IsWhole (map calls_to_make q.scripts) (user_actions_to_do q.input) journal) is
     ended.whole)

@@ -85,7 +85,7 @@ returns g c =
     (put_state_of_run mid ran.fault)) config behind in
     let has : HasRun first (setup_in parts) mid ran =
     beside_leaves parts c.args.actors.user.seen mine.result.user.seen first mid at final journal ran
-    c.requires.ready.ready.fresh mine.ensures.put ended.known
+    c.requires.ready.ready.fresh mine.ensures.user.shots.put ended.known
     (subst (λ (q : OpeningParts). IsLegal q.config journal) is ended.legal)
     (subst (λ (q : OpeningParts). IsWhole (map calls_to_make q.scripts) (user_actions_to_do q.input) journal) is
     ended.whole)

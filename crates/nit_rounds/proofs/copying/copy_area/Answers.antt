@@ -9,7 +9,7 @@ pub rows-preserved : goal.rows-preserved
 rows-preserved c =
     row_drawn c.args.scene.now c.rows.scene c.draw_row.new.self c.args.sid c.args.w c.args.area (told_at c.args.own.now)
     c.rows.j
-    c.requires.glasses c.requires.columns c.rows.auto.j c.rows-test.true c.rows.invariant c.draw_row.ensures
+    c.requires.session.glasses c.requires.columns c.rows.auto.j c.rows-test.true c.rows.invariant c.draw_row.ensures
 
 pub returns : goal.returns
 returns c = all_drawn c.args.scene.now c.rows.scene c.args.sid c.args.w c.args.area (told_at c.args.own.now) c.rows.j

@@ -8,14 +8,14 @@ add-requires-clause-later c =
     let a = c.args in
     let d : ℕ = donation_of a.scene.now.config a.part.sid in
     let laws = c.buffer_within_table.ensures in
-    let opens = c.requires.donation in
+    let opens = c.requires.draw.donation in
     let here = line_here a.part.script.now c.lines-2.result.now a.line c.index-lines-line-2.result
-    c.lines-2.ensures.value c.requires.line c.index-lines-line-2.is in
+    c.lines-2.ensures.value c.requires.draw.line c.index-lines-line-2.is in
     let step = step_there c.step_of_a_line.ensures.step a.part.script.now d a.line a.part.plan.now c.steps.result.now _
-    c.index-lines-line-2.result c.requires.plan c.steps.ensures here in
-    let now = after_stroke laws.words a.part.sid a.part.script.now d a.line _ _ opens c.requires.own
+    c.index-lines-line-2.result c.requires.draw.plan c.steps.ensures here in
+    let now = after_stroke laws.words a.part.sid a.part.script.now d a.line _ _ opens c.requires.draw.own
     (c.stroke.ensures.sight d (painted_to laws.words a.part.sid a.part.script.now d a.line a.part.plan.now _ opens
-    c.requires.plan c.requires.own)) in
+    c.requires.draw.plan c.requires.draw.own)) in
     fits laws.words laws.buffer laws.wide laws.tall a.part.sid a.part.script.now d a.line c.index-lines-line-2.result _
     _ _ opens.1 step c.area_set-area.ensures.inside.0 c.area_set-area.ensures.inside.1 now
 
@@ -24,25 +24,28 @@ add-requires-clause-but c =
     let a = c.args in
     let d : ℕ = donation_of a.scene.now.config a.part.sid in
     let long = c.buffer_within_table.ensures.words in
-    let opens = c.requires.donation in
+    let opens = c.requires.draw.donation in
     let here = line_here a.part.script.now c.lines-2.result.now a.line c.index-lines-line-2.result
-    c.lines-2.ensures.value c.requires.line c.index-lines-line-2.is in
+    c.lines-2.ensures.value c.requires.draw.line c.index-lines-line-2.is in
     let step = step_there c.step_of_a_line.ensures.step a.part.script.now d a.line a.part.plan.now c.steps.result.now _
-    c.index-lines-line-2.result c.requires.plan c.steps.ensures here in
-    let now = after_stroke long a.part.sid a.part.script.now d a.line _ _ opens c.requires.own
+    c.index-lines-line-2.result c.requires.draw.plan c.steps.ensures here in
+    let now = after_stroke long a.part.sid a.part.script.now d a.line _ _ opens c.requires.draw.own
     (c.stroke.ensures.sight d (painted_to long a.part.sid a.part.script.now d a.line a.part.plan.now _ opens
-    c.requires.plan c.requires.own)) in
+    c.requires.draw.plan c.requires.draw.own)) in
     drawn_but long c.other_places_stay.ensures a.part.sid a.part.script.now d a.line c.index-lines-line-2.result _ _
     (is_stale a.stale) (glass_in a.scene.now.glasses a.part.sid) _ _ opens here step
-    c.area_set-area.ensures.places c.requires.own now
-    (as_but a.part.sid a.part.script.now d a.line a.stale _ _ c.requires.own c.requires.behind)
+    c.area_set-area.ensures.places c.requires.draw.own now
+    (as_but a.part.sid a.part.script.now d a.line a.stale _ _ c.requires.draw.own c.requires.draw.behind)
 
-pub returns-then-not-may_draw-clause-own : goal.returns-then-not-may_draw-clause-own
-returns-then-not-may_draw-clause-own c =
+pub returns-then-not-may_draw-clause-drawn : goal.returns-then-not-may_draw-clause-drawn
+returns-then-not-may_draw-clause-drawn c =
     let a = c.args in
     let d : ℕ = donation_of a.scene.now.config a.part.sid in
     let here = line_here a.part.script.now c.lines.result.now a.line c.index-lines-line.result c.lines.ensures.value
-    c.requires.line c.index-lines-line.is in
-    c.requires.own ∙ nothing_drawn c.buffer_within_table.ensures.words c.other_places_stay.ensures a.part.sid
-    a.part.script.now d a.line c.index-lines-line.result c.requires.donation here
-    (c.may_draw.ensures c.if-not-may_draw.true)
+    c.requires.draw.line c.index-lines-line.is in
+    record {
+      own = c.requires.draw.own ∙ nothing_drawn c.buffer_within_table.ensures.words c.other_places_stay.ensures
+          a.part.sid a.part.script.now d a.line c.index-lines-line.result c.requires.draw.donation here
+          (c.may_draw.ensures c.if-not-may_draw.true);
+      behind = c.requires.draw.behind;
+    }

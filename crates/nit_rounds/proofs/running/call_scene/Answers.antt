@@ -18,4 +18,4 @@ returns-clause-moved c =
     served_moved c.one_more_entry.ensures.replayed c.args.scene.now c.call.new.self c.args.sid c.args.call.now
     c.call.result _ c.args.own.now c.call.new.own
     c.call.ensures.config c.call.ensures.recorded (returns-clause-glasses c) (returns-clause-own c) c.call.ensures.reply
-    c.requires.glasses c.call.ensures.painted
+    c.requires.session.glasses c.call.ensures.painted

@@ -7,11 +7,11 @@ use Rattle.nit_rounds.proofs.running.client_line.Goals as goal
 pub call_scene-requires-clause-own : goal.call_scene-requires-clause-own
 call_scene-requires-clause-own c =
     is_glass c.buffer_within_table.ensures.words c.args.scene.now.config c.draw_line-stale.new.scene.config
-    c.args.part.sid c.args.part.script.now _ c.draw_line-stale.new.own c.requires.donation
-    (ap (λ (p : SceneModel Sight). p.config) c.draw_line-stale.ensures.scene) c.draw_line-stale.ensures.own
+    c.args.part.sid c.args.part.script.now _ c.draw_line-stale.new.own c.requires.draw.donation
+    (ap (λ (p : SceneModel Sight). p.config) c.draw_line-stale.ensures.scene) c.draw_line-stale.ensures.drawn.own
 
 pub call_scene-requires-clause-quiet_own : goal.call_scene-requires-clause-quiet_own
-call_scene-requires-clause-quiet_own c = ap (λ (g : Sight). g.log) c.draw_line-stale.ensures.own
+call_scene-requires-clause-quiet_own c = ap (λ (g : Sight). g.log) c.draw_line-stale.ensures.drawn.own
 
 pub call_scene-requires-clause-quiet : goal.call_scene-requires-clause-quiet
 call_scene-requires-clause-quiet c = quiet_others c.args.scene.now c.draw_line-stale.new.scene c.args.part.sid _
@@ -20,25 +20,28 @@ call_scene-requires-clause-quiet c = quiet_others c.args.scene.now c.draw_line-s
 pub call_scene-requires-clause-spare : goal.call_scene-requires-clause-spare
 call_scene-requires-clause-spare c =
     let here = line_here c.args.part.script.now c.lines.result.now c.args.line c.index-lines-line.result
-    c.lines.ensures.value c.requires.line c.index-lines-line.is in
+    c.lines.ensures.value c.requires.draw.line c.index-lines-line.is in
     room_there c.args.scene.now c.draw_line-stale.new.scene c.args.part.sid _ c.draw_line-stale.ensures.scene
     (c.requires.spare _ (here ∙ ap Some c.in-Call.is))
 
 pub returns-in-Call : goal.returns-in-Call
 returns-in-Call c =
     let here = line_here c.args.part.script.now c.lines.result.now c.args.line c.index-lines-line.result
-    c.lines.ensures.value c.requires.line c.index-lines-line.is in
+    c.lines.ensures.value c.requires.draw.line c.index-lines-line.is in
     let is = c.draw_line-stale.ensures.scene in
     let does = c.call_scene.ensures in
     let room : 1 ≤ c.draw_line-stale.new.scene.spare =
     room_there c.args.scene.now c.draw_line-stale.new.scene c.args.part.sid _ is
     (c.requires.spare _ (here ∙ ap Some c.in-Call.is)) in
     record {
-      own = does.own ∙ c.draw_line-stale.ensures.own;
+      drawn = record {
+        own = does.own ∙ c.draw_line-stale.ensures.drawn.own;
+        behind = behind_still c.draw_line-stale.result c.args.part.sid c.draw_line-stale.new.scene
+            c.call_scene.new.scene c.draw_line-stale.new.own c.call_scene.new.own does.glasses does.own
+            c.draw_line-stale.ensures.drawn.behind;
+      };
       glasses = glasses_still c.args.part.sid c.args.scene.now c.draw_line-stale.new.scene c.call_scene.new.scene
           does.glasses is;
-      behind = behind_still c.draw_line-stale.result c.args.part.sid c.draw_line-stale.new.scene c.call_scene.new.scene
-          c.draw_line-stale.new.own c.call_scene.new.own does.glasses does.own c.draw_line-stale.ensures.behind;
       config = does.config ∙ ap (λ (p : SceneModel Sight). p.config) is;
       «open» = does.«open»;
       spare = call_counted c.args.scene.now c.draw_line-stale.new.scene c.call_scene.new.scene c.args.part.sid _ _ is
@@ -52,12 +55,11 @@ returns-in-Call c =
 pub returns-in_default : goal.returns-in_default
 returns-in_default c =
     let here = line_here c.args.part.script.now c.lines.result.now c.args.line c.index-lines-line.result
-    c.lines.ensures.value c.requires.line c.index-lines-line.is in
+    c.lines.ensures.value c.requires.draw.line c.index-lines-line.is in
     let is = c.draw_line-stale.ensures.scene in
     record {
-      own = c.draw_line-stale.ensures.own;
+      drawn = c.draw_line-stale.ensures.drawn;
       glasses = ap (λ (p : SceneModel Sight). p.glasses) is;
-      behind = c.draw_line-stale.ensures.behind;
       config = ap (λ (p : SceneModel Sight). p.config) is;
       «open» = subst (λ (p : SceneModel Sight). IsOpen p.entries) (sym is) c.requires.open;
       spare = ap (λ (p : SceneModel Sight). length p.entries + p.spare) is;

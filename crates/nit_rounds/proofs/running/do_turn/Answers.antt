@@ -1,12 +1,11 @@
 use Rattle.std.proofs.Common.{List, [], ap, arith, length, refl, set, subst, sym, ◌+◌, ◌<◌, ◌∙◌}
-use Rattle.std.proofs.Common.{◌∷◌}
+use Rattle.std.proofs.Common.{◌∷◌, slice_get, slice_index_or}
 use Rattle.nit_rounds.proofs.Lemmas.{ByClient, ByUser, InputLine, IsBehind, IsPlanOf, IsShowing}
 use Rattle.nit_rounds.proofs.Lemmas.{IsUnderWay, Line, PlanModel, SceneModel, Sight, after_client}
 use Rattle.nit_rounds.proofs.Lemmas.{after_user, all_own, as_many, behind_again, clients_move}
 use Rattle.nit_rounds.proofs.Lemmas.{donation_of, entry_of, found_here, get_or_default, glass_after}
 use Rattle.nit_rounds.proofs.Lemmas.{glass_in, moved_settled, no_sight, read_same, script_in}
-use Rattle.nit_rounds.proofs.Lemmas.{settled, settled_turn, slice_get, slice_index_or, users_move}
-use Rattle.nit_rounds.proofs.Lemmas.{users_turn}
+use Rattle.nit_rounds.proofs.Lemmas.{settled, settled_turn, users_move, users_turn}
 use Rattle.nit_rounds.proofs.running.do_turn.Goals as goal
 
 -- ---- a client's turn
@@ -35,73 +34,31 @@ bounds-parts-sid-in-Client g c =
     (is ∙ c.in-Client.is) room in
     t.in_plans
 
-pub client_line-requires-clause-session : goal.client_line-requires-clause-session
-client_line-requires-clause-session g c =
+pub client_line-requires-clause-draw : goal.client_line-requires-clause-draw
+client_line-requires-clause-draw g c =
     let (before, m, left, w, is, room) = c.requires.next in
-    let t = settled_turn c.turns_tell.ensures.client c.lines_done.ensures.client _ _ _ before c.args.scene.now
-    c.settle_others-stale.new.scene _ m left _ _ c.requires.planned w c.settle_others-stale.ensures.scene
-    (is ∙ c.in-Client.is) room in
-    t.session
-
-pub client_line-requires-clause-glasses : goal.client_line-requires-clause-glasses
-client_line-requires-clause-glasses g c =
-    let (before, m, left, w, is, room) = c.requires.next in
-    let t = settled_turn c.turns_tell.ensures.client c.lines_done.ensures.client _ _ _ before c.args.scene.now
-    c.settle_others-stale.new.scene _ m left _ _ c.requires.planned w c.settle_others-stale.ensures.scene
-    (is ∙ c.in-Client.is) room in
-    as_many c.settle_others-stale.new.scene.glasses c.args.owns.now c.in-Client.sid _
-    c.settle_others-stale.ensures.others t.in_owns
-
-pub client_line-requires-clause-line : goal.client_line-requires-clause-line
-client_line-requires-clause-line g c =
-    let (before, m, left, w, is, room) = c.requires.next in
-    let t = settled_turn c.turns_tell.ensures.client c.lines_done.ensures.client _ _ _ before c.args.scene.now
-    c.settle_others-stale.new.scene _ m left _ _ c.requires.planned w c.settle_others-stale.ensures.scene
-    (is ∙ c.in-Client.is) room in
-    subst (λ (ls : List Line). c.in-Client.line < length ls)
-    (get_or_default c.args.parts.scripts.now c.in-Client.sid [] c.index-parts-sid.result t.in_scripts) t.here
-
-pub client_line-requires-clause-donation : goal.client_line-requires-clause-donation
-client_line-requires-clause-donation g c =
-    let (before, m, left, w, is, room) = c.requires.next in
-    let t = settled_turn c.turns_tell.ensures.client c.lines_done.ensures.client _ _ _ before c.args.scene.now
-    c.settle_others-stale.new.scene _ m left _ _ c.requires.planned w c.settle_others-stale.ensures.scene
-    (is ∙ c.in-Client.is) room in
-    t.donation
-
-pub client_line-requires-clause-plan : goal.client_line-requires-clause-plan
-client_line-requires-clause-plan g c =
-    let (before, m, left, w, is, room) = c.requires.next in
-    let t = settled_turn c.turns_tell.ensures.client c.lines_done.ensures.client _ _ _ before c.args.scene.now
-    c.settle_others-stale.new.scene _ m left _ _ c.requires.planned w c.settle_others-stale.ensures.scene
-    (is ∙ c.in-Client.is) room in
-    let donation = donation_of c.settle_others-stale.new.scene.config c.in-Client.sid in
-    subst (λ (ls : List Line). IsPlanOf ls donation
-    (slice_index_or c.args.parts.plans.now c.in-Client.sid c.index-parts-sid-in-Client.result))
-    (get_or_default c.args.parts.scripts.now c.in-Client.sid [] c.index-parts-sid.result t.in_scripts)
-    (subst (λ (p : PlanModel). IsPlanOf (script_in c.args.parts.scripts.now c.in-Client.sid) donation p)
-    (get_or_default c.args.parts.plans.now c.in-Client.sid _ c.index-parts-sid-in-Client.result t.in_plans) t.plan)
-
-pub client_line-requires-clause-own : goal.client_line-requires-clause-own
-client_line-requires-clause-own g c =
-    let (before, m, left, w, is, room) = c.requires.next in
-    let t = settled_turn c.turns_tell.ensures.client c.lines_done.ensures.client _ _ _ before c.args.scene.now
-    c.settle_others-stale.new.scene _ m left _ _ c.requires.planned w c.settle_others-stale.ensures.scene
-    (is ∙ c.in-Client.is) room in
-    get_or_default c.args.owns.now c.in-Client.sid _ no_sight t.in_owns ∙ t.own
-    ∙ ap (λ (ls : List Line). glass_after c.in-Client.sid ls
-    (donation_of c.settle_others-stale.new.scene.config c.in-Client.sid) c.in-Client.line)
-    (get_or_default c.args.parts.scripts.now c.in-Client.sid [] c.index-parts-sid.result t.in_scripts)
-
-pub client_line-requires-clause-behind : goal.client_line-requires-clause-behind
-client_line-requires-clause-behind g c =
-    let (before, m, left, w, is, room) = c.requires.next in
-    let t = settled_turn c.turns_tell.ensures.client c.lines_done.ensures.client _ _ _ before c.args.scene.now
-    c.settle_others-stale.new.scene _ m left _ _ c.requires.planned w c.settle_others-stale.ensures.scene
-    (is ∙ c.in-Client.is) room in
-    subst (λ (g : Sight). IsBehind c.settle_others-stale.result c.in-Client.sid
-    (glass_in c.settle_others-stale.new.scene.glasses c.in-Client.sid) g)
-    (get_or_default c.args.owns.now c.in-Client.sid no_sight _ t.in_owns) c.settle_others-stale.ensures.behind
+    let s = c.settle_others-stale.new.scene in
+    let sid = c.in-Client.sid in
+    let t = settled_turn c.turns_tell.ensures.client c.lines_done.ensures.client _ _ _ before c.args.scene.now s _ m
+    left _ _ c.requires.planned w c.settle_others-stale.ensures.scene (is ∙ c.in-Client.is) room in
+    let donation = donation_of s.config sid in
+    let script = get_or_default c.args.parts.scripts.now sid [] c.index-parts-sid.result t.in_scripts in
+    record {
+      there = record {
+        session = t.session;
+        glasses = as_many s.glasses c.args.owns.now sid _ c.settle_others-stale.ensures.others t.in_owns;
+      };
+      line = subst (λ (ls : List Line). c.in-Client.line < length ls) script t.here;
+      donation = t.donation;
+      plan = subst (λ (ls : List Line). IsPlanOf ls donation
+          (slice_index_or c.args.parts.plans.now sid c.index-parts-sid-in-Client.result)) script
+          (subst (λ (p : PlanModel). IsPlanOf (script_in c.args.parts.scripts.now sid) donation p)
+          (get_or_default c.args.parts.plans.now sid _ c.index-parts-sid-in-Client.result t.in_plans) t.plan);
+      own = get_or_default c.args.owns.now sid _ no_sight t.in_owns ∙ t.own
+          ∙ ap (λ (ls : List Line). glass_after sid ls donation c.in-Client.line) script;
+      behind = subst (λ (g : Sight). IsBehind c.settle_others-stale.result sid (glass_in s.glasses sid) g)
+          (get_or_default c.args.owns.now sid no_sight _ t.in_owns) c.settle_others-stale.ensures.behind;
+    }
 
 pub client_line-requires-clause-spare : goal.client_line-requires-clause-spare
 client_line-requires-clause-spare g c =
@@ -120,7 +77,7 @@ returns-in-Client-clause-behind g c =
     (is ∙ c.in-Client.is) room in
     behind_again c.client_line.result c.settle_others-stale.new.scene.glasses c.client_line.new.scene.glasses
     c.args.owns.now _ c.in-Client.sid _ c.client_line.new.own t.in_owns
-    c.settle_others-stale.ensures.others c.client_line.ensures.glasses refl c.client_line.ensures.behind
+    c.settle_others-stale.ensures.others c.client_line.ensures.glasses refl c.client_line.ensures.drawn.behind
 
 pub returns-in-Client-clause-way : goal.returns-in-Client-clause-way
 returns-in-Client-clause-way g c before m left first p is =
@@ -140,7 +97,7 @@ returns-in-Client-clause-way g c before m left first p is =
     let here = ap (λ (ls : List Line). slice_get ls c.in-Client.line) script ∙ move.here in
     after_client g.V.Viewer.shows _ _ before (settled mid owns) (settled new (set owns sid own')) owns _ m left sid
     c.in-Client.line own' first _ p' move refl
-    (c.client_line.ensures.own ∙ ap
+    (c.client_line.ensures.drawn.own ∙ ap
     (λ (ls : List Line). glass_after sid ls (donation_of mid.config sid) (c.in-Client.line + 1)) script)
     refl c.client_line.ensures.config c.client_line.ensures.«open» c.client_line.ensures.spare
     (c.client_line.ensures.recorded move.l here)

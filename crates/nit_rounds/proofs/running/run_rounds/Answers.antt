@@ -5,14 +5,11 @@ pub returns-clause-shots : goal.returns-clause-shots
 returns-clause-shots g c = put_as_pictures _ (λ d. put_state_of_desk (g.S.Store.shown d.store.now) d.fault d.tried) _ _
     _ (λ f before after' s. s.0) c.run_viewed.ensures.shown
 
-pub returns-clause-frame : goal.returns-clause-frame
-returns-clause-frame g c = stays_throughout _ (λ d. length d.frame.items) _ _ _ (λ f before after' s. s.1)
-    c.run_viewed.ensures.shown
-
-pub returns-clause-text : goal.returns-clause-text
-returns-clause-text g c = stays_throughout _ (λ d. length d.text.items) _ _ _ (λ f before after' s. s.2)
-    c.run_viewed.ensures.shown
-
-pub returns-clause-same_store : goal.returns-clause-same_store
-returns-clause-same_store g c = stays_throughout _ (λ d. d.store.ghost_name) _ _ _ (λ f before after' s. s.3)
-    c.run_viewed.ensures.shown
+pub returns-clause-desk : goal.returns-clause-desk
+returns-clause-desk g c =
+    let shown = c.run_viewed.ensures.shown in
+    record {
+      frame = stays_throughout _ (λ d. length d.frame.items) _ _ _ (λ f before after' s. s.1.frame) shown;
+      text = stays_throughout _ (λ d. length d.text.items) _ _ _ (λ f before after' s. s.1.text) shown;
+      same_store = stays_throughout _ (λ d. d.store.ghost_name) _ _ _ (λ f before after' s. s.1.same_store) shown;
+    }

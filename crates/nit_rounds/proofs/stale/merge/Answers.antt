@@ -9,5 +9,5 @@ returns-clause-behind c =
       fits = c.requires.later;
       but = copied_first (is_stale (Some a.earlier)) (is_stale (Some a.later))
           (glass_in a.scene.now.glasses a.later.sid) a.own.now _ c.requires.but
-          (glass_there a.scene.now c.copy_area.new.scene a.later.sid _ c.copy_area.ensures c.requires.glasses);
+          (glass_there a.scene.now c.copy_area.new.scene a.later.sid _ c.copy_area.ensures c.requires.session.glasses);
     }

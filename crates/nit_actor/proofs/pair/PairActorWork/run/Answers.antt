@@ -3,4 +3,4 @@ use Rattle.nit_actor.proofs.pair.PairActorWork.run.Goals as goal
 
 pub returns-clause-done : goal.returns-clause-done
 returns-clause-done g c =
-    pair_none c.run_pair.new.pass c.run_pair.new.clip c.run_pair.ensures.done c.run_pair.ensures.clip_done
+    pair_none c.run_pair.new.pass c.run_pair.new.clip c.run_pair.ensures.pass.done c.run_pair.ensures.clip_done
