@@ -1,15 +1,18 @@
 -- Which word a pixel of a host's picture shows.
-use Rattle.std.proofs.Common.{Bool, None, Some, ap, ap₂, arith, cond, nat_lt, pos}
-use Rattle.std.proofs.Common.{slice_index, true, ℕ, ◌%◌, ◌*◌, ◌+◌, ◌-ℤ◌, ◌/◌, ◌<◌, ◌∙◌, ◌≡◌, ℤ}
+use Rattle.std.proofs.Common.{Bool, None, Option, Some, ap, ap₂, arith, cond, false, inl, inr}
+use Rattle.std.proofs.Common.{nat_lt, negsuc, pos, refl, slice_index, true, ℕ, ◌%◌, ◌*◌, ◌+◌}
+use Rattle.std.proofs.Common.{◌-ℤ◌, ◌/◌, ◌<◌, ◌∙◌, ◌≡◌, ◌⊎◌, ℤ}
 use Rattle.std.proofs.lemmas.Bool.Decides.{nat_tests}
 use Rattle.std.proofs.lemmas.List.FromFn.{get_or-map-range_with_len}
 use Rattle.nit_journal.specs.State.{buffer_size, owner_of}
-use Rattle.nit_stack.specs.Sources.{PixelSource, Word, among, black_or_word, index_at}
+use Rattle.nit_stack.specs.Sources.{Black, PixelSource, Word, among, black_or_word, index_at}
 use Rattle.nit_stack.specs.Sources.{source_under}
 use Rattle.nit_stack.specs.declared.view.View.{View}
 use Rattle.nit_word.specs.Channels.{bare_word}
 use Rattle.nit_host.specs.Below.{pixel, pixel_count, session, source_at, word_from}
 use Rattle.nit_host.specs.Host.{HostModel, picture, sheet_in}
+use mathlib.Core.Logic.{dite}
+use native.Mathlib.Decide.{dec_lt}
 
 pub picture_pixel : (h : HostModel) (k : ℕ) → k < pixel_count h.state
     → slice_index (picture h) k ≡ word_from (sheet_in h.sheets) (source_at h.state k)
@@ -37,6 +40,45 @@ of_view h k i j v owned across wide down high =
     ∙ ap (black_or_word v.sid)
     (ap₂ (index_at (session h.state v.sid).bw) (is_among _ i (session h.state v.sid).bw across wide)
     (is_among _ j (session h.state v.sid).bh down high))
+
+-- a place among so many, or none of them
+among_cases : (at : ℤ) (most : ℕ) → (among at most ≡ None)
+    ⊎ ((n : ℕ) × (at ≡ pos n) × (n < most) × (among at most ≡ Some n))
+among_cases (negsuc n) most = inl refl
+among_cases (pos n) most =
+    dite (dec_lt n most) (λ inside. inr (n, refl, inside, is_among (pos n) n most refl inside))
+    (λ behind.
+    let test : nat_lt n most ≡ false = grind (arith, nat_tests) in
+    inl (ap (λ (b : Bool). cond b (Some n) None) test))
+
+no_row : (columns : ℕ) (o : Option ℕ) → index_at columns o None ≡ None
+no_row columns None = refl
+no_row columns (Some x) = refl
+
+no_index : (columns rows : ℕ) (a b : ℤ)
+    → ((i j : ℕ) → a ≡ pos i → i < columns → b ≡ pos j → j < rows → ⊥)
+    → index_at columns (among a columns) (among b rows) ≡ None
+no_index columns rows a b none =
+    elim (among_cases a columns) [
+      | inl e ↦ ap (λ (o : Option ℕ). index_at columns o (among b rows)) e
+      | inr x ↦
+          elim (among_cases b rows) [
+            | inl e ↦ ap (index_at columns (among a columns)) e ∙ no_row columns (among a columns)
+            | inr y ↦ absurd (none x.0 y.0 x.1 x.2 y.1 y.2)
+          ]
+    ]
+
+-- the word of a pixel to which the buffer of its view does not reach
+pub of_past : (h : HostModel) (k : ℕ) (v : View) → k < pixel_count h.state
+    → owner_of h.state (pixel h.state.config.width k) ≡ Some v
+    → ((i j : ℕ) → (pos (k % h.state.config.width) -ℤ v.rect.x) -ℤ v.ox ≡ pos i
+    → i < (session h.state v.sid).bw
+    → (pos (k / h.state.config.width) -ℤ v.rect.y) -ℤ v.oy ≡ pos j → j < (session h.state v.sid).bh → ⊥)
+    → slice_index (picture h) k ≡ 0
+of_past h k v less owned none =
+    by_source h k Black less
+    (ap (source_under (buffer_size h.state.sessions) (pixel h.state.config.width k)) owned
+    ∙ ap (black_or_word v.sid) (no_index (session h.state v.sid).bw (session h.state v.sid).bh _ _ none))
 
 pub of_none : (h : HostModel) (k : ℕ) → k < pixel_count h.state
     → owner_of h.state (pixel h.state.config.width k) ≡ None → slice_index (picture h) k ≡ bare_word

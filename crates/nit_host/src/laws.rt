@@ -158,6 +158,12 @@ pub fn pixels_show_words_of_their_seats()
         → (pos (k % width) -ℤ v.rect.x) -ℤ v.ox ≡ pos i → i < s.bw
         → (pos (k / width) -ℤ v.rect.y) -ℤ v.oy ≡ pos j → j < s.bh
         → slice_index (picture h) k ≡ word_of h v.sid (j * s.bw + i) }
+    ensures past { (h : HostModel) (k : ℕ) (v : View) → k < pixel_count h.state
+        → let width = h.state.config.width in let s = session h.state v.sid in
+        owner_of h.state (pixel width k) ≡ Some v
+        → ((i j : ℕ) → (pos (k % width) -ℤ v.rect.x) -ℤ v.ox ≡ pos i → i < s.bw
+        → (pos (k / width) -ℤ v.rect.y) -ℤ v.oy ≡ pos j → j < s.bh → ⊥)
+        → slice_index (picture h) k ≡ 0 }
     ensures black { (h : HostModel) (k : ℕ) → k < pixel_count h.state
         → source_at h.state k ≡ Black → slice_index (picture h) k ≡ 0 }
     ensures bare { (h : HostModel) (k : ℕ) → k < pixel_count h.state

@@ -1,5 +1,5 @@
 use Rattle.nit_stack.specs.Sources.{Black, Word}
-use Rattle.nit_host.proofs.ShownWords.{by_source, of_none, of_view}
+use Rattle.nit_host.proofs.ShownWords.{by_source, of_none, of_past, of_view}
 use Rattle.nit_host.proofs.laws.pixels_show_words_of_their_seats.Goals as goal
 
 pub returns-clause-source : goal.returns-clause-source
@@ -8,6 +8,9 @@ returns-clause-source c h k seat n less is = by_source h k (Word seat n) less is
 pub returns-clause-shown : goal.returns-clause-shown
 returns-clause-shown c h k i j v less owned across wide down high =
     by_source h k _ less (of_view h k i j v owned across wide down high)
+
+pub returns-clause-past : goal.returns-clause-past
+returns-clause-past c h k v less owned none = of_past h k v less owned none
 
 pub returns-clause-black : goal.returns-clause-black
 returns-clause-black c h k less is = by_source h k Black less is
