@@ -1,12 +1,12 @@
 -- A code is down from a press to the next release, along what a session observes.
-use Rattle.nit_journal.proofs.Basics.{Event, Gets, IsDown}
+use Rattle.nit_journal.proofs.Basics.{Gets, IsDown}
 use Rattle.nit_journal.proofs.Basics.{Observation}
-use Rattle.nit_journal.proofs.Basics.{after, eq-eqb, eqb-true}
+use Rattle.nit_journal.proofs.Basics.{eq-eqb, eqb-true}
 use Rattle.nit_journal.proofs.Basics.{is_release, list_any, or_from}
 use Rattle.nit_journal.proofs.Basics.{or_parts}
 use Rattle.std.proofs.Common.{Bool, List, [], ap, append-nil, append_assoc}
-use Rattle.std.proofs.Common.{false, refl, subst, sym, true, ℕ, ◌&&◌, ◌++◌, ◌+◌, ◌==◌}
-use Rattle.std.proofs.Common.{◌∙◌, ◌∷◌, ◌≡◌, if◌then◌else◌, ◌||◌}
+use Rattle.std.proofs.Common.{false, refl, subst, sym, true, ℕ, ◌++◌, ◌==◌}
+use Rattle.std.proofs.Common.{◌∙◌, ◌∷◌, ◌≡◌, if◌then◌else◌}
 use Rattle.nit_events.specs.declared.event.Event.TheVariants as event
 use Rattle.nit_events.specs.declared.event.Item.TheVariants as item
 

@@ -6,7 +6,7 @@ use Rattle.nit_journal.proofs.Basics.{either, eq-eqb, eqb-true}
 use Rattle.nit_journal.proofs.Basics.{list_any, not, or_from}
 use Rattle.nit_journal.proofs.Basics.{or_parts}
 use Rattle.std.proofs.Common.{Bool, List, None, Option, Some, []}
-use Rattle.std.proofs.Common.{cond, false, filter, refl, subst, sym, true, ℕ, ◌&&◌, ◌++◌, ◌+◌, ◌==◌}
+use Rattle.std.proofs.Common.{cond, false, filter, refl, subst, sym, true, ℕ, ◌&&◌, ◌++◌, ◌==◌}
 use Rattle.std.proofs.Common.{◌∙◌, ◌∷◌, ◌≡◌, if◌then◌else◌, ◌||◌}
 use Rattle.nit_events.specs.declared.event.Event.TheVariants as event
 use Rattle.nit_events.specs.declared.event.Item.TheVariants as item
@@ -38,10 +38,10 @@ calm_unless true ds h = refl
 calm_unless false ds h = h
 
 -- a click tells of the focus alone, and leaves who holds what
-record IsAside (i : InputState) (r : Routing) : Type 0 where
-  calm : IsCalm r.deliveries
-  held : r.state.held ≡ i.held
-  receiver : r.state.receiver ≡ i.receiver
+pub record IsAside (i : InputState) (r : Routing) : Type 0 where
+  pub calm : IsCalm r.deliveries
+  pub held : r.state.held ≡ i.held
+  pub receiver : r.state.receiver ≡ i.receiver
 
 ignored_aside : (i : InputState) → IsAside i (Input.ignored i)
 ignored_aside i = record { calm = refl; held = refl; receiver = refl }

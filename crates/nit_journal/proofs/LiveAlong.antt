@@ -1,7 +1,7 @@
 -- The sessions that the input and the stack know are live along a whole journal, and along any steps.
 use Rattle.nit_journal.proofs.Basics.{Agrees, AreLive, AreSteps, All, All-cons}
 use Rattle.nit_journal.proofs.Basics.{All-nil, All-same, All-weaker}
-use Rattle.nit_journal.proofs.Basics.{Call, Configuration, Device}
+use Rattle.nit_journal.proofs.Basics.{Configuration, Device}
 use Rattle.nit_journal.proofs.Basics.{Entry, IsLegal, IsLive}
 use Rattle.nit_journal.proofs.Basics.{LegalFrom, Opens}
 use Rattle.nit_journal.proofs.Basics.{Routed, Routing, Serves, Session}
@@ -12,11 +12,10 @@ use Rattle.nit_journal.proofs.Basics.{first_session, first_state}
 use Rattle.nit_journal.proofs.Basics.{opened}
 use Rattle.nit_journal.proofs.Basics.{replay, replay_from, route}
 use Rattle.nit_journal.proofs.Basics.{session, session_in, shots, vacant_state}
-use Rattle.nit_journal.proofs.Basics.{◌orelse◌}
 use Rattle.std.proofs.Common.{Bool, List, [], ap, false}
 use Rattle.std.proofs.Common.{get_or-set_other, get_or-set_same, inl, inr, length, length-set}
 use Rattle.std.proofs.Common.{refl, set, subst, sym, true, ℕ, ◌++◌, ◌+◌, ◌<◌}
-use Rattle.std.proofs.Common.{◌==◌, ◌∙◌, ◌∷◌, ◌≡◌, ◌≢◌, if◌then◌else◌}
+use Rattle.std.proofs.Common.{◌==◌, ◌∙◌, ◌∷◌, ◌≡◌}
 use Rattle.nit_events.specs.declared.event.Item.TheVariants as item
 use Rattle.nit_events.specs.declared.event.Status.TheVariants as status
 use Rattle.nit_events.specs.declared.entry.Entry.TheVariants as entry

@@ -7,8 +7,8 @@ use Rattle.nit_journal.proofs.Basics.{false≢true, first_state, input_after_cal
 use Rattle.nit_journal.proofs.Basics.{is_release, items_to, list_any, not, option_map}
 use Rattle.nit_journal.proofs.Basics.{or_parts, owner, point, projection, replay, replay_from}
 use Rattle.std.proofs.Common.{Bool, List, None, Option, Some, [], ap}
-use Rattle.std.proofs.Common.{false, filter, refl, subst, sym, true, ℕ, ◌&&◌, ◌++◌, ◌+◌, ◌==◌}
-use Rattle.std.proofs.Common.{◌∙◌, ◌∷◌, ◌≡◌, if◌then◌else◌, ◌||◌}
+use Rattle.std.proofs.Common.{false, filter, refl, subst, sym, true, ℕ, ◌++◌, ◌+◌, ◌==◌}
+use Rattle.std.proofs.Common.{◌∙◌, ◌∷◌, ◌≡◌, if◌then◌else◌}
 use Rattle.nit_journal.specs.State.{route}
 use Rattle.nit_events.specs.declared.event.Event.TheVariants as event
 use Rattle.nit_events.specs.declared.event.Item.TheVariants as item

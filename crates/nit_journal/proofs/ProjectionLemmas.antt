@@ -1,7 +1,7 @@
 -- What one session sees of two journals, one behind the other.
 use Rattle.std.proofs.Common.{Bool, List, [], ap, append_assoc, false, refl, sym, true, ℕ, ◌++◌}
 use Rattle.std.proofs.Common.{◌==◌, ◌∙◌, ◌∷◌, ◌≡◌, if◌then◌else◌}
-use Rattle.nit_journal.proofs.Basics.{Call, Calls, Entry, Gets, Observation, Reply, Session}
+use Rattle.nit_journal.proofs.Basics.{Calls, Entry, Gets, Observation, Reply, Session}
 use Rattle.nit_journal.proofs.Basics.{after_observations, deliveries_of, items_to, projection}
 use Rattle.nit_journal.proofs.Basics.{receive, replies_from, replies_to, serve}
 use Rattle.nit_events.specs.declared.entry.Entry.TheVariants as entry

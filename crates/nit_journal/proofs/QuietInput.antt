@@ -1,7 +1,7 @@
 -- While nothing is held nobody receives what is held, nor in the modes Xray and Kill.
 use Rattle.std.proofs.Common.{Bool, List, None, Option, Some, [], ap, false, filter}
 use Rattle.std.proofs.Common.{refl, sym, true, ℕ, ◌&&◌, ◌++◌, ◌==◌, ◌∙◌, ◌∷◌, ◌≡◌, ◌≢◌}
-use Rattle.std.proofs.Common.{◌⊎◌, if◌then◌else◌, ◌||◌}
+use Rattle.std.proofs.Common.{if◌then◌else◌}
 use Rattle.nit_journal.proofs.Basics.{All, Call, Close}
 use Rattle.nit_journal.proofs.Basics.{Configuration, Delivery, Device, Entry, Event, Flat}
 use Rattle.nit_journal.proofs.Basics.{InputState, Kill, KillsPointed, Mode, Reply, Routing, State}

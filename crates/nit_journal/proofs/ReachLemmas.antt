@@ -62,7 +62,7 @@ button_goes clicks pointed i k flat none button =
 
 -- ---- what is told of the focus
 
-abbrev Tells : Option ℕ → Option ℕ → Delivery → Type 0
+abbrev pub Tells : Option ℕ → Option ℕ → Delivery → Type 0
 Tells focus pointed d = ((d.item ≡ item.Event event.FocusLeave) × (focus ≡ Some d.sid))
     ⊎ ((d.item ≡ item.Event event.FocusEnter) × (pointed ≡ Some d.sid))
 
@@ -89,7 +89,7 @@ focus_told clicks pointed i =
 
 -- ---- a mode key
 
-abbrev Leaves : Option ℕ → Delivery → Type 0
+abbrev pub Leaves : Option ℕ → Delivery → Type 0
 Leaves hover d = (d.item ≡ item.Event event.Leave) × (hover ≡ Some d.sid)
 
 leaving_tells : (m : Mode) (i : InputState) (new : Mode) → All (Leaves i.hover) (Input.leaving m i new).deliveries
@@ -198,7 +198,7 @@ first_in_xray Xray clicks pointed i k is =
     (focus_told clicks pointed i) (All-nil (Tells i.focus pointed))
 first_in_xray Kill clicks pointed i k is = cc
 
-abbrev Kills : Option ℕ → Delivery → Type 0
+abbrev pub Kills : Option ℕ → Delivery → Type 0
 Kills pointed d = (d.item ≡ item.Kill) × (pointed ≡ Some d.sid)
 
 killed : (pointed : Option ℕ) (i : InputState) → All (Kills pointed) (Input.killing pointed i).deliveries

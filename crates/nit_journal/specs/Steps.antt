@@ -1,6 +1,6 @@
 -- Steps of a server that goes on without a journal: what an entry tells, or that a session opens
 -- again.
-use Rattle.std.specs.Prelude.{◌≡◌, ◌≢◌, ℕ, ◌==◌, ◌<◌, Bool, false, List, [], ◌∷◌, ◌++◌, fold}
+use Rattle.std.specs.Prelude.{◌≢◌, ℕ, ◌==◌, ◌<◌, Bool, false, List, [], ◌∷◌, ◌++◌, fold}
 use Rattle.std.specs.Prelude.{length, map, slice_set, if◌then◌else◌}
 use Rattle.nit_journal.specs.Below.{Configuration, Entry, donation_of, list_any, member}
 use Rattle.nit_events.specs.declared.event.Status.TheVariants as status

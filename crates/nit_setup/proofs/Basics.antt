@@ -28,6 +28,7 @@ pub use Rattle.nit_setup.specs.Terms.{clip_line_spelling, clip_name, clip_names,
 pub use Rattle.nit_setup.specs.Terms.{command, cond, decimal, false, fault_code, find}
 pub use Rattle.nit_setup.specs.Terms.{first_forbidden, first_other, frames_of, input_phases}
 pub use Rattle.nit_setup.specs.Terms.{input_spelling, is_some, is_too_long, line_spelling, misfit}
+pub use Rattle.nit_setup.specs.Terms.{IsMember, IsNameOf, is_file_name, most_file_name}
 pub use Rattle.nit_setup.specs.Terms.{name_text, names_in, nest_of, number_among, number_up_to}
 pub use Rattle.nit_setup.specs.Terms.{option_map, phase_counts, phases, range_with_len}
 pub use Rattle.nit_setup.specs.Terms.{script_names, setup_of, texts, too_long_for, unless_other}

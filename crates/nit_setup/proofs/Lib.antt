@@ -8,5 +8,6 @@ pub mod OuterScripts
 pub mod RunnableSetups
 pub mod ScriptsRead
 pub mod SetupJudgements
+pub mod ShortNames
 pub mod Basics
 pub mod Lemmas

@@ -32,5 +32,5 @@ pub use misfit::{first_other, frame_count};
 pub use outer::read_outer;
 pub use scripts::{read_scripts, wanted_by};
 pub use still::{idle_user, still_configuration};
-pub use stop::{End, Fault, Name, Stop, at};
+pub use stop::{End, Fault, Name, ScriptName, Stop, at, at_first, at_second, nowhere};
 pub use words::{Asked, parse_words};

@@ -14,6 +14,7 @@ use Rattle.nit_top.proofs.WorkLemmas.{CameTo, stopped_ends}
 use Rattle.nit_top.proofs.EndsAfterRun.{totals_on, ends_by}
 use Rattle.nit_setup.specs.declared.stop.End.TheVariants as ends
 use Rattle.nit_setup.specs.declared.stop.Fault.TheVariants as fault
+use Rattle.nit_setup.specs.declared.stop.Name.TheVariants as file_name
 
 module _ (name journal : List ℕ) where
   abbrev run : Command
@@ -85,8 +86,8 @@ module _ (name journal : List ℕ) where
   }
 
   -- the work ended before the journal was read
-  pub ends_before : (old new : StoreModel) (w : Worked) → w.journal.items ≡ [] → Ends run old new w
-      → Ends audit old new w
+  pub ends_before : (old new : StoreModel) (w : Worked) → w.journal.items ≡ []
+      → name_text run w.stop.name ≡ name_text audit w.stop.name → Ends run old new w → Ends audit old new w
   ends_before = ends_as false name audit reads_as
 
   -- ---- at the journal
@@ -109,7 +110,7 @@ module _ (name journal : List ℕ) where
     fault_ends : (Faulty : List ℕ → Fault → Type 0)
         → ((bytes : List ℕ) (f : Fault) → Faulty bytes f → IsJournalFault s bytes f)
         → (new : StoreModel) (stop : Stop) (w : Worked)
-        → name_text stop.name ≡ journal → StoppedAt Faulty mid journal new stop.end → w.stop ≡ stop
+        → name_text audit stop.name ≡ journal → StoppedAt Faulty mid journal new stop.end → w.stop ≡ stop
         → w.journal.items ≡ [] → Ends audit old new w
     fault_ends Faulty faulty new stop w is h at none =
         let scripts = scripts_too old.files s all in
@@ -119,10 +120,12 @@ module _ (name journal : List ℕ) where
         (λ files a q. inr (refl, (s, a, faulty (bytes_of journal files) f q))) scripts.valid p)
         mid stop w asked is h at none
 
-    pub text_ends : (new : StoreModel) (stop : Stop) (w : Worked) → name_text stop.name ≡ journal
-        → StoppedAt IsNoJournalText mid journal new stop.end → w.stop ≡ stop → w.journal.items ≡ []
-        → Ends audit old new w
-    text_ends new stop w is h at none = fault_ends IsNoJournalText (text_fault s) new stop w is h at none
+    pub text_ends : (new : StoreModel) (end : End) (stop : Stop) (w : Worked)
+        → (stop.end ≡ end) × (stop.name ≡ file_name.Second) → StoppedAt IsNoJournalText mid journal new end
+        → w.stop ≡ stop → w.journal.items ≡ [] → Ends audit old new w
+    text_ends new end stop w is h at none =
+        fault_ends IsNoJournalText (text_fault s) new stop w (ap (name_text audit) is.1)
+        (subst (λ (e : End). StoppedAt IsNoJournalText mid journal new e) (sym is.0) h) at none
 
     -- ---- at its entries
 
@@ -153,7 +156,7 @@ module _ (name journal : List ℕ) where
       yes_ends : (count : ℕ) (stop : Stop) (w : Worked) → IsAuditEnd s entries (ends.Audited count)
           → w.stop.end ≡ ends.Audited count → w.journal.items ≡ [] → Ends audit old new w
       yes_ends count stop w found end none =
-          let here : CameTo audit old new [] (ends.Audited count) (name_text w.stop.name) (totals_on w) = record {
+          let here : CameTo audit old new [] (ends.Audited count) (name_text audit w.stop.name) (totals_on w) = record {
             course = NotBegun refl;
             came = (
               record {
@@ -179,10 +182,10 @@ module _ (name journal : List ℕ) where
             );
             said = ap (λ (t : StoreModel). t.said) all_asked;
           } in
-          let so : CameTo audit old new [] w.stop.end (name_text w.stop.name) (totals_on w) =
-          subst (λ (e : End). CameTo audit old new [] e (name_text w.stop.name) (totals_on w)) (sym end) here in
+          let so : CameTo audit old new [] w.stop.end (name_text audit w.stop.name) (totals_on w) =
+          subst (λ (e : End). CameTo audit old new [] e (name_text audit w.stop.name) (totals_on w)) (sym end) here in
           ends_by audit old new w (subst
-          (λ (k : List Entry). CameTo audit old new k w.stop.end (name_text w.stop.name) (totals_on w)) (sym none)
+          (λ (k : List Entry). CameTo audit old new k w.stop.end (name_text audit w.stop.name) (totals_on w)) (sym none)
           so)
 
       -- the verdict, or want of memory
@@ -202,7 +205,7 @@ module _ (name journal : List ℕ) where
       stopped_found ends.Whole found other = absurd found
       stopped_found (ends.Unfit f) found other = absurd found
 
-      pub found_ends : (stop : Stop) (w : Worked) → name_text stop.name ≡ journal → IsAuditEnd s entries stop.end
+      pub found_ends : (stop : Stop) (w : Worked) → name_text audit stop.name ≡ journal → IsAuditEnd s entries stop.end
           → w.stop ≡ stop → w.journal.items ≡ [] → Ends audit old new w
       found_ends stop w is found at none = by_end stop.end refl
         where

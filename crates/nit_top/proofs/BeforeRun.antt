@@ -4,8 +4,9 @@ use Rattle.std.proofs.Common.{inr}
 use Rattle.nit_top.proofs.Basics.{Begun, Came, Command, Course, End, Ends, Entry, Fault, File}
 use Rattle.nit_top.proofs.Basics.{FilesRead, HasRead, IsJournal, IsLastRead, IsMadeBefore}
 use Rattle.nit_top.proofs.Basics.{IsMadeInPart, IsMadeUpTo, IsNotBegun, Judged, NoCommand, NotBegun}
-use Rattle.nit_top.proofs.Basics.{Refused, Run, Setup, StoreModel, Worked, asked_also, line_on}
+use Rattle.nit_top.proofs.Basics.{Refused, Run, Setup, StoreModel, Worked, asked_also, line_of, line_on, name_text, subst}
 use Rattle.nit_top.proofs.Basics.{made_by, names_read, next_name, told_so}
+use Rattle.nit_top.proofs.EndsAfterRun.{totals_on}
 use Rattle.nit_events.specs.declared.entry.Entry.TheVariants as entry
 use Rattle.nit_setup.specs.declared.stop.End.TheVariants as ends
 
@@ -124,7 +125,11 @@ module _ (beside : Bool) (name : List ℕ) (c : Command) (too : ReadsAs (Run bes
       record { course = NotBegun empty; came = came_too old files asked journal empty end line came }
 
   -- the work of the run that ended before it was begun is that of the other command
-  pub ends_as : (old new : StoreModel) (w : Worked) → w.journal.items ≡ [] → Ends run old new w → Ends c old new w
-  ends_as old new w none e =
-      let so = by_course old new.files new.asked w.journal.items w.stop.end (line_on w) none e.course e.came in
-      record { course = so.course; came = so.came; counts = e.counts; said = e.said }
+  pub ends_as : (old new : StoreModel) (w : Worked) → w.journal.items ≡ []
+      → name_text run w.stop.name ≡ name_text c w.stop.name → Ends run old new w → Ends c old new w
+  ends_as old new w none same e =
+      let so = by_course old new.files new.asked w.journal.items w.stop.end (line_on run w) none e.course e.came in
+      let came : Came so.course new.files new.asked w.stop.end (line_on c w) =
+      subst (λ (n : List ℕ). Came so.course new.files new.asked w.stop.end (line_of w.stop.end n (totals_on w)))
+      same so.came in
+      record { course = so.course; came = came; counts = e.counts; said = e.said }

@@ -5,7 +5,7 @@ use Rattle.nit_top.proofs.Basics.{AllFiles, AllScripts, AreAllFiles, BothFiles, 
 use Rattle.nit_top.proofs.Basics.{Ends, File, FilesRead, FirstFiles, HasRead, InnerFiles, NoFile}
 use Rattle.nit_top.proofs.Basics.{OuterFiles, PerformedFilmed, Region, Run, Setup, StoreModel}
 use Rattle.nit_top.proofs.Basics.{Worked, asking_all, film_name, film_of, is_outside_of, names_read}
-use Rattle.nit_top.proofs.Basics.{next_name, pictures_in, reads}
+use Rattle.nit_top.proofs.Basics.{name_text, next_name, pictures_in, reads}
 use Rattle.nit_top.proofs.BeforeRun.{ReadsAs, ends_as}
 use Rattle.nit_top.proofs.EndsAfterRun.{run_ends, unbegun_ends}
 
@@ -59,7 +59,8 @@ module _ (name : List ℕ) (region : Region) where
   }
 
   -- the work ended before a run
-  pub ends_too : (old new : StoreModel) (w : Worked) → w.journal.items ≡ [] → Ends run old new w → Ends film old new w
+  pub ends_too : (old new : StoreModel) (w : Worked) → w.journal.items ≡ []
+      → name_text run w.stop.name ≡ name_text film w.stop.name → Ends run old new w → Ends film old new w
   ends_too = ends_as true name film reads_as
 
   -- ---- a run

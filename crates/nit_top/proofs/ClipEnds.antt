@@ -10,7 +10,7 @@ use Rattle.nit_top.proofs.Basics.{IsValid, Judged, Line, NoFile, OuterFiles, Per
 use Rattle.nit_top.proofs.Basics.{Refused, Run, Setup, Stop, StoppedAtClip, StoreModel, Worked}
 use Rattle.nit_top.proofs.Basics.{all_so, append-nil, asking_all, asking_both, bytes_of, clip_name}
 use Rattle.nit_top.proofs.Basics.{clip_names, clip_phases, input_phases, length-map, map-append}
-use Rattle.nit_top.proofs.Basics.{names_in, names_read, next_name, phases, phases_are, reads}
+use Rattle.nit_top.proofs.Basics.{name_text, names_in, names_read, next_name, phases, phases_are, reads}
 use Rattle.nit_top.proofs.Basics.{script_names, setup_of, slice_get, told_so, told_so_both}
 use Rattle.nit_top.proofs.Basics.{wanted_by, wrong_clip}
 use Rattle.nit_top.proofs.SetupLemmas.{get_behind, take_front}
@@ -153,8 +153,8 @@ module _ (name : List ℕ) where
   }
 
   -- the work ended before a clip script was read
-  pub ends_before : (old new : StoreModel) (w : Worked) → w.journal.items ≡ [] → Ends run old new w
-      → Ends clip old new w
+  pub ends_before : (old new : StoreModel) (w : Worked) → w.journal.items ≡ []
+      → name_text run w.stop.name ≡ name_text clip w.stop.name → Ends run old new w → Ends clip old new w
   ends_before = ends_as true name clip reads_as
 
   -- ---- at a clip script, and behind all
@@ -234,7 +234,7 @@ module _ (name : List ℕ) where
         (λ files. AreSetup name files s × AreClipScripts files wanted before a.clips) old.files
         (λ files v q. (v, q)) (setup_with a.clips) valid) p)
         a.between stop w (names_behind before a.between a.read.asked
-        ∙ ap (λ (ns : List (List ℕ)). asking_all old (reads run (with_clips []) ++ ns)) (sym names)) a.name_is
+        ∙ ap (λ (ns : List (List ℕ)). asking_all old (reads run (with_clips []) ++ ns)) (sym names)) (a.named clip)
         a.stopped at none
 
     -- all clip scripts were read

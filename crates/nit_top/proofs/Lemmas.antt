@@ -24,7 +24,7 @@ pub use Rattle.nit_top.proofs.Basics.{shots_of, shown_first, still_configuration
 pub use Rattle.nit_top.proofs.Basics.{subst, sym, text_files, true, unrefused, user_actions_to_do}
 pub use Rattle.nit_top.proofs.Basics.{wanted_by, with_asked, with_said, ℕ, ◌∙◌}
 pub use Rattle.nit_top.proofs.CaptureEnds.{all_too, ends_too, film_ends}
-pub use Rattle.nit_top.proofs.Causes.{causes}
+pub use Rattle.nit_top.proofs.Causes.{causes, ended_as}
 pub use Rattle.nit_top.proofs.ClipEnds.{clip_stopped, clips_end, clips_runnable, ends_before}
 pub use Rattle.nit_top.proofs.ClipEnds.{names_long}
 pub use Rattle.nit_top.proofs.GeneratedRuns.{GeneratorLaws, clients_fit, generated_ends}
@@ -43,6 +43,9 @@ pub use Rattle.nit_top.proofs.RunNames.{outputs_differ, puts_differ}
 pub use Rattle.nit_top.proofs.SameEvents.{both_there, same_events, same_text}
 pub use Rattle.nit_top.proofs.SeenFrames.{SeenLaws, seen}
 pub use Rattle.nit_top.proofs.SetupLemmas.{all_read, config_stopped, not_read, read_whole}
+pub use Rattle.nit_top.proofs.SetupLemmas.{same_script}
+pub use Rattle.nit_top.proofs.WorkLemmas.{named_first}
+pub use Rattle.nit_top.proofs.Basics.{Audit, Clip, Nested, Run}
 pub use Rattle.nit_top.proofs.SetupLemmas.{still_ends, still_runnable, still_stopped}
 pub use Rattle.nit_top.proofs.StoredFiles.{stand}
 pub use Rattle.nit_top.proofs.TextFragments.{flat_map_at, says_stop, says_then}

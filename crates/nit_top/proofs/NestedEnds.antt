@@ -12,7 +12,7 @@ use Rattle.nit_top.proofs.Basics.{NotBegun, OuterFiles, PerformedNested, Refused
 use Rattle.nit_top.proofs.Basics.{Setup, Stop, StoppedAt, StoreModel, Worked, also_more, append-nil}
 use Rattle.nit_top.proofs.Basics.{asked_also, asking_all, by_length, by_turns, bytes_of, file_names}
 use Rattle.nit_top.proofs.Basics.{first_other, frames_of, inner_journal_name, is_too_long}
-use Rattle.nit_top.proofs.Basics.{journal_text, line_on, misfit, name_text, names_in, names_read}
+use Rattle.nit_top.proofs.Basics.{journal_text, line_of, line_on, misfit, name_text, names_in, names_read}
 use Rattle.nit_top.proofs.Basics.{nest_of, nested_setup, next_name, phase_counts, run_files}
 use Rattle.nit_top.proofs.Basics.{told_so, told_so_both}
 use Rattle.nit_top.proofs.AuditCourse.{front_none, front_same}
@@ -21,6 +21,7 @@ use Rattle.nit_top.proofs.WorkLemmas.{CameTo, stopped_ends}
 use Rattle.nit_top.proofs.EndsAfterRun.{ends_by, run_ends, totals_on}
 use Rattle.nit_setup.specs.declared.stop.End.TheVariants as ends
 use Rattle.nit_setup.specs.declared.stop.Fault.TheVariants as fault
+use Rattle.nit_setup.specs.declared.stop.Name.TheVariants as file_name
 
 -- ---- the inner files
 
@@ -38,14 +39,16 @@ module _ (outer inner : List ℕ) (o : RunFiles) (old : StoreModel) (all : AreAl
   abbrev first : StoreModel
   first = asking_all old front
 
-  pub inner_config_stopped : (new : StoreModel) (stop : Stop) (w : Worked) → name_text stop.name ≡ inner
-      → StoppedAt IsConfigFault first inner new stop.end → w.stop ≡ stop → w.journal.items ≡ [] → Ends two old new w
-  inner_config_stopped new stop w is h at none =
+  pub inner_config_stopped : (new : StoreModel) (end : End) (stop : Stop) (w : Worked)
+      → (stop.end ≡ end) × (stop.name ≡ file_name.Second) → StoppedAt IsConfigFault first inner new end
+      → w.stop ≡ stop → w.journal.items ≡ [] → Ends two old new w
+  inner_config_stopped new end stop w is h at none =
       stopped_ends two old (OuterFiles o) all inner refl IsConfigFault new
       (λ f p. told_so_both (λ files. AreOuterFiles outer files o) (λ files. IsConfigFault (bytes_of inner files) f)
       (λ files. Judged two files (Refused inner f)) old.files (λ files v q. inr (o, v, inl (inl (refl, q))))
       all.valid p)
-      first stop w refl is h at none
+      first stop w refl (ap (name_text two) is.1)
+      (subst (λ (e : End). StoppedAt IsConfigFault first inner new e) (sym is.0) h) at none
 
   -- the files of a setup
   abbrev files_in : Setup → RunFiles
@@ -202,10 +205,14 @@ module _ (outer inner : List ℕ) (o : RunFiles) (old : StoreModel) (all : AreAl
       record { course = NotBegun empty; came = came_too files asked entries empty end line came }
 
   -- the work ended while the inner files were read
-  pub inner_before : (new : StoreModel) (w : Worked) → w.journal.items ≡ [] → Ends run first new w → Ends two old new w
-  inner_before new w none e =
-      let so = by_course new.files new.asked w.journal.items w.stop.end (line_on w) none e.course e.came in
-      record { course = so.course; came = so.came; counts = e.counts; said = e.said }
+  pub inner_before : (new : StoreModel) (w : Worked) → w.journal.items ≡ []
+      → name_text run w.stop.name ≡ name_text two w.stop.name → Ends run first new w → Ends two old new w
+  inner_before new w none same e =
+      let so = by_course new.files new.asked w.journal.items w.stop.end (line_on run w) none e.course e.came in
+      let came : Came so.course new.files new.asked w.stop.end (line_on two w) =
+      subst (λ (n : List ℕ). Came so.course new.files new.asked w.stop.end (line_of w.stop.end n (totals_on w)))
+      same so.came in
+      record { course = so.course; came = came; counts = e.counts; said = e.said }
 
   -- ---- both were read
 
@@ -213,7 +220,7 @@ module _ (outer inner : List ℕ) (o : RunFiles) (old : StoreModel) (all : AreAl
       (read : new ≡ asking_all old (outer ∷ names_in o.config ++ inner ∷ names_in i.config)) where
     -- they do not fit together
     pub unfit_ends : (name : List ℕ) (f : Fault) (w : Worked) → misfit inner o i ≡ Some (name, f)
-        → name_text w.stop.name ≡ name → w.stop.end ≡ ends.Unfit f → w.journal.items ≡ [] → Ends two old new w
+        → name_text two w.stop.name ≡ name → w.stop.end ≡ ends.Unfit f → w.journal.items ≡ [] → Ends two old new w
     unfit_ends name f w unfit is end none =
         let here : CameTo two old new [] (ends.Unfit f) name (totals_on w) = record {
           course = NotBegun refl;
@@ -236,17 +243,17 @@ module _ (outer inner : List ℕ) (o : RunFiles) (old : StoreModel) (all : AreAl
           counts = (ap (λ (t : StoreModel). t.read_faults) read, ap (λ (t : StoreModel). t.write_faults) read);
           said = ap (λ (t : StoreModel). t.said) read;
         } in
-        let named : CameTo two old new [] (ends.Unfit f) (name_text w.stop.name) (totals_on w) =
+        let named : CameTo two old new [] (ends.Unfit f) (name_text two w.stop.name) (totals_on w) =
         subst (λ (n : List ℕ). CameTo two old new [] (ends.Unfit f) n (totals_on w)) (sym is) here in
-        let so : CameTo two old new [] w.stop.end (name_text w.stop.name) (totals_on w) =
-        subst (λ (e : End). CameTo two old new [] e (name_text w.stop.name) (totals_on w)) (sym end) named in
-        ends_by two old new w (subst (λ (k : List Entry). CameTo two old new k w.stop.end (name_text w.stop.name)
+        let so : CameTo two old new [] w.stop.end (name_text two w.stop.name) (totals_on w) =
+        subst (λ (e : End). CameTo two old new [] e (name_text two w.stop.name) (totals_on w)) (sym end) named in
+        ends_by two old new w (subst (λ (k : List Entry). CameTo two old new k w.stop.end (name_text two w.stop.name)
         (totals_on w)) (sym none) so)
 
     -- memory ran out before the outer run
     pub no_memory_ends : (w : Worked) → w.stop.end ≡ ends.NoMemory → w.journal.items ≡ [] → Ends two old new w
     no_memory_ends w end none =
-        let here : CameTo two old new [] ends.NoMemory (name_text w.stop.name) (totals_on w) = record {
+        let here : CameTo two old new [] ends.NoMemory (name_text two w.stop.name) (totals_on w) = record {
           course = NotBegun refl;
           came = (
             inl (record {
@@ -262,9 +269,9 @@ module _ (outer inner : List ℕ) (o : RunFiles) (old : StoreModel) (all : AreAl
           counts = (ap (λ (t : StoreModel). t.read_faults) read, ap (λ (t : StoreModel). t.write_faults) read);
           said = ap (λ (t : StoreModel). t.said) read;
         } in
-        let so : CameTo two old new [] w.stop.end (name_text w.stop.name) (totals_on w) =
-        subst (λ (e : End). CameTo two old new [] e (name_text w.stop.name) (totals_on w)) (sym end) here in
-        ends_by two old new w (subst (λ (k : List Entry). CameTo two old new k w.stop.end (name_text w.stop.name)
+        let so : CameTo two old new [] w.stop.end (name_text two w.stop.name) (totals_on w) =
+        subst (λ (e : End). CameTo two old new [] e (name_text two w.stop.name) (totals_on w)) (sym end) here in
+        ends_by two old new w (subst (λ (k : List Entry). CameTo two old new k w.stop.end (name_text two w.stop.name)
         (totals_on w)) (sym none) so)
 
     -- the setup of the outer run is valid
@@ -316,7 +323,7 @@ module _ (outer inner : List ℕ) (o : RunFiles) (old : StoreModel) (all : AreAl
     -- the inner run made no script
     pub inner_stopped : (own : List Line) (rest : List (List Line)) (end : End) (w : Worked) → o.scripts ≡ own ∷ rest
         → first_other (length (frames_of i)) (names_in o.config) (phase_counts o) ≡ None → IsInnerEnd i own (Err end)
-        → name_text w.stop.name ≡ inner → w.stop.end ≡ end → w.journal.items ≡ [] → Ends two old new w
+        → name_text two w.stop.name ≡ inner → w.stop.end ≡ end → w.journal.items ≡ [] → Ends two old new w
     inner_stopped own rest (ends.Unfit fault.FramesTooLong) w parts none long name end empty =
         unfit_ends inner fault.FramesTooLong w
         (by_length inner o i true none (ap (λ (ss : List (List Line)). is_too_long (nest_of i) ss) parts ∙ long))

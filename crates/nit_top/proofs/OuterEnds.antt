@@ -12,18 +12,22 @@ use Rattle.nit_top.proofs.Basics.{name_text, names_in, run_files, script_names, 
 use Rattle.nit_top.proofs.Basics.{told_so, told_so_both, with_asked}
 use Rattle.nit_top.proofs.SetupLemmas.{take_front, get_behind}
 use Rattle.nit_top.proofs.WorkLemmas.{stopped_ends}
+use Rattle.nit_top.proofs.Basics.{End}
+use Rattle.nit_setup.specs.declared.stop.Name.TheVariants as file_name
 
 module _ (outer inner : List ℕ) (first : StoreModel) where
   abbrev nest : Command
   nest = Nested outer inner
 
-  pub outer_config_stopped : (new : StoreModel) (stop : Stop) (w : Worked) → name_text stop.name ≡ outer
-      → StoppedAt IsConfigFault first outer new stop.end → w.stop ≡ stop → w.journal.items ≡ [] → Ends nest first new w
-  outer_config_stopped new stop w is h at none =
+  pub outer_config_stopped : (new : StoreModel) (end : End) (stop : Stop) (w : Worked)
+      → (stop.end ≡ end) × (stop.name ≡ file_name.First) → StoppedAt IsConfigFault first outer new end
+      → w.stop ≡ stop → w.journal.items ≡ [] → Ends nest first new w
+  outer_config_stopped new end stop w is h at none =
       stopped_ends nest first NoFile tt outer refl IsConfigFault new
       (λ f p. told_so (λ files. IsConfigFault (bytes_of outer files) f) (λ files. Judged nest files (Refused outer f))
       first.files (λ files q. inl (inl (refl, q))) p)
-      first stop w (asking_none first) is h at none
+      first stop w (asking_none first) (ap (name_text nest) is.1)
+      (subst (λ (e : End). StoppedAt IsConfigFault first outer new e) (sym is.0) h) at none
 
   module _ (config : Configuration) (configured : IsConfiguration config)
       (is_config : IfSome first.files (λ files. IsConfig (bytes_of outer files) config)) where
@@ -43,7 +47,7 @@ module _ (outer inner : List ℕ) (first : StoreModel) where
     outer_scripts_stopped old new stop w start among at none =
         let a : OuterStopped (with_asked first outer) (script_names config) new stop =
         subst (λ (s : StoreModel). OuterStopped s (script_names config) new stop) start among in
-        let n : List ℕ = name_text stop.name in
+        let n : List ℕ = a.name in
         let are : first_names config a.scripts ≡ a.before =
         ap (λ (ns : List (List ℕ)). take (length a.scripts) ns) a.parts
         ∙ take_front a.before (n ∷ a.behind) a.scripts a.count in
@@ -79,7 +83,7 @@ module _ (outer inner : List ℕ) (first : StoreModel) where
         )))
         (valid_too a.before a.scripts a.valid) p)
         (asking_all (with_asked first outer) a.before) stop w (behind a.before
-        ∙ ap (λ (ns : List (List ℕ)). asking_all first (outer ∷ ns)) (sym are)) refl a.stopped at none
+        ∙ ap (λ (ns : List (List ℕ)). asking_all first (outer ∷ ns)) (sym are)) (a.named nest) a.stopped at none
 
     module _ (old mid : StoreModel) (start : old ≡ with_asked first outer) (scripts : List (List Line))
         (far : OuterSoFar old (script_names config) scripts mid) where
@@ -97,7 +101,7 @@ module _ (outer inner : List ℕ) (first : StoreModel) where
       all_names : first_names config scripts ≡ script_names config
       all_names = take_all (length scripts) (script_names config) (let same = far.count in omega arith)
 
-      outer_input_stopped : (new : StoreModel) (stop : Stop) (w : Worked) → name_text stop.name ≡ config.input
+      outer_input_stopped : (new : StoreModel) (stop : Stop) (w : Worked) → name_text nest stop.name ≡ config.input
           → StoppedAt (IsInputFault None) mid config.input new stop.end → w.stop ≡ stop → w.journal.items ≡ []
           → Ends nest first new w
       outer_input_stopped new stop w is h at none =
@@ -152,7 +156,7 @@ module _ (outer inner : List ℕ) (first : StoreModel) where
         → w.journal.items ≡ [] → Ends nest first new w
     outer_not_read old start new stop w (inl among) at none = outer_scripts_stopped old new stop w start among at none
     outer_not_read old start new stop w (inr s) at none =
-        outer_input_stopped old s.between start s.scripts s.clients new stop w s.name_is s.stopped at none
+        outer_input_stopped old s.between start s.scripts s.clients new stop w (s.named nest) s.stopped at none
 
     -- what was read, where all outer files are valid
     pub outer_read : (old : StoreModel) → old ≡ with_asked first outer

@@ -17,6 +17,8 @@ use Rattle.nit_top.proofs.Basics.{still_configured, still_setup, sum_by-replicat
 use Rattle.nit_top.proofs.Basics.{take_all, told_so, told_so_both, wanted_by, with_asked}
 use Rattle.nit_top.proofs.WorkLemmas.{stopped_ends}
 use Rattle.nit_top.proofs.EndsAfterRun.{performed_ends}
+use Rattle.nit_top.proofs.Basics.{End}
+use Rattle.nit_setup.specs.declared.stop.Name.TheVariants as file_name
 use Rattle.nit_script.specs.declared.line.InputLine.TheVariants as input
 
 -- ---- what can be run
@@ -55,14 +57,15 @@ module _ (width height : ℕ) (script : List ℕ) (old : StoreModel) where
   abbrev still : Command
   still = Still width height script
 
-  pub still_stopped : (new : StoreModel) (stop : Stop) (w : Worked) → name_text stop.name ≡ script
-      → StoppedAt (IsClientFault None) old script new stop.end → w.stop ≡ stop → w.journal.items ≡ []
-      → Ends still old new w
-  still_stopped new stop w is h at none =
+  pub still_stopped : (new : StoreModel) (end : End) (stop : Stop) (w : Worked)
+      → (stop.end ≡ end) × (stop.name ≡ file_name.First)
+      → StoppedAt (IsClientFault None) old script new end → w.stop ≡ stop → w.journal.items ≡ [] → Ends still old new w
+  still_stopped new end stop w is h at none =
       stopped_ends still old NoFile tt script refl (IsClientFault None) new
       (λ f p. told_so (λ files. IsClientFault None (bytes_of script files) f)
       (λ files. Judged still files (Refused script f)) old.files (λ files q. (refl, q)) p)
-      old stop w (asking_none old) is h at none
+      old stop w (asking_none old) (ap (name_text still) is.1)
+      (subst (λ (e : End). StoppedAt (IsClientFault None) old script new e) (sym is.0) h) at none
 
   pub still_ends : (mid new : StoreModel) (lines : List Line) (w : Worked) → mid ≡ with_asked old script
       → IfSome old.files (λ files. IsClientScript None (bytes_of script files) lines)
@@ -101,13 +104,15 @@ module _ (beside : Bool) (name : List ℕ) (first : StoreModel) where
   abbrev run : Command
   run = Run beside name
 
-  pub config_stopped : (new : StoreModel) (stop : Stop) (w : Worked) → name_text stop.name ≡ name
-      → StoppedAt IsConfigFault first name new stop.end → w.stop ≡ stop → w.journal.items ≡ [] → Ends run first new w
-  config_stopped new stop w is h at none =
+  pub config_stopped : (new : StoreModel) (end : End) (stop : Stop) (w : Worked)
+      → (stop.end ≡ end) × (stop.name ≡ file_name.First) → StoppedAt IsConfigFault first name new end
+      → w.stop ≡ stop → w.journal.items ≡ [] → Ends run first new w
+  config_stopped new end stop w is h at none =
       stopped_ends run first NoFile tt name refl IsConfigFault new
       (λ f p. told_so (λ files. IsConfigFault (bytes_of name files) f) (λ files. Judged run files (Refused name f))
       first.files (λ files q. inl (refl, q)) p)
-      first stop w (asking_none first) is h at none
+      first stop w (asking_none first) (ap (name_text run) is.1)
+      (subst (λ (e : End). StoppedAt IsConfigFault first name new e) (sym is.0) h) at none
 
   module _ (config : Configuration) (configured : IsConfiguration config)
       (is_config : IfSome first.files (λ files. IsConfig (bytes_of name files) config)) where
@@ -142,7 +147,7 @@ module _ (beside : Bool) (name : List ℕ) (first : StoreModel) where
     scripts_stopped old new stop w start among at none =
         let a : StoppedAmong (with_asked first name) (script_names config) new stop =
         subst (λ (s : StoreModel). StoppedAmong s (script_names config) new stop) start among in
-        let n : List ℕ = name_text stop.name in
+        let n : List ℕ = a.name in
         let are : first_names config a.scripts ≡ a.before =
         ap (λ (ns : List (List ℕ)). take (length a.scripts) ns) a.parts
         ∙ take_front a.before (n ∷ a.behind) a.scripts a.count in
@@ -172,7 +177,7 @@ module _ (beside : Bool) (name : List ℕ) (first : StoreModel) where
         ))
         (valid_too a.before a.scripts a.valid) p)
         (asking_all (with_asked first name) a.before) stop w (behind a.before
-        ∙ ap (λ (ns : List (List ℕ)). asking_all first (name ∷ ns)) (sym are)) refl a.stopped at none
+        ∙ ap (λ (ns : List (List ℕ)). asking_all first (name ∷ ns)) (sym are)) (a.named run) a.stopped at none
 
     module _ (old mid : StoreModel) (start : old ≡ with_asked first name) (scripts : List (List Line))
         (far : SoFar old (script_names config) scripts mid) where
@@ -191,7 +196,7 @@ module _ (beside : Bool) (name : List ℕ) (first : StoreModel) where
       all_names : first_names config scripts ≡ script_names config
       all_names = take_all (length scripts) (script_names config) (let same = far.count in omega arith)
 
-      pub input_stopped : (new : StoreModel) (stop : Stop) (w : Worked) → name_text stop.name ≡ config.input
+      pub input_stopped : (new : StoreModel) (stop : Stop) (w : Worked) → name_text run stop.name ≡ config.input
           → StoppedAt (IsInputFault (wanted_by scripts)) mid config.input new stop.end → w.stop ≡ stop
           → w.journal.items ≡ [] → Ends run first new w
       input_stopped new stop w is h at none =
@@ -244,7 +249,7 @@ module _ (beside : Bool) (name : List ℕ) (first : StoreModel) (config : Config
   not_read new stop w (inl among) at none = scripts_stopped beside name first config configured is_config old new stop w
       start among at none
   not_read new stop w (inr s) at none = input_stopped beside name first config configured is_config old s.between start
-      s.scripts s.clients new stop w s.name_is s.stopped at none
+      s.scripts s.clients new stop w (s.named (Run beside name)) s.stopped at none
 
   -- what was read, where all is valid
   pub read_whole : (scripts : List (List Line)) (lines : List InputLine) (now : StoreModel)
@@ -264,3 +269,11 @@ module _ (beside : Bool) (name : List ℕ) (first : StoreModel) (config : Config
       let all = read_whole scripts lines now h runnable in
       performed_ends (Run beside name) first now new (setup_of config scripts lines true beside) w
       (λ k journal files are. refl, λ k. refl) all.0 all.1 performed
+
+  -- the name of the script that was not read is the same for each command
+  pub same_script : (new : StoreModel) (stop : Stop) (w : Worked) → ReadScripts config old new (Err stop)
+      → w.stop ≡ stop → (c d : Command) → name_text c w.stop.name ≡ name_text d w.stop.name
+  same_script new stop w (inl among) at c d = ap (λ (t : Stop). name_text c t.name) at ∙ among.named c
+      ∙ sym (ap (λ (t : Stop). name_text d t.name) at ∙ among.named d)
+  same_script new stop w (inr s) at c d = ap (λ (t : Stop). name_text c t.name) at ∙ s.named c
+      ∙ sym (ap (λ (t : Stop). name_text d t.name) at ∙ s.named d)

@@ -8,8 +8,9 @@ use Rattle.nit_top.proofs.Basics.{Judged, NotBegun}
 use Rattle.nit_top.proofs.Basics.{Refused, Stop, StoppedAt, StoreModel, Totals, Worked}
 use Rattle.nit_top.proofs.Basics.{also_more, asked_also, asking_all}
 use Rattle.nit_top.proofs.Basics.{bytes_of}
-use Rattle.nit_top.proofs.Basics.{line_of, name_text, names_read, next_name}
+use Rattle.nit_top.proofs.Basics.{first_name, line_of, name_text, names_read, next_name}
 use Rattle.nit_setup.specs.declared.stop.End.TheVariants as ends
+use Rattle.nit_setup.specs.declared.stop.Name.TheVariants as file_name
 
 -- what the end of the work means, whatever the totals of the line
 pub record CameTo (c : Command) (old new : StoreModel) (journal : List Entry) (end : End) (name : List ℕ)
@@ -20,6 +21,13 @@ pub record CameTo (c : Command) (old new : StoreModel) (journal : List Entry) (e
   pub said : new.said ≡ old.said
 
 -- ---- before a run
+
+-- the first file of two commands has one name, where they name it so
+pub named_first : (c d : Command) (stop : Stop) (w : Worked) → first_name c ≡ first_name d
+    → stop.name ≡ file_name.First → w.stop ≡ stop → name_text c w.stop.name ≡ name_text d w.stop.name
+named_first c d stop w same first at =
+    let is : w.stop.name ≡ file_name.First = ap (λ (s : Stop). s.name) at ∙ first in
+    ap (name_text c) is ∙ same ∙ sym (ap (name_text d) is)
 
 module _ (c : Command) (old : StoreModel) (read : FilesRead) (valid : HasRead c old.files read) (name : List ℕ)
     (next : next_name c read ≡ Some name) (Faulty : List ℕ → Fault → Type 0) (new : StoreModel)
@@ -102,16 +110,16 @@ module _ (c : Command) (old : StoreModel) (read : FilesRead) (valid : HasRead c 
 
   -- the work of a command stopped at a file
   pub stopped_ends : (mid : StoreModel) (stop : Stop) (w : Worked) → mid ≡ asking_all old names
-      → name_text stop.name ≡ name → StoppedAt Faulty mid name new stop.end → w.stop ≡ stop → w.journal.items ≡ []
+      → name_text c stop.name ≡ name → StoppedAt Faulty mid name new stop.end → w.stop ≡ stop → w.journal.items ≡ []
       → Ends c old new w
   stopped_ends mid stop w asked is h at none =
       let t : Totals = record { clients = w.clients; entries = length w.journal.items; frames = w.frames } in
       let here : CameTo c old new [] stop.end name t =
       stopped t stop.end (subst (λ (s : StoreModel). StoppedAt Faulty s name new stop.end) asked h) in
-      let named : CameTo c old new [] stop.end (name_text stop.name) t =
+      let named : CameTo c old new [] stop.end (name_text c stop.name) t =
       subst (λ (n : List ℕ). CameTo c old new [] stop.end n t) (sym is) here in
-      let so : CameTo c old new [] w.stop.end (name_text w.stop.name) t =
-      subst (λ (s : Stop). CameTo c old new [] s.end (name_text s.name) t) (sym at) named in
-      let all : CameTo c old new w.journal.items w.stop.end (name_text w.stop.name) t =
-      subst (λ (j : List Entry). CameTo c old new j w.stop.end (name_text w.stop.name) t) (sym none) so in
+      let so : CameTo c old new [] w.stop.end (name_text c w.stop.name) t =
+      subst (λ (s : Stop). CameTo c old new [] s.end (name_text c s.name) t) (sym at) named in
+      let all : CameTo c old new w.journal.items w.stop.end (name_text c w.stop.name) t =
+      subst (λ (j : List Entry). CameTo c old new j w.stop.end (name_text c w.stop.name) t) (sym none) so in
       record { course = all.course; came = all.came; counts = all.counts; said = all.said }

@@ -10,22 +10,22 @@ use nit_audit::{Verdict, audit};
 use nit_config::Config;
 use nit_events::Entry;
 use nit_run::Scripts;
-use nit_setup::{End, Fault, at, load_journal, read_scripts};
+use nit_setup::{End, Fault, at_second, load_journal, read_scripts};
 use nit_store::Store;
 use std::alloc::Global;
 
 /// Reads the scripts of a configuration and the journal of this name, and says whether it is one of
 /// a run of them. No run is begun.
-pub fn audited<'a, S: Store>(
+pub fn audited<S: Store>(
     alloc: Global,
     store: &mut S,
-    config: &'a Config,
-    journal: &'a str,
-) -> Worked<'a>
+    config: &Config,
+    journal: &str,
+) -> Worked
     requires { IsConfiguration config.now }
     ensures { (name : List ℕ) → (first : StoreModel) → (S.shown store.old) ≡ with_asked first name
-        → IfSome first.files (λ files. IsConfig (bytes_of name files) config.entry.now)
-        → Ends (Audit name journal.entry.now) first (S.shown store.new) result }
+        → IfSome first.files (λ files. IsConfig (bytes_of name files) config.now)
+        → Ends (Audit name journal.now) first (S.shown store.new) result }
 {
     let scripts = match read_scripts(alloc, store, config) {
         Ok(scripts) => scripts,
@@ -33,11 +33,11 @@ pub fn audited<'a, S: Store>(
     };
     let entries = match load_journal(alloc, store, journal) {
         Ok(entries) => entries,
-        Err(stop) => return unbegun(alloc, stop),
+        Err(end) => return unbegun(alloc, at_second(end)),
     };
     unbegun(
         alloc,
-        at(audit_end(alloc, config, &scripts, &entries), journal),
+        at_second(audit_end(alloc, config, &scripts, &entries)),
     )
 }
 

@@ -14,21 +14,21 @@ use nit_perform::{Host, run_with_clips};
 use nit_rect::NoMemory;
 use nit_run::Scripts;
 use nit_run::laws::headline;
-use nit_setup::{End, at, load_clips, read_scripts, wanted_by};
+use nit_setup::{End, load_clips, nowhere, read_scripts, wanted_by};
 use nit_store::Store;
 use std::sync::Wait;
 use std::thread::Threads;
 
 /// Runs the scripts of a configuration with each client on a thread of its own, and a clip script
 /// for each.
-pub fn clip<'a, R: Threads + Wait + Sync, S: Store, G: Gate>(
+pub fn clip<R: Threads + Wait + Sync, S: Store, G: Gate>(
     host: &Host<R, G>,
     store: &mut S,
-    config: &'a Config,
-) -> Worked<'a>
+    config: &Config,
+) -> Worked
     requires { IsConfiguration config.now }
     ensures { (name : List ℕ) → (first : StoreModel) → (S.shown store.old) ≡ with_asked first name
-        → IfSome first.files (λ files. IsConfig (bytes_of name files) config.entry.now)
+        → IfSome first.files (λ files. IsConfig (bytes_of name files) config.now)
         → Ends (Clip name) first (S.shown store.new) result }
 {
     let scripts = match read_scripts(host.alloc, store, config) {
@@ -45,13 +45,13 @@ pub fn clip<'a, R: Threads + Wait + Sync, S: Store, G: Gate>(
 
 /// Runs a setup with texts and a clip script for each client. A run that is not begun leaves
 /// everything.
-fn perform_clips<'a, R: Threads + Wait + Sync, S: Store, G: Gate>(
+fn perform_clips<R: Threads + Wait + Sync, S: Store, G: Gate>(
     host: &Host<R, G>,
     store: &mut S,
     config: &Config,
     scripts: &Scripts,
     clips: &[ClipScript],
-) -> Worked<'a>
+) -> Worked
     requires runnable { IsRunnable (clips_setup_of config.now scripts.now clips.now) }
     requires each { length clips.now ≡ length scripts.now.clients.items }
     ensures { PerformedClips (S.shown store.old) (clips_setup_of config.now scripts.now clips.now)
@@ -60,7 +60,7 @@ fn perform_clips<'a, R: Threads + Wait + Sync, S: Store, G: Gate>(
     headline();
     let clients = scripts.clients.as_slice();
     let Ok(ran) = run_with_clips(host, config, scripts, clips, store) else {
-        return unbegun(host.alloc, at(End::NoMemory, ""));
+        return unbegun(host.alloc, nowhere(End::NoMemory));
     };
     Worked::after(ran, clients.len())
 }

@@ -3,24 +3,11 @@ use Rattle.nit_top.proofs.top.beside.Goals as goal
 
 pub returns-in-Err : goal.returns-in-Err
 returns-in-Err g c =
-    let loaded = c.in-Err.ensures.loaded in
-    record {
-      mid = g.S.Store.shown c.load_config.new.store;
-      worked = c.unbegun.result;
-      ends = config_stopped true c.args.name.now (g.S.Store.shown c.args.store.now)
-          (g.S.Store.shown c.load_config.new.store) c.in-Err.stop c.unbegun.result loaded.0 loaded.1
-          c.unbegun.ensures.stop c.unbegun.ensures.journal;
-      finished = c.finish.ensures.said;
-      journal_is = c.finish.ensures.journal;
-    }
+    config_stopped true c.args.name.now (g.S.Store.shown c.args.store.now) (g.S.Store.shown c.load_config.new.store)
+    c.in-Err.end c.at_first.result c.unbegun.result c.at_first.ensures c.in-Err.ensures.loaded c.unbegun.ensures.stop
+    c.unbegun.ensures.journal
 
 pub returns : goal.returns
 returns g c =
     let loaded = c.in-Ok.ensures.loaded in
-    record {
-      mid = g.S.Store.shown c.beside-worked.new.store;
-      worked = c.beside-worked.result;
-      ends = c.beside-worked.ensures c.args.name.now (g.S.Store.shown c.args.store.now) loaded.0 loaded.1;
-      finished = c.finish-2.ensures.said;
-      journal_is = c.finish-2.ensures.journal;
-    }
+    c.beside.ensures c.args.name.now (g.S.Store.shown c.args.store.now) loaded.0 loaded.1

@@ -1,28 +1,19 @@
-use Rattle.nit_top.proofs.Lemmas.{config_stopped, ends_too, true}
+use Rattle.nit_top.proofs.Lemmas.{Capture, Run, config_stopped, ends_too, named_first, refl, true}
 use Rattle.nit_top.proofs.top.filmed.Goals as goal
 
 pub returns-in-Err : goal.returns-in-Err
 returns-in-Err g c =
-    let loaded = c.in-Err.ensures.loaded in
-    record {
-      mid = g.S.Store.shown c.load_config.new.store;
-      worked = c.unbegun.result;
-      ends = ends_too c.args.name.now c.args.region (g.S.Store.shown c.args.store.now)
-          (g.S.Store.shown c.load_config.new.store) c.unbegun.result c.unbegun.ensures.journal
-          (config_stopped true c.args.name.now (g.S.Store.shown c.args.store.now)
-          (g.S.Store.shown c.load_config.new.store) c.in-Err.stop c.unbegun.result loaded.0 loaded.1
-          c.unbegun.ensures.stop c.unbegun.ensures.journal);
-      finished = c.finish.ensures.said;
-      journal_is = c.finish.ensures.journal;
-    }
+    let old = g.S.Store.shown c.args.store.now in
+    let new = g.S.Store.shown c.load_config.new.store in
+    let name = c.args.name.now in
+    let w = c.unbegun.result in
+    let at = c.unbegun.ensures.stop in
+    let none = c.unbegun.ensures.journal in
+    let same = named_first (Run true name) (Capture name c.args.region) c.at_first.result w refl c.at_first.ensures.1 at in
+    ends_too name c.args.region old new w none same
+    (config_stopped true name old new c.in-Err.end c.at_first.result w c.at_first.ensures c.in-Err.ensures.loaded at none)
 
 pub returns : goal.returns
 returns g c =
     let loaded = c.in-Ok.ensures.loaded in
-    record {
-      mid = g.S.Store.shown c.capture-worked.new.store;
-      worked = c.capture-worked.result;
-      ends = c.capture-worked.ensures c.args.name.now (g.S.Store.shown c.args.store.now) loaded.0 loaded.1;
-      finished = c.finish-2.ensures.said;
-      journal_is = c.finish-2.ensures.journal;
-    }
+    c.capture.ensures c.args.name.now (g.S.Store.shown c.args.store.now) loaded.0 loaded.1

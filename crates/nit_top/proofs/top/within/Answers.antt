@@ -4,31 +4,18 @@ use Rattle.nit_top.proofs.top.within.Goals as goal
 
 pub returns-in-Err : goal.returns-in-Err
 returns-in-Err g c =
-    let loaded = c.in-Err.ensures.loaded in
-    record {
-      mid = g.S.Store.shown c.load_config.new.store;
-      worked = c.unbegun.result;
-      ends = outer_config_stopped c.args.outer.now c.args.inner.now (g.S.Store.shown c.args.store.now)
-          (g.S.Store.shown c.load_config.new.store) c.in-Err.stop c.unbegun.result loaded.0 loaded.1
-          c.unbegun.ensures.stop c.unbegun.ensures.journal;
-      finished = c.finish.ensures.said;
-      journal_is = c.finish.ensures.journal;
-    }
+    outer_config_stopped c.args.outer.now c.args.inner.now (g.S.Store.shown c.args.store.now)
+    (g.S.Store.shown c.load_config.new.store) c.in-Err.end c.at_first.result c.unbegun.result c.at_first.ensures
+    c.in-Err.ensures.loaded c.unbegun.ensures.stop c.unbegun.ensures.journal
 
 pub returns-in-Err-read_outer : goal.returns-in-Err-read_outer
 returns-in-Err-read_outer g c =
     let loaded = c.in-Ok.ensures.loaded in
-    record {
-      mid = g.S.Store.shown c.read_outer.new.store;
-      worked = c.unbegun-in-Err-read_outer.result;
-      ends = outer_not_read c.args.outer.now c.args.inner.now (g.S.Store.shown c.args.store.now) c.in-Ok.config
-          c.in-Ok.ensures.configured loaded.1 (g.S.Store.shown c.load_config.new.store) loaded.0
-          (g.S.Store.shown c.read_outer.new.store) c.in-Err-read_outer.stop
-          c.unbegun-in-Err-read_outer.result c.in-Err-read_outer.ensures.read c.unbegun-in-Err-read_outer.ensures.stop
-          c.unbegun-in-Err-read_outer.ensures.journal;
-      finished = c.finish-in-Err-read_outer.ensures.said;
-      journal_is = c.finish-in-Err-read_outer.ensures.journal;
-    }
+    outer_not_read c.args.outer.now c.args.inner.now (g.S.Store.shown c.args.store.now) c.in-Ok.config
+    c.in-Ok.ensures.configured loaded.1 (g.S.Store.shown c.load_config.new.store) loaded.0
+    (g.S.Store.shown c.read_outer.new.store) c.in-Err-read_outer.stop
+    c.unbegun-in-Err-read_outer.result c.in-Err-read_outer.ensures.read c.unbegun-in-Err-read_outer.ensures.stop
+    c.unbegun-in-Err-read_outer.ensures.journal
 
 pub returns-in-Err-load_config : goal.returns-in-Err-load_config
 returns-in-Err-load_config g c =
@@ -41,16 +28,10 @@ returns-in-Err-load_config g c =
     let read = outer_read c.args.outer.now c.args.inner.now first c.in-Ok.config c.in-Ok.ensures.configured loaded.1
     (g.S.Store.shown c.load_config.new.store) loaded.0 s.clients.items s.input mid c.in-Ok-read_outer.ensures.read
     c.in-Ok-read_outer.ensures.outer in
-    record {
-      mid = g.S.Store.shown c.load_config-2.new.store;
-      worked = c.unbegun-in-Err-load_config.result;
-      ends = (inner_config_stopped c.args.outer.now c.args.inner.now o first read.1
-          (g.S.Store.shown c.load_config-2.new.store) c.in-Err-load_config.stop c.unbegun-in-Err-load_config.result
-          again.0 (rw read.0 at again.1)
-          c.unbegun-in-Err-load_config.ensures.stop c.unbegun-in-Err-load_config.ensures.journal);
-      finished = c.finish-in-Err-load_config.ensures.said;
-      journal_is = c.finish-in-Err-load_config.ensures.journal;
-    }
+    inner_config_stopped c.args.outer.now c.args.inner.now o first read.1
+    (g.S.Store.shown c.load_config-2.new.store) c.in-Err-load_config.end c.at_second.result
+    c.unbegun-in-Err-load_config.result c.at_second.ensures (rw read.0 at again)
+    c.unbegun-in-Err-load_config.ensures.stop c.unbegun-in-Err-load_config.ensures.journal
 
 pub returns : goal.returns
 returns g c =
@@ -62,16 +43,10 @@ returns g c =
     (g.S.Store.shown c.load_config.new.store) loaded.0 s.clients.items s.input
     (g.S.Store.shown c.read_outer.new.store) c.in-Ok-read_outer.ensures.read
     c.in-Ok-read_outer.ensures.outer in
-    record {
-      mid = g.S.Store.shown c.nested-worked.new.store;
-      worked = c.nested-worked.result;
-      ends = c.nested-worked.ensures c.args.outer.now first
-          (record {
-            files = read.1;
-            asked = again.0 ∙ ap (λ s. with_asked s c.args.inner.now) read.0;
-            valid =
-                rw read.0 at again.1;
-          });
-      finished = c.finish-2.ensures.said;
-      journal_is = c.finish-2.ensures.journal;
-    }
+    c.nested.ensures c.args.outer.now first
+    (record {
+      files = read.1;
+      asked = again.0 ∙ ap (λ s. with_asked s c.args.inner.now) read.0;
+      valid =
+          rw read.0 at again.1;
+    })

@@ -1,4 +1,5 @@
 use Rattle.nit_top.proofs.Lemmas.{Capture, Configuration, Stop, all_too, ap, ends_too, film_ends}
+use Rattle.nit_top.proofs.Lemmas.{Run, same_script}
 use Rattle.nit_top.proofs.Lemmas.{is_off_screen, not_read, outside_ends, read_whole, setup_of, sym}
 use Rattle.nit_top.proofs.Lemmas.{true, ◌∙◌}
 use Rattle.nit_top.proofs.run.capture.capture.Goals as goal
@@ -7,6 +8,9 @@ pub returns-in-Err : goal.returns-in-Err
 returns-in-Err g c = λ name first start is_config.
     ends_too name c.args.region first (g.S.Store.shown c.read_scripts.new.store) c.unbegun.result
     c.unbegun.ensures.journal
+    (same_script true name first c.args.config.now c.requires.configured is_config (g.S.Store.shown c.args.store.now)
+    start (g.S.Store.shown c.read_scripts.new.store) c.in-Err.stop c.unbegun.result c.in-Err.ensures.read
+    c.unbegun.ensures.stop (Run true name) (Capture name c.args.region))
     (not_read true name first c.args.config.now c.requires.configured is_config (g.S.Store.shown c.args.store.now) start
     (g.S.Store.shown c.read_scripts.new.store) c.in-Err.stop c.unbegun.result c.in-Err.ensures.read
     c.unbegun.ensures.stop c.unbegun.ensures.journal)
@@ -22,7 +26,7 @@ returns-then-is_outside g c = λ name first start is_config.
     c.unbegun-then-is_outside.result all.0 (all_too name c.args.region first.files setup all.1)
     (sym (ap (λ (k : Configuration). is_off_screen c.args.region k.width k.height) c.config.view_is)
     ∙ sym c.is_outside.ensures ∙ c.if-is_outside.true)
-    (ap (λ (stop : Stop). stop.end) c.unbegun-then-is_outside.ensures.stop ∙ c.at.ensures.0)
+    (ap (λ (stop : Stop). stop.end) c.unbegun-then-is_outside.ensures.stop ∙ c.nowhere.ensures.0)
     c.unbegun-then-is_outside.ensures.journal
 
 pub returns : goal.returns

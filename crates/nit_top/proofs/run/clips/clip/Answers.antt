@@ -1,5 +1,6 @@
 use Rattle.std.proofs.Common.{◌≡◌, ◌∙◌, List, ℕ, Option, true, length, map, ap, subst, sym}
 use Rattle.nit_top.proofs.Lemmas.{AreClipsRead, ClipLine, IsRunnable, Member, PerformedClips}
+use Rattle.nit_top.proofs.Lemmas.{Clip, Run, same_script}
 use Rattle.nit_top.proofs.Lemmas.{StoppedAtClip, StoreModel, clip_stopped, clips_end}
 use Rattle.nit_top.proofs.Lemmas.{clips_runnable, clips_setup_of, ends_before, names_long, not_read}
 use Rattle.nit_top.proofs.Lemmas.{read_whole, script_names, wanted_by}
@@ -8,6 +9,9 @@ use Rattle.nit_top.proofs.run.clips.clip.Goals as goal
 pub returns-in-Err : goal.returns-in-Err
 returns-in-Err g c = λ name first start is_config.
     ends_before name first (g.S.Store.shown c.read_scripts.new.store) c.unbegun.result c.unbegun.ensures.journal
+    (same_script true name first c.args.config.now c.requires is_config (g.S.Store.shown c.args.store.now) start
+    (g.S.Store.shown c.read_scripts.new.store) c.in-Err.stop c.unbegun.result c.in-Err.ensures.read
+    c.unbegun.ensures.stop (Run true name) (Clip name))
     (not_read true name first c.args.config.now c.requires is_config (g.S.Store.shown c.args.store.now) start
     (g.S.Store.shown c.read_scripts.new.store) c.in-Err.stop c.unbegun.result c.in-Err.ensures.read
     c.unbegun.ensures.stop c.unbegun.ensures.journal)

@@ -4,6 +4,8 @@ use Rattle.nit_top.proofs.Lemmas.{PerformedNested, Setup, Stop, asking_all, aski
 use Rattle.nit_top.proofs.Lemmas.{by_turns, first_other, first_shows, frames_counted, frames_of}
 use Rattle.nit_top.proofs.Lemmas.{inner_before, inner_scripts, inner_stopped, name_text, names_in}
 use Rattle.nit_top.proofs.Lemmas.{nested_ends, no_other, not_read, other_phases, outer_runnable}
+use Rattle.nit_setup.proofs.ForCallers.{other_short}
+use Rattle.nit_top.proofs.Lemmas.{Nested, Run, same_script}
 use Rattle.nit_top.proofs.Lemmas.{own_counts, phase_counts, phases, read_whole, run_files}
 use Rattle.nit_top.proofs.Lemmas.{runnable_of, setup_is, setup_of, subst, they_fit, unfit_ends}
 use Rattle.nit_setup.specs.declared.stop.Fault.TheVariants as fault
@@ -24,6 +26,12 @@ run_inner-requires-clause-phases g c =
     (sym c.as_slice-clients.ensures.value)
     (own_counts c.each_line_once.ensures.user o i own c.requires.outer c.index.ensures c.frame_count.result
     c.frame_count.ensures c.in_default.ensures.none)
+
+pub at-requires : goal.at-requires
+at-requires g c =
+    let o = run_files c.args.outer.now c.args.shown.clients.items c.args.shown.input in
+    other_short c.args.outer.now c.frame_count.result (phase_counts o) c.in-Some.other.now c.requires.outer.configured
+    c.in-Some.ensures.some
 
 pub perform_nested-requires-after_bounds : goal.perform_nested-requires-after_bounds
 perform_nested-requires-after_bounds g c κs within =
@@ -50,6 +58,10 @@ returns-in-Err g c = λ outer first after'.
     let o = run_files c.args.outer.now c.args.shown.clients.items c.args.shown.input in
     let new = g.S.Store.shown c.read_scripts.new.store in
     inner_before outer c.args.name.now o first after'.files new c.unbegun.result c.unbegun.ensures.journal
+    (same_script false c.args.name.now (asking_all first (outer ∷ names_in c.args.outer.now)) c.args.inner.now
+    c.requires.configured after'.valid (g.S.Store.shown c.args.store.now) after'.asked new c.in-Err.stop
+    c.unbegun.result c.in-Err.ensures.read c.unbegun.ensures.stop (Run false c.args.name.now)
+    (Nested outer c.args.name.now))
     (not_read false c.args.name.now (asking_all first (outer ∷ names_in c.args.outer.now)) c.args.inner.now
     c.requires.configured after'.valid (g.S.Store.shown c.args.store.now) after'.asked new c.in-Err.stop
     c.unbegun.result c.in-Err.ensures.read c.unbegun.ensures.stop c.unbegun.ensures.journal)
@@ -76,7 +88,8 @@ returns-in-Some g c = λ outer first after'.
     (setup_of c.args.inner.now s.clients.items s.input true false) all.1) new
     (all.0 ∙ asking_both first front (name ∷ names_in c.args.inner.now))
     other fault.PhasesDiffer c.unbegun-in-Some.result (other_phases name other o i found)
-    (ap (λ (t : Stop). name_text t.name) c.unbegun-in-Some.ensures.stop ∙ ap name_text c.at.ensures.1)
+    (ap (λ (t : Stop). name_text (Nested outer name) t.name) c.unbegun-in-Some.ensures.stop
+    ∙ c.at.ensures.1 (Nested outer name))
     (ap (λ (t : Stop). t.end) c.unbegun-in-Some.ensures.stop ∙ c.at.ensures.0)
     c.unbegun-in-Some.ensures.journal
 
@@ -152,7 +165,7 @@ returns g c = λ outer first after'.
     own began.0 end w began.1 (no_other once o i own c.requires.outer at c.frame_count.result c.frame_count.ensures
     none) (subst (λ (ss : List (List Line)). IsInnerEnd (run_files c.args.inner.now ss s.input) own (Err end))
     c.as_slice-clients.ensures.value c.in-Err-run_inner.ensures)
-    (ap (λ (t : Stop). name_text t.name) c.unbegun-in-Err-run_inner.ensures.stop
-    ∙ ap name_text c.at-in-Err-run_inner.ensures.1)
-    (ap (λ (t : Stop). t.end) c.unbegun-in-Err-run_inner.ensures.stop ∙ c.at-in-Err-run_inner.ensures.0)
+    (ap (λ (t : Stop). name_text (Nested outer name) t.name) c.unbegun-in-Err-run_inner.ensures.stop
+    ∙ ap (name_text (Nested outer name)) c.at_second.ensures.1)
+    (ap (λ (t : Stop). t.end) c.unbegun-in-Err-run_inner.ensures.stop ∙ c.at_second.ensures.0)
     c.unbegun-in-Err-run_inner.ensures.journal

@@ -3,6 +3,7 @@ use Rattle.nit_top.proofs.Lemmas.{Configuration, End, InputLine, IsClientFault, 
 use Rattle.nit_top.proofs.Lemmas.{Performed, Setup, StoppedAt, arith, idle_user, name_text}
 use Rattle.nit_top.proofs.Lemmas.{setup_of, still_configuration, still_ends, still_runnable}
 use Rattle.nit_top.proofs.Lemmas.{still_setup, still_stopped}
+use Rattle.nit_setup.specs.declared.stop.End.TheVariants as ends
 use Rattle.nit_top.proofs.run.perform.still.Goals as goal
 
 same_setup : (width height : ℕ) (config : Configuration) (lines read : List Line) (input : List InputLine)
@@ -23,31 +24,23 @@ same_setup width height config lines read input c r i = let u : input ≡ idle_u
 
 pub returns-in-Err : goal.returns-in-Err
 returns-in-Err g c =
-    let loaded = c.in-Err.ensures.loaded in
     still_stopped c.args.width c.args.height c.args.script.now (g.S.Store.shown c.args.store.now)
-    (g.S.Store.shown c.load_client.new.store) c.in-Err.stop c.unbegun.result loaded.0 loaded.1
-    c.unbegun.ensures.stop c.unbegun.ensures.journal
+    (g.S.Store.shown c.load_client.new.store) c.in-Err.end c.at_first.result c.unbegun.result c.at_first.ensures
+    c.in-Err.ensures.loaded c.unbegun.ensures.stop c.unbegun.ensures.journal
 
 pub returns-in_default : goal.returns-in_default
 returns-in_default g c =
-    let old = g.S.Store.shown c.args.store.now in
-    let new = g.S.Store.shown c.load_client.new.store in
-    let loaded = c.in-Ok.ensures.loaded in
-    still_stopped c.args.width c.args.height c.args.script.now old new c.at.result c.unbegun-in_default.result
-    (ap name_text c.at.ensures.1)
-    (subst (λ (e : End). StoppedAt (IsClientFault None) old c.args.script.now new e) (sym c.at.ensures.0)
-    (inl loaded.0)) c.unbegun-in_default.ensures.stop c.unbegun-in_default.ensures.journal
+    still_stopped c.args.width c.args.height c.args.script.now (g.S.Store.shown c.args.store.now)
+    (g.S.Store.shown c.load_client.new.store) ends.NoMemory c.at_first-in_default.result c.unbegun-in_default.result
+    c.at_first-in_default.ensures (inl c.in-Ok.ensures.loaded.0) c.unbegun-in_default.ensures.stop
+    c.unbegun-in_default.ensures.journal
 
 pub returns-in_default-idle_user : goal.returns-in_default-idle_user
 returns-in_default-idle_user g c =
-    let old = g.S.Store.shown c.args.store.now in
-    let new = g.S.Store.shown c.load_client.new.store in
-    let loaded = c.in-Ok.ensures.loaded in
-    still_stopped c.args.width c.args.height c.args.script.now old new c.at-in_default-idle_user.result
-    c.unbegun-in_default-idle_user.result (ap name_text c.at-in_default-idle_user.ensures.1)
-    (subst (λ (e : End). StoppedAt (IsClientFault None) old c.args.script.now new e)
-    (sym c.at-in_default-idle_user.ensures.0) (inl loaded.0)) c.unbegun-in_default-idle_user.ensures.stop
-    c.unbegun-in_default-idle_user.ensures.journal
+    still_stopped c.args.width c.args.height c.args.script.now (g.S.Store.shown c.args.store.now)
+    (g.S.Store.shown c.load_client.new.store) ends.NoMemory c.at_first-in_default-idle_user.result
+    c.unbegun-in_default-idle_user.result c.at_first-in_default-idle_user.ensures (inl c.in-Ok.ensures.loaded.0)
+    c.unbegun-in_default-idle_user.ensures.stop c.unbegun-in_default-idle_user.ensures.journal
 
 pub perform_alone-requires-clause-runnable : goal.perform_alone-requires-clause-runnable
 perform_alone-requires-clause-runnable g c =
