@@ -1,7 +1,7 @@
 -- How the files of a command are read and judged, one after the other.
 use Rattle.std.specs.Prelude.{◌≡◌, ◌⊎◌, ℕ, ◌<◌, ◌≤◌, List, ◌∷◌, ◌++◌, length, Result, Ok, Err}
 use Rattle.std.specs.Prelude.{IfSome, Vec}
-use Rattle.nit_setup.specs.Below.{AllByRecursion, AreLines, AskedAtMost, Configuration, End, Fault}
+use Rattle.nit_setup.specs.Below.{AllByRecursion, AreLines, AskedAtMost, Configuration, End, Fault, File}
 use Rattle.nit_setup.specs.Below.{FitsLine, Global, HaveSamePhases, InputLine, JournalError, Line}
 use Rattle.nit_setup.specs.Below.{ReadFaulted, ScriptError, Scripts, Stop, StoreModel, asking_all}
 use Rattle.nit_setup.specs.Below.{bytes_of, with_asked}
@@ -47,13 +47,18 @@ abbrev pub end_of_journal : JournalError → End
 end_of_journal (journal.Bad number) = end.Refused (fault.BadEntry number)
 end_of_journal journal.NoMemory = end.NoMemory
 
+-- a file of this name was not read, or is what the files are refused for, or memory ran out
+abbrev pub StoppedBy : (List File → Fault → Type 0) → StoreModel → List ℕ → StoreModel → End
+    → Type 0
+StoppedBy Refuse old name new end.ReadFault = ReadFaulted (with_asked old name) new
+StoppedBy Refuse old name new (end.Refused f) = (new ≡ with_asked old name)
+    × IfSome old.files (λ files. Refuse files f)
+StoppedBy Refuse old name new end.NoMemory = AskedAtMost old name new
+StoppedBy Refuse old name new other = ⊥
+
 -- where a file of this name was not read, or its bytes have a fault
 abbrev pub StoppedAt : (List ℕ → Fault → Type 0) → StoreModel → List ℕ → StoreModel → End → Type 0
-StoppedAt Faulty old name new end.ReadFault = ReadFaulted (with_asked old name) new
-StoppedAt Faulty old name new (end.Refused f) = (new ≡ with_asked old name)
-    × IfSome old.files (λ files. Faulty (bytes_of name files) f)
-StoppedAt Faulty old name new end.NoMemory = AskedAtMost old name new
-StoppedAt Faulty old name new other = ⊥
+StoppedAt Faulty old name new end = StoppedBy (λ files f. Faulty (bytes_of name files) f) old name new end
 
 -- a file was read and judged, or so the work ends
 abbrev pub FileJudged : {V : Type 0} → (List ℕ → V → Type 0) → (List ℕ → Fault → Type 0)

@@ -37,6 +37,11 @@ pub use Rattle.nit_setup.specs.Judgement.{too_long_for, unless_other, wanted_by,
 pub use Rattle.nit_setup.specs.Judgement.{wrong_clip, wrong_input, wrong_lines, wrong_outer}
 pub use Rattle.nit_setup.specs.Judgement.{wrong_phases}
 pub use Rattle.nit_setup.specs.OuterRead.{OuterLoaded, OuterSoFar, OuterStopped, ReadOuter}
+pub use Rattle.nit_setup.specs.SetupRead.{AuditRead, BothRead, ClipSetupRead, ConfigRead}
+pub use Rattle.nit_setup.specs.SetupRead.{HasReadJournal, HasReadPicture, IsLoaded, IsOuterLoaded}
+pub use Rattle.nit_setup.specs.SetupRead.{OuterRunRead, PictureRead, ReadsTo, RunRead, SetupRead}
+pub use Rattle.nit_setup.specs.SetupRead.{StoppedReading, clips_setup_in, files_in, setup_in}
+pub use Rattle.nit_setup.specs.Below.{Region}
 pub use Rattle.nit_setup.specs.Reading.{FileJudged, JudgedBytes, LoadedAll, ReadFor}
 pub use Rattle.nit_setup.specs.Reading.{ReadScripts, SoFar, StoppedAmong, StoppedAt, end_of_journal}
 pub use Rattle.nit_setup.specs.Reading.{end_of_script}

@@ -20,17 +20,17 @@ mod generated;
 mod load;
 mod misfit;
 mod outer;
+mod read;
 mod scripts;
 mod still;
 mod stop;
 mod words;
 
-pub use clips::load_clips;
 pub use generated::read_files;
-pub use load::{load_client, load_config, load_journal};
 pub use misfit::{first_other, frame_count};
-pub use outer::read_outer;
-pub use scripts::{read_scripts, wanted_by};
-pub use still::{idle_user, still_configuration};
+pub use read::{
+    Loaded, OneScript, TwoRuns, WithClips, WithJournal, read_audit, read_clips, read_nested,
+    read_run, read_still,
+};
 pub use stop::{End, Fault, Name, ScriptName, Stop, at, at_first, at_second, nowhere};
 pub use words::{Asked, parse_words};

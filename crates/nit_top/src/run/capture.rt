@@ -12,33 +12,30 @@ use nit_perform::{Film, Host, run_filmed};
 use nit_rect::NoMemory;
 use nit_run::laws::headline;
 use nit_run::{Region, Scripts};
-use nit_setup::{End, nowhere, read_scripts};
+use nit_setup::{End, nowhere, read_run};
 use nit_store::Store;
 use std::sync::Wait;
 use std::thread::Threads;
 
-/// Runs the scripts of a configuration with each client on a thread of its own, and films a region
+/// Runs the configuration of this name with each client on a thread of its own, and films a region
 /// of the screen, which is to lie on it.
 pub fn capture<R: Threads + Wait + Sync, S: Store, G: Gate>(
     host: &Host<R, G>,
     store: &mut S,
-    config: &Config,
+    name: &str,
     region: Region,
 ) -> Worked
-    requires configured { IsConfiguration config.now }
-    requires numbers { IsRegionWords region }
-    ensures { (name : List ℕ) → (first : StoreModel) → (S.shown store.old) ≡ with_asked first name
-        → IfSome first.files (λ files. IsConfig (bytes_of name files) config.now)
-        → Ends (Capture name region) first (S.shown store.new) result }
+    requires { IsRegionWords region }
+    ensures { Ends (Capture name.now region) (S.shown store.old) (S.shown store.new) result }
 {
-    let scripts = match read_scripts(host.alloc, store, config) {
-        Ok(scripts) => scripts,
+    let run = match read_run(host.alloc, store, name) {
+        Ok(run) => run,
         Err(stop) => return unbegun(host.alloc, stop),
     };
-    if region.is_outside(config.width, config.height) {
+    if region.is_outside(run.config.width, run.config.height) {
         return unbegun(host.alloc, nowhere(End::Outside));
     }
-    perform_filmed(host, store, config, &scripts, region)
+    perform_filmed(host, store, &run.config, &run.scripts, region)
 }
 
 /// Runs a setup with texts, each client on a thread of its own, and films a region of the screen. A

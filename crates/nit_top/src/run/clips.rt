@@ -14,33 +14,24 @@ use nit_perform::{Host, run_with_clips};
 use nit_rect::NoMemory;
 use nit_run::Scripts;
 use nit_run::laws::headline;
-use nit_setup::{End, load_clips, nowhere, read_scripts, wanted_by};
+use nit_setup::{End, nowhere, read_clips};
 use nit_store::Store;
 use std::sync::Wait;
 use std::thread::Threads;
 
-/// Runs the scripts of a configuration with each client on a thread of its own, and a clip script
+/// Runs the configuration of this name with each client on a thread of its own, and a clip script
 /// for each.
 pub fn clip<R: Threads + Wait + Sync, S: Store, G: Gate>(
     host: &Host<R, G>,
     store: &mut S,
-    config: &Config,
+    name: &str,
 ) -> Worked
-    requires { IsConfiguration config.now }
-    ensures { (name : List ℕ) → (first : StoreModel) → (S.shown store.old) ≡ with_asked first name
-        → IfSome first.files (λ files. IsConfig (bytes_of name files) config.now)
-        → Ends (Clip name) first (S.shown store.new) result }
+    ensures { Ends (Clip name.now) (S.shown store.old) (S.shown store.new) result }
 {
-    let scripts = match read_scripts(host.alloc, store, config) {
-        Ok(scripts) => scripts,
-        Err(stop) => return unbegun(host.alloc, stop),
-    };
-    let wanted = wanted_by(&scripts.clients);
-    let clips = match load_clips(host.alloc, store, &config.clients, wanted) {
-        Ok(clips) => clips,
-        Err(stop) => return unbegun(host.alloc, stop),
-    };
-    perform_clips(host, store, config, &scripts, &clips)
+    match read_clips(host.alloc, store, name) {
+        Ok(read) => perform_clips(host, store, &read.run.config, &read.run.scripts, &read.clips),
+        Err(stop) => unbegun(host.alloc, stop),
+    }
 }
 
 /// Runs a setup with texts and a clip script for each client. A run that is not begun leaves

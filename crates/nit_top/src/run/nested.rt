@@ -23,48 +23,22 @@ use nit_store::Store;
 use std::sync::Wait;
 use std::thread::Threads;
 
-/// Reads the scripts of the inner configuration, which has this name, and runs it by turns. Then it
-/// runs the outer configuration, whose scripts these are, with each client on a thread of its own.
-/// There the first client shows the frames of the inner run.
+/// Reads the files of both configurations, and runs the inner one by turns. Then it runs the outer
+/// one with each client on a thread of its own. There the first client shows the frames of the
+/// inner run.
 pub fn nested<R: Threads + Wait + Sync, S: Store, G: Gate>(
     host: &Host<R, G>,
     store: &mut S,
-    outer: &Config,
-    shown: Scripts,
-    name: &str,
-    inner: &Config,
+    outer: &str,
+    inner: &str,
 ) -> Worked
-    requires configured { IsConfiguration inner.now }
-    requires outer { IsOuter (run_files outer.now shown.clients.items shown.input) }
-    ensures { (outer_name : List ℕ) → (first : StoreModel)
-        → IsAfterOuter outer_name name.now first
-        (run_files outer.now shown.clients.items shown.input)
-        inner.now (S.shown store.old)
-        → Ends (Nested outer_name name.now) first (S.shown store.new) result }
+    ensures { Ends (Nested outer.now inner.now) (S.shown store.old) (S.shown store.new) result }
 {
     each_line_once();
     phases_stay();
-    let scripts = match read_scripts(host.alloc, store, inner) {
-        Ok(scripts) => scripts,
-        Err(stop) => return unbegun(host.alloc, stop),
-    };
-    if let Some(other) = first_other(frame_count(&scripts.input), outer, &shown) {
-        return unbegun(host.alloc, at(End::Unfit(Fault::PhasesDiffer), other));
-    }
-    let clients = scripts.clients.as_slice();
-    match run_inner(
-        host.alloc,
-        inner,
-        clients,
-        &scripts.input,
-        &shown.clients[0],
-    ) {
-        Ok(made) => {
-            let _known = made.script.lines();
-            let shown = with_first(shown, made.script);
-            perform_nested(host, store, outer, &shown, &made.journal)
-        }
-        Err(end) => unbegun(host.alloc, at_second(end)),
+    match read_nested(host.alloc, store, outer, inner) {
+        Ok(TwoRuns { outer, inner }) => run_both(host, store, &outer.config, outer.scripts, &inner),
+        Err(stop) => unbegun(host.alloc, stop),
     }
 }
 

@@ -15,9 +15,7 @@ use nit_report::{gen_config, generate, generated_client_counts, generated_user_c
 use nit_run::Scripts;
 use nit_run::laws::headline;
 use nit_script::{Client, Input};
-use nit_setup::{
-    End, at_first, idle_user, load_client, nowhere, read_files, read_scripts, still_configuration,
-};
+use nit_setup::{End, nowhere, read_files, read_run, read_still};
 use nit_store::Store;
 use nit_store::laws::puts_go_on;
 use std::alloc::Global;
@@ -36,49 +34,40 @@ pub fn still<S: Store>(
     ensures { Ends (Still width height script.now) (S.shown store.old)
         (S.shown store.new) result }
 {
-    let client = match load_client(alloc, store, script, None) {
-        Ok(client) => client,
-        Err(end) => return unbegun(alloc, at_first(end)),
-    };
-    let Ok(config) = still_configuration(alloc, width, height) else {
-        return unbegun(alloc, at_first(End::NoMemory));
-    };
-    let Ok(input) = idle_user(alloc, client.lines()) else {
-        return unbegun(alloc, at_first(End::NoMemory));
-    };
-    perform_alone(alloc, store, &config, &[client], &input)
+    match read_still(alloc, store, width, height, script) {
+        Ok(read) => perform_alone(alloc, store, &read.config, &[read.client], &read.input),
+        Err(stop) => unbegun(alloc, stop),
+    }
 }
 
-/// Runs the scripts of a configuration by turns.
-pub fn turns<S: Store>(alloc: Global, store: &mut S, config: &Config) -> Worked
-    requires { IsConfiguration config.now }
-    ensures { (name : List ℕ) → (first : StoreModel) → (S.shown store.old) ≡ with_asked first name
-        → IfSome first.files (λ files. IsConfig (bytes_of name files) config.now)
-        → Ends (Run false name) first (S.shown store.new) result }
+/// Runs the configuration of this name by turns.
+pub fn turns<S: Store>(alloc: Global, store: &mut S, name: &str) -> Worked
+    ensures { Ends (Run false name.now) (S.shown store.old) (S.shown store.new) result }
 {
-    let scripts = match read_scripts(alloc, store, config) {
-        Ok(scripts) => scripts,
-        Err(stop) => return unbegun(alloc, stop),
-    };
-    perform(alloc, store, config, &scripts.clients, &scripts.input)
+    match read_run(alloc, store, name) {
+        Ok(run) => perform(
+            alloc,
+            store,
+            &run.config,
+            &run.scripts.clients,
+            &run.scripts.input,
+        ),
+        Err(stop) => unbegun(alloc, stop),
+    }
 }
 
-/// Runs the scripts of a configuration with each client on a thread of its own.
+/// Runs the configuration of this name with each client on a thread of its own.
 pub fn beside<R: Threads + Wait + Sync, S: Store, G: Gate>(
     host: &Host<R, G>,
     store: &mut S,
-    config: &Config,
+    name: &str,
 ) -> Worked
-    requires { IsConfiguration config.now }
-    ensures { (name : List ℕ) → (first : StoreModel) → (S.shown store.old) ≡ with_asked first name
-        → IfSome first.files (λ files. IsConfig (bytes_of name files) config.now)
-        → Ends (Run true name) first (S.shown store.new) result }
+    ensures { Ends (Run true name.now) (S.shown store.old) (S.shown store.new) result }
 {
-    let scripts = match read_scripts(host.alloc, store, config) {
-        Ok(scripts) => scripts,
-        Err(stop) => return unbegun(host.alloc, stop),
-    };
-    perform_beside(host, store, config, &scripts)
+    match read_run(host.alloc, store, name) {
+        Ok(run) => perform_beside(host, store, &run.config, &run.scripts),
+        Err(stop) => unbegun(host.alloc, stop),
+    }
 }
 
 /// Puts the files of the generated run of this number, and runs it as they say, with each client on
