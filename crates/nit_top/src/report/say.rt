@@ -27,10 +27,10 @@ enum Piece<'a> {
 }
 
 /// Says how the work that the words ask for came to its end.
-pub fn tell<S: Store>(
+pub fn tell<'a, S: Store>(
     store: &mut S,
-    asked: Option<Asked>,
-    worked: &Worked,
+    asked: Option<Asked<'a>>,
+    worked: &'a Worked,
 ) -> Result<(), PutError>
     ensures { Says (S.shown store.old) (line_on (command_of asked.entry) worked.now)
         (S.shown store.new) result }
