@@ -12,10 +12,19 @@ MOST_RATIO = {"a refresh of 200 by 200, and a look": 2, "a refresh of 1000 by 70
 MOST_TIME = {"a call that changes nothing": 200}
 
 
+class NoTimes(Exception):
+    """A program that does not say what is timed, and what it says in place of it."""
+
+
 def times_of(program):
     """What one run says: the nanoseconds of each work."""
-    said = subprocess.run([program], check=True, capture_output=True, text=True).stdout
-    return {work: float(time) for work, time in (line.split("\t") for line in said.splitlines())}
+    ended = subprocess.run([program], check=False, capture_output=True, text=True)
+    lines = [line.split("\t") for line in ended.stdout.splitlines()]
+    times = {line[0]: float(line[1]) for line in lines if len(line) == 2}
+    if ended.returncode != 0 or not MOST_RATIO.keys() | MOST_TIME.keys() <= times.keys():
+        said = (ended.stdout + ended.stderr).strip()
+        raise NoTimes(f"{program.name}: status {ended.returncode}, said: {said}")
+    return times
 
 
 def least_of(programs):
@@ -37,10 +46,15 @@ def beyond_limits(least):
 
 
 def main():
-    """Prints the table. The status is 1 where something takes longer than it may."""
-    subprocess.run(["make", "-s", "-C", EMBED, "out/speed", "out/speed-plain"], check=True,
-                   stdout=sys.stderr)
-    least = least_of([EMBED / "out" / "speed", EMBED / "out" / "speed-plain"])
+    """Prints the table. The status is 1 where a work has no time, or takes longer than it may."""
+    command = ["make", "-s", "-C", EMBED, "out/speed", "out/speed-plain"]
+    if subprocess.run(command, check=False, stdout=sys.stderr).returncode != 0:
+        return 1
+    try:
+        least = least_of([EMBED / "out" / "speed", EMBED / "out" / "speed-plain"])
+    except NoTimes as why:
+        print(f"Not as it should be:\n\n- {why}")
+        return 1
     print("\n".join(heading([0, 1], "the library, µs", "a plain compositor, µs")))
     for work, times in least.items():
         print(f"| {work} | {cells([time / 1000 for time in times], '{:,.2f}'.format)} |")

@@ -1,4 +1,4 @@
-"""Programs that stand in for the program in tools/selftest, right ones and wrong ones."""
+"""Programs and libraries that stand in for our own in tools/selftest, right ones and wrong ones."""
 import re
 import shlex
 import shutil
@@ -94,8 +94,29 @@ def silent_library(folder, embed):
     for answer, call in re.findall(r"^((?:struct )?\w+) (nit_\w+\([^)]*\));", header, re.M):
         body = f"{answer} none; memset(&none, 0, sizeof none); return none;"
         lines.append(f"{answer} {call} {{ {body} }}")
-    source, part, archive = (folder / f"silent.{end}" for end in ("c", "o", "a"))
-    source.write_text("\n".join(lines) + "\n")
-    subprocess.run(["gcc", "-w", "-I", embed / "include", "-c", source, "-o", part], check=True)
+    return archived(folder, embed, "silent", "\n".join(lines) + "\n")
+
+
+def plain_library(folder, embed):
+    """An archive of the plain compositor, which does what `speed` asks of the library."""
+    return archived(folder, embed, "plain", (embed / "tests" / "plain.c").read_text())
+
+
+def slow_library(folder, embed):
+    """The same, but for a call that takes much longer than it may."""
+    head = "struct nit_reply nit_take(struct nit_server *server, uint32_t seat)\n{\n"
+    text = (embed / "tests" / "plain.c").read_text()
+    slow = text.replace(head, f"{head}    for (volatile int k = 0; k < 2000; k++);\n")
+    if slow == text:
+        raise AssertionError("plain.c has no nit_take")
+    return archived(folder, embed, "slow", slow)
+
+
+def archived(folder, embed, name, text):
+    """An archive of one C source over the library's header."""
+    source, part, archive = (folder / f"{name}.{end}" for end in ("c", "o", "a"))
+    source.write_text(text)
+    subprocess.run(["gcc", "-w", "-O2", "-I", embed / "include", "-c", source, "-o", part],
+                   check=True)
     subprocess.run(["ar", "rcs", archive, part], check=True)
     return archive

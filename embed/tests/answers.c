@@ -168,7 +168,8 @@ static void many_clients(uint32_t count, uint32_t answer)
     char clients[3000] = "";
     for (uint32_t k = 0; k < count; k++) {
         size_t at = strlen(clients);
-        snprintf(clients + at, sizeof clients - at, CLIENT("c%u"), k);
+        int length = snprintf(clients + at, sizeof clients - at, CLIENT("c%u"), k);
+        CHECK(length > 0 && (size_t)length < sizeof clients - at);
     }
     CHECK(configured("", clients) == answer);
 }

@@ -15,10 +15,12 @@ static uint32_t at(uint32_t x, uint32_t y)
 /* The part that changed since the last look. */
 static struct nit_rect look(void)
 {
-    return nit_look(&server, frame, WIDTH * HEIGHT);
+    struct nit_rect part = nit_look(&server, frame, WIDTH * HEIGHT);
+    CHECK(part.kind == NIT_DONE);
+    return part;
 }
 
-/* A server of these seats; `layers` and `clicks` have one word for each. */
+/* A server of so many seats; `layers` has one word for each, and a click gives each the focus. */
 static void begin(uint32_t bar, uint32_t count, const uint32_t *layers)
 {
     struct nit_seat_plan seats[16];

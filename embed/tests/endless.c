@@ -61,8 +61,8 @@ static void changes(struct host *h, uint32_t turn)
     routed(h, nit_motion(s, turn % WIDTH, 10));
     routed(h, nit_press(s, 272));
     routed(h, nit_release(s, 272));
-    nit_take(s, seat);
-    h->steps++;
+    struct nit_reply taken = nit_take(s, seat);
+    served(h, taken, taken.kind == NIT_EVENT ? NIT_EVENT : NIT_NO_EVENT);
 }
 
 /* The views of a client that stays come and go, and its handles rise: 4 steps. */
@@ -156,8 +156,8 @@ static void is_as_fast(struct host *old, struct host *new)
 int main(int count, char **given)
 {
     static struct host old, new;
-    uint64_t steps = count > 1 ? strtoull(given[1], NULL, 10) : 10000000;
-    setvbuf(stdout, NULL, _IONBF, 0);
+    uint64_t steps = count > 1 ? number_in(given[1]) : 10000000;
+    CHECK(setvbuf(stdout, NULL, _IONBF, 0) == 0);
     opens(&old);
     goes_on(&old, steps / STEPS_OF_ROUND);
     opens(&new);

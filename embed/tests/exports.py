@@ -175,7 +175,7 @@ def shape_of(structs, kind):
     for word, size in NUMBERS.values():
         if word == kind:
             return size, size
-    places, size, most = layout(structs, kind.removeprefix("struct "))
+    _, size, most = layout(structs, kind.removeprefix("struct "))
     return size, most
 
 
@@ -266,7 +266,8 @@ def struct_faults(header, sources, folder):
         command = [compiler(), "-std=c11", "-fsyntax-only", "-I", folder, "-x", "c", "-"]
         ended = subprocess.run(command, input=asserts(theirs, names), text=True,
                                capture_output=True, check=False)
-        faults += re.findall(r"error: (.*)", ended.stderr) if ended.returncode else []
+        if ended.returncode:
+            faults += re.findall(r"error: (.*)", ended.stderr) or [f"cc: {ended.stderr.strip()}"]
     return faults
 
 

@@ -107,6 +107,14 @@ void same_seat(struct nit_seat_state got, struct nit_seat_state want, const char
     failed(file, line, both);
 }
 
+uint64_t number_in(const char *word)
+{
+    char *end;
+    uint64_t number = strtoull(word, &end, 10);
+    CHECK(*word >= '0' && *word <= '9' && *end == '\0');
+    return number;
+}
+
 uint64_t draw(struct random *random, uint64_t below)
 {
     random->at += 0x9E3779B97F4A7C15u;

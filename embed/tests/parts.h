@@ -44,6 +44,9 @@ void same_routed(struct nit_routed got, const struct nit_delivery *want, const c
 /* A text and its length, as two arguments. */
 #define TEXT(literal) (literal), sizeof(literal) - 1
 
+/* The number that a word of the command line is; another word ends the test. */
+uint64_t number_in(const char *word);
+
 /* ---- Random numbers, the same for the same start. */
 
 struct random { uint64_t at; };

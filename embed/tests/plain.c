@@ -208,7 +208,9 @@ struct nit_reply nit_above(struct nit_server *server, uint32_t seat, uint32_t vi
                            uint32_t other)
 {
     (void)server;
-    return restack(seat, view, find(seat, other));
+    uint32_t at = find(seat, view), to = find(seat, other);
+    /* Where the view stood in front, the other one moves up into its place. */
+    return restack(seat, view, to != NIT_NONE && at < to ? to - 1 : to);
 }
 
 struct nit_reply nit_title(struct nit_server *server, uint32_t seat, uint32_t view,

@@ -139,7 +139,11 @@ static void is_entry(struct run *run, struct nit_server *s, const char *line)
 static void play_call(struct run *run, const char *line)
 {
     uint32_t seat = (uint32_t)strtoul(line + 5, NULL, 10), w, h;
-    const char *said = strchr(line + 5, ' ') + 1, *asked = strstr(line, " < ") + 3;
+    const char *said = strchr(line + 5, ' '), *asked = strstr(line, " < ");
+    if (!said || !asked || seat >= run->count)
+        wrong(run, line, "no call");
+    said++;
+    asked += 3;
     struct nit_reply want = reply_in(said);
     for (int k = 0; k < 2; k++) {
         struct nit_reply got = call(run, &run->server[k], seat, asked);
@@ -272,6 +276,8 @@ static void open_by_text(struct run *run, const char *line, const char *name)
     if (!file)
         wrong(run, line, "no configuration");
     size_t length = fread(text, 1, sizeof text, file);
+    if (ferror(file) || fgetc(file) != EOF)
+        wrong(run, line, "the configuration cannot be read, or is too long");
     fclose(file);
     if (nit_open_config(&run->server[0], text, length) != NIT_DONE)
         wrong(run, line, "the configuration is refused");
@@ -344,6 +350,8 @@ int main(int count, char **words)
         line[strcspn(line, "\n")] = '\0';
         play(&run, line);
     }
+    if (ferror(file))
+        wrong(&run, words[1], "it cannot be read");
     fclose(file);
     close_plain(&run.server[0]);
     close_plain(&run.server[1]);

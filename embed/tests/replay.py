@@ -138,8 +138,11 @@ def fault_of(replay, case, want, program, folder):
         entries = make_play(case, want, program, folder)
     except Refused as why:
         return str(why), 0
-    ended = subprocess.run([replay, "play"], cwd=folder, capture_output=True, text=True,
-                           errors="replace", timeout=runs.SECONDS, check=False)
+    try:
+        ended = subprocess.run([replay, "play"], cwd=folder, capture_output=True, text=True,
+                               errors="replace", timeout=runs.SECONDS, check=False)
+    except subprocess.TimeoutExpired:
+        return f"not over after {runs.SECONDS} s", entries
     if ended.returncode != 0:
         return f"status {ended.returncode}: {ended.stderr.strip()[:2000]}", entries
     return None, entries

@@ -58,9 +58,10 @@ struct nit_routed routed_in(const char *line)
     struct nit_routed routed = { .kind = NIT_DONE };
     for (const char *at = strstr(line, " > "); at && routed.count < 3; at = strstr(at, " > ")) {
         struct nit_delivery *to = &routed.to[routed.count++];
-        at += 3;
-        to->seat = (uint32_t)strtoul(at, NULL, 10);
-        to->event = event_in(strchr(at, ' ') + 1);
+        char *behind;
+        to->seat = (uint32_t)strtoul(at + 3, &behind, 10);
+        to->event = event_in(*behind == ' ' ? behind + 1 : behind);
+        at = behind;
     }
     return routed;
 }

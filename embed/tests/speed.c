@@ -67,7 +67,7 @@ static void moved_view(void)
     uint32_t at = turn++ % VIEWS, by = turn / VIEWS % 2;
     must(nit_place(&server, 1, at + 1, (int32_t)(at % 8 * 120 + by), (int32_t)(at / 8 * 90 + 8),
                    60, 60).kind == NIT_DONE, "not placed");
-    nit_look(&server, frame, WIDTH * HEIGHT);
+    must(nit_look(&server, frame, WIDTH * HEIGHT).kind == NIT_DONE, "no look");
 }
 
 struct work {
@@ -135,6 +135,6 @@ int main(void)
     refresh(1000, 700);
     for (int k = 1; k < 4; k++)
         tell(&works[k]);
-    nit_close(&server);
+    must(nit_close(&server) == NIT_DONE, "not closed");
     return 0;
 }

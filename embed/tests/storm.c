@@ -165,8 +165,8 @@ static void does(struct storm *s)
 int main(int count, char **words)
 {
     static struct storm s;
-    uint64_t calls = count > 1 ? strtoull(words[1], NULL, 10) : 1000000;
-    s.random.at = count > 2 ? strtoull(words[2], NULL, 10) : 1;
+    uint64_t calls = count > 1 ? number_in(words[1]) : 1000000;
+    s.random.at = count > 2 ? number_in(words[2]) : 1;
     s.words = guarded_words(ROOM);
     s.frame = guarded_words(SIDE * SIDE);
     s.other = guarded_words(SIDE * SIDE);

@@ -119,13 +119,11 @@ static bool answer(struct client *client, const struct nit_reply *told)
                            .need = told->need, .left = told->left };
     if (told->kind == NIT_NO_EVENT)
         client->woken = false;
-    return send(client->socket, &reply, sizeof reply, MSG_DONTWAIT | MSG_NOSIGNAL) ==
-           sizeof reply;
+    return send(client->socket, &reply, sizeof reply, MSG_DONTWAIT | MSG_NOSIGNAL) == sizeof reply;
 }
 
 /* Serves one call. Answers why the client is to be closed, or NULL. */
-static const char *serve(struct host *host, uint32_t seat, const struct call *call,
-                         int descriptor)
+static const char *serve(struct host *host, uint32_t seat, const struct call *call, int descriptor)
 {
     struct client *client = &host->clients[seat];
     struct nit_reply reply;

@@ -179,11 +179,10 @@ void client_text(struct client *client, int32_t x, int32_t y, int32_t size, cons
 
 char client_letter(uint32_t code)
 {
-    static const char letters[] = "..1234567890-...qwertyuiop....asdfghjkl.....zxcvbnm..-...  ";
-    static const char known[] = "1234567890-qwertyuiopasdfghjklzxcvbnm ";
+    static const char letters[] = "..1234567890-...qwertyuiop....asdfghjkl.....zxcvbnm";
     if (code == 52)
         return '.';
     if (code == 57)
         return ' ';
-    return code < 51 && strchr(known, letters[code]) ? letters[code] : 0;
+    return code < sizeof letters - 1 && letters[code] != '.' ? letters[code] : 0;
 }

@@ -54,8 +54,7 @@ static struct nit_routed device_event(struct host *host, const SDL_Event *event)
         return code_event(host, key_code(&event->key), event->type == SDL_KEYDOWN);
     case SDL_MOUSEBUTTONDOWN:
     case SDL_MOUSEBUTTONUP:
-        return code_event(host, button_code(&event->button),
-                          event->type == SDL_MOUSEBUTTONDOWN);
+        return code_event(host, button_code(&event->button), event->type == SDL_MOUSEBUTTONDOWN);
     case SDL_MOUSEMOTION:
         return nit_motion(&host->server, (uint32_t)SDL_clamp(event->motion.x, 0, 65535),
                           (uint32_t)SDL_clamp(event->motion.y, 0, 65535));

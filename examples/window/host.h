@@ -33,7 +33,6 @@ struct host {
     struct nit_server server;
     struct client clients[SEATS];
     uint32_t words[MOST_WORDS]; /* the part that a client refreshes is copied to its place here */
-
     SDL_Window *window;
     SDL_Surface *picture;    /* over `frame` */
     uint32_t *frame;         /* as the last look left it */
@@ -47,7 +46,6 @@ struct host {
 
 /* Microseconds of a clock that only goes forward. */
 uint64_t now(void);
-
 /* True where no client is served: what the user points at stays where it is. */
 bool frozen(struct host *host);
 

@@ -1,7 +1,6 @@
-/* Processes and the seats that they sit on. Not proved.
- *
- * A label is what the host's words say, never what a client says of itself. A client knows its
- * socket and nothing else of the host: no other descriptor, no environment. */
+/* Processes and the seats that they sit on. Not proved. A label is what the host's words say, never
+ * what a client says of itself. A client knows its socket and nothing else of the host: no other
+ * descriptor, no environment. */
 #include "host.h"
 #include "protocol.h"
 #include <errno.h>
@@ -16,6 +15,15 @@
 
 /* ---- Starting */
 
+/* What a client has of the host: this socket and the standard error. False where memory ends. */
+static bool lend(posix_spawn_file_actions_t *actions, int socket)
+{
+    return posix_spawn_file_actions_addopen(actions, 0, "/dev/null", O_RDONLY, 0) == 0 &&
+           posix_spawn_file_actions_addopen(actions, 1, "/dev/null", O_WRONLY, 0) == 0 &&
+           posix_spawn_file_actions_adddup2(actions, socket, PROTOCOL_SOCKET) == 0 &&
+           posix_spawn_file_actions_addclosefrom_np(actions, PROTOCOL_SOCKET + 1) == 0;
+}
+
 /* Starts a program with this socket, the standard error and nothing else. Its number, or 0. */
 static pid_t spawn(const char *program, int socket)
 {
@@ -27,27 +35,26 @@ static pid_t spawn(const char *program, int socket)
     pid_t process = 0;
     sigemptyset(&none);
     posix_spawn_file_actions_init(&actions);
-    posix_spawn_file_actions_addopen(&actions, 0, "/dev/null", O_RDONLY, 0);
-    posix_spawn_file_actions_addopen(&actions, 1, "/dev/null", O_WRONLY, 0);
-    posix_spawn_file_actions_adddup2(&actions, socket, PROTOCOL_SOCKET);
-    posix_spawn_file_actions_addclosefrom_np(&actions, PROTOCOL_SOCKET + 1);
     posix_spawnattr_init(&attributes);
     posix_spawnattr_setflags(&attributes, POSIX_SPAWN_SETSIGMASK);
     posix_spawnattr_setsigmask(&attributes, &none);
-    int refused = posix_spawn(&process, program, &actions, &attributes, words, nothing);
+    int refused = !lend(&actions, socket) ? ENOMEM :
+        posix_spawn(&process, program, &actions, &attributes, words, nothing);
     posix_spawnattr_destroy(&attributes);
     posix_spawn_file_actions_destroy(&actions);
     errno = refused;
     return refused ? 0 : process;
 }
 
-/* The seat that the library gives to this label, but no seat that is kept for another one. */
+/* The seat that the library gives to this label: first one that is kept for it, and none that is
+ * kept for another one. */
 static uint32_t sit_down(struct host *host, const char *label, size_t length)
 {
-    for (uint32_t seat = 0; seat < SEATS; seat++) {
+    for (uint32_t turn = 0; turn < 2 * SEATS; turn++) {
+        const uint32_t seat = turn % SEATS;
         const struct client *client = &host->clients[seat];
         bool own = strlen(client->label) == length && memcmp(client->label, label, length) == 0;
-        if (client->kept && !own)
+        if (client->kept ? !own : turn < SEATS)
             continue;
         if (nit_seat(&host->server, seat, label, length) == NIT_DONE)
             return seat;

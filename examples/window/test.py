@@ -360,13 +360,16 @@ def measure(screen, programs):
 def main():
     """Runs what the words name."""
     words = sys.argv[1:]
-    if not words or words[0] == "--help":
+    others = {"--measure": measure, "--pictures": pictures}
+    other = others.get(words[0]) if words else None
+    is_known = len(words) == 2 if other else words and all(name in CASES for name in words[1:])
+    if not is_known or words[0] == "--help":
         print(__doc__)
-        return 0 if words else 2
-    screen = Screen()
+        return 0 if words[:1] == ["--help"] else 2
+    name, screen = words[0], Screen()
     try:
-        if words[0] in ("--measure", "--pictures"):
-            (measure if words[0] == "--measure" else pictures)(screen, words[1])
+        if other:
+            other(screen, words[1])
             return 0
         for name in words[1:] or CASES:
             begin = time.monotonic()

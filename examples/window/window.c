@@ -1,9 +1,8 @@
 /* A host of the Nitpicker core: a window on the desk, whose clients are processes.
  *
  * THIS PROGRAM IS AN EXAMPLE, AND NOT PROVED. What is proved is the library below it, and who sees
- * and gets what is decided there: which pixel is whose, what the modes show, to whom a key or a
- * click goes, what a client's call may do. Here is what a library cannot do: a window, the
- * devices, processes and their sockets.
+ * and gets what is decided there: whose a pixel is, what the modes show, where a key or a click
+ * goes, what a call may do. Here is the rest: a window, devices, processes and their sockets.
  *
  *     window [--size=WxH] [--xray=KEY] [--kill=KEY] [^]NAME=PROGRAM ... (see README.md) */
 #include "host.h"
@@ -36,7 +35,8 @@ static bool open_server(struct host *host, const char *size, char **words, int c
 {
     struct nit_seat_plan seats[SEATS];
     struct nit_plan plan = { 1024, 768, 1, SEATS, seats };
-    if (size && sscanf(size, "%ux%u", &plan.width, &plan.height) != 2)
+    char more;
+    if (size && sscanf(size, "%ux%u%c", &plan.width, &plan.height, &more) != 2)
         return false;
     for (int seat = 0; seat < SEATS; seat++) {
         bool front = seat < count && words[seat][0] == '^';
@@ -95,10 +95,9 @@ static bool open_signals(struct host *host)
     sigaddset(&some, SIGCHLD);
     sigaddset(&some, SIGTERM);
     sigaddset(&some, SIGINT);
-    sigprocmask(SIG_BLOCK, &some, NULL);
-    host->signals = signalfd(-1, &some, SFD_CLOEXEC | SFD_NONBLOCK);
     host->listens = true;
-    return host->signals >= 0;
+    host->signals = signalfd(-1, &some, SFD_CLOEXEC | SFD_NONBLOCK);
+    return sigprocmask(SIG_BLOCK, &some, NULL) == 0 && host->signals >= 0;
 }
 
 /* ---- A turn */

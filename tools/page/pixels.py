@@ -239,7 +239,7 @@ class Scene(model.Scene):
 
     def label_place(self, view, row_bands):
         text = self.label_of(view)
-        x, y, width, height = view.rect
+        _, y, _, height = view.rect
         room, tried = 4 * len(text) + 1, None
         for row in range(max(self.bar, y), min(self.height, y + height) - 6):
             bands = list(dict.fromkeys(row_bands[row : row + 7]))

@@ -1,18 +1,12 @@
 """What a page shows of a run: its steps, their states, its pictures, and what was checked."""
-import importlib.machinery
-import importlib.util
-import re
 import sys
 
-import expected
 import model
 import runs
 from page.frames import Frames, check_picture, cut
 from page.png import size_of
 from page.replay import Replay, journal_lines, with_clips
 from page.sources import Fault
-
-EVENTS_END = re.compile(r"(lost|left|state) (\S+)\Z")
 
 
 class Run:
@@ -142,7 +136,7 @@ class Run:
 
     def check_film(self, region):
         """That the film is the region of each picture."""
-        film = load_film()
+        film = runs.tool("film")
         reader = film.Reader(self.file("capture.ncap"))
         try:
             size = film.read_header(reader)
@@ -181,13 +175,6 @@ class Run:
 
 def events_name(label):
     return f"events-{label}.txt"
-
-
-def load_film():
-    loader = importlib.machinery.SourceFileLoader("film", str(runs.TOP / "tools" / "film"))
-    module = importlib.util.module_from_spec(importlib.util.spec_from_loader("film", loader))
-    loader.exec_module(module)
-    return module
 
 
 def tell(number, count):

@@ -7,7 +7,6 @@ import tempfile
 import unittest
 from pathlib import Path
 
-import expected
 import model
 import runs
 from page import build, test_runs
@@ -335,7 +334,7 @@ class BrowserTest(unittest.TestCase):
                 self.assertEqual(self.seen(), size_of(run.files[name])[2])
 
     def test_clipboard_film_and_inner_run(self):
-        [run] = self.open("clip")
+        [_] = self.open("clip")
         self.assertEqual(self.count("#marks .mark.clip"), 4)
         self.assertIn("clipboard“hi”", self.text("#state"))
         self.open("capture")

@@ -159,7 +159,7 @@ def read_number(reader, kind, name):
 
 def number_fault(word, kind, name):
     """What is wrong with a word that is to be a number, and what is right."""
-    least, most = NUMBERS[kind]
+    least, _ = NUMBERS[kind]
     right = bounds_told(kind)
     if re.fullmatch(r"-?0+[0-9]+", word):
         bare = word.lstrip("-").lstrip("0") or "0"

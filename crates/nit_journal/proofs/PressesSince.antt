@@ -3,15 +3,17 @@ use Rattle.std.proofs.Common.{Bool, IfSome, List, None, Option, Some, [], ap, fa
 use Rattle.std.proofs.Common.{sym, true, ℕ, ◌++◌, ◌==◌, ◌∙◌, ◌∷◌, ◌≡◌, if◌then◌else◌}
 use Rattle.nit_journal.proofs.Basics.{Agrees, AreLive, AreSteps, Entry, Gets, InputState, IsDown}
 use Rattle.nit_journal.proofs.Basics.{IsLive, Observation, Opens, Serves, State, Step, after}
-use Rattle.nit_journal.proofs.Basics.{eqb-true, first_input, opened, projection, session, since}
+use Rattle.nit_journal.proofs.Basics.{after_steps, eqb-true, first_input, opened, projection}
+use Rattle.nit_journal.proofs.Basics.{session, since}
 use Rattle.nit_journal.proofs.Basics.{since_opening}
 use Rattle.nit_events.specs.declared.event.Event.TheVariants as event
 use Rattle.nit_events.specs.declared.event.Item.TheVariants as item
 use Rattle.nit_events.specs.declared.event.Status.TheVariants as status
+use Rattle.nit_events.specs.Input
 use Rattle.nit_journal.proofs.JournalFronts.{legal_alone}
 use Rattle.nit_journal.proofs.LiveAlong.{live_after, live_opened}
 use Rattle.nit_journal.proofs.PressLemmas.{Holds}
-use Rattle.nit_journal.proofs.HeldCodes.{Paired, down_after, down_both, paired_both}
+use Rattle.nit_journal.proofs.HeldCodes.{Paired, down_after, down_both, down_is, paired_both}
 use Rattle.nit_journal.proofs.PressLemmas.{paired_from, still_held}
 use Rattle.nit_journal.proofs.HeldCodes.{release_down}
 use Rattle.nit_journal.proofs.ProjectionLemmas.{projection_both}
@@ -43,8 +45,8 @@ module _ (x k : ℕ) where
       }
 
   along : (s : State) (steps : List Step) (entries : List Entry) → AreSteps s steps → AreLive s → IsPaired s entries
-      → Paired k false (projection x (since x entries steps))
-  along s [] entries are live h = h.paired
+      → IsPaired (after_steps s steps) (since x entries steps)
+  along s [] entries are live h = h
   along s (Serves e ∷ rest) entries are live h =
       along (after s e) rest (entries ++ e ∷ []) are.1 (live_after s are.0.0 e live are.0.1)
       (one_more s are.0.0 e entries are.0.1 h)
@@ -53,8 +55,8 @@ module _ (x k : ℕ) where
     where
       go : (b : Bool) → (sid == x) ≡ b
           → ((into : List Entry) → IsPaired (opened sid label s) into
-          → Paired k false (projection x (since x into rest)))
-          → Paired k false (projection x (if b then since x [] rest else since x entries rest))
+          → IsPaired (after_steps (opened sid label s) rest) (since x into rest))
+          → IsPaired (after_steps (opened sid label s) rest) (if b then since x [] rest else since x entries rest)
       go true e later =
           later [] (record {
             paired = tt;
@@ -63,14 +65,24 @@ module _ (x k : ℕ) where
           })
       go false e later = later entries (record { paired = h.paired; down = h.down })
 
+  -- where nobody has had any input nothing is received
+  begun : (s : State) → s.input ≡ first_input → IsPaired s []
+  begun s first = record {
+    paired = tt;
+    down = λ t. let nobody : s.input.receiver ≡ None =
+        ap (λ (i : InputState). i.receiver) first in let some = t.0 in cc;
+  }
+
 pub releases_since : (s : State) (steps : List Step) (x k : ℕ) (before rest : List Observation) → AreLive s
     → s.input ≡ first_input → AreSteps s steps
     → projection x (since_opening x steps) ≡ before ++ Gets (item.Event (event.Release k)) ∷ rest → IsDown k before
 releases_since s steps x k before rest live first are is =
     release_down k (projection x (since_opening x steps)) before rest
-    (along x k s steps [] are live
-    (record {
-      paired = tt;
-      down = λ t. let nobody : s.input.receiver ≡ None =
-          ap (λ (i : InputState). i.receiver) first in let some = t.0 in cc;
-    })) is
+    (along x k s steps [] are live (begun x k s first)).paired is
+
+pub receiver_holds_since : (s : State) (steps : List Step) (x k : ℕ) → AreLive s → s.input ≡ first_input
+    → AreSteps s steps → let now = after_steps s steps in now.input.receiver ≡ Some x
+    → Input.is_held now.input k ≡ true → IsDown k (projection x (since_opening x steps))
+receiver_holds_since s steps x k live first are = λ receives held.
+    down_is k false [] (projection x (since_opening x steps)) (λ e. cc)
+    ((along x k s steps [] are live (begun x k s first)).down (receives, held))

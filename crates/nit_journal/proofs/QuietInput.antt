@@ -8,6 +8,7 @@ use Rattle.nit_journal.proofs.Basics.{InputState, Kill, KillsPointed, Mode, Repl
 use Rattle.nit_journal.proofs.Basics.{TellsFocus, TellsLeave, Xray, after, clicks_on}
 use Rattle.nit_journal.proofs.Basics.{first_state, forget, input_after_call, is_accepted, is_key}
 use Rattle.nit_journal.proofs.Basics.{is_mode_key, not, replay}
+use Rattle.nit_journal.proofs.Basics.{Opens, Serves, Step, after_steps, first_input, opened}
 use Rattle.nit_journal.proofs.Basics.{replay_from, under_pointer}
 use Rattle.nit_journal.specs.State.{route}
 use Rattle.nit_events.specs.declared.event.Event.TheVariants as event
@@ -146,6 +147,14 @@ quiet_after s (entry.Input dev routed) q = quiet_input s dev q
 quiet_after s (entry.Shot n) q = q
 quiet_after s entry.Final q = q
 
+quiet_steps : (s : State) (steps : List Step) → IsQuiet s.input → IsQuiet (after_steps s steps).input
+quiet_steps s [] q = q
+quiet_steps s (Serves e ∷ rest) q = quiet_steps (after s e) rest (quiet_after s e q)
+quiet_steps s (Opens sid label ∷ rest) q = quiet_steps (opened sid label s) rest q
+
+quiet_first_input : (i : InputState) → i ≡ first_input → IsQuiet i
+quiet_first_input i is = quiet_none i (ap (λ (j : InputState). j.receiver) is)
+
 quiet_along : (s : State) (journal : List Entry) → IsQuiet s.input → IsQuiet (replay_from s journal).input
 quiet_along s [] q = q
 quiet_along s (e ∷ rest) q = quiet_along (after s e) rest (quiet_after s e q)
@@ -223,22 +232,42 @@ xray_not_flat m is flat = cc
 kill_not_flat : (m : Mode) → m ≡ Kill → m ≢ Flat
 kill_not_flat m is flat = cc
 
+in_xray : (s : State) (dev : Device) → IsQuiet s.input → s.input.mode ≡ Xray
+    → All (TellsFocus s) (route s.config s.input s.stack dev).deliveries
+in_xray s dev quiet is =
+    let shut = xray_not_flat s.input.mode is in
+    shut_goes (TellsFocus s) s dev shut (quiet.shut shut)
+    (λ k. first_in_xray s.input.mode (clicks_on s.config (under_pointer s)) (under_pointer s)
+    (Input.with_held s.input k) k is)
+
+in_kill : (s : State) (dev : Device) → IsQuiet s.input → s.input.mode ≡ Kill
+    → All (KillsPointed s) (route s.config s.input s.stack dev).deliveries
+in_kill s dev quiet is =
+    let shut = kill_not_flat s.input.mode is in
+    shut_goes (KillsPointed s) s dev shut (quiet.shut shut)
+    (λ k. first_in_kill s.input.mode (clicks_on s.config (under_pointer s)) (under_pointer s)
+    (Input.with_held s.input k) k is)
+
 pub xray_tells : (config : Configuration) (journal : List Entry) (dev : Device)
     → let s = replay config journal in s.input.mode ≡ Xray
     → All (TellsFocus s) (route s.config s.input s.stack dev).deliveries
-xray_tells config journal dev = λ is.
-    let s = replay config journal in
-    let shut = xray_not_flat s.input.mode is in
-    shut_goes (TellsFocus s) s dev shut ((quiet_behind config journal).shut shut)
-    (λ k. first_in_xray s.input.mode (clicks_on s.config (under_pointer s)) (under_pointer s)
-    (Input.with_held s.input k) k is)
+xray_tells config journal dev = in_xray (replay config journal) dev (quiet_behind config journal)
 
 pub kill_tells : (config : Configuration) (journal : List Entry) (dev : Device)
     → let s = replay config journal in s.input.mode ≡ Kill
     → All (KillsPointed s) (route s.config s.input s.stack dev).deliveries
-kill_tells config journal dev = λ is.
-    let s = replay config journal in
-    let shut = kill_not_flat s.input.mode is in
-    shut_goes (KillsPointed s) s dev shut ((quiet_behind config journal).shut shut)
-    (λ k. first_in_kill s.input.mode (clicks_on s.config (under_pointer s)) (under_pointer s)
-    (Input.with_held s.input k) k is)
+kill_tells config journal dev = in_kill (replay config journal) dev (quiet_behind config journal)
+
+-- ---- along any steps
+
+pub xray_tells_along : (s : State) (steps : List Step) (dev : Device) → s.input ≡ first_input
+    → let now = after_steps s steps in now.input.mode ≡ Xray
+    → All (TellsFocus now) (route now.config now.input now.stack dev).deliveries
+xray_tells_along s steps dev first =
+    in_xray (after_steps s steps) dev (quiet_steps s steps (quiet_first_input s.input first))
+
+pub kill_tells_along : (s : State) (steps : List Step) (dev : Device) → s.input ≡ first_input
+    → let now = after_steps s steps in now.input.mode ≡ Kill
+    → All (KillsPointed now) (route now.config now.input now.stack dev).deliveries
+kill_tells_along s steps dev first =
+    in_kill (after_steps s steps) dev (quiet_steps s steps (quiet_first_input s.input first))

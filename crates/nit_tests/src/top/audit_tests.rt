@@ -1,8 +1,8 @@
 //! Audits of journals by the configuration and the scripts of two clients.
 
 use crate::checks::same;
-use crate::top::case::{alone, assert_cases, files, over, texts};
-use crate::top::table::{Case, lines_of};
+use crate::top::cases::table::{Case, lines_of};
+use crate::top::cases::{alone, assert_cases, files, over, texts};
 use std::alloc::Global;
 use std::process::Abort;
 use std::sync::Wait;

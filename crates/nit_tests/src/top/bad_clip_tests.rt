@@ -1,6 +1,6 @@
 //! Clip scripts that are refused.
 
-use crate::top::case::assert_cases;
+use crate::top::cases::assert_cases;
 
 const CASES: &str = r#"
 

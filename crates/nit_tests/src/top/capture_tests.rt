@@ -1,6 +1,6 @@
 //! Films of the run of two clients.
 
-use crate::top::case::assert_cases;
+use crate::top::cases::assert_cases;
 
 const CASES: &str = r#"
 

@@ -1,6 +1,6 @@
 //! Runs with clip scripts: the worked rows, clip scripts that are refused, and puts that are.
 
-use crate::top::case::assert_cases;
+use crate::top::cases::assert_cases;
 
 const WORKED: &str = r#"
 

@@ -1,8 +1,8 @@
 //! The desk of three clients on a screen of 1024 by 768, each on a thread of its own.
 
 use crate::checks::{found, must, same};
-use crate::top::case::{assert_cases, bytes_of, files, over};
-use crate::top::table::{Case, lines};
+use crate::top::cases::table::{Case, lines};
+use crate::top::cases::{assert_cases, bytes_of, files, over};
 use nit_store::MemoryStore;
 use std::alloc::Global;
 use std::process::Abort;

@@ -1,16 +1,14 @@
 //! Audits of three journals, and of each edit of them.
 //!
-//! Of a case, `edits EDITS` has a line for each edit of its journal: the entry that is named then,
-//! what is done to which line (`out`, `twice`, `swapped` with the next one, or `says`), and for
-//! `says` what the line says then. Of two lines out of one script, or a line before the last
+//! `cases` says how an edit is written. Of two lines out of one script, or a line before the last
 //! picture, that are swapped, the first is the bad one; of lines in two phases it is the second, as
 //! it is of a line that stands there twice. Where a line is taken out, it is the next line of the
 //! same script, or the last picture where there is none, and where that is taken out, the place
 //! behind all.
 
 use crate::checks::{fail, found, must, same};
-use crate::top::case::{assert_alone, assert_cases, bytes_of, files};
-use crate::top::table::{Case, lines_of, number, worded};
+use crate::top::cases::table::{Case, lines_of, number, worded};
+use crate::top::cases::{assert_alone, assert_cases, bytes_of, files};
 use std::alloc::Global;
 use std::process::Abort;
 

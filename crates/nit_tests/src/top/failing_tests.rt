@@ -1,9 +1,9 @@
 //! Stores of which calls fail.
 
 use crate::checks::{found, must, same};
-use crate::top::case::{assert_cases, bytes_of, files, over};
-use crate::top::journals::assert_journal;
-use crate::top::table::{Case, lines_of};
+use crate::top::cases::journals::assert_journal;
+use crate::top::cases::table::{Case, lines_of};
+use crate::top::cases::{assert_cases, bytes_of, files, over};
 use nit_store::MemoryStore;
 use nit_top::Done;
 use std::alloc::Global;

@@ -1,8 +1,8 @@
 //! Runs with each client on a thread of its own, at gates that see which thread has come how far.
 
 use crate::checks::{must, same};
-use crate::top::case::assert_case;
-use crate::top::table::{Case, lines_of};
+use crate::top::cases::assert_case;
+use crate::top::cases::table::{Case, lines_of};
 use nit_actor::Gate;
 use std::alloc::Global;
 use std::process::Abort;

@@ -1,7 +1,7 @@
 //! Generated runs. Whatever the number, and whatever the threads do, they say the same line.
 
-use crate::top::case::{Files, assert_cases, assert_store, over, owned};
-use crate::top::table::{Case, lines_of};
+use crate::top::cases::table::{Case, lines_of};
+use crate::top::cases::{Files, assert_cases, assert_store, over, owned};
 use nit_store::MemoryStore;
 use std::alloc::Global;
 use std::process::Abort;

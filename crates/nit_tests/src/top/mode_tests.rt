@@ -1,6 +1,6 @@
 //! Pictures of the X-ray mode and of the status bar, and runs in which the user locks a client out.
 
-use crate::top::case::assert_cases;
+use crate::top::cases::assert_cases;
 
 const CASES: &str = r#"
 

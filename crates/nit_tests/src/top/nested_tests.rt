@@ -1,6 +1,6 @@
 //! A run within a client: the run of two clients, shown by one client of a screen of the same size.
 
-use crate::top::case::assert_cases;
+use crate::top::cases::assert_cases;
 
 const CASES: &str = r#"
 

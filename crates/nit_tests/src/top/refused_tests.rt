@@ -1,6 +1,6 @@
 //! Scripts that are refused, scripts that just are not, and a script that is not there.
 
-use crate::top::case::assert_cases;
+use crate::top::cases::assert_cases;
 
 /// A tab and a return, which the other table cannot show.
 const SPACES: &str = "

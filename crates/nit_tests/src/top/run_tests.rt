@@ -1,7 +1,7 @@
 //! Runs with each client on a thread of its own. Whatever the threads do, these cases come out the
 //! same.
 
-use crate::top::case::assert_cases;
+use crate::top::cases::assert_cases;
 
 const PUTS: &str = r#"
 

@@ -1,8 +1,8 @@
 //! Pictures of scripts that are taken.
 
 use crate::checks::must;
-use crate::top::case::{Came, alone, assert_came, assert_cases, assert_end, files, words};
-use crate::top::table::{Case, lines_of};
+use crate::top::cases::table::{Case, lines_of};
+use crate::top::cases::{Came, alone, assert_came, assert_cases, assert_end, files, words};
 use nit_store::{NeverFails, have_different_names};
 use nit_top::Done;
 use std::alloc::Global;

@@ -1,6 +1,6 @@
 //! What clients take of what the user's devices deliver, by whole runs.
 
-use crate::top::case::assert_cases;
+use crate::top::cases::assert_cases;
 
 const CASES: &str = r#"
 

@@ -1,8 +1,8 @@
 //! The run of two clients on a screen of 8 by 4: a red view of 4 by 2, and a blue one that first
 //! stands in front of it and then moves away.
 
-use crate::top::case::{assert_alone, assert_cases, files};
-use crate::top::table::{Case, lines, number, worded};
+use crate::top::cases::table::{Case, lines, number, worded};
+use crate::top::cases::{assert_alone, assert_cases, files};
 use std::alloc::Global;
 use std::process::Abort;
 

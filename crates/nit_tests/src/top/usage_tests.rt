@@ -1,6 +1,6 @@
 //! Words that are no command, and those that just are one.
 
-use crate::top::case::assert_cases;
+use crate::top::cases::assert_cases;
 
 const CASES: &str = r#"
 

@@ -1,6 +1,6 @@
 //! Pictures of views: where the buffer lies in them, and which of them stands in front.
 
-use crate::top::case::assert_cases;
+use crate::top::cases::assert_cases;
 
 const CASES: &str = r#"
 

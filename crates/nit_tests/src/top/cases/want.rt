@@ -1,15 +1,8 @@
-//! What a file is to hold, by a line of a case.
-//!
-//! `holds NAME TEXT` is the whole text, `bytes NAME TEXT` each byte in two hexadecimal digits, and
-//! `picture NAME W H ROWS` a picture of this width and height, in whose rows a letter is a colour.
-//! Less is said by `is NAME long N`, a number of bytes; `is NAME among LETTERS`, a picture whose
-//! pixels have some of these colours; `is NAME all BYTE FRONT`, the same byte all over behind so
-//! many; `is NAME one-of TEXT..`, one of these texts; `is NAME begins TEXT`, bytes that begin so;
-//! and `is NAME marked N MARK`, so many bytes with this mark in hexadecimal digits.
+//! What a file is to hold, by a line of a case. `cases` has the language.
 
 use crate::checks::{fail, found, same};
-use crate::top::case::bytes_of;
-use crate::top::table::{Case, number, worded};
+use crate::top::cases::bytes_of;
+use crate::top::cases::table::{Case, number, worded};
 use std::alloc::Global;
 use std::process::Abort;
 

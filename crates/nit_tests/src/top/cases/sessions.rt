@@ -2,7 +2,7 @@
 //! is routed to them.
 
 use crate::checks::same;
-use crate::top::table::Case;
+use crate::top::cases::table::Case;
 use nit_events::{Call, Delivery, Entry, Event, Item, Reply};
 use std::alloc::Global;
 use std::process::Abort;

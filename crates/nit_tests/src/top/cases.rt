@@ -1,18 +1,71 @@
-//! A command over a store in memory, and what comes of it: whether a case is so.
+//! Cases of the top call, and the language in which they are written.
 //!
-//! Of a case's lines `words WORD, ..` is the command. `file NAME TEXT` is a file that is there
-//! before, and `more NAME TEXT` adds to it. `fails N ..` has the numbers of the store's calls that
-//! fail. `ends STATUS TEXT` is how the command ends, and what is said. `asked TEXT` has the names
-//! that the store is asked for, and `there TEXT` those of the files that are there afterwards, each
-//! in order. `entries N` says how many the journal has. Of several lines of a kind, or of one name
-//! of a file, the last one counts. Any other line wants something of a file or of the journal
-//! (`want`, `journals`), but for `cut FIRST LAST` and `edits EDITS`, which `two_tests` and
-//! `edit_tests` read.
+//! **A table** is a constant text of a test, which gives it to `assert_cases`. It has blocks, each
+//! with one empty line before it and behind it; behind two it is not read. A block is a head and
+//! lines. `case TITLE` is a case, with a title or without. `base NAME` has lines with which cases
+//! begin. `text NAME` is a text; those of `shared` are for all tables, and a table's own comes
+//! first.
+//!
+//! **A text** has lines and pieces. Behind `|` and a blank stands a line: `| view`. Behind `=`
+//! stands a piece, once or as often as a number before it says: `=nope`, `6 =take\n`. In both `\n`
+//! ends a line, and `{3+20}` is 3 the first time, then 23, 43 and so on; neither can stand for
+//! itself. TEXT below is the name of a text, or one piece. A piece among several TEXT, or for ROWS,
+//! has no blank.
+//!
+//! **A case** needs `words`, `ends`, `asked` and `there`. The lines of its base come first. Of
+//! several lines with the same first word the last one counts, and of `file` the last for each
+//! name; of `more`, and of the words from `whole` to `is`, each one counts. A line whose first word
+//! is not here fails the test, as does what cannot be read. The words are done once at an open
+//! gate, and where they start no thread once more on one; both times all comes out so.
+//!
+//! What goes in:
+//!
+//! - `with NAME`: the case has this base; a base has none. `with still`
+//! - `words WORD, ..`: the command; `words` alone has no word. `words still, 8, 4, a.nit`
+//! - `file NAME TEXT`: a file that is there before. `file a.nit A`, `file b.nit =view\n`
+//! - `more NAME TEXT`: adds to a file that a line above names. `more a.nit 6 =take\n`
+//! - `fails N ..`: the calls of the store that fail; its reads, puts and sayings are counted
+//!   together from 1. `fails 1 2`
+//!
+//! What comes of it:
+//!
+//! - `ends STATUS TEXT`: the status, and all that is said. `ends 2 USAGE`
+//! - `asked TEXT`: the names of all reads and puts, in order. `asked =a.nit final.ppm`
+//! - `there TEXT`: the names of the files that are there at the end: those from before, and then
+//!   the others in the order of their first put. `there =a.nit`
+//! - `entries N`: so many are in the journal. `entries 9`
+//! - `whole TEXT ..`: just these are, spelled as in a journal's text. `whole PLACED DRAG_ENTRIES`
+//! - `replies SID TEXT`: what this session is answered, one reply a line, `?` where it is an event;
+//!   the journal ends with the last picture. `replies 1 REPLIES`
+//! - `sessions N`: each reply is the one that its session, of so many, gives by itself where it
+//!   refuses nothing. `sessions 3`
+//! - `holds NAME TEXT`: the whole file. `holds events-a.txt EVENTS`
+//! - `bytes NAME TEXT`: the same, each byte as two hexadecimal digits. `bytes a.ncap =4E 43 41 50`
+//! - `picture NAME W H ROWS`: the same, as a picture. `picture final.ppm 8 1 =RRRR....` A letter of
+//!   the text is a colour: `R`, `G`, `B` red, green, blue; `K` black; `W` white; `M` the grey of an
+//!   outline; `r`, `g`, `b` the first three at half their light; `n` the bare screen at half its
+//!   light; `t` blue that is tinted. What is none of these, as `.`, is the bare screen.
+//! - `is NAME WANT`: less of it. WANT is `long N`, a number of bytes; `begins TEXT`, its front;
+//!   `one-of TEXT ..`, one of these as a whole; `among LETTERS`, each pixel behind a front of 13
+//!   bytes has one of these colours; `all BYTE FRONT`, each byte behind so many is this one; or
+//!   `marked N MARK`, so many bytes and their `mark` (`want`). `is g0.nit marked 33078 669A12F7`
+//!
+//! Two lines count in one test each, and say nothing elsewhere. `cut FIRST LAST` (`two_tests`): so
+//! it comes out with the second file cut to each of these lengths. `edits TEXT` (`edit_tests`): a
+//! line is an edit of `journal.txt`, behind the entry that the audit names then: `4 out 4` takes
+//! line 4 out, `2 twice 1` doubles one, `4 swapped 3` swaps it with the next, and by `9 says 8
+//! final` line 8 says so.
+
+pub mod journals;
+mod sessions;
+mod shared;
+pub mod table;
+mod want;
 
 use crate::checks::{fail, must, same};
-use crate::top::journals::assert_journal;
-use crate::top::table::{Case, lines, number, worded};
-use crate::top::want::assert_file;
+use crate::top::cases::journals::assert_journal;
+use crate::top::cases::table::{Case, lines, number, worded};
+use crate::top::cases::want::assert_file;
 use nit_actor::{Gate, Open};
 use nit_store::{MemoryStore, Store, have_different_names};
 use nit_top::{Done, nitpicker, nitpicker_alone, starts_threads};

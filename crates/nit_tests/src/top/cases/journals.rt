@@ -1,14 +1,9 @@
-//! How the journal of a case is, by a line of it.
-//!
-//! `whole TEXT..` says that it has just the entries that these texts spell, one behind the other.
-//! `replies SID TEXT` is what this session is answered, one reply a line, where the last entry is
-//! the last picture. `sessions N` says that each reply is the one that its session, of so many,
-//! gives by itself.
+//! How the journal of a case is, by a line of it. `cases` has the language.
 
 use crate::checks::{must, same};
-use crate::top::case::{assert_text, owned};
-use crate::top::sessions::assert_sessions;
-use crate::top::table::{Case, number, worded};
+use crate::top::cases::sessions::assert_sessions;
+use crate::top::cases::table::{Case, number, worded};
+use crate::top::cases::{assert_text, owned};
 use nit_events::{Entry, Reply};
 use nit_report::parse_journal;
 use std::alloc::Global;

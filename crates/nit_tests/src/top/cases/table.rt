@@ -1,14 +1,9 @@
-//! Tables of cases: texts of blocks, with an empty line in front of each and behind it.
-//!
-//! A block is a head and lines. `text NAME` is a text: behind `|` stands one line of it, and behind
-//! `=` a piece, as often as the number in front of it says. `base NAME` has lines that some cases
-//! begin with. `case` is a case, with a title or none; its line `with NAME` says which base it has.
-//! What the other lines of a case mean is said in `case`, `want` and `journals`.
+//! Tables, as text: their blocks and texts. `cases` has the language.
 //!
 //! Where a table cannot be read so, the test fails, and says what it is that it cannot read.
 
 use crate::checks::found;
-use crate::top::shared::TEXTS;
+use crate::top::cases::shared::TEXTS;
 use std::alloc::Global;
 use std::fmt::Write;
 use std::process::Abort;
