@@ -43,7 +43,8 @@ pub use Rattle.std.proofs.lemmas.Slice.Eq.{bytes_eq-Decides}
 pub use Rattle.nit_setup.specs.Below.{Global, Name, Region, Scripts, idle_user, run_files}
 pub use Rattle.nit_setup.specs.FilesRead.{AllFiles, AllScripts, AreAllFiles, AreAllOuterFiles}
 pub use Rattle.nit_setup.specs.FilesRead.{AreAllScripts, AreFirstClips, AreFirstFiles, BothFiles}
-pub use Rattle.nit_setup.specs.FilesRead.{FilesRead, FirstFiles, HasRead, InnerFiles, IsOuter, NoFile}
+pub use Rattle.nit_setup.specs.FilesRead.{FilesRead, FirstFiles, HasRead, InnerFiles, IsOuter}
+pub use Rattle.nit_setup.specs.FilesRead.{NoFile}
 pub use Rattle.nit_setup.specs.FilesRead.{OuterFiles, first_names, names_read, next_name}
 pub use Rattle.nit_setup.specs.JournalFiles.{IsNoJournalText}
 pub use Rattle.nit_setup.specs.Judgement.{reads}
@@ -52,6 +53,6 @@ pub use Rattle.nit_setup.specs.Reading.{HasReadScripts, ReadScripts, StoppedBy}
 pub use Rattle.nit_setup.specs.SetupRead.{AuditRead, BothRead, ClipSetupRead, ConfigRead}
 pub use Rattle.nit_setup.specs.SetupRead.{HasReadJournal, HasReadPicture, IsLoaded, IsOuterLoaded}
 pub use Rattle.nit_setup.specs.SetupRead.{OuterRunRead, PictureRead, ReadsTo, RunRead, SetupRead}
-pub use Rattle.nit_setup.specs.SetupRead.{StoppedReading, clips_setup_in, files_in, setup_in}
+pub use Rattle.nit_setup.specs.SetupRead.{StoppedReading, setup_with_clips, files_in, setup_in}
 pub use Rattle.nit_setup.specs.declared.read.Loaded.{Loaded}
 pub use Rattle.std.specs.Prelude.{slice_get}

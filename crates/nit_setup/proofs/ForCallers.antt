@@ -4,3 +4,4 @@ pub use Rattle.nit_setup.proofs.Misfits.{all_wanted, by_length, one_wanted, othe
 pub use Rattle.nit_setup.proofs.RunnableSetups.{all_so}
 pub use Rattle.nit_setup.proofs.ScriptsRead.{phases_are, told_so, told_so_both}
 pub use Rattle.nit_setup.proofs.ShortNames.{other_short}
+pub use Rattle.nit_setup.proofs.JournalRead.{journal_stopped}

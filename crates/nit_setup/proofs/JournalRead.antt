@@ -20,8 +20,8 @@ text_fault s bytes fault.TooLong r = absurd r
 text_fault s bytes fault.PhasesDiffer r = absurd r
 text_fault s bytes fault.FramesTooLong r = absurd r
 
-module _ (name journal : List ℕ) (old mid : StoreModel) (s : Setup) (asked : mid ≡ asking_all old (name ∷ names_in s.config))
-    (all : AreAllScripts name old.files s) where
+module _ (name journal : List ℕ) (old mid : StoreModel) (s : Setup)
+    (asked : mid ≡ asking_all old (name ∷ names_in s.config)) (all : AreAllScripts name old.files s) where
   abbrev audit : Command
   audit = Audit name journal
 
@@ -29,7 +29,8 @@ module _ (name journal : List ℕ) (old mid : StoreModel) (s : Setup) (asked : m
   pub journal_stopped : (Faulty : List ℕ → Fault → Type 0)
       → ((bytes : List ℕ) (f : Fault) → Faulty bytes f → IsJournalFault s bytes f)
       → (new : StoreModel) (stop : Stop)
-      → name_text audit stop.name ≡ journal → StoppedAt Faulty mid journal new stop.end → StoppedReading audit old new stop
+      → name_text audit stop.name ≡ journal → StoppedAt Faulty mid journal new stop.end
+      → StoppedReading audit old new stop
   journal_stopped Faulty faulty new stop is h =
       stopped_reading audit old (AllScripts s) all journal refl Faulty new
       (λ f p. told_so_both (λ files. AreSetup name files s) (λ files. Faulty (bytes_of journal files) f)

@@ -2,7 +2,8 @@
 use Rattle.std.proofs.Common.{◌≡◌, ◌∙◌, ℕ, List, [], ◌∷◌, ◌++◌, Option, Some, None, refl, sym, ap}
 use Rattle.std.proofs.Common.{subst, arith}
 use Rattle.nit_setup.proofs.Basics.{AreLines, AreOuterScripts, Fault, File, FitsLine, IfSome}
-use Rattle.nit_setup.proofs.Basics.{IsNameOf, IsOuterFault, IsOuterScript, Line, MayShowFrames, OuterSoFar}
+use Rattle.nit_setup.proofs.Basics.{IsNameOf, IsOuterFault, IsOuterScript, Line, MayShowFrames}
+use Rattle.nit_setup.proofs.Basics.{OuterSoFar}
 use Rattle.nit_setup.proofs.Basics.{OuterStopped, SpellScripts, Stop, StoppedAt, StoreModel}
 use Rattle.nit_setup.proofs.Basics.{asking_all, asking_more, asking_none, bytes_of, first_forbidden}
 use Rattle.nit_setup.proofs.Basics.{fits_push, length_push, option_map, with_asked}

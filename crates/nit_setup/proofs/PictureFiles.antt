@@ -1,5 +1,6 @@
 -- The script of a picture, and the user who does nothing.
-use Rattle.std.proofs.Common.{◌≡◌, ◌∙◌, ℕ, zero, suc, ◌+◌, ◌≤◌, ◌*◌, List, [], ◌∷◌, length, replicate}
+use Rattle.std.proofs.Common.{◌≡◌, ◌∙◌, ℕ, zero, suc, ◌+◌, ◌≤◌, ◌*◌, List, [], ◌∷◌, length}
+use Rattle.std.proofs.Common.{replicate}
 use Rattle.std.proofs.Common.{None, refl, sym, ap, subst, arith, cond, inl}
 use Rattle.nit_setup.proofs.Basics.{AllByRecursion, AllFiles, AreLines, Command, Fault}
 use Rattle.nit_setup.proofs.Basics.{FitsInputLine, FitsLine, IfSome, IsClientFault, IsClientScript}

@@ -1,18 +1,22 @@
 -- A configuration and its scripts, read for any command.
-use Rattle.std.proofs.Common.{◌≡◌, ℕ, Bool, true, false, List, [], ◌∷◌, ◌++◌, length, take, Some, Ok, Err}
+use Rattle.std.proofs.Common.{◌≡◌, ℕ, Bool, true, false, List, [], ◌∷◌, ◌++◌, length, take, Some}
+use Rattle.std.proofs.Common.{Ok, Err}
 use Rattle.std.proofs.Common.{Result, refl, sym, ap, subst, ◌∙◌, arith, inl, inr, append_assoc, ◌⊎◌}
 use Rattle.nit_setup.proofs.Basics.{AllByRecursion, AreAllFiles, AreAllOuterFiles, AreAllScripts}
 use Rattle.nit_setup.proofs.Basics.{AreFirstFiles, AreLines, AreOuterFiles, AreScripts, AreSetup}
-use Rattle.nit_setup.proofs.Basics.{Audit, BothFiles, Capture, Clip, Command, ConfigRead, Configuration, Fault}
+use Rattle.nit_setup.proofs.Basics.{Audit, BothFiles, Capture, Clip, Command, ConfigRead}
+use Rattle.nit_setup.proofs.Basics.{Configuration, Fault}
 use Rattle.nit_setup.proofs.Basics.{File, FilesRead, FirstFiles, FitsLine, HasRead, HasReadScripts}
 use Rattle.nit_setup.proofs.Basics.{HaveSamePhases, IfSome, InnerFiles, InputLine, IsClientFault}
 use Rattle.nit_setup.proofs.Basics.{IsConfig, IsConfigFault, IsInputFault, IsInputScript, IsLoaded}
 use Rattle.nit_setup.proofs.Basics.{IsRunnable, IsSetupFault, IsValid, Judged, Line, Loaded, Name}
-use Rattle.nit_setup.proofs.Basics.{Nested, NoFile, OuterFiles, ReadScripts, ReadsTo, Refused, Region}
+use Rattle.nit_setup.proofs.Basics.{Nested, NoFile, OuterFiles, ReadScripts, ReadsTo, Refused}
+use Rattle.nit_setup.proofs.Basics.{Region}
 use Rattle.nit_setup.proofs.Basics.{Run, RunFiles, RunRead, Setup, SetupRead, SoFar, SpellScripts}
 use Rattle.nit_setup.proofs.Basics.{Stop, StoppedAmong, StoppedAt, StoppedReading, StoreModel}
 use Rattle.nit_setup.proofs.Basics.{asking_all, asking_both, asking_more, asking_none, bytes_of}
-use Rattle.nit_setup.proofs.Basics.{files_in, first_names, name_text, names_in, names_read, next_name}
+use Rattle.nit_setup.proofs.Basics.{files_in, first_names, name_text, names_in, names_read}
+use Rattle.nit_setup.proofs.Basics.{next_name}
 use Rattle.nit_setup.proofs.Basics.{script_names, setup_in, slice_get, wanted_by, with_asked}
 use Rattle.nit_setup.proofs.ScriptsRead.{told_so, told_so_both}
 use Rattle.nit_setup.proofs.Stopping.{get_behind, stopped_reading, take_front}
@@ -43,7 +47,8 @@ module _ (old : StoreModel) (name : List ℕ) (front : List (List ℕ)) where
 
   module _ (config : Configuration) (mid : StoreModel) (is : ConfigRead name first config mid) where
     -- the names behind that of the configuration
-    behind : (before : List (List ℕ)) → asking_all (with_asked first name) before ≡ asking_all old (front ++ name ∷ before)
+    behind : (before : List (List ℕ)) → asking_all (with_asked first name) before
+        ≡ asking_all old (front ++ name ∷ before)
     behind before = asking_both first (name ∷ []) before ∙ asking_both old front (name ∷ before)
 
     -- the configuration and these scripts are valid

@@ -1,5 +1,6 @@
 -- How a command stops at a file that it reads.
-use Rattle.std.proofs.Common.{◌≡◌, ℕ, List, [], ◌∷◌, ◌++◌, length, take, Option, Some, refl, ap, ◌∙◌}
+use Rattle.std.proofs.Common.{◌≡◌, ℕ, List, [], ◌∷◌, ◌++◌, length, take, Option, Some, refl, ap}
+use Rattle.std.proofs.Common.{◌∙◌}
 use Rattle.std.proofs.Common.{subst}
 use Rattle.nit_setup.proofs.Basics.{Command, End, Fault, File, FilesRead, HasRead, IfSome, Judged}
 use Rattle.nit_setup.proofs.Basics.{Refused, Stop, StoppedAt, StoppedBy, StoppedReading, StoreModel}

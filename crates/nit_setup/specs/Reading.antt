@@ -1,7 +1,8 @@
 -- How the files of a command are read and judged, one after the other.
 use Rattle.std.specs.Prelude.{◌≡◌, ◌⊎◌, ℕ, ◌<◌, ◌≤◌, List, ◌∷◌, ◌++◌, length, Result, Ok, Err}
 use Rattle.std.specs.Prelude.{IfSome, Vec}
-use Rattle.nit_setup.specs.Below.{AllByRecursion, AreLines, AskedAtMost, Configuration, End, Fault, File}
+use Rattle.nit_setup.specs.Below.{AllByRecursion, AreLines, AskedAtMost, Configuration, End, Fault}
+use Rattle.nit_setup.specs.Below.{File}
 use Rattle.nit_setup.specs.Below.{FitsLine, Global, HaveSamePhases, InputLine, JournalError, Line}
 use Rattle.nit_setup.specs.Below.{ReadFaulted, ScriptError, Scripts, Stop, StoreModel, asking_all}
 use Rattle.nit_setup.specs.Below.{bytes_of, with_asked}
@@ -58,7 +59,8 @@ StoppedBy Refuse old name new other = ⊥
 
 -- where a file of this name was not read, or its bytes have a fault
 abbrev pub StoppedAt : (List ℕ → Fault → Type 0) → StoreModel → List ℕ → StoreModel → End → Type 0
-StoppedAt Faulty old name new end = StoppedBy (λ files f. Faulty (bytes_of name files) f) old name new end
+StoppedAt Faulty old name new end =
+    StoppedBy (λ files f. Faulty (bytes_of name files) f) old name new end
 
 -- a file was read and judged, or so the work ends
 abbrev pub FileJudged : {V : Type 0} → (List ℕ → V → Type 0) → (List ℕ → Fault → Type 0)

@@ -29,8 +29,8 @@ abbrev pub files_in : Loaded → RunFiles
 files_in l = run_files l.config l.scripts.clients.items l.scripts.input
 
 -- the setup with a clip script for each client
-abbrev pub clips_setup_in : WithClips → Setup
-clips_setup_in w = record (setup_in w.run true) { clips = w.clips.items }
+abbrev pub setup_with_clips : WithClips → Setup
+setup_with_clips w = record (setup_in w.run true) { clips = w.clips.items }
 
 -- ---- any command
 
@@ -73,7 +73,7 @@ PictureRead width height script old new (Err stop) =
 
 -- a configuration, its scripts and its clip scripts
 abbrev pub ClipSetupRead : List ℕ → StoreModel → StoreModel → Result WithClips Stop → Type 0
-ClipSetupRead name old new (Ok w) = ReadsTo (Clip name) old (AllFiles (clips_setup_in w)) new
+ClipSetupRead name old new (Ok w) = ReadsTo (Clip name) old (AllFiles (setup_with_clips w)) new
 ClipSetupRead name old new (Err stop) = StoppedReading (Clip name) old new stop
 
 -- a configuration, its scripts and a journal, whose text spells entries

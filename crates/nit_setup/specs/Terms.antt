@@ -40,7 +40,7 @@ pub use Rattle.nit_setup.specs.OuterRead.{OuterLoaded, OuterSoFar, OuterStopped,
 pub use Rattle.nit_setup.specs.SetupRead.{AuditRead, BothRead, ClipSetupRead, ConfigRead}
 pub use Rattle.nit_setup.specs.SetupRead.{HasReadJournal, HasReadPicture, IsLoaded, IsOuterLoaded}
 pub use Rattle.nit_setup.specs.SetupRead.{OuterRunRead, PictureRead, ReadsTo, RunRead, SetupRead}
-pub use Rattle.nit_setup.specs.SetupRead.{StoppedReading, clips_setup_in, files_in, setup_in}
+pub use Rattle.nit_setup.specs.SetupRead.{StoppedReading, setup_with_clips, files_in, setup_in}
 pub use Rattle.nit_setup.specs.Below.{Region}
 pub use Rattle.nit_setup.specs.Reading.{FileJudged, JudgedBytes, LoadedAll, ReadFor}
 pub use Rattle.nit_setup.specs.Reading.{ReadScripts, SoFar, StoppedAmong, StoppedAt, end_of_journal}

@@ -38,11 +38,7 @@ pub fn read<S: Store>(store: &mut S, name: &str, max: usize, long: Fault) -> Res
 }
 
 /// Reads a configuration, and judges it.
-pub fn load_config<S: Store>(
-    alloc: Global,
-    store: &mut S,
-    name: &str,
-) -> Result<Config, End>
+pub fn load_config<S: Store>(alloc: Global, store: &mut S, name: &str) -> Result<Config, End>
     ensures loaded { FileJudged IsConfig IsConfigFault (S.shown store.old) name.now
         (S.shown store.new) result }
     ensures configured { IfOk result (λ config. IsConfiguration config) }
@@ -114,11 +110,7 @@ pub fn load_lines<S: Store, L: ScriptLine>(
 }
 
 /// Reads a journal, and judges its text.
-pub fn load_journal<S: Store>(
-    alloc: Global,
-    store: &mut S,
-    name: &str,
-) -> Result<Vec<Entry>, End>
+pub fn load_journal<S: Store>(alloc: Global, store: &mut S, name: &str) -> Result<Vec<Entry>, End>
     ensures loaded { FileJudged (λ bytes v. IsJournalText bytes v.items) IsNoJournalText
         (S.shown store.old) name.now (S.shown store.new) result }
     ensures few { IfOk result (λ v. length v.items ≤ most_journal_bytes) }

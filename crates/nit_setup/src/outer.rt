@@ -2,7 +2,8 @@
 
 ghost use Rattle.std.specs.Prelude.{None, All, IfOk, map, ◌≡◌};
 ghost use Rattle.nit_setup.specs.Terms.{AreLines, FileJudged, FitsLine, IsConfiguration, IsMember};
-ghost use Rattle.nit_setup.specs.Terms.{IsOuter, IsOuterFault, IsOuterScript, OuterLoaded, ReadOuter};
+ghost use Rattle.nit_setup.specs.Terms.{IsOuter, IsOuterFault, IsOuterScript, OuterLoaded};
+ghost use Rattle.nit_setup.specs.Terms.{ReadOuter};
 ghost use Rattle.nit_setup.specs.Terms.{run_files, wrong_outer};
 
 use crate::load::{load_client, load_input};
@@ -17,11 +18,7 @@ use std::alloc::Global;
 /// Reads the scripts of a configuration whose first client is to show frames, and judges each as it
 /// is read. The first client's is to hold no line that may not stand there. Phases are not
 /// compared.
-pub fn read_outer<S: Store>(
-    alloc: Global,
-    store: &mut S,
-    config: &Config,
-) -> Result<Scripts, Stop>
+pub fn read_outer<S: Store>(alloc: Global, store: &mut S, config: &Config) -> Result<Scripts, Stop>
     requires { IsConfiguration config.now }
     ensures read { ReadOuter config.now (S.shown store.old) (S.shown store.new) result }
     ensures outer { IfOk result (λ s. IsOuter

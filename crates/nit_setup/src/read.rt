@@ -152,12 +152,7 @@ pub fn read_nested<S: Store>(
 // ---- a configuration and its scripts
 
 /// Reads the configuration of this name and its scripts. The name is said of the configuration.
-fn load_run<S: Store>(
-    alloc: Global,
-    store: &mut S,
-    name: &str,
-    said: Name,
-) -> Result<Loaded, Stop>
+fn load_run<S: Store>(alloc: Global, store: &mut S, name: &str, said: Name) -> Result<Loaded, Stop>
     ensures { IsLoaded name.now said (S.shown store.old) (S.shown store.new) result }
 {
     let config = match load_config(alloc, store, name) {

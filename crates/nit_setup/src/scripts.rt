@@ -1,7 +1,8 @@
 //! Reading the scripts of a configuration.
 
 ghost use Rattle.std.specs.Prelude.{true, All, Bool, IfOk, map, ◌≡◌};
-ghost use Rattle.nit_setup.specs.Terms.{IsConfiguration, IsMember, IsRunnable, LoadedAll, ReadScripts};
+ghost use Rattle.nit_setup.specs.Terms.{IsConfiguration, IsMember, IsRunnable, LoadedAll};
+ghost use Rattle.nit_setup.specs.Terms.{ReadScripts};
 ghost use Rattle.nit_setup.specs.Terms.{phases, setup_of, wanted_by};
 
 use crate::load::{load_client, load_input};

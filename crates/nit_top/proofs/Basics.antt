@@ -106,3 +106,5 @@ pub use Rattle.std.proofs.lemmas.List.Folds.{sum_by-replicate}
 pub use Rattle.std.proofs.lemmas.List.Sums.{count_by-le-length}
 pub use Rattle.std.proofs.lemmas.Nat.{div_below, mod_below, mul-add-lt}
 pub use Rattle.std.proofs.lemmas.Result.{err_from_is_err_and}
+pub use Rattle.nit_top.specs.Terms.{ReadsTo, StoppedBy, StoppedReading, files_in, setup_in}
+pub use Rattle.nit_top.specs.Terms.{setup_with_clips}

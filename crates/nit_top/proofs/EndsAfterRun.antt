@@ -15,7 +15,7 @@ use Rattle.nit_top.proofs.Basics.{unrefused}
 use Rattle.nit_store.specs.declared.store.PutError.TheVariants as put
 use Rattle.nit_setup.specs.declared.stop.End.TheVariants as ends
 use Rattle.nit_setup.specs.declared.stop.Name.TheVariants as file_name
-use Rattle.nit_top.proofs.WorkLemmas.{CameTo, names, none}
+use Rattle.nit_top.proofs.WorkLemmas.{CameTo}
 
 -- ---- after a run
 

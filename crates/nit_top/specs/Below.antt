@@ -129,3 +129,6 @@ pub use Rattle.std.specs.List.{AllByRecursion, AllZip, flat_map, list_any, range
 pub use Rattle.std.specs.Option.{is_some}
 pub use Rattle.std.specs.Prelude.{All, Contains, IfSome, IsSomeAnd, IsTrue, codes, count_by, false}
 pub use Rattle.std.specs.Prelude.{option_map, pos, slice_get, slice_index, true}
+pub use Rattle.nit_setup.specs.Reading.{StoppedBy}
+pub use Rattle.nit_setup.specs.SetupRead.{ReadsTo, StoppedReading, files_in, setup_in}
+pub use Rattle.nit_setup.specs.SetupRead.{setup_with_clips}

@@ -86,3 +86,5 @@ pub use Rattle.nit_top.specs.ProgramLines.{piece_text, summary_line}
 pub use Rattle.nit_top.specs.SaidText.{SayingRefused, Says}
 pub use Rattle.nit_top.specs.Stored.{AreStored, Stand, StandIn, to_put}
 pub use Rattle.nit_top.specs.Work.{Ends, IsAfterRun, Performed, end_of_put, end_of_run, line_on}
+pub use Rattle.nit_top.specs.Below.{ReadsTo, StoppedBy, StoppedReading, files_in, setup_in}
+pub use Rattle.nit_top.specs.Below.{setup_with_clips}

@@ -17,7 +17,7 @@ use nit_run::Scripts;
 use nit_run::laws::headline;
 use nit_script::Client;
 use nit_setup::{
-    End, Fault, at, at_second, first_other, frame_count, nowhere, read_scripts,
+    End, Fault, Loaded, TwoRuns, at, at_second, first_other, frame_count, nowhere, read_nested,
 };
 use nit_store::Store;
 use std::sync::Wait;
@@ -36,9 +36,31 @@ pub fn nested<R: Threads + Wait + Sync, S: Store, G: Gate>(
 {
     each_line_once();
     phases_stay();
-    match read_nested(host.alloc, store, outer, inner) {
-        Ok(TwoRuns { outer, inner }) => run_both(host, store, &outer.config, outer.scripts, &inner),
-        Err(stop) => unbegun(host.alloc, stop),
+    let TwoRuns { outer, inner } = match read_nested(host.alloc, store, outer, inner) {
+        Ok(read) => read,
+        Err(stop) => return unbegun(host.alloc, stop),
+    };
+    let Loaded {
+        config,
+        scripts: shown,
+    } = outer;
+    if let Some(other) = first_other(frame_count(&inner.scripts.input), &config, &shown) {
+        return unbegun(host.alloc, at(End::Unfit(Fault::PhasesDiffer), other));
+    }
+    let clients = inner.scripts.clients.as_slice();
+    match run_inner(
+        host.alloc,
+        &inner.config,
+        clients,
+        &inner.scripts.input,
+        &shown.clients[0],
+    ) {
+        Ok(made) => {
+            let _known = made.script.lines();
+            let shown = with_first(shown, made.script);
+            perform_nested(host, store, &config, &shown, &made.journal)
+        }
+        Err(end) => unbegun(host.alloc, at_second(end)),
     }
 }
 

@@ -17,9 +17,9 @@ returns-in-Err-load_journal g c =
     let new = g.S.Store.shown c.load_journal.new.store in
     let name = c.args.name.now in
     let journal = c.args.journal.now in
-    text_stopped name journal old mid (setup_in c.in-Ok.run false)
-    (first_asked old name file_name.First c.in-Ok.run mid c.in-Ok.ensures)
-    (first_valid old name file_name.First c.in-Ok.run mid c.in-Ok.ensures false) new c.at_second.result
+    text_stopped name journal old mid (setup_in c.in-Ok.run' false)
+    (first_asked old name file_name.First c.in-Ok.run' mid c.in-Ok.ensures)
+    (first_valid old name file_name.First c.in-Ok.run' mid c.in-Ok.ensures false) new c.at_second.result
     (ap (name_text (Audit name journal)) c.at_second.ensures.1)
     (subst (λ (e : End). StoppedAt IsNoJournalText mid journal new e) (sym c.at_second.ensures.0)
     c.in-Err-load_journal.ensures.loaded)
@@ -31,9 +31,9 @@ returns-in-Ok-load_journal g c =
     let new = g.S.Store.shown c.load_journal.new.store in
     let name = c.args.name.now in
     let journal = c.args.journal.now in
-    let s = setup_in c.in-Ok.run false in
-    let asked = first_asked old name file_name.First c.in-Ok.run mid c.in-Ok.ensures in
-    let all = first_valid old name file_name.First c.in-Ok.run mid c.in-Ok.ensures false in
+    let s = setup_in c.in-Ok.run' false in
+    let asked = first_asked old name file_name.First c.in-Ok.run' mid c.in-Ok.ensures in
+    let all = first_valid old name file_name.First c.in-Ok.run' mid c.in-Ok.ensures false in
     let loaded = c.in-Ok-load_journal.ensures.loaded in
     record {
       scripts = all;
