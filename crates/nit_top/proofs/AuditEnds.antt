@@ -1,7 +1,8 @@
 -- How an audit comes to its end, where its files were read.
 use Rattle.std.proofs.Common.{◌≡◌, ℕ, List, [], ◌∷◌, refl, sym, ap, subst, ◌∙◌, inl}
 use Rattle.nit_top.proofs.Basics.{AreAllScripts, AreSetup, Audit, Command, End, Ends, Entry, Fault}
-use Rattle.nit_top.proofs.Basics.{IfSome, IsAuditEnd, IsJournalFault, IsJournalText, NotBegun, Setup}
+use Rattle.nit_top.proofs.Basics.{IfSome, IsAuditEnd, IsJournalFault, IsJournalText, NotBegun}
+use Rattle.nit_top.proofs.Basics.{Setup}
 use Rattle.nit_top.proofs.Basics.{Stop, StoppedAt, StoreModel, Worked, asking_all, asking_more}
 use Rattle.nit_top.proofs.Basics.{bytes_of, name_text, names_in, reads, told_so, told_so_both}
 use Rattle.nit_top.proofs.Basics.{with_asked}

@@ -108,7 +108,7 @@ pub use Rattle.nit_setup.specs.Judgement.{phase_counts, reads, script_names, too
 pub use Rattle.nit_setup.specs.Judgement.{unless_other, wanted_by, wrong_clip}
 pub use Rattle.nit_setup.specs.OuterRead.{HasReadOuter, OuterSoFar, OuterStopped, ReadOuter}
 pub use Rattle.nit_setup.specs.Reading.{HasReadScripts, ReadScripts, SoFar, StoppedAmong, StoppedAt}
-pub use Rattle.nit_setup.specs.Asked.{command_of}
+pub use Rattle.nit_setup.specs.Asked.{IsAskedInRange, command_of}
 pub use Rattle.nit_setup.specs.StopNames.{IsNameOf, first_name, name_text, second_name}
 pub use Rattle.nit_setup.specs.declared.stop.End.{End}
 pub use Rattle.nit_setup.specs.declared.stop.Fault.{Fault}

@@ -29,7 +29,13 @@ pub fn clip<R: Threads + Wait + Sync, S: Store, G: Gate>(
     ensures { Ends (Clip name.now) (S.shown store.old) (S.shown store.new) result }
 {
     match read_clips(host.alloc, store, name) {
-        Ok(read) => perform_clips(host, store, &read.run.config, &read.run.scripts, &read.clips),
+        Ok(read) => perform_clips(
+            host,
+            store,
+            &read.run.config,
+            &read.run.scripts,
+            &read.clips,
+        ),
         Err(stop) => unbegun(host.alloc, stop),
     }
 }

@@ -15,7 +15,7 @@ use nit_report::{gen_config, generate, generated_client_counts, generated_user_c
 use nit_run::Scripts;
 use nit_run::laws::headline;
 use nit_script::{Client, Input};
-use nit_setup::{End, nowhere, read_files, read_run, read_still};
+use nit_setup::{End, OneScript, nowhere, read_files, read_run, read_still};
 use nit_store::Store;
 use nit_store::laws::puts_go_on;
 use std::alloc::Global;
@@ -34,10 +34,15 @@ pub fn still<S: Store>(
     ensures { Ends (Still width height script.now) (S.shown store.old)
         (S.shown store.new) result }
 {
-    match read_still(alloc, store, width, height, script) {
-        Ok(read) => perform_alone(alloc, store, &read.config, &[read.client], &read.input),
-        Err(stop) => unbegun(alloc, stop),
-    }
+    let OneScript {
+        config,
+        client,
+        input,
+    } = match read_still(alloc, store, width, height, script) {
+        Ok(read) => read,
+        Err(stop) => return unbegun(alloc, stop),
+    };
+    perform_alone(alloc, store, &config, &[client], &input)
 }
 
 /// Runs the configuration of this name by turns.

@@ -1,11 +1,3 @@
-use Rattle.nit_top.proofs.AuditEnds.{found_ends}
-use Rattle.nit_top.proofs.ClipEnds.{clips_end}
-use Rattle.nit_top.proofs.CaptureEnds.{film_ends}
-use Rattle.nit_top.proofs.NestedEnds.{nested_ends}
-use Rattle.nit_top.proofs.GeneratedRuns.{generated_ends}
-use Rattle.nit_top.proofs.Causes.{ended_as}
-use Rattle.nit_top.proofs.EndsAfterRun.{performed_ends}
-use Rattle.nit_top.proofs.WorkLemmas.{stopped_ends}
 use Rattle.std.proofs.Common.{◌++◌, [], sym, refl}
 use Rattle.nit_top.proofs.Lemmas.{codes, decimal, err_from_is_err_and, saying-nil, says_stop}
 use Rattle.nit_top.proofs.Lemmas.{says_then, shot_name}

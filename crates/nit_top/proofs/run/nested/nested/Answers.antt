@@ -76,7 +76,7 @@ returns-in-Some g c =
     subst (λ (n : ℕ). first_other n (names_in o.config) (phase_counts o) ≡ Some other) wanted
     c.in-Some.ensures.some in
     unfit_ends outer name o first r.valid.0 i r.valid.1 new r.asked
-        other fault.PhasesDiffer c.unbegun-in-Some.result (other_phases name other o i found)
+    other fault.PhasesDiffer c.unbegun-in-Some.result (other_phases name other o i found)
     (ap (λ (t : Stop). name_text (Nested outer name) t.name) c.unbegun-in-Some.ensures.stop
     ∙ c.at.ensures.1 (Nested outer name))
     (ap (λ (t : Stop). t.end) c.unbegun-in-Some.ensures.stop ∙ c.at.ensures.0)
@@ -118,7 +118,7 @@ returns-in-Ok-run_inner g c =
     c.with_first-shown.ensures.input end.3 in
     let setup = setup_of o.config shown.clients.items shown.input true true in
     nested_ends outer name o first r.valid.0 i r.valid.1 new r.asked
-        last made.journal.items c.perform_nested.result
+    last made.journal.items c.perform_nested.result
     (they_fit once o i own c.in-Ok.ensures.valid.0.is_outer at c.frame_count.result c.frame_count.ensures none name end.1)
     (subst IsRunnable same (runnable_of setup (Some i) runnable)) shows end.0
     (subst (λ (t : Setup). PerformedNested made.journal.items new t last c.perform_nested.result) same
@@ -143,7 +143,7 @@ returns g c =
     let began = begun once o i own c.in-Ok.ensures.valid.0.is_outer at c.frame_count.result c.frame_count.ensures none in
     let w = c.unbegun-in-Err-run_inner.result in
     inner_stopped outer name o first r.valid.0 i r.valid.1 new r.asked
-        own began.0 end w began.1 (no_other once o i own c.in-Ok.ensures.valid.0.is_outer at c.frame_count.result c.frame_count.ensures
+    own began.0 end w began.1 (no_other once o i own c.in-Ok.ensures.valid.0.is_outer at c.frame_count.result c.frame_count.ensures
     none) (subst (λ (ss : List (List Line)). IsInnerEnd (run_files c.in-Ok.read.inner.config ss s.input) own (Err end))
     c.as_slice-clients.ensures.value c.in-Err-run_inner.ensures)
     (ap (λ (t : Stop). name_text (Nested outer name) t.name) c.unbegun-in-Err-run_inner.ensures.stop

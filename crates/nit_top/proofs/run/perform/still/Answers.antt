@@ -1,5 +1,6 @@
 use Rattle.std.proofs.Common.{◌≡◌, ◌∙◌, false, ◌∷◌, [], ℕ, List, None, sym, ap, subst, refl}
-use Rattle.nit_top.proofs.Lemmas.{Configuration, InputLine, IsRunnable, Line, Performed, Setup, Still}
+use Rattle.nit_top.proofs.Lemmas.{Configuration, InputLine, IsRunnable, Line, Performed, Setup}
+use Rattle.nit_top.proofs.Lemmas.{Still}
 use Rattle.nit_top.proofs.Lemmas.{idle_user, performed_ends, setup_of, still_configuration}
 use Rattle.nit_top.proofs.Lemmas.{still_setup, stopped_ends}
 use Rattle.nit_top.proofs.run.perform.still.Goals as goal
@@ -33,8 +34,8 @@ perform_alone-requires-clause-runnable g c =
 pub perform_alone-requires-clause-alone : goal.perform_alone-requires-clause-alone
 perform_alone-requires-clause-alone g c = (c.in-Ok.read.client, refl, c.in-Ok.ensures.input)
 
-pub returns-in-Ok : goal.returns-in-Ok
-returns-in-Ok g c =
+pub returns : goal.returns
+returns g c =
     let width = c.args.width in
     let height = c.args.height in
     let h = c.in-Ok.ensures in

@@ -1,4 +1,5 @@
-use Rattle.nit_top.proofs.Lemmas.{IsRunnable, Line, List, Performed, Run, false, performed_ends, refl}
+use Rattle.nit_top.proofs.Lemmas.{IsRunnable, Line, List, Performed, Run, false, performed_ends}
+use Rattle.nit_top.proofs.Lemmas.{refl}
 use Rattle.nit_top.proofs.Lemmas.{setup_in, setup_of, stopped_ends, subst, sym, true}
 use Rattle.nit_top.proofs.run.perform.turns.Goals as goal
 
