@@ -23,7 +23,8 @@ returns-in-Err-load_clips g c =
     ap (λ (ms : List Member). map (λ m. m.script) ms) c.deref-2.ensures.value
     ∙ ap (λ (k : Loaded). script_names k.config) c.run.view_is in
     let wanted : c.wanted_by-wanted.result ≡ wanted_by l.scripts.clients.items = c.wanted_by-wanted.ensures
-    ∙ ap wanted_by c.deref.ensures.value in
+    ∙ ap wanted_by c.deref.ensures.value
+    ∙ ap (λ (k : Loaded). wanted_by k.scripts.clients.items) c.run.view_is in
     clip_stopped name l.config l.scripts.clients.items l.scripts.input old mid
     (first_asked old name file_name.First l mid c.in-Ok.ensures)
     (first_valid old name file_name.First l mid c.in-Ok.ensures true) new c.in-Err-load_clips.stop
@@ -51,7 +52,8 @@ returns-in-Ok-load_clips g c =
     ap (λ (ms : List Member). map (λ m. m.script) ms) c.deref-2.ensures.value
     ∙ ap (λ (k : Loaded). script_names k.config) c.run.view_is in
     let wanted : c.wanted_by-wanted.result ≡ wanted_by l.scripts.clients.items = c.wanted_by-wanted.ensures
-    ∙ ap wanted_by c.deref.ensures.value in
+    ∙ ap wanted_by c.deref.ensures.value
+    ∙ ap (λ (k : Loaded). wanted_by k.scripts.clients.items) c.run.view_is in
     clips_read name l.config l.scripts.clients.items l.scripts.input old mid
     (first_asked old name file_name.First l mid c.in-Ok.ensures)
     (first_valid old name file_name.First l mid c.in-Ok.ensures true) clips new
