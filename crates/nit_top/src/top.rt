@@ -77,7 +77,7 @@ fn work<R: Threads + Wait + Sync, S: Store, G: Gate>(
     store: &mut S,
     asked: Option<Asked>,
 ) -> Worked
-    requires { IfSome asked.entry IsAskedInRange }
+    requires { IfSome asked IsAskedInRange }
     ensures { Ends (command_of asked.entry) (S.shown store.old) (S.shown store.new) result }
 {
     match asked {
@@ -92,8 +92,8 @@ fn work<R: Threads + Wait + Sync, S: Store, G: Gate>(
 
 /// The same on the calling thread, where the words start no thread.
 fn work_alone<S: Store>(alloc: Global, store: &mut S, asked: Option<Asked>) -> Worked
-    requires range { IfSome asked.entry IsAskedInRange }
-    requires alone { starts_threads (command_of asked.entry) ≡ false }
+    requires range { IfSome asked IsAskedInRange }
+    requires alone { starts_threads (command_of asked) ≡ false }
     ensures { Ends (command_of asked.entry) (S.shown store.old) (S.shown store.new) result }
 {
     match asked {
