@@ -9,8 +9,8 @@ returns-in-Err g c =
     (g.S.Store.shown c.read_audit.new.store) c.in-Err.stop c.in-Err.ensures c.unbegun.result c.unbegun.ensures.stop
     c.unbegun.ensures.journal
 
-pub audit_end-requires-clause-runnable : goal.audit_end-requires-clause-runnable
-audit_end-requires-clause-runnable g c = c.in-Ok.ensures.scripts.runnable
+pub audit_end-end-requires-clause-runnable : goal.audit_end-end-requires-clause-runnable
+audit_end-end-requires-clause-runnable g c = c.in-Ok.ensures.scripts.runnable
 
 pub returns : goal.returns
 returns g c =

@@ -1,5 +1,7 @@
 use Rattle.nit_top.proofs.Lemmas.{Capture, Configuration, Stop, ap, film_ends, is_off_screen}
 use Rattle.nit_top.proofs.Lemmas.{outside_ends, setup_in, stopped_ends, sym, true, ◌∙◌}
+use Rattle.nit_top.proofs.Basics.{IsRunnable, PerformedFilmed, subst}
+use Rattle.nit_setup.specs.declared.read.Loaded.{Loaded}
 use Rattle.nit_top.proofs.run.capture.capture.Goals as goal
 
 pub returns-in-Err : goal.returns-in-Err
@@ -12,8 +14,8 @@ pub returns-then-is_outside : goal.returns-then-is_outside
 returns-then-is_outside g c =
     let r = c.in-Ok.ensures.film c.args.region in
     outside_ends (Capture c.args.name.now c.args.region) (g.S.Store.shown c.args.store.now)
-    (g.S.Store.shown c.read_run.new.store) (setup_in c.in-Ok.run true) c.unbegun-then-is_outside.result r.asked r.valid
-    (sym (ap (λ (k : Configuration). is_off_screen c.args.region k.width k.height) c.config.view_is)
+    (g.S.Store.shown c.read_run.new.store) (setup_in c.in-Ok.run' true) c.unbegun-then-is_outside.result r.asked r.valid
+    (sym (ap (λ (k : Loaded). is_off_screen c.args.region k.config.width k.config.height) c.run.view_is)
     ∙ sym c.is_outside.ensures ∙ c.if-is_outside.true)
     (ap (λ (stop : Stop). stop.end) c.unbegun-then-is_outside.ensures.stop ∙ c.nowhere.ensures.0)
     c.unbegun-then-is_outside.ensures.journal
@@ -22,9 +24,13 @@ pub returns : goal.returns
 returns g c =
     let r = c.in-Ok.ensures.film c.args.region in
     film_ends c.args.name.now c.args.region (g.S.Store.shown c.args.store.now) (g.S.Store.shown c.read_run.new.store)
-    (g.S.Store.shown c.perform_filmed.new.store) (setup_in c.in-Ok.run true) c.perform_filmed.result r.asked r.valid
-    (sym (ap (λ (k : Configuration). is_off_screen c.args.region k.width k.height) c.config.view_is)
-    ∙ sym c.is_outside.ensures ∙ c.if-is_outside.false) c.perform_filmed.ensures
+    (g.S.Store.shown c.perform_filmed.new.store) (setup_in c.in-Ok.run' true) c.perform_filmed.result r.asked r.valid
+    (sym (ap (λ (k : Loaded). is_off_screen c.args.region k.config.width k.config.height) c.run.view_is)
+    ∙ sym c.is_outside.ensures ∙ c.if-is_outside.false)
+    (subst (λ (k : Loaded). PerformedFilmed c.args.region (g.S.Store.shown c.read_run.new.store) (setup_in k true)
+    (g.S.Store.shown c.perform_filmed.new.store) c.perform_filmed.result) c.run.view_is c.perform_filmed.ensures)
 
 pub perform_filmed-requires-clause-runnable : goal.perform_filmed-requires-clause-runnable
-perform_filmed-requires-clause-runnable g c κs within = (c.in-Ok.ensures.film c.args.region).valid.runnable
+perform_filmed-requires-clause-runnable g c κs within =
+    subst (λ (k : Loaded). IsRunnable (setup_in k true)) (sym c.run.view_is)
+    (c.in-Ok.ensures.film c.args.region).valid.runnable

@@ -13,5 +13,5 @@ pub returns-in-Ok : goal.returns-in-Ok
 returns-in-Ok g c =
     let r = c.in-Ok.ensures.run true in
     performed_ends (Run true c.args.name.now) (g.S.Store.shown c.args.store.now) (g.S.Store.shown c.read_run.new.store)
-    (g.S.Store.shown c.perform_beside.new.store) (setup_in c.in-Ok.run true) c.perform_beside.result
+    (g.S.Store.shown c.perform_beside.new.store) (setup_in c.in-Ok.run' true) c.perform_beside.result
     (λ s journal files are. refl, λ config. refl) r.asked r.valid c.perform_beside.ensures

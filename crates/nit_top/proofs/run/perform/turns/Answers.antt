@@ -10,12 +10,12 @@ returns-in-Err g c =
 
 pub perform-requires : goal.perform-requires
 perform-requires g c = subst (λ (ss : List (List Line)).
-    IsRunnable (setup_of c.in-Ok.run.config ss c.in-Ok.run.scripts.input true false)) (sym c.deref.ensures.value)
+    IsRunnable (setup_of c.in-Ok.run'.config ss c.in-Ok.run'.scripts.input true false)) (sym c.deref.ensures.value)
     (c.in-Ok.ensures.run false).valid.runnable
 
 pub returns-in-Ok : goal.returns-in-Ok
 returns-in-Ok g c =
-    let run = c.in-Ok.run in
+    let run = c.in-Ok.run' in
     let r = c.in-Ok.ensures.run false in
     let mid = g.S.Store.shown c.read_run.new.store in
     let new = g.S.Store.shown c.perform.new.store in
