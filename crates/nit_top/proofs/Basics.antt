@@ -72,6 +72,7 @@ pub use Rattle.nit_top.specs.Terms.{input_phases, is_accepted, is_input_phase, i
 pub use Rattle.nit_top.specs.Terms.{is_outside_of, is_phase, is_shot_line, is_some, is_too_long}
 pub use Rattle.nit_top.specs.Terms.{journal_file, journal_text, label_text, last_frame, line_of}
 pub use Rattle.nit_top.specs.Terms.{line_on, lines_of_frames, list_any, made_by, member, misfit}
+pub use Rattle.nit_top.specs.Terms.{IsNameOf, command_of, first_name, second_name}
 pub use Rattle.nit_top.specs.Terms.{name_text, names_in, names_read, nest_of, nest_script}
 pub use Rattle.nit_top.specs.Terms.{nested_setup, next_frame, next_name, opening_drawing}
 pub use Rattle.nit_top.specs.Terms.{option_map, output_name, owner_of, phase_counts, phases}
@@ -105,3 +106,5 @@ pub use Rattle.std.proofs.lemmas.List.Folds.{sum_by-replicate}
 pub use Rattle.std.proofs.lemmas.List.Sums.{count_by-le-length}
 pub use Rattle.std.proofs.lemmas.Nat.{div_below, mod_below, mul-add-lt}
 pub use Rattle.std.proofs.lemmas.Result.{err_from_is_err_and}
+pub use Rattle.nit_top.specs.Terms.{ReadsTo, StoppedBy, StoppedReading, files_in, setup_in}
+pub use Rattle.nit_top.specs.Terms.{setup_with_clips}

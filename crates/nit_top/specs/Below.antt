@@ -108,7 +108,8 @@ pub use Rattle.nit_setup.specs.Judgement.{phase_counts, reads, script_names, too
 pub use Rattle.nit_setup.specs.Judgement.{unless_other, wanted_by, wrong_clip}
 pub use Rattle.nit_setup.specs.OuterRead.{HasReadOuter, OuterSoFar, OuterStopped, ReadOuter}
 pub use Rattle.nit_setup.specs.Reading.{HasReadScripts, ReadScripts, SoFar, StoppedAmong, StoppedAt}
-pub use Rattle.nit_setup.specs.StopNames.{name_text}
+pub use Rattle.nit_setup.specs.Asked.{IsAskedInRange, command_of}
+pub use Rattle.nit_setup.specs.StopNames.{IsNameOf, first_name, name_text, second_name}
 pub use Rattle.nit_setup.specs.declared.stop.End.{End}
 pub use Rattle.nit_setup.specs.declared.stop.Fault.{Fault}
 pub use Rattle.nit_setup.specs.declared.stop.Name.{Name}
@@ -128,3 +129,6 @@ pub use Rattle.std.specs.List.{AllByRecursion, AllZip, flat_map, list_any, range
 pub use Rattle.std.specs.Option.{is_some}
 pub use Rattle.std.specs.Prelude.{All, Contains, IfSome, IsSomeAnd, IsTrue, codes, count_by, false}
 pub use Rattle.std.specs.Prelude.{option_map, pos, slice_get, slice_index, true}
+pub use Rattle.nit_setup.specs.Reading.{StoppedBy}
+pub use Rattle.nit_setup.specs.SetupRead.{ReadsTo, StoppedReading, files_in, setup_in}
+pub use Rattle.nit_setup.specs.SetupRead.{setup_with_clips}

@@ -52,6 +52,8 @@ pub use Rattle.nit_top.specs.Below.{idle_user, index_at, inner_journal_name, inp
 pub use Rattle.nit_top.specs.Below.{is_accepted, is_input_phase, is_off_screen, is_phase}
 pub use Rattle.nit_top.specs.Below.{is_shot_line, is_some, is_too_long, journal_file, journal_text}
 pub use Rattle.nit_top.specs.Below.{label_text, last_frame, lines_of_frames, list_any, member}
+pub use Rattle.nit_top.specs.Below.{IsAskedInRange, IsNameOf, command_of, first_name}
+pub use Rattle.nit_top.specs.Below.{second_name}
 pub use Rattle.nit_top.specs.Below.{misfit, most_height, most_journal_bytes, most_width, name_text}
 pub use Rattle.nit_top.specs.Below.{names_in, names_read, nest_of, nest_script, nested_setup}
 pub use Rattle.nit_top.specs.Below.{next_frame, next_name, number_end, opening_drawing, option_map}
@@ -85,3 +87,5 @@ pub use Rattle.nit_top.specs.ProgramLines.{piece_text, summary_line}
 pub use Rattle.nit_top.specs.SaidText.{SayingRefused, Says}
 pub use Rattle.nit_top.specs.Stored.{AreStored, Stand, StandIn, to_put}
 pub use Rattle.nit_top.specs.Work.{Ends, IsAfterRun, Performed, end_of_put, end_of_run, line_on}
+pub use Rattle.nit_top.specs.Below.{ReadsTo, StoppedBy, StoppedReading, files_in, setup_in}
+pub use Rattle.nit_top.specs.Below.{setup_with_clips}
