@@ -218,8 +218,8 @@ run_ends c old mid new s w asked files_are r =
     w.stop.name (totals_on w) totals r.name_is puts in
     let so : CameTo c old new j w.stop.end (name_text c w.stop.name) (totals_on w) =
     subst (λ (e : End). CameTo c old new j e (name_text c w.stop.name) (totals_on w)) (sym r.end_is) here in
-    ends_by c old new w (subst (λ (k : List Entry). CameTo c old new k w.stop.end (name_text c w.stop.name) (totals_on w))
-    (sym r.journal_is) so)
+    ends_by c old new w (subst
+    (λ (k : List Entry). CameTo c old new k w.stop.end (name_text c w.stop.name) (totals_on w)) (sym r.journal_is) so)
 
 -- the work of a command whose files are read and valid, where memory ran out before the run
 pub unbegun_ends : (c : Command) (old mid new : StoreModel) (s : Setup) (w : Worked) → mid ≡ asking_all old (reads c s)
@@ -229,8 +229,8 @@ unbegun_ends c old mid new s w asked files_are end same none =
     unbegun c old s files_are new (name_text c w.stop.name) (totals_on w) (same ∙ asked) in
     let so : CameTo c old new [] w.stop.end (name_text c w.stop.name) (totals_on w) =
     subst (λ (e : End). CameTo c old new [] e (name_text c w.stop.name) (totals_on w)) (sym end) here in
-    ends_by c old new w (subst (λ (k : List Entry). CameTo c old new k w.stop.end (name_text c w.stop.name) (totals_on w))
-    (sym none) so)
+    ends_by c old new w (subst
+    (λ (k : List Entry). CameTo c old new k w.stop.end (name_text c w.stop.name) (totals_on w)) (sym none) so)
 
 -- the region that is to be filmed does not lie on the screen
 pub outside_ends : (c : Command) (old new : StoreModel) (s : Setup) (w : Worked) → new ≡ asking_all old (reads c s)
@@ -256,8 +256,8 @@ outside_ends c old new s w asked files_are outside end none =
     } in
     let so : CameTo c old new [] w.stop.end (name_text c w.stop.name) (totals_on w) =
     subst (λ (e : End). CameTo c old new [] e (name_text c w.stop.name) (totals_on w)) (sym end) here in
-    ends_by c old new w (subst (λ (k : List Entry). CameTo c old new k w.stop.end (name_text c w.stop.name) (totals_on w))
-    (sym none) so)
+    ends_by c old new w (subst
+    (λ (k : List Entry). CameTo c old new k w.stop.end (name_text c w.stop.name) (totals_on w)) (sym none) so)
 
 -- the command films nothing: it adds no file, and no region lies outside
 abbrev pub FilmsNothing : Command → Type 0
@@ -307,4 +307,5 @@ usage_ends old w end none =
     let so : CameTo NoCommand old old [] w.stop.end (name_text NoCommand w.stop.name) (totals_on w) =
     subst (λ (e : End). CameTo NoCommand old old [] e (name_text NoCommand w.stop.name) (totals_on w)) (sym end) here in
     ends_by NoCommand old old w (subst
-    (λ (k : List Entry). CameTo NoCommand old old k w.stop.end (name_text NoCommand w.stop.name) (totals_on w)) (sym none) so)
+    (λ (k : List Entry). CameTo NoCommand old old k w.stop.end (name_text NoCommand w.stop.name) (totals_on w))
+    (sym none) so)

@@ -162,8 +162,9 @@ module _ (n : ℕ) (old : StoreModel) where
   ended_so new w end empty is here =
       let so : CameTo (Gen n) old new [] w.stop.end (name_text (Gen n) w.stop.name) (totals_on w) =
       subst (λ (e : End). CameTo (Gen n) old new [] e (name_text (Gen n) w.stop.name) (totals_on w)) (sym is) here in
-      ends_by (Gen n) old new w (subst (λ (j : List Entry). CameTo (Gen n) old new j w.stop.end (name_text (Gen n) w.stop.name)
-      (totals_on w)) (sym empty) so)
+      ends_by (Gen n) old new w (subst
+      (λ (j : List Entry). CameTo (Gen n) old new j w.stop.end (name_text (Gen n) w.stop.name) (totals_on w))
+      (sym empty) so)
 
   -- memory ran out before a file was put
   pub nothing_made : (w : Worked) → w.stop.end ≡ ends.NoMemory → w.journal.items ≡ [] → Ends (Gen n) old old w

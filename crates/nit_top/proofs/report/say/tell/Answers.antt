@@ -30,7 +30,8 @@ returns-in-WriteFault g c =
     let r = c.say_all-in-WriteFault.result in
     subst (λ (e : End). Says old (line_of e (name_text (command_of c.args.asked) w.stop.name) (totals_on w)) new r)
     (sym c.in-WriteFault.is)
-    (subst (λ (n : List ℕ). Says old (write_fault_line n) new r) c.piece_of-name.ensures c.say_all-in-WriteFault.ensures)
+    (subst (λ (n : List ℕ). Says old (write_fault_line n) new r) c.piece_of-name.ensures
+    c.say_all-in-WriteFault.ensures)
 
 pub returns-in-NoMemory : goal.returns-in-NoMemory
 returns-in-NoMemory g c =

@@ -13,7 +13,8 @@ use Rattle.nit_top.proofs.run.nested.nested.Goals as goal
 
 pub run_inner-requires-clause-runnable : goal.run_inner-requires-clause-runnable
 run_inner-requires-clause-runnable g c =
-    subst (λ (ss : List (List Line)). IsRunnable (by_turns (run_files c.in-Ok.read.inner.config ss c.in-Ok.read.inner.scripts.input)))
+    let i = c.in-Ok.read.inner in
+    subst (λ (ss : List (List Line)). IsRunnable (by_turns (run_files i.config ss i.scripts.input)))
     (sym c.as_slice-clients.ensures.value) c.in-Ok.ensures.valid.1.runnable
 
 pub run_inner-requires-clause-phases : goal.run_inner-requires-clause-phases
@@ -24,14 +25,14 @@ run_inner-requires-clause-phases g c =
     let own = c.index.result.now in
     subst (λ (ss : List (List Line)). phases own ≡ length (frames_of (run_files c.in-Ok.read.inner.config ss s.input)))
     (sym c.as_slice-clients.ensures.value)
-    (own_counts c.each_line_once.ensures.user o i own c.in-Ok.ensures.valid.0.is_outer c.index.ensures c.frame_count.result
-    c.frame_count.ensures c.in_default.ensures.none)
+    (own_counts c.each_line_once.ensures.user o i own c.in-Ok.ensures.valid.0.is_outer c.index.ensures
+    c.frame_count.result c.frame_count.ensures c.in_default.ensures.none)
 
 pub at-requires : goal.at-requires
 at-requires g c =
     let o = files_in c.in-Ok.read.outer in
-    other_short o.config c.frame_count.result (phase_counts o) c.in-Some.other.now c.in-Ok.ensures.valid.0.is_outer.configured
-    c.in-Some.ensures.some
+    other_short o.config c.frame_count.result (phase_counts o) c.in-Some.other.now
+    c.in-Ok.ensures.valid.0.is_outer.configured c.in-Some.ensures.some
 
 pub perform_nested-requires-after_bounds : goal.perform_nested-requires-after_bounds
 perform_nested-requires-after_bounds g c κs within =
@@ -49,9 +50,9 @@ perform_nested-requires-after_bounds g c κs within =
       c.lines-known.ensures.fits,
       c.lines-known.ensures.length,
     ) in
-    outer_runnable c.each_line_once.ensures.user o i own c.in-Ok.ensures.valid.0.is_outer c.index.ensures c.frame_count.result
-    c.frame_count.ensures c.in_default.ensures.none c.phases_stay.ensures made.script end.2 shown.clients.items
-    shown.input c.with_first-shown.ensures.first c.with_first-shown.ensures.input fits
+    outer_runnable c.each_line_once.ensures.user o i own c.in-Ok.ensures.valid.0.is_outer c.index.ensures
+    c.frame_count.result c.frame_count.ensures c.in_default.ensures.none c.phases_stay.ensures made.script end.2
+    shown.clients.items shown.input c.with_first-shown.ensures.first c.with_first-shown.ensures.input fits
 
 pub returns-in-Err : goal.returns-in-Err
 returns-in-Err g c =
@@ -107,19 +108,19 @@ returns-in-Ok-run_inner g c =
     let once = c.each_line_once.ensures.user in
     let at = c.index.ensures in
     let none = c.in_default.ensures.none in
-    let same = setup_is once o i own c.in-Ok.ensures.valid.0.is_outer at c.frame_count.result c.frame_count.ensures none
+    let same = setup_is once o i own r.valid.0.is_outer at c.frame_count.result c.frame_count.ensures none
     c.phases_stay.ensures made.script end.2 shown.clients.items shown.input c.with_first-shown.ensures.first
     c.with_first-shown.ensures.input in
-    let runnable = outer_runnable once o i own c.in-Ok.ensures.valid.0.is_outer at c.frame_count.result c.frame_count.ensures none
+    let runnable = outer_runnable once o i own r.valid.0.is_outer at c.frame_count.result c.frame_count.ensures none
     c.phases_stay.ensures made.script end.2 shown.clients.items shown.input c.with_first-shown.ensures.first
     c.with_first-shown.ensures.input fits in
-    let shows = first_shows once o i own c.in-Ok.ensures.valid.0.is_outer at c.frame_count.result c.frame_count.ensures none
+    let shows = first_shows once o i own r.valid.0.is_outer at c.frame_count.result c.frame_count.ensures none
     c.phases_stay.ensures made.script end.2 shown.clients.items shown.input c.with_first-shown.ensures.first
     c.with_first-shown.ensures.input end.3 in
     let setup = setup_of o.config shown.clients.items shown.input true true in
     nested_ends outer name o first r.valid.0 i r.valid.1 new r.asked
     last made.journal.items c.perform_nested.result
-    (they_fit once o i own c.in-Ok.ensures.valid.0.is_outer at c.frame_count.result c.frame_count.ensures none name end.1)
+    (they_fit once o i own r.valid.0.is_outer at c.frame_count.result c.frame_count.ensures none name end.1)
     (subst IsRunnable same (runnable_of setup (Some i) runnable)) shows end.0
     (subst (λ (t : Setup). PerformedNested made.journal.items new t last c.perform_nested.result) same
     (subst (λ (j : List Entry). PerformedNested j new (record setup { inner = Some i }) last
@@ -140,11 +141,12 @@ returns g c =
     let once = c.each_line_once.ensures.user in
     let at = c.index.ensures in
     let none = c.in_default.ensures.none in
-    let began = begun once o i own c.in-Ok.ensures.valid.0.is_outer at c.frame_count.result c.frame_count.ensures none in
+    let began = begun once o i own r.valid.0.is_outer at c.frame_count.result c.frame_count.ensures none in
     let w = c.unbegun-in-Err-run_inner.result in
     inner_stopped outer name o first r.valid.0 i r.valid.1 new r.asked
-    own began.0 end w began.1 (no_other once o i own c.in-Ok.ensures.valid.0.is_outer at c.frame_count.result c.frame_count.ensures
-    none) (subst (λ (ss : List (List Line)). IsInnerEnd (run_files c.in-Ok.read.inner.config ss s.input) own (Err end))
+    own began.0 end w began.1
+    (no_other once o i own r.valid.0.is_outer at c.frame_count.result c.frame_count.ensures none)
+    (subst (λ (ss : List (List Line)). IsInnerEnd (run_files c.in-Ok.read.inner.config ss s.input) own (Err end))
     c.as_slice-clients.ensures.value c.in-Err-run_inner.ensures)
     (ap (λ (t : Stop). name_text (Nested outer name) t.name) c.unbegun-in-Err-run_inner.ensures.stop
     ∙ ap (name_text (Nested outer name)) c.at_second.ensures.1)

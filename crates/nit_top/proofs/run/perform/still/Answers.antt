@@ -28,8 +28,9 @@ returns-in-Err g c =
 pub perform_alone-requires-clause-runnable : goal.perform_alone-requires-clause-runnable
 perform_alone-requires-clause-runnable g c =
     let h = c.in-Ok.ensures in
-    subst (λ (s : Setup). IsRunnable s) (sym (same_setup c.args.width c.args.height c.in-Ok.read.config c.in-Ok.read.client
-    c.in-Ok.read.input h.config h.input)) h.read.valid.runnable
+    subst (λ (s : Setup). IsRunnable s)
+    (sym (same_setup c.args.width c.args.height c.in-Ok.read.config c.in-Ok.read.client c.in-Ok.read.input h.config
+    h.input)) h.read.valid.runnable
 
 pub perform_alone-requires-clause-alone : goal.perform_alone-requires-clause-alone
 perform_alone-requires-clause-alone g c = (c.in-Ok.read.client, refl, c.in-Ok.ensures.input)
