@@ -1,9 +1,8 @@
 //! The audit of a journal: whether it is one of a run of a configuration's scripts.
 
-ghost use Rattle.std.specs.Prelude.{◌≡◌, ℕ, List, IfSome, false, true, ◌≤◌, length};
-ghost use Rattle.nit_top.specs.Terms.{Audit, Ends, IsAuditEnd, IsConfig, IsConfiguration};
-ghost use Rattle.nit_top.specs.Terms.{IsRunnable, StoreModel, bytes_of, most_journal_bytes};
-ghost use Rattle.nit_top.specs.Terms.{setup_of, with_asked};
+ghost use Rattle.std.specs.Prelude.{false, true, ◌≤◌, length};
+ghost use Rattle.nit_top.specs.Terms.{Audit, Ends, IsAuditEnd, IsRunnable, most_journal_bytes};
+ghost use Rattle.nit_top.specs.Terms.{setup_of};
 
 use crate::report::finish::{Worked, unbegun};
 use nit_audit::{Verdict, audit};

@@ -86,7 +86,9 @@ fn work<R: Threads + Wait + Sync, S: Store, G: Gate>(
         Some(Asked::Clip { config }) => clip(host, store, config),
         Some(Asked::Capture { config, region }) => capture(host, store, config, region),
         Some(Asked::Nested { outer, inner }) => nested(host, store, outer, inner),
-        _ => work_alone(host.alloc, store, asked),
+        Some(Asked::Still { .. } | Asked::Turns { .. } | Asked::Audit { .. }) | None => {
+            work_alone(host.alloc, store, asked)
+        }
     }
 }
 
@@ -106,7 +108,14 @@ fn work_alone<S: Store>(alloc: Global, store: &mut S, asked: Option<Asked>) -> W
         ) => perform::still(alloc, store, width, height, script),
         Some(Asked::Turns { config }) => perform::turns(alloc, store, config),
         Some(Asked::Audit { config, journal }) => audited(alloc, store, config, journal),
-        _ => unbegun(alloc, nowhere(End::Usage)),
+        Some(
+            Asked::Run { .. }
+            | Asked::Gen { .. }
+            | Asked::Clip { .. }
+            | Asked::Capture { .. }
+            | Asked::Nested { .. },
+        )
+        | None => unbegun(alloc, nowhere(End::Usage)),
     }
 }
 

@@ -1,9 +1,8 @@
 //! The run of a configuration that is filmed.
 
-ghost use Rattle.std.specs.Prelude.{◌≡◌, ◌+◌, ℕ, List, IfSome, false, true};
-ghost use Rattle.nit_top.specs.Terms.{Capture, Ends, IsConfig, IsConfiguration, IsRegionWords};
-ghost use Rattle.nit_top.specs.Terms.{IsRunnable, PerformedFilmed, Region, Runs, StoreModel};
-ghost use Rattle.nit_top.specs.Terms.{bytes_of, is_off_screen, setup_of, with_asked};
+ghost use Rattle.std.specs.Prelude.{◌≡◌, ◌+◌, false, true};
+ghost use Rattle.nit_top.specs.Terms.{Capture, Ends, IsRegionWords, IsRunnable, PerformedFilmed};
+ghost use Rattle.nit_top.specs.Terms.{Region, is_off_screen, setup_of};
 
 use crate::report::finish::{Worked, unbegun};
 use nit_actor::Gate;

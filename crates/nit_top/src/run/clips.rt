@@ -1,10 +1,8 @@
 //! A run with each client on a thread of its own and a clip script for each, and the user on the
 //! calling thread.
 
-ghost use Rattle.std.specs.Prelude.{◌≡◌, ℕ, List, IfSome, length};
-ghost use Rattle.nit_top.specs.Terms.{Clip, Ends, IsConfig, IsConfiguration, IsRunnable};
-ghost use Rattle.nit_top.specs.Terms.{PerformedClips, StoreModel, bytes_of, clips_setup_of};
-ghost use Rattle.nit_top.specs.Terms.{with_asked};
+ghost use Rattle.std.specs.Prelude.{◌≡◌, length};
+ghost use Rattle.nit_top.specs.Terms.{Clip, Ends, IsRunnable, PerformedClips, clips_setup_of};
 
 use crate::report::finish::{Worked, unbegun};
 use nit_actor::Gate;

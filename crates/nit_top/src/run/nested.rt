@@ -1,9 +1,8 @@
 //! A run whose first client shows what another run has shown.
 
-ghost use Rattle.std.specs.Prelude.{◌+◌, ℕ, List, Some, ◌≡◌, ◌≤◌, length, ◌∷◌, true};
-ghost use Rattle.nit_top.specs.Terms.{Ends, IsAfterOuter, IsConfiguration, IsOuter, IsRunnable};
-ghost use Rattle.nit_top.specs.Terms.{Line, Nested, PerformedNested, RunFiles, StoreModel};
-ghost use Rattle.nit_top.specs.Terms.{first_other, run_files, setup_of};
+ghost use Rattle.std.specs.Prelude.{◌+◌, List, Some, ◌≡◌, ◌≤◌, length, ◌∷◌, true};
+ghost use Rattle.nit_top.specs.Terms.{Ends, IsRunnable, Line, Nested, PerformedNested, RunFiles};
+ghost use Rattle.nit_top.specs.Terms.{first_other, setup_of};
 
 use crate::report::finish::{Worked, unbegun};
 use crate::run::inner::run_inner;

@@ -1,10 +1,8 @@
 //! The work of a command: what is to be run, the run, and how it came to its end.
 
-ghost use Rattle.std.specs.Prelude.{◌<◌, ◌≤◌, false, ◌≡◌, ℕ, List, IfSome, true};
-ghost use Rattle.nit_top.specs.Terms.{Ends, Gen, IsAlone, IsConfig, IsConfiguration, IsRunnable};
-ghost use Rattle.nit_top.specs.Terms.{Performed, Run, Still, StoreModel, bytes_of, generated};
-ghost use Rattle.nit_top.specs.Terms.{most_height, most_width, number_end, setup_of};
-ghost use Rattle.nit_top.specs.Terms.{still_configuration, with_asked};
+ghost use Rattle.std.specs.Prelude.{◌<◌, ◌≤◌, false, true};
+ghost use Rattle.nit_top.specs.Terms.{Ends, Gen, IsAlone, IsRunnable, Performed, Run, Still};
+ghost use Rattle.nit_top.specs.Terms.{generated, most_height, most_width, number_end, setup_of};
 
 use crate::report::finish::{Worked, stop_after, unbegun};
 use nit_actor::Gate;
