@@ -114,8 +114,8 @@ fn work_alone<S: Store>(alloc: Global, store: &mut S, asked: Option<Asked>) -> W
             | Asked::Clip { .. }
             | Asked::Capture { .. }
             | Asked::Nested { .. },
-        )
-        | None => unbegun(alloc, nowhere(End::Usage)),
+        ) => unreachable!(),
+        None => unbegun(alloc, nowhere(End::Usage)),
     }
 }
 
