@@ -11,7 +11,6 @@ use Rattle.nit_top.proofs.WorkLemmas.{CameTo, stopped_ends}
 use Rattle.nit_top.proofs.EndsAfterRun.{totals_on, ends_by}
 use Rattle.nit_setup.specs.declared.stop.End.TheVariants as ends
 use Rattle.nit_setup.specs.declared.stop.Fault.TheVariants as fault
-use Rattle.nit_setup.specs.declared.stop.Name.TheVariants as file_name
 
 module _ (name journal : List ℕ) (old new : StoreModel) (s : Setup) (entries : List Entry)
     (scripts : AreAllScripts name old.files s) (all_asked : new ≡ asking_all old (reads (Audit name journal) s))

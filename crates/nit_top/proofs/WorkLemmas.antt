@@ -1,13 +1,12 @@
 -- How the work comes to its end: before a run is begun, and after one.
-use Rattle.std.proofs.Common.{◌≡◌, ℕ, ◌+◌, ◌≤◌, List, [], ◌∷◌, ◌++◌, length}
-use Rattle.std.proofs.Common.{Some, refl, sym, ap, subst, ◌∙◌, inl, inr}
+use Rattle.std.proofs.Common.{◌≡◌, ℕ, List, [], ◌∷◌, length}
+use Rattle.std.proofs.Common.{refl, sym, ap, subst, ◌∙◌, inl, inr}
 use Rattle.nit_top.proofs.Basics.{Came, Command}
-use Rattle.nit_top.proofs.Basics.{Counts, Course, End, Ends, Entry, Fault}
-use Rattle.nit_top.proofs.Basics.{FilesRead, HasRead, IfSome, IsLastRead}
+use Rattle.nit_top.proofs.Basics.{Counts, Course, End, Ends, Entry}
+use Rattle.nit_top.proofs.Basics.{IsLastRead}
 use Rattle.nit_top.proofs.Basics.{Judged, NotBegun}
-use Rattle.nit_top.proofs.Basics.{Refused, Stop, StoppedAt, StoreModel, Totals, Worked}
+use Rattle.nit_top.proofs.Basics.{Refused, Stop, StoreModel, Totals, Worked}
 use Rattle.nit_top.proofs.Basics.{also_more, asked_also, asking_all}
-use Rattle.nit_top.proofs.Basics.{bytes_of}
 use Rattle.nit_top.proofs.Basics.{StoppedBy, StoppedReading, line_of, name_text, names_read}
 use Rattle.nit_setup.specs.declared.stop.End.TheVariants as ends
 

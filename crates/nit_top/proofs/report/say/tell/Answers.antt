@@ -1,4 +1,4 @@
-use Rattle.nit_top.proofs.Lemmas.{End, List, Says, ap, subst, sym, ℕ}
+use Rattle.nit_top.proofs.Lemmas.{End, List, Says, subst, sym, ℕ}
 use Rattle.nit_top.proofs.Basics.{line_of, command_of, name_text}
 use Rattle.nit_top.specs.ProgramLines.{read_fault_line, write_fault_line}
 use Rattle.nit_top.proofs.EndsAfterRun.{totals_on}

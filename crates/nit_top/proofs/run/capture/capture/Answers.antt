@@ -1,4 +1,4 @@
-use Rattle.nit_top.proofs.Lemmas.{Capture, Configuration, Stop, ap, film_ends, is_off_screen}
+use Rattle.nit_top.proofs.Lemmas.{Capture, Stop, ap, film_ends, is_off_screen}
 use Rattle.nit_top.proofs.Lemmas.{outside_ends, setup_in, stopped_ends, sym, true, ◌∙◌}
 use Rattle.nit_top.proofs.Basics.{IsRunnable, PerformedFilmed, subst}
 use Rattle.nit_setup.specs.declared.read.Loaded.{Loaded}

@@ -1,4 +1,4 @@
-use Rattle.std.proofs.Common.{◌≡◌, ◌∙◌, ◌∷◌, Some, Ok, Err, true, false, ℕ, List, length, ap, sym}
+use Rattle.std.proofs.Common.{◌≡◌, ◌∙◌, Some, Ok, Err, true, ℕ, List, length, ap, sym}
 use Rattle.nit_top.proofs.Lemmas.{AreLines, Entry, FitsLine, IsInnerEnd, IsRunnable, Line}
 use Rattle.nit_top.proofs.Lemmas.{PerformedNested, Setup, Stop, begun, files_in}
 use Rattle.nit_top.proofs.Lemmas.{by_turns, first_other, first_shows, frames_counted, frames_of}

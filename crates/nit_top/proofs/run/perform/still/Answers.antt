@@ -1,4 +1,4 @@
-use Rattle.std.proofs.Common.{◌≡◌, ◌∙◌, false, ◌∷◌, [], ℕ, List, None, sym, ap, subst, refl}
+use Rattle.std.proofs.Common.{◌≡◌, false, ◌∷◌, [], ℕ, List, None, sym, subst, refl}
 use Rattle.nit_top.proofs.Lemmas.{Configuration, InputLine, IsRunnable, Line, Performed, Setup}
 use Rattle.nit_top.proofs.Lemmas.{Still}
 use Rattle.nit_top.proofs.Lemmas.{idle_user, performed_ends, setup_of, still_configuration}
