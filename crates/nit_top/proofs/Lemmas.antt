@@ -43,5 +43,5 @@ pub use Rattle.nit_top.proofs.Basics.{Audit, Clip, Nested, Run, Still, files_in,
 pub use Rattle.nit_top.proofs.Basics.{setup_with_clips}
 pub use Rattle.nit_top.proofs.StoredFiles.{stand}
 pub use Rattle.nit_top.proofs.TextFragments.{flat_map_at, says_stop, says_then}
-pub use Rattle.nit_top.proofs.EndsAfterRun.{outside_ends, performed_ends, usage_ends}
+pub use Rattle.nit_top.proofs.EndsAfterRun.{outside_ends, performed_ends}
 pub use Rattle.nit_top.proofs.WorkLemmas.{stopped_ends}

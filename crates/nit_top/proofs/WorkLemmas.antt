@@ -1,13 +1,10 @@
 -- How the work comes to its end: before a run is begun, and after one.
 use Rattle.std.proofs.Common.{◌≡◌, ℕ, List, [], ◌∷◌, length}
 use Rattle.std.proofs.Common.{refl, sym, ap, subst, ◌∙◌, inl, inr}
-use Rattle.nit_top.proofs.Basics.{Came, Command}
-use Rattle.nit_top.proofs.Basics.{Counts, Course, End, Ends, Entry}
-use Rattle.nit_top.proofs.Basics.{IsLastRead}
-use Rattle.nit_top.proofs.Basics.{Judged, NotBegun}
-use Rattle.nit_top.proofs.Basics.{Refused, Stop, StoreModel, Totals, Worked}
-use Rattle.nit_top.proofs.Basics.{also_more, asked_also, asking_all}
-use Rattle.nit_top.proofs.Basics.{StoppedBy, StoppedReading, line_of, name_text, names_read}
+use Rattle.nit_top.proofs.Basics.{Came, Command, Counts, Course, End, Ends, Entry, IsLastRead}
+use Rattle.nit_top.proofs.Basics.{Judged, NotBegun, Refused, Stop, StoppedBy, StoppedReading}
+use Rattle.nit_top.proofs.Basics.{StoreModel, Totals, Worked, also_more, asked_also, asking_all}
+use Rattle.nit_top.proofs.Basics.{line_of, name_text, names_read}
 use Rattle.nit_setup.specs.declared.stop.End.TheVariants as ends
 
 -- what the end of the work means, whatever the totals of the line
