@@ -4,7 +4,7 @@ use Rattle.std.proofs.Common.{subst, ◌∙◌, arith}
 use Rattle.nit_setup.proofs.Basics.{AreClipScripts, AreClipsRead, ClipLine, File, IfSome}
 use Rattle.nit_setup.proofs.Basics.{IsClipFault, IsClipScript, Stop, StoppedAt, StoppedAtClip}
 use Rattle.nit_setup.proofs.Basics.{StoreModel, asking_all, asking_more, asking_none, bytes_of}
-use Rattle.nit_setup.proofs.Basics.{clip_name, fits_push, length_push, map_push, name_text}
+use Rattle.nit_setup.proofs.Basics.{IsNameOf, clip_name, fits_push, length_push, map_push}
 use Rattle.nit_setup.proofs.Basics.{with_asked, wrong_clip}
 use Rattle.nit_setup.proofs.ScriptsRead.{told_so_both, zip_more}
 
@@ -44,14 +44,14 @@ one_more_clip_read wanted old scripts clips mid script lines new far asked valid
 pub stopped_at_clip : (wanted : Option ℕ) (old : StoreModel) (scripts before behind : List (List ℕ))
     (clips : List (List ClipLine)) (mid : StoreModel) (script : List ℕ) (new : StoreModel) (stop : Stop)
     → scripts ≡ before ++ script ∷ behind
-    → AreClipsRead wanted old before clips mid → name_text stop.name ≡ clip_name script
+    → AreClipsRead wanted old before clips mid → IsNameOf stop.name (clip_name script)
     → StoppedAt (IsClipFault wanted) mid (clip_name script) new stop.end → StoppedAtClip wanted old scripts new stop
 stopped_at_clip wanted old scripts before behind clips mid script new stop parts far is stopped = record {
   before = before;
   behind = behind;
   script = script;
   parts = parts;
-  name_is = is;
+  named = is;
   clips = clips;
   between = mid;
   read = far;

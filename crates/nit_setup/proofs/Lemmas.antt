@@ -15,3 +15,4 @@ pub use Rattle.nit_setup.proofs.Misfits.{one_more_wanted, other_here, some_so}
 pub use Rattle.nit_setup.proofs.NumberWords.{number_is, size_found, size_none}
 pub use Rattle.nit_setup.proofs.RunnableSetups.{run_runnable}
 pub use Rattle.nit_setup.proofs.ScriptsRead.{names_at, names_more, one_more_read, stopped_here}
+pub use Rattle.nit_setup.proofs.ShortNames.{short_name, short_script}

@@ -2,10 +2,11 @@
 use Rattle.std.proofs.Common.{◌≡◌, ◌∙◌, ℕ, List, [], ◌∷◌, ◌++◌, Option, Some, None, refl, sym, ap}
 use Rattle.std.proofs.Common.{subst, arith}
 use Rattle.nit_setup.proofs.Basics.{AreLines, AreOuterScripts, Fault, File, FitsLine, IfSome}
-use Rattle.nit_setup.proofs.Basics.{IsOuterFault, IsOuterScript, Line, MayShowFrames, OuterSoFar}
+use Rattle.nit_setup.proofs.Basics.{IsNameOf, IsOuterFault, IsOuterScript, Line, MayShowFrames}
+use Rattle.nit_setup.proofs.Basics.{OuterSoFar}
 use Rattle.nit_setup.proofs.Basics.{OuterStopped, SpellScripts, Stop, StoppedAt, StoreModel}
 use Rattle.nit_setup.proofs.Basics.{asking_all, asking_more, asking_none, bytes_of, first_forbidden}
-use Rattle.nit_setup.proofs.Basics.{fits_push, length_push, name_text, option_map, with_asked}
+use Rattle.nit_setup.proofs.Basics.{fits_push, length_push, option_map, with_asked}
 use Rattle.nit_setup.proofs.Basics.{wrong_outer}
 use Rattle.nit_setup.proofs.ScriptsRead.{told_so, told_so_both, zip_more}
 use Rattle.nit_setup.specs.declared.stop.Fault.TheVariants as fault
@@ -52,20 +53,20 @@ one_more_read old names scripts before mid name lines new far same asked valid f
 pub stopped_here : (old : StoreModel) (names before behind : List (List ℕ)) (scripts seen : List (List Line))
     (mid : StoreModel) (name : List ℕ) (new : StoreModel) (stop : Stop) → names ≡ before ++ name ∷ behind
     → OuterSoFar old before scripts mid
-    → seen ≡ scripts → name_text stop.name ≡ name → StoppedAt (IsOuterFault seen) mid name new stop.end
+    → seen ≡ scripts → IsNameOf stop.name name → StoppedAt (IsOuterFault seen) mid name new stop.end
     → OuterStopped old names new stop
 stopped_here old names before behind scripts seen mid name new stop parts far same is stopped = record {
   before = before;
+  name = name;
   behind = behind;
-  parts = parts ∙ ap (λ (n : List ℕ). before ++ n ∷ behind) (sym is);
+  parts = parts;
+  named = is;
   scripts = scripts;
   count = far.count;
   lines = far.lines;
   may = far.may;
   valid = told_so (λ files. SpellScripts files before scripts) (λ files. AreOuterScripts files before scripts) old.files
       (λ files p. (p, far.may)) far.valid;
-  stopped =
-      subst (λ (n : List ℕ). StoppedAt (IsOuterFault scripts) (asking_all old before) n new stop.end) (sym is)
-      (subst (λ (s : StoreModel). StoppedAt (IsOuterFault scripts) s name new stop.end) far.asked
-      (subst (λ (ss : List (List Line)). StoppedAt (IsOuterFault ss) mid name new stop.end) same stopped));
+  stopped = subst (λ (s : StoreModel). StoppedAt (IsOuterFault scripts) s name new stop.end) far.asked
+      (subst (λ (ss : List (List Line)). StoppedAt (IsOuterFault ss) mid name new stop.end) same stopped);
 }

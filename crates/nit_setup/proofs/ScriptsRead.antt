@@ -3,10 +3,11 @@ use Rattle.std.proofs.Common.{◌≡◌, ℕ, zero, suc, ◌+◌, ◌<◌, List,
 use Rattle.std.proofs.Common.{drop, get_or, Option, Some, None, refl, sym, ap, subst, ◌∙◌, arith}
 use Rattle.std.proofs.Common.{add-one, eqb-true, inl, inr, ◌==◌}
 use Rattle.nit_setup.proofs.Basics.{AllZip, AreLines, AreScripts, Fault, File, FitsLine}
-use Rattle.nit_setup.proofs.Basics.{HaveSamePhases, IfSome, IsClientFault, IsClientScript, Line}
+use Rattle.nit_setup.proofs.Basics.{HaveSamePhases, IfSome, IsClientFault, IsClientScript, IsNameOf}
+use Rattle.nit_setup.proofs.Basics.{Line}
 use Rattle.nit_setup.proofs.Basics.{Member, SoFar, SpellScripts, Stop, StoppedAmong, StoppedAt}
 use Rattle.nit_setup.proofs.Basics.{StoreModel, asking_all, asking_more, asking_none, bytes_of}
-use Rattle.nit_setup.proofs.Basics.{cases_Bool, cond, fits_push, length_push, name_text, phases}
+use Rattle.nit_setup.proofs.Basics.{cases_Bool, cond, fits_push, length_push, phases}
 use Rattle.nit_setup.proofs.Basics.{wanted_by, with_asked, wrong_client}
 use Rattle.nit_setup.specs.declared.stop.Fault.TheVariants as fault
 
@@ -94,23 +95,22 @@ one_more_read old names scripts mid wanted name lines new far wants asked valid 
 pub stopped_here : (old : StoreModel) (names before behind : List (List ℕ)) (scripts : List (List Line))
     (mid : StoreModel) (wanted : Option ℕ) (name : List ℕ) (new : StoreModel) (stop : Stop)
     → names ≡ before ++ name ∷ behind → SoFar old before scripts mid
-    → wanted ≡ wanted_by scripts → name_text stop.name ≡ name → StoppedAt (IsClientFault wanted) mid name new stop.end
+    → wanted ≡ wanted_by scripts → IsNameOf stop.name name → StoppedAt (IsClientFault wanted) mid name new stop.end
     → StoppedAmong old names new stop
 stopped_here old names before behind scripts mid wanted name new stop parts far wants is stopped = record {
   before = before;
+  name = name;
   behind = behind;
-  parts = parts ∙ ap (λ (n : List ℕ). before ++ n ∷ behind) (sym is);
+  parts = parts;
+  named = is;
   scripts = scripts;
   count = far.count;
   lines = far.lines;
   phases = far.phases;
   valid = told_so (λ files. SpellScripts files before scripts) (λ files. AreScripts files before scripts) old.files
       (λ files p. (p, far.phases)) far.valid;
-  stopped =
-      subst (λ (n : List ℕ). StoppedAt (IsClientFault (wanted_by scripts)) (asking_all old before) n new stop.end)
-      (sym is)
-      (subst (λ (s : StoreModel). StoppedAt (IsClientFault (wanted_by scripts)) s name new stop.end) far.asked
-      (subst (λ (w : Option ℕ). StoppedAt (IsClientFault w) mid name new stop.end) wants stopped));
+  stopped = subst (λ (s : StoreModel). StoppedAt (IsClientFault (wanted_by scripts)) s name new stop.end) far.asked
+      (subst (λ (w : Option ℕ). StoppedAt (IsClientFault w) mid name new stop.end) wants stopped);
 }
 
 -- ---- the names of clients

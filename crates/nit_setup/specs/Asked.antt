@@ -1,7 +1,8 @@
 -- What the words ask for, as the code has it.
-use Rattle.std.specs.Prelude.{◌<◌, ◌≤◌, true, false}
+use Rattle.std.specs.Prelude.{◌<◌, ◌≤◌, true, false, Option, Some, None}
 use Rattle.nit_setup.specs.Below.{Asked, IsRegionWords, most_height, most_width, number_end}
 use Rattle.nit_setup.specs.Command.{Command, Still, Run, Gen, Audit, Clip, Capture, Nested}
+use Rattle.nit_setup.specs.Command.{NoCommand}
 use Rattle.nit_setup.specs.declared.words.Asked.TheVariants as asked
 
 -- the command that is asked for
@@ -14,6 +15,11 @@ asks_for (asked.Audit config journal) = Audit config.now journal.now
 asks_for (asked.Clip config) = Clip config.now
 asks_for (asked.Capture config region) = Capture config.now region
 asks_for (asked.Nested outer inner) = Nested outer.now inner.now
+
+-- the same, where words that are no command ask for nothing
+abbrev pub command_of : Option Asked → Command
+command_of None = NoCommand
+command_of (Some asked) = asks_for asked
 
 -- the size of a picture, the number of a generated run, and the numbers of a region are within
 -- their ranges

@@ -6,8 +6,9 @@ pub use Rattle.nit_audit.specs.declared.auditing.Verdict.{Verdict}
 pub use Rattle.nit_clip.specs.ClipGrammar.{clip_phases, is_clip_phase}
 pub use Rattle.nit_clip.specs.ClipSpelling.{FitsClipLine, clip_line_spelling}
 pub use Rattle.nit_clip.specs.declared.line.ClipLine.{ClipLine}
-pub use Rattle.nit_config.specs.Configuration.{Configuration, still_configuration}
-pub use Rattle.nit_config.specs.ConfigurationRanges.{IsConfiguration}
+pub use Rattle.nit_config.specs.Configuration.{Configuration, is_file_name, most_file_name}
+pub use Rattle.nit_config.specs.Configuration.{still_configuration}
+pub use Rattle.nit_config.specs.ConfigurationRanges.{IsConfiguration, IsMember}
 pub use Rattle.nit_config.specs.ConfigurationText.{IsConfigurationOf}
 pub use Rattle.nit_config.specs.declared.config.Member.{Member}
 pub use Rattle.nit_events.specs.declared.entry.Entry.{Entry}
@@ -36,6 +37,7 @@ pub use Rattle.nit_script.specs.declared.line.Line.{Line}
 pub use Rattle.nit_setup.specs.declared.stop.End.{End}
 pub use Rattle.nit_setup.specs.declared.stop.Fault.{Fault}
 pub use Rattle.nit_setup.specs.declared.stop.Name.{Name}
+pub use Rattle.nit_setup.specs.declared.stop.ScriptName.{ScriptName}
 pub use Rattle.nit_setup.specs.declared.stop.Stop.{Stop}
 pub use Rattle.nit_setup.specs.declared.words.Asked.{Asked}
 pub use Rattle.nit_store.specs.Store.{File, ReadFaulted, StoreModel, bytes_of, with_asked}

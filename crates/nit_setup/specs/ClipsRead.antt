@@ -3,7 +3,7 @@ use Rattle.std.specs.Prelude.{◌≡◌, ℕ, List, ◌∷◌, ◌++◌, length,
 use Rattle.std.specs.Prelude.{IfSome, Vec}
 use Rattle.nit_setup.specs.Below.{AllByRecursion, ClipLine, Global, Stop, StoreModel, asking_all}
 use Rattle.nit_setup.specs.Judgement.{AreClipScripts, IsClipFault, clip_name, wrong_clip}
-use Rattle.nit_setup.specs.StopNames.{name_text}
+use Rattle.nit_setup.specs.StopNames.{IsNameOf}
 use Rattle.nit_setup.specs.Reading.{StoppedAt}
 
 -- The clip scripts of these scripts' names were read, and are valid.
@@ -23,7 +23,7 @@ pub record StoppedAtClip (wanted : Option ℕ) (old : StoreModel) (scripts : Lis
   pub behind : List (List ℕ)
   pub script : List ℕ
   pub parts : scripts ≡ before ++ script ∷ behind
-  pub name_is : name_text stop.name ≡ clip_name script
+  pub named : IsNameOf stop.name (clip_name script)
   pub clips : List (List ClipLine)
   pub between : StoreModel
   pub read : AreClipsRead wanted old before clips between

@@ -22,6 +22,7 @@ pub mod JournalFiles
 pub mod Judgement
 pub mod OuterRead
 pub mod Reading
+pub mod SetupRead
 pub mod StopNames
 pub mod Below
 pub mod Terms

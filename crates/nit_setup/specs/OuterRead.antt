@@ -6,7 +6,7 @@ use Rattle.nit_setup.specs.Below.{InputLine, Line, Scripts, Stop, StoreModel, as
 use Rattle.nit_setup.specs.Below.{with_asked}
 use Rattle.nit_setup.specs.Judgement.{SpellScripts, script_names, MayShowFrames, AreOuterScripts}
 use Rattle.nit_setup.specs.Judgement.{IsOuterFault, IsInputScript, IsInputFault}
-use Rattle.nit_setup.specs.StopNames.{name_text}
+use Rattle.nit_setup.specs.StopNames.{IsNameOf}
 use Rattle.nit_setup.specs.Reading.{StoppedAt}
 
 -- The script of one name was not read or is refused, or memory ran out there; those before it are
@@ -14,15 +14,16 @@ use Rattle.nit_setup.specs.Reading.{StoppedAt}
 pub record OuterStopped (old : StoreModel) (names : List (List ℕ)) (new : StoreModel)
     (stop : Stop) : Type 0 where
   pub before : List (List ℕ)
+  pub name : List ℕ
   pub behind : List (List ℕ)
-  pub parts : names ≡ before ++ name_text stop.name ∷ behind
+  pub parts : names ≡ before ++ name ∷ behind
+  pub named : IsNameOf stop.name name
   pub scripts : List (List Line)
   pub count : length scripts ≡ length before
   pub lines : AllByRecursion (AreLines FitsLine) scripts
   pub may : MayShowFrames scripts
   pub valid : IfSome old.files (λ files. AreOuterScripts files before scripts)
-  pub stopped : StoppedAt (IsOuterFault scripts) (asking_all old before) (name_text stop.name) new
-      stop.end
+  pub stopped : StoppedAt (IsOuterFault scripts) (asking_all old before) name new stop.end
 
 -- The scripts of these names were read, and are valid.
 pub record OuterSoFar (old : StoreModel) (names : List (List ℕ)) (scripts : List (List Line))
@@ -55,7 +56,7 @@ pub record OuterStoppedAtInput (config : Configuration) (old new : StoreModel)
   pub scripts : List (List Line)
   pub between : StoreModel
   pub clients : OuterSoFar old (script_names config) scripts between
-  pub name_is : name_text stop.name ≡ config.input
+  pub named : IsNameOf stop.name config.input
   pub stopped : StoppedAt (IsInputFault None) between config.input new stop.end
 
 -- the scripts of the outer configuration were read and judged, in order

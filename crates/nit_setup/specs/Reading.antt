@@ -2,12 +2,13 @@
 use Rattle.std.specs.Prelude.{◌≡◌, ◌⊎◌, ℕ, ◌<◌, ◌≤◌, List, ◌∷◌, ◌++◌, length, Result, Ok, Err}
 use Rattle.std.specs.Prelude.{IfSome, Vec}
 use Rattle.nit_setup.specs.Below.{AllByRecursion, AreLines, AskedAtMost, Configuration, End, Fault}
+use Rattle.nit_setup.specs.Below.{File}
 use Rattle.nit_setup.specs.Below.{FitsLine, Global, HaveSamePhases, InputLine, JournalError, Line}
 use Rattle.nit_setup.specs.Below.{ReadFaulted, ScriptError, Scripts, Stop, StoreModel, asking_all}
 use Rattle.nit_setup.specs.Below.{bytes_of, with_asked}
 use Rattle.nit_setup.specs.Judgement.{SpellScripts, wanted_by, script_names, IsClientFault}
 use Rattle.nit_setup.specs.Judgement.{IsInputScript, IsInputFault, AreScripts}
-use Rattle.nit_setup.specs.StopNames.{name_text}
+use Rattle.nit_setup.specs.StopNames.{IsNameOf}
 use Rattle.nit_script.specs.declared.error.ScriptError.TheVariants as script
 use Rattle.nit_report.specs.declared.error.JournalError.TheVariants as journal
 use Rattle.nit_setup.specs.declared.stop.End.TheVariants as end
@@ -47,13 +48,19 @@ abbrev pub end_of_journal : JournalError → End
 end_of_journal (journal.Bad number) = end.Refused (fault.BadEntry number)
 end_of_journal journal.NoMemory = end.NoMemory
 
+-- a file of this name was not read, or is what the files are refused for, or memory ran out
+abbrev pub StoppedBy : (List File → Fault → Type 0) → StoreModel → List ℕ → StoreModel → End
+    → Type 0
+StoppedBy Refuse old name new end.ReadFault = ReadFaulted (with_asked old name) new
+StoppedBy Refuse old name new (end.Refused f) = (new ≡ with_asked old name)
+    × IfSome old.files (λ files. Refuse files f)
+StoppedBy Refuse old name new end.NoMemory = AskedAtMost old name new
+StoppedBy Refuse old name new other = ⊥
+
 -- where a file of this name was not read, or its bytes have a fault
 abbrev pub StoppedAt : (List ℕ → Fault → Type 0) → StoreModel → List ℕ → StoreModel → End → Type 0
-StoppedAt Faulty old name new end.ReadFault = ReadFaulted (with_asked old name) new
-StoppedAt Faulty old name new (end.Refused f) = (new ≡ with_asked old name)
-    × IfSome old.files (λ files. Faulty (bytes_of name files) f)
-StoppedAt Faulty old name new end.NoMemory = AskedAtMost old name new
-StoppedAt Faulty old name new other = ⊥
+StoppedAt Faulty old name new end =
+    StoppedBy (λ files f. Faulty (bytes_of name files) f) old name new end
 
 -- a file was read and judged, or so the work ends
 abbrev pub FileJudged : {V : Type 0} → (List ℕ → V → Type 0) → (List ℕ → Fault → Type 0)
@@ -62,28 +69,22 @@ FileJudged Valid Faulty old name new (Ok v) = (new ≡ with_asked old name)
     × IfSome old.files (λ files. Valid (bytes_of name files) v)
 FileJudged Valid Faulty old name new (Err end) = StoppedAt Faulty old name new end
 
--- the same, where it is told at which file
-abbrev pub FileLoaded : {V : Type 0} → (List ℕ → V → Type 0) → (List ℕ → Fault → Type 0)
-    → StoreModel → List ℕ → StoreModel → Result V Stop → Type 0
-FileLoaded Valid Faulty old name new (Ok v) = (new ≡ with_asked old name)
-    × IfSome old.files (λ files. Valid (bytes_of name files) v)
-FileLoaded Valid Faulty old name new (Err stop) = (name_text stop.name ≡ name)
-    × StoppedAt Faulty old name new stop.end
-
 -- The script of one name was not read or is refused, or memory ran out there; those before it are
 -- valid.
 pub record StoppedAmong (old : StoreModel) (names : List (List ℕ)) (new : StoreModel)
     (stop : Stop) : Type 0 where
   pub before : List (List ℕ)
+  pub name : List ℕ
   pub behind : List (List ℕ)
-  pub parts : names ≡ before ++ name_text stop.name ∷ behind
+  pub parts : names ≡ before ++ name ∷ behind
+  pub named : IsNameOf stop.name name
   pub scripts : List (List Line)
   pub count : length scripts ≡ length before
   pub lines : AllByRecursion (AreLines FitsLine) scripts
   pub phases : HaveSamePhases scripts
   pub valid : IfSome old.files (λ files. AreScripts files before scripts)
-  pub stopped : StoppedAt (IsClientFault (wanted_by scripts)) (asking_all old before)
-      (name_text stop.name) new stop.end
+  pub stopped : StoppedAt (IsClientFault (wanted_by scripts)) (asking_all old before) name new
+      stop.end
 
 -- The scripts of these names were read, and are valid.
 pub record SoFar (old : StoreModel) (names : List (List ℕ)) (scripts : List (List Line))
@@ -118,7 +119,7 @@ pub record StoppedAtInput (config : Configuration) (old new : StoreModel)
   pub scripts : List (List Line)
   pub between : StoreModel
   pub clients : SoFar old (script_names config) scripts between
-  pub name_is : name_text stop.name ≡ config.input
+  pub named : IsNameOf stop.name config.input
   pub stopped : StoppedAt (IsInputFault (wanted_by scripts)) between config.input new stop.end
 
 -- the scripts of a configuration were read and judged, in order

@@ -1,5 +1,5 @@
 -- The words that clauses use: those that come from outside, and those of this crate.
-pub use Rattle.nit_setup.specs.Asked.{IsAskedInRange, asks_for}
+pub use Rattle.nit_setup.specs.Asked.{IsAskedInRange, asks_for, command_of}
 pub use Rattle.nit_setup.specs.Below.{AllByRecursion, AllZip, AreLines, ClipLine, Configuration}
 pub use Rattle.nit_setup.specs.Below.{End, Entry, Fault, File, FitsClipLine, FitsInputLine}
 pub use Rattle.nit_setup.specs.Below.{FitsLine, HasOneReading, HaveSamePhases, IfNone, IfSome}
@@ -37,7 +37,13 @@ pub use Rattle.nit_setup.specs.Judgement.{too_long_for, unless_other, wanted_by,
 pub use Rattle.nit_setup.specs.Judgement.{wrong_clip, wrong_input, wrong_lines, wrong_outer}
 pub use Rattle.nit_setup.specs.Judgement.{wrong_phases}
 pub use Rattle.nit_setup.specs.OuterRead.{OuterLoaded, OuterSoFar, OuterStopped, ReadOuter}
-pub use Rattle.nit_setup.specs.Reading.{FileJudged, FileLoaded, JudgedBytes, LoadedAll, ReadFor}
+pub use Rattle.nit_setup.specs.SetupRead.{AuditRead, BothRead, ClipSetupRead, ConfigRead}
+pub use Rattle.nit_setup.specs.SetupRead.{HasReadJournal, HasReadPicture, IsLoaded, IsOuterLoaded}
+pub use Rattle.nit_setup.specs.SetupRead.{OuterRunRead, PictureRead, ReadsTo, RunRead, SetupRead}
+pub use Rattle.nit_setup.specs.SetupRead.{StoppedReading, setup_with_clips, files_in, setup_in}
+pub use Rattle.nit_setup.specs.Below.{Region}
+pub use Rattle.nit_setup.specs.Reading.{FileJudged, JudgedBytes, LoadedAll, ReadFor}
 pub use Rattle.nit_setup.specs.Reading.{ReadScripts, SoFar, StoppedAmong, StoppedAt, end_of_journal}
 pub use Rattle.nit_setup.specs.Reading.{end_of_script}
-pub use Rattle.nit_setup.specs.StopNames.{name_text}
+pub use Rattle.nit_setup.specs.Below.{IsMember, is_file_name, most_file_name}
+pub use Rattle.nit_setup.specs.StopNames.{IsNameOf, first_name, name_text, script_text, second_name}

@@ -1,11 +1,11 @@
 //! Reading clip scripts, and judging them.
 
-ghost use Rattle.std.specs.Prelude.{map, ◌≡◌, None, IfOk, string_bytes};
-ghost use Rattle.nit_setup.specs.Terms.{FileLoaded, IsClipFault, IsClipScript, LoadedClips};
-ghost use Rattle.nit_setup.specs.Terms.{clip_name, wrong_clip};
+ghost use Rattle.std.specs.Prelude.{map, ◌≡◌, ◌≤◌, length, All, None, IfOk, string_bytes};
+ghost use Rattle.nit_setup.specs.Terms.{FileJudged, IsClipFault, IsClipScript, LoadedClips};
+ghost use Rattle.nit_setup.specs.Terms.{IsMember, IsNameOf, clip_name, most_file_name, wrong_clip};
 
 use crate::load::load_lines;
-use crate::stop::{End, Name, Stop};
+use crate::stop::{End, Name, ScriptName, Stop};
 use nit_clip::ClipScript;
 use nit_config::Member;
 use nit_rect::NoMemory;
@@ -14,13 +14,14 @@ use std::alloc::Global;
 
 /// Reads the clip scripts of these clients in order, and judges each as it is read: it is to have
 /// so many phases, where a number is given.
-pub fn load_clips<'a, S: Store>(
+pub fn load_clips<S: Store>(
     alloc: Global,
     store: &mut S,
-    clients: &'a [Member],
+    clients: &[Member],
     wanted: Option<usize>,
-) -> Result<Vec<ClipScript>, Stop<'a>>
-    ensures { LoadedClips wanted (S.shown store.old) (map (λ m. m.script) clients.entry.now)
+) -> Result<Vec<ClipScript>, Stop>
+    requires { All IsMember clients.now }
+    ensures { LoadedClips wanted (S.shown store.old) (map (λ m. m.script) clients.now)
         (S.shown store.new) result }
 {
     let mut clips = Vec::new(alloc);
@@ -28,7 +29,7 @@ pub fn load_clips<'a, S: Store>(
         let script = client.script.as_str();
         let clip = match load_clip(alloc, store, script, wanted) {
             Ok(clip) => clip,
-            Err(stop) => return Err(stop),
+            Err(end) => return Err(at_clips_of(end, script)),
         };
         if clips.reserve(1).is_err() {
             return Err(at_clips_of(End::NoMemory, script));
@@ -40,32 +41,33 @@ pub fn load_clips<'a, S: Store>(
 
 /// Reads the clip script of the client with the script of this name, and judges it: it is to have
 /// so many phases, where a number is given.
-fn load_clip<'a, S: Store>(
+fn load_clip<S: Store>(
     alloc: Global,
     store: &mut S,
-    script: &'a str,
+    script: &str,
     wanted: Option<usize>,
-) -> Result<ClipScript, Stop<'a>>
-    ensures loaded { FileLoaded (IsClipScript wanted) (IsClipFault wanted) (S.shown store.old)
-        (clip_name script.entry.now) (S.shown store.new) result }
+) -> Result<ClipScript, End>
+    ensures loaded { FileJudged (IsClipScript wanted) (IsClipFault wanted) (S.shown store.old)
+        (clip_name script.now) (S.shown store.new) result }
     ensures right { IfOk result (λ lines. wrong_clip wanted lines ≡ None) }
 {
     let Ok(name) = clip_name(alloc, script) else {
-        return Err(at_clips_of(End::NoMemory, script));
+        return Err(End::NoMemory);
     };
     match load_lines(alloc, store, name.as_str(), wanted) {
         Ok(lines) => Ok(ClipScript { lines }),
-        Err(end) => Err(at_clips_of(end, script)),
+        Err(end) => Err(end),
     }
 }
 
 /// The work ended at the clip script of the client with the script of this name.
-fn at_clips_of(end: End, script: &str) -> Stop<'_>
-    ensures { (result.end ≡ end) × (result.name ≡ Name.ClipsOf script.entry) }
+fn at_clips_of(end: End, script: &str) -> Stop
+    requires { length script.now ≤ most_file_name }
+    ensures { (result.end ≡ end) × IsNameOf result.name (clip_name script.now) }
 {
     Stop {
         end,
-        name: Name::ClipsOf(script),
+        name: Name::ClipsOf(ScriptName::new(script)),
     }
 }
 

@@ -1,16 +1,17 @@
 //! From the words of the command line and the files of a store to the setup of a run.
 //!
-//! [`parse_words`] says what the words ask for. The files that this names are read one by one, and
-//! each is judged as it is read: a configuration by [`load_config`], the scripts of its clients and
-//! its input script by [`read_scripts`], a clip script for each client by [`load_clips`], the
-//! scripts of which the first shows frames by [`read_outer`], and a journal by [`load_journal`]. A
-//! picture's setup is made of one script ([`load_client`], [`still_configuration`], [`idle_user`]),
-//! and that of a generated run is read from the bytes of its own files ([`read_files`]).
+//! [`parse_words`] says what the words ask for. One call then reads all files that they name, one
+//! after the other, and judges each as it is read: [`read_still`] the script of a picture,
+//! [`read_run`] a configuration and its scripts, [`read_clips`] these and a clip script for each
+//! client, [`read_audit`] these and a journal, and [`read_nested`] two configurations with their
+//! scripts. The scripts of a generated run are read from the bytes of its own files
+//! ([`read_files`]).
 //!
 //! Where a file cannot be read or is refused, or memory runs out, the answer is a [`Stop`]: how the
 //! work ends, and the file that it ends at. The files before it are valid then, and what the store
-//! was asked for is told name by name. [`first_other`] names the script that has another number of
-//! phases than an inner run has frames.
+//! was asked for is told name by name. A stop borrows nothing: of a file that the words name it
+//! says which one that is, and of a script it holds the name. [`first_other`] names the script that
+//! has another number of phases than an inner run has frames.
 //!
 //! The tests are those of whole commands, in `nit_tests`.
 #![tactic(auto)]
@@ -20,17 +21,17 @@ mod generated;
 mod load;
 mod misfit;
 mod outer;
+mod read;
 mod scripts;
 mod still;
 mod stop;
 mod words;
 
-pub use clips::load_clips;
 pub use generated::read_files;
-pub use load::{load_client, load_config, load_journal};
 pub use misfit::{first_other, frame_count};
-pub use outer::read_outer;
-pub use scripts::{read_scripts, wanted_by};
-pub use still::{idle_user, still_configuration};
-pub use stop::{End, Fault, Name, Stop, at};
+pub use read::{
+    Loaded, OneScript, TwoRuns, WithClips, WithJournal, read_audit, read_clips, read_nested,
+    read_run, read_still,
+};
+pub use stop::{End, Fault, Name, ScriptName, Stop, at, at_first, at_second, nowhere};
 pub use words::{Asked, parse_words};

@@ -1,6 +1,6 @@
 //! Reading files, and judging them.
 
-ghost use Rattle.nit_setup.specs.Terms.{AreLines, FileJudged, FileLoaded, FitsInputLine, FitsLine};
+ghost use Rattle.nit_setup.specs.Terms.{AreLines, FileJudged, FitsInputLine, FitsLine};
 ghost use Rattle.nit_setup.specs.Terms.{IsClientFault, IsClientScript, IsConfig, IsConfigFault};
 ghost use Rattle.nit_setup.specs.Terms.{IsConfiguration, IsInputFault, IsInputScript};
 ghost use Rattle.nit_setup.specs.Terms.{IsJournalText, IsNoJournalText, IsPhasedFault};
@@ -9,7 +9,7 @@ ghost use Rattle.nit_setup.specs.Terms.{end_of_script, most_bytes, most_journal_
 ghost use Rattle.nit_setup.specs.Terms.{wrong_client, wrong_input, wrong_lines};
 ghost use Rattle.std.specs.Prelude.{IfOk, ◌≡◌, None, ◌≤◌, length};
 
-use crate::stop::{End, Fault, Stop, at};
+use crate::stop::{End, Fault};
 use nit_config::{Config, ConfigError, read_config};
 use nit_events::Entry;
 use nit_report::{JournalError, parse_journal};
@@ -38,59 +38,52 @@ pub fn read<S: Store>(store: &mut S, name: &str, max: usize, long: Fault) -> Res
 }
 
 /// Reads a configuration, and judges it.
-pub fn load_config<'a, S: Store>(
-    alloc: Global,
-    store: &mut S,
-    name: &'a str,
-) -> Result<Config, Stop<'a>>
-    ensures loaded { FileLoaded IsConfig IsConfigFault (S.shown store.old) name.entry.now
+pub fn load_config<S: Store>(alloc: Global, store: &mut S, name: &str) -> Result<Config, End>
+    ensures loaded { FileJudged IsConfig IsConfigFault (S.shown store.old) name.now
         (S.shown store.new) result }
     ensures configured { IfOk result (λ config. IsConfiguration config) }
 {
     let bytes = match read(store, name, MAX_FILE, Fault::LongConfig) {
         Ok(bytes) => bytes,
-        Err(end) => return Err(at(end, name)),
+        Err(end) => return Err(end),
     };
-    match judge_config(alloc, &bytes) {
-        Ok(config) => Ok(config),
-        Err(end) => Err(at(end, name)),
-    }
+    judge_config(alloc, &bytes)
 }
 
 /// Reads a client's script, and judges it: it is to have so many phases, where a number is given.
-pub fn load_client<'a, S: Store>(
+pub fn load_client<S: Store>(
     alloc: Global,
     store: &mut S,
-    name: &'a str,
+    name: &str,
     wanted: Option<usize>,
-) -> Result<Client, Stop<'a>>
-    ensures loaded { FileLoaded (IsClientScript wanted) (IsClientFault wanted)
-        (S.shown store.old) name.entry.now (S.shown store.new) result }
+) -> Result<Client, End>
+    ensures loaded { FileJudged (IsClientScript wanted) (IsClientFault wanted)
+        (S.shown store.old) name.now (S.shown store.new) result }
     ensures lines { IfOk result (AreLines FitsLine) }
     ensures right { IfOk result (λ lines. wrong_client wanted lines ≡ None) }
 {
     match load_lines(alloc, store, name, wanted) {
         Ok(lines) => Ok(Client { lines }),
-        Err(end) => Err(at(end, name)),
+        Err(end) => Err(end),
     }
 }
 
 /// Reads an input script, and judges it: it is to have so many phases, where a number is given.
-pub fn load_input<'a, S: Store>(
+pub fn load_input<S: Store>(
     alloc: Global,
     store: &mut S,
-    name: &'a str,
+    name: &str,
     wanted: Option<usize>,
-) -> Result<Input, Stop<'a>>
-    ensures loaded { FileLoaded (IsInputScript wanted) (IsInputFault wanted) (S.shown store.old)
-        name.entry.now
+) -> Result<Input, End>
+    ensures loaded { FileJudged (IsInputScript wanted) (IsInputFault wanted) (S.shown store.old)
+        name.now
         (S.shown store.new) result }
     ensures lines { IfOk result (AreLines FitsInputLine) }
     ensures right { IfOk result (λ lines. wrong_input wanted lines ≡ None) }
 {
     match load_lines(alloc, store, name, wanted) {
         Ok(lines) => Ok(Input { lines }),
-        Err(end) => Err(at(end, name)),
+        Err(end) => Err(end),
     }
 }
 
@@ -117,23 +110,16 @@ pub fn load_lines<S: Store, L: ScriptLine>(
 }
 
 /// Reads a journal, and judges its text.
-pub fn load_journal<'a, S: Store>(
-    alloc: Global,
-    store: &mut S,
-    name: &'a str,
-) -> Result<Vec<Entry>, Stop<'a>>
-    ensures loaded { FileLoaded (λ bytes v. IsJournalText bytes v.items) IsNoJournalText
-        (S.shown store.old) name.entry.now (S.shown store.new) result }
+pub fn load_journal<S: Store>(alloc: Global, store: &mut S, name: &str) -> Result<Vec<Entry>, End>
+    ensures loaded { FileJudged (λ bytes v. IsJournalText bytes v.items) IsNoJournalText
+        (S.shown store.old) name.now (S.shown store.new) result }
     ensures few { IfOk result (λ v. length v.items ≤ most_journal_bytes) }
 {
     let bytes = match read(store, name, MAX_JOURNAL, Fault::LongJournal) {
         Ok(bytes) => bytes,
-        Err(end) => return Err(at(end, name)),
+        Err(end) => return Err(end),
     };
-    match judge_journal(alloc, &bytes) {
-        Ok(entries) => Ok(entries),
-        Err(end) => Err(at(end, name)),
-    }
+    judge_journal(alloc, &bytes)
 }
 
 // ---- the bytes of a file

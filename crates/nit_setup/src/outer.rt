@@ -1,8 +1,9 @@
 //! Reading the scripts of a configuration whose first client is to show frames.
 
-ghost use Rattle.std.specs.Prelude.{None, IfOk, map, ◌≡◌};
-ghost use Rattle.nit_setup.specs.Terms.{AreLines, FileLoaded, FitsLine, IsConfiguration, IsOuter};
-ghost use Rattle.nit_setup.specs.Terms.{IsOuterFault, IsOuterScript, OuterLoaded, ReadOuter};
+ghost use Rattle.std.specs.Prelude.{None, All, IfOk, map, ◌≡◌};
+ghost use Rattle.nit_setup.specs.Terms.{AreLines, FileJudged, FitsLine, IsConfiguration, IsMember};
+ghost use Rattle.nit_setup.specs.Terms.{IsOuter, IsOuterFault, IsOuterScript, OuterLoaded};
+ghost use Rattle.nit_setup.specs.Terms.{ReadOuter};
 ghost use Rattle.nit_setup.specs.Terms.{run_files, wrong_outer};
 
 use crate::load::{load_client, load_input};
@@ -17,33 +18,31 @@ use std::alloc::Global;
 /// Reads the scripts of a configuration whose first client is to show frames, and judges each as it
 /// is read. The first client's is to hold no line that may not stand there. Phases are not
 /// compared.
-pub fn read_outer<'a, S: Store>(
-    alloc: Global,
-    store: &mut S,
-    config: &'a Config,
-) -> Result<Scripts, Stop<'a>>
+pub fn read_outer<S: Store>(alloc: Global, store: &mut S, config: &Config) -> Result<Scripts, Stop>
     requires { IsConfiguration config.now }
-    ensures read { ReadOuter config.entry.now (S.shown store.old) (S.shown store.new) result }
+    ensures read { ReadOuter config.now (S.shown store.old) (S.shown store.new) result }
     ensures outer { IfOk result (λ s. IsOuter
-        (run_files config.entry.now s.clients.items s.input)) }
+        (run_files config.now s.clients.items s.input)) }
 {
     let clients = match load_outer(alloc, store, &config.clients) {
         Ok(clients) => clients,
         Err(stop) => return Err(stop),
     };
-    match load_input(alloc, store, config.input.as_str(), None) {
+    let name = config.input.as_str();
+    match load_input(alloc, store, name, None) {
         Ok(input) => Ok(Scripts { clients, input }),
-        Err(stop) => Err(stop),
+        Err(end) => Err(at(end, name)),
     }
 }
 
 /// Reads the scripts of these clients in order, and judges each as it is read.
-fn load_outer<'a, S: Store>(
+fn load_outer<S: Store>(
     alloc: Global,
     store: &mut S,
-    clients: &'a [Member],
-) -> Result<Vec<Client>, Stop<'a>>
-    ensures { OuterLoaded (S.shown store.old) (map (λ m. m.script) clients.entry.now)
+    clients: &[Member],
+) -> Result<Vec<Client>, Stop>
+    requires { All IsMember clients.now }
+    ensures { OuterLoaded (S.shown store.old) (map (λ m. m.script) clients.now)
         (S.shown store.new) result }
 {
     let mut scripts = Vec::new(alloc);
@@ -51,7 +50,7 @@ fn load_outer<'a, S: Store>(
         let name = client.script.as_str();
         let script = match load_outer_client(alloc, store, name, &scripts) {
             Ok(script) => script,
-            Err(stop) => return Err(stop),
+            Err(end) => return Err(at(end, name)),
         };
         if scripts.reserve(1).is_err() {
             return Err(at(End::NoMemory, name));
@@ -62,23 +61,23 @@ fn load_outer<'a, S: Store>(
 }
 
 /// Reads the script of the client behind these, and judges it.
-fn load_outer_client<'a, S: Store>(
+fn load_outer_client<S: Store>(
     alloc: Global,
     store: &mut S,
-    name: &'a str,
+    name: &str,
     before: &[Client],
-) -> Result<Client, Stop<'a>>
-    ensures loaded { FileLoaded (IsOuterScript before.now) (IsOuterFault before.now)
-        (S.shown store.old) name.entry.now (S.shown store.new) result }
+) -> Result<Client, End>
+    ensures loaded { FileJudged (IsOuterScript before.now) (IsOuterFault before.now)
+        (S.shown store.old) name.now (S.shown store.new) result }
     ensures lines { IfOk result (AreLines FitsLine) }
     ensures right { IfOk result (λ lines. wrong_outer before.now lines ≡ None) }
 {
     let script = match load_client(alloc, store, name, None) {
         Ok(script) => script,
-        Err(stop) => return Err(stop),
+        Err(end) => return Err(end),
     };
     match wrong_outer(before, &script) {
-        Some(fault) => Err(at(End::Refused(fault), name)),
+        Some(fault) => Err(End::Refused(fault)),
         None => Ok(script),
     }
 }

@@ -1,7 +1,8 @@
 //! Reading the scripts of a configuration.
 
-ghost use Rattle.std.specs.Prelude.{true, Bool, IfOk, map, ◌≡◌};
-ghost use Rattle.nit_setup.specs.Terms.{IsConfiguration, IsRunnable, LoadedAll, ReadScripts};
+ghost use Rattle.std.specs.Prelude.{true, All, Bool, IfOk, map, ◌≡◌};
+ghost use Rattle.nit_setup.specs.Terms.{IsConfiguration, IsMember, IsRunnable, LoadedAll};
+ghost use Rattle.nit_setup.specs.Terms.{ReadScripts};
 ghost use Rattle.nit_setup.specs.Terms.{phases, setup_of, wanted_by};
 
 use crate::load::{load_client, load_input};
@@ -13,35 +14,37 @@ use nit_store::Store;
 use std::alloc::Global;
 
 /// Reads the scripts of a configuration, and judges each as it is read.
-pub fn read_scripts<'a, S: Store>(
+pub fn read_scripts<S: Store>(
     alloc: Global,
     store: &mut S,
-    config: &'a Config,
-) -> Result<Scripts, Stop<'a>>
+    config: &Config,
+) -> Result<Scripts, Stop>
     requires { IsConfiguration config.now }
-    ensures read { ReadScripts config.entry.now (S.shown store.old) (S.shown store.new) result }
+    ensures read { ReadScripts config.now (S.shown store.old) (S.shown store.new) result }
     ensures runnable { IfOk result (λ s. (beside : Bool)
-        → IsRunnable (setup_of config.entry.now s.clients.items s.input true beside)) }
+        → IsRunnable (setup_of config.now s.clients.items s.input true beside)) }
 {
     let clients = match load_scripts(alloc, store, &config.clients) {
         Ok(clients) => clients,
         Err(stop) => return Err(stop),
     };
-    match load_input(alloc, store, config.input.as_str(), wanted_by(&clients)) {
+    let name = config.input.as_str();
+    match load_input(alloc, store, name, wanted_by(&clients)) {
         Ok(input) => Ok(Scripts { clients, input }),
-        Err(stop) => Err(stop),
+        Err(end) => Err(at(end, name)),
     }
 }
 
 // ---- the scripts of all clients
 
 /// Reads the scripts of these clients in order, and judges each as it is read.
-pub fn load_scripts<'a, S: Store>(
+pub fn load_scripts<S: Store>(
     alloc: Global,
     store: &mut S,
-    clients: &'a [Member],
-) -> Result<Vec<Client>, Stop<'a>>
-    ensures { LoadedAll (S.shown store.old) (map (λ m. m.script) clients.entry.now)
+    clients: &[Member],
+) -> Result<Vec<Client>, Stop>
+    requires { All IsMember clients.now }
+    ensures { LoadedAll (S.shown store.old) (map (λ m. m.script) clients.now)
         (S.shown store.new) result }
 {
     let mut scripts = Vec::new(alloc);
@@ -49,7 +52,7 @@ pub fn load_scripts<'a, S: Store>(
         let name = client.script.as_str();
         let script = match load_client(alloc, store, name, wanted_by(&scripts)) {
             Ok(script) => script,
-            Err(stop) => return Err(stop),
+            Err(end) => return Err(at(end, name)),
         };
         if scripts.reserve(1).is_err() {
             return Err(at(End::NoMemory, name));

@@ -1,9 +1,13 @@
 //! How the work of a command comes to its end, and at which file.
 
-ghost use Rattle.std.specs.Prelude.{◌≡◌};
+ghost use Rattle.std.specs.Prelude.{◌≡◌, ◌≤◌, length};
+ghost use Rattle.nit_setup.specs.Terms.{IsNameOf, most_file_name, script_text};
 
 use nit_config::ConfigError;
 use nit_run::Output;
+
+/// The most bytes that the name of a script has.
+const MAX_NAME: usize = 255;
 
 /// Why a file is refused.
 #[derive(Clone, Copy, Debug)]
@@ -52,31 +56,98 @@ pub enum End {
     Audited(u32),
 }
 
-/// The name of a file.
+/// The name of the file that the work ended at.
 #[derive(Clone, Copy, Debug)]
-pub enum Name<'a> {
-    /// This text.
-    Text(&'a str),
-    /// The name of the clip script of the client with the script of this name.
-    ClipsOf(&'a str),
-    /// The name of a file that a run puts.
+pub enum Name {
+    /// There is no file.
+    Nothing,
+    /// The first file that the words name.
+    First,
+    /// The second file that the words name.
+    Second,
+    /// This script of a configuration.
+    Script(ScriptName),
+    /// The clip script of the client with this script.
+    ClipsOf(ScriptName),
+    /// A file that a run puts.
     Put(Output),
 }
 
-/// How the work came to its end, and the file that it ended at, with an empty name where there is
-/// none.
+/// The name of a script of a configuration, as a plain value: the first `length` of the bytes are
+/// its text.
 #[derive(Clone, Copy, Debug)]
-pub struct Stop<'a> {
-    pub end: End,
-    pub name: Name<'a>,
+pub struct ScriptName {
+    pub bytes: [u8; MAX_NAME],
+    pub length: usize,
 }
 
-/// The work ended at this file.
-pub fn at(end: End, name: &str) -> Stop<'_>
-    ensures { (result.end ≡ end) × (result.name ≡ Name.Text name.entry) }
+impl ScriptName {
+    /// The script of this name.
+    pub fn new(name: &str) -> ScriptName
+        requires { length name.now ≤ most_file_name }
+        ensures { script_text result ≡ name.now }
+    {
+        let text = name.as_bytes();
+        let mut bytes = [0; MAX_NAME];
+        bytes[..text.len()].copy_from_slice(text);
+        ScriptName {
+            bytes,
+            length: text.len(),
+        }
+    }
+
+    /// The name.
+    pub fn as_bytes(&self) -> &[u8]
+        ensures { result.now ≡ script_text self.now }
+    {
+        &self.bytes[..self.length.min(MAX_NAME)]
+    }
+}
+
+/// How the work came to its end, and the file that it ended at.
+#[derive(Clone, Copy, Debug)]
+pub struct Stop {
+    pub end: End,
+    pub name: Name,
+}
+
+/// The work ended so, at no file.
+pub fn nowhere(end: End) -> Stop
+    ensures { (result.end ≡ end) × (result.name ≡ Name.Nothing) }
 {
     Stop {
         end,
-        name: Name::Text(name),
+        name: Name::Nothing,
+    }
+}
+
+/// The work ended at the first file that the words name.
+pub fn at_first(end: End) -> Stop
+    ensures { (result.end ≡ end) × (result.name ≡ Name.First) }
+{
+    Stop {
+        end,
+        name: Name::First,
+    }
+}
+
+/// The work ended at the second file that the words name.
+pub fn at_second(end: End) -> Stop
+    ensures { (result.end ≡ end) × (result.name ≡ Name.Second) }
+{
+    Stop {
+        end,
+        name: Name::Second,
+    }
+}
+
+/// The work ended at the script of this name.
+pub fn at(end: End, script: &str) -> Stop
+    requires { length script.now ≤ most_file_name }
+    ensures { (result.end ≡ end) × IsNameOf result.name script.now }
+{
+    Stop {
+        end,
+        name: Name::Script(ScriptName::new(script)),
     }
 }

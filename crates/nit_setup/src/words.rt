@@ -4,7 +4,7 @@ ghost use Rattle.std.specs.Prelude.{◌<◌, ◌≡◌, IfSome, IfNone, Some, �
 ghost use Rattle.nit_setup.specs.Terms.{IsAskedInRange, NoCommand, asks_for, capture};
 ghost use Rattle.nit_setup.specs.Terms.{capture_command, command, gen, most_height, most_width};
 ghost use Rattle.nit_setup.specs.Terms.{natural_of, number_end, number_up_to, pair_of, run_of};
-ghost use Rattle.nit_setup.specs.Terms.{still, still_of, texts};
+ghost use Rattle.nit_setup.specs.Terms.{first_name, second_name, still, still_of, texts};
 
 use nit_rect::{MOST_HEIGHT, MOST_WIDTH};
 use nit_run::Region;
@@ -52,6 +52,33 @@ pub enum Asked<'a> {
         outer: &'a str,
         inner: &'a str,
     },
+}
+
+impl<'a> Asked<'a> {
+    /// The first file that the words name, with an empty name where they name none.
+    pub fn first(self) -> &'a str
+        ensures { result.now ≡ first_name (asks_for self.entry) }
+    {
+        match self {
+            Asked::Still { script, .. } => script,
+            Asked::Turns { config } | Asked::Run { config } | Asked::Clip { config } => config,
+            Asked::Gen { .. } => "",
+            Asked::Audit { config, .. } | Asked::Capture { config, .. } => config,
+            Asked::Nested { outer, .. } => outer,
+        }
+    }
+
+    /// The second one.
+    pub fn second(self) -> &'a str
+        ensures { result.now ≡ second_name (asks_for self.entry) }
+    {
+        match self {
+            Asked::Audit { journal, .. } => journal,
+            Asked::Nested { inner, .. } => inner,
+            Asked::Still { .. } | Asked::Turns { .. } | Asked::Run { .. } | Asked::Gen { .. } => "",
+            Asked::Clip { .. } | Asked::Capture { .. } => "",
+        }
+    }
 }
 
 /// What the words ask for. None where they are no command.

@@ -15,7 +15,7 @@ use Rattle.nit_top.proofs.Basics.{unrefused}
 use Rattle.nit_store.specs.declared.store.PutError.TheVariants as put
 use Rattle.nit_setup.specs.declared.stop.End.TheVariants as ends
 use Rattle.nit_setup.specs.declared.stop.Name.TheVariants as file_name
-use Rattle.nit_top.proofs.WorkLemmas.{CameTo, names, none}
+use Rattle.nit_top.proofs.WorkLemmas.{CameTo}
 
 -- ---- after a run
 
@@ -142,10 +142,10 @@ module _ (c : Command) (old : StoreModel) (s : Setup) (files_are : AreAllFiles c
   -- the run went to its end
   puts_end : (fault : Option PutFault) (name : Name) (t : Totals) → t ≡ totals_of s journal
       → IfSome fault (λ f. name ≡ file_name.Put f.file) → PutSo start puts new (option_map refusal_of fault)
-      → CameTo c old new journal (end_of_run fault) (name_text name) t
-  puts_end None name t is named p = whole_line (name_text name) t is (all_put_too p)
+      → CameTo c old new journal (end_of_run fault) (name_text c name) t
+  puts_end None name t is named p = whole_line (name_text c name) t is (all_put_too p)
   puts_end (Some f) name t is named p =
-      subst (λ (n : Name). CameTo c old new journal (end_of_put f.error) (name_text n) t) (sym named)
+      subst (λ (n : Name). CameTo c old new journal (end_of_put f.error) (name_text c n) t) (sym named)
       (refused (output_name f.file) p.front p.bytes p.back p.parts p.mid p.put t f.error p.refused)
 
 -- memory ran out before the first round
@@ -173,7 +173,7 @@ abbrev pub totals_on : Worked → Totals
 totals_on w = record { clients = w.clients; entries = length w.journal.items; frames = w.frames }
 
 pub ends_by : (c : Command) (old new : StoreModel) (w : Worked)
-    → CameTo c old new w.journal.items w.stop.end (name_text w.stop.name) (totals_on w) → Ends c old new w
+    → CameTo c old new w.journal.items w.stop.end (name_text c w.stop.name) (totals_on w) → Ends c old new w
 ends_by c old new w h = record { course = h.course; came = h.came; counts = h.counts; said = h.said }
 
 same_totals : (s : Setup) (w : Worked) (journal : List Entry) → length s.scripts ≡ length s.config.clients
@@ -213,31 +213,31 @@ run_ends c old mid new s w asked files_are r =
     all_put start r.puts (put_state_of_run new r.fault)
     (subst (λ (m : StoreModel). PutsAll r.puts (unrefused m) (put_state_of_run new r.fault)) asked r.put) in
     let totals = same_totals s w j files_are.runnable.scripts r.clients_are r.journal_is r.frames_are in
-    let here : CameTo c old new j (end_of_run r.fault) (name_text w.stop.name) (totals_on w) =
+    let here : CameTo c old new j (end_of_run r.fault) (name_text c w.stop.name) (totals_on w) =
     puts_end c old s files_are j r.outputs r.are r.headline r.inside r.added r.added_are r.puts r.puts_are new r.fault
     w.stop.name (totals_on w) totals r.name_is puts in
-    let so : CameTo c old new j w.stop.end (name_text w.stop.name) (totals_on w) =
-    subst (λ (e : End). CameTo c old new j e (name_text w.stop.name) (totals_on w)) (sym r.end_is) here in
-    ends_by c old new w (subst (λ (k : List Entry). CameTo c old new k w.stop.end (name_text w.stop.name) (totals_on w))
-    (sym r.journal_is) so)
+    let so : CameTo c old new j w.stop.end (name_text c w.stop.name) (totals_on w) =
+    subst (λ (e : End). CameTo c old new j e (name_text c w.stop.name) (totals_on w)) (sym r.end_is) here in
+    ends_by c old new w (subst
+    (λ (k : List Entry). CameTo c old new k w.stop.end (name_text c w.stop.name) (totals_on w)) (sym r.journal_is) so)
 
 -- the work of a command whose files are read and valid, where memory ran out before the run
 pub unbegun_ends : (c : Command) (old mid new : StoreModel) (s : Setup) (w : Worked) → mid ≡ asking_all old (reads c s)
     → AreAllFiles c old.files s → w.stop.end ≡ ends.NoMemory → new ≡ mid → w.journal.items ≡ [] → Ends c old new w
 unbegun_ends c old mid new s w asked files_are end same none =
-    let here : CameTo c old new [] ends.NoMemory (name_text w.stop.name) (totals_on w) =
-    unbegun c old s files_are new (name_text w.stop.name) (totals_on w) (same ∙ asked) in
-    let so : CameTo c old new [] w.stop.end (name_text w.stop.name) (totals_on w) =
-    subst (λ (e : End). CameTo c old new [] e (name_text w.stop.name) (totals_on w)) (sym end) here in
-    ends_by c old new w (subst (λ (k : List Entry). CameTo c old new k w.stop.end (name_text w.stop.name) (totals_on w))
-    (sym none) so)
+    let here : CameTo c old new [] ends.NoMemory (name_text c w.stop.name) (totals_on w) =
+    unbegun c old s files_are new (name_text c w.stop.name) (totals_on w) (same ∙ asked) in
+    let so : CameTo c old new [] w.stop.end (name_text c w.stop.name) (totals_on w) =
+    subst (λ (e : End). CameTo c old new [] e (name_text c w.stop.name) (totals_on w)) (sym end) here in
+    ends_by c old new w (subst
+    (λ (k : List Entry). CameTo c old new k w.stop.end (name_text c w.stop.name) (totals_on w)) (sym none) so)
 
 -- the region that is to be filmed does not lie on the screen
 pub outside_ends : (c : Command) (old new : StoreModel) (s : Setup) (w : Worked) → new ≡ asking_all old (reads c s)
     → AreAllFiles c old.files s → is_outside_of c s.config ≡ true → w.stop.end ≡ ends.Outside → w.journal.items ≡ []
     → Ends c old new w
 outside_ends c old new s w asked files_are outside end none =
-    let here : CameTo c old new [] ends.Outside (name_text w.stop.name) (totals_on w) = record {
+    let here : CameTo c old new [] ends.Outside (name_text c w.stop.name) (totals_on w) = record {
       course = NotBegun refl;
       came = (
         record {
@@ -254,10 +254,10 @@ outside_ends c old new s w asked files_are outside end none =
       counts = (ap (λ (s : StoreModel). s.read_faults) asked, ap (λ (s : StoreModel). s.write_faults) asked);
       said = ap (λ (s : StoreModel). s.said) asked;
     } in
-    let so : CameTo c old new [] w.stop.end (name_text w.stop.name) (totals_on w) =
-    subst (λ (e : End). CameTo c old new [] e (name_text w.stop.name) (totals_on w)) (sym end) here in
-    ends_by c old new w (subst (λ (k : List Entry). CameTo c old new k w.stop.end (name_text w.stop.name) (totals_on w))
-    (sym none) so)
+    let so : CameTo c old new [] w.stop.end (name_text c w.stop.name) (totals_on w) =
+    subst (λ (e : End). CameTo c old new [] e (name_text c w.stop.name) (totals_on w)) (sym end) here in
+    ends_by c old new w (subst
+    (λ (k : List Entry). CameTo c old new k w.stop.end (name_text c w.stop.name) (totals_on w)) (sym none) so)
 
 -- the command films nothing: it adds no file, and no region lies outside
 abbrev pub FilmsNothing : Command → Type 0
@@ -294,7 +294,7 @@ performed_ends c old mid new s w nothing asked files_are (inr (end, same, none))
 pub usage_ends : (old : StoreModel) (w : Worked) → w.stop.end ≡ ends.Usage → w.journal.items ≡ []
     → Ends NoCommand old old w
 usage_ends old w end none =
-    let here : CameTo NoCommand old old [] ends.Usage (name_text w.stop.name) (totals_on w) = record {
+    let here : CameTo NoCommand old old [] ends.Usage (name_text NoCommand w.stop.name) (totals_on w) = record {
       course = NotBegun refl;
       came = (
         refl,
@@ -304,7 +304,8 @@ usage_ends old w end none =
       counts = (refl, refl);
       said = refl;
     } in
-    let so : CameTo NoCommand old old [] w.stop.end (name_text w.stop.name) (totals_on w) =
-    subst (λ (e : End). CameTo NoCommand old old [] e (name_text w.stop.name) (totals_on w)) (sym end) here in
+    let so : CameTo NoCommand old old [] w.stop.end (name_text NoCommand w.stop.name) (totals_on w) =
+    subst (λ (e : End). CameTo NoCommand old old [] e (name_text NoCommand w.stop.name) (totals_on w)) (sym end) here in
     ends_by NoCommand old old w (subst
-    (λ (k : List Entry). CameTo NoCommand old old k w.stop.end (name_text w.stop.name) (totals_on w)) (sym none) so)
+    (λ (k : List Entry). CameTo NoCommand old old k w.stop.end (name_text NoCommand w.stop.name) (totals_on w))
+    (sym none) so)

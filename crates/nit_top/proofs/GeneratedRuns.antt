@@ -158,12 +158,13 @@ module _ (n : ℕ) (old : StoreModel) where
 
   -- what the end of the work means where no run was begun
   ended_so : (new : StoreModel) (w : Worked) (end : End) → w.journal.items ≡ [] → w.stop.end ≡ end
-      → CameTo (Gen n) old new [] end (name_text w.stop.name) (totals_on w) → Ends (Gen n) old new w
+      → CameTo (Gen n) old new [] end (name_text (Gen n) w.stop.name) (totals_on w) → Ends (Gen n) old new w
   ended_so new w end empty is here =
-      let so : CameTo (Gen n) old new [] w.stop.end (name_text w.stop.name) (totals_on w) =
-      subst (λ (e : End). CameTo (Gen n) old new [] e (name_text w.stop.name) (totals_on w)) (sym is) here in
-      ends_by (Gen n) old new w (subst (λ (j : List Entry). CameTo (Gen n) old new j w.stop.end (name_text w.stop.name)
-      (totals_on w)) (sym empty) so)
+      let so : CameTo (Gen n) old new [] w.stop.end (name_text (Gen n) w.stop.name) (totals_on w) =
+      subst (λ (e : End). CameTo (Gen n) old new [] e (name_text (Gen n) w.stop.name) (totals_on w)) (sym is) here in
+      ends_by (Gen n) old new w (subst
+      (λ (j : List Entry). CameTo (Gen n) old new j w.stop.end (name_text (Gen n) w.stop.name) (totals_on w))
+      (sym empty) so)
 
   -- memory ran out before a file was put
   pub nothing_made : (w : Worked) → w.stop.end ≡ ends.NoMemory → w.journal.items ≡ [] → Ends (Gen n) old old w
@@ -296,7 +297,7 @@ module _ (n : ℕ) (old : StoreModel) where
       let here : CameTo (Gen n) old new [] (end_of_put g.error) (output_name g.file) (totals_on w) =
       made_refused new (output_name g.file) u.bytes u.front u.back u.parts u.mid u.put (totals_on w) g.error
       u.refused in
-      let name_is : name_text w.stop.name ≡ output_name g.file = ap name_text named in
+      let name_is : name_text (Gen n) w.stop.name ≡ output_name g.file = ap (name_text (Gen n)) named in
       ended_so new w (end_of_put g.error) empty is
       (subst (λ (m : List ℕ). CameTo (Gen n) old new [] (end_of_put g.error) m (totals_on w)) (sym name_is) here)
 

@@ -1,15 +1,15 @@
 -- What answers use: all that lemmas use, and this crate's lemmas.
-pub use Rattle.nit_top.proofs.AuditEnds.{found_ends, text_ends}
-pub use Rattle.nit_top.proofs.Basics.{AreClipsRead, AreLines, AreOutputs, AreShots, Bad, Capture}
-pub use Rattle.nit_top.proofs.Basics.{ClipLine, Command, Configuration, End, Ended, Entry, File}
+pub use Rattle.nit_top.proofs.AuditEnds.{found_ends}
+pub use Rattle.nit_top.proofs.Basics.{AreLines, AreOutputs, AreShots, Bad, Capture}
+pub use Rattle.nit_top.proofs.Basics.{ClipLine, Configuration, End, Entry, File}
 pub use Rattle.nit_top.proofs.Basics.{FirstShows, FitsLine, HasFilmed, HasRun, HasRunClips, IfSome}
-pub use Rattle.nit_top.proofs.Basics.{InputLine, IsAuditEnd, IsClientFault, IsConfiguration}
+pub use Rattle.nit_top.proofs.Basics.{InputLine, IsAuditEnd, IsConfiguration}
 pub use Rattle.nit_top.proofs.Basics.{IsInnerEnd, IsInnerJournal, IsRunnable, Line, List, MayCome}
-pub use Rattle.nit_top.proofs.Basics.{Member, NestError, NestsRun, NoMemory, Option, Performed}
+pub use Rattle.nit_top.proofs.Basics.{NestError, NestsRun, NoMemory, Option, Performed}
 pub use Rattle.nit_top.proofs.Basics.{PerformedClips, PerformedNested, Phases, PutFault, PutsAll}
-pub use Rattle.nit_top.proofs.Basics.{Rectangle, RunFiles, Says, Setup, Some, Stop, StoppedAt}
-pub use Rattle.nit_top.proofs.Basics.{StoppedAtClip, StoreModel, TooLong, [], ap, apart_of, arith}
-pub use Rattle.nit_top.proofs.Basics.{asking_all, asking_both, begun_of, by_turns, calls_to_make}
+pub use Rattle.nit_top.proofs.Basics.{Rectangle, RunFiles, Says, Setup, Some, Stop}
+pub use Rattle.nit_top.proofs.Basics.{TooLong, [], ap, apart_of}
+pub use Rattle.nit_top.proofs.Basics.{begun_of, by_turns, calls_to_make}
 pub use Rattle.nit_top.proofs.Basics.{clip_name, clips_setup_of, codes, decimal, decimal_digit}
 pub use Rattle.nit_top.proofs.Basics.{decimal_step, end_of_nest, end_of_run, err_from_is_err_and}
 pub use Rattle.nit_top.proofs.Basics.{events_name, false, film_name, film_of, final_name}
@@ -19,31 +19,29 @@ pub use Rattle.nit_top.proofs.Basics.{idle_user, inl, is_off_screen, label_text,
 pub use Rattle.nit_top.proofs.Basics.{name_text, names_in, nest_of, none_is, other_phases}
 pub use Rattle.nit_top.proofs.Basics.{phase_counts, phases, pictures_in, piece_text}
 pub use Rattle.nit_top.proofs.Basics.{put_state_of_run, rectangle_of, refl, rules, run_files}
-pub use Rattle.nit_top.proofs.Basics.{saying-nil, script_name, script_names, setup_of, shot_name}
+pub use Rattle.nit_top.proofs.Basics.{saying-nil, script_name, setup_of, shot_name}
 pub use Rattle.nit_top.proofs.Basics.{shots_of, shown_first, still_configuration, still_setup}
 pub use Rattle.nit_top.proofs.Basics.{subst, sym, text_files, true, unrefused, user_actions_to_do}
-pub use Rattle.nit_top.proofs.Basics.{wanted_by, with_asked, with_said, ℕ, ◌∙◌}
-pub use Rattle.nit_top.proofs.CaptureEnds.{all_too, ends_too, film_ends}
-pub use Rattle.nit_top.proofs.Causes.{causes}
-pub use Rattle.nit_top.proofs.ClipEnds.{clip_stopped, clips_end, clips_runnable, ends_before}
-pub use Rattle.nit_top.proofs.ClipEnds.{names_long}
+pub use Rattle.nit_top.proofs.Basics.{with_said, ℕ, ◌∙◌}
+pub use Rattle.nit_top.proofs.CaptureEnds.{film_ends}
+pub use Rattle.nit_top.proofs.Causes.{causes, ended_as}
+pub use Rattle.nit_top.proofs.ClipEnds.{clips_end}
 pub use Rattle.nit_top.proofs.GeneratedRuns.{GeneratorLaws, clients_fit, generated_ends}
 pub use Rattle.nit_top.proofs.GeneratedRuns.{generated_runnable, made_in_part, made_whole}
 pub use Rattle.nit_top.proofs.GeneratedRuns.{nothing_made, same_unmade, scripts_of, unmade_runnable}
 pub use Rattle.nit_top.proofs.InnerPictures.{frames_pictured}
 pub use Rattle.nit_top.proofs.MadeNames.{made_differ}
-pub use Rattle.nit_top.proofs.NestedEnds.{inner_before, inner_config_stopped, inner_scripts}
 pub use Rattle.nit_top.proofs.NestedEnds.{inner_stopped, nested_ends, unfit_ends}
 pub use Rattle.nit_top.proofs.NestedRuns.{begun, begun_first, first_counts, first_may, first_shows}
 pub use Rattle.nit_top.proofs.NestedRuns.{fits_first, nested_leaves, no_other, outer_runnable}
 pub use Rattle.nit_top.proofs.NestedRuns.{own_counts, runnable_of, setup_is, they_fit}
-pub use Rattle.nit_top.proofs.OuterEnds.{outer_config_stopped, outer_not_read, outer_read}
 pub use Rattle.nit_top.proofs.RegionFilms.{picture_seen, same_film}
 pub use Rattle.nit_top.proofs.RunNames.{outputs_differ, puts_differ}
 pub use Rattle.nit_top.proofs.SameEvents.{both_there, same_events, same_text}
 pub use Rattle.nit_top.proofs.SeenFrames.{SeenLaws, seen}
-pub use Rattle.nit_top.proofs.SetupLemmas.{all_read, config_stopped, not_read, read_whole}
-pub use Rattle.nit_top.proofs.SetupLemmas.{still_ends, still_runnable, still_stopped}
+pub use Rattle.nit_top.proofs.Basics.{Audit, Clip, Nested, Run, Still, files_in, setup_in}
+pub use Rattle.nit_top.proofs.Basics.{setup_with_clips}
 pub use Rattle.nit_top.proofs.StoredFiles.{stand}
 pub use Rattle.nit_top.proofs.TextFragments.{flat_map_at, says_stop, says_then}
-pub use Rattle.nit_top.proofs.EndsAfterRun.{outside_ends, usage_ends}
+pub use Rattle.nit_top.proofs.EndsAfterRun.{outside_ends, performed_ends}
+pub use Rattle.nit_top.proofs.WorkLemmas.{stopped_ends}

@@ -1,6 +1,5 @@
 pub mod AuditCourse
 pub mod AuditEnds
-pub mod BeforeRun
 pub mod CaptureEnds
 pub mod Causes
 pub mod ClipEnds
@@ -11,14 +10,12 @@ pub mod InnerPictures
 pub mod MadeNames
 pub mod NestedEnds
 pub mod NestedRuns
-pub mod OuterEnds
 pub mod RegionFilms
 pub mod RunNames
 pub mod SaidLines
 pub mod SameEvents
 pub mod SeenFrames
 pub mod ServedMachines
-pub mod SetupLemmas
 pub mod StoredFiles
 pub mod TextFragments
 pub mod ToldJudgements

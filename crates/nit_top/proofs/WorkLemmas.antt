@@ -1,14 +1,10 @@
 -- How the work comes to its end: before a run is begun, and after one.
-use Rattle.std.proofs.Common.{◌≡◌, ℕ, ◌+◌, ◌≤◌, List, [], ◌∷◌, ◌++◌, length}
-use Rattle.std.proofs.Common.{Some, refl, sym, ap, subst, ◌∙◌, inl, inr}
-use Rattle.nit_top.proofs.Basics.{Came, Command}
-use Rattle.nit_top.proofs.Basics.{Counts, Course, End, Ends, Entry, Fault}
-use Rattle.nit_top.proofs.Basics.{FilesRead, HasRead, IfSome, IsLastRead}
-use Rattle.nit_top.proofs.Basics.{Judged, NotBegun}
-use Rattle.nit_top.proofs.Basics.{Refused, Stop, StoppedAt, StoreModel, Totals, Worked}
-use Rattle.nit_top.proofs.Basics.{also_more, asked_also, asking_all}
-use Rattle.nit_top.proofs.Basics.{bytes_of}
-use Rattle.nit_top.proofs.Basics.{line_of, name_text, names_read, next_name}
+use Rattle.std.proofs.Common.{◌≡◌, ℕ, List, [], ◌∷◌, length}
+use Rattle.std.proofs.Common.{refl, sym, ap, subst, ◌∙◌, inl, inr}
+use Rattle.nit_top.proofs.Basics.{Came, Command, Counts, Course, End, Ends, Entry, IsLastRead}
+use Rattle.nit_top.proofs.Basics.{Judged, NotBegun, Refused, Stop, StoppedBy, StoppedReading}
+use Rattle.nit_top.proofs.Basics.{StoreModel, Totals, Worked, also_more, asked_also, asking_all}
+use Rattle.nit_top.proofs.Basics.{line_of, name_text, names_read}
 use Rattle.nit_setup.specs.declared.stop.End.TheVariants as ends
 
 -- what the end of the work means, whatever the totals of the line
@@ -21,42 +17,44 @@ pub record CameTo (c : Command) (old new : StoreModel) (journal : List Entry) (e
 
 -- ---- before a run
 
-module _ (c : Command) (old : StoreModel) (read : FilesRead) (valid : HasRead c old.files read) (name : List ℕ)
-    (next : next_name c read ≡ Some name) (Faulty : List ℕ → Fault → Type 0) (new : StoreModel)
-    (judged : (f : Fault) → IfSome old.files (λ files. Faulty (bytes_of name files) f)
-    → IfSome old.files (λ files. Judged c files (Refused name f))) where
-  abbrev pub names : List (List ℕ)
-  names = names_read c read
+module _ (c : Command) (old new : StoreModel) (stop : Stop) (s : StoppedReading c old new stop) where
+  abbrev names : List (List ℕ)
+  names = names_read c s.read
 
-  abbrev pub none : Course old c []
+  abbrev none : Course old c []
   none = NotBegun refl
 
-  last_read : new.asked ≡ asked_also (asked_also old.asked names) (name ∷ []) → new.files ≡ old.files
-      → IsLastRead none new.files new.asked name
+  last_read : new.asked ≡ asked_also (asked_also old.asked names) (s.name ∷ []) → new.files ≡ old.files
+      → IsLastRead none new.files new.asked s.name
   last_read asked same = record {
     none = tt;
     same = same;
-    read = read;
-    valid = valid;
-    next = next;
+    read = s.read;
+    valid = s.before.valid;
+    next = s.next;
     asks = asked
-        ∙ also_more old.asked names (name ∷ []);
+        ∙ also_more old.asked names (s.name ∷ []);
   }
 
-  stopped : (t : Totals) (end : End) → StoppedAt Faulty (asking_all old names) name new end
-      → CameTo c old new [] end name t
+  stopped : (t : Totals) (end : End)
+      → StoppedBy (λ files f. Judged c files (Refused s.name f)) (asking_all old names) s.name new end
+      → CameTo c old new [] end s.name t
   stopped t ends.ReadFault h = record {
     course = none;
-    came = (name, last_read (ap (λ (s : StoreModel). s.asked) h.rest) (ap (λ (s : StoreModel). s.files) h.rest), refl);
+    came = (
+      s.name,
+      last_read (ap (λ (s : StoreModel). s.asked) h.rest) (ap (λ (s : StoreModel). s.files) h.rest),
+      refl,
+    );
     counts = (h.rose, ap (λ (s : StoreModel). s.write_faults) h.rest);
     said = ap (λ (s : StoreModel). s.said) h.rest;
   }
   stopped t (ends.Refused f) h = record {
     course = none;
     came = (
-      name,
+      s.name,
       last_read (ap (λ (s : StoreModel). s.asked) h.0) (ap (λ (s : StoreModel). s.files) h.0),
-      judged f h.1,
+      h.1,
       refl,
     );
     counts = (ap (λ (s : StoreModel). s.read_faults) h.0, ap (λ (s : StoreModel). s.write_faults) h.0);
@@ -68,9 +66,9 @@ module _ (c : Command) (old : StoreModel) (read : FilesRead) (valid : HasRead c 
       inl (record {
         none = tt;
         same = ap (λ (s : StoreModel). s.files) e;
-        read = read;
-        valid = valid;
-        asks = inr (name, next, ap (λ (s : StoreModel). s.asked) e ∙ also_more old.asked names (name ∷ []));
+        read = s.read;
+        valid = s.before.valid;
+        asks = inr (s.name, s.next, ap (λ (s : StoreModel). s.asked) e ∙ also_more old.asked names (s.name ∷ []));
       }),
       refl,
     );
@@ -83,8 +81,8 @@ module _ (c : Command) (old : StoreModel) (read : FilesRead) (valid : HasRead c 
       inl (record {
         none = tt;
         same = ap (λ (s : StoreModel). s.files) e;
-        read = read;
-        valid = valid;
+        read = s.read;
+        valid = s.before.valid;
         asks =
             inl (ap (λ (s : StoreModel). s.asked) e);
       }),
@@ -101,17 +99,16 @@ module _ (c : Command) (old : StoreModel) (read : FilesRead) (valid : HasRead c 
   stopped t (ends.Audited n) h = absurd h
 
   -- the work of a command stopped at a file
-  pub stopped_ends : (mid : StoreModel) (stop : Stop) (w : Worked) → mid ≡ asking_all old names
-      → name_text stop.name ≡ name → StoppedAt Faulty mid name new stop.end → w.stop ≡ stop → w.journal.items ≡ []
-      → Ends c old new w
-  stopped_ends mid stop w asked is h at none =
+  pub stopped_ends : (w : Worked) → w.stop ≡ stop → w.journal.items ≡ [] → Ends c old new w
+  stopped_ends w at none =
       let t : Totals = record { clients = w.clients; entries = length w.journal.items; frames = w.frames } in
-      let here : CameTo c old new [] stop.end name t =
-      stopped t stop.end (subst (λ (s : StoreModel). StoppedAt Faulty s name new stop.end) asked h) in
-      let named : CameTo c old new [] stop.end (name_text stop.name) t =
-      subst (λ (n : List ℕ). CameTo c old new [] stop.end n t) (sym is) here in
-      let so : CameTo c old new [] w.stop.end (name_text w.stop.name) t =
-      subst (λ (s : Stop). CameTo c old new [] s.end (name_text s.name) t) (sym at) named in
-      let all : CameTo c old new w.journal.items w.stop.end (name_text w.stop.name) t =
-      subst (λ (j : List Entry). CameTo c old new j w.stop.end (name_text w.stop.name) t) (sym none) so in
+      let here : CameTo c old new [] stop.end s.name t =
+      stopped t stop.end (subst (λ (m : StoreModel).
+      StoppedBy (λ files f. Judged c files (Refused s.name f)) m s.name new stop.end) s.before.asked s.stopped) in
+      let named : CameTo c old new [] stop.end (name_text c stop.name) t =
+      subst (λ (n : List ℕ). CameTo c old new [] stop.end n t) (sym s.named) here in
+      let so : CameTo c old new [] w.stop.end (name_text c w.stop.name) t =
+      subst (λ (s : Stop). CameTo c old new [] s.end (name_text c s.name) t) (sym at) named in
+      let all : CameTo c old new w.journal.items w.stop.end (name_text c w.stop.name) t =
+      subst (λ (j : List Entry). CameTo c old new j w.stop.end (name_text c w.stop.name) t) (sym none) so in
       record { course = all.course; came = all.came; counts = all.counts; said = all.said }

@@ -11,7 +11,6 @@ pub use Rattle.nit_capture.specs.Capture.{first_capture}
 pub use Rattle.nit_capture.specs.Crop.{Shows, crop, crop_pixel, screen, word_of_bytes}
 pub use Rattle.nit_capture.specs.Film.{stream}
 pub use Rattle.nit_capture.specs.Tiles.{IsPicture}
-pub use Rattle.nit_clip.specs.ClipGrammar.{clip_phases}
 pub use Rattle.nit_clip.specs.ClipSpelling.{clip_text}
 pub use Rattle.nit_clip.specs.declared.call.ClipEntry.{ClipEntry}
 pub use Rattle.nit_clip.specs.declared.line.ClipLine.{ClipLine}
@@ -45,7 +44,7 @@ pub use Rattle.nit_perform.specs.CaptureRun.{HasFilmed, begun_of}
 pub use Rattle.nit_perform.specs.ClipRun.{HasRunClips, clips_setup_of}
 pub use Rattle.nit_perform.specs.InnerRun.{NestsRun}
 pub use Rattle.nit_perform.specs.RoomRun.{IsAlone}
-pub use Rattle.nit_perform.specs.Runs.{HasRun, Runs, put_state_of_run, refusal_of}
+pub use Rattle.nit_perform.specs.Runs.{HasRun, put_state_of_run, refusal_of}
 pub use Rattle.nit_perform.specs.declared.inner.Inner.{Inner}
 pub use Rattle.nit_perform.specs.declared.ran.PutFault.{PutFault}
 pub use Rattle.nit_perform.specs.declared.ran.Ran.{Ran}
@@ -79,36 +78,35 @@ pub use Rattle.nit_run.specs.RunFilm.{film_name, film_of, pictures_in}
 pub use Rattle.nit_run.specs.RunInner.{IsInnerJournal, inner_journal_name}
 pub use Rattle.nit_run.specs.SameClient.{HaveSameEvents, IsSameClient}
 pub use Rattle.nit_run.specs.SeenFrames.{HoldsInner, TellsInnerRun}
-pub use Rattle.nit_run.specs.Setup.{AreLines, HaveSamePhases, IsRunnable, RunFiles, Setup, by_turns}
+pub use Rattle.nit_run.specs.Setup.{AreLines, IsRunnable, RunFiles, Setup, by_turns}
 pub use Rattle.nit_run.specs.Setup.{generated_files, generated_setup, run_files, setup_of}
 pub use Rattle.nit_run.specs.Setup.{still_setup}
 pub use Rattle.nit_run.specs.declared.region.Region.{Region}
 pub use Rattle.nit_scene.specs.RawWords.{source_at, word_from}
 pub use Rattle.nit_script.specs.Grammar.{ReadsClient, spelled}
-pub use Rattle.nit_script.specs.Phases.{input_phases, is_input_phase, is_phase, phases}
+pub use Rattle.nit_script.specs.Phases.{input_phases, phases}
 pub use Rattle.nit_script.specs.Spelling.{FitsInputLine, FitsLine}
 pub use Rattle.nit_script.specs.declared.line.InputLine.{InputLine}
 pub use Rattle.nit_script.specs.declared.line.Line.{Line}
-pub use Rattle.nit_setup.specs.ClipsRead.{AreClipsRead, StoppedAtClip}
 pub use Rattle.nit_setup.specs.Command.{Audit, Capture, Clip, Command, Gen, Nested, NoCommand, Run}
 pub use Rattle.nit_setup.specs.Command.{Still, command, starts_threads, texts}
 pub use Rattle.nit_setup.specs.FilesRead.{AllFiles, AllScripts, AreAllFiles, AreAllOuterFiles}
-pub use Rattle.nit_setup.specs.FilesRead.{AreAllScripts, AreFirstClips, BothFiles, FilesRead}
+pub use Rattle.nit_setup.specs.FilesRead.{AreAllScripts, BothFiles, FilesRead}
 pub use Rattle.nit_setup.specs.FilesRead.{FirstFiles, HasRead, InnerFiles, IsOuter, IsSetupOf}
-pub use Rattle.nit_setup.specs.FilesRead.{NoFile, OuterFiles, first_names, names_read, next_name}
-pub use Rattle.nit_setup.specs.JournalFiles.{IsJournalFault, IsJournalText, IsNoJournalText}
+pub use Rattle.nit_setup.specs.FilesRead.{NoFile, OuterFiles, names_read, next_name}
+pub use Rattle.nit_setup.specs.JournalFiles.{IsJournalFault, IsJournalText}
 pub use Rattle.nit_setup.specs.JournalFiles.{IsVerdictOn, most_journal_bytes}
-pub use Rattle.nit_setup.specs.Judgement.{AreClipScripts, AreOuterFiles, AreOuterScripts}
-pub use Rattle.nit_setup.specs.Judgement.{AreScripts, AreSetup, IsClientFault, IsClientScript}
-pub use Rattle.nit_setup.specs.Judgement.{IsClipFault, IsConfig, IsConfigFault, IsInputFault}
-pub use Rattle.nit_setup.specs.Judgement.{IsInputScript, IsOuterFault, IsRefusedWith, IsValid}
-pub use Rattle.nit_setup.specs.Judgement.{Judged, MayShowFrames, Refused, SpellScripts, clip_name}
-pub use Rattle.nit_setup.specs.Judgement.{clip_names, fault_code, first_other, misfit, names_in}
+pub use Rattle.nit_setup.specs.Judgement.{AreOuterFiles}
+pub use Rattle.nit_setup.specs.Judgement.{AreSetup}
+pub use Rattle.nit_setup.specs.Judgement.{IsConfig}
+pub use Rattle.nit_setup.specs.Judgement.{IsRefusedWith, IsValid}
+pub use Rattle.nit_setup.specs.Judgement.{Judged, MayShowFrames, Refused, clip_name}
+pub use Rattle.nit_setup.specs.Judgement.{fault_code, first_other, misfit, names_in}
 pub use Rattle.nit_setup.specs.Judgement.{phase_counts, reads, script_names, too_long_for}
-pub use Rattle.nit_setup.specs.Judgement.{unless_other, wanted_by, wrong_clip}
-pub use Rattle.nit_setup.specs.OuterRead.{HasReadOuter, OuterSoFar, OuterStopped, ReadOuter}
-pub use Rattle.nit_setup.specs.Reading.{HasReadScripts, ReadScripts, SoFar, StoppedAmong, StoppedAt}
-pub use Rattle.nit_setup.specs.StopNames.{name_text}
+pub use Rattle.nit_setup.specs.Judgement.{unless_other}
+pub use Rattle.nit_setup.specs.Reading.{StoppedAt}
+pub use Rattle.nit_setup.specs.Asked.{IsAskedInRange, command_of}
+pub use Rattle.nit_setup.specs.StopNames.{first_name, name_text, second_name}
 pub use Rattle.nit_setup.specs.declared.stop.End.{End}
 pub use Rattle.nit_setup.specs.declared.stop.Fault.{Fault}
 pub use Rattle.nit_setup.specs.declared.stop.Name.{Name}
@@ -127,4 +125,7 @@ pub use Rattle.std.specs.Fmt.{decimal}
 pub use Rattle.std.specs.List.{AllByRecursion, AllZip, flat_map, list_any, range_with_len}
 pub use Rattle.std.specs.Option.{is_some}
 pub use Rattle.std.specs.Prelude.{All, Contains, IfSome, IsSomeAnd, IsTrue, codes, count_by, false}
-pub use Rattle.std.specs.Prelude.{option_map, pos, slice_get, slice_index, true}
+pub use Rattle.std.specs.Prelude.{option_map, pos, slice_index, true}
+pub use Rattle.nit_setup.specs.Reading.{StoppedBy}
+pub use Rattle.nit_setup.specs.SetupRead.{StoppedReading, files_in, setup_in}
+pub use Rattle.nit_setup.specs.SetupRead.{setup_with_clips}

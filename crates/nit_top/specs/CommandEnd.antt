@@ -5,11 +5,11 @@ use Rattle.nit_top.specs.SaidText.{Says}
 use Rattle.nit_top.specs.Work.{Ends, line_on}
 use Rattle.nit_top.specs.Answer.{code_of, status_of}
 
--- the line on the end of the work was said, or a front of it, and the status goes by both
-pub record Finished (mid : StoreModel) (worked : Worked) (new : StoreModel)
+-- the line on the end of the work of a command was said, or a front of it, and the status goes by both
+pub record Finished (c : Command) (mid : StoreModel) (worked : Worked) (new : StoreModel)
     (status : ℕ) : Type 0 where
   pub said : Result (Unit {0}) PutError
-  pub says : Says mid (line_on worked) new said
+  pub says : Says mid (line_on c worked) new said
   pub status_is : status ≡ status_of (code_of worked.stop.end) said
 
 -- the work came to its end, and then the line was said
@@ -18,5 +18,5 @@ pub record Ended (old : StoreModel) (c : Command) (new : StoreModel) (status : �
   pub mid : StoreModel
   pub worked : Worked
   pub ends : Ends c old mid worked
-  pub finished : Finished mid worked new status
+  pub finished : Finished c mid worked new status
   pub journal_is : journal ≡ worked.journal.items

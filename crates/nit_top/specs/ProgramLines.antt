@@ -1,6 +1,6 @@
 -- The lines that the program says.
 use Rattle.std.specs.Prelude.{ℕ, List, ◌++◌, codes}
-use Rattle.nit_top.specs.Below.{ConfigError, End, Fault, Piece, decimal, name_text}
+use Rattle.nit_top.specs.Below.{ConfigError, End, Fault, Piece, clip_name, decimal, output_name}
 use Rattle.nit_config.specs.declared.error.ConfigError.TheVariants as config
 use Rattle.nit_setup.specs.declared.stop.End.TheVariants as end
 use Rattle.nit_setup.specs.declared.stop.Fault.TheVariants as fault
@@ -10,7 +10,8 @@ use Rattle.nit_top.specs.declared.report.say.Piece.TheVariants as piece
 abbrev pub piece_text : Piece → List ℕ
 piece_text (piece.Text bytes) = bytes.now
 piece_text (piece.Number n) = decimal n
-piece_text (piece.Name n) = name_text n
+piece_text (piece.ClipsOf script) = clip_name script.now
+piece_text (piece.Put file) = output_name file
 
 -- a line begins with the program's name, and then that of a file
 abbrev pub says_of : List ℕ → List ℕ → List ℕ

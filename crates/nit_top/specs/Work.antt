@@ -37,14 +37,14 @@ abbrev pub Performed : StoreModel → Setup → StoreModel → Worked → Type 0
 Performed old s new w = IsAfterRun old s new w
     ⊎ ((w.stop.end ≡ end.NoMemory) × (new ≡ old) × (w.journal.items ≡ []))
 
--- the line on how the work came to its end
-abbrev pub line_on : Worked → List ℕ
-line_on w = line_of w.stop.end (name_text w.stop.name)
+-- the line on how the work of a command came to its end
+abbrev pub line_on : Command → Worked → List ℕ
+line_on c w = line_of w.stop.end (name_text c w.stop.name)
     (record { clients = w.clients; entries = length w.journal.items; frames = w.frames })
 
 -- the work of a command came to its end
 pub record Ends (c : Command) (old new : StoreModel) (w : Worked) : Type 0 where
   pub course : Course old c w.journal.items
-  pub came : Came course new.files new.asked w.stop.end (line_on w)
+  pub came : Came course new.files new.asked w.stop.end (line_on c w)
   pub counts : Counts old new w.stop.end
   pub said : new.said ≡ old.said

@@ -1,44 +1,29 @@
 //! The audit of a journal: whether it is one of a run of a configuration's scripts.
 
-ghost use Rattle.std.specs.Prelude.{◌≡◌, ℕ, List, IfSome, false, true, ◌≤◌, length};
-ghost use Rattle.nit_top.specs.Terms.{Audit, Ends, IsAuditEnd, IsConfig, IsConfiguration};
-ghost use Rattle.nit_top.specs.Terms.{IsRunnable, StoreModel, bytes_of, most_journal_bytes};
-ghost use Rattle.nit_top.specs.Terms.{setup_of, with_asked};
+ghost use Rattle.std.specs.Prelude.{false, true, ◌≤◌, length};
+ghost use Rattle.nit_top.specs.Terms.{Audit, Ends, IsAuditEnd, IsRunnable, most_journal_bytes};
+ghost use Rattle.nit_top.specs.Terms.{setup_of};
 
 use crate::report::finish::{Worked, unbegun};
 use nit_audit::{Verdict, audit};
 use nit_config::Config;
 use nit_events::Entry;
 use nit_run::Scripts;
-use nit_setup::{End, Fault, at, load_journal, read_scripts};
+use nit_setup::{End, Fault, at_second, read_audit};
 use nit_store::Store;
 use std::alloc::Global;
 
-/// Reads the scripts of a configuration and the journal of this name, and says whether it is one of
-/// a run of them. No run is begun.
-pub fn audited<'a, S: Store>(
-    alloc: Global,
-    store: &mut S,
-    config: &'a Config,
-    journal: &'a str,
-) -> Worked<'a>
-    requires { IsConfiguration config.now }
-    ensures { (name : List ℕ) → (first : StoreModel) → (S.shown store.old) ≡ with_asked first name
-        → IfSome first.files (λ files. IsConfig (bytes_of name files) config.entry.now)
-        → Ends (Audit name journal.entry.now) first (S.shown store.new) result }
+/// Reads the configuration of this name, its scripts and the journal of the other name, and says
+/// whether that is one of a run of them. No run is begun.
+pub fn audited<S: Store>(alloc: Global, store: &mut S, name: &str, journal: &str) -> Worked
+    ensures { Ends (Audit name.now journal.now) (S.shown store.old) (S.shown store.new) result }
 {
-    let scripts = match read_scripts(alloc, store, config) {
-        Ok(scripts) => scripts,
+    let read = match read_audit(alloc, store, name, journal) {
+        Ok(read) => read,
         Err(stop) => return unbegun(alloc, stop),
     };
-    let entries = match load_journal(alloc, store, journal) {
-        Ok(entries) => entries,
-        Err(stop) => return unbegun(alloc, stop),
-    };
-    unbegun(
-        alloc,
-        at(audit_end(alloc, config, &scripts, &entries), journal),
-    )
+    let end = audit_end(alloc, &read.run.config, &read.run.scripts, &read.entries);
+    unbegun(alloc, at_second(end))
 }
 
 /// How the audit of these entries ends.

@@ -5,7 +5,7 @@ ghost use Rattle.nit_top.specs.Terms.{code_of, end_of_run, fault_code, status_of
 
 use nit_events::Entry;
 use nit_perform::{PutFault, Ran};
-use nit_setup::{End, Fault, Name, Stop, at};
+use nit_setup::{End, Fault, Name, Stop, nowhere};
 use nit_store::PutError;
 use std::alloc::Global;
 
@@ -24,8 +24,8 @@ pub struct Done {
 
 /// What the work of a command leaves.
 #[derive(Drop)]
-pub struct Worked<'a> {
-    pub stop: Stop<'a>,
+pub struct Worked {
+    pub stop: Stop,
     /// The journal of the run, which is empty where none was begun.
     pub journal: Vec<Entry>,
     /// How many clients the run had.
@@ -34,9 +34,9 @@ pub struct Worked<'a> {
     pub frames: usize,
 }
 
-impl<'a> Worked<'a> {
+impl Worked {
     /// What the work leaves after a run, which had so many clients.
-    pub fn after(ran: Ran, clients: usize) -> Worked<'a>
+    pub fn after(ran: Ran, clients: usize) -> Worked
         ensures end { result.stop.end ≡ end_of_run ran.fault }
         ensures name { IfSome ran.fault (λ f. result.stop.name ≡ Name.Put f.file) }
         ensures journal { result.journal.items ≡ ran.journal.items }
@@ -53,8 +53,8 @@ impl<'a> Worked<'a> {
 }
 
 /// The work ended before a run was begun.
-pub fn unbegun(alloc: Global, stop: Stop<'_>) -> Worked<'_>
-    ensures stop { result.stop ≡ stop.entry }
+pub fn unbegun(alloc: Global, stop: Stop) -> Worked
+    ensures stop { result.stop ≡ stop }
     ensures journal { result.journal.items ≡ [] }
 {
     Worked {
@@ -107,12 +107,12 @@ pub fn status(end: End, said: Result<(), PutError>) -> u8
 }
 
 /// How the work ends after a run, by the put that was refused.
-pub fn stop_after<'a>(fault: Option<PutFault>) -> Stop<'a>
+pub fn stop_after(fault: Option<PutFault>) -> Stop
     ensures end { result.end ≡ end_of_run fault }
     ensures name { IfSome fault (λ f. result.name ≡ Name.Put f.file) }
 {
     let Some(fault) = fault else {
-        return at(End::Whole, "");
+        return nowhere(End::Whole);
     };
     Stop {
         end: match fault.error {

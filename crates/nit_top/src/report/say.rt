@@ -2,7 +2,8 @@
 
 ghost use Rattle.std.specs.Prelude.{◌≡◌};
 ghost use Rattle.nit_top.specs.Terms.{Says, audited_line, bad_configuration_line, clip_name};
-ghost use Rattle.nit_top.specs.Terms.{decimal, events_name, fault_line, flat_map, kind_text};
+ghost use Rattle.nit_top.specs.Terms.{command_of, decimal, events_name, fault_line, first_name};
+ghost use Rattle.nit_top.specs.Terms.{flat_map, kind_text, second_name};
 ghost use Rattle.nit_top.specs.Terms.{label_text, line_on, name_text, numbered_line, output_name};
 ghost use Rattle.nit_top.specs.Terms.{picture_name, piece_text, script_name, shot_name};
 ghost use Rattle.nit_top.specs.Terms.{summary_line};
@@ -11,7 +12,7 @@ use crate::report::finish::Worked;
 use nit_config::ConfigError;
 use nit_rounds::PictureName;
 use nit_run::{LabelBytes, Output};
-use nit_setup::{End, Fault, Name};
+use nit_setup::{Asked, End, Fault, Name};
 use nit_store::{PutError, Store};
 
 /// A part of a line.
@@ -19,15 +20,23 @@ use nit_store::{PutError, Store};
 enum Piece<'a> {
     Text(&'a [u8]),
     Number(u64),
-    Name(Name<'a>),
+    /// The name of the clip script of the client with the script of this name.
+    ClipsOf(&'a [u8]),
+    /// The name of a file that a run puts.
+    Put(Output),
 }
 
-/// Says how the work came to its end.
-pub fn tell<S: Store>(store: &mut S, worked: &Worked) -> Result<(), PutError>
-    ensures { Says (S.shown store.old) (line_on worked.now) (S.shown store.new) result }
+/// Says how the work that the words ask for came to its end.
+pub fn tell<'a, S: Store>(
+    store: &mut S,
+    asked: Option<Asked<'a>>,
+    worked: &'a Worked,
+) -> Result<(), PutError>
+    ensures { Says (S.shown store.old) (line_on (command_of asked.entry) worked.now)
+        (S.shown store.new) result }
 {
     let head = Piece::Text(b"nitpicker: ");
-    let name = Piece::Name(worked.stop.name);
+    let name = piece_of(asked, &worked.stop.name);
     match worked.stop.end {
         End::Usage => say_all(
             store,
@@ -39,7 +48,7 @@ pub fn tell<S: Store>(store: &mut S, worked: &Worked) -> Result<(), PutError>
             ],
         ),
         End::ReadFault => say_all(store, &[head, name, Piece::Text(b": read fault\n")]),
-        End::Refused(fault) | End::Unfit(fault) => tell_fault(store, fault, worked.stop.name),
+        End::Refused(fault) | End::Unfit(fault) => tell_fault(store, fault, name),
         End::Outside => say_all(store, &[head, Piece::Text(b"capture outside\n")]),
         End::WriteFault => say_all(store, &[head, name, Piece::Text(b": write fault\n")]),
         End::NoMemory => say_all(store, &[head, Piece::Text(b"no memory\n")]),
@@ -50,6 +59,40 @@ pub fn tell<S: Store>(store: &mut S, worked: &Worked) -> Result<(), PutError>
             worked.frames as u64,
         ),
         End::Audited(entries) => tell_audited(store, entries),
+    }
+}
+
+/// The name of the file that the work ended at.
+fn piece_of<'a>(asked: Option<Asked<'a>>, name: &'a Name) -> Piece<'a>
+    ensures { piece_text result ≡ name_text (command_of asked.entry) name.entry.now }
+{
+    match name {
+        Name::Nothing => Piece::Text(b""),
+        Name::First => Piece::Text(first(asked).as_bytes()),
+        Name::Second => Piece::Text(second(asked).as_bytes()),
+        Name::Script(script) => Piece::Text(script.as_bytes()),
+        Name::ClipsOf(script) => Piece::ClipsOf(script.as_bytes()),
+        Name::Put(file) => Piece::Put(*file),
+    }
+}
+
+/// The first file that the words name, with an empty name where they name none.
+fn first<'a>(asked: Option<Asked<'a>>) -> &'a str
+    ensures { result.now ≡ first_name (command_of asked.entry) }
+{
+    match asked {
+        Some(asked) => asked.first(),
+        None => "",
+    }
+}
+
+/// The second one.
+fn second<'a>(asked: Option<Asked<'a>>) -> &'a str
+    ensures { result.now ≡ second_name (command_of asked.entry) }
+{
+    match asked {
+        Some(asked) => asked.second(),
+        None => "",
     }
 }
 
@@ -93,26 +136,25 @@ fn tell_summary<S: Store>(
 }
 
 /// Says why the file of this name is refused.
-fn tell_fault<S: Store>(store: &mut S, fault: Fault, name: Name) -> Result<(), PutError>
-    ensures { Says (S.shown store.old) (fault_line (name_text name.entry) fault)
+fn tell_fault<S: Store>(store: &mut S, fault: Fault, name: Piece) -> Result<(), PutError>
+    ensures { Says (S.shown store.old) (fault_line (piece_text name.entry) fault)
         (S.shown store.new) result }
 {
     let head = Piece::Text(b"nitpicker: ");
-    let file = Piece::Name(name);
     match fault {
         Fault::BadConfig(error) => tell_kind(store, name, kind_text(error)),
         Fault::LongConfig => tell_kind(store, name, b"too long"),
         Fault::BadLine(line) => tell_number(store, name, b": line ", line, b": bad script\n"),
         Fault::TooLong | Fault::LongJournal => {
-            say_all(store, &[head, file, Piece::Text(b": too long\n")])
+            say_all(store, &[head, name, Piece::Text(b": too long\n")])
         }
-        Fault::PhasesDiffer => say_all(store, &[head, file, Piece::Text(b": phases differ\n")]),
+        Fault::PhasesDiffer => say_all(store, &[head, name, Piece::Text(b": phases differ\n")]),
         Fault::BadEntry(line) => tell_number(store, name, b": line ", line, b": bad journal\n"),
         Fault::NotARun(entry) => tell_number(store, name, b": entry ", entry, b": not a run\n"),
         Fault::FramesTooLong => {
             say_all(
                 store,
-                &[head, file, Piece::Text(b": inner frames too long\n")],
+                &[head, name, Piece::Text(b": inner frames too long\n")],
             )
         }
     }
@@ -121,20 +163,20 @@ fn tell_fault<S: Store>(store: &mut S, fault: Fault, name: Name) -> Result<(), P
 /// Says of a file what is wrong at this line or entry of it.
 fn tell_number<'a, S: Store>(
     store: &mut S,
-    name: Name<'a>,
+    name: Piece<'a>,
     before: &'a [u8],
     number: u32,
     behind: &'a [u8],
 ) -> Result<(), PutError>
     ensures { Says (S.shown store.old)
-        (numbered_line (name_text name.entry) before.now number behind.now)
+        (numbered_line (piece_text name.entry) before.now number behind.now)
         (S.shown store.new) result }
 {
     say_all(
         store,
         &[
             Piece::Text(b"nitpicker: "),
-            Piece::Name(name),
+            name,
             Piece::Text(before),
             Piece::Number(number as u64),
             Piece::Text(behind),
@@ -143,15 +185,15 @@ fn tell_number<'a, S: Store>(
 }
 
 /// Says that the configuration of this name is refused, and the kind of its refusal.
-fn tell_kind<'a, S: Store>(store: &mut S, name: Name<'a>, kind: &'a [u8]) -> Result<(), PutError>
-    ensures { Says (S.shown store.old) (bad_configuration_line (name_text name.entry) kind.now)
+fn tell_kind<'a, S: Store>(store: &mut S, name: Piece<'a>, kind: &'a [u8]) -> Result<(), PutError>
+    ensures { Says (S.shown store.old) (bad_configuration_line (piece_text name.entry) kind.now)
         (S.shown store.new) result }
 {
     say_all(
         store,
         &[
             Piece::Text(b"nitpicker: "),
-            Piece::Name(name),
+            name,
             Piece::Text(b": bad configuration: "),
             Piece::Text(kind),
             Piece::Text(b"\n"),
@@ -192,9 +234,8 @@ fn say_piece<S: Store>(store: &mut S, piece: &Piece) -> Result<(), PutError>
     match piece {
         Piece::Text(bytes) => text(store, bytes),
         Piece::Number(n) => number(store, *n),
-        Piece::Name(Name::Text(name)) => text(store, name.as_bytes()),
-        Piece::Name(Name::ClipsOf(script)) => clip_name(store, script),
-        Piece::Name(Name::Put(file)) => output_name(store, file),
+        Piece::ClipsOf(script) => clip_name(store, script),
+        Piece::Put(file) => output_name(store, file),
     }
 }
 
@@ -254,10 +295,10 @@ fn script_name<S: Store>(store: &mut S, client: u32) -> Result<(), PutError>
 }
 
 /// Says the name of the clip script of the client with the script of this name.
-fn clip_name<S: Store>(store: &mut S, script: &str) -> Result<(), PutError>
+fn clip_name<S: Store>(store: &mut S, script: &[u8]) -> Result<(), PutError>
     ensures { Says (S.shown store.old) (clip_name script.now) (S.shown store.new) result }
 {
-    text(store, script.as_bytes())?;
+    text(store, script)?;
     text(store, b".clip")
 }
 

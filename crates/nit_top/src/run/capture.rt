@@ -1,9 +1,8 @@
 //! The run of a configuration that is filmed.
 
-ghost use Rattle.std.specs.Prelude.{◌≡◌, ◌+◌, ℕ, List, IfSome, false, true};
-ghost use Rattle.nit_top.specs.Terms.{Capture, Ends, IsConfig, IsConfiguration, IsRegionWords};
-ghost use Rattle.nit_top.specs.Terms.{IsRunnable, PerformedFilmed, Region, Runs, StoreModel};
-ghost use Rattle.nit_top.specs.Terms.{bytes_of, is_off_screen, setup_of, with_asked};
+ghost use Rattle.std.specs.Prelude.{◌≡◌, ◌+◌, false, true};
+ghost use Rattle.nit_top.specs.Terms.{Capture, Ends, IsRegionWords, IsRunnable, PerformedFilmed};
+ghost use Rattle.nit_top.specs.Terms.{Region, is_off_screen, setup_of};
 
 use crate::report::finish::{Worked, unbegun};
 use nit_actor::Gate;
@@ -12,44 +11,41 @@ use nit_perform::{Film, Host, run_filmed};
 use nit_rect::NoMemory;
 use nit_run::laws::headline;
 use nit_run::{Region, Scripts};
-use nit_setup::{End, at, read_scripts};
+use nit_setup::{End, nowhere, read_run};
 use nit_store::Store;
 use std::sync::Wait;
 use std::thread::Threads;
 
-/// Runs the scripts of a configuration with each client on a thread of its own, and films a region
+/// Runs the configuration of this name with each client on a thread of its own, and films a region
 /// of the screen, which is to lie on it.
-pub fn capture<'a, R: Threads + Wait + Sync, S: Store, G: Gate>(
+pub fn capture<R: Threads + Wait + Sync, S: Store, G: Gate>(
     host: &Host<R, G>,
     store: &mut S,
-    config: &'a Config,
+    name: &str,
     region: Region,
-) -> Worked<'a>
-    requires configured { IsConfiguration config.now }
-    requires numbers { IsRegionWords region }
-    ensures { (name : List ℕ) → (first : StoreModel) → (S.shown store.old) ≡ with_asked first name
-        → IfSome first.files (λ files. IsConfig (bytes_of name files) config.entry.now)
-        → Ends (Capture name region) first (S.shown store.new) result }
+) -> Worked
+    requires { IsRegionWords region }
+    ensures { Ends (Capture name.now region) (S.shown store.old) (S.shown store.new) result }
 {
-    let scripts = match read_scripts(host.alloc, store, config) {
-        Ok(scripts) => scripts,
+    let run = match read_run(host.alloc, store, name) {
+        Ok(run) => run,
         Err(stop) => return unbegun(host.alloc, stop),
     };
-    if region.is_outside(config.width, config.height) {
-        return unbegun(host.alloc, at(End::Outside, ""));
+    if region.is_outside(run.config.width, run.config.height) {
+        return unbegun(host.alloc, nowhere(End::Outside));
     }
-    perform_filmed(host, store, config, &scripts, region)
+    perform_filmed(host, store, &run.config, &run.scripts, region)
 }
 
 /// Runs a setup with texts, each client on a thread of its own, and films a region of the screen. A
 /// run that is not begun leaves everything.
-fn perform_filmed<'a, R: Threads + Wait + Sync, S: Store, G: Gate>(
+fn perform_filmed<R: Threads + Wait + Sync, S: Store, G: Gate>(
     host: &Host<R, G>,
     store: &mut S,
     config: &Config,
     scripts: &Scripts,
     region: Region,
-) -> Worked<'a>
+) -> Worked
     requires runnable { IsRunnable
         (setup_of config.now scripts.now.clients.items scripts.now.input true true) }
     requires inside { is_off_screen region config.now.width config.now.height ≡ false }
@@ -61,10 +57,10 @@ fn perform_filmed<'a, R: Threads + Wait + Sync, S: Store, G: Gate>(
     let clients = scripts.clients.as_slice();
     let rect = region.rect(config.width, config.height);
     let Ok(film) = Film::new(host.alloc, config.width, config.height, rect) else {
-        return unbegun(host.alloc, at(End::NoMemory, ""));
+        return unbegun(host.alloc, nowhere(End::NoMemory));
     };
     let Ok(ran) = run_filmed(host, config, scripts, film, store) else {
-        return unbegun(host.alloc, at(End::NoMemory, ""));
+        return unbegun(host.alloc, nowhere(End::NoMemory));
     };
     Worked::after(ran, clients.len())
 }

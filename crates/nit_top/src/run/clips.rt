@@ -1,10 +1,8 @@
 //! A run with each client on a thread of its own and a clip script for each, and the user on the
 //! calling thread.
 
-ghost use Rattle.std.specs.Prelude.{◌≡◌, ℕ, List, IfSome, length};
-ghost use Rattle.nit_top.specs.Terms.{Clip, Ends, IsConfig, IsConfiguration, IsRunnable};
-ghost use Rattle.nit_top.specs.Terms.{PerformedClips, StoreModel, bytes_of, clips_setup_of};
-ghost use Rattle.nit_top.specs.Terms.{with_asked};
+ghost use Rattle.std.specs.Prelude.{◌≡◌, length};
+ghost use Rattle.nit_top.specs.Terms.{Clip, Ends, IsRunnable, PerformedClips, clips_setup_of};
 
 use crate::report::finish::{Worked, unbegun};
 use nit_actor::Gate;
@@ -14,44 +12,41 @@ use nit_perform::{Host, run_with_clips};
 use nit_rect::NoMemory;
 use nit_run::Scripts;
 use nit_run::laws::headline;
-use nit_setup::{End, at, load_clips, read_scripts, wanted_by};
+use nit_setup::{End, nowhere, read_clips};
 use nit_store::Store;
 use std::sync::Wait;
 use std::thread::Threads;
 
-/// Runs the scripts of a configuration with each client on a thread of its own, and a clip script
+/// Runs the configuration of this name with each client on a thread of its own, and a clip script
 /// for each.
-pub fn clip<'a, R: Threads + Wait + Sync, S: Store, G: Gate>(
+pub fn clip<R: Threads + Wait + Sync, S: Store, G: Gate>(
     host: &Host<R, G>,
     store: &mut S,
-    config: &'a Config,
-) -> Worked<'a>
-    requires { IsConfiguration config.now }
-    ensures { (name : List ℕ) → (first : StoreModel) → (S.shown store.old) ≡ with_asked first name
-        → IfSome first.files (λ files. IsConfig (bytes_of name files) config.entry.now)
-        → Ends (Clip name) first (S.shown store.new) result }
+    name: &str,
+) -> Worked
+    ensures { Ends (Clip name.now) (S.shown store.old) (S.shown store.new) result }
 {
-    let scripts = match read_scripts(host.alloc, store, config) {
-        Ok(scripts) => scripts,
-        Err(stop) => return unbegun(host.alloc, stop),
-    };
-    let wanted = wanted_by(&scripts.clients);
-    let clips = match load_clips(host.alloc, store, &config.clients, wanted) {
-        Ok(clips) => clips,
-        Err(stop) => return unbegun(host.alloc, stop),
-    };
-    perform_clips(host, store, config, &scripts, &clips)
+    match read_clips(host.alloc, store, name) {
+        Ok(read) => perform_clips(
+            host,
+            store,
+            &read.run.config,
+            &read.run.scripts,
+            &read.clips,
+        ),
+        Err(stop) => unbegun(host.alloc, stop),
+    }
 }
 
 /// Runs a setup with texts and a clip script for each client. A run that is not begun leaves
 /// everything.
-fn perform_clips<'a, R: Threads + Wait + Sync, S: Store, G: Gate>(
+fn perform_clips<R: Threads + Wait + Sync, S: Store, G: Gate>(
     host: &Host<R, G>,
     store: &mut S,
     config: &Config,
     scripts: &Scripts,
     clips: &[ClipScript],
-) -> Worked<'a>
+) -> Worked
     requires runnable { IsRunnable (clips_setup_of config.now scripts.now clips.now) }
     requires each { length clips.now ≡ length scripts.now.clients.items }
     ensures { PerformedClips (S.shown store.old) (clips_setup_of config.now scripts.now clips.now)
@@ -60,7 +55,7 @@ fn perform_clips<'a, R: Threads + Wait + Sync, S: Store, G: Gate>(
     headline();
     let clients = scripts.clients.as_slice();
     let Ok(ran) = run_with_clips(host, config, scripts, clips, store) else {
-        return unbegun(host.alloc, at(End::NoMemory, ""));
+        return unbegun(host.alloc, nowhere(End::NoMemory));
     };
     Worked::after(ran, clients.len())
 }

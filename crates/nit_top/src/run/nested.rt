@@ -1,9 +1,8 @@
 //! A run whose first client shows what another run has shown.
 
-ghost use Rattle.std.specs.Prelude.{◌+◌, ℕ, List, Some, ◌≡◌, ◌≤◌, length, ◌∷◌, true};
-ghost use Rattle.nit_top.specs.Terms.{Ends, IsAfterOuter, IsConfiguration, IsOuter, IsRunnable};
-ghost use Rattle.nit_top.specs.Terms.{Line, Nested, PerformedNested, RunFiles, StoreModel};
-ghost use Rattle.nit_top.specs.Terms.{first_other, run_files, setup_of};
+ghost use Rattle.std.specs.Prelude.{◌+◌, List, Some, ◌≡◌, ◌≤◌, length, ◌∷◌, true};
+ghost use Rattle.nit_top.specs.Terms.{Ends, IsRunnable, Line, Nested, PerformedNested, RunFiles};
+ghost use Rattle.nit_top.specs.Terms.{first_other, setup_of};
 
 use crate::report::finish::{Worked, unbegun};
 use crate::run::inner::run_inner;
@@ -16,53 +15,51 @@ use nit_rounds::laws::each_line_once;
 use nit_run::Scripts;
 use nit_run::laws::headline;
 use nit_script::Client;
-use nit_setup::{End, Fault, at, first_other, frame_count, read_scripts};
+use nit_setup::{
+    End, Fault, Loaded, TwoRuns, at, at_second, first_other, frame_count, nowhere, read_nested,
+};
 use nit_store::Store;
 use std::sync::Wait;
 use std::thread::Threads;
 
-/// Reads the scripts of the inner configuration, which has this name, and runs it by turns. Then it
-/// runs the outer configuration, whose scripts these are, with each client on a thread of its own.
-/// There the first client shows the frames of the inner run.
-pub fn nested<'a, R: Threads + Wait + Sync, S: Store, G: Gate>(
+/// Reads the files of both configurations, and runs the inner one by turns. Then it runs the outer
+/// one with each client on a thread of its own. There the first client shows the frames of the
+/// inner run.
+pub fn nested<R: Threads + Wait + Sync, S: Store, G: Gate>(
     host: &Host<R, G>,
     store: &mut S,
-    outer: &'a Config,
-    shown: Scripts,
-    name: &'a str,
-    inner: &'a Config,
-) -> Worked<'a>
-    requires configured { IsConfiguration inner.now }
-    requires outer { IsOuter (run_files outer.now shown.clients.items shown.input) }
-    ensures { (outer_name : List ℕ) → (first : StoreModel)
-        → IsAfterOuter outer_name name.entry.now first
-        (run_files outer.entry.now shown.clients.items shown.input)
-        inner.entry.now (S.shown store.old)
-        → Ends (Nested outer_name name.entry.now) first (S.shown store.new) result }
+    outer: &str,
+    inner: &str,
+) -> Worked
+    ensures { Ends (Nested outer.now inner.now) (S.shown store.old) (S.shown store.new) result }
 {
     each_line_once();
     phases_stay();
-    let scripts = match read_scripts(host.alloc, store, inner) {
-        Ok(scripts) => scripts,
+    let TwoRuns { outer, inner } = match read_nested(host.alloc, store, outer, inner) {
+        Ok(read) => read,
         Err(stop) => return unbegun(host.alloc, stop),
     };
-    if let Some(other) = first_other(frame_count(&scripts.input), outer, &shown) {
+    let Loaded {
+        config,
+        scripts: shown,
+    } = outer;
+    if let Some(other) = first_other(frame_count(&inner.scripts.input), &config, &shown) {
         return unbegun(host.alloc, at(End::Unfit(Fault::PhasesDiffer), other));
     }
-    let clients = scripts.clients.as_slice();
+    let clients = inner.scripts.clients.as_slice();
     match run_inner(
         host.alloc,
-        inner,
+        &inner.config,
         clients,
-        &scripts.input,
+        &inner.scripts.input,
         &shown.clients[0],
     ) {
         Ok(made) => {
             let _known = made.script.lines();
             let shown = with_first(shown, made.script);
-            perform_nested(host, store, outer, &shown, &made.journal)
+            perform_nested(host, store, &config, &shown, &made.journal)
         }
-        Err(end) => unbegun(host.alloc, at(end, name)),
+        Err(end) => unbegun(host.alloc, at_second(end)),
     }
 }
 
@@ -80,13 +77,13 @@ fn with_first(scripts: Scripts, first: Client) -> Scripts
 
 /// Runs a setup with texts, each client on a thread of its own, and puts the journal of an inner
 /// run behind its files. A run that is not begun leaves everything.
-fn perform_nested<'a, R: Threads + Wait + Sync, S: Store, G: Gate>(
+fn perform_nested<R: Threads + Wait + Sync, S: Store, G: Gate>(
     host: &Host<R, G>,
     store: &mut S,
     config: &Config,
     scripts: &Scripts,
     journal: &[Entry],
-) -> Worked<'a>
+) -> Worked
     requires { IsRunnable
         (setup_of config.now scripts.now.clients.items scripts.now.input true true) }
     ensures { (i : RunFiles)
@@ -97,7 +94,7 @@ fn perform_nested<'a, R: Threads + Wait + Sync, S: Store, G: Gate>(
     headline();
     let clients = scripts.clients.as_slice();
     let Ok(ran) = run_beside(host, config, clients, &scripts.input, store) else {
-        return unbegun(host.alloc, at(End::NoMemory, ""));
+        return unbegun(host.alloc, nowhere(End::NoMemory));
     };
     let fault = put_inner_journal(host.alloc, store, ran.fault, journal);
     Worked::after(ran.with_fault(fault), clients.len())

@@ -1,10 +1,8 @@
 //! The work of a command: what is to be run, the run, and how it came to its end.
 
-ghost use Rattle.std.specs.Prelude.{◌<◌, ◌≤◌, false, ◌≡◌, ℕ, List, IfSome, true};
-ghost use Rattle.nit_top.specs.Terms.{Ends, Gen, IsAlone, IsConfig, IsConfiguration, IsRunnable};
-ghost use Rattle.nit_top.specs.Terms.{Performed, Run, Still, StoreModel, bytes_of, generated};
-ghost use Rattle.nit_top.specs.Terms.{most_height, most_width, number_end, setup_of};
-ghost use Rattle.nit_top.specs.Terms.{still_configuration, with_asked};
+ghost use Rattle.std.specs.Prelude.{◌<◌, ◌≤◌, false, true};
+ghost use Rattle.nit_top.specs.Terms.{Ends, Gen, IsAlone, IsRunnable, Performed, Run, Still};
+ghost use Rattle.nit_top.specs.Terms.{generated, most_height, most_width, number_end, setup_of};
 
 use crate::report::finish::{Worked, stop_after, unbegun};
 use nit_actor::Gate;
@@ -15,7 +13,7 @@ use nit_report::{gen_config, generate, generated_client_counts, generated_user_c
 use nit_run::Scripts;
 use nit_run::laws::headline;
 use nit_script::{Client, Input};
-use nit_setup::{End, at, idle_user, load_client, read_files, read_scripts, still_configuration};
+use nit_setup::{End, OneScript, nowhere, read_files, read_run, read_still};
 use nit_store::Store;
 use nit_store::laws::puts_go_on;
 use std::alloc::Global;
@@ -23,69 +21,65 @@ use std::sync::Wait;
 use std::thread::Threads;
 
 /// Makes the picture of the script of this name.
-pub fn still<'a, S: Store>(
+pub fn still<S: Store>(
     alloc: Global,
     store: &mut S,
     width: u32,
     height: u32,
-    script: &'a str,
-) -> Worked<'a>
+    script: &str,
+) -> Worked
     requires { (0 < width) × (width ≤ most_width) × (0 < height) × (height ≤ most_height) }
-    ensures { Ends (Still width height script.entry.now) (S.shown store.old)
+    ensures { Ends (Still width height script.now) (S.shown store.old)
         (S.shown store.new) result }
 {
-    let client = match load_client(alloc, store, script, None) {
-        Ok(client) => client,
+    let OneScript {
+        config,
+        client,
+        input,
+    } = match read_still(alloc, store, width, height, script) {
+        Ok(read) => read,
         Err(stop) => return unbegun(alloc, stop),
-    };
-    let Ok(config) = still_configuration(alloc, width, height) else {
-        return unbegun(alloc, at(End::NoMemory, script));
-    };
-    let Ok(input) = idle_user(alloc, client.lines()) else {
-        return unbegun(alloc, at(End::NoMemory, script));
     };
     perform_alone(alloc, store, &config, &[client], &input)
 }
 
-/// Runs the scripts of a configuration by turns.
-pub fn turns<'a, S: Store>(alloc: Global, store: &mut S, config: &'a Config) -> Worked<'a>
-    requires { IsConfiguration config.now }
-    ensures { (name : List ℕ) → (first : StoreModel) → (S.shown store.old) ≡ with_asked first name
-        → IfSome first.files (λ files. IsConfig (bytes_of name files) config.entry.now)
-        → Ends (Run false name) first (S.shown store.new) result }
+/// Runs the configuration of this name by turns.
+pub fn turns<S: Store>(alloc: Global, store: &mut S, name: &str) -> Worked
+    ensures { Ends (Run false name.now) (S.shown store.old) (S.shown store.new) result }
 {
-    let scripts = match read_scripts(alloc, store, config) {
-        Ok(scripts) => scripts,
-        Err(stop) => return unbegun(alloc, stop),
-    };
-    perform(alloc, store, config, &scripts.clients, &scripts.input)
+    match read_run(alloc, store, name) {
+        Ok(run) => perform(
+            alloc,
+            store,
+            &run.config,
+            &run.scripts.clients,
+            &run.scripts.input,
+        ),
+        Err(stop) => unbegun(alloc, stop),
+    }
 }
 
-/// Runs the scripts of a configuration with each client on a thread of its own.
-pub fn beside<'a, R: Threads + Wait + Sync, S: Store, G: Gate>(
+/// Runs the configuration of this name with each client on a thread of its own.
+pub fn beside<R: Threads + Wait + Sync, S: Store, G: Gate>(
     host: &Host<R, G>,
     store: &mut S,
-    config: &'a Config,
-) -> Worked<'a>
-    requires { IsConfiguration config.now }
-    ensures { (name : List ℕ) → (first : StoreModel) → (S.shown store.old) ≡ with_asked first name
-        → IfSome first.files (λ files. IsConfig (bytes_of name files) config.entry.now)
-        → Ends (Run true name) first (S.shown store.new) result }
+    name: &str,
+) -> Worked
+    ensures { Ends (Run true name.now) (S.shown store.old) (S.shown store.new) result }
 {
-    let scripts = match read_scripts(host.alloc, store, config) {
-        Ok(scripts) => scripts,
-        Err(stop) => return unbegun(host.alloc, stop),
-    };
-    perform_beside(host, store, config, &scripts)
+    match read_run(host.alloc, store, name) {
+        Ok(run) => perform_beside(host, store, &run.config, &run.scripts),
+        Err(stop) => unbegun(host.alloc, stop),
+    }
 }
 
 /// Puts the files of the generated run of this number, and runs it as they say, with each client on
 /// a thread of its own. The scripts are read from their own bytes.
-pub fn generated<'a, R: Threads + Wait + Sync, S: Store, G: Gate>(
+pub fn generated<R: Threads + Wait + Sync, S: Store, G: Gate>(
     host: &Host<R, G>,
     store: &mut S,
     number: u32,
-) -> Worked<'a>
+) -> Worked
     requires { number < number_end }
     ensures { Ends (Gen number) (S.shown store.old) (S.shown store.new) result }
 {
@@ -94,49 +88,49 @@ pub fn generated<'a, R: Threads + Wait + Sync, S: Store, G: Gate>(
     headline();
     puts_go_on();
     let Ok(files) = generate(host.alloc, number) else {
-        return unbegun(host.alloc, at(End::NoMemory, ""));
+        return unbegun(host.alloc, nowhere(End::NoMemory));
     };
     let fault = put_files(store, number, &files);
     if fault.is_some() {
         return unbegun(host.alloc, stop_after(fault));
     }
     let Ok(scripts) = read_files(host.alloc, number, &files) else {
-        return unbegun(host.alloc, at(End::NoMemory, ""));
+        return unbegun(host.alloc, nowhere(End::NoMemory));
     };
     let Ok(config) = gen_config(host.alloc) else {
-        return unbegun(host.alloc, at(End::NoMemory, ""));
+        return unbegun(host.alloc, nowhere(End::NoMemory));
     };
     perform_beside(host, store, &config, &scripts)
 }
 
 /// Runs a setup by rounds, with texts. A run that is not begun leaves everything.
-fn perform<'a, S: Store>(
+fn perform<S: Store>(
     alloc: Global,
     store: &mut S,
     config: &Config,
     scripts: &[Client],
     input: &Input,
-) -> Worked<'a>
+) -> Worked
     requires { IsRunnable (setup_of config.now scripts.now input.now true false) }
     ensures { Performed (S.shown store.old) (setup_of config.now scripts.now input.now true false)
         (S.shown store.new) result }
 {
     headline();
     let Ok(ran) = run_turns(alloc, config, scripts, input, store) else {
-        return unbegun(alloc, at(End::NoMemory, ""));
+        return unbegun(alloc, nowhere(End::NoMemory));
     };
     Worked::after(ran, scripts.len())
 }
 
 /// Runs one client whose user does nothing, without texts. A run that is not begun leaves
 /// everything.
-fn perform_alone<'a, S: Store>(
+fn perform_alone<S: Store>(
     alloc: Global,
     store: &mut S,
     config: &Config,
     scripts: &[Client],
     input: &Input,
-) -> Worked<'a>
+) -> Worked
     requires runnable { IsRunnable (setup_of config.now scripts.now input.now false false) }
     requires alone { IsAlone scripts.now input.now }
     ensures { Performed (S.shown store.old) (setup_of config.now scripts.now input.now false false)
@@ -144,19 +138,19 @@ fn perform_alone<'a, S: Store>(
 {
     headline();
     let Ok(ran) = run_one(alloc, config, scripts, input, store) else {
-        return unbegun(alloc, at(End::NoMemory, ""));
+        return unbegun(alloc, nowhere(End::NoMemory));
     };
     Worked::after(ran, scripts.len())
 }
 
 /// Runs a setup with texts, each client on a thread of its own. A run that is not begun leaves
 /// everything.
-pub fn perform_beside<'a, R: Threads + Wait + Sync, S: Store, G: Gate>(
+pub fn perform_beside<R: Threads + Wait + Sync, S: Store, G: Gate>(
     host: &Host<R, G>,
     store: &mut S,
     config: &Config,
     scripts: &Scripts,
-) -> Worked<'a>
+) -> Worked
     requires { IsRunnable
         (setup_of config.now scripts.now.clients.items scripts.now.input true true) }
     ensures { Performed (S.shown store.old)
@@ -166,7 +160,7 @@ pub fn perform_beside<'a, R: Threads + Wait + Sync, S: Store, G: Gate>(
     headline();
     let clients = scripts.clients.as_slice();
     let Ok(ran) = run_beside(host, config, clients, &scripts.input, store) else {
-        return unbegun(host.alloc, at(End::NoMemory, ""));
+        return unbegun(host.alloc, nowhere(End::NoMemory));
     };
     Worked::after(ran, clients.len())
 }

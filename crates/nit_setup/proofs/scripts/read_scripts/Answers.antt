@@ -1,8 +1,22 @@
 use Rattle.std.proofs.Common.{◌≡◌, ◌∙◌, ℕ, List, Option, None, length, map, ap, subst, inl}
+use Rattle.std.proofs.Common.{All, ◌≤◌, inr, sym}
+use Rattle.nit_setup.proofs.Lemmas.{End, StoppedAt, short_name}
+use Rattle.nit_setup.proofs.Basics.{IsInputFault, IsMember}
 use Rattle.nit_setup.proofs.Lemmas.{Configuration, IfSome, IsInputScript, Member, SoFar}
 use Rattle.nit_setup.proofs.Lemmas.{StoppedAmong, bytes_of, run_runnable, script_names, wanted_by}
 use Rattle.nit_setup.proofs.Lemmas.{with_asked, wrong_input}
 use Rattle.nit_setup.proofs.scripts.read_scripts.Goals as goal
+
+pub load_scripts-requires : goal.load_scripts-requires
+load_scripts-requires g c =
+    subst (All IsMember) (sym (c.deref.ensures.value ∙ ap (λ (k : Configuration). k.clients) c.config.view_is))
+    c.requires.clients
+
+pub at-requires : goal.at-requires
+at-requires g c =
+    let input : c.as_str-name.result.now ≡ c.args.config.now.input = c.as_str-name.ensures
+    ∙ ap (λ (k : Configuration). k.input) c.config.view_is in
+    subst (λ (n : List ℕ). length n ≤ 255) (sym input) (short_name c.args.config.now.input c.requires.input)
 
 pub returns-in-Err-clause-read : goal.returns-in-Err-clause-read
 returns-in-Err-clause-read g c =
@@ -10,6 +24,30 @@ returns-in-Err-clause-read g c =
     ap (λ (ms : List Member). map (λ m. m.script) ms) c.deref.ensures.value ∙ ap script_names c.config.view_is in
     inl (subst (λ (ns : List (List ℕ)). StoppedAmong (g.S.Store.shown c.args.store.now) ns
     (g.S.Store.shown c.load_scripts.new.store) c.in-Err.stop) names c.in-Err.ensures)
+
+pub returns-in-Err-load_input-clause-read : goal.returns-in-Err-load_input-clause-read
+returns-in-Err-load_input-clause-read g c =
+    let old = g.S.Store.shown c.args.store.now in
+    let mid = g.S.Store.shown c.load_scripts.new.store in
+    let new = g.S.Store.shown c.load_input.new.store in
+    let config = c.args.config.now in
+    let scripts = c.in-Ok.clients.items in
+    let names : map (λ m. m.script) c.deref.result.now ≡ script_names config =
+    ap (λ (ms : List Member). map (λ m. m.script) ms) c.deref.ensures.value ∙ ap script_names c.config.view_is in
+    let wanted : c.wanted_by.result ≡ wanted_by scripts = c.wanted_by.ensures ∙ ap wanted_by c.deref-2.ensures.value in
+    let input : c.as_str-name.result.now ≡ config.input = c.as_str-name.ensures
+    ∙ ap (λ (k : Configuration). k.input) c.config.view_is in
+    inr (record {
+      scripts = scripts;
+      between = mid;
+      clients = subst (λ (ns : List (List ℕ)). SoFar old ns scripts mid) names c.in-Ok.ensures;
+      named = λ k. c.at.ensures.1 k ∙ input;
+      stopped = subst (λ (e : End). StoppedAt (IsInputFault (wanted_by scripts)) mid config.input new e)
+          (sym c.at.ensures.0)
+          (subst (λ (w : Option ℕ). StoppedAt (IsInputFault w) mid config.input new c.in-Err-load_input.end) wanted
+          (subst (λ (n : List ℕ). StoppedAt (IsInputFault c.wanted_by.result) mid n new c.in-Err-load_input.end) input
+          c.in-Err-load_input.ensures.loaded));
+    })
 
 pub returns-in-Ok-load_input-clause-read : goal.returns-in-Ok-load_input-clause-read
 returns-in-Ok-load_input-clause-read g c =
@@ -22,7 +60,7 @@ returns-in-Ok-load_input-clause-read g c =
     let names : map (λ m. m.script) c.deref.result.now ≡ script_names config =
     ap (λ (ms : List Member). map (λ m. m.script) ms) c.deref.ensures.value ∙ ap script_names c.config.view_is in
     let wanted : c.wanted_by.result ≡ wanted_by scripts = c.wanted_by.ensures ∙ ap wanted_by c.deref-2.ensures.value in
-    let input : c.as_str.result.now ≡ config.input = c.as_str.ensures
+    let input : c.as_str-name.result.now ≡ config.input = c.as_str-name.ensures
     ∙ ap (λ (k : Configuration). k.input) c.config.view_is in
     record {
       between = mid;

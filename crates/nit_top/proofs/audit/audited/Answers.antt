@@ -1,44 +1,27 @@
-use Rattle.nit_top.proofs.Lemmas.{End, Entry, IsAuditEnd, List, ap, false, found_ends, name_text}
-use Rattle.nit_top.proofs.Lemmas.{not_read, read_whole, setup_of, subst, sym, text_ends, true}
-use Rattle.nit_top.proofs.AuditEnds.{ends_before}
+use Rattle.nit_top.proofs.Lemmas.{Audit, End, Entry, IsAuditEnd, List, ap, false, found_ends}
+use Rattle.nit_top.proofs.Lemmas.{name_text}
+use Rattle.nit_top.proofs.Lemmas.{setup_in, stopped_ends, subst, sym}
 use Rattle.nit_top.proofs.audit.audited.Goals as goal
 
 pub returns-in-Err : goal.returns-in-Err
-returns-in-Err g c = λ name first start is_config.
-    ends_before name c.args.journal.now first (g.S.Store.shown c.read_scripts.new.store) c.unbegun.result
+returns-in-Err g c =
+    stopped_ends (Audit c.args.name.now c.args.journal.now) (g.S.Store.shown c.args.store.now)
+    (g.S.Store.shown c.read_audit.new.store) c.in-Err.stop c.in-Err.ensures c.unbegun.result c.unbegun.ensures.stop
     c.unbegun.ensures.journal
-    (not_read false name first c.args.config.now c.requires is_config (g.S.Store.shown c.args.store.now) start
-    (g.S.Store.shown c.read_scripts.new.store) c.in-Err.stop c.unbegun.result c.in-Err.ensures.read
-    c.unbegun.ensures.stop c.unbegun.ensures.journal)
 
-pub returns-in-Err-load_journal : goal.returns-in-Err-load_journal
-returns-in-Err-load_journal g c = λ name first start is_config.
-    let s = c.in-Ok.scripts in
-    let setup = setup_of c.args.config.now s.clients.items s.input true false in
-    let mid = g.S.Store.shown c.read_scripts.new.store in
-    let all = read_whole false name first c.args.config.now c.requires is_config (g.S.Store.shown c.args.store.now)
-    start s.clients.items s.input mid c.in-Ok.ensures.read (c.in-Ok.ensures.runnable false) in
-    let loaded = c.in-Err-load_journal.ensures.loaded in
-    text_ends name c.args.journal.now first mid setup all.0 all.1 (g.S.Store.shown c.load_journal.new.store)
-    c.in-Err-load_journal.stop c.unbegun-in-Err-load_journal.result loaded.0 loaded.1
-    c.unbegun-in-Err-load_journal.ensures.stop c.unbegun-in-Err-load_journal.ensures.journal
-
-pub audit_end-requires-clause-runnable : goal.audit_end-requires-clause-runnable
-audit_end-requires-clause-runnable g c = c.in-Ok.ensures.runnable false
+pub audit_end-end-requires-clause-runnable : goal.audit_end-end-requires-clause-runnable
+audit_end-end-requires-clause-runnable g c = c.in-Ok.ensures.scripts.runnable
 
 pub returns : goal.returns
-returns g c = λ name first start is_config.
-    let s = c.in-Ok.scripts in
-    let setup = setup_of c.args.config.now s.clients.items s.input true false in
-    let mid = g.S.Store.shown c.read_scripts.new.store in
-    let new = g.S.Store.shown c.load_journal.new.store in
-    let entries = c.in-Ok-load_journal.entries.items in
-    let all = read_whole false name first c.args.config.now c.requires is_config (g.S.Store.shown c.args.store.now)
-    start s.clients.items s.input mid c.in-Ok.ensures.read (c.in-Ok.ensures.runnable false) in
-    let loaded = c.in-Ok-load_journal.ensures.loaded in
-    let found : IsAuditEnd setup entries c.at.result.end =
-    subst (λ (e : End). IsAuditEnd setup entries e) (sym c.at.ensures.0)
-    (subst (λ (es : List Entry). IsAuditEnd setup es c.audit_end.result) c.deref.ensures.value
-    c.audit_end.ensures) in
-    found_ends name c.args.journal.now first mid setup all.0 all.1 new loaded.0 entries loaded.1 c.at.result
-    c.unbegun-2.result (ap name_text c.at.ensures.1) found c.unbegun-2.ensures.stop c.unbegun-2.ensures.journal
+returns g c =
+    let read = c.in-Ok.read in
+    let h = c.in-Ok.ensures in
+    let s = setup_in read.run false in
+    let found : IsAuditEnd s read.entries.items c.at_second.result.end =
+    subst (λ (e : End). IsAuditEnd s read.entries.items e) (sym c.at_second.ensures.0)
+    (subst (λ (es : List Entry). IsAuditEnd s es c.audit_end-end.result) c.deref.ensures.value
+    c.audit_end-end.ensures) in
+    found_ends c.args.name.now c.args.journal.now (g.S.Store.shown c.args.store.now)
+    (g.S.Store.shown c.read_audit.new.store) s read.entries.items h.scripts h.asked h.text c.at_second.result
+    c.unbegun-2.result (ap (name_text (Audit c.args.name.now c.args.journal.now)) c.at_second.ensures.1) found
+    c.unbegun-2.ensures.stop c.unbegun-2.ensures.journal

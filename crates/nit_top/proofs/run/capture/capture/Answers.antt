@@ -1,41 +1,36 @@
-use Rattle.nit_top.proofs.Lemmas.{Capture, Configuration, Stop, all_too, ap, ends_too, film_ends}
-use Rattle.nit_top.proofs.Lemmas.{is_off_screen, not_read, outside_ends, read_whole, setup_of, sym}
-use Rattle.nit_top.proofs.Lemmas.{true, ◌∙◌}
+use Rattle.nit_top.proofs.Lemmas.{Capture, Stop, ap, film_ends, is_off_screen}
+use Rattle.nit_top.proofs.Lemmas.{outside_ends, setup_in, stopped_ends, sym, true, ◌∙◌}
+use Rattle.nit_top.proofs.Basics.{IsRunnable, PerformedFilmed, subst}
+use Rattle.nit_setup.specs.declared.read.Loaded.{Loaded}
 use Rattle.nit_top.proofs.run.capture.capture.Goals as goal
 
 pub returns-in-Err : goal.returns-in-Err
-returns-in-Err g c = λ name first start is_config.
-    ends_too name c.args.region first (g.S.Store.shown c.read_scripts.new.store) c.unbegun.result
-    c.unbegun.ensures.journal
-    (not_read true name first c.args.config.now c.requires.configured is_config (g.S.Store.shown c.args.store.now) start
-    (g.S.Store.shown c.read_scripts.new.store) c.in-Err.stop c.unbegun.result c.in-Err.ensures.read
-    c.unbegun.ensures.stop c.unbegun.ensures.journal)
+returns-in-Err g c =
+    stopped_ends (Capture c.args.name.now c.args.region) (g.S.Store.shown c.args.store.now)
+    (g.S.Store.shown c.read_run.new.store) c.in-Err.stop (c.in-Err.ensures.film c.args.region) c.unbegun.result
+    c.unbegun.ensures.stop c.unbegun.ensures.journal
 
 pub returns-then-is_outside : goal.returns-then-is_outside
-returns-then-is_outside g c = λ name first start is_config.
-    let s = c.in-Ok.scripts in
-    let setup = setup_of c.args.config.now s.clients.items s.input true true in
-    let all = read_whole true name first c.args.config.now c.requires.configured is_config
-    (g.S.Store.shown c.args.store.now) start s.clients.items s.input (g.S.Store.shown c.read_scripts.new.store)
-    c.in-Ok.ensures.read (c.in-Ok.ensures.runnable true) in
-    outside_ends (Capture name c.args.region) first (g.S.Store.shown c.read_scripts.new.store) setup
-    c.unbegun-then-is_outside.result all.0 (all_too name c.args.region first.files setup all.1)
-    (sym (ap (λ (k : Configuration). is_off_screen c.args.region k.width k.height) c.config.view_is)
+returns-then-is_outside g c =
+    let r = c.in-Ok.ensures.film c.args.region in
+    outside_ends (Capture c.args.name.now c.args.region) (g.S.Store.shown c.args.store.now)
+    (g.S.Store.shown c.read_run.new.store) (setup_in c.in-Ok.run' true) c.unbegun-then-is_outside.result r.asked r.valid
+    (sym (ap (λ (k : Loaded). is_off_screen c.args.region k.config.width k.config.height) c.run.view_is)
     ∙ sym c.is_outside.ensures ∙ c.if-is_outside.true)
-    (ap (λ (stop : Stop). stop.end) c.unbegun-then-is_outside.ensures.stop ∙ c.at.ensures.0)
+    (ap (λ (stop : Stop). stop.end) c.unbegun-then-is_outside.ensures.stop ∙ c.nowhere.ensures.0)
     c.unbegun-then-is_outside.ensures.journal
 
 pub returns : goal.returns
-returns g c = λ name first start is_config.
-    let s = c.in-Ok.scripts in
-    let setup = setup_of c.args.config.now s.clients.items s.input true true in
-    let all = read_whole true name first c.args.config.now c.requires.configured is_config
-    (g.S.Store.shown c.args.store.now) start s.clients.items s.input (g.S.Store.shown c.read_scripts.new.store)
-    c.in-Ok.ensures.read (c.in-Ok.ensures.runnable true) in
-    film_ends name c.args.region first (g.S.Store.shown c.read_scripts.new.store)
-    (g.S.Store.shown c.perform_filmed.new.store) setup c.perform_filmed.result all.0 all.1
-    (sym (ap (λ (k : Configuration). is_off_screen c.args.region k.width k.height) c.config.view_is)
-    ∙ sym c.is_outside.ensures ∙ c.if-is_outside.false) c.perform_filmed.ensures
+returns g c =
+    let r = c.in-Ok.ensures.film c.args.region in
+    film_ends c.args.name.now c.args.region (g.S.Store.shown c.args.store.now) (g.S.Store.shown c.read_run.new.store)
+    (g.S.Store.shown c.perform_filmed.new.store) (setup_in c.in-Ok.run' true) c.perform_filmed.result r.asked r.valid
+    (sym (ap (λ (k : Loaded). is_off_screen c.args.region k.config.width k.config.height) c.run.view_is)
+    ∙ sym c.is_outside.ensures ∙ c.if-is_outside.false)
+    (subst (λ (k : Loaded). PerformedFilmed c.args.region (g.S.Store.shown c.read_run.new.store) (setup_in k true)
+    (g.S.Store.shown c.perform_filmed.new.store) c.perform_filmed.result) c.run.view_is c.perform_filmed.ensures)
 
 pub perform_filmed-requires-clause-runnable : goal.perform_filmed-requires-clause-runnable
-perform_filmed-requires-clause-runnable g c κs within = c.in-Ok.ensures.runnable true
+perform_filmed-requires-clause-runnable g c κs within =
+    subst (λ (k : Loaded). IsRunnable (setup_in k true)) (sym c.run.view_is)
+    (c.in-Ok.ensures.film c.args.region).valid.runnable

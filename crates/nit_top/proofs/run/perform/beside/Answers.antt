@@ -1,19 +1,17 @@
-use Rattle.nit_top.proofs.Lemmas.{all_read, not_read, true}
+use Rattle.nit_top.proofs.Lemmas.{Run, performed_ends, refl, setup_in, stopped_ends, true}
 use Rattle.nit_top.proofs.run.perform.beside.Goals as goal
 
 pub returns-in-Err : goal.returns-in-Err
-returns-in-Err g c = λ name first start is_config.
-    not_read true name first c.args.config.now c.requires is_config (g.S.Store.shown c.args.store.now) start
-    (g.S.Store.shown c.read_scripts.new.store) c.in-Err.stop c.unbegun.result c.in-Err.ensures.read
-    c.unbegun.ensures.stop c.unbegun.ensures.journal
-
-pub returns : goal.returns
-returns g c = λ name first start is_config.
-    let s = c.in-Ok.scripts in
-    all_read true name first c.args.config.now c.requires is_config (g.S.Store.shown c.args.store.now) start
-    s.clients.items s.input (g.S.Store.shown c.read_scripts.new.store) (g.S.Store.shown c.perform_beside.new.store)
-    c.perform_beside.result
-    c.in-Ok.ensures.read (c.in-Ok.ensures.runnable true) c.perform_beside.ensures
+returns-in-Err g c =
+    stopped_ends (Run true c.args.name.now) (g.S.Store.shown c.args.store.now) (g.S.Store.shown c.read_run.new.store)
+    c.in-Err.stop (c.in-Err.ensures.run true) c.unbegun.result c.unbegun.ensures.stop c.unbegun.ensures.journal
 
 pub perform_beside-requires-after_bounds : goal.perform_beside-requires-after_bounds
-perform_beside-requires-after_bounds g c κs within = c.in-Ok.ensures.runnable true
+perform_beside-requires-after_bounds g c κs within = (c.in-Ok.ensures.run true).valid.runnable
+
+pub returns-in-Ok : goal.returns-in-Ok
+returns-in-Ok g c =
+    let r = c.in-Ok.ensures.run true in
+    performed_ends (Run true c.args.name.now) (g.S.Store.shown c.args.store.now) (g.S.Store.shown c.read_run.new.store)
+    (g.S.Store.shown c.perform_beside.new.store) (setup_in c.in-Ok.run' true) c.perform_beside.result
+    (λ s journal files are. refl, λ config. refl) r.asked r.valid c.perform_beside.ensures

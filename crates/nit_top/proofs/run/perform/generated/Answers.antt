@@ -7,7 +7,7 @@ use Rattle.nit_top.proofs.run.perform.generated.Goals as goal
 
 pub returns-in_default : goal.returns-in_default
 returns-in_default g c = nothing_made c.args.number (g.S.Store.shown c.args.store.now) c.unbegun.result
-    (ap (λ (s : Stop). s.end) c.unbegun.ensures.stop ∙ c.at.ensures.0) c.unbegun.ensures.journal
+    (ap (λ (s : Stop). s.end) c.unbegun.ensures.stop ∙ c.nowhere.ensures.0) c.unbegun.ensures.journal
 
 pub returns-then-is_some : goal.returns-then-is_some
 returns-then-is_some g c =
@@ -24,7 +24,7 @@ returns-in_default-read_files g c =
     (unrefused (g.S.Store.shown c.args.store.now)) (put_state_of_run now f))
     (none_is c.put_files-fault.result (sym c.is_some.ensures ∙ c.if-is_some.false)) c.put_files-fault.ensures in
     made_whole c.args.number (g.S.Store.shown c.args.store.now) now c.unbegun-in_default-read_files.result made
-    (ap (λ (s : Stop). s.end) c.unbegun-in_default-read_files.ensures.stop ∙ c.at-in_default-read_files.ensures.0)
+    (ap (λ (s : Stop). s.end) c.unbegun-in_default-read_files.ensures.stop ∙ c.nowhere-in_default-read_files.ensures.0)
     c.unbegun-in_default-read_files.ensures.journal
 
 pub returns-in_default-gen_config : goal.returns-in_default-gen_config
@@ -34,7 +34,7 @@ returns-in_default-gen_config g c =
     (unrefused (g.S.Store.shown c.args.store.now)) (put_state_of_run now f))
     (none_is c.put_files-fault.result (sym c.is_some.ensures ∙ c.if-is_some.false)) c.put_files-fault.ensures in
     made_whole c.args.number (g.S.Store.shown c.args.store.now) now c.unbegun-in_default-gen_config.result made
-    (ap (λ (s : Stop). s.end) c.unbegun-in_default-gen_config.ensures.stop ∙ c.at-in_default-gen_config.ensures.0)
+    (ap (λ (s : Stop). s.end) c.unbegun-in_default-gen_config.ensures.stop ∙ c.nowhere-in_default-gen_config.ensures.0)
     c.unbegun-in_default-gen_config.ensures.journal
 
 pub perform_beside-requires-after_bounds : goal.perform_beside-requires-after_bounds

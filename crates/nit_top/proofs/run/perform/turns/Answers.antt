@@ -1,25 +1,25 @@
-use Rattle.nit_top.proofs.Lemmas.{IsRunnable, Line, List, Performed, all_read, false, not_read}
-use Rattle.nit_top.proofs.Lemmas.{setup_of, subst, sym, true}
+use Rattle.nit_top.proofs.Lemmas.{IsRunnable, Line, List, Performed, Run, false, performed_ends}
+use Rattle.nit_top.proofs.Lemmas.{refl}
+use Rattle.nit_top.proofs.Lemmas.{setup_in, setup_of, stopped_ends, subst, sym, true}
 use Rattle.nit_top.proofs.run.perform.turns.Goals as goal
 
 pub returns-in-Err : goal.returns-in-Err
-returns-in-Err g c = λ name first start is_config.
-    not_read false name first c.args.config.now c.requires is_config (g.S.Store.shown c.args.store.now) start
-    (g.S.Store.shown c.read_scripts.new.store) c.in-Err.stop c.unbegun.result c.in-Err.ensures.read
-    c.unbegun.ensures.stop c.unbegun.ensures.journal
+returns-in-Err g c =
+    stopped_ends (Run false c.args.name.now) (g.S.Store.shown c.args.store.now) (g.S.Store.shown c.read_run.new.store)
+    c.in-Err.stop (c.in-Err.ensures.run false) c.unbegun.result c.unbegun.ensures.stop c.unbegun.ensures.journal
 
 pub perform-requires : goal.perform-requires
 perform-requires g c = subst (λ (ss : List (List Line)).
-    IsRunnable (setup_of c.args.config.now ss c.in-Ok.scripts.input true false)) (sym c.deref.ensures.value)
-    (c.in-Ok.ensures.runnable false)
+    IsRunnable (setup_of c.in-Ok.run'.config ss c.in-Ok.run'.scripts.input true false)) (sym c.deref.ensures.value)
+    (c.in-Ok.ensures.run false).valid.runnable
 
-pub returns : goal.returns
-returns g c = λ name first start is_config.
-    let config = c.args.config.now in
-    let s = c.in-Ok.scripts in
-    let now = g.S.Store.shown c.read_scripts.new.store in
+pub returns-in-Ok : goal.returns-in-Ok
+returns-in-Ok g c =
+    let run = c.in-Ok.run' in
+    let r = c.in-Ok.ensures.run false in
+    let mid = g.S.Store.shown c.read_run.new.store in
     let new = g.S.Store.shown c.perform.new.store in
-    all_read false name first config c.requires is_config (g.S.Store.shown c.args.store.now) start s.clients.items
-    s.input now new c.perform.result c.in-Ok.ensures.read (c.in-Ok.ensures.runnable false)
-    (subst (λ (ss : List (List Line)). Performed now (setup_of config ss s.input true false) new c.perform.result)
-    c.deref.ensures.value c.perform.ensures)
+    performed_ends (Run false c.args.name.now) (g.S.Store.shown c.args.store.now) mid new (setup_in run false)
+    c.perform.result (λ s journal files are. refl, λ config. refl) r.asked r.valid
+    (subst (λ (ss : List (List Line)). Performed mid (setup_of run.config ss run.scripts.input true false) new
+    c.perform.result) c.deref.ensures.value c.perform.ensures)

@@ -1,29 +1,32 @@
--- How the work on two configurations comes to its end while the outer files are read.
-use Rattle.std.proofs.Common.{◌≡◌, ◌∙◌, ℕ, List, [], ◌∷◌, ◌++◌, length, take, None, Err, refl, sym}
+-- The outer files of two configurations, read one after the other.
+use Rattle.std.proofs.Common.{◌≡◌, ◌∙◌, ℕ, List, [], ◌∷◌, ◌++◌, length, take, None, Ok, Err, refl}
+use Rattle.std.proofs.Common.{sym}
 use Rattle.std.proofs.Common.{ap, subst, inl, inr, append_assoc, arith}
-use Rattle.nit_top.proofs.Basics.{AreAllOuterFiles, AreOuterFiles, AreOuterScripts, Command}
-use Rattle.nit_top.proofs.Basics.{Configuration, Ends, FirstFiles, HasReadOuter, IfSome, InputLine}
-use Rattle.nit_top.proofs.Basics.{IsConfig, IsConfigFault, IsConfiguration, IsInputFault}
-use Rattle.nit_top.proofs.Basics.{IsInputScript, IsOuter, IsOuterFault, Judged, Line, Nested}
-use Rattle.nit_top.proofs.Basics.{NoFile, OuterSoFar, OuterStopped, ReadOuter, Refused}
-use Rattle.nit_top.proofs.Basics.{SpellScripts, Stop, StoppedAt, StoreModel, Worked, asking_all}
-use Rattle.nit_top.proofs.Basics.{asking_both, asking_more, asking_none, bytes_of, first_names}
-use Rattle.nit_top.proofs.Basics.{name_text, names_in, run_files, script_names, slice_get, take_all}
-use Rattle.nit_top.proofs.Basics.{told_so, told_so_both, with_asked}
-use Rattle.nit_top.proofs.SetupLemmas.{take_front, get_behind}
-use Rattle.nit_top.proofs.WorkLemmas.{stopped_ends}
+use Rattle.nit_setup.proofs.Basics.{AreAllOuterFiles, AreOuterFiles, AreOuterScripts, Command}
+use Rattle.nit_setup.proofs.Basics.{Configuration, FirstFiles, HasReadOuter, IfSome, InputLine}
+use Rattle.nit_setup.proofs.Basics.{IsConfig, IsConfigFault, IsConfiguration, IsInputFault}
+use Rattle.nit_setup.proofs.Basics.{IsInputScript, IsOuter, IsOuterFault, IsOuterLoaded, Judged}
+use Rattle.nit_setup.proofs.Basics.{Line, Loaded, Name, Nested, NoFile, OuterSoFar, OuterStopped}
+use Rattle.nit_setup.proofs.Basics.{ReadOuter, Refused, SpellScripts, Stop, StoppedAt}
+use Rattle.nit_setup.proofs.Basics.{StoppedReading, StoreModel, asking_all, asking_both}
+use Rattle.nit_setup.proofs.Basics.{asking_more}
+use Rattle.nit_setup.proofs.Basics.{asking_none, bytes_of, files_in, first_names, name_text}
+use Rattle.nit_setup.proofs.Basics.{names_in, run_files, script_names, slice_get, with_asked}
+use Rattle.nit_setup.proofs.ScriptsRead.{told_so, told_so_both}
+use Rattle.nit_setup.proofs.Stopping.{get_behind, stopped_reading, take_front}
+use Rattle.std.proofs.lemmas.List.{take_all}
 
 module _ (outer inner : List ℕ) (first : StoreModel) where
   abbrev nest : Command
   nest = Nested outer inner
 
-  pub outer_config_stopped : (new : StoreModel) (stop : Stop) (w : Worked) → name_text stop.name ≡ outer
-      → StoppedAt IsConfigFault first outer new stop.end → w.stop ≡ stop → w.journal.items ≡ [] → Ends nest first new w
-  outer_config_stopped new stop w is h at none =
-      stopped_ends nest first NoFile tt outer refl IsConfigFault new
+  outer_config_stopped : (new : StoreModel) (stop : Stop) → name_text nest stop.name ≡ outer
+      → StoppedAt IsConfigFault first outer new stop.end → StoppedReading nest first new stop
+  outer_config_stopped new stop is h =
+      stopped_reading nest first NoFile tt outer refl IsConfigFault new
       (λ f p. told_so (λ files. IsConfigFault (bytes_of outer files) f) (λ files. Judged nest files (Refused outer f))
       first.files (λ files q. inl (inl (refl, q))) p)
-      first stop w (asking_none first) is h at none
+      first stop (asking_none first) is h
 
   module _ (config : Configuration) (configured : IsConfiguration config)
       (is_config : IfSome first.files (λ files. IsConfig (bytes_of outer files) config)) where
@@ -38,19 +41,19 @@ module _ (outer inner : List ℕ) (first : StoreModel) where
         (λ files. IsConfig (bytes_of outer files) config × AreOuterScripts files names scripts) first.files
         (λ files p q. (p, q)) is_config valid
 
-    outer_scripts_stopped : (old new : StoreModel) (stop : Stop) (w : Worked) → old ≡ with_asked first outer
-        → OuterStopped old (script_names config) new stop → w.stop ≡ stop → w.journal.items ≡ [] → Ends nest first new w
-    outer_scripts_stopped old new stop w start among at none =
+    outer_scripts_stopped : (old new : StoreModel) (stop : Stop) → old ≡ with_asked first outer
+        → OuterStopped old (script_names config) new stop → StoppedReading nest first new stop
+    outer_scripts_stopped old new stop start among =
         let a : OuterStopped (with_asked first outer) (script_names config) new stop =
         subst (λ (s : StoreModel). OuterStopped s (script_names config) new stop) start among in
-        let n : List ℕ = name_text stop.name in
+        let n : List ℕ = a.name in
         let are : first_names config a.scripts ≡ a.before =
         ap (λ (ns : List (List ℕ)). take (length a.scripts) ns) a.parts
         ∙ take_front a.before (n ∷ a.behind) a.scripts a.count in
         let parts : names_in config ≡ a.before ++ (n ∷ (a.behind ++ config.input ∷ [])) =
         ap (λ (ns : List (List ℕ)). ns ++ config.input ∷ []) a.parts
         ∙ append_assoc a.before (n ∷ a.behind) (config.input ∷ []) in
-        stopped_ends nest first (FirstFiles config a.scripts)
+        stopped_reading nest first (FirstFiles config a.scripts)
         (record {
           configured = configured;
           lines = a.lines;
@@ -78,8 +81,8 @@ module _ (outer inner : List ℕ) (first : StoreModel) where
           }),
         )))
         (valid_too a.before a.scripts a.valid) p)
-        (asking_all (with_asked first outer) a.before) stop w (behind a.before
-        ∙ ap (λ (ns : List (List ℕ)). asking_all first (outer ∷ ns)) (sym are)) refl a.stopped at none
+        (asking_all (with_asked first outer) a.before) stop (behind a.before
+        ∙ ap (λ (ns : List (List ℕ)). asking_all first (outer ∷ ns)) (sym are)) (a.named nest) a.stopped
 
     module _ (old mid : StoreModel) (start : old ≡ with_asked first outer) (scripts : List (List Line))
         (far : OuterSoFar old (script_names config) scripts mid) where
@@ -97,11 +100,10 @@ module _ (outer inner : List ℕ) (first : StoreModel) where
       all_names : first_names config scripts ≡ script_names config
       all_names = take_all (length scripts) (script_names config) (let same = far.count in omega arith)
 
-      outer_input_stopped : (new : StoreModel) (stop : Stop) (w : Worked) → name_text stop.name ≡ config.input
-          → StoppedAt (IsInputFault None) mid config.input new stop.end → w.stop ≡ stop → w.journal.items ≡ []
-          → Ends nest first new w
-      outer_input_stopped new stop w is h at none =
-          stopped_ends nest first (FirstFiles config scripts)
+      outer_input_stopped : (new : StoreModel) (stop : Stop) → name_text nest stop.name ≡ config.input
+          → StoppedAt (IsInputFault None) mid config.input new stop.end → StoppedReading nest first new stop
+      outer_input_stopped new stop is h =
+          stopped_reading nest first (FirstFiles config scripts)
           (record {
             configured = configured;
             lines = far.lines;
@@ -122,8 +124,7 @@ module _ (outer inner : List ℕ) (first : StoreModel) where
             inr (record { scripts = scripts; valid = v.1; name_is = refl; fault = q }),
           )))
           (valid_too (script_names config) scripts valid_scripts) p)
-          mid stop w (asked_now ∙ ap (λ (ns : List (List ℕ)). asking_all first (outer ∷ ns)) (sym all_names)) is h at
-          none
+          mid stop (asked_now ∙ ap (λ (ns : List (List ℕ)). asking_all first (outer ∷ ns)) (sym all_names)) is h
 
       outer_asked : (now : StoreModel) → now ≡ with_asked mid config.input
           → now ≡ asking_all first (outer ∷ names_in config)
@@ -147,15 +148,14 @@ module _ (outer inner : List ℕ) (first : StoreModel) where
             (λ files. IsInputScript None (bytes_of config.input files) lines)) asked_now valid);
       }
 
-    pub outer_not_read : (old : StoreModel) → old ≡ with_asked first outer
-        → (new : StoreModel) (stop : Stop) (w : Worked) → ReadOuter config old new (Err stop) → w.stop ≡ stop
-        → w.journal.items ≡ [] → Ends nest first new w
-    outer_not_read old start new stop w (inl among) at none = outer_scripts_stopped old new stop w start among at none
-    outer_not_read old start new stop w (inr s) at none =
-        outer_input_stopped old s.between start s.scripts s.clients new stop w s.name_is s.stopped at none
+    outer_not_read : (old : StoreModel) → old ≡ with_asked first outer
+        → (new : StoreModel) (stop : Stop) → ReadOuter config old new (Err stop) → StoppedReading nest first new stop
+    outer_not_read old start new stop (inl among) = outer_scripts_stopped old new stop start among
+    outer_not_read old start new stop (inr s) =
+        outer_input_stopped old s.between start s.scripts s.clients new stop (s.named nest) s.stopped
 
     -- what was read, where all outer files are valid
-    pub outer_read : (old : StoreModel) → old ≡ with_asked first outer
+    outer_read : (old : StoreModel) → old ≡ with_asked first outer
         → (scripts : List (List Line)) (lines : List InputLine) (now : StoreModel)
         → HasReadOuter config old scripts lines now → IsOuter (run_files config scripts lines)
         → (now ≡ asking_all first (outer ∷ names_in config))
@@ -164,3 +164,15 @@ module _ (outer inner : List ℕ) (first : StoreModel) where
       outer_asked old h.between start scripts h.clients now h.asked,
       outer_files old h.between start scripts h.clients lines h.valid is_outer,
     )
+
+  -- the outer configuration or one of its scripts was not read, or is refused
+  pub outer_stopped : (new : StoreModel) (stop : Stop) → IsOuterLoaded outer first new (Err stop)
+      → StoppedReading nest first new stop
+  outer_stopped new stop (inl (at, h)) = outer_config_stopped new stop (ap (λ (n : Name). name_text nest n) at) h
+  outer_stopped new stop (inr (config, mid, is, read)) =
+      outer_not_read config is.configured is.valid mid is.asked new stop read
+
+  pub outer_whole : (l : Loaded) (new : StoreModel) → IsOuterLoaded outer first new (Ok l)
+      → (new ≡ asking_all first (outer ∷ names_in l.config)) × AreAllOuterFiles outer first.files (files_in l)
+  outer_whole l new h = outer_read l.config h.config.configured h.config.valid h.between h.config.asked
+      l.scripts.clients.items l.scripts.input new h.scripts h.is_outer

@@ -1,0 +1,49 @@
+-- The names in a configuration are short.
+use Rattle.std.proofs.Common.{◌≡◌, ◌<◌, ◌≤◌, ◌==◌, ℕ, Bool, true, false, cond, List, [], ◌∷◌, ◌++◌}
+use Rattle.std.proofs.Common.{length, map, get_or, Option, Some, None, All, IsTrue, sym, subst}
+use Rattle.nit_setup.proofs.Basics.{AllByRecursion, Configuration, IsConfiguration, IsMember}
+use Rattle.nit_setup.proofs.Basics.{Member, first_other, is_file_name, names_in}
+use Rattle.std.proofs.lemmas.Bool.{and_parts, leb-true}
+use Rattle.std.proofs.lemmas.List.Elements.{All-get_or, All-head, All-tail}
+
+-- the name of a file is short
+pub short_name : (text : List ℕ) → IsTrue (is_file_name text) → length text ≤ 255
+short_name text is = leb-true (length text) 255 (and_parts _ _ (and_parts _ _ is).0).1
+
+-- so is that of a client's script
+pub short_script : (clients : List Member) (i : ℕ) (m : Member) (name : List ℕ) → All IsMember clients
+    → i < length clients → m ≡ get_or clients i m → name ≡ m.script → length name ≤ 255
+short_script clients i m name all lt is named =
+    let member : IsMember m = subst IsMember (sym is) (All-get_or IsMember clients i m lt all) in
+    subst (λ (n : List ℕ). length n ≤ 255) (sym named) (short_name m.script member.script)
+
+-- and so are all names
+names_short : (clients : List Member) (input : List ℕ) → All IsMember clients → IsTrue (is_file_name input)
+    → AllByRecursion (λ (n : List ℕ). length n ≤ 255) (map (λ (m : Member). m.script) clients ++ input ∷ [])
+names_short [] input all is = (short_name input is, tt)
+names_short (m ∷ clients) input all is = (
+  short_name m.script (All-head IsMember m clients all).script,
+  names_short clients input (All-tail IsMember m clients all) is,
+)
+
+other_among : (wanted : ℕ) (names : List (List ℕ)) (counts : List ℕ) (name : List ℕ)
+    → AllByRecursion (λ (n : List ℕ). length n ≤ 255) names → first_other wanted names counts ≡ Some name
+    → length name ≤ 255
+other_among wanted [] [] name all is = absurd (let no : ◌≡◌ {A = Option (List ℕ)} None (Some name) = is in cc)
+other_among wanted [] (n ∷ counts) name all is =
+    absurd (let no : ◌≡◌ {A = Option (List ℕ)} None (Some name) = is in cc)
+other_among wanted (m ∷ names) [] name all is =
+    absurd (let no : ◌≡◌ {A = Option (List ℕ)} None (Some name) = is in cc)
+other_among wanted (m ∷ names) (n ∷ counts) name all is =
+    by (n == wanted) is (λ e. other_among wanted names counts name all.1 e)
+  where
+    by : (b : Bool) → cond b (first_other wanted names counts) (Some m) ≡ Some name
+        → (first_other wanted names counts ≡ Some name → length name ≤ 255) → length name ≤ 255
+    by true e tail = tail e
+    by false e tail = let same : m ≡ name = cc in subst (λ (k : List ℕ). length k ≤ 255) same all.0
+
+-- that of a script that has another number of phases
+pub other_short : (config : Configuration) (wanted : ℕ) (counts : List ℕ) (name : List ℕ) → IsConfiguration config
+    → first_other wanted (names_in config) counts ≡ Some name → length name ≤ 255
+other_short config wanted counts name configured is = other_among wanted (names_in config) counts name
+    (names_short config.clients config.input configured.clients configured.input) is

@@ -1,0 +1,31 @@
+use Rattle.std.proofs.Common.{inl, inr, subst, sym}
+use Rattle.nit_setup.proofs.Basics.{End, IsConfigFault, StoppedAt}
+use Rattle.nit_setup.proofs.read.load_outer_run.Goals as goal
+
+pub returns-in-Err : goal.returns-in-Err
+returns-in-Err g c =
+    inl (
+      c.at_first.ensures.1,
+      subst (λ (e : End). StoppedAt IsConfigFault (g.S.Store.shown c.args.store.now) c.args.name.now
+          (g.S.Store.shown c.load_config.new.store) e) (sym c.at_first.ensures.0) c.in-Err.ensures.loaded,
+    )
+
+pub returns-in-Err-read_outer : goal.returns-in-Err-read_outer
+returns-in-Err-read_outer g c =
+    let loaded = c.in-Ok.ensures.loaded in
+    inr (
+      c.in-Ok.config,
+      g.S.Store.shown c.load_config.new.store,
+      record { asked = loaded.0; configured = c.in-Ok.ensures.configured; valid = loaded.1 },
+      c.in-Err-read_outer.ensures.read,
+    )
+
+pub returns-in-Ok-read_outer : goal.returns-in-Ok-read_outer
+returns-in-Ok-read_outer g c =
+    let loaded = c.in-Ok.ensures.loaded in
+    record {
+      between = g.S.Store.shown c.load_config.new.store;
+      config = record { asked = loaded.0; configured = c.in-Ok.ensures.configured; valid = loaded.1 };
+      scripts = c.in-Ok-read_outer.ensures.read;
+      is_outer = c.in-Ok-read_outer.ensures.outer;
+    }
