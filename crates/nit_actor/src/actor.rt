@@ -4,8 +4,7 @@ ghost use Rattle.std.specs.Prelude.{◌≡◌, ◌+◌, Some, slice_get};
 ghost use Rattle.nit_actor.specs.Terms.{Belongs, HasMetPhase, IsOneOn, IsThrough, Stroke, role_of};
 ghost use Rattle.nit_script.specs.declared.line.Line.TheVariants as lines;
 
-use crate::gate::{Checkpoint, Gate};
-use crate::work::{GatedHall, Work};
+use crate::gate::{Checkpoint, Gate, GatedHall};
 use nit_hall::{Hall, Name, Pass};
 use nit_script::Line;
 use std::sync::Wait;
@@ -34,21 +33,21 @@ pub(crate) trait Actor<W> {
         ensures { result ≡ left self.now };
 
     /// Does what is next. It may wait until the room serves the actor's phase.
-    fn step<R: Wait>(&mut self, rt: &R, work: &W)
+    fn step<R: Wait>(&mut self, rt: &R, shared: &W)
         requires fits { fits (role self.old) }
         requires left { IsSome (left self.old) }
         ensures same { role self.new ≡ role self.old }
         ensures steps { steps self.old self.new };
 
     /// Does all that is left.
-    fn run<R: Wait>(&mut self, rt: &R, work: &W)
+    fn run<R: Wait>(&mut self, rt: &R, shared: &W)
         requires fits { fits (role self.old) }
         ensures same { role self.new ≡ role self.old }
         ensures done { left self.new ≡ None };
 }
 
 /// A client alone: each step does a line.
-impl<'h, 'a, N: Name, K: Checkpoint> Actor<Work<'h, 'a, N, K>> for Pass<'a> {
+impl<'h, 'a, N: Name, K: Checkpoint> Actor<GatedHall<'h, 'a, N, K>> for Pass<'a> {
     ghost use Rattle.std.specs.Prelude.{◌≡◌, ◌+◌};
     ghost use Rattle.nit_actor.specs.Role.{Role, IsRoleIn, role_of};
     ghost use Rattle.nit_actor.specs.PhasesLeft.{phase_left};
@@ -71,15 +70,15 @@ impl<'h, 'a, N: Name, K: Checkpoint> Actor<Work<'h, 'a, N, K>> for Pass<'a> {
         }
     }
 
-    fn step<R: Wait>(&mut self, rt: &R, work: &Work<'h, 'a, N, K>) {
+    fn step<R: Wait>(&mut self, rt: &R, gated: &GatedHall<'h, 'a, N, K>) {
         if let Some(line) = self.next() {
-            do_line(rt, work, self, &line);
+            do_line(rt, gated, self, &line);
         }
     }
 
     #[tactic(auto, using(crate::proofs::LeastPhases::client_none))]
-    fn run<R: Wait>(&mut self, rt: &R, work: &Work<'h, 'a, N, K>) {
-        run_lines(rt, work, self);
+    fn run<R: Wait>(&mut self, rt: &R, gated: &GatedHall<'h, 'a, N, K>) {
+        run_lines(rt, gated, self);
     }
 }
 
@@ -89,26 +88,26 @@ impl<'h, 'a, N: Name, K: Checkpoint> Actor<Work<'h, 'a, N, K>> for Pass<'a> {
 /// lock.
 pub fn run_actor<'a, N: Name, G: Gate, R: Wait>(
     rt: &R,
-    gated: GatedHall<'_, 'a, N, G>,
+    gated: GatedHall<'_, 'a, N, &G>,
     pass: &mut Pass<'a>,
 )
     requires belongs { Belongs N.parts pass.old }
     ensures { IsThrough pass.old pass.new }
 {
-    run_lines(rt, &gated.work(), pass)
+    run_lines(rt, &gated, pass)
 }
 
 /// The same, with what is called before each line.
 fn run_lines<'a, N: Name, K: Checkpoint, R: Wait>(
     rt: &R,
-    work: &Work<'_, 'a, N, K>,
+    gated: &GatedHall<'_, 'a, N, K>,
     pass: &mut Pass<'a>,
 )
     requires belongs { Belongs N.parts pass.old }
     ensures { IsThrough pass.old pass.new }
 {
     'lines: while let Some(line) = pass.next() {
-        do_line(rt, work, pass, &line);
+        do_line(rt, gated, pass, &line);
     }
 }
 
@@ -116,7 +115,7 @@ fn run_lines<'a, N: Name, K: Checkpoint, R: Wait>(
 /// stroke waits for its phase in front of the gate.
 pub(crate) fn do_line<'a, N: Name, K: Checkpoint, R: Wait>(
     rt: &R,
-    work: &Work<'_, 'a, N, K>,
+    gated: &GatedHall<'_, 'a, N, K>,
     pass: &mut Pass<'a>,
     line: &Line,
 )
@@ -124,14 +123,14 @@ pub(crate) fn do_line<'a, N: Name, K: Checkpoint, R: Wait>(
     requires next { slice_get pass.old.script pass.old.next ≡ Some line.now }
     ensures { IsOneOn pass.old pass.new }
 {
-    wait_for_stroke(rt, work.hall, pass, line);
-    work.checkpoint.reach(pass.sid(), pass.line() + 1);
+    wait_for_stroke(rt, gated.hall, pass, line);
+    gated.gate.reach(pass.sid(), pass.line() + 1);
     match line {
         Line::Call(_) => {
-            work.hall.serve_next(rt, pass);
+            gated.hall.serve_next(rt, pass);
         }
         Line::Stroke(_) => pass.stroke(),
-        Line::Phase => work.hall.arrive(rt, pass),
+        Line::Phase => gated.hall.arrive(rt, pass),
     }
 }
 

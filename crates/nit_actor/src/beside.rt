@@ -6,12 +6,11 @@ ghost use Rattle.nit_actor.specs.Terms.{Belongs, CanShoot, HasPlaceFor, IsPairIn
 ghost use Rattle.nit_actor.specs.Terms.{pair_role_of, role_of};
 
 use crate::actor::Actor;
-use crate::crew::{Own, Unstarted, run_crew};
-use crate::gate::Gate;
+use crate::crew::{CallerThread, Unstarted, run_crew};
+use crate::gate::{Gate, GatedHall};
 use crate::mine::run_turns;
 use crate::pair::Pair;
 use crate::user::UserTurns;
-use crate::work::GatedHall;
 use nit_hall::{Name, Pass, UserPass};
 use nit_rounds::Desk;
 use nit_store::Store;
@@ -21,12 +20,13 @@ use std::thread::Threads;
 /// What the calling thread has of its own: the user's pass, and the desk for the pictures of the
 /// shots.
 #[derive(Drop)]
-pub struct Mine<'a, 's, S> {
+pub struct UserAndDesk<'a, 's, S> {
     pub user: UserPass<'a>,
     pub desk: Desk<'s, S>,
 }
 
-impl<'a, 's, W: UserTurns<'a>, A: Actor<W>, S: Store> Own<A, W> for Mine<'a, 's, S> {
+impl<'a, 's, W: UserTurns<'a>, A: Actor<W>, S: Store> CallerThread<A, W>
+    for UserAndDesk<'a, 's, S> {
     ghost use Rattle.nit_actor.specs.UserShots.{CanShoot, TakesAllShots};
 
     ghost ready = { λ m. CanShoot W.parts m.user m.desk };
@@ -34,10 +34,10 @@ impl<'a, 's, W: UserTurns<'a>, A: Actor<W>, S: Store> Own<A, W> for Mine<'a, 's,
     ghost kept = { λ before after'.
         TakesAllShots S.shown W.parts before.user after'.user before.desk after'.desk };
 
-    fn run_mine<R: Wait>(self, rt: &R, work: &W, actors: &mut [A]) -> Self {
-        let Mine { mut user, mut desk } = self;
-        run_turns(rt, work, actors, &mut user, &mut desk);
-        Mine { user, desk }
+    fn run_mine<R: Wait>(self, rt: &R, shared: &W, actors: &mut [A]) -> Self {
+        let UserAndDesk { mut user, mut desk } = self;
+        run_turns(rt, shared, actors, &mut user, &mut desk);
+        UserAndDesk { user, desk }
     }
 
     #[tactic(auto, using(crate::proofs::Shots::ready_again, crate::proofs::Shots::also))]
@@ -53,11 +53,11 @@ impl<'a, 's, W: UserTurns<'a>, A: Actor<W>, S: Store> Own<A, W> for Mine<'a, 's,
 #[tactic(auto, using(crate::proofs::LeastPhases::clients_done))]
 pub fn run_beside<'a, 's, N: Name + Send + Sync, G: Gate, S: Store, R: Threads + Wait + Sync>(
     rt: &R,
-    gated: GatedHall<'_, 'a, N, G>,
+    gated: GatedHall<'_, 'a, N, &G>,
     unstarted: Unstarted<'_, Pass<'a>>,
     passes: &mut Vec<Pass<'a>>,
-    mine: Mine<'a, 's, S>,
-) -> Mine<'a, 's, S>
+    mine: UserAndDesk<'a, 's, S>,
+) -> UserAndDesk<'a, 's, S>
     requires passes { All (Belongs N.parts) passes.old.items }
     requires ready { CanShoot N.parts mine.user mine.desk }
     requires place { HasPlaceFor (vec_len passes.old) unstarted }
@@ -66,7 +66,7 @@ pub fn run_beside<'a, 's, N: Name + Send + Sync, G: Gate, S: Store, R: Threads +
     ensures user { TakesAllShots S.shown N.parts mine.entry.user result.user mine.entry.desk
         result.desk }
 {
-    run_crew(rt, &gated.work(), unstarted, passes, mine)
+    run_crew(rt, &gated, unstarted, passes, mine)
 }
 
 /// Does all lines of all scripts and clip scripts, as [`run_beside`] does those of all
@@ -79,11 +79,11 @@ pub fn run_beside<'a, 's, N: Name + Send + Sync, G: Gate, S: Store, R: Threads +
 #[tactic(auto, using(crate::proofs::Pairs::pairs_fit, crate::proofs::LeastPhases::pairs_done))]
 pub fn run_beside_clips<'a, 's, N: Name + Send + Sync, G: Gate, S: Store, R: Threads + Wait + Sync>(
     rt: &R,
-    gated: GatedHall<'_, 'a, N, G>,
+    gated: GatedHall<'_, 'a, N, &G>,
     unstarted: Unstarted<'_, Pair<'a>>,
     pairs: &mut Vec<Pair<'a>>,
-    mine: Mine<'a, 's, S>,
-) -> Mine<'a, 's, S>
+    mine: UserAndDesk<'a, 's, S>,
+) -> UserAndDesk<'a, 's, S>
     requires pairs { All (λ b. IsPairIn N.parts b.pass b.clip) pairs.old.items }
     requires ready { CanShoot N.parts mine.user mine.desk }
     requires place { HasPlaceFor (vec_len pairs.old) unstarted }
@@ -94,5 +94,5 @@ pub fn run_beside_clips<'a, 's, N: Name + Send + Sync, G: Gate, S: Store, R: Thr
     ensures user { TakesAllShots S.shown N.parts mine.entry.user result.user mine.entry.desk
         result.desk }
 {
-    run_crew(rt, &gated.work(), unstarted, pairs, mine)
+    run_crew(rt, &gated, unstarted, pairs, mine)
 }

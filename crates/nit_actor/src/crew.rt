@@ -16,7 +16,7 @@ use std::{mem, thread};
 
 /// What the calling thread has of its own, and goes on with while the others run. No other thread
 /// has it, so what it stands on need not be sent.
-pub(crate) trait Own<P: Actor<W>, W> {
+pub(crate) trait CallerThread<P: Actor<W>, W> {
     ghost use Rattle.std.specs.Prelude.{◌≡◌, All, map};
 
     ghost ready: { Self → Type 0 };
@@ -24,7 +24,7 @@ pub(crate) trait Own<P: Actor<W>, W> {
     ghost kept: { Self → Self → Type 0 };
 
     /// Runs the passes whose threads could not be started, by turns with what is the caller's own.
-    fn run_mine<R: Wait>(self, rt: &R, work: &W, passes: &mut [P]) -> Self
+    fn run_mine<R: Wait>(self, rt: &R, shared: &W, passes: &mut [P]) -> Self
         requires fits { All (λ p. P.fits (P.role p)) passes.old }
         requires ready { ready self }
         ensures same { map P.role passes.new ≡ map P.role passes.old }
@@ -71,13 +71,13 @@ pub struct Unstarted<'r, P> {
 }
 
 /// Runs a pass, unless its flag is raised.
-fn stepped<P: Actor<W>, W, R: Wait>(rt: &R, work: &W, raised: &AtomicBool, pass: P) -> P
+fn stepped<P: Actor<W>, W, R: Wait>(rt: &R, shared: &W, raised: &AtomicBool, pass: P) -> P
     requires { P.fits (P.role pass) }
     ensures { P.role result ≡ P.role pass }
 {
     let mut pass = pass;
     if !raised.load(Ordering::SeqCst) {
-        pass.run(rt, work);
+        pass.run(rt, shared);
     }
     pass
 }
@@ -87,7 +87,7 @@ fn stepped<P: Actor<W>, W, R: Wait>(rt: &R, work: &W, raised: &AtomicBool, pass:
 fn start<'s, E, P: Actor<W> + Send + Drop + 's, W: Sync, R: Threads + Wait + Sync>(
     scope: &Scope<'s, E>,
     rt: &'s R,
-    work: &'s W,
+    shared: &'s W,
     raised: &'s AtomicBool,
     pass: P,
 ) -> Started<P, W>
@@ -103,7 +103,7 @@ fn start<'s, E, P: Actor<W> + Send + Drop + 's, W: Sync, R: Threads + Wait + Syn
         move || -> P
             requires { P.fits (P.role pass) }
             ensures { P.role result ≡ P.role pass }
-        { stepped::<P, W, R>(rt, work, raised, pass) },
+        { stepped::<P, W, R>(rt, shared, raised, pass) },
     ) {
         Ok(child) => Started::There(child),
         Err(refused) => {
@@ -121,13 +121,13 @@ fn run_rest<
     'r: 's,
     E,
     P: Actor<W> + Send + Drop + 's,
-    U: Own<P, W>,
+    U: CallerThread<P, W>,
     W: Sync,
     R: Threads + Wait + Sync,
 >(
     scope: &Scope<'s, E>,
     rt: &'s R,
-    work: &'s W,
+    shared: &'s W,
     unstarted: &mut Unstarted<'r, P>,
     passes: &mut Vec<P>,
     own: U,
@@ -147,18 +147,18 @@ fn run_rest<
         ≡ vec_capacity unstarted.old.waiting }
 {
     let Some(pass) = passes.pop() else {
-        return own.run_mine(rt, work, unstarted.waiting.as_mut_slice());
+        return own.run_mine(rt, shared, unstarted.waiting.as_mut_slice());
     };
     let flag = &unstarted.raised[passes.len()];
-    match start::<E, P, W, R>(scope, rt, work, flag, pass) {
+    match start::<E, P, W, R>(scope, rt, shared, flag, pass) {
         Started::There(child) => {
-            let own = run_rest(scope, rt, work, unstarted, passes, own);
+            let own = run_rest(scope, rt, shared, unstarted, passes, own);
             passes.push_reserved(child.join(rt));
             own
         }
         Started::Here(pass) => {
             unstarted.waiting.push_reserved(pass);
-            let own = run_rest(scope, rt, work, unstarted, passes, own);
+            let own = run_rest(scope, rt, shared, unstarted, passes, own);
             let Some(pass) = unstarted.waiting.pop() else {
                 unreachable!()
             };
@@ -170,13 +170,12 @@ fn run_rest<
 
 /// Runs each pass on a thread of its own, or here where none can be started. The passes come back
 /// in order, and what is the caller's own beside them.
-fn run_all<P: Actor<W> + Send + Drop, U: Own<P, W> + Drop, W: Sync, R: Threads + Wait + Sync>(
-    rt: &R,
-    work: &W,
-    unstarted: Unstarted<'_, P>,
-    passes: Vec<P>,
-    own: U,
-) -> (Vec<P>, U)
+fn run_all<
+    P: Actor<W> + Send + Drop,
+    U: CallerThread<P, W> + Drop,
+    W: Sync,
+    R: Threads + Wait + Sync,
+>(rt: &R, shared: &W, unstarted: Unstarted<'_, P>, passes: Vec<P>, own: U) -> (Vec<P>, U)
     requires fits { All (λ p. P.fits (P.role p)) passes.items }
     requires place { HasPlaceFor (vec_len passes) unstarted }
     requires ready { U.ready own }
@@ -195,7 +194,7 @@ fn run_all<P: Actor<W> + Send + Drop, U: Own<P, W> + Drop, W: Sync, R: Threads +
         {
             let mut passes = passes;
             let mut unstarted = unstarted;
-            let own = run_rest(scope, rt, work, &mut unstarted, &mut passes, own);
+            let own = run_rest(scope, rt, shared, &mut unstarted, &mut passes, own);
             (passes, own)
         },
     )
@@ -206,10 +205,10 @@ fn run_all<P: Actor<W> + Send + Drop, U: Own<P, W> + Drop, W: Sync, R: Threads +
 /// its last value only so.
 pub(crate) fn run_crew<
     P: Actor<W> + Send + Drop,
-    U: Own<P, W> + Drop,
+    U: CallerThread<P, W> + Drop,
     W: Sync,
     R: Threads + Wait + Sync,
->(rt: &R, work: &W, unstarted: Unstarted<'_, P>, passes: &mut Vec<P>, own: U) -> U
+>(rt: &R, shared: &W, unstarted: Unstarted<'_, P>, passes: &mut Vec<P>, own: U) -> U
     requires fits { All (λ p. P.fits (P.role p)) passes.old.items }
     requires place { HasPlaceFor (vec_len passes.old) unstarted }
     requires ready { U.ready own }
@@ -218,8 +217,8 @@ pub(crate) fn run_crew<
     ensures kept { U.kept own result }
 {
     let none = Vec::new(*passes.allocator());
-    let (ran, own) = run_all(rt, work, unstarted, mem::replace(passes, none), own);
+    let (ran, own) = run_all(rt, shared, unstarted, mem::replace(passes, none), own);
     *passes = ran;
     U::kept_twice();
-    own.run_mine(rt, work, passes)
+    own.run_mine(rt, shared, passes)
 }

@@ -34,13 +34,11 @@ mod mine;
 mod pair;
 mod single;
 mod user;
-mod work;
 
 pub use actor::run_actor;
-pub use beside::{Mine, run_beside, run_beside_clips};
+pub use beside::{UserAndDesk, run_beside, run_beside_clips};
 pub use crew::Unstarted;
-pub use gate::{Gate, Open};
+pub use gate::{Gate, GatedHall, Open};
 pub use mine::{run_mine, run_mine_clips};
 pub use pair::{Pair, run_clips};
 pub use single::run_alone;
-pub use work::GatedHall;

@@ -7,10 +7,9 @@ ghost use Rattle.nit_actor.specs.Terms.{TakesAllShots, lesser, pair_role_of, pha
 ghost use Rattle.nit_actor.specs.Terms.{user_phase_left};
 
 use crate::actor::Actor;
-use crate::gate::Gate;
+use crate::gate::{Gate, GatedHall};
 use crate::pair::Pair;
 use crate::user::{UserTurns, user_phase_left};
-use crate::work::GatedHall;
 use nit_hall::{Name, Pass, UserPass};
 use nit_rounds::Desk;
 use nit_store::Store;
@@ -23,7 +22,7 @@ use std::sync::Wait;
 #[tactic(auto, using(crate::proofs::LeastPhases::clients_done))]
 pub fn run_mine<'a, N: Name, G: Gate, S: Store, R: Wait>(
     rt: &R,
-    gated: GatedHall<'_, 'a, N, G>,
+    gated: GatedHall<'_, 'a, N, &G>,
     passes: &mut [Pass<'a>],
     user: &mut UserPass<'a>,
     desk: &mut Desk<S>,
@@ -34,7 +33,7 @@ pub fn run_mine<'a, N: Name, G: Gate, S: Store, R: Wait>(
     ensures done { All (λ p. p.next ≡ length p.script) passes.new }
     ensures user { TakesAllShots S.shown N.parts user.old user.new desk.old desk.new }
 {
-    run_turns(rt, &gated.work(), passes, user, desk)
+    run_turns(rt, &gated, passes, user, desk)
 }
 
 /// Does all lines of these pairs, of their clip scripts and of the user that are left, by turns, as
@@ -45,7 +44,7 @@ pub fn run_mine<'a, N: Name, G: Gate, S: Store, R: Wait>(
 #[tactic(auto, using(crate::proofs::Pairs::pairs_fit, crate::proofs::LeastPhases::pairs_done))]
 pub fn run_mine_clips<'a, N: Name, G: Gate, S: Store, R: Wait>(
     rt: &R,
-    gated: GatedHall<'_, 'a, N, G>,
+    gated: GatedHall<'_, 'a, N, &G>,
     pairs: &mut [Pair<'a>],
     user: &mut UserPass<'a>,
     desk: &mut Desk<S>,
@@ -59,7 +58,7 @@ pub fn run_mine_clips<'a, N: Name, G: Gate, S: Store, R: Wait>(
         × (b.clip.next ≡ length b.clip.script)) pairs.new }
     ensures user { TakesAllShots S.shown N.parts user.old user.new desk.old desk.new }
 {
-    run_turns(rt, &gated.work(), pairs, user, desk)
+    run_turns(rt, &gated, pairs, user, desk)
 }
 
 /// Does all that is left of these actors and of the user, by turns. In each turn those of the least
@@ -67,7 +66,7 @@ pub fn run_mine_clips<'a, N: Name, G: Gate, S: Store, R: Wait>(
 #[tactic(auto, using(crate::proofs::LeastPhases::user_not_before, crate::proofs::Shots::nothing))]
 pub(crate) fn run_turns<'a, W: UserTurns<'a>, A: Actor<W>, S: Store, R: Wait>(
     rt: &R,
-    work: &W,
+    shared: &W,
     actors: &mut [A],
     user: &mut UserPass<'a>,
     desk: &mut Desk<S>,
@@ -82,34 +81,34 @@ pub(crate) fn run_turns<'a, W: UserTurns<'a>, A: Actor<W>, S: Store, R: Wait>(
         let Some(phase) = least_phase(actors, user) else {
             return;
         };
-        do_turn(rt, work, actors, phase);
-        work.user_turn(rt, user, phase, desk);
+        do_turn(rt, shared, actors, phase);
+        shared.user_turn(rt, user, phase, desk);
     }
     unreachable!()
 }
 
 /// Each actor that is in this phase does what is next, if it is not done. No actor that is not done
 /// is in a lesser phase.
-fn do_turn<A: Actor<W>, W, R: Wait>(rt: &R, work: &W, actors: &mut [A], phase: u32)
+fn do_turn<A: Actor<W>, W, R: Wait>(rt: &R, shared: &W, actors: &mut [A], phase: u32)
     requires fits { All (λ a. A.fits (A.role a)) actors.old }
     requires least { NoneIsBefore A.left phase actors.old }
     ensures same { map A.role actors.new ≡ map A.role actors.old }
     ensures fits { All (λ a. A.fits (A.role a)) actors.new }
 {
     'actors: for actor in actors.iter_mut() {
-        do_one_turn(rt, work, actor, phase);
+        do_one_turn(rt, shared, actor, phase);
     }
 }
 
 /// The actor does what is next, if it is not done and is in this phase.
-fn do_one_turn<A: Actor<W>, W, R: Wait>(rt: &R, work: &W, actor: &mut A, phase: u32)
+fn do_one_turn<A: Actor<W>, W, R: Wait>(rt: &R, shared: &W, actor: &mut A, phase: u32)
     requires fits { A.fits (A.role actor.old) }
     ensures same { A.role actor.new ≡ A.role actor.old }
     ensures in_phase { A.left actor.old ≡ Some phase → A.steps actor.old actor.new }
     ensures others { (A.left actor.old ≡ Some phase → ⊥) → actor.new ≡ actor.old }
 {
     if actor.phase_left() == Some(phase) {
-        actor.step(rt, work);
+        actor.step(rt, shared);
     }
 }
 

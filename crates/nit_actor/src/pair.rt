@@ -6,8 +6,7 @@ ghost use Rattle.nit_actor.specs.Terms.{IsAtPhase, IsAtPhaseEnd, IsPairIn, PairI
 ghost use Rattle.nit_actor.specs.Terms.{PairIsThrough};
 
 use crate::actor::{Actor, do_line};
-use crate::gate::{Checkpoint, Gate};
-use crate::work::{GatedHall, Work};
+use crate::gate::{Checkpoint, Gate, GatedHall};
 use nit_clip::ClipLine;
 use nit_hall::{ClipPass, Hall, Name, Pass};
 use nit_script::Line;
@@ -22,7 +21,7 @@ pub struct Pair<'a> {
 
 /// A client with its clips: a step does a line of the pass, and with a line that ends a phase the
 /// clip calls of the phase; where the pass is done, a step does the rest of the clip script.
-impl<'h, 'a, N: Name, K: Checkpoint> Actor<Work<'h, 'a, N, K>> for Pair<'a> {
+impl<'h, 'a, N: Name, K: Checkpoint> Actor<GatedHall<'h, 'a, N, K>> for Pair<'a> {
     ghost use Rattle.nit_actor.specs.ClipRole.{PairRole, IsPairRoleIn, pair_role_of};
     ghost use Rattle.nit_actor.specs.PhasesLeft.{PairSteps, pair_phase_left};
 
@@ -45,16 +44,16 @@ impl<'h, 'a, N: Name, K: Checkpoint> Actor<Work<'h, 'a, N, K>> for Pair<'a> {
     }
 
     #[tactic(auto, using(crate::proofs::Pairs::fits_pair, crate::proofs::Pairs::pair_role_again))]
-    fn step<R: Wait>(&mut self, rt: &R, work: &Work<'h, 'a, N, K>) {
+    fn step<R: Wait>(&mut self, rt: &R, gated: &GatedHall<'h, 'a, N, K>) {
         match self.pass.next() {
-            Some(line) => do_pair_line(rt, work, &mut self.pass, &mut self.clip, &line),
-            None => do_last_clips(rt, work.hall, &mut self.pass, &mut self.clip),
+            Some(line) => do_pair_line(rt, gated, &mut self.pass, &mut self.clip, &line),
+            None => do_last_clips(rt, gated.hall, &mut self.pass, &mut self.clip),
         }
     }
 
     #[tactic(auto, using(crate::proofs::Pairs::fits_pair, crate::proofs::Pairs::pair_role_again))]
-    fn run<R: Wait>(&mut self, rt: &R, work: &Work<'h, 'a, N, K>) {
-        run_pair(rt, work, &mut self.pass, &mut self.clip);
+    fn run<R: Wait>(&mut self, rt: &R, gated: &GatedHall<'h, 'a, N, K>) {
+        run_pair(rt, gated, &mut self.pass, &mut self.clip);
     }
 }
 
@@ -65,7 +64,7 @@ impl<'h, 'a, N: Name, K: Checkpoint> Actor<Work<'h, 'a, N, K>> for Pair<'a> {
 /// scripts have as many phases; afterwards both are done, and in one phase again.
 pub fn run_clips<'a, N: Name, G: Gate, R: Wait>(
     rt: &R,
-    gated: GatedHall<'_, 'a, N, G>,
+    gated: GatedHall<'_, 'a, N, &G>,
     pass: &mut Pass<'a>,
     clip: &mut ClipPass<'a>,
 )
@@ -74,13 +73,13 @@ pub fn run_clips<'a, N: Name, G: Gate, R: Wait>(
     requires together { GoTogether pass.old clip.old }
     ensures { PairIsThrough pass.old clip.old pass.new clip.new }
 {
-    run_pair(rt, &gated.work(), pass, clip)
+    run_pair(rt, &gated, pass, clip)
 }
 
 /// The same, with what is called before each line.
 fn run_pair<'a, N: Name, K: Checkpoint, R: Wait>(
     rt: &R,
-    work: &Work<'_, 'a, N, K>,
+    gated: &GatedHall<'_, 'a, N, K>,
     pass: &mut Pass<'a>,
     clip: &mut ClipPass<'a>,
 )
@@ -88,9 +87,9 @@ fn run_pair<'a, N: Name, K: Checkpoint, R: Wait>(
     ensures { PairIsThrough pass.old clip.old pass.new clip.new }
 {
     'lines: while let Some(line) = pass.next() {
-        do_pair_line(rt, work, pass, clip, &line);
+        do_pair_line(rt, gated, pass, clip, &line);
     }
-    do_last_clips(rt, work.hall, pass, clip);
+    do_last_clips(rt, gated.hall, pass, clip);
 }
 
 /// Does the next line of the pass, which is this one. Where it ends a phase, the clip calls of the
@@ -98,7 +97,7 @@ fn run_pair<'a, N: Name, K: Checkpoint, R: Wait>(
 #[tactic(auto, using(crate::proofs::Pairs::line_together))]
 fn do_pair_line<'a, N: Name, K: Checkpoint, R: Wait>(
     rt: &R,
-    work: &Work<'_, 'a, N, K>,
+    gated: &GatedHall<'_, 'a, N, K>,
     pass: &mut Pass<'a>,
     clip: &mut ClipPass<'a>,
     line: &Line,
@@ -108,10 +107,10 @@ fn do_pair_line<'a, N: Name, K: Checkpoint, R: Wait>(
     ensures { PairIsOneOn pass.old clip.old pass.new clip.new }
 {
     match line {
-        Line::Phase => end_phase(rt, work, pass, clip),
+        Line::Phase => end_phase(rt, gated, pass, clip),
         Line::Call(_) | Line::Stroke(_) => {
             let _before = pass.phase();
-            do_line(rt, work, pass, line);
+            do_line(rt, gated, pass, line);
             let _after = pass.phase();
         }
     }
@@ -122,7 +121,7 @@ fn do_pair_line<'a, N: Name, K: Checkpoint, R: Wait>(
 #[tactic(auto, using(crate::proofs::Pairs::one_ahead, crate::proofs::Pairs::turned))]
 fn end_phase<'a, N: Name, K: Checkpoint, R: Wait>(
     rt: &R,
-    work: &Work<'_, 'a, N, K>,
+    gated: &GatedHall<'_, 'a, N, K>,
     pass: &mut Pass<'a>,
     clip: &mut ClipPass<'a>,
 )
@@ -130,9 +129,9 @@ fn end_phase<'a, N: Name, K: Checkpoint, R: Wait>(
     requires next { IsAtPhase pass.old }
     ensures { PairIsOneOn pass.old clip.old pass.new clip.new }
 {
-    do_phase_clips(rt, work.hall, pass, clip);
+    do_phase_clips(rt, gated.hall, pass, clip);
     let _before = pass.phase();
-    do_line(rt, work, pass, &Line::Phase);
+    do_line(rt, gated, pass, &Line::Phase);
     let _after = pass.phase();
     clip.turn(pass);
 }

@@ -5,8 +5,7 @@ ghost use Rattle.nit_actor.specs.Terms.{CanShoot, IsAtDevice, IsAtShot, IsAtUser
 ghost use Rattle.nit_actor.specs.Terms.{IsWord, TakesShots, TellsShot, UserBelongs};
 ghost use Rattle.nit_actor.specs.Terms.{user_phase_left};
 
-use crate::gate::Checkpoint;
-use crate::work::Work;
+use crate::gate::{Checkpoint, GatedHall};
 use nit_hall::{Hall, Name, UserPass};
 use nit_rounds::{Desk, PictureName};
 use nit_script::InputLine;
@@ -40,7 +39,7 @@ pub(crate) trait UserTurns<'a> {
         ensures shots { TakesShots S.shown parts user.old user.new desk.old desk.new };
 }
 
-impl<'h, 'a, N: Name, K: Checkpoint> UserTurns<'a> for Work<'h, 'a, N, K> {
+impl<'h, 'a, N: Name, K: Checkpoint> UserTurns<'a> for GatedHall<'h, 'a, N, K> {
     ghost parts = { N.parts };
 
     #[tactic(auto, using(crate::proofs::Shots::nothing))]
@@ -137,7 +136,7 @@ fn shoot<'a, N: Name, S: Store, R: Wait>(
 #[tactic(auto, using(crate::proofs::Shots::quietly))]
 fn do_user_line<'a, N: Name, K: Checkpoint, S: Store, R: Wait>(
     rt: &R,
-    work: &Work<'_, 'a, N, K>,
+    gated: &GatedHall<'_, 'a, N, K>,
     user: &mut UserPass<'a>,
     line: &InputLine,
     desk: &mut Desk<S>,
@@ -147,10 +146,10 @@ fn do_user_line<'a, N: Name, K: Checkpoint, S: Store, R: Wait>(
     ensures next { user.new.next ≡ user.old.next + 1 }
     ensures shots { TakesShots S.shown N.parts user.old user.new desk.old desk.new }
 {
-    work.checkpoint.reach(work.hall.clients(), user.line() + 1);
+    gated.gate.reach(gated.hall.clients(), user.line() + 1);
     match line {
-        InputLine::Device(_) => do_device(rt, work.hall, user),
-        InputLine::Phase => end_phase(rt, work.hall, user),
-        InputLine::Shot => shoot(rt, work.hall, user, desk),
+        InputLine::Device(_) => do_device(rt, gated.hall, user),
+        InputLine::Phase => end_phase(rt, gated.hall, user),
+        InputLine::Shot => shoot(rt, gated.hall, user, desk),
     }
 }

@@ -10,7 +10,7 @@ use crate::memory::{Memory, buffers_of, canvases_of};
 use crate::opening::plans_of;
 use crate::ran::{PutFault, Ran};
 use crate::texts::leave_texts;
-use nit_actor::{Gate, GatedHall, Mine, Unstarted};
+use nit_actor::{Gate, GatedHall, UserAndDesk, Unstarted};
 use nit_config::{Config, Member};
 use nit_hall::{Hall, Name, Opened, Parts, Pass, open};
 use nit_rect::NoMemory;
@@ -84,7 +84,7 @@ fn run_named<'a, N: Name + Send + Sync, R: Threads + Wait + Sync, S: Store, G: G
         fault: None,
         tried: PictureName::Final,
     };
-    let mine = Mine { user, desk };
+    let mine = UserAndDesk { user, desk };
     let hall: Hall<'a, N> = Hall::new(room);
     let unstarted = Unstarted {
         raised: &raised,
@@ -95,7 +95,7 @@ fn run_named<'a, N: Name + Send + Sync, R: Threads + Wait + Sync, S: Store, G: G
         gate: host.gate,
     };
     let mine = nit_actor::run_beside(host.rt, gated, unstarted, &mut passes, mine);
-    let Mine { user, mut desk } = mine;
+    let UserAndDesk { user, mut desk } = mine;
     let scene = last_picture(hall.into_room(), passes, user, &mut desk);
     let Desk {
         store,

@@ -13,7 +13,7 @@ use crate::opening::plans_of;
 use crate::pairs::{Paired, open_pairs, take_apart};
 use crate::ran::{PutFault, Ran};
 use crate::texts::leave_texts;
-use nit_actor::{Gate, GatedHall, Mine, Pair, Unstarted, run_beside_clips};
+use nit_actor::{Gate, GatedHall, UserAndDesk, Pair, Unstarted, run_beside_clips};
 use nit_clip::ClipScript;
 use nit_config::{Config, Member};
 use nit_hall::{Hall, Name, Parts};
@@ -91,7 +91,7 @@ fn run_clips_named<'a, N: Name + Send + Sync, R: Threads + Wait + Sync, S: Store
         fault: None,
         tried: PictureName::Final,
     };
-    let mine = Mine { user, desk };
+    let mine = UserAndDesk { user, desk };
     let hall: Hall<'a, N> = Hall::new(room);
     let unstarted = Unstarted {
         raised: &raised,
@@ -102,7 +102,7 @@ fn run_clips_named<'a, N: Name + Send + Sync, R: Threads + Wait + Sync, S: Store
         gate: host.gate,
     };
     let mine = run_beside_clips(host.rt, gated, unstarted, &mut pairs, mine);
-    let Mine { user, mut desk } = mine;
+    let UserAndDesk { user, mut desk } = mine;
     take_apart(&mut pairs, &mut passes, &mut clips);
     let room = hall.into_room();
     let (scene, list) = last_with_clips(host.alloc, room, passes, clips, user, &mut desk);

@@ -11,7 +11,7 @@ ghost use Rattle.nit_actor.specs.ClipRole.{GoTogether, IsPairIn, pair_role_of};
 
 use crate::checks::{must, same};
 use crate::words::repeated;
-use nit_actor::{GatedHall, Mine, Open, Pair, run_actor, run_clips, run_mine, run_mine_clips};
+use nit_actor::{GatedHall, UserAndDesk, Open, Pair, run_actor, run_clips, run_mine, run_mine_clips};
 use nit_clip::{ClipEntry, clip_text};
 use nit_hall::{ClipPass, Hall, Name, Pass, UserPass};
 use nit_report::{journal_text, ppm_len};
@@ -66,7 +66,7 @@ fn mine<'a, 's, N: Name>(
     hall: &Hall<'a, N>,
     user: UserPass<'a>,
     store: &'s mut MemoryStore,
-) -> Mine<'a, 's, MemoryStore>
+) -> UserAndDesk<'a, 's, MemoryStore>
     ensures user { result.user ≡ user.entry }
     ensures frame { length result.desk.frame.items
         ≡ N.parts.config.width * N.parts.config.height }
@@ -82,7 +82,7 @@ fn mine<'a, 's, N: Name>(
         fault: None,
         tried: PictureName::Final,
     };
-    Mine { user, desk }
+    UserAndDesk { user, desk }
 }
 
 /// Does all lines and clip calls of one client and of the user, and looks at the text of the clip
@@ -133,7 +133,7 @@ fn run_one_here<'a, N: Name, R: Abort + Wait>(
     hall: &Hall<'a, N>,
     passes: Vec<Pass<'a>>,
     clips: Vec<ClipPass<'a>>,
-    mine: Mine<'a, '_, MemoryStore>,
+    mine: UserAndDesk<'a, '_, MemoryStore>,
 ) -> ClipPass<'a>
     requires passes { All (Belongs N.parts) passes.items }
     requires clips { All (ClipBelongs N.parts) clips.items }
@@ -159,7 +159,7 @@ fn run_pairs_here<'a, N: Name, R: Wait>(
     rt: &R,
     hall: &Hall<'a, N>,
     pairs: &mut Vec<Pair<'a>>,
-    mine: Mine<'a, '_, MemoryStore>,
+    mine: UserAndDesk<'a, '_, MemoryStore>,
 )
     requires pairs { All (λ b. IsPairIn N.parts b.pass b.clip) pairs.old.items }
     requires user { UserBelongs N.parts mine.user }
@@ -183,7 +183,7 @@ fn run_clips_here<'a, N: Name, R: Wait>(
     rt: &R,
     hall: &Hall<'a, N>,
     pairs: &mut [Pair<'a>],
-    mine: Mine<'a, '_, MemoryStore>,
+    mine: UserAndDesk<'a, '_, MemoryStore>,
 )
     requires pairs { All (λ b. IsPairIn N.parts b.pass b.clip) pairs.old }
     requires user { UserBelongs N.parts mine.user }
@@ -194,7 +194,7 @@ fn run_clips_here<'a, N: Name, R: Wait>(
         ≡ map (λ b. pair_role_of b.pass b.clip) pairs.old }
     ensures done { All (λ b. b.clip.next ≡ length b.clip.script) pairs.new }
 {
-    let Mine { mut user, mut desk } = mine;
+    let UserAndDesk { mut user, mut desk } = mine;
     let gated = GatedHall { hall, gate: &Open };
     run_mine_clips(rt, gated, pairs, &mut user, &mut desk);
 }
@@ -205,7 +205,7 @@ fn run_parted_clips<'a, N: Name + Send + Sync, R: Threads + Wait + Sync>(
     hall: &Hall<'a, N>,
     passes: &mut [Pass<'a>],
     clips: &mut [ClipPass<'a>],
-    mine: Mine<'a, '_, MemoryStore>,
+    mine: UserAndDesk<'a, '_, MemoryStore>,
 )
     requires passes { All (Belongs N.parts) passes.old }
     requires clips { All (ClipBelongs N.parts) clips.old }
@@ -243,7 +243,7 @@ fn run_started<'a, N: Name + Send + Sync, R: Abort + Threads + Wait + Sync>(
     rt: &R,
     hall: &Hall<'a, N>,
     passes: &mut [Pass<'a>],
-    mine: Mine<'a, '_, MemoryStore>,
+    mine: UserAndDesk<'a, '_, MemoryStore>,
     way: Way,
 )
     requires passes { All (Belongs N.parts) passes.old }
@@ -272,7 +272,7 @@ fn run_parted<'a, N: Name + Send + Sync, R: Threads + Wait + Sync>(
     hall: &Hall<'a, N>,
     there: &mut [Pass<'a>],
     here: &mut [Pass<'a>],
-    mine: Mine<'a, '_, MemoryStore>,
+    mine: UserAndDesk<'a, '_, MemoryStore>,
 )
     requires there { All (Belongs N.parts) there.old }
     requires here { All (Belongs N.parts) here.old }
@@ -281,7 +281,7 @@ fn run_parted<'a, N: Name + Send + Sync, R: Threads + Wait + Sync>(
     requires text { length mine.desk.text.items
         ≡ picture_length N.parts.config.width N.parts.config.height }
 {
-    let Mine { mut user, mut desk } = mine;
+    let UserAndDesk { mut user, mut desk } = mine;
     join(
         rt,
         || run_first(rt, hall, there),

@@ -1,5 +1,5 @@
 use Rattle.nit_actor.proofs.Lemmas.{pair_none}
-use Rattle.nit_actor.proofs.pair.PairActorWork.run.Goals as goal
+use Rattle.nit_actor.proofs.pair.PairActorGatedHall.run.Goals as goal
 
 pub returns-clause-done : goal.returns-clause-done
 returns-clause-done g c =
