@@ -1,20 +1,15 @@
-//! Tests of all crates, in four folders: of the parts that know nothing of scripts, configurations
-//! and journals (`parts`); of what is read and planned before a run and told after it (`scripts`);
-//! of scenes and rooms (`scenes`); and of the top call (`top`).
+//! Tests of all crates but the top call's, in three folders: of the parts that know nothing of
+//! scripts, configurations and journals (`parts`); of what is read and planned before a run and
+//! told after it (`scripts`); and of scenes and rooms (`scenes`). Those of the top call are in
+//! `nit_top_tests`.
 //!
 //! Each expected value was worked out apart from the code, and never comes from it, but for two
 //! that the folders name. The crate has nothing but tests.
 #![tactic(auto)]
 
 #[cfg(test)]
-mod checks;
-#[cfg(test)]
 mod parts;
 #[cfg(test)]
 mod scenes;
 #[cfg(test)]
 mod scripts;
-#[cfg(test)]
-mod top;
-#[cfg(test)]
-mod words;

@@ -2,9 +2,8 @@
 
 ghost use Rattle.std.specs.Prelude.{◌≡◌, length};
 
-use crate::checks::same;
 use crate::parts::screens::rect;
-use crate::words::repeated;
+use nit_checks::{repeated, same};
 use nit_events::Mode;
 use nit_glyph::Label;
 use nit_overlay::{Look, overlay_rect};
