@@ -3,13 +3,13 @@ pub use Rattle.nit_config.specs.declared.error.ConfigError.{ConfigError}
 pub use Rattle.nit_config.specs.declared.error.ConfigError.TheVariants.{Kind, Label, Missing}
 pub use Rattle.nit_config.specs.declared.error.ConfigError.TheVariants.{NoMemory, Range, Syntax}
 pub use Rattle.nit_config.specs.declared.error.ConfigError.TheVariants.{TooMany, Twice, Unknown}
-pub use Rattle.nit_config.specs.declared.keys.Key.{Key}
+pub use Rattle.nit_config.specs.declared.keys.TableKey.{TableKey}
 pub use Rattle.nit_config.specs.declared.keys.Kind.TheVariants.{Boolean, Integer, Table, Tables}
 pub use Rattle.nit_config.specs.declared.keys.Kind.TheVariants.{Text}
-pub use Rattle.nit_config.specs.declared.keys.Place.{Place}
-pub use Rattle.nit_config.specs.declared.keys.Place.TheVariants.{Client, Input, Screen, Top}
-pub use Rattle.nit_config.specs.declared.refusals.Fault.{Fault}
-pub use Rattle.nit_config.specs.declared.refusals.Fault.TheVariants.{Lacking, OtherKind}
+pub use Rattle.nit_config.specs.declared.keys.TablePlace.{TablePlace}
+pub use Rattle.nit_config.specs.declared.keys.TablePlace.TheVariants.{Client, Input, Screen, Top}
+pub use Rattle.nit_config.specs.declared.refusals.KeyFault.{KeyFault}
+pub use Rattle.nit_config.specs.declared.refusals.KeyFault.TheVariants.{Lacking, OtherKind}
 pub use Rattle.nit_glyph.specs.Texts.{is_label}
 pub use Rattle.nit_rect.specs.Limits.{first_printable, last_printable, least_units, most_height}
 pub use Rattle.nit_rect.specs.Limits.{most_sessions, most_units, most_width}

@@ -1,7 +1,7 @@
 -- The keys of a configuration.
 use Rattle.std.specs.Prelude.{ℕ, Bool, true, false, not, ◌&&◌, ◌||◌, is_some, is_none, List, []}
 use Rattle.std.specs.Prelude.{◌∷◌, map, codes, bytes_eq}
-use Rattle.nit_config.specs.Below.{Boolean, Client, Data, Input, Integer, Key, Members, Place}
+use Rattle.nit_config.specs.Below.{Boolean, Client, Data, Input, Integer, TableKey, Members, TablePlace}
 use Rattle.nit_config.specs.Below.{Screen, Table, Tables, Text, Top, as_array, as_bool, as_integer}
 use Rattle.nit_config.specs.Below.{as_str, as_table, get_member, list_all, list_any, member}
 use Rattle.nit_config.specs.Below.{no_members, option_map_or}
@@ -45,17 +45,17 @@ client_rows =
     ∷ optional (codes "layer") Integer ∷ optional (codes "focus") Text ∷ []
 
 -- the keys of a place
-abbrev pub place_rows : Place → List KeyRow
+abbrev pub place_rows : TablePlace → List KeyRow
 place_rows Top = top_rows
 place_rows Screen = screen_rows
 place_rows Input = input_rows
 place_rows Client = client_rows
 
 -- a key of the code as a row, and some of them
-abbrev pub row_of : Key → KeyRow
+abbrev pub row_of : TableKey → KeyRow
 row_of k = record { name = k.name.now; kind = k.kind; is_required = k.is_required }
 
-abbrev pub rows_of : List Key → List KeyRow
+abbrev pub rows_of : List TableKey → List KeyRow
 rows_of keys = map row_of keys
 
 -- the value is of the kind

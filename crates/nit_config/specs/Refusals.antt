@@ -1,9 +1,9 @@
 -- The refusals of a table, in their order over the whole file.
 use Rattle.std.specs.Prelude.{ℕ, Bool, false, ◌||◌, if◌then◌else◌, nat_lt, List, [], ◌∷◌, length}
-use Rattle.nit_config.specs.Below.{ConfigError, Fault, Lacking, Members, None, Option, OtherKind}
+use Rattle.nit_config.specs.Below.{ConfigError, KeyFault, Lacking, Members, None, Option, OtherKind}
 use Rattle.nit_config.specs.Below.{Some, bytes_eq, list_any, map, most_sessions}
 use Rattle.nit_config.specs.declared.error.ConfigError.TheVariants as refused
-use Rattle.nit_config.specs.declared.refusals.Fault.TheVariants.{Unknown}
+use Rattle.nit_config.specs.declared.refusals.KeyFault.TheVariants.{Unknown}
 use Rattle.nit_config.specs.Keys.{KeyRow, top_rows, screen_rows, input_rows, client_rows}
 use Rattle.nit_config.specs.Keys.{has_other_kind, lacks_key, has_unknown_key}
 use Rattle.nit_config.specs.Ranges.{has_bad_size, has_bad_script, has_bad_value, label_of_table}
@@ -11,13 +11,13 @@ use Rattle.nit_config.specs.Ranges.{has_bad_label}
 use Rattle.nit_config.specs.Tree.{elements_of, screen_table, input_table, client_tables}
 
 -- the table has the fault, by the rows of its place
-abbrev pub has_fault : Fault → List KeyRow → Members → Bool
+abbrev pub has_fault : KeyFault → List KeyRow → Members → Bool
 has_fault OtherKind rows ms = has_other_kind rows ms
 has_fault Lacking rows ms = lacks_key rows ms
 has_fault Unknown rows ms = has_unknown_key rows ms
 
 -- the top, `screen`, `input` or a client has the fault
-unfoldable pub is_somewhere : Fault → Members → Bool
+unfoldable pub is_somewhere : KeyFault → Members → Bool
 is_somewhere fault top =
     ((has_fault fault top_rows top || has_fault fault screen_rows (screen_table top))
     || has_fault fault input_rows (input_table top))

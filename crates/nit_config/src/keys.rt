@@ -21,76 +21,76 @@ pub(crate) enum Kind {
 }
 
 /// A key, what its value has to be, and whether it has to be there.
-pub(crate) struct Key {
+pub(crate) struct TableKey {
     name: &'static str,
     kind: Kind,
     is_required: bool,
 }
 
-const TOP: [Key; 3] = [
-    Key {
+const TOP: [TableKey; 3] = [
+    TableKey {
         name: "screen",
         kind: Kind::Table,
         is_required: true,
     },
-    Key {
+    TableKey {
         name: "input",
         kind: Kind::Table,
         is_required: true,
     },
-    Key {
+    TableKey {
         name: "client",
         kind: Kind::Tables,
         is_required: true,
     },
 ];
 
-const SCREEN: [Key; 3] = [
-    Key {
+const SCREEN: [TableKey; 3] = [
+    TableKey {
         name: "width",
         kind: Kind::Integer,
         is_required: true,
     },
-    Key {
+    TableKey {
         name: "height",
         kind: Kind::Integer,
         is_required: true,
     },
-    Key {
+    TableKey {
         name: "bar",
         kind: Kind::Boolean,
         is_required: false,
     },
 ];
 
-const INPUT: [Key; 1] = [Key {
+const INPUT: [TableKey; 1] = [TableKey {
     name: "script",
     kind: Kind::Text,
     is_required: true,
 }];
 
-const CLIENT: [Key; 5] = [
-    Key {
+const CLIENT: [TableKey; 5] = [
+    TableKey {
         name: "label",
         kind: Kind::Text,
         is_required: true,
     },
-    Key {
+    TableKey {
         name: "donation",
         kind: Kind::Integer,
         is_required: true,
     },
-    Key {
+    TableKey {
         name: "script",
         kind: Kind::Text,
         is_required: true,
     },
-    Key {
+    TableKey {
         name: "layer",
         kind: Kind::Integer,
         is_required: false,
     },
-    Key {
+    TableKey {
         name: "focus",
         kind: Kind::Text,
         is_required: false,
@@ -99,23 +99,23 @@ const CLIENT: [Key; 5] = [
 
 /// A place of a configuration that has keys.
 #[derive(Clone, Copy)]
-pub(crate) enum Place {
+pub(crate) enum TablePlace {
     Top,
     Screen,
     Input,
     Client,
 }
 
-impl Place {
+impl TablePlace {
     /// The keys that this place may have.
-    fn keys(self) -> &'static [Key]
+    fn keys(self) -> &'static [TableKey]
         ensures { rows_of result.now ≡ place_rows self }
     {
         match self {
-            Place::Top => &TOP,
-            Place::Screen => &SCREEN,
-            Place::Input => &INPUT,
-            Place::Client => &CLIENT,
+            TablePlace::Top => &TOP,
+            TablePlace::Screen => &SCREEN,
+            TablePlace::Input => &INPUT,
+            TablePlace::Client => &CLIENT,
         }
     }
 }
@@ -142,7 +142,7 @@ fn are_tables(values: &[Value]) -> bool
     values.iter().all(|value| value.is_table())
 }
 
-fn is_of_other_kind(key: &Key, table: &Table) -> bool
+fn is_of_other_kind(key: &TableKey, table: &Table) -> bool
     ensures { result ≡ is_of_other_kind (row_of key.now) (table_view table.now) }
 {
     match find(table, key.name) {
@@ -151,51 +151,51 @@ fn is_of_other_kind(key: &Key, table: &Table) -> bool
     }
 }
 
-fn some_has_other_kind(keys: &[Key], table: &Table) -> bool
+fn some_has_other_kind(keys: &[TableKey], table: &Table) -> bool
     ensures { result ≡ list_any (λ k. is_of_other_kind (row_of k) (table_view table.now)) keys.now }
 {
     keys.iter().any(|key| is_of_other_kind(key, table))
 }
 
 /// Whether a key of the place is there and its value is of another kind.
-pub(crate) fn has_other_kind(place: Place, table: &Table) -> bool
+pub(crate) fn has_other_kind(place: TablePlace, table: &Table) -> bool
     ensures { result ≡ has_other_kind (place_rows place) (table_view table.now) }
 {
     some_has_other_kind(place.keys(), table)
 }
 
-fn is_lacking(key: &Key, table: &Table) -> bool
+fn is_lacking(key: &TableKey, table: &Table) -> bool
     ensures { result ≡ is_lacking (row_of key.now) (table_view table.now) }
 {
     key.is_required && find(table, key.name).is_none()
 }
 
-fn some_is_lacking(keys: &[Key], table: &Table) -> bool
+fn some_is_lacking(keys: &[TableKey], table: &Table) -> bool
     ensures { result ≡ list_any (λ k. is_lacking (row_of k) (table_view table.now)) keys.now }
 {
     keys.iter().any(|key| is_lacking(key, table))
 }
 
 /// Whether a required key of the place is not there.
-pub(crate) fn lacks_key(place: Place, table: &Table) -> bool
+pub(crate) fn lacks_key(place: TablePlace, table: &Table) -> bool
     ensures { result ≡ lacks_key (place_rows place) (table_view table.now) }
 {
     some_is_lacking(place.keys(), table)
 }
 
-fn some_has_name(keys: &[Key], name: &str) -> bool
+fn some_has_name(keys: &[TableKey], name: &str) -> bool
     ensures { result ≡ list_any (λ k. bytes_eq (row_of k).name name.now) keys.now }
 {
     keys.iter().any(|key| key.name == name)
 }
 
-fn is_named(place: Place, name: &str) -> bool
+fn is_named(place: TablePlace, name: &str) -> bool
     ensures { result ≡ is_known_key (place_rows place) name.now }
 {
     some_has_name(place.keys(), name)
 }
 
-fn some_is_unknown(place: Place, table: &Table) -> bool
+fn some_is_unknown(place: TablePlace, table: &Table) -> bool
     ensures { result
         ≡ list_any (λ k. not (is_known_key (place_rows place) (string_bytes k))) (keys table.now) }
 {
@@ -203,7 +203,7 @@ fn some_is_unknown(place: Place, table: &Table) -> bool
 }
 
 /// Whether a key is there that the place does not have.
-pub(crate) fn has_unknown_key(place: Place, table: &Table) -> bool
+pub(crate) fn has_unknown_key(place: TablePlace, table: &Table) -> bool
     ensures { result ≡ has_unknown_key (place_rows place) (table_view table.now) }
 {
     some_is_unknown(place, table)

@@ -8,7 +8,7 @@ ghost use Rattle.nit_config.specs.Terms.{members_of, no_members, place_rows, sta
 ghost use Rattle.nit_config.specs.Terms.{table_view, view};
 
 use crate::error::ConfigError;
-use crate::keys::{Place, has_other_kind, has_unknown_key, lacks_key};
+use crate::keys::{TablePlace, has_other_kind, has_unknown_key, lacks_key};
 use crate::ranges::{has_bad_label, has_bad_script, has_bad_size, has_bad_value, label_of};
 use crate::tree::{elements_of, table_at, table_of};
 use nit_rect::MOST_SESSIONS;
@@ -16,28 +16,28 @@ use toml::{Table, Value};
 
 /// What a table may have wrong by its keys.
 #[derive(Clone, Copy)]
-pub(crate) enum Fault {
+pub(crate) enum KeyFault {
     OtherKind,
     Lacking,
     Unknown,
 }
 
-fn has_fault(fault: Fault, place: Place, table: &Table) -> bool
+fn has_fault(fault: KeyFault, place: TablePlace, table: &Table) -> bool
     ensures { result ≡ has_fault fault (place_rows place) (table_view table.now) }
 {
     match fault {
-        Fault::OtherKind => has_other_kind(place, table),
-        Fault::Lacking => lacks_key(place, table),
-        Fault::Unknown => has_unknown_key(place, table),
+        KeyFault::OtherKind => has_other_kind(place, table),
+        KeyFault::Lacking => lacks_key(place, table),
+        KeyFault::Unknown => has_unknown_key(place, table),
     }
 }
 
-fn some_has_fault(fault: Fault, clients: &[Value], empty: &Table) -> bool
+fn some_has_fault(fault: KeyFault, clients: &[Value], empty: &Table) -> bool
     requires { table_view empty.now ≡ no_members }
     ensures { result
         ≡ list_any (λ v. has_fault fault client_rows (members_of (view v))) clients.now }
 {
-    clients.iter().any(|client| has_fault(fault, Place::Client, table_of(client, empty)))
+    clients.iter().any(|client| has_fault(fault, TablePlace::Client, table_of(client, empty)))
 }
 
 fn some_has_bad_value(clients: &[Value], empty: &Table) -> bool
@@ -87,7 +87,7 @@ fn count(top: &Table) -> usize
     elements_of(top).len()
 }
 
-fn client_has_fault(fault: Fault, top: &Table, empty: &Table) -> bool
+fn client_has_fault(fault: KeyFault, top: &Table, empty: &Table) -> bool
     requires { table_view empty.now ≡ no_members }
     ensures { result ≡ list_any (has_fault fault client_rows) (client_tables (table_view top.now)) }
 {
@@ -116,13 +116,13 @@ fn has_label_twice(top: &Table, empty: &Table) -> bool
 }
 
 #[tactic(auto, unfolding(crate::specs::Refusals::is_somewhere))]
-fn is_somewhere(fault: Fault, top: &Table, empty: &Table) -> bool
+fn is_somewhere(fault: KeyFault, top: &Table, empty: &Table) -> bool
     requires { table_view empty.now ≡ no_members }
     ensures { result ≡ is_somewhere fault (table_view top.now) }
 {
-    has_fault(fault, Place::Top, top)
-        || has_fault(fault, Place::Screen, table_at(top, "screen", empty))
-        || has_fault(fault, Place::Input, table_at(top, "input", empty))
+    has_fault(fault, TablePlace::Top, top)
+        || has_fault(fault, TablePlace::Screen, table_at(top, "screen", empty))
+        || has_fault(fault, TablePlace::Input, table_at(top, "input", empty))
         || client_has_fault(fault, top, empty)
 }
 
@@ -142,16 +142,16 @@ pub(crate) fn refusal(top: &Table, empty: &Table) -> Option<ConfigError>
     requires { table_view empty.now ≡ no_members }
     ensures { result ≡ first_refusal (table_view top.now) }
 {
-    if is_somewhere(Fault::OtherKind, top, empty) {
+    if is_somewhere(KeyFault::OtherKind, top, empty) {
         return Some(ConfigError::Kind);
     }
-    if is_somewhere(Fault::Lacking, top, empty) {
+    if is_somewhere(KeyFault::Lacking, top, empty) {
         return Some(ConfigError::Missing);
     }
     if count(top) < 1 {
         return Some(ConfigError::Missing);
     }
-    if is_somewhere(Fault::Unknown, top, empty) {
+    if is_somewhere(KeyFault::Unknown, top, empty) {
         return Some(ConfigError::Unknown);
     }
     if MOST_SESSIONS < count(top) {

@@ -3,7 +3,7 @@ ghost use Rattle.std.specs.Prelude.{◌≡◌, ◌+◌, ◌<◌, [], ◌∷◌, 
 ghost use Rattle.nit_ledger.specs.Terms.{IsShareOf, most_shares, raised, raised_by};
 
 use crate::share::Share;
-use crate::steps::{Adding, Counting, Deed, Item, Looking};
+use crate::steps::{AddedEntry, Adding, Counting, Deed, Looking};
 use crate::turn::{deed, give_back, split_off, take_in};
 use crate::view::{BookView, Pages};
 use atomic_table::Seat;
@@ -97,7 +97,7 @@ impl Book {
     }
 
     /// Adds the entry that the call picks.
-    fn add<X: Item>(&mut self, share: &mut Share, e: &Entry)
+    fn add<X: AddedEntry>(&mut self, share: &mut Share, e: &Entry)
         requires name { share.old.name ≡ self.old.name }
         requires entry { e.now ≡ X.entry }
         ensures book { self.new ≡ record self.old {

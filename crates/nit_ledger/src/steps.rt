@@ -56,22 +56,22 @@ impl<D: Deed> Play<(), BookView> for Does<D> {
 }
 
 /// An entry. Each call that adds one picks it.
-pub(crate) trait Item {
+pub(crate) trait AddedEntry {
     ghost use Rattle.nit_events.specs.declared.entry.Entry.{Entry};
 
     ghost entry: { Entry };
 }
 
-impl Item for Brand {
+impl AddedEntry for Brand {
     ghost use Rattle.nit_events.specs.declared.entry.Entry.TheVariants.{Final};
 
     ghost entry = { Final };
 }
 
 /// One entry is added, and counted.
-pub(crate) struct Adding<X: Item>(PhantomData<X>);
+pub(crate) struct Adding<X: AddedEntry>(PhantomData<X>);
 
-impl<X: Item> Deed for Adding<X> {
+impl<X: AddedEntry> Deed for Adding<X> {
     ghost use Rattle.std.specs.Prelude.{[], ◌∷◌};
 
     ghost added = { X.entry ∷ [] };

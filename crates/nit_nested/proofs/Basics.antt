@@ -1,7 +1,7 @@
 -- What lemmas use: the words of clauses, the library's lemmas, and those of the crates below.
 pub use Rattle.nit_nested.specs.Terms.{All, AllByRecursion, Buffer, Call, CanPay, Close, Event}
 pub use Rattle.nit_nested.specs.Terms.{Fill, FitsColour, FitsLine, IsFrame, IsNest, IsScreenSize}
-pub use Rattle.nit_nested.specs.Terms.{Line, NestModel, Painting, Phases, Refresh, Reply, Run}
+pub use Rattle.nit_nested.specs.Terms.{Line, NestModel, Painting, Phases, Refresh, Reply, ColourRun}
 pub use Rattle.nit_nested.specs.Terms.{Session, ShowsFrames, Stroke, Take, TooLong, after_line}
 pub use Rattle.nit_nested.specs.Terms.{blank, by_refusal, count_by, count_lines, enumerate_from}
 pub use Rattle.nit_nested.specs.Terms.{fills, first_forbidden, first_session, flat_map, frame_lines}

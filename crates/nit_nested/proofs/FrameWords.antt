@@ -1,5 +1,5 @@
 -- The lines of a frame tell its words.
-use Rattle.nit_nested.proofs.Basics.{All, FitsColour, IsFrame, IsNest, Line, List, Run, [], add-one}
+use Rattle.nit_nested.proofs.Basics.{All, FitsColour, IsFrame, IsNest, Line, List, ColourRun, [], add-one}
 use Rattle.nit_nested.proofs.Basics.{all_append, ap, append-nil, arith, cases_eq, count_lines, drop}
 use Rattle.nit_nested.proofs.Basics.{eq-eqb, fills, flat_map, flat_map-append, frame_lines, inl}
 use Rattle.nit_nested.proofs.Basics.{inr, length, map-append, most_lines, mul-suc, ne_eqb}
@@ -9,14 +9,14 @@ use Rattle.std.proofs.Common.{length-drop, map, refl, replicate, suc, sym, take,
 use Rattle.std.proofs.Common.{◌+◌, ◌∙◌, ◌∷◌, ◌≡◌, ◌≤◌}
 
 -- the words of runs
-abbrev pub unrolled : List Run → List ℕ
+abbrev pub unrolled : List ColourRun → List ℕ
 unrolled rs = flat_map (λ r. replicate r.long r.word) rs
 
-told_fills : (x y : ℕ) (rs : List Run) → words_of_lines (fills x y rs) ≡ unrolled rs
+told_fills : (x y : ℕ) (rs : List ColourRun) → words_of_lines (fills x y rs) ≡ unrolled rs
 told_fills x y [] = refl
 told_fills x y (r ∷ rs) = rw (told_fills (x + r.long) y rs) refl
 
-unrolled_joined : (c : ℕ) (rs : List Run) → unrolled (run_joined c rs) ≡ c ∷ unrolled rs
+unrolled_joined : (c : ℕ) (rs : List ColourRun) → unrolled (run_joined c rs) ≡ c ∷ unrolled rs
 unrolled_joined c [] = refl
 unrolled_joined c (r ∷ rs) = elim (cases_eq r.word c) [
   | inl same ↦ rw (eq-eqb r.word c same, add-one, same) refl

@@ -1,6 +1,6 @@
 -- At the end of each phase the script's buffer has the phase's frame.
 use Rattle.nit_nested.proofs.Basics.{AllByRecursion, Buffer, CanPay, IsFrame, IsNest, Line, List}
-use Rattle.nit_nested.proofs.Basics.{NestModel, None, Painting, Refresh, Run, ShowsFrames, []}
+use Rattle.nit_nested.proofs.Basics.{NestModel, None, Painting, Refresh, ColourRun, ShowsFrames, []}
 use Rattle.nit_nested.proofs.Basics.{after_line, ap, append_assoc, arith, blank, buffer_size}
 use Rattle.nit_nested.proofs.Basics.{cases_Bool, cond, count_by, drop, false, fills}
 use Rattle.nit_nested.proofs.Basics.{first_forbidden, first_session, fold-append, frame_lines}
@@ -17,7 +17,7 @@ use Rattle.nit_nested.proofs.FillLemmas.{Shows, line_shows, frame_shows}
 
 -- ---- where phases end
 
-fills_before : (k x y : ℕ) (rs : List Run) (more : List Line) → lines_before_end k (fills x y rs ++ more)
+fills_before : (k x y : ℕ) (rs : List ColourRun) (more : List Line) → lines_before_end k (fills x y rs ++ more)
     ≡ length (fills x y rs) + lines_before_end k more
 fills_before k x y [] more = omega arith
 fills_before k x y (r ∷ rs) more = omega (arith, fills_before k (x + r.long) y rs more)

@@ -6,25 +6,25 @@ use Rattle.nit_nested.specs.Below.{AllByRecursion, Fill, FitsColour, Line, Refre
 use Rattle.nit_script.specs.declared.line.Line.TheVariants as line
 
 -- so many equal words, one after the other
-pub record Run : Type 0 where
+pub record ColourRun : Type 0 where
   pub long : ℕ
   pub word : ℕ
 
 -- a word in front: it joins the first run where that has the same word, and is a run of its own
 -- elsewhere
-abbrev pub run_joined : ℕ → List Run → List Run
+abbrev pub run_joined : ℕ → List ColourRun → List ColourRun
 run_joined c [] = record { long = 1; word = c } ∷ []
 run_joined c (r ∷ rest) =
     if r.word == c then record r { long = r.long + 1 } ∷ rest
     else record { long = 1; word = c } ∷ r ∷ rest
 
 -- the runs of equal words of a row, each as long as can be
-abbrev pub row_runs : List ℕ → List Run
+abbrev pub row_runs : List ℕ → List ColourRun
 row_runs [] = []
 row_runs (c ∷ words) = run_joined c (row_runs words)
 
 -- runs from column x of row y on, each as a `fill` of one row
-abbrev pub fills : ℕ → ℕ → List Run → List Line
+abbrev pub fills : ℕ → ℕ → List ColourRun → List Line
 fills x y [] = []
 fills x y (r ∷ rest) = line.Stroke (Fill x y r.long 1 r.word) ∷ fills (x + r.long) y rest
 

@@ -54,7 +54,7 @@ pub use Rattle.nit_overlay.specs.Frame.{frame}
 pub use Rattle.nit_paint.specs.Repaint.{IsWordOfSource, no_sight}
 pub use Rattle.nit_perform.specs.declared.inner.Inner.{Inner}
 pub use Rattle.nit_perform.specs.declared.memory.Memory.{Memory}
-pub use Rattle.nit_perform.specs.declared.opening.Opened.{Opened}
+pub use Rattle.nit_perform.specs.declared.opening.OpenedRounds.{OpenedRounds}
 pub use Rattle.nit_perform.specs.declared.pairs.Paired.{Paired}
 pub use Rattle.nit_perform.specs.declared.ran.PutFault.{PutFault}
 pub use Rattle.nit_perform.specs.declared.ran.Ran.{Ran}

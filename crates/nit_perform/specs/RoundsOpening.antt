@@ -1,6 +1,6 @@
 -- A run before its first round.
 use Rattle.std.specs.Prelude.{◌≡◌, ◌+◌, ◌≤◌, List, [], length, map}
-use Rattle.nit_perform.specs.Below.{Configuration, InputLine, IsSetUp, Line, Opened, PlanModel}
+use Rattle.nit_perform.specs.Below.{Configuration, InputLine, IsSetUp, Line, OpenedRounds, PlanModel}
 use Rattle.nit_perform.specs.Below.{Sight, actions_of_turns, donation_of, glass_after}
 use Rattle.nit_perform.specs.Below.{picture_length, plan_of_script, range_with_len, rounds}
 use Rattle.nit_perform.specs.Below.{script_in}
@@ -21,7 +21,7 @@ glasses_of config scripts =
 -- the rounds and for the last picture; no line is done; and there are as many bytes as the screen's
 -- picture has.
 pub record IsRoundsOpening (config : Configuration) (scripts : List (List Line))
-    (input : List InputLine) (o : Opened) : Type 0 where
+    (input : List InputLine) (o : OpenedRounds) : Type 0 where
   pub configuration : o.scene.config ≡ config
   pub entries : o.scene.entries ≡ []
   pub spare : length (actions_of_turns (rounds scripts input)) + 1 ≤ o.scene.spare

@@ -4,15 +4,15 @@ ghost use Rattle.std.specs.Prelude.{true, ◌≡◌};
 ghost use Rattle.nit_perform.specs.Terms.{HasRun, IsMemory, IsReady, IsRunnable, Runs, frame};
 ghost use Rattle.nit_perform.specs.Terms.{setup_of};
 
-use crate::host::Host;
+use crate::host::ThreadHost;
 use crate::last::last_picture;
 use crate::memory::{Memory, buffers_of, canvases_of};
 use crate::opening::plans_of;
 use crate::ran::{PutFault, Ran};
 use crate::texts::leave_texts;
-use nit_actor::{Gate, GatedHall, UserAndDesk, Unstarted};
+use nit_actor::{Gate, GatedHall, Unstarted, UserAndDesk};
 use nit_config::{Config, Member};
-use nit_hall::{Hall, Name, Opened, Parts, Pass, open};
+use nit_hall::{Hall, Name, OpenedRounds, Parts, Pass, open};
 use nit_rect::NoMemory;
 use nit_rounds::{Desk, PictureName};
 use nit_script::{Client, Input};
@@ -25,7 +25,7 @@ use std::thread::Threads;
 /// Each shot is put as it is taken, then the last picture, and then the texts, until a put is
 /// refused. Where memory runs out before the first thread, nothing was done.
 pub fn run_beside<R: Threads + Wait + Sync, S: Store, G: Gate>(
-    host: &Host<R, G>,
+    host: &ThreadHost<R, G>,
     config: &Config,
     scripts: &[Client],
     input: &Input,
@@ -53,9 +53,9 @@ pub fn run_beside<R: Threads + Wait + Sync, S: Store, G: Gate>(
 /// Runs an opening that N names, takes the last picture, and puts what is to be put behind the
 /// pictures of the shots. Until the texts it takes no memory.
 fn run_named<'a, N: Name + Send + Sync, R: Threads + Wait + Sync, S: Store, G: Gate>(
-    host: &Host<R, G>,
+    host: &ThreadHost<R, G>,
     clients: &[Member],
-    opened: Opened<'a>,
+    opened: OpenedRounds<'a>,
     memory: Memory<Pass<'a>>,
     store: &mut S,
 ) -> Ran
@@ -66,7 +66,7 @@ fn run_named<'a, N: Name + Send + Sync, R: Threads + Wait + Sync, S: Store, G: G
         (setup_of N.parts.config N.parts.scripts N.parts.input true true)
         (S.shown store.new) result }
 {
-    let Opened {
+    let OpenedRounds {
         room,
         mut passes,
         user,

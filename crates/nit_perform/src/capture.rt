@@ -8,7 +8,7 @@ use crate::added::end_film;
 use crate::beside::run_beside;
 use crate::film::Film;
 use crate::film_store::{FilmStore, Filming, Reel};
-use crate::host::Host;
+use crate::host::ThreadHost;
 use crate::ran::Ran;
 use nit_actor::Gate;
 use nit_config::Config;
@@ -21,7 +21,7 @@ use std::thread::Threads;
 
 /// Runs a setup through a store that adds its pictures to this film, and puts the film last.
 pub fn run_filmed<R: Threads + Wait + Sync, S: Store, G: Gate>(
-    host: &Host<R, G>,
+    host: &ThreadHost<R, G>,
     config: &Config,
     scripts: &Scripts,
     film: Film,
@@ -66,7 +66,7 @@ struct Reeled<'s, S> {
 
 /// Runs a setup through the store of a film, which F names.
 fn film_named<'s, F: Filming, R: Threads + Wait + Sync, S: Store, G: Gate>(
-    host: &Host<R, G>,
+    host: &ThreadHost<R, G>,
     config: &Config,
     scripts: &Scripts,
     reel: Reel<'s, S>,

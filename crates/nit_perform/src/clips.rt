@@ -6,14 +6,14 @@ ghost use Rattle.nit_perform.specs.Terms.{HasRoomBack, HasRunClips, IsMemory, Is
 ghost use Rattle.nit_perform.specs.Terms.{IsRunnable, RunsClips, clips_setup_in, clips_setup_of};
 
 use crate::added::put_clips;
-use crate::host::Host;
+use crate::host::ThreadHost;
 use crate::last::last_with_clips;
 use crate::memory::{Memory, buffers_of, canvases_of};
 use crate::opening::plans_of;
 use crate::pairs::{Paired, open_pairs, take_apart};
 use crate::ran::{PutFault, Ran};
 use crate::texts::leave_texts;
-use nit_actor::{Gate, GatedHall, UserAndDesk, Pair, Unstarted, run_beside_clips};
+use nit_actor::{Gate, GatedHall, Pair, Unstarted, UserAndDesk, run_beside_clips};
 use nit_clip::ClipScript;
 use nit_config::{Config, Member};
 use nit_hall::{Hall, Name, Parts};
@@ -28,7 +28,7 @@ use std::thread::Threads;
 /// Takes all memory of a run, and does it up to its end. The clip list is put behind the texts,
 /// unless a put was refused. Where memory runs out before the first thread, nothing was done.
 pub fn run_with_clips<R: Threads + Wait + Sync, S: Store, G: Gate>(
-    host: &Host<R, G>,
+    host: &ThreadHost<R, G>,
     config: &Config,
     scripts: &Scripts,
     clips: &[ClipScript],
@@ -58,7 +58,7 @@ pub fn run_with_clips<R: Threads + Wait + Sync, S: Store, G: Gate>(
 /// Runs the actors of an opening that N names, takes the last picture, and puts what is to be put
 /// behind the pictures of the shots. Until the texts it takes no memory.
 fn run_clips_named<'a, N: Name + Send + Sync, R: Threads + Wait + Sync, S: Store, G: Gate>(
-    host: &Host<R, G>,
+    host: &ThreadHost<R, G>,
     clients: &[Member],
     actors: Paired<'a>,
     memory: Memory<Pair<'a>>,

@@ -6,7 +6,7 @@ ghost use Rattle.nit_perform.specs.Terms.{TakesAll, TakesNext, by_turns, first_f
 ghost use Rattle.nit_perform.specs.Terms.{frames_of, phases, run_files};
 
 use crate::last::take_last;
-use crate::opening::{Opened, open};
+use crate::opening::{OpenedRounds, open};
 use nit_config::Config;
 use nit_events::Entry;
 use nit_hall::Parts;
@@ -93,7 +93,7 @@ pub fn nest_run(
     let Ok(opened) = open(alloc, config, scripts, input) else {
         return Err(NestError::NoMemory);
     };
-    let Played { nesting, journal } = play(alloc, opened, config, scripts, input);
+    let AfterRounds { nesting, journal } = play(alloc, opened, config, scripts, input);
     if let Some(refusal) = nesting.fault {
         return Err(refusal);
     }
@@ -105,13 +105,19 @@ pub fn nest_run(
 
 /// What the rounds of an inner run leave.
 #[derive(Drop)]
-struct Played {
+struct AfterRounds {
     nesting: Nesting,
     journal: Vec<Entry>,
 }
 
 /// Does the rounds, and takes the frames of the shots and the last one into a nest.
-fn play(alloc: Global, opened: Opened, config: &Config, scripts: &[Client], input: &Input) -> Played
+fn play(
+    alloc: Global,
+    opened: OpenedRounds,
+    config: &Config,
+    scripts: &[Client],
+    input: &Input,
+) -> AfterRounds
     requires runnable { IsRunnable (by_turns (run_files config.now scripts.now input.now)) }
     requires opened { IsRoundsOpening config.now scripts.now input.now opened }
     ensures journal { IsJournal (by_turns (run_files config.now scripts.now input.now))
@@ -128,7 +134,7 @@ fn play(alloc: Global, opened: Opened, config: &Config, scripts: &[Client], inpu
     one_more_entry();
     one_more_line();
     buffer_within_table();
-    let Opened {
+    let OpenedRounds {
         mut scene,
         mut owns,
         plans,
@@ -146,7 +152,7 @@ fn play(alloc: Global, opened: Opened, config: &Config, scripts: &[Client], inpu
     run_viewed(&mut scene, &mut owns, parts, &mut nesting);
     take_last(&mut scene, &mut owns);
     nesting.take(scene.frame());
-    Played {
+    AfterRounds {
         nesting,
         journal: scene.into_journal().into_entries(),
     }

@@ -16,7 +16,7 @@
 //! - [`nest_run`] goes by rounds and puts nothing: it makes the script that shows the frames.
 //!
 //! [`put_files`] puts the files of a generated run before it, and [`put_inner_journal`] a journal
-//! behind the files of another run. [`Host`] is what a run with threads is given of the machine.
+//! behind the files of another run. [`ThreadHost`] is what a run with threads is given of the machine.
 //!
 //! The tests are those of whole commands, in `nit_tests`.
 #![tactic(auto)]
@@ -48,7 +48,7 @@ pub use capture::run_filmed;
 pub use clips::run_with_clips;
 pub use film::Film;
 pub use generated::put_files;
-pub use host::Host;
+pub use host::ThreadHost;
 pub use inner::{Inner, nest_run};
 pub use ran::{PutFault, Ran};
 pub use turns::run_turns;

@@ -24,7 +24,7 @@ const WORD_UNITS: u32 = 8;
 /// A run before its first round: the scene, and for each client its plan and its own glass; and the
 /// room for the bytes of a picture's file.
 #[derive(Drop)]
-pub struct Opened {
+pub struct OpenedRounds {
     pub scene: Scene<Inked>,
     pub owns: Vec<Inked>,
     pub plans: Vec<Plan>,
@@ -38,7 +38,7 @@ pub fn open(
     config: &Config,
     scripts: &[Client],
     input: &Input,
-) -> Result<Opened, NoMemory>
+) -> Result<OpenedRounds, NoMemory>
     requires configured { IsConfiguration config.now }
     requires each { length scripts.now ≡ length config.now.clients }
     ensures { IfOk result (λ o. IsRoundsOpening config.now scripts.now input.now o) }
@@ -51,7 +51,7 @@ pub fn open(
     let lines = line_count(scripts, input);
     let scene = Scene::new(alloc, config, glasses, lines + 1)?;
     let text = blank_text(alloc, config)?;
-    Ok(Opened {
+    Ok(OpenedRounds {
         scene,
         owns,
         plans,

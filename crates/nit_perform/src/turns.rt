@@ -4,7 +4,7 @@ ghost use Rattle.nit_perform.specs.Terms.{HasRun, IsRoundsOpening, IsRunnable, R
 ghost use Rattle.nit_perform.specs.Terms.{setup_of, true};
 
 use crate::last::put_last;
-use crate::opening::{Opened, open};
+use crate::opening::{OpenedRounds, open};
 use crate::ran::{PutFault, Ran};
 use crate::texts::leave_texts;
 use nit_config::Config;
@@ -41,7 +41,7 @@ pub fn run_turns<S: Store>(
 /// Does the rounds, takes the last picture, and puts the texts. The rounds take no memory.
 fn play<S: Store>(
     alloc: Global,
-    opened: Opened,
+    opened: OpenedRounds,
     config: &Config,
     scripts: &[Client],
     input: &Input,
@@ -56,7 +56,7 @@ fn play<S: Store>(
     one_more_entry();
     one_more_line();
     buffer_within_table();
-    let Opened {
+    let OpenedRounds {
         mut scene,
         mut owns,
         plans,

@@ -2,7 +2,7 @@
 pub use Rattle.nit_place.specs.Terms.{AllPairs, Any, IfSome, IsApart, IsAtEdges, IsBefore}
 pub use Rattle.nit_place.specs.Terms.{IsBlocking, IsColumn, IsEdge, IsFree, IsFull, IsLeast}
 pub use Rattle.nit_place.specs.Terms.{IsLeastFree, IsLeastInRow, IsRow, IsSearched, IsWithinScreen}
-pub use Rattle.nit_place.specs.Terms.{NoPair, Part, Point, Rectangle, SlotView, View, ViewRef}
+pub use Rattle.nit_place.specs.Terms.{NoPair, ScreenPart, Point, Rectangle, SlotView, View, ViewRef}
 pub use Rattle.nit_place.specs.Terms.{area_of, before_first, bottom_of, covers, fits, flat_map}
 pub use Rattle.nit_place.specs.Terms.{fresh, fresh_in, further, int_le, int_lt, is_owner, is_slot}
 pub use Rattle.nit_place.specs.Terms.{is_view, label_place, list_all, list_any, meets, nearer}

@@ -2,7 +2,7 @@
 use Rattle.std.proofs.Common.{Bool, List, None, Option, ap₂, arith, cond, false, find, leb, ltb}
 use Rattle.std.proofs.Common.{max, refl, slice_index_or, subst, sym, true, ℕ, ◌&&◌, ◌+◌, ◌-◌, ◌<◌}
 use Rattle.std.proofs.Common.{◌∙◌, ◌≡◌, ◌≤◌}
-use Rattle.nit_place.proofs.Basics.{IsFree, Part, Rectangle, View, area_of, bottom_of, covers}
+use Rattle.nit_place.proofs.Basics.{IsFree, ScreenPart, Rectangle, View, area_of, bottom_of, covers}
 use Rattle.nit_place.proofs.Basics.{false_from_ne_true, fits, fresh, get_or_default, int_le, int_lt}
 use Rattle.nit_place.proofs.Basics.{is_owner, le-leb, le-ltb, lt-ltb, meets, nat_tests, negsuc}
 use Rattle.nit_place.proofs.Basics.{on_screen, owns, part_at, part_of, point, pos, right_of, ℤ}
@@ -14,11 +14,11 @@ use Rattle.nit_place.proofs.Names.{IsFirstAt, StandsAt, owned_by, owner_of}
 -- ---- pixels of a part
 
 -- the pixel lies in the part
-abbrev has_pixel : Part → ℕ → ℕ → Bool
+abbrev has_pixel : ScreenPart → ℕ → ℕ → Bool
 has_pixel r x y = (leb r.left x && ltb x r.right) && (leb r.top y && ltb y r.bottom)
 
 -- a part has a pixel
-pub record Covers (r : Part) (x y : ℕ) : Type 0 where
+pub record Covers (r : ScreenPart) (x y : ℕ) : Type 0 where
   pub left : r.left ≤ x
   pub right : x < r.right
   pub top : r.top ≤ y
@@ -38,7 +38,7 @@ same_pixels r x y =
     ap₂ (λ a b. a && b) (ap₂ (λ a b. a && b) (past_edge x r.x) (below_edge x (right_of r)))
     (ap₂ (λ a b. a && b) (past_edge y r.y) (below_edge y (bottom_of r)))
 
-has_tells : (r : Part) (x y : ℕ) → has_pixel r x y ≡ true → Covers r x y
+has_tells : (r : ScreenPart) (x y : ℕ) → has_pixel r x y ≡ true → Covers r x y
 has_tells r x y e = record {
   left = grind (arith, nat_tests);
   right = grind (arith, nat_tests);
@@ -46,7 +46,7 @@ has_tells r x y e = record {
   bottom = grind (arith, nat_tests);
 }
 
-has_holds : (r : Part) (x y : ℕ) → Covers r x y → has_pixel r x y ≡ true
+has_holds : (r : ScreenPart) (x y : ℕ) → Covers r x y → has_pixel r x y ≡ true
 has_holds r x y c = grind (arith, nat_tests)
 
 covers_tells : (r : Rectangle) (x y : ℕ) → covers r (point x y) ≡ true → Covers (part_of r) x y

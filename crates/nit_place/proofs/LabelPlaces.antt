@@ -2,7 +2,7 @@
 use Rattle.std.proofs.Common.{List, None, Option, Some, ap, arith, inl, inr, max, refl, subst, sym}
 use Rattle.std.proofs.Common.{ℕ, ◌<◌, ◌∙◌, ◌≡◌, ◌≤◌, ◌⊎◌}
 use Rattle.nit_place.proofs.Basics.{IfSome, IsAtEdges, IsBefore, IsColumn, IsEdge, IsFree, IsLeast}
-use Rattle.nit_place.proofs.Basics.{IsLeastFree, IsRow, IsSearched, IsWithinScreen, NoPair, Part}
+use Rattle.nit_place.proofs.Basics.{IsLeastFree, IsRow, IsSearched, IsWithinScreen, NoPair, ScreenPart}
 use Rattle.nit_place.proofs.Basics.{Point, SlotView, View, area_of, bottom_of, false_from_ne_true}
 use Rattle.nit_place.proofs.Basics.{find_at, fits, fresh, ints, is_slot, label_place, length-map}
 use Rattle.nit_place.proofs.Basics.{negsuc, on_screen, option_map, part_at, point, pos}
@@ -91,7 +91,7 @@ edges_are width height rows stack n v at w h (Some q) (x, y, is, found) =
 
 -- ---- the screen
 
-pub is_within : (front : ℕ → Part) (n : ℕ) (area : Part) (width height w h : ℕ) → area.right ≤ width
+pub is_within : (front : ℕ → ScreenPart) (n : ℕ) (area : ScreenPart) (width height w h : ℕ) → area.right ≤ width
     → area.bottom ≤ height → (o : Option Point)
     → IsSearched front n area w h o → IfSome o (IsWithinScreen width height w h)
 is_within front n area width height w h right bottom None none = tt
@@ -106,7 +106,7 @@ is_within front n area width height w h right bottom (Some q) (x, y, is, found) 
     })
 
 -- the search, by the number of views in front and the area that were worked out
-pub searched_by : (front : ℕ → Part) (n m : ℕ) (area again : Part) (w h : ℕ) (o : Option Point) → n ≡ m → area ≡ again
+pub searched_by : (front : ℕ → ScreenPart) (n m : ℕ) (area again : ScreenPart) (w h : ℕ) (o : Option Point) → n ≡ m → area ≡ again
     → IsSearched front n area w h o → IsSearched front m again w h o
 searched_by front n m area again w h o e f found =
-    subst (λ k. IsSearched front k again w h o) e (subst (λ (a : Part). IsSearched front n a w h o) f found)
+    subst (λ k. IsSearched front k again w h o) e (subst (λ (a : ScreenPart). IsSearched front n a w h o) f found)

@@ -1,5 +1,5 @@
 -- The words of the library and of the crates below that are used here, and the crate's plain types.
-pub use Rattle.nit_place.specs.declared.part.Part.{Part}
+pub use Rattle.nit_place.specs.declared.part.ScreenPart.{ScreenPart}
 pub use Rattle.nit_place.specs.declared.search.Row.{Row}
 pub use Rattle.nit_place.specs.declared.search.Row.TheVariants.{Free, Full}
 pub use Rattle.nit_rect.specs.Intersection.{IsApart}

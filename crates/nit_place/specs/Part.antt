@@ -1,9 +1,9 @@
 -- What of a view lies on the screen, by its edges.
-use Rattle.nit_place.specs.Below.{List, Part, Rectangle, View, fresh, max, min, slice_index_or, ℕ}
+use Rattle.nit_place.specs.Below.{List, ScreenPart, Rectangle, View, fresh, max, min, slice_index_or, ℕ}
 use Rattle.nit_place.specs.Edges.{on_screen, right_of, bottom_of}
 
 -- the part of a rectangle at columns and rows from 0 on
-abbrev pub part_of : Rectangle → Part
+abbrev pub part_of : Rectangle → ScreenPart
 part_of r =
     record {
       left = on_screen r.x;
@@ -13,11 +13,11 @@ part_of r =
     }
 
 -- the same of the view at a place of the stack
-abbrev pub part_at : List View → ℕ → Part
+abbrev pub part_at : List View → ℕ → ScreenPart
 part_at stack k = part_of (slice_index_or stack k (fresh 0 0)).rect
 
 -- the part of a rectangle on the screen below the bar
-abbrev pub area_of : ℕ → ℕ → ℕ → Rectangle → Part
+abbrev pub area_of : ℕ → ℕ → ℕ → Rectangle → ScreenPart
 area_of width height rows r =
     record {
       left = on_screen r.x;

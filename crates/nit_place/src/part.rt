@@ -8,23 +8,23 @@ use nit_stack::Stack;
 
 /// The pixels from `left` to before `right` and from `top` to before `bottom`.
 #[derive(Clone, Copy)]
-pub(crate) struct Part {
+pub(crate) struct ScreenPart {
     pub left: u32,
     pub top: u32,
     pub right: u32,
     pub bottom: u32,
 }
 
-impl Part {
+impl ScreenPart {
     /// What of a rectangle has columns and rows from 0 on.
-    pub(crate) fn of(r: Rect) -> Part
+    pub(crate) fn of(r: Rect) -> ScreenPart
         ensures part { result ≡ part_of r }
         ensures left { result.left ≤ most_edge }
         ensures top { result.top ≤ most_edge }
         ensures right { result.right ≤ most_edge }
         ensures bottom { result.bottom ≤ most_edge }
     {
-        Part {
+        ScreenPart {
             left: on_screen(r.x()),
             top: on_screen(r.y()),
             right: on_screen(r.x() + r.w() as i32),
@@ -33,14 +33,14 @@ impl Part {
     }
 
     /// The part of the view at place `i` from the front.
-    pub(crate) fn at(stack: &Stack, i: u32) -> Part
+    pub(crate) fn at(stack: &Stack, i: u32) -> ScreenPart
         requires { i < length stack.now.views }
         ensures part { result ≡ part_at (views_of stack.now.views) i }
         ensures right { result.right ≤ most_edge }
         ensures bottom { result.bottom ≤ most_edge }
     {
         let view = stack.view(stack.at(i));
-        Part::of(view.rect)
+        ScreenPart::of(view.rect)
     }
 
     /// Whether the part shares a pixel with the rectangle of `w` by `h` at (x, y).

@@ -5,7 +5,7 @@ ghost use Rattle.nit_place.specs.Terms.{IsAtEdges, IsStack, IsWithinScreen, Slot
 ghost use Rattle.nit_place.specs.Terms.{has_slot, is_slot, label_place, most_edge, most_tag, point};
 ghost use Rattle.nit_place.specs.Terms.{position_or_len, slot_view_in, views_of};
 
-use crate::part::Part;
+use crate::part::ScreenPart;
 use crate::search::search;
 use nit_rect::Point;
 use nit_stack::{Stack, ViewRef};
@@ -30,7 +30,7 @@ pub fn place_label(stack: &Stack, v: ViewRef, w: u32, h: u32) -> Option<Point>
 }
 
 /// What of the view lies on the screen below the bar.
-fn area(stack: &Stack, v: ViewRef) -> Part
+fn area(stack: &Stack, v: ViewRef) -> ScreenPart
     requires { has_slot v.0 stack.now.views ≡ true }
     ensures area { (s : SlotView) → slot_view_in v.0 stack.now.views ≡ Some s
         → result ≡ area_of stack.now.width stack.now.height stack.now.bar s.view.rect }
@@ -40,8 +40,8 @@ fn area(stack: &Stack, v: ViewRef) -> Part
     ensures bottom { result.bottom ≤ stack.now.height }
 {
     let (width, height) = stack.size();
-    let part = Part::of(stack.view(v).rect);
-    Part {
+    let part = ScreenPart::of(stack.view(v).rect);
+    ScreenPart {
         left: part.left,
         top: part.top.max(stack.bar()),
         right: part.right.min(width),

@@ -4,7 +4,7 @@ ghost use Rattle.std.specs.Prelude.{◌≡◌, ◌+◌, ◌<◌, ◌≤◌, ◌^
 ghost use Rattle.nit_place.specs.Terms.{IsBlocking, IsRowSearched, IsSearched, further, most_edge};
 ghost use Rattle.nit_place.specs.Terms.{most_tag, nearer, part_at, views_of};
 
-use crate::part::Part;
+use crate::part::ScreenPart;
 use nit_rect::Point;
 use nit_stack::Stack;
 
@@ -19,7 +19,7 @@ pub(crate) enum Row {
 }
 
 /// Whichever part has its right edge further right.
-fn further(found: Option<Part>, part: Part) -> Part
+fn further(found: Option<ScreenPart>, part: ScreenPart) -> ScreenPart
     ensures { result ≡ further found part }
 {
     match found {
@@ -44,15 +44,15 @@ fn nearer(found: Option<u32>, row: u32) -> u32
 
 /// The part of one of the first `front` views that the rectangle of `w` by `h` at (x, y) meets. Of
 /// several it is the one that reaches furthest right.
-fn blocking(stack: &Stack, front: u32, x: u32, y: u32, w: u32, h: u32) -> Option<Part>
+fn blocking(stack: &Stack, front: u32, x: u32, y: u32, w: u32, h: u32) -> Option<ScreenPart>
     requires front { front ≤ length stack.now.views }
     requires across { x + w < 2 ^ 32 }
     requires down { y + h < 2 ^ 32 }
     ensures { IsBlocking (part_at (views_of stack.now.views)) front x y w h result }
 {
-    let mut found: Option<Part> = None;
+    let mut found: Option<ScreenPart> = None;
     'views: for i in 0..front {
-        let part = Part::at(stack, i);
+        let part = ScreenPart::at(stack, i);
         if !part.meets(x, y, w, h) {
             continue;
         }
@@ -63,7 +63,7 @@ fn blocking(stack: &Stack, front: u32, x: u32, y: u32, w: u32, h: u32) -> Option
 
 /// The least column at which the rectangle of `w` by `h` lies free in the row `y` of the area, or
 /// how far down it is free nowhere.
-fn place_in_row(stack: &Stack, front: u32, area: &Part, w: u32, h: u32, y: u32) -> Row
+fn place_in_row(stack: &Stack, front: u32, area: &ScreenPart, w: u32, h: u32, y: u32) -> Row
     requires front { front ≤ length stack.now.views }
     requires left { area.now.left ≤ most_edge }
     requires from_top { area.now.top ≤ y }
@@ -87,7 +87,7 @@ fn place_in_row(stack: &Stack, front: u32, area: &Part, w: u32, h: u32, y: u32) 
 
 /// The least place, by row and then by column, at which the rectangle of `w` by `h` lies free in
 /// the area.
-pub(crate) fn search(stack: &Stack, front: u32, area: &Part, w: u32, h: u32) -> Option<Point>
+pub(crate) fn search(stack: &Stack, front: u32, area: &ScreenPart, w: u32, h: u32) -> Option<Point>
     requires front { front ≤ length stack.now.views }
     requires left { area.now.left ≤ most_edge }
     requires top { area.now.top ≤ most_edge }

@@ -14,7 +14,7 @@ pub use Rattle.nit_journal.specs.Session.{serve, taking, unless, ◌orelse◌}
 pub use Rattle.nit_journal.specs.StackAfter.{is_accepted}
 pub use Rattle.nit_journal.specs.State.{session}
 pub use Rattle.nit_journal.specs.WholeJournals.{Does, Shoots, UserAction, calls_of, done}
-pub use Rattle.nit_plan.specs.declared.area.Area.{Area}
+pub use Rattle.nit_plan.specs.declared.area.BufferArea.{BufferArea}
 pub use Rattle.nit_plan.specs.declared.plan.Expect.{Expect}
 pub use Rattle.nit_plan.specs.declared.plan.Expect.TheVariants.{Nothing, Taken}
 pub use Rattle.nit_plan.specs.declared.plan.Step.{Step}

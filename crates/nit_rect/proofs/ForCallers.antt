@@ -1,4 +1,4 @@
--- What other crates cite of rectangles: as sets of pixels, and tests on runs of places; of steps that may give nothing,
+-- What other crates cite of rectangles: as sets of pixels, and tests on spans of places; of steps that may give nothing,
 -- and of lists.
 pub use Rattle.nit_rect.proofs.Lists.{all_append}
 pub use Rattle.nit_rect.proofs.Options.{bind_some}

@@ -68,7 +68,7 @@ spans_before again from end at long short same fewer within reached = rw same (s
         (λ less. let ends : end ≤ℤ (from +ℤ pos short) = reached less in omega (arith, ints))
         (λ same_long. omega (arith, ints))
 
--- of two runs, the one that begins later, as far as the other goes
+-- of two spans, the one that begins later, as far as the other goes
 pub spans_later : (a b at : ℤ) (m n : ℕ) → a ≤ℤ b → (spans b n at && int_lt at (a +ℤ pos m))
     ≡ (spans a m at && spans b n at)
 spans_later a b at m n later = same_tests _ _
@@ -88,14 +88,14 @@ spans_earlier a b end at m n is later = rw is (spans_later b a at n m later ∙ 
 pub spans_nowhere : (from : ℤ) (long : ℕ) (at : ℤ) → (IsSpanned from long at → ⊥) → spans from long at ≡ false
 spans_nowhere from long at no_way = false_from_ne_true _ (λ is. no_way (spans_tells from long at is))
 
--- the same answer for two runs
+-- the same answer for two spans
 spans_alike : (a b at : ℤ) (m n : ℕ) → (IsSpanned a m at → IsSpanned b n at) → (IsSpanned b n at → IsSpanned a m at)
     → spans a m at ≡ spans b n at
 spans_alike a b at m n f g = same_tests _ _
     (λ is. spans_holds b n at (f (spans_tells a m at is)))
     (λ is. spans_holds a m at (g (spans_tells b n at is)))
 
--- a run, and the one that follows it
+-- a span, and the one that follows it
 times_both : (from at : ℤ) (long more : ℕ) → times_among from (long + more) at
     ≡ times_among from long at + times_among (from +ℤ pos long) more at
 times_both from at long more = by_lt_z at (from +ℤ pos long)
@@ -113,7 +113,7 @@ times_both from at long more = by_lt_z at (from +ℤ pos long)
     let before : spans from long at ≡ false = spans_nowhere from long at (λ is. omega (arith, ints)) in
     rw (here, before) (omega arith))
 
--- a run round a cut
+-- a span round a cut
 pub times_round : (from again cut behind at : ℤ) (long before within after : ℕ) → again ≡ from
     → cut ≡ from +ℤ pos before → behind ≡ cut +ℤ pos within
     → long ≡ before + (within + after)

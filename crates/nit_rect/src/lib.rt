@@ -12,7 +12,7 @@ mod limits;
 mod memory;
 mod point;
 mod rect;
-mod run;
+mod span;
 mod strips;
 
 pub use limits::{

@@ -5,7 +5,7 @@ ghost use Rattle.nit_rect.specs.Terms.{spans};
 
 use crate::limits::{FIRST_PLACE, LAST_PLACE, MOST_LENGTH};
 use crate::point::Point;
-use crate::run::Run;
+use crate::span::Span;
 use crate::strips::Strips;
 use std::marker::Model;
 
@@ -74,7 +74,7 @@ impl Rect {
                 h: 0,
             };
         }
-        of_runs(columns, rows)
+        of_spans(columns, rows)
     }
 
     /// Whether `r` covers every pixel of this rectangle. One without pixels is inside all others.
@@ -107,28 +107,28 @@ impl Rect {
         let columns = wide.without(cut_wide);
         let rows = high.without(cut_high);
         Strips {
-            top: of_runs(wide, rows.before),
-            left: of_runs(columns.before, cut_high),
-            right: of_runs(columns.after, cut_high),
-            bottom: of_runs(wide, rows.after),
+            top: of_spans(wide, rows.before),
+            left: of_spans(columns.before, cut_high),
+            right: of_spans(columns.after, cut_high),
+            bottom: of_spans(wide, rows.after),
         }
     }
 
-    fn columns(&self) -> Run
+    fn columns(&self) -> Span
         ensures from { result.from ≡ self.now.x }
         ensures long { result.long ≡ self.now.w }
     {
-        Run {
+        Span {
             from: self.x,
             long: self.w,
         }
     }
 
-    fn rows(&self) -> Run
+    fn rows(&self) -> Span
         ensures from { result.from ≡ self.now.y }
         ensures long { result.long ≡ self.now.h }
     {
-        Run {
+        Span {
             from: self.y,
             long: self.h,
         }
@@ -168,7 +168,7 @@ impl Rect {
 }
 
 /// The rectangle of these columns and rows.
-fn of_runs(columns: Run, rows: Run) -> Rect
+fn of_spans(columns: Span, rows: Span) -> Rect
     ensures { result ≡ rectangle columns.from rows.from columns.long rows.long }
 {
     Rect {

@@ -18,7 +18,7 @@ pub use Rattle.nit_events.specs.declared.event.Status.TheVariants.{Closed, Kille
 pub use Rattle.nit_glyph.specs.Texts.{is_label, is_label_byte}
 pub use Rattle.nit_rect.specs.Limits.{most_height, most_width}
 pub use Rattle.nit_rect.specs.Options.{Gives}
-pub use Rattle.nit_report.specs.declared.drawn_lines.Part.{Part}
+pub use Rattle.nit_report.specs.declared.drawn_lines.BufferPart.{BufferPart}
 pub use Rattle.nit_report.specs.declared.error.JournalError.{JournalError}
 pub use Rattle.nit_report.specs.declared.error.JournalError.TheVariants.{Bad, NoMemory}
 pub use Rattle.nit_report.specs.declared.events.Ending.{Ending}

@@ -65,7 +65,7 @@ pub fn backdrop(stream: &mut Stream) -> Line
 }
 
 /// A part of the buffer.
-pub struct Part {
+pub struct BufferPart {
     x: u32,
     y: u32,
     w: u32,
@@ -73,7 +73,7 @@ pub struct Part {
 }
 
 #[tactic(auto, unfolding(crate::specs::Generator::some_part))]
-fn some_part(stream: &mut Stream) -> Part
+fn some_part(stream: &mut Stream) -> BufferPart
     ensures drawn { Draws some_part stream.old result stream.new }
     ensures within { (result.x < 128) × (result.y < 96) }
 {
@@ -81,14 +81,14 @@ fn some_part(stream: &mut Stream) -> Part
     let y = stream.draw(BUFFER.1);
     let w = 1 + stream.draw(PARTS.0);
     let h = 1 + stream.draw(PARTS.1);
-    Part { x, y, w, h }
+    BufferPart { x, y, w, h }
 }
 
 /// A part of the buffer in one colour.
 pub fn filled(stream: &mut Stream) -> Line
     ensures { Draws filled stream.old result stream.new }
 {
-    let Part { x, y, w, h } = some_part(stream);
+    let BufferPart { x, y, w, h } = some_part(stream);
     let c = colour(stream);
     Line::Stroke(Stroke::Fill { x, y, w, h, c })
 }
@@ -97,7 +97,7 @@ pub fn filled(stream: &mut Stream) -> Line
 pub fn checked(stream: &mut Stream) -> Line
     ensures { Draws checked stream.old result stream.new }
 {
-    let Part { x, y, w, h } = some_part(stream);
+    let BufferPart { x, y, w, h } = some_part(stream);
     let c = colour(stream);
     let d = colour(stream);
     Line::Stroke(Stroke::Check { x, y, w, h, c, d })
@@ -107,7 +107,7 @@ pub fn checked(stream: &mut Stream) -> Line
 pub fn refreshed(stream: &mut Stream) -> Line
     ensures { Draws refreshed stream.old result stream.new }
 {
-    let Part { x, y, w, h } = some_part(stream);
+    let BufferPart { x, y, w, h } = some_part(stream);
     Line::Call(Call::Refresh(x as i32, y as i32, w, h))
 }
 

@@ -7,7 +7,7 @@ pub use Rattle.nit_plan.proofs.ForCallers.{row_added, rows_done, unchanged}
 pub use Rattle.nit_report.proofs.ForCallers.{all_append, few_digits}
 pub use Rattle.nit_rounds.specs.Terms.{Action, ActorLine, Acts, AllByRecursion, AreBehind}
 pub use Rattle.nit_rounds.specs.Terms.{AreLoaded, ArePlaces, AreQuiet, AreQuietBut, AreRaw}
-pub use Rattle.nit_rounds.specs.Terms.{AreRoundsOf, AreShotsOf, Area, Bare, Black, Buffer, ByClient}
+pub use Rattle.nit_rounds.specs.Terms.{AreRoundsOf, AreShotsOf, BufferArea, Bare, Black, Buffer, ByClient}
 pub use Rattle.nit_rounds.specs.Terms.{ByUser, Call, Calls, Client, Configuration, Device, Does}
 pub use Rattle.nit_rounds.specs.Terms.{Drawing, Entry, File, Fill, FitsInto, HasTurn, InputLine}
 pub use Rattle.nit_rounds.specs.Terms.{IsAtTurn, IsBehind, IsBehindBy, IsButFor, IsConfiguration}
@@ -17,7 +17,7 @@ pub use Rattle.nit_rounds.specs.Terms.{IsOpen, IsPaintedTo, IsPlanOf, IsPlanned,
 pub use Rattle.nit_rounds.specs.Terms.{IsRecorded, IsRoundsRun, IsSetUp, IsShowing, IsTrue}
 pub use Rattle.nit_rounds.specs.Terms.{IsUnderWay, IsUserRecorded, IsUtf8, IsWhole, IsWordOfSource}
 pub use Rattle.nit_rounds.specs.Terms.{LegalFrom, Line, LineTurn, Motion, None, NoneHas, Option}
-pub use Rattle.nit_rounds.specs.Terms.{Painted, Painting, PixelSource, Place, Places, PlanModel}
+pub use Rattle.nit_rounds.specs.Terms.{Painted, Painting, PixelSource, LinePlace, Places, PlanModel}
 pub use Rattle.nit_rounds.specs.Terms.{Point, PutState, PutsAll, PutsNext, Refresh, Reply, Routed}
 pub use Rattle.nit_rounds.specs.Terms.{SceneModel, Shoots, ShotFrame, ShotsBehind, ShowsEach}
 pub use Rattle.nit_rounds.specs.Terms.{ShowsLine, Sight, Size, Some, Stale, StandsAt, State, Step}

@@ -1,5 +1,5 @@
 -- A glass of which the words of an area become those of another one.
-use Rattle.nit_rounds.proofs.Basics.{Area, Bool, Fill, List, SceneModel, Sight, Stroke, above}
+use Rattle.nit_rounds.proofs.Basics.{BufferArea, Bool, Fill, List, SceneModel, Sight, Stroke, above}
 use Rattle.nit_rounds.proofs.Basics.{alike, ap, arith, before_row, changed, false, for_any}
 use Rattle.nit_rounds.proofs.Basics.{get_or-set_same, glass_in, is_between, is_number_in, length}
 use Rattle.nit_rounds.proofs.Basics.{nat_lt, nat_tests, no_sight, none_begun, refl, row_added}
@@ -11,40 +11,40 @@ use Rattle.std.proofs.Common.{set, sym, true, ℕ, ◌%◌, ◌&&◌, ◌*◌, �
 -- ---- words
 
 -- the area as a stroke
-abbrev as_stroke : Area → Stroke
+abbrev as_stroke : BufferArea → Stroke
 as_stroke a = Fill a.x a.y a.w a.h 0
 
 -- the words of the rows above one become these
-abbrev pub rows_to : ℕ → Area → (ℕ → ℕ) → ℕ → List ℕ → List ℕ
+abbrev pub rows_to : ℕ → BufferArea → (ℕ → ℕ) → ℕ → List ℕ → List ℕ
 rows_to w a c j words = set_where (above w (a.y + a.h) (as_stroke a) j) c words
 
 -- the place lies in this row of the area
-abbrev is_in_row : ℕ → Area → ℕ → ℕ → Bool
+abbrev is_in_row : ℕ → BufferArea → ℕ → ℕ → Bool
 is_in_row w a j = is_between (j * w + a.x) (j * w + a.x + a.w)
 
-no_row : (w : ℕ) (a : Area) (c : ℕ → ℕ) (words : List ℕ) → words ≡ rows_to w a c a.y words
+no_row : (w : ℕ) (a : BufferArea) (c : ℕ → ℕ) (words : List ℕ) → words ≡ rows_to w a c a.y words
 no_row w a c words = none_begun w (a.y + a.h) (as_stroke a) a.x a.y a.w a.h c words (λ i j. refl)
 
-next_row : (w : ℕ) (a : Area) (c : ℕ → ℕ) (j : ℕ) (words : List ℕ) → a.x + a.w ≤ w → a.y ≤ j → j < a.y + a.h
+next_row : (w : ℕ) (a : BufferArea) (c : ℕ → ℕ) (j : ℕ) (words : List ℕ) → a.x + a.w ≤ w → a.y ≤ j → j < a.y + a.h
     → set_where (is_in_row w a j) c (rows_to w a c j words) ≡ rows_to w a c (j + 1) words
 next_row w a c j words columns from below =
     ap (λ (right : ℕ). set_where (is_between (j * w + a.x) right) c (rows_to w a c j words)) (omega arith)
     ∙ row_added w (a.y + a.h) (as_stroke a) a.x a.y a.w a.h j c words (λ k l. refl) from below below
 
-in_area : (w : ℕ) (a : Area) (n : ℕ) → a.x + a.w ≤ w → is_number_in w a n ≡ true → n < w * (a.y + a.h)
+in_area : (w : ℕ) (a : BufferArea) (n : ℕ) → a.x + a.w ≤ w → is_number_in w a n ≡ true → n < w * (a.y + a.h)
 in_area w a n columns is =
     let across : n % w < a.x + a.w = grind (arith, nat_tests) in
     let down : n / w < a.y + a.h = grind (arith, nat_tests) in
     omega (arith, before_row n w (a.y + a.h) (omega arith) down)
 
-whole_area : (w : ℕ) (a : Area) (n : ℕ) → a.x + a.w ≤ w → whole w (a.y + a.h) (as_stroke a) n ≡ is_number_in w a n
+whole_area : (w : ℕ) (a : BufferArea) (n : ℕ) → a.x + a.w ≤ w → whole w (a.y + a.h) (as_stroke a) n ≡ is_number_in w a n
 whole_area w a n columns = go (is_number_in w a n) refl
   where
     go : (b : Bool) → is_number_in w a n ≡ b → (nat_lt n (w * (a.y + a.h)) && b) ≡ b
     go false is = grind (arith, nat_tests)
     go true is = let inside = in_area w a n columns is in grind (arith, nat_tests)
 
-all_rows : (w : ℕ) (a : Area) (c : ℕ → ℕ) (j : ℕ) (words : List ℕ) → a.x + a.w ≤ w → a.y + a.h ≤ j
+all_rows : (w : ℕ) (a : BufferArea) (c : ℕ → ℕ) (j : ℕ) (words : List ℕ) → a.x + a.w ≤ w → a.y + a.h ≤ j
     → rows_to w a c j words ≡ set_where (is_number_in w a) c words
 all_rows w a c j words columns done =
     rows_done w (a.y + a.h) (as_stroke a) a.x a.y a.w a.h j c words (λ k l. refl) (omega arith)
@@ -66,14 +66,14 @@ pub glass_there : (s now : SceneModel Sight) (sid : ℕ) (g : Sight) → now ≡
 glass_there s now sid g is inside = ap (λ (p : SceneModel Sight). glass_in p.glasses sid) is
     ∙ get_or-set_same s.glasses sid g no_sight inside
 
-pub begun : (s : SceneModel Sight) (sid w : ℕ) (a : Area) (c : ℕ → ℕ)
+pub begun : (s : SceneModel Sight) (sid w : ℕ) (a : BufferArea) (c : ℕ → ℕ)
     → s ≡ with_glass_of s sid (with_words (rows_to w a c a.y) (glass_in s.glasses sid))
 begun s sid w a c =
     let g = glass_in s.glasses sid in
     same_glass s sid _ (sym (unchanged (rows_to w a c a.y) g
     (for_any (λ words. words ≡ rows_to w a c a.y words) g.words (no_row w a c))))
 
-pub row_drawn : (s now later : SceneModel Sight) (sid w : ℕ) (a : Area) (c : ℕ → ℕ) (j : ℕ) → sid < length s.glasses
+pub row_drawn : (s now later : SceneModel Sight) (sid w : ℕ) (a : BufferArea) (c : ℕ → ℕ) (j : ℕ) → sid < length s.glasses
     → a.x + a.w ≤ w → a.y ≤ j → j < a.y + a.h
     → now ≡ with_glass_of s sid (with_words (rows_to w a c j) (glass_in s.glasses sid))
     → later ≡ with_glass_of now sid (with_words (set_where (is_in_row w a j) c) (glass_in now.glasses sid))
@@ -92,7 +92,7 @@ row_drawn s now later sid w a c j within columns from below was drew =
     ∙ ap (λ (p : SceneModel Sight). with_glass_of p sid after) was
     ∙ ap (λ (gs : List Sight). record s { glasses = gs }) (set-set s.glasses sid before after)
 
-pub all_drawn : (s now : SceneModel Sight) (sid w : ℕ) (a : Area) (c : ℕ → ℕ) (j : ℕ) → a.x + a.w ≤ w → a.y + a.h ≤ j
+pub all_drawn : (s now : SceneModel Sight) (sid w : ℕ) (a : BufferArea) (c : ℕ → ℕ) (j : ℕ) → a.x + a.w ≤ w → a.y + a.h ≤ j
     → now ≡ with_glass_of s sid (with_words (rows_to w a c j) (glass_in s.glasses sid))
     → now ≡ with_glass_of s sid (with_words (set_where (is_number_in w a) c) (glass_in s.glasses sid))
 all_drawn s now sid w a c j columns done was =

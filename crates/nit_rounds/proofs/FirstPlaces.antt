@@ -1,6 +1,6 @@
 -- All actors stand at their first lines: nothing is done yet.
 use Rattle.nit_rounds.specs.Places.{left_from}
-use Rattle.nit_rounds.proofs.Basics.{ActorLine, ArePlaces, InputLine, Line, LineTurn, List, Place}
+use Rattle.nit_rounds.proofs.Basics.{ActorLine, ArePlaces, InputLine, Line, LineTurn, List, LinePlace}
 use Rattle.nit_rounds.proofs.Basics.{Places, StandsAt, [], actors, ap, arith, flat_map}
 use Rattle.nit_rounds.proofs.Basics.{get_or-replicate, in_phase, lefts, length, map, phase_count}
 use Rattle.nit_rounds.proofs.Basics.{phase_rounds, range_with_len, refl, replicate, rounds}
@@ -10,7 +10,7 @@ use Rattle.nit_rounds.proofs.Scripts.{below}
 use Rattle.nit_rounds.proofs.PlaceLemmas.{actors_long}
 use Rattle.nit_rounds.proofs.PhaseRest.{at_begin}
 
-abbrev first_place : Place
+abbrev first_place : LinePlace
 first_place = record { line = 0; phase = 0 }
 
 abbrev pub at_first : Places
@@ -29,7 +29,7 @@ kept_first scripts input few =
       long = refl;
       actor = omega arith;
       phase = omega arith;
-      stand = λ k d inside. subst (λ (p : Place). StandsAt (phase_count scripts input) 0 p (script_of scripts input k))
+      stand = λ k d inside. subst (λ (p : LinePlace). StandsAt (phase_count scripts input) 0 p (script_of scripts input k))
           (sym (get_or-replicate 17 k first_place d (omega arith))) (stands_first scripts input k);
     }
 

@@ -1,5 +1,5 @@
 -- A line of a script, done on the own glass of its session.
-use Rattle.nit_rounds.proofs.Basics.{Area, FitsInto, IsDonation, IsPaintedTo, IsPlanOf, Line, List}
+use Rattle.nit_rounds.proofs.Basics.{BufferArea, FitsInto, IsDonation, IsPaintedTo, IsPlanOf, Line, List}
 use Rattle.nit_rounds.proofs.Basics.{None, PlanModel, Sight, Some, Step, ap, ap₂, arith, false}
 use Rattle.nit_rounds.proofs.Basics.{get_or, get_or_from_slice_get, glass_after, ink, is_set_by}
 use Rattle.nit_rounds.proofs.Basics.{mul-le-mul_right, plan_of_script, refl, slice_index, static}
@@ -62,7 +62,7 @@ step_there have script donation k plan steps d l of are here =
 pub fits : AreLong → AreWithin
     → ((script : List Line) (donation k : ℕ) → donation ≤ 8388608 → (static script donation k).bw ≤ 4096)
     → ((script : List Line) (donation k : ℕ) → donation ≤ 8388608 → (static script donation k).bh ≤ 4096)
-    → (t : ℕ) (script : List Line) (donation k : ℕ) (l : Line) (step : Step) (area : Area) (own : Sight)
+    → (t : ℕ) (script : List Line) (donation k : ℕ) (l : Line) (step : Step) (area : BufferArea) (own : Sight)
     → donation ≤ 8388608 → step ≡ step_of (static script donation k) (static script donation (k + 1)) l
     → area.x + area.w ≤ step.w → area.y + area.h ≤ step.h → own ≡ glass_after t script donation (k + 1)
     → FitsInto own.size (record { sid = t; w = step.w; area = area })

@@ -1,7 +1,7 @@
 -- How the actors go on: to the next one with a line to do, into a new round, into a new phase.
 use Rattle.nit_rounds.proofs.Basics.{ActorLine, AllByRecursion, ArePlaces, Bool, ByClient, ByUser}
 use Rattle.nit_rounds.proofs.Basics.{HasTurn, InputLine, IsAtTurn, Line, LineTurn, List, NoneHas}
-use Rattle.nit_rounds.proofs.Basics.{Place, Places, Some, StandsAt, [], actors, add-one, ap, arith}
+use Rattle.nit_rounds.proofs.Basics.{LinePlace, Places, Some, StandsAt, [], actors, add-one, ap, arith}
 use Rattle.nit_rounds.proofs.Basics.{cases_eq, cases_lt, ends_phase, false, get_or, get_or-map}
 use Rattle.nit_rounds.proofs.Basics.{get_or-set_other, get_or-set_same, get_or_default, in_phase}
 use Rattle.nit_rounds.proofs.Basics.{inl, inr, is_active, left_at, left_from, lefts, length}
@@ -22,7 +22,7 @@ use Rattle.nit_rounds.proofs.PlaceLemmas.{not_in_phase, left_first, step_stands,
 abbrev all_left : List (List Line) → List InputLine → Places → List (List LineTurn)
 all_left scripts input at = lefts at.places (actors scripts input)
 
-abbrev first_place : Place
+abbrev first_place : LinePlace
 first_place = record { line = 0; phase = 0 }
 
 all_long : (scripts : List (List Line)) (input : List InputLine) (at : Places) → ArePlaces scripts input at
@@ -34,7 +34,7 @@ all_long scripts input at kept =
     lefts_long at.places (actors scripts input) (omega arith) ∙ long
 
 left_by : (scripts : List (List Line)) (input : List InputLine) (at : Places) → ArePlaces scripts input at
-    → (k : ℕ) (d : Place) → k ≤ length scripts → get_or (all_left scripts input at) k []
+    → (k : ℕ) (d : LinePlace) → k ≤ length scripts → get_or (all_left scripts input at) k []
     ≡ left_at (get_or at.places k d) (script_of scripts input k)
 left_by scripts input at kept k d inside =
     let few : length scripts ≤ 16 = kept.few in
@@ -203,7 +203,7 @@ all_done scripts input at kept none next =
 
 -- ---- the present actor does its line
 
-abbrev pub at_step : Places → Bool → Place → Places
+abbrev pub at_step : Places → Bool → LinePlace → Places
 at_step at ends place = record {
   places = set at.places at.actor (stepped place ends);
   phase = at.phase;
@@ -212,7 +212,7 @@ at_step at ends place = record {
 }
 
 -- the line at the present actor's place
-abbrev pub line_at : List (List Line) → List InputLine → Places → Place → ActorLine
+abbrev pub line_at : List (List Line) → List InputLine → Places → LinePlace → ActorLine
 line_at scripts input at place = get_or (script_of scripts input at.actor) place.line (ByUser input_line.Shot)
 
 -- the actors stand behind a move that was done
@@ -222,7 +222,7 @@ pub record IsBehind (scripts : List (List Line)) (input : List InputLine) (at no
     pub left : turns_left scripts input at ≡ m ∷ turns_left scripts input now
 
 pub step_place : (scripts : List (List Line)) (input : List InputLine) (at : Places) → ArePlaces scripts input at
-    → IsAtTurn scripts input at → (place : Place) → place ≡ get_or at.places at.actor place →
+    → IsAtTurn scripts input at → (place : LinePlace) → place ≡ get_or at.places at.actor place →
     IsBehind scripts input at (at_step at (ends_phase (line_at scripts input at place)) place)
     (record { phase = place.phase; number = place.line; doing = line_at scripts input at place })
 step_place scripts input at kept turn place is =
@@ -231,16 +231,16 @@ step_place scripts input at kept turn place is =
     let inside : at.actor ≤ length scripts = turn.0 in
     let long : length (all_left scripts input at) ≡ length scripts + 1 = all_long scripts input at kept in
     let active : is_active at.phase place (script_of scripts input at.actor) ≡ true =
-    subst (λ (p : Place). is_active at.phase p (script_of scripts input at.actor) ≡ true) (sym is) (turn.1 place) in
+    subst (λ (p : LinePlace). is_active at.phase p (script_of scripts input at.actor) ≡ true) (sym is) (turn.1 place) in
     let parts = active_parts at.phase place (script_of scripts input at.actor) active in
     let stands : StandsAt (phase_count scripts input) at.phase place (script_of scripts input at.actor) =
-    subst (λ (p : Place). StandsAt (phase_count scripts input) at.phase p (script_of scripts input at.actor))
+    subst (λ (p : LinePlace). StandsAt (phase_count scripts input) at.phase p (script_of scripts input at.actor))
     (sym is) (kept.stand at.actor place inside) in
     let has : get_or (all_left scripts input at) at.actor []
     ≡ record { phase = place.phase; number = place.line; doing = line_at scripts input at place }
     ∷ left_at (stepped place (ends_phase (line_at scripts input at place))) (script_of scripts input at.actor) =
     left_by scripts input at kept at.actor place inside
-    ∙ ap (λ (p : Place). left_at p (script_of scripts input at.actor)) (sym is)
+    ∙ ap (λ (p : LinePlace). left_at p (script_of scripts input at.actor)) (sym is)
     ∙ left_first place (script_of scripts input at.actor) (ByUser input_line.Shot) parts.1 in
     record {
       kept = record {
@@ -254,14 +254,14 @@ step_place scripts input at kept turn place is =
                   subst (λ (j : ℕ). StandsAt (phase_count scripts input) at.phase
                   (get_or (set at.places at.actor (stepped place (ends_phase (line_at scripts input at place)))) j
                   d) (script_of scripts input j)) (sym same)
-                  (subst (λ (p : Place). StandsAt (phase_count scripts input) at.phase p
+                  (subst (λ (p : LinePlace). StandsAt (phase_count scripts input) at.phase p
                   (script_of scripts input at.actor))
                   (sym (get_or-set_same at.places at.actor (stepped place (ends_phase (line_at scripts input at place)))
                   d (omega arith)))
                   (step_stands (phase_count scripts input) at.phase place (script_of scripts input at.actor)
                   (ByUser input_line.Shot) parts.1 parts.0 stands))
               | inr other ↦
-                  subst (λ (p : Place). StandsAt (phase_count scripts input) at.phase p (script_of scripts input k))
+                  subst (λ (p : LinePlace). StandsAt (phase_count scripts input) at.phase p (script_of scripts input k))
                   (sym (get_or-set_other at.places at.actor k
                   (stepped place (ends_phase (line_at scripts input at place))) d other)) (kept.stand k d below_)
             ];
@@ -280,7 +280,7 @@ step_place scripts input at kept turn place is =
     }
 
 -- the place at which the present actor stands
-abbrev present : Places → Place
+abbrev present : Places → LinePlace
 present at = get_or at.places at.actor first_place
 
 present_inside : (scripts : List (List Line)) (input : List InputLine) (at : Places) → IsAtTurn scripts input at
@@ -292,7 +292,7 @@ pub step_ends : (scripts : List (List Line)) (input : List InputLine) (at : Plac
     → IsAtTurn scripts input at → (ends : Bool)
     → ((d : ActorLine) → slice_get (script_of scripts input at.actor) (present at).line ≡ Some d → ends ≡ ends_phase d)
     →
-    (after : Place) → after ≡ stepped (present at) ends →
+    (after : LinePlace) → after ≡ stepped (present at) ends →
     IsBehind scripts input at (record { places = set at.places at.actor after; phase = at.phase; actor = at.actor + 1 })
     (record {
       phase = (present at).phase;
@@ -308,7 +308,7 @@ step_ends scripts input at kept turn ends told after is =
     let same : ends ≡ ends_phase (line_at scripts input at (present at)) =
     told (line_at scripts input at (present at))
     (slice_get-get_or (script_of scripts input at.actor) (present at).line (ByUser input_line.Shot) inner) in
-    subst (λ (p : Place). IsBehind scripts input at
+    subst (λ (p : LinePlace). IsBehind scripts input at
     (record { places = set at.places at.actor p; phase = at.phase; actor = at.actor + 1 })
     (record {
       phase = (present at).phase;

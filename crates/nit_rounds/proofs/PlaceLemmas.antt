@@ -1,6 +1,6 @@
 -- Actors at places of their scripts: what each has left, and how places go on.
 use Rattle.nit_rounds.proofs.Basics.{ActorLine, AllByRecursion, Bool, ByClient, ByUser, InputLine}
-use Rattle.nit_rounds.proofs.Basics.{Line, LineTurn, List, Place, Some, StandsAt, [], actors}
+use Rattle.nit_rounds.proofs.Basics.{Line, LineTurn, List, LinePlace, Some, StandsAt, [], actors}
 use Rattle.nit_rounds.proofs.Basics.{add-one, and_parts, ap, ap₂, arith, cases_eq, cases_lt}
 use Rattle.nit_rounds.proofs.Basics.{clients_from, cond, drop, drop_all, drop_more, ends_phase}
 use Rattle.nit_rounds.proofs.Basics.{eq-eqb, eqb-true, false, false≢true, get_or, get_or_default}
@@ -82,21 +82,21 @@ actors_long scripts input = length-append (clients_from 0 scripts) (map ByUser i
 
 -- ---- what each actor has left
 
-pub get_lefts : (k : ℕ) (places : List Place) (all : List (List ActorLine)) (d : Place) → k < length places
+pub get_lefts : (k : ℕ) (places : List LinePlace) (all : List (List ActorLine)) (d : LinePlace) → k < length places
     → k < length all → get_or (lefts places all) k [] ≡ left_at (get_or places k d) (get_or all k [])
 get_lefts k [] all d h hs = absurd (omega arith)
 get_lefts k (p ∷ places) [] d h hs = absurd (omega arith)
 get_lefts zero (p ∷ places) (ds ∷ all) d h hs = refl
 get_lefts (suc k) (p ∷ places) (ds ∷ all) d h hs = get_lefts k places all d (omega arith) (omega arith)
 
-pub lefts_long : (places : List Place) (all : List (List ActorLine)) → length all ≤ length places
+pub lefts_long : (places : List LinePlace) (all : List (List ActorLine)) → length all ≤ length places
     → length (lefts places all) ≡ length all
 lefts_long [] [] h = refl
 lefts_long [] (ds ∷ all) h = absurd (omega arith)
 lefts_long (p ∷ places) [] h = refl
 lefts_long (p ∷ places) (ds ∷ all) h = ap (λ (n : ℕ). suc n) (lefts_long places all (omega arith))
 
-pub set_lefts : (k : ℕ) (place : Place) (places : List Place) (all : List (List ActorLine))
+pub set_lefts : (k : ℕ) (place : LinePlace) (places : List LinePlace) (all : List (List ActorLine))
     → set (lefts places all) k (left_at place (get_or all k [])) ≡ lefts (set places k place) all
 set_lefts k place [] all = refl
 set_lefts zero place (p ∷ places) [] = refl
@@ -107,22 +107,22 @@ set_lefts (suc k) place (p ∷ places) (ds ∷ all) =
 
 -- ---- who has a line to do
 
-pub active_parts : (phase : ℕ) (place : Place) (ds : List ActorLine) → is_active phase place ds ≡ true
+pub active_parts : (phase : ℕ) (place : LinePlace) (ds : List ActorLine) → is_active phase place ds ≡ true
     → (place.phase ≡ phase) × (place.line < length ds)
 active_parts phase place ds e =
     let both = and_parts (place.phase == phase) (nat_lt place.line (length ds)) e in
     (eqb-true place.phase phase both.0, ltb-true place.line (length ds) both.1)
 
-is_active_at : (phase : ℕ) (place : Place) (ds : List ActorLine) → place.phase ≡ phase → place.line < length ds
+is_active_at : (phase : ℕ) (place : LinePlace) (ds : List ActorLine) → place.phase ≡ phase → place.line < length ds
     → is_active phase place ds ≡ true
 is_active_at phase place ds same inside = rw (eq-eqb place.phase phase same, lt-ltb place.line (length ds) inside) refl
 
-pub not_in_phase : (phase : ℕ) (place : Place) (ds : List ActorLine) → is_active phase place ds ≡ false
+pub not_in_phase : (phase : ℕ) (place : LinePlace) (ds : List ActorLine) → is_active phase place ds ≡ false
     → place.line < length ds → place.phase ≡ phase → ⊥
 not_in_phase phase place ds idle inside same = false≢true (sym idle ∙ is_active_at phase place ds same inside)
 
 -- an actor without a line to do has no move in the phase
-pub idle : (phase : ℕ) (place : Place) (ds : List ActorLine) → is_active phase place ds ≡ false
+pub idle : (phase : ℕ) (place : LinePlace) (ds : List ActorLine) → is_active phase place ds ≡ false
     → (place.line < length ds → phase ≤ place.phase) → in_phase phase (left_at place ds) ≡ []
 idle phase place ds none reached =
     elim (cases_lt place.line (length ds)) [
@@ -137,7 +137,7 @@ idle phase place ds none reached =
           (drop_all place.line ds past)
     ]
 
-pub nothing_more : (place : Place) (ds : List ActorLine) → length ds ≤ place.line → left_at place ds ≡ []
+pub nothing_more : (place : LinePlace) (ds : List ActorLine) → length ds ≤ place.line → left_at place ds ≡ []
 nothing_more place ds past = ap (turns_from place.phase place.line) (drop_all place.line ds past)
 
 -- ---- a step
@@ -146,7 +146,7 @@ on_by_one : (b : Bool) (p : ℕ) → cond b (suc p) p ≡ cond b (p + 1) p
 on_by_one true p = sym (add-one p)
 on_by_one false p = refl
 
-pub left_first : (place : Place) (ds : List ActorLine) (d : ActorLine) → place.line < length ds →
+pub left_first : (place : LinePlace) (ds : List ActorLine) (d : ActorLine) → place.line < length ds →
     left_at place ds ≡ record { phase = place.phase; number = place.line; doing = get_or ds place.line d }
     ∷ left_at (stepped place (ends_phase (get_or ds place.line d))) ds
 left_first place ds d inside =
@@ -159,7 +159,7 @@ stepped_up : (b : Bool) (p : ℕ) → (p ≤ cond b (p + 1) p) × (cond b (p + 1
 stepped_up true p = (omega arith, omega arith)
 stepped_up false p = (omega arith, omega arith)
 
-pub step_stands : (count phase : ℕ) (place : Place) (ds : List ActorLine) (d : ActorLine) → place.line < length ds
+pub step_stands : (count phase : ℕ) (place : LinePlace) (ds : List ActorLine) (d : ActorLine) → place.line < length ds
     → place.phase ≡ phase → StandsAt count phase place ds
     → StandsAt count phase (stepped place (ends_phase (get_or ds place.line d))) ds
 step_stands count phase place ds d inside same stands =
@@ -175,7 +175,7 @@ step_stands count phase place ds d inside same stands =
     record { reached = λ _. omega arith; near = λ _. omega arith; small = omega arith; within = parts.1 }
 
 -- the phase ends for an actor that has no line to do in it
-pub phase_stands : (count phase : ℕ) (place : Place) (ds : List ActorLine) → is_active phase place ds ≡ false
+pub phase_stands : (count phase : ℕ) (place : LinePlace) (ds : List ActorLine) → is_active phase place ds ≡ false
     → StandsAt count phase place ds → StandsAt count (phase + 1) place ds
 phase_stands count phase place ds none stands =
     record {

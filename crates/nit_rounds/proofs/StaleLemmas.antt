@@ -1,5 +1,5 @@
 -- A scene's glass that is behind the own one of its session, and how it is brought on.
-use Rattle.nit_rounds.proofs.Basics.{AreBehind, Area, Bool, IsBehind, IsBehindBy, IsButFor}
+use Rattle.nit_rounds.proofs.Basics.{AreBehind, BufferArea, Bool, IsBehind, IsBehindBy, IsButFor}
 use Rattle.nit_rounds.proofs.Basics.{IsDonation, Line, List, None, Option, SceneModel, Sight, Some}
 use Rattle.nit_rounds.proofs.Basics.{Stale, Step, ap, cases_lt, cond, ext_get_or, false}
 use Rattle.nit_rounds.proofs.Basics.{get_or-set_same, get_or_past, glass_after, glass_in, ink}
@@ -152,7 +152,7 @@ nothing_drawn long stay t script donation k l opens here none =
 
 -- what a line sets is stale too
 pub drawn_but : AreLong → StayElsewhere
-    → (t : ℕ) (script : List Line) (donation k : ℕ) (l : Line) (step : Step) (area : Area) (p : ℕ
+    → (t : ℕ) (script : List Line) (donation k : ℕ) (l : Line) (step : Step) (area : BufferArea) (p : ℕ
     → Bool) (there own own' : Sight) → IsDonation donation → slice_get script k ≡ Some l
     → step ≡ step_of (static script donation k) (static script donation (k + 1)) l
     → ((i j : ℕ) → is_in_area area i j ≡ is_set_by l step i j)

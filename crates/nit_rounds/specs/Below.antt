@@ -26,15 +26,15 @@ pub use Rattle.nit_plan.specs.ScriptWords.{words_after, words_left}
 pub use Rattle.nit_plan.specs.SessionLists.{plan_in, script_in}
 pub use Rattle.nit_plan.specs.Strokes.{is_in_area}
 pub use Rattle.nit_plan.specs.Surface.{IsPaintedTo}
-pub use Rattle.nit_plan.specs.declared.area.Area.{Area}
+pub use Rattle.nit_plan.specs.declared.area.BufferArea.{BufferArea}
 pub use Rattle.nit_plan.specs.declared.plan.Step.{Step}
 pub use Rattle.nit_rect.specs.Limits.{most_height, most_sessions, most_side, most_width}
 pub use Rattle.nit_rect.specs.declared.point.Point.{Point}
 pub use Rattle.nit_report.specs.Picture.{picture, picture_length}
 pub use Rattle.nit_rounds.specs.declared.desk.Desk.{Desk}
 pub use Rattle.nit_rounds.specs.declared.desk.PictureName.{PictureName}
-pub use Rattle.nit_rounds.specs.declared.part.Part.{Part}
-pub use Rattle.nit_rounds.specs.declared.places.Place.{Place}
+pub use Rattle.nit_rounds.specs.declared.part.ClientPart.{ClientPart}
+pub use Rattle.nit_rounds.specs.declared.places.LinePlace.{LinePlace}
 pub use Rattle.nit_rounds.specs.declared.places.Places.{Places}
 pub use Rattle.nit_rounds.specs.declared.stale.Stale.{Stale}
 pub use Rattle.nit_rounds.specs.declared.turn.Turn.{Turn}

@@ -1,6 +1,6 @@
 -- A client's line that is drawn on the own glass of its session.
 use Rattle.std.specs.Prelude.{◌≡◌, ℕ, ◌+◌, ◌<◌, length, Option}
-use Rattle.nit_rounds.specs.Below.{IsDonation, IsPlanOf, Part, SceneModel, Sight, Stale}
+use Rattle.nit_rounds.specs.Below.{IsDonation, IsPlanOf, ClientPart, SceneModel, Sight, Stale}
 use Rattle.nit_rounds.specs.Below.{donation_of, glass_in}
 use Rattle.nit_rounds.specs.RoundsRun.{glass_after}
 use Rattle.nit_rounds.specs.Stale.{IsBehind}
@@ -12,7 +12,7 @@ pub record HasSession (s : SceneModel Sight) (sid : ℕ) : Type 0 where
 
 -- The script has a line of this number, and the plan is that of the script with the session's
 -- opening donation. The lines before it stand on the own glass, and on the scene's but for what is stale.
-pub record CanDraw (s : SceneModel Sight) (part : Part) (number : ℕ) (stale : Option Stale)
+pub record CanDraw (s : SceneModel Sight) (part : ClientPart) (number : ℕ) (stale : Option Stale)
     (glass : Sight) : Type 0 where
   pub there : HasSession s part.sid
   pub line : number < length part.script.now
@@ -22,7 +22,7 @@ pub record CanDraw (s : SceneModel Sight) (part : Part) (number : ℕ) (stale : 
   pub behind : IsBehind stale part.sid (glass_in s.glasses part.sid) glass
 
 -- the line stands on the own glass too, and on the scene's but for what is stale then
-pub record HasDrawn (s s' : SceneModel Sight) (part : Part) (number : ℕ) (stale : Option Stale)
+pub record HasDrawn (s s' : SceneModel Sight) (part : ClientPart) (number : ℕ) (stale : Option Stale)
     (glass : Sight) : Type 0 where
   pub own : glass ≡ glass_after part.sid part.script.now (donation_of s.config part.sid) (number + 1)
   pub behind : IsBehind stale part.sid (glass_in s'.glasses part.sid) glass

@@ -2,7 +2,7 @@
 use Rattle.std.specs.Prelude.{◌≡◌, ℕ, suc, ◌+◌, ◌-◌, ◌<◌, ◌≤◌, ◌==◌, Bool, true, false, ◌&&◌}
 use Rattle.std.specs.Prelude.{nat_lt, List, [], ◌∷◌, ◌++◌, map, length, take, drop, slice_index_or}
 use Rattle.std.specs.Prelude.{if◌then◌else◌, Option, Some, None}
-use Rattle.nit_rounds.specs.Below.{AllByRecursion, InputLine, Line, Place, Places, Turn, flat_map}
+use Rattle.nit_rounds.specs.Below.{AllByRecursion, InputLine, Line, LinePlace, Places, Turn, flat_map}
 use Rattle.nit_rounds.specs.Below.{most_lines, most_sessions, range_with_len}
 use Rattle.nit_rounds.specs.declared.turn.Turn.TheVariants as turn
 use Rattle.nit_rounds.specs.Turn.{ActorLine, ByClient, ByUser, LineTurn, turns_from, actors}
@@ -17,11 +17,11 @@ abbrev pub turn_of : LineTurn → Turn
 turn_of m = turn_by m.doing m.number
 
 -- the moves that an actor has left at its place
-abbrev pub left_at : Place → List ActorLine → List LineTurn
+abbrev pub left_at : LinePlace → List ActorLine → List LineTurn
 left_at place doings = turns_from place.phase place.line (drop place.line doings)
 
 -- the moves that each actor has left
-abbrev pub lefts : List Place → List (List ActorLine) → List (List LineTurn)
+abbrev pub lefts : List LinePlace → List (List ActorLine) → List (List LineTurn)
 lefts [] scripts = []
 lefts (place ∷ places) [] = []
 lefts (place ∷ places) (doings ∷ scripts) = left_at place doings ∷ lefts places scripts
@@ -49,17 +49,17 @@ abbrev pub script_of : List (List Line) → List InputLine → ℕ → List Acto
 script_of scripts input actor = slice_index_or (actors scripts input) actor []
 
 -- the actor has a line that it is to do in this phase
-abbrev pub is_active : ℕ → Place → List ActorLine → Bool
+abbrev pub is_active : ℕ → LinePlace → List ActorLine → Bool
 is_active phase place doings = (place.phase == phase) && nat_lt place.line (length doings)
 
 -- the place behind a line, which ends a phase or does not
-abbrev pub stepped : Place → Bool → Place
+abbrev pub stepped : LinePlace → Bool → LinePlace
 stepped place ends =
     record { line = place.line + 1; phase = if ends then place.phase + 1 else place.phase }
 
 -- An actor with a line left is in the present phase, or has ended it. No line is in a phase that is
 -- not one.
-pub record StandsAt (count phase : ℕ) (place : Place) (doings : List ActorLine) : Type 0 where
+pub record StandsAt (count phase : ℕ) (place : LinePlace) (doings : List ActorLine) : Type 0 where
   pub reached : place.line < length doings → phase ≤ place.phase
   pub near : place.line < length doings → place.phase ≤ suc phase
   pub small : place.phase ≤ place.line
@@ -72,26 +72,26 @@ pub record ArePlaces (scripts : List (List Line)) (input : List InputLine)
   pub long : length at.places ≡ 17
   pub actor : at.actor ≤ length scripts + 1
   pub phase : at.phase ≤ most_lines
-  pub stand : (k : ℕ) (d : Place) → k ≤ length scripts
+  pub stand : (k : ℕ) (d : LinePlace) → k ≤ length scripts
       → StandsAt (phase_count scripts input) at.phase (slice_index_or at.places k d)
       (script_of scripts input k)
 
 -- the actor has a line to do in this phase
-abbrev pub HasTurn : List (List Line) → List InputLine → List Place → ℕ → ℕ → Type 0
+abbrev pub HasTurn : List (List Line) → List InputLine → List LinePlace → ℕ → ℕ → Type 0
 HasTurn scripts input places phase actor =
     (actor ≤ length scripts)
-    × ((d : Place)
+    × ((d : LinePlace)
     → is_active phase (slice_index_or places actor d) (script_of scripts input actor) ≡ true)
-    × ((d : Place) → (slice_index_or places actor d).line < most_lines)
+    × ((d : LinePlace) → (slice_index_or places actor d).line < most_lines)
 
 -- no actor from one up to another, without it, has a line to do in this phase
-abbrev pub NoneHas : List (List Line) → List InputLine → List Place → ℕ → ℕ → ℕ → Type 0
+abbrev pub NoneHas : List (List Line) → List InputLine → List LinePlace → ℕ → ℕ → ℕ → Type 0
 NoneHas scripts input places phase from to =
-    (k : ℕ) (d : Place) → from ≤ k → k < to
+    (k : ℕ) (d : LinePlace) → from ≤ k → k < to
     → is_active phase (slice_index_or places k d) (script_of scripts input k) ≡ false
 
 -- the first actor from a number on that has a line to do in this phase, or none where there is none
-abbrev pub IsFirstActive : List (List Line) → List InputLine → List Place → ℕ → ℕ → Option ℕ
+abbrev pub IsFirstActive : List (List Line) → List InputLine → List LinePlace → ℕ → ℕ → Option ℕ
     → Type 0
 IsFirstActive scripts input places phase from None =
     NoneHas scripts input places phase from (length scripts + 1)

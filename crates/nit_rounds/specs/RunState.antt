@@ -1,7 +1,7 @@
 -- A run by rounds that is under way: what one line leaves, and what holds between two turns.
 use Rattle.std.specs.Prelude.{◌≡◌, ◌≢◌, ℕ, ◌+◌, ◌/◌, ◌%◌, ◌<◌, Bool, true, false, List, [], ◌∷◌}
 use Rattle.std.specs.Prelude.{◌++◌, length, map, slice_index_or, Option, Some, None}
-use Rattle.nit_rounds.specs.Below.{Area, Configuration, Entry, InputLine, IsConfiguration, IsOpen}
+use Rattle.nit_rounds.specs.Below.{BufferArea, Configuration, Entry, InputLine, IsConfiguration, IsOpen}
 use Rattle.nit_rounds.specs.Below.{IsPlanOf, IsWordOfSource, Line, PlanModel, Reply, Routed}
 use Rattle.nit_rounds.specs.Below.{SceneModel, Sight, State, action_of, after, dirty, donation_of}
 use Rattle.nit_rounds.specs.Below.{frame, glass_in, is_in_area, pixel, pixel_count, plan_in}
@@ -25,7 +25,7 @@ abbrev pub AreQuietBut : ℕ → List Sight → Type 0
 AreQuietBut sid glasses = (t : ℕ) → t ≢ sid → (glass_in glasses t).log ≡ None
 
 -- the word of this number is that of a place of the area, where the buffer has w columns
-abbrev pub is_number_in : ℕ → Area → ℕ → Bool
+abbrev pub is_number_in : ℕ → BufferArea → ℕ → Bool
 is_number_in w area n = is_in_area area (n % w) (n / w)
 
 -- a client's line was recorded where it is a call, and nothing was recorded where it is not

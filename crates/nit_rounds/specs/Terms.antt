@@ -1,12 +1,12 @@
 -- The words that clauses use: those that come from outside, and those of this crate.
-pub use Rattle.nit_rounds.specs.Below.{Action, Acts, AllByRecursion, AreRaw, Area, Bare, Black}
+pub use Rattle.nit_rounds.specs.Below.{Action, Acts, AllByRecursion, AreRaw, BufferArea, Bare, Black}
 pub use Rattle.nit_rounds.specs.Below.{Buffer, Call, Calls, Client, Configuration, Device, Does}
 pub use Rattle.nit_rounds.specs.Below.{Entry, File, Fill, FitsInputLine, InputLine, IsConfiguration}
 pub use Rattle.nit_rounds.specs.Below.{IsDevice, IsDonation, IsGlass, IsInked, IsLegal, IsLoaded}
 pub use Rattle.nit_rounds.specs.Below.{IsMember, IsNonDecreasing, IsOpen, IsPaintedTo, IsPlanOf}
 pub use Rattle.nit_rounds.specs.Below.{IsRawOf, IsTrue, IsUtf8, IsWhole, IsWord, IsWordOfSource}
 pub use Rattle.nit_rounds.specs.Below.{LegalFrom, Line, MatchBool, Motion, None, Option, Painted}
-pub use Rattle.nit_rounds.specs.Below.{Painting, PixelSource, Place, Places, PlanModel, Point}
+pub use Rattle.nit_rounds.specs.Below.{Painting, PixelSource, LinePlace, Places, PlanModel, Point}
 pub use Rattle.nit_rounds.specs.Below.{PutState, PutsAll, PutsFile, PutsNext, Refresh, Reply}
 pub use Rattle.nit_rounds.specs.Below.{Routed, SceneModel, Shoots, Sight, Size, Some, Stale, State}
 pub use Rattle.nit_rounds.specs.Below.{Step, Stroke, Turn, User, UserAction, View, Word, action_of}

@@ -4,13 +4,13 @@ ghost use Rattle.std.specs.Prelude.{◌≡◌, ◌+◌, ◌*◌, ◌<◌, ◌≤
 ghost use Rattle.nit_rounds.specs.Terms.{HasSession, glass_in, is_number_in, most_side, set_where};
 ghost use Rattle.nit_rounds.specs.Terms.{told_at, with_words};
 
-use nit_plan::Area;
+use nit_plan::BufferArea;
 use nit_scene::Scene;
 use nit_word::Inked;
 
 /// Sets the words of the area's places in the scene's glass for the session to those of its own
 /// glass, which has the same ink. The buffer has `w` columns, and all places of the area.
-pub(crate) fn copy_area(scene: &mut Scene<Inked>, sid: u32, own: &Inked, w: u32, area: Area)
+pub(crate) fn copy_area(scene: &mut Scene<Inked>, sid: u32, own: &Inked, w: u32, area: BufferArea)
     requires session { HasSession scene.old sid }
     requires wide { w ≤ most_side }
     requires tall { area.y + area.h ≤ most_side }

@@ -3,7 +3,7 @@
 ghost use Rattle.std.specs.Prelude.{◌≡◌, ◌<◌, ℕ, false, slice_set};
 ghost use Rattle.nit_rounds.specs.Terms.{CanDraw, HasDrawn, Step, glass_in, is_set_by};
 
-use crate::part::Part;
+use crate::part::ClientPart;
 use crate::stale::{Stale, add};
 use nit_events::Call;
 use nit_plan::laws::{buffer_within_table, one_more_line, other_places_stay, step_of_a_line};
@@ -18,7 +18,7 @@ use nit_word::Inked;
 pub(crate) fn draw_line(
     scene: &mut Scene<Inked>,
     own: &mut Inked,
-    part: Part<'_>,
+    part: ClientPart<'_>,
     line: usize,
     stale: Option<Stale>,
 ) -> Option<Stale>

@@ -2,7 +2,7 @@
 
 ghost use Rattle.std.specs.Prelude.{◌≡◌, ◌≤◌, ◌<◌, ◌+◌, [], length, slice_index_or, slice_get};
 ghost use Rattle.nit_rounds.specs.Terms.{ActorLine, ArePlaces, IsAtTurn, IsFirstActive, IsNextTurn};
-ghost use Rattle.nit_rounds.specs.Terms.{IsTrue, MatchBool, Place, Some, ends_phase, is_active};
+ghost use Rattle.nit_rounds.specs.Terms.{IsTrue, MatchBool, LinePlace, Some, ends_phase, is_active};
 ghost use Rattle.nit_rounds.specs.Terms.{is_input_phase, is_phase, most_lines, most_sessions};
 ghost use Rattle.nit_rounds.specs.Terms.{rounds, script_of, stepped, turns_left};
 
@@ -14,7 +14,7 @@ const ACTORS: usize = 17;
 
 /// Where an actor stands: its next line, and the phase of that line. Both count from 0.
 #[derive(Clone, Copy, Debug)]
-pub struct Place {
+pub struct LinePlace {
     pub line: usize,
     pub phase: usize,
 }
@@ -23,7 +23,7 @@ pub struct Place {
 /// `actor` have had their turn in the present round.
 #[derive(Debug, Drop)]
 pub struct Places {
-    pub places: [Place; ACTORS],
+    pub places: [LinePlace; ACTORS],
     pub phase: usize,
     pub actor: usize,
 }
@@ -69,15 +69,15 @@ fn ends_at(scripts: &[Client], input: &Input, actor: usize, line: usize) -> bool
     }
 }
 
-impl Place {
+impl LinePlace {
     /// The place of the line behind this one, which ends a phase or does not.
-    fn after(self, ends: bool) -> Place
+    fn after(self, ends: bool) -> LinePlace
         requires line { self.line < most_lines }
         requires phase { self.phase ≤ self.line }
         ensures { result ≡ stepped self ends }
     {
         let phase = if ends { self.phase + 1 } else { self.phase };
-        Place {
+        LinePlace {
             line: self.line + 1,
             phase,
         }
@@ -92,7 +92,7 @@ impl Places {
         ensures left { turns_left scripts.now input.now result ≡ rounds scripts.now input.now }
     {
         Places {
-            places: [Place { line: 0, phase: 0 }; ACTORS],
+            places: [LinePlace { line: 0, phase: 0 }; ACTORS],
             phase: 0,
             actor: 0,
         }
@@ -102,9 +102,9 @@ impl Places {
     fn has_line(&self, scripts: &[Client], input: &Input, actor: usize, phase: usize) -> bool
         requires actor { actor ≤ length scripts.now }
         requires few { length scripts.now ≤ most_sessions }
-        ensures small { (d : Place) → IsTrue result
+        ensures small { (d : LinePlace) → IsTrue result
             → (slice_index_or self.now.places actor d).line < most_lines }
-        ensures active { (d : Place)
+        ensures active { (d : LinePlace)
             → result ≡ is_active phase (slice_index_or self.now.places actor d)
             (script_of scripts.now input.now actor) }
     {

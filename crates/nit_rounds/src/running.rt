@@ -21,7 +21,7 @@ ghost use Rattle.nit_script.specs.declared.line.InputLine.TheVariants as inputs;
 use crate::desk::Desk;
 use crate::drawing::draw_line;
 use crate::laws::{each_line_once, lines_done, turns_tell};
-use crate::part::Part;
+use crate::part::ClientPart;
 use crate::stale::{Stale, settle, settle_others};
 use crate::turn::Turn;
 use crate::turns::Turns;
@@ -41,7 +41,7 @@ use nit_word::Inked;
 fn client_line(
     scene: &mut Scene<Inked>,
     own: &mut Inked,
-    part: Part<'_>,
+    part: ClientPart<'_>,
     line: usize,
     stale: Option<Stale>,
 ) -> Option<Stale>
@@ -172,7 +172,7 @@ fn do_turn<V: Viewer>(
             let own = &mut owns[sid as usize];
             let script = &parts.scripts[sid as usize];
             let plan = &parts.plans[sid as usize];
-            let part = Part { sid, script, plan };
+            let part = ClientPart { sid, script, plan };
             client_line(scene, own, part, line, stale)
         }
         Turn::User { line } => {

@@ -8,7 +8,7 @@ ghost use Rattle.nit_rounds.specs.Terms.{AreBehind, FitsInto, HasSession, IsBehi
 ghost use Rattle.nit_rounds.specs.Terms.{glass_in, is_stale, length, most_side, nat_le, slice_set};
 
 use crate::copying::copy_area;
-use nit_plan::Area;
+use nit_plan::BufferArea;
 use nit_scene::Scene;
 use nit_word::Inked;
 
@@ -17,7 +17,7 @@ use nit_word::Inked;
 pub struct Stale {
     pub sid: u32,
     pub w: u32,
-    pub area: Area,
+    pub area: BufferArea,
 }
 
 /// Whether some columns or rows are among others, all by the first one and how many there are.

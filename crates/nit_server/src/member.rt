@@ -23,7 +23,7 @@ use std::marker::Model;
 /// A session: what it pays for, its views with their slots, its buffer's size, its events and its
 /// status.
 #[derive(Drop)]
-pub(crate) struct Member {
+pub(crate) struct KeptSession {
     account: Account,
     table: Table,
     queue: Queue,
@@ -33,7 +33,7 @@ pub(crate) struct Member {
     lost: u64,
 }
 
-impl Model for Member {
+impl Model for KeptSession {
     ghost use Rattle.nit_server.specs.KeptSession.{KeptSessionModel, IsKeptSession};
     ghost use Rattle.nit_server.specs.KeptSession.{session_of_parts};
 
@@ -48,15 +48,15 @@ impl Model for Member {
     ghost invariant = { λ m. IsKeptSession m.account m.table m.width m.height };
 }
 
-impl Member {
+impl KeptSession {
     /// A session that opens with this donation, 256..=8388608 units. All memory that it will ever
     /// use is taken here.
-    pub(crate) fn new(alloc: Global, donation: u32) -> Result<Member, NoMemory>
+    pub(crate) fn new(alloc: Global, donation: u32) -> Result<KeptSession, NoMemory>
         requires { IsDonation donation }
         ensures { IfOk result (λ m. m
             ≡ record { session = first_session donation; pairs = []; most = view_slots donation }) }
     {
-        Ok(Member {
+        Ok(KeptSession {
             account: Account::new(donation),
             table: Table::new(alloc, view_slots(donation))?,
             queue: Queue::new(alloc)?,

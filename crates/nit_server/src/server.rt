@@ -14,7 +14,7 @@ mod seats;
 mod sessions;
 mod views;
 
-use crate::member::Member;
+use crate::member::KeptSession;
 pub use input::killed;
 use nit_config::Config;
 use nit_events::{Call, Reply};
@@ -31,7 +31,7 @@ use std::marker::Model;
 pub struct Server {
     pub(crate) config: Config,
     pub(crate) stack: Stack,
-    pub(crate) members: Vec<Member>,
+    pub(crate) members: Vec<KeptSession>,
     pub(crate) slots: Slots,
     pub(crate) focus: Focus,
 }

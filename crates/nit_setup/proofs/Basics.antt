@@ -40,7 +40,7 @@ pub use Rattle.std.proofs.lemmas.Bool.Decides.{nat_tests}
 pub use Rattle.std.proofs.lemmas.Fmt.{decimal_injective}
 pub use Rattle.std.proofs.lemmas.List.{length-map, length-take-le, length_push, map_push}
 pub use Rattle.std.proofs.lemmas.Slice.Eq.{bytes_eq-Decides}
-pub use Rattle.nit_setup.specs.Below.{Global, Name, Region, Scripts, idle_user, run_files}
+pub use Rattle.nit_setup.specs.Below.{Global, StopName, Region, Scripts, idle_user, run_files}
 pub use Rattle.nit_setup.specs.FilesRead.{AllFiles, AllScripts, AreAllFiles, AreAllOuterFiles}
 pub use Rattle.nit_setup.specs.FilesRead.{AreAllScripts, AreFirstClips, AreFirstFiles, BothFiles}
 pub use Rattle.nit_setup.specs.FilesRead.{FilesRead, FirstFiles, HasRead, InnerFiles, IsOuter}

@@ -6,7 +6,7 @@ use Rattle.nit_setup.proofs.Basics.{AreAllOuterFiles, AreOuterFiles, AreOuterScr
 use Rattle.nit_setup.proofs.Basics.{Configuration, FirstFiles, HasReadOuter, IfSome, InputLine}
 use Rattle.nit_setup.proofs.Basics.{IsConfig, IsConfigFault, IsConfiguration, IsInputFault}
 use Rattle.nit_setup.proofs.Basics.{IsInputScript, IsOuter, IsOuterFault, IsOuterLoaded, Judged}
-use Rattle.nit_setup.proofs.Basics.{Line, Loaded, Name, Nested, NoFile, OuterSoFar, OuterStopped}
+use Rattle.nit_setup.proofs.Basics.{Line, Loaded, StopName, Nested, NoFile, OuterSoFar, OuterStopped}
 use Rattle.nit_setup.proofs.Basics.{ReadOuter, Refused, SpellScripts, Stop, StoppedAt}
 use Rattle.nit_setup.proofs.Basics.{StoppedReading, StoreModel, asking_all, asking_both}
 use Rattle.nit_setup.proofs.Basics.{asking_more}
@@ -168,7 +168,7 @@ module _ (outer inner : List ℕ) (first : StoreModel) where
   -- the outer configuration or one of its scripts was not read, or is refused
   pub outer_stopped : (new : StoreModel) (stop : Stop) → IsOuterLoaded outer first new (Err stop)
       → StoppedReading nest first new stop
-  outer_stopped new stop (inl (at, h)) = outer_config_stopped new stop (ap (λ (n : Name). name_text nest n) at) h
+  outer_stopped new stop (inl (at, h)) = outer_config_stopped new stop (ap (λ (n : StopName). name_text nest n) at) h
   outer_stopped new stop (inr (config, mid, is, read)) =
       outer_not_read config is.configured is.valid mid is.asked new stop read
 

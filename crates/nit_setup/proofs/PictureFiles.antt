@@ -17,7 +17,7 @@ use Rattle.std.proofs.lemmas.List.{length-replicate}
 use Rattle.std.proofs.lemmas.List.Folds.{sum_by-replicate}
 use Rattle.std.proofs.lemmas.List.Sums.{count_by-le-length}
 use Rattle.nit_script.specs.declared.line.InputLine.TheVariants as input
-use Rattle.nit_setup.specs.declared.stop.Name.TheVariants as file_name
+use Rattle.nit_setup.specs.declared.stop.StopName.TheVariants as file_name
 
 -- ---- a user who does nothing
 

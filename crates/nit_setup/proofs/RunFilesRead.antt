@@ -9,7 +9,7 @@ use Rattle.nit_setup.proofs.Basics.{Configuration, Fault}
 use Rattle.nit_setup.proofs.Basics.{File, FilesRead, FirstFiles, FitsLine, HasRead, HasReadScripts}
 use Rattle.nit_setup.proofs.Basics.{HaveSamePhases, IfSome, InnerFiles, InputLine, IsClientFault}
 use Rattle.nit_setup.proofs.Basics.{IsConfig, IsConfigFault, IsInputFault, IsInputScript, IsLoaded}
-use Rattle.nit_setup.proofs.Basics.{IsRunnable, IsSetupFault, IsValid, Judged, Line, Loaded, Name}
+use Rattle.nit_setup.proofs.Basics.{IsRunnable, IsSetupFault, IsValid, Judged, Line, Loaded, StopName}
 use Rattle.nit_setup.proofs.Basics.{Nested, NoFile, OuterFiles, ReadScripts, ReadsTo, Refused}
 use Rattle.nit_setup.proofs.Basics.{Region}
 use Rattle.nit_setup.proofs.Basics.{Run, RunFiles, RunRead, Setup, SetupRead, SoFar, SpellScripts}
@@ -21,7 +21,7 @@ use Rattle.nit_setup.proofs.Basics.{script_names, setup_in, slice_get, wanted_by
 use Rattle.nit_setup.proofs.ScriptsRead.{told_so, told_so_both}
 use Rattle.nit_setup.proofs.Stopping.{get_behind, stopped_reading, take_front}
 use Rattle.std.proofs.lemmas.List.{take_all}
-use Rattle.nit_setup.specs.declared.stop.Name.TheVariants as file_name
+use Rattle.nit_setup.specs.declared.stop.StopName.TheVariants as file_name
 
 -- A command reads the configuration of this name behind these files, and then its scripts. What is refused of these
 -- is refused of the command.
@@ -201,9 +201,9 @@ module _ (old : StoreModel) (name : List ℕ) (front : List (List ℕ)) where
           ∙ ap (λ (ns : List (List ℕ)). asking_all old ns) (r.further_names config scripts)) named h
 
     -- the configuration or one of its scripts was not read, or is refused
-    pub run_stopped : (said : Name) → name_text c said ≡ name → IsLoaded name said first new (Err stop)
+    pub run_stopped : (said : StopName) → name_text c said ≡ name → IsLoaded name said first new (Err stop)
         → StoppedReading c old new stop
-    run_stopped said is (inl (at, h)) = config_stopped (ap (λ (n : Name). name_text c n) at ∙ is) h
+    run_stopped said is (inl (at, h)) = config_stopped (ap (λ (n : StopName). name_text c n) at ∙ is) h
     run_stopped said is (inr (config, mid, read, inl among)) = scripts_stopped config mid read among
     run_stopped said is (inr (config, mid, read, inr s)) =
         input_stopped config mid read s.scripts s.between s.clients (s.named c) s.stopped
@@ -279,7 +279,7 @@ module _ (old : StoreModel) (name : List ℕ) where
   }
 
   -- nothing was asked for before
-  at_start : (said : Name) (new : StoreModel) (r : Result Loaded Stop) → IsLoaded name said old new r
+  at_start : (said : StopName) (new : StoreModel) (r : Result Loaded Stop) → IsLoaded name said old new r
       → IsLoaded name said (asking_all old []) new r
   at_start said new r h = subst (λ (s : StoreModel). IsLoaded name said s new r) (asking_none old) h
 
@@ -298,7 +298,7 @@ module _ (old : StoreModel) (name : List ℕ) where
   audit_stopped_first journal new stop h =
       stopped_first (Audit name journal) (reads_audit journal) refl new stop h
 
-  module _ (said : Name) (l : Loaded) (new : StoreModel) (h : IsLoaded name said old new (Ok l)) where
+  module _ (said : StopName) (l : Loaded) (new : StoreModel) (h : IsLoaded name said old new (Ok l)) where
     abbrev whole : RunRead name (asking_all old []) l new
     whole = at_start said new (Ok l) h
 

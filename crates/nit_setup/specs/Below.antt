@@ -36,7 +36,7 @@ pub use Rattle.nit_script.specs.declared.line.InputLine.{InputLine}
 pub use Rattle.nit_script.specs.declared.line.Line.{Line}
 pub use Rattle.nit_setup.specs.declared.stop.End.{End}
 pub use Rattle.nit_setup.specs.declared.stop.Fault.{Fault}
-pub use Rattle.nit_setup.specs.declared.stop.Name.{Name}
+pub use Rattle.nit_setup.specs.declared.stop.StopName.{StopName}
 pub use Rattle.nit_setup.specs.declared.stop.ScriptName.{ScriptName}
 pub use Rattle.nit_setup.specs.declared.stop.Stop.{Stop}
 pub use Rattle.nit_setup.specs.declared.words.Asked.{Asked}

@@ -1,7 +1,7 @@
 -- Reading all files of a command: what was read, or the file that it stopped at.
 use Rattle.std.specs.Prelude.{◌≡◌, ◌⊎◌, ℕ, ◌≤◌, Bool, true, false, List, length, Some, Result, Ok}
 use Rattle.std.specs.Prelude.{Err, IfSome}
-use Rattle.nit_setup.specs.Below.{Configuration, IsConfiguration, IsRunnable, Name, RunFiles, Setup}
+use Rattle.nit_setup.specs.Below.{Configuration, IsConfiguration, IsRunnable, StopName, RunFiles, Setup}
 use Rattle.nit_setup.specs.Below.{Stop, StoreModel, asking_all, bytes_of, idle_user, run_files}
 use Rattle.nit_setup.specs.Below.{setup_of, still_configuration, still_setup, with_asked}
 use Rattle.nit_setup.specs.Command.{Audit, Clip, Command, Nested, Still}
@@ -17,7 +17,7 @@ use Rattle.nit_setup.specs.declared.read.OneScript.{OneScript}
 use Rattle.nit_setup.specs.declared.read.TwoRuns.{TwoRuns}
 use Rattle.nit_setup.specs.declared.read.WithClips.{WithClips}
 use Rattle.nit_setup.specs.declared.read.WithJournal.{WithJournal}
-use Rattle.nit_setup.specs.declared.stop.Name.TheVariants as file_name
+use Rattle.nit_setup.specs.declared.stop.StopName.TheVariants as file_name
 
 -- the setup of a configuration and its scripts, with texts, and with its clients beside each other
 -- or by turns
@@ -121,7 +121,7 @@ pub record OuterRunRead (name : List ℕ) (old : StoreModel) (l : Loaded)
 
 -- a configuration and its scripts were read; or the configuration was not read or is refused, and
 -- the stop has this name; or one of the scripts was not read or is refused
-abbrev pub IsLoaded : List ℕ → Name → StoreModel → StoreModel → Result Loaded Stop → Type 0
+abbrev pub IsLoaded : List ℕ → StopName → StoreModel → StoreModel → Result Loaded Stop → Type 0
 IsLoaded name said old new (Ok l) = RunRead name old l new
 IsLoaded name said old new (Err stop) =
     ((stop.name ≡ said) × StoppedAt IsConfigFault old name new stop.end)

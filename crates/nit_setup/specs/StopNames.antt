@@ -1,10 +1,10 @@
 -- The name of the file at which the work ended.
 use Rattle.std.specs.Prelude.{◌≡◌, [], take}
-use Rattle.nit_setup.specs.Below.{List, Name, ScriptName, output_name, ℕ}
+use Rattle.nit_setup.specs.Below.{List, StopName, ScriptName, output_name, ℕ}
 use Rattle.nit_setup.specs.Command.{Command, Still, Run, Gen, Audit, Clip, Capture, Nested}
 use Rattle.nit_setup.specs.Command.{NoCommand}
 use Rattle.nit_setup.specs.Judgement.{clip_name}
-use Rattle.nit_setup.specs.declared.stop.Name.TheVariants as name
+use Rattle.nit_setup.specs.declared.stop.StopName.TheVariants as name
 
 -- the first file that a command names
 abbrev pub first_name : Command → List ℕ
@@ -28,7 +28,7 @@ abbrev pub script_text : ScriptName → List ℕ
 script_text script = take script.length script.bytes
 
 -- the text of a name, where this is the command
-abbrev pub name_text : Command → Name → List ℕ
+abbrev pub name_text : Command → StopName → List ℕ
 name_text c name.Nothing = []
 name_text c name.First = first_name c
 name_text c name.Second = second_name c
@@ -37,5 +37,5 @@ name_text c (name.ClipsOf script) = clip_name (script_text script)
 name_text c (name.Put file) = output_name file
 
 -- the name has this text, whatever the command is
-abbrev pub IsNameOf : Name → List ℕ → Type 0
+abbrev pub IsNameOf : StopName → List ℕ → Type 0
 IsNameOf n text = (c : Command) → name_text c n ≡ text

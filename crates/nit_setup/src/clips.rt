@@ -5,7 +5,7 @@ ghost use Rattle.nit_setup.specs.Terms.{FileJudged, IsClipFault, IsClipScript, L
 ghost use Rattle.nit_setup.specs.Terms.{IsMember, IsNameOf, clip_name, most_file_name, wrong_clip};
 
 use crate::load::load_lines;
-use crate::stop::{End, Name, ScriptName, Stop};
+use crate::stop::{End, ScriptName, Stop, StopName};
 use nit_clip::ClipScript;
 use nit_config::Member;
 use nit_rect::NoMemory;
@@ -67,7 +67,7 @@ fn at_clips_of(end: End, script: &str) -> Stop
 {
     Stop {
         end,
-        name: Name::ClipsOf(ScriptName::new(script)),
+        name: StopName::ClipsOf(ScriptName::new(script)),
     }
 }
 

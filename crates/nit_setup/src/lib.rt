@@ -33,5 +33,5 @@ pub use read::{
     Loaded, OneScript, TwoRuns, WithClips, WithJournal, read_audit, read_clips, read_nested,
     read_run, read_still,
 };
-pub use stop::{End, Fault, Name, ScriptName, Stop, at, at_first, at_second, nowhere};
+pub use stop::{End, Fault, ScriptName, Stop, StopName, at, at_first, at_second, nowhere};
 pub use words::{Asked, parse_words};

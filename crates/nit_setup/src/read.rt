@@ -10,7 +10,7 @@ use crate::load::{load_client, load_config, load_journal};
 use crate::outer::read_outer;
 use crate::scripts::{read_scripts, wanted_by};
 use crate::still::{idle_user, still_configuration};
-use crate::stop::{End, Name, Stop, at_first, at_second};
+use crate::stop::{End, Stop, StopName, at_first, at_second};
 use nit_clip::ClipScript;
 use nit_config::Config;
 use nit_events::Entry;
@@ -92,14 +92,14 @@ pub fn read_run<S: Store>(alloc: Global, store: &mut S, name: &str) -> Result<Lo
     ensures film { (region : Region) → SetupRead (Capture name.now region) true
         (S.shown store.old) (S.shown store.new) result }
 {
-    load_run(alloc, store, name, Name::First)
+    load_run(alloc, store, name, StopName::First)
 }
 
 /// Reads the configuration of this name and its scripts, and a clip script for each client.
 pub fn read_clips<S: Store>(alloc: Global, store: &mut S, name: &str) -> Result<WithClips, Stop>
     ensures { ClipSetupRead name.now (S.shown store.old) (S.shown store.new) result }
 {
-    let run = match load_run(alloc, store, name, Name::First) {
+    let run = match load_run(alloc, store, name, StopName::First) {
         Ok(run) => run,
         Err(stop) => return Err(stop),
     };
@@ -119,7 +119,7 @@ pub fn read_audit<S: Store>(
 ) -> Result<WithJournal, Stop>
     ensures { AuditRead name.now journal.now (S.shown store.old) (S.shown store.new) result }
 {
-    let run = match load_run(alloc, store, name, Name::First) {
+    let run = match load_run(alloc, store, name, StopName::First) {
         Ok(run) => run,
         Err(stop) => return Err(stop),
     };
@@ -143,7 +143,7 @@ pub fn read_nested<S: Store>(
         Ok(outer) => outer,
         Err(stop) => return Err(stop),
     };
-    match load_run(alloc, store, inner, Name::Second) {
+    match load_run(alloc, store, inner, StopName::Second) {
         Ok(inner) => Ok(TwoRuns { outer, inner }),
         Err(stop) => Err(stop),
     }
@@ -152,7 +152,12 @@ pub fn read_nested<S: Store>(
 // ---- a configuration and its scripts
 
 /// Reads the configuration of this name and its scripts. The name is said of the configuration.
-fn load_run<S: Store>(alloc: Global, store: &mut S, name: &str, said: Name) -> Result<Loaded, Stop>
+fn load_run<S: Store>(
+    alloc: Global,
+    store: &mut S,
+    name: &str,
+    said: StopName,
+) -> Result<Loaded, Stop>
     ensures { IsLoaded name.now said (S.shown store.old) (S.shown store.new) result }
 {
     let config = match load_config(alloc, store, name) {

@@ -58,7 +58,7 @@ pub enum End {
 
 /// The name of the file that the work ended at.
 #[derive(Clone, Copy, Debug)]
-pub enum Name {
+pub enum StopName {
     /// There is no file.
     Nothing,
     /// The first file that the words name.
@@ -108,36 +108,36 @@ impl ScriptName {
 #[derive(Clone, Copy, Debug)]
 pub struct Stop {
     pub end: End,
-    pub name: Name,
+    pub name: StopName,
 }
 
 /// The work ended so, at no file.
 pub fn nowhere(end: End) -> Stop
-    ensures { (result.end ≡ end) × (result.name ≡ Name.Nothing) }
+    ensures { (result.end ≡ end) × (result.name ≡ StopName.Nothing) }
 {
     Stop {
         end,
-        name: Name::Nothing,
+        name: StopName::Nothing,
     }
 }
 
 /// The work ended at the first file that the words name.
 pub fn at_first(end: End) -> Stop
-    ensures { (result.end ≡ end) × (result.name ≡ Name.First) }
+    ensures { (result.end ≡ end) × (result.name ≡ StopName.First) }
 {
     Stop {
         end,
-        name: Name::First,
+        name: StopName::First,
     }
 }
 
 /// The work ended at the second file that the words name.
 pub fn at_second(end: End) -> Stop
-    ensures { (result.end ≡ end) × (result.name ≡ Name.Second) }
+    ensures { (result.end ≡ end) × (result.name ≡ StopName.Second) }
 {
     Stop {
         end,
-        name: Name::Second,
+        name: StopName::Second,
     }
 }
 
@@ -148,6 +148,6 @@ pub fn at(end: End, script: &str) -> Stop
 {
     Stop {
         end,
-        name: Name::Script(ScriptName::new(script)),
+        name: StopName::Script(ScriptName::new(script)),
     }
 }

@@ -41,7 +41,7 @@ pub use Rattle.nit_top.specs.Terms.{IsNotBegun, IsOuter, IsOutside}
 pub use Rattle.nit_top.specs.Terms.{IsPicture, IsPutBefore, IsPutWhole, IsRefusedAt, IsRefusedWith}
 pub use Rattle.nit_top.specs.Terms.{IsRunnable, IsSameClient, IsSetupOf, IsSomeAnd, IsTrue, IsValid}
 pub use Rattle.nit_top.specs.Terms.{IsValidSo, Item, Judged, LiesIn, Line, LineTurn, MayCome}
-pub use Rattle.nit_top.specs.Terms.{MayShowFrames, Member, Name, NestError, NestModel, Nested}
+pub use Rattle.nit_top.specs.Terms.{MayShowFrames, Member, StopName, NestError, NestModel, Nested}
 pub use Rattle.nit_top.specs.Terms.{NestsRun, NoCommand, NoFault, NoFile, NoMemory, NotBegun}
 pub use Rattle.nit_top.specs.Terms.{Observation, OuterFiles, Performed}
 pub use Rattle.nit_top.specs.Terms.{PerformedClips, PerformedFilmed, PerformedNested, Phases}

@@ -4,7 +4,7 @@ use Rattle.std.proofs.Common.{Some, None, refl, sym, ap, subst, ◌∙◌, inl, 
 use Rattle.nit_top.proofs.Basics.{AllFiles, AreAdded, AreAllFiles, AreOutputs, Begun, Command}
 use Rattle.nit_top.proofs.Basics.{Configuration, End, Ends, Entry, File}
 use Rattle.nit_top.proofs.Basics.{Headline, IfSome, IsCommandRun}
-use Rattle.nit_top.proofs.Basics.{IsPutBefore, Name, NoCommand, NoFile, NotBegun, Performed}
+use Rattle.nit_top.proofs.Basics.{IsPutBefore, StopName, NoCommand, NoFile, NotBegun, Performed}
 use Rattle.nit_top.proofs.Basics.{PutAll, PutError, PutFault, PutFiles, PutRefused, PutSo, PutsAll}
 use Rattle.nit_top.proofs.Basics.{Rose, Setup, StoreModel, Totals, Worked}
 use Rattle.nit_top.proofs.Basics.{all_put, also_more, also_none, append-nil, asked_also, asking_all}
@@ -14,7 +14,7 @@ use Rattle.nit_top.proofs.Basics.{output_name, put_state_of_run, reads, refusal_
 use Rattle.nit_top.proofs.Basics.{unrefused}
 use Rattle.nit_store.specs.declared.store.PutError.TheVariants as put
 use Rattle.nit_setup.specs.declared.stop.End.TheVariants as ends
-use Rattle.nit_setup.specs.declared.stop.Name.TheVariants as file_name
+use Rattle.nit_setup.specs.declared.stop.StopName.TheVariants as file_name
 use Rattle.nit_top.proofs.WorkLemmas.{CameTo}
 
 -- ---- after a run
@@ -140,12 +140,12 @@ module _ (c : Command) (old : StoreModel) (s : Setup) (files_are : AreAllFiles c
       (record { course = h.course; came = h.came; counts = h.counts; said = h.said })
 
   -- the run went to its end
-  puts_end : (fault : Option PutFault) (name : Name) (t : Totals) → t ≡ totals_of s journal
+  puts_end : (fault : Option PutFault) (name : StopName) (t : Totals) → t ≡ totals_of s journal
       → IfSome fault (λ f. name ≡ file_name.Put f.file) → PutSo start puts new (option_map refusal_of fault)
       → CameTo c old new journal (end_of_run fault) (name_text c name) t
   puts_end None name t is named p = whole_line (name_text c name) t is (all_put_too p)
   puts_end (Some f) name t is named p =
-      subst (λ (n : Name). CameTo c old new journal (end_of_put f.error) (name_text c n) t) (sym named)
+      subst (λ (n : StopName). CameTo c old new journal (end_of_put f.error) (name_text c n) t) (sym named)
       (refused (output_name f.file) p.front p.bytes p.back p.parts p.mid p.put t f.error p.refused)
 
 -- memory ran out before the first round

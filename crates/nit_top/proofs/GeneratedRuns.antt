@@ -17,7 +17,7 @@ use Rattle.nit_top.proofs.WorkLemmas.{CameTo}
 use Rattle.nit_top.proofs.EndsAfterRun.{ends_by, performed_ends, totals_on}
 use Rattle.nit_store.specs.declared.store.PutError.TheVariants as put
 use Rattle.nit_setup.specs.declared.stop.End.TheVariants as ends
-use Rattle.nit_setup.specs.declared.stop.Name.TheVariants as file_name
+use Rattle.nit_setup.specs.declared.stop.StopName.TheVariants as file_name
 
 -- ---- it can be run
 

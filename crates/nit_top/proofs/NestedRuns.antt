@@ -12,7 +12,7 @@ use Rattle.nit_top.proofs.Basics.{is_too_long, journal_text, length-map, misfit,
 use Rattle.nit_top.proofs.Basics.{nest_script, nested_setup, one_wanted, phase_counts, phases}
 use Rattle.nit_top.proofs.Basics.{put_state_of_run, puts_more, script_names, setup_of, shots}
 use Rattle.nit_top.proofs.Basics.{shown_first, too_long_for, unless_other, unrefused}
-use Rattle.nit_setup.specs.declared.stop.Name.TheVariants as file_name
+use Rattle.nit_setup.specs.declared.stop.StopName.TheVariants as file_name
 
 -- ---- the setup of the outer run
 

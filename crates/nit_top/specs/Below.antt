@@ -109,7 +109,7 @@ pub use Rattle.nit_setup.specs.Asked.{IsAskedInRange, command_of}
 pub use Rattle.nit_setup.specs.StopNames.{first_name, name_text, second_name}
 pub use Rattle.nit_setup.specs.declared.stop.End.{End}
 pub use Rattle.nit_setup.specs.declared.stop.Fault.{Fault}
-pub use Rattle.nit_setup.specs.declared.stop.Name.{Name}
+pub use Rattle.nit_setup.specs.declared.stop.StopName.{StopName}
 pub use Rattle.nit_setup.specs.declared.stop.Stop.{Stop}
 pub use Rattle.nit_stack.specs.Sources.{Bare, Black, PixelSource, Size, Word, among, black_or_word}
 pub use Rattle.nit_stack.specs.Sources.{buffer_place, index_at, pixel, shown_index, source_under}
@@ -120,7 +120,7 @@ pub use Rattle.nit_store.specs.Store.{File, Rose, StoreModel, WriteFaulted, byte
 pub use Rattle.nit_store.specs.Store.{with_asked, with_said}
 pub use Rattle.nit_store.specs.declared.store.PutError.{PutError}
 pub use Rattle.nit_top.specs.declared.report.finish.Worked.{Worked}
-pub use Rattle.nit_top.specs.declared.report.say.Piece.{Piece}
+pub use Rattle.nit_top.specs.declared.report.say.LinePart.{LinePart}
 pub use Rattle.std.specs.Fmt.{decimal}
 pub use Rattle.std.specs.List.{AllByRecursion, AllZip, flat_map, list_any, range_with_len}
 pub use Rattle.std.specs.Option.{is_some}

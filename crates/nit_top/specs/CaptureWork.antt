@@ -3,7 +3,7 @@ use Rattle.std.specs.Prelude.{◌≡◌, ◌⊎◌, [], length, IfSome}
 use Rattle.nit_top.specs.Below.{HasFilmed, Headline, Ran, Region, Setup, StoreModel, Worked}
 use Rattle.nit_top.specs.Work.{end_of_run}
 use Rattle.nit_setup.specs.declared.stop.End.TheVariants as end
-use Rattle.nit_setup.specs.declared.stop.Name.TheVariants as name
+use Rattle.nit_setup.specs.declared.stop.StopName.TheVariants as name
 
 -- what the work leaves after a run that went to its end
 pub record IsAfterFilm (region : Region) (old : StoreModel) (s : Setup) (new : StoreModel)

@@ -6,7 +6,7 @@ use Rattle.nit_top.specs.Below.{Worked, asking_all, bytes_of, inner_journal_name
 use Rattle.nit_top.specs.Below.{names_in, put_state_of_run, shots, unrefused, with_asked}
 use Rattle.nit_top.specs.Work.{end_of_run}
 use Rattle.nit_setup.specs.declared.stop.End.TheVariants as end
-use Rattle.nit_setup.specs.declared.stop.Name.TheVariants as name
+use Rattle.nit_setup.specs.declared.stop.StopName.TheVariants as name
 
 -- the outer files were read and are valid, and then the inner configuration
 pub record IsAfterOuter (outer inner : List ℕ) (first : StoreModel) (o : RunFiles)

@@ -1,13 +1,13 @@
 -- The lines that the program says.
 use Rattle.std.specs.Prelude.{ℕ, List, ◌++◌, codes}
-use Rattle.nit_top.specs.Below.{ConfigError, End, Fault, Piece, clip_name, decimal, output_name}
+use Rattle.nit_top.specs.Below.{ConfigError, End, Fault, LinePart, clip_name, decimal, output_name}
 use Rattle.nit_config.specs.declared.error.ConfigError.TheVariants as config
 use Rattle.nit_setup.specs.declared.stop.End.TheVariants as end
 use Rattle.nit_setup.specs.declared.stop.Fault.TheVariants as fault
-use Rattle.nit_top.specs.declared.report.say.Piece.TheVariants as piece
+use Rattle.nit_top.specs.declared.report.say.LinePart.TheVariants as piece
 
 -- the bytes of a part of a line
-abbrev pub piece_text : Piece → List ℕ
+abbrev pub piece_text : LinePart → List ℕ
 piece_text (piece.Text bytes) = bytes.now
 piece_text (piece.Number n) = decimal n
 piece_text (piece.ClipsOf script) = clip_name script.now

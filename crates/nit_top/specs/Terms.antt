@@ -24,7 +24,7 @@ pub use Rattle.nit_top.specs.Below.{IsNearPicture, IsOuter}
 pub use Rattle.nit_top.specs.Below.{IsPicture, IsRefusedWith, IsRegionWords, IsRunnable}
 pub use Rattle.nit_top.specs.Below.{IsSameClient, IsSetupOf, IsSomeAnd, IsTrue, IsValid}
 pub use Rattle.nit_top.specs.Below.{IsVerdictOn, Item, Judged, LiesIn, Line, LineTurn}
-pub use Rattle.nit_top.specs.Below.{MayShowFrames, Member, Name, NestError, NestModel, Nested}
+pub use Rattle.nit_top.specs.Below.{MayShowFrames, Member, StopName, NestError, NestModel, Nested}
 pub use Rattle.nit_top.specs.Below.{NestsRun, NeverHasFocus, NoCommand, NoFile, NoMemory}
 pub use Rattle.nit_top.specs.Below.{Observation, OuterFiles, Phases}
 pub use Rattle.nit_top.specs.Below.{PixelSource, Point, PutEach, PutError, PutFault, PutFiles}

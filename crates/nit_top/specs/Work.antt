@@ -7,7 +7,7 @@ use Rattle.nit_top.specs.Course.{Course}
 use Rattle.nit_top.specs.Answer.{Came, Counts}
 use Rattle.nit_store.specs.declared.store.PutError.TheVariants as put
 use Rattle.nit_setup.specs.declared.stop.End.TheVariants as end
-use Rattle.nit_setup.specs.declared.stop.Name.TheVariants as name
+use Rattle.nit_setup.specs.declared.stop.StopName.TheVariants as name
 
 -- ---- the work
 

@@ -13,7 +13,7 @@ use crate::run::clips::clip;
 use crate::run::nested::nested;
 use crate::run::perform;
 use nit_actor::Gate;
-use nit_perform::Host;
+use nit_perform::ThreadHost;
 use nit_run::laws::generated_runs_count;
 use nit_setup::{Asked, End, nowhere, parse_words};
 use nit_store::Store;
@@ -37,7 +37,7 @@ pub fn nitpicker<R: Threads + Wait + Sync, S: Store, G: Gate>(
     generated_runs_count();
     names_differ();
     let asked = parse_words(words);
-    let worked = work(&Host { rt, alloc, gate }, store, asked);
+    let worked = work(&ThreadHost { rt, alloc, gate }, store, asked);
     finish(store, asked, worked)
 }
 
@@ -73,7 +73,7 @@ pub fn starts_threads(words: &[String]) -> bool
 
 /// Does the work that the words ask for.
 fn work<R: Threads + Wait + Sync, S: Store, G: Gate>(
-    host: &Host<R, G>,
+    host: &ThreadHost<R, G>,
     store: &mut S,
     asked: Option<Asked>,
 ) -> Worked

@@ -7,7 +7,7 @@ ghost use Rattle.nit_server.specs.Terms.{first_stack, first_state, most_sessions
 ghost use Rattle.nit_server.specs.Terms.{slots_of_all, state_of, view_slots};
 ghost use Rattle.nit_events.specs.declared.entry.Entry.TheVariants as entry;
 
-use crate::member::Member;
+use crate::member::KeptSession;
 use crate::server::Server;
 use crate::server::copy::copied;
 use crate::server::input::opened_focus;
@@ -58,13 +58,16 @@ pub(crate) fn slots_of_all(clients: &[nit_config::Member]) -> u32
 }
 
 /// Each client's session as it opens.
-fn opened_members(alloc: Global, clients: &[nit_config::Member]) -> Result<Vec<Member>, NoMemory>
+fn opened_members(
+    alloc: Global,
+    clients: &[nit_config::Member],
+) -> Result<Vec<KeptSession>, NoMemory>
     requires { All IsMember clients.now }
     ensures { IfOk result (λ v. v.items ≡ map first_kept_session clients.now) }
 {
     let mut members = Vec::new(alloc);
     for client in clients {
-        members.push(Member::new(alloc, client.donation)?)?;
+        members.push(KeptSession::new(alloc, client.donation)?)?;
     }
     Ok(members)
 }

@@ -9,7 +9,9 @@ ghost use Rattle.nit_hall.specs.ClipPass.{AreDoneClips, ClipBelongs};
 ghost use Rattle.nit_hall.specs.ClipOpening.{AreFirstClipPasses};
 ghost use Rattle.nit_actor.specs.ClipRole.{GoTogether, IsPairIn, pair_role_of};
 
-use nit_actor::{GatedHall, UserAndDesk, Open, Pair, run_actor, run_clips, run_mine, run_mine_clips};
+use nit_actor::{
+    GatedHall, Open, Pair, UserAndDesk, run_actor, run_clips, run_mine, run_mine_clips,
+};
 use nit_checks::{must, repeated, same};
 use nit_clip::{ClipEntry, clip_text};
 use nit_hall::{ClipPass, Hall, Name, Pass, UserPass};

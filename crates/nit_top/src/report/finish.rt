@@ -5,7 +5,7 @@ ghost use Rattle.nit_top.specs.Terms.{code_of, end_of_run, fault_code, status_of
 
 use nit_events::Entry;
 use nit_perform::{PutFault, Ran};
-use nit_setup::{End, Fault, Name, Stop, nowhere};
+use nit_setup::{End, Fault, Stop, StopName, nowhere};
 use nit_store::PutError;
 use std::alloc::Global;
 
@@ -38,7 +38,7 @@ impl Worked {
     /// What the work leaves after a run, which had so many clients.
     pub fn after(ran: Ran, clients: usize) -> Worked
         ensures end { result.stop.end ≡ end_of_run ran.fault }
-        ensures name { IfSome ran.fault (λ f. result.stop.name ≡ Name.Put f.file) }
+        ensures name { IfSome ran.fault (λ f. result.stop.name ≡ StopName.Put f.file) }
         ensures journal { result.journal.items ≡ ran.journal.items }
         ensures clients { result.clients ≡ clients }
         ensures frames { result.frames ≡ ran.frames }
@@ -109,7 +109,7 @@ pub fn status(end: End, said: Result<(), PutError>) -> u8
 /// How the work ends after a run, by the put that was refused.
 pub fn stop_after(fault: Option<PutFault>) -> Stop
     ensures end { result.end ≡ end_of_run fault }
-    ensures name { IfSome fault (λ f. result.name ≡ Name.Put f.file) }
+    ensures name { IfSome fault (λ f. result.name ≡ StopName.Put f.file) }
 {
     let Some(fault) = fault else {
         return nowhere(End::Whole);
@@ -119,6 +119,6 @@ pub fn stop_after(fault: Option<PutFault>) -> Stop
             PutError::Failed => End::WriteFault,
             PutError::NoMemory => End::NoMemory,
         },
-        name: Name::Put(fault.file),
+        name: StopName::Put(fault.file),
     }
 }

@@ -12,12 +12,12 @@ use crate::report::finish::Worked;
 use nit_config::ConfigError;
 use nit_rounds::PictureName;
 use nit_run::{LabelBytes, Output};
-use nit_setup::{Asked, End, Fault, Name};
+use nit_setup::{Asked, End, Fault, StopName};
 use nit_store::{PutError, Store};
 
 /// A part of a line.
 #[derive(Clone, Copy)]
-enum Piece<'a> {
+enum LinePart<'a> {
     Text(&'a [u8]),
     Number(u64),
     /// The name of the clip script of the client with the script of this name.
@@ -35,23 +35,23 @@ pub fn tell<'a, S: Store>(
     ensures { Says (S.shown store.old) (line_on (command_of asked.entry) worked.now)
         (S.shown store.new) result }
 {
-    let head = Piece::Text(b"nitpicker: ");
+    let head = LinePart::Text(b"nitpicker: ");
     let name = piece_of(asked, &worked.stop.name);
     match worked.stop.end {
         End::Usage => say_all(
             store,
             &[
                 head,
-                Piece::Text(b"usage: nitpicker still W H SCRIPT, turns CONFIG, "),
-                Piece::Text(b"run CONFIG, gen N, audit CONFIG JOURNAL, clip CONFIG, "),
-                Piece::Text(b"capture CONFIG X Y W H or nested OUTER INNER\n"),
+                LinePart::Text(b"usage: nitpicker still W H SCRIPT, turns CONFIG, "),
+                LinePart::Text(b"run CONFIG, gen N, audit CONFIG JOURNAL, clip CONFIG, "),
+                LinePart::Text(b"capture CONFIG X Y W H or nested OUTER INNER\n"),
             ],
         ),
-        End::ReadFault => say_all(store, &[head, name, Piece::Text(b": read fault\n")]),
+        End::ReadFault => say_all(store, &[head, name, LinePart::Text(b": read fault\n")]),
         End::Refused(fault) | End::Unfit(fault) => tell_fault(store, fault, name),
-        End::Outside => say_all(store, &[head, Piece::Text(b"capture outside\n")]),
-        End::WriteFault => say_all(store, &[head, name, Piece::Text(b": write fault\n")]),
-        End::NoMemory => say_all(store, &[head, Piece::Text(b"no memory\n")]),
+        End::Outside => say_all(store, &[head, LinePart::Text(b"capture outside\n")]),
+        End::WriteFault => say_all(store, &[head, name, LinePart::Text(b": write fault\n")]),
+        End::NoMemory => say_all(store, &[head, LinePart::Text(b"no memory\n")]),
         End::Whole => tell_summary(
             store,
             worked.clients as u64,
@@ -63,16 +63,16 @@ pub fn tell<'a, S: Store>(
 }
 
 /// The name of the file that the work ended at.
-fn piece_of<'a>(asked: Option<Asked<'a>>, name: &'a Name) -> Piece<'a>
+fn piece_of<'a>(asked: Option<Asked<'a>>, name: &'a StopName) -> LinePart<'a>
     ensures { piece_text result ≡ name_text (command_of asked.entry) name.entry.now }
 {
     match name {
-        Name::Nothing => Piece::Text(b""),
-        Name::First => Piece::Text(first(asked).as_bytes()),
-        Name::Second => Piece::Text(second(asked).as_bytes()),
-        Name::Script(script) => Piece::Text(script.as_bytes()),
-        Name::ClipsOf(script) => Piece::ClipsOf(script.as_bytes()),
-        Name::Put(file) => Piece::Put(*file),
+        StopName::Nothing => LinePart::Text(b""),
+        StopName::First => LinePart::Text(first(asked).as_bytes()),
+        StopName::Second => LinePart::Text(second(asked).as_bytes()),
+        StopName::Script(script) => LinePart::Text(script.as_bytes()),
+        StopName::ClipsOf(script) => LinePart::ClipsOf(script.as_bytes()),
+        StopName::Put(file) => LinePart::Put(*file),
     }
 }
 
@@ -103,9 +103,9 @@ fn tell_audited<S: Store>(store: &mut S, entries: u32) -> Result<(), PutError>
     say_all(
         store,
         &[
-            Piece::Text(b"nitpicker: audit yes entries "),
-            Piece::Number(entries as u64),
-            Piece::Text(b"\n"),
+            LinePart::Text(b"nitpicker: audit yes entries "),
+            LinePart::Number(entries as u64),
+            LinePart::Text(b"\n"),
         ],
     )
 }
@@ -124,37 +124,37 @@ fn tell_summary<S: Store>(
     say_all(
         store,
         &[
-            Piece::Text(b"nitpicker: clients "),
-            Piece::Number(clients),
-            Piece::Text(b" entries "),
-            Piece::Number(entries),
-            Piece::Text(b" frames "),
-            Piece::Number(frames),
-            Piece::Text(b"\n"),
+            LinePart::Text(b"nitpicker: clients "),
+            LinePart::Number(clients),
+            LinePart::Text(b" entries "),
+            LinePart::Number(entries),
+            LinePart::Text(b" frames "),
+            LinePart::Number(frames),
+            LinePart::Text(b"\n"),
         ],
     )
 }
 
 /// Says why the file of this name is refused.
-fn tell_fault<S: Store>(store: &mut S, fault: Fault, name: Piece) -> Result<(), PutError>
+fn tell_fault<S: Store>(store: &mut S, fault: Fault, name: LinePart) -> Result<(), PutError>
     ensures { Says (S.shown store.old) (fault_line (piece_text name.entry) fault)
         (S.shown store.new) result }
 {
-    let head = Piece::Text(b"nitpicker: ");
+    let head = LinePart::Text(b"nitpicker: ");
     match fault {
         Fault::BadConfig(error) => tell_kind(store, name, kind_text(error)),
         Fault::LongConfig => tell_kind(store, name, b"too long"),
         Fault::BadLine(line) => tell_number(store, name, b": line ", line, b": bad script\n"),
         Fault::TooLong | Fault::LongJournal => {
-            say_all(store, &[head, name, Piece::Text(b": too long\n")])
+            say_all(store, &[head, name, LinePart::Text(b": too long\n")])
         }
-        Fault::PhasesDiffer => say_all(store, &[head, name, Piece::Text(b": phases differ\n")]),
+        Fault::PhasesDiffer => say_all(store, &[head, name, LinePart::Text(b": phases differ\n")]),
         Fault::BadEntry(line) => tell_number(store, name, b": line ", line, b": bad journal\n"),
         Fault::NotARun(entry) => tell_number(store, name, b": entry ", entry, b": not a run\n"),
         Fault::FramesTooLong => {
             say_all(
                 store,
-                &[head, name, Piece::Text(b": inner frames too long\n")],
+                &[head, name, LinePart::Text(b": inner frames too long\n")],
             )
         }
     }
@@ -163,7 +163,7 @@ fn tell_fault<S: Store>(store: &mut S, fault: Fault, name: Piece) -> Result<(), 
 /// Says of a file what is wrong at this line or entry of it.
 fn tell_number<'a, S: Store>(
     store: &mut S,
-    name: Piece<'a>,
+    name: LinePart<'a>,
     before: &'a [u8],
     number: u32,
     behind: &'a [u8],
@@ -175,28 +175,32 @@ fn tell_number<'a, S: Store>(
     say_all(
         store,
         &[
-            Piece::Text(b"nitpicker: "),
+            LinePart::Text(b"nitpicker: "),
             name,
-            Piece::Text(before),
-            Piece::Number(number as u64),
-            Piece::Text(behind),
+            LinePart::Text(before),
+            LinePart::Number(number as u64),
+            LinePart::Text(behind),
         ],
     )
 }
 
 /// Says that the configuration of this name is refused, and the kind of its refusal.
-fn tell_kind<'a, S: Store>(store: &mut S, name: Piece<'a>, kind: &'a [u8]) -> Result<(), PutError>
+fn tell_kind<'a, S: Store>(
+    store: &mut S,
+    name: LinePart<'a>,
+    kind: &'a [u8],
+) -> Result<(), PutError>
     ensures { Says (S.shown store.old) (bad_configuration_line (piece_text name.entry) kind.now)
         (S.shown store.new) result }
 {
     say_all(
         store,
         &[
-            Piece::Text(b"nitpicker: "),
+            LinePart::Text(b"nitpicker: "),
             name,
-            Piece::Text(b": bad configuration: "),
-            Piece::Text(kind),
-            Piece::Text(b"\n"),
+            LinePart::Text(b": bad configuration: "),
+            LinePart::Text(kind),
+            LinePart::Text(b"\n"),
         ],
     )
 }
@@ -219,7 +223,7 @@ fn kind_text(error: ConfigError) -> &'static [u8]
 }
 
 /// Says a line piece by piece, up to a refusal.
-fn say_all<S: Store>(store: &mut S, pieces: &[Piece]) -> Result<(), PutError>
+fn say_all<S: Store>(store: &mut S, pieces: &[LinePart]) -> Result<(), PutError>
     ensures { Says (S.shown store.old) (flat_map piece_text pieces.now) (S.shown store.new) result }
 {
     for part in pieces {
@@ -228,14 +232,14 @@ fn say_all<S: Store>(store: &mut S, pieces: &[Piece]) -> Result<(), PutError>
     Ok(())
 }
 
-fn say_piece<S: Store>(store: &mut S, piece: &Piece) -> Result<(), PutError>
+fn say_piece<S: Store>(store: &mut S, piece: &LinePart) -> Result<(), PutError>
     ensures { Says (S.shown store.old) (piece_text piece.now) (S.shown store.new) result }
 {
     match piece {
-        Piece::Text(bytes) => text(store, bytes),
-        Piece::Number(n) => number(store, *n),
-        Piece::ClipsOf(script) => clip_name(store, script),
-        Piece::Put(file) => output_name(store, file),
+        LinePart::Text(bytes) => text(store, bytes),
+        LinePart::Number(n) => number(store, *n),
+        LinePart::ClipsOf(script) => clip_name(store, script),
+        LinePart::Put(file) => output_name(store, file),
     }
 }
 

@@ -7,7 +7,7 @@ ghost use Rattle.nit_top.specs.Terms.{Region, is_off_screen, setup_of};
 use crate::report::finish::{Worked, unbegun};
 use nit_actor::Gate;
 use nit_config::Config;
-use nit_perform::{Film, Host, run_filmed};
+use nit_perform::{Film, ThreadHost, run_filmed};
 use nit_rect::NoMemory;
 use nit_run::laws::headline;
 use nit_run::{Region, Scripts};
@@ -19,7 +19,7 @@ use std::thread::Threads;
 /// Runs the configuration of this name with each client on a thread of its own, and films a region
 /// of the screen, which is to lie on it.
 pub fn capture<R: Threads + Wait + Sync, S: Store, G: Gate>(
-    host: &Host<R, G>,
+    host: &ThreadHost<R, G>,
     store: &mut S,
     name: &str,
     region: Region,
@@ -40,7 +40,7 @@ pub fn capture<R: Threads + Wait + Sync, S: Store, G: Gate>(
 /// Runs a setup with texts, each client on a thread of its own, and films a region of the screen. A
 /// run that is not begun leaves everything.
 fn perform_filmed<R: Threads + Wait + Sync, S: Store, G: Gate>(
-    host: &Host<R, G>,
+    host: &ThreadHost<R, G>,
     store: &mut S,
     config: &Config,
     scripts: &Scripts,

@@ -8,7 +8,7 @@ use crate::report::finish::{Worked, unbegun};
 use nit_actor::Gate;
 use nit_clip::ClipScript;
 use nit_config::Config;
-use nit_perform::{Host, run_with_clips};
+use nit_perform::{ThreadHost, run_with_clips};
 use nit_rect::NoMemory;
 use nit_run::Scripts;
 use nit_run::laws::headline;
@@ -20,7 +20,7 @@ use std::thread::Threads;
 /// Runs the configuration of this name with each client on a thread of its own, and a clip script
 /// for each.
 pub fn clip<R: Threads + Wait + Sync, S: Store, G: Gate>(
-    host: &Host<R, G>,
+    host: &ThreadHost<R, G>,
     store: &mut S,
     name: &str,
 ) -> Worked
@@ -41,7 +41,7 @@ pub fn clip<R: Threads + Wait + Sync, S: Store, G: Gate>(
 /// Runs a setup with texts and a clip script for each client. A run that is not begun leaves
 /// everything.
 fn perform_clips<R: Threads + Wait + Sync, S: Store, G: Gate>(
-    host: &Host<R, G>,
+    host: &ThreadHost<R, G>,
     store: &mut S,
     config: &Config,
     scripts: &Scripts,

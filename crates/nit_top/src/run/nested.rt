@@ -10,7 +10,7 @@ use nit_actor::Gate;
 use nit_config::Config;
 use nit_events::Entry;
 use nit_nested::laws::phases_stay;
-use nit_perform::{Host, put_inner_journal, run_beside};
+use nit_perform::{ThreadHost, put_inner_journal, run_beside};
 use nit_rounds::laws::each_line_once;
 use nit_run::Scripts;
 use nit_run::laws::headline;
@@ -26,7 +26,7 @@ use std::thread::Threads;
 /// one with each client on a thread of its own. There the first client shows the frames of the
 /// inner run.
 pub fn nested<R: Threads + Wait + Sync, S: Store, G: Gate>(
-    host: &Host<R, G>,
+    host: &ThreadHost<R, G>,
     store: &mut S,
     outer: &str,
     inner: &str,
@@ -78,7 +78,7 @@ fn with_first(scripts: Scripts, first: Client) -> Scripts
 /// Runs a setup with texts, each client on a thread of its own, and puts the journal of an inner
 /// run behind its files. A run that is not begun leaves everything.
 fn perform_nested<R: Threads + Wait + Sync, S: Store, G: Gate>(
-    host: &Host<R, G>,
+    host: &ThreadHost<R, G>,
     store: &mut S,
     config: &Config,
     scripts: &Scripts,

@@ -7,7 +7,7 @@ ghost use Rattle.nit_top.specs.Terms.{generated, most_height, most_width, number
 use crate::report::finish::{Worked, stop_after, unbegun};
 use nit_actor::Gate;
 use nit_config::Config;
-use nit_perform::{Host, put_files, run_beside, run_one, run_turns};
+use nit_perform::{ThreadHost, put_files, run_beside, run_one, run_turns};
 use nit_rect::NoMemory;
 use nit_report::{gen_config, generate, generated_client_counts, generated_user_counts};
 use nit_run::Scripts;
@@ -61,7 +61,7 @@ pub fn turns<S: Store>(alloc: Global, store: &mut S, name: &str) -> Worked
 
 /// Runs the configuration of this name with each client on a thread of its own.
 pub fn beside<R: Threads + Wait + Sync, S: Store, G: Gate>(
-    host: &Host<R, G>,
+    host: &ThreadHost<R, G>,
     store: &mut S,
     name: &str,
 ) -> Worked
@@ -76,7 +76,7 @@ pub fn beside<R: Threads + Wait + Sync, S: Store, G: Gate>(
 /// Puts the files of the generated run of this number, and runs it as they say, with each client on
 /// a thread of its own. The scripts are read from their own bytes.
 pub fn generated<R: Threads + Wait + Sync, S: Store, G: Gate>(
-    host: &Host<R, G>,
+    host: &ThreadHost<R, G>,
     store: &mut S,
     number: u32,
 ) -> Worked
@@ -146,7 +146,7 @@ fn perform_alone<S: Store>(
 /// Runs a setup with texts, each client on a thread of its own. A run that is not begun leaves
 /// everything.
 pub fn perform_beside<R: Threads + Wait + Sync, S: Store, G: Gate>(
-    host: &Host<R, G>,
+    host: &ThreadHost<R, G>,
     store: &mut S,
     config: &Config,
     scripts: &Scripts,

@@ -4,7 +4,7 @@ use Rattle.nit_setup.proofs.Basics.{StoreModel}
 use Rattle.nit_setup.proofs.Basics.{script_names, wanted_by}
 use Rattle.nit_setup.proofs.ClipFilesRead.{clip_stopped, clips_read}
 use Rattle.nit_setup.proofs.RunFilesRead.{clips_stopped_first, first_asked, first_valid}
-use Rattle.nit_setup.specs.declared.stop.Name.TheVariants as file_name
+use Rattle.nit_setup.specs.declared.stop.StopName.TheVariants as file_name
 use Rattle.nit_setup.proofs.read.read_clips.Goals as goal
 
 pub returns-in-Err : goal.returns-in-Err

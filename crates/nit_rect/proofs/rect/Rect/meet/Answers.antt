@@ -21,7 +21,7 @@ returns-then-columns-eq0-clause-both c =
     ])
 
 pub returns-clause-both : goal.returns-clause-both
-returns-clause-both c = rw c.of_runs.ensures
+returns-clause-both c = rw c.of_spans.ensures
     (covers_both _ _ _ _ _ _
     (λ at. rw (c.columns.ensures.from, c.columns.ensures.long, c.columns-2.ensures.from, c.columns-2.ensures.long) at
     (c.meet-columns.ensures at))
@@ -30,5 +30,5 @@ returns-clause-both c = rw c.of_runs.ensures
 
 pub returns-clause-none : goal.returns-clause-none
 returns-clause-none c apart =
-    absurd (not_apart _ _ c.of_runs.result (returns-clause-both c) (rw c.of_runs.ensures (omega arith, omega arith))
+    absurd (not_apart _ _ c.of_spans.result (returns-clause-both c) (rw c.of_spans.ensures (omega arith, omega arith))
     apart)

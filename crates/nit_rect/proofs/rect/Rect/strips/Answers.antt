@@ -30,10 +30,10 @@ pub returns : goal.returns
 returns c =
     λ p.
     rw (
-      c.of_runs.ensures,
-      c.of_runs-2.ensures,
-      c.of_runs-3.ensures,
-      c.of_runs-4.ensures,
+      c.of_spans.ensures,
+      c.of_spans-2.ensures,
+      c.of_spans-3.ensures,
+      c.of_spans-4.ensures,
       c.columns-wide.ensures.from,
       c.columns-wide.ensures.long,
       c.rows-cut_high.ensures.from,

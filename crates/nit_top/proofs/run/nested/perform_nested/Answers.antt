@@ -1,7 +1,7 @@
 use Rattle.nit_top.proofs.Lemmas.{HasRun, IfSome, Line, List, PutFault, Some, ap, end_of_run, inl}
 use Rattle.nit_top.proofs.Lemmas.{length, nested_leaves, runnable_of, setup_of, subst, true, ◌∙◌}
 use Rattle.std.proofs.Common.{Option, ◌≡◌}
-use Rattle.nit_setup.specs.declared.stop.Name.TheVariants as file_name
+use Rattle.nit_setup.specs.declared.stop.StopName.TheVariants as file_name
 use Rattle.nit_top.proofs.run.nested.perform_nested.Goals as goal
 
 pub returns : goal.returns

@@ -1,6 +1,6 @@
 use Rattle.std.proofs.Common.{Bool, IsNone, ap, false, subst, sym, ◌↔◌, ◌∙◌, ◌≡◌}
 use Rattle.nit_server.proofs.Lemmas.{KeptSessionModel, has_as_held, has_handle, has_view}
-use Rattle.nit_server.proofs.member.Member.find.Goals as goal
+use Rattle.nit_server.proofs.member.KeptSession.find.Goals as goal
 
 pub returns-clause-none : goal.returns-clause-none
 returns-clause-none c =

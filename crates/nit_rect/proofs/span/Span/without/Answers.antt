@@ -1,5 +1,5 @@
 use Rattle.nit_rect.proofs.Lemmas.{arith, ints, times_round}
-use Rattle.nit_rect.proofs.run.Run.without.Goals as goal
+use Rattle.nit_rect.proofs.span.Span.without.Goals as goal
 
 pub returns : goal.returns
 returns c =

@@ -8,29 +8,29 @@ ghost use Rattle.nit_rect.specs.Limits.{most_length, most_edge, most_width};
 
 /// The `long` places from `from` on.
 #[derive(Clone, Copy)]
-pub struct Run {
+pub struct Span {
     pub from: i16,
     pub long: u16,
     ghost short: { long ≤ most_length },
 }
 
-/// What is left of a run round a cut.
+/// What is left of a span round a cut.
 #[derive(Clone, Copy)]
-pub struct Rest {
-    pub before: Run,
-    pub after: Run,
+pub struct SpansLeft {
+    pub before: Span,
+    pub after: Span,
 }
 
-impl Run {
-    /// The first place behind the run.
+impl Span {
+    /// The first place behind the span.
     fn end(self) -> i32
         ensures { result ≡ self.from +ℤ pos self.long }
     {
         self.from as i32 + self.long as i32
     }
 
-    /// The places of the run that lie before `end`.
-    fn before(self, end: i32) -> Run
+    /// The places of the span that lie before `end`.
+    fn before(self, end: i32) -> Span
         requires low { negsuc most_edge ≤ℤ end }
         requires high { end ≤ℤ pos most_edge }
         ensures { (at : ℤ)
@@ -38,12 +38,12 @@ impl Run {
     {
         let room = end - self.from as i32;
         if room <= 0 {
-            Run {
+            Span {
                 from: self.from,
                 long: 0,
             }
         } else if room < self.long as i32 {
-            Run {
+            Span {
                 from: self.from,
                 long: room as u16,
             }
@@ -52,8 +52,8 @@ impl Run {
         }
     }
 
-    /// The places that both runs have.
-    pub fn meet(self, other: Run) -> Run
+    /// The places that both spans have.
+    pub fn meet(self, other: Span) -> Span
         ensures { (at : ℤ)
             → spans result.from result.long at
             ≡ (spans self.from self.long at && spans other.from other.long at) }
@@ -65,16 +65,16 @@ impl Run {
         }
     }
 
-    /// Whether the run neither begins before the other nor ends behind it.
-    pub fn is_within(self, other: Run) -> bool
+    /// Whether the span neither begins before the other nor ends behind it.
+    pub fn is_within(self, other: Span) -> bool
         ensures { result ≡ (int_le other.from self.from
             && int_le (self.from +ℤ pos self.long) (other.from +ℤ pos other.long)) }
     {
         other.from <= self.from && self.end() <= other.end()
     }
 
-    /// What is left of the run round the cut, which lies within it.
-    pub fn without(self, cut: Run) -> Rest
+    /// What is left of the span round the cut, which lies within it.
+    pub fn without(self, cut: Span) -> SpansLeft
         requires screen { (self.from +ℤ pos self.long) ≤ℤ pos most_width }
         requires begins { self.from ≤ℤ cut.from }
         requires ends { (cut.from +ℤ pos cut.long) ≤ℤ (self.from +ℤ pos self.long) }
@@ -86,12 +86,12 @@ impl Run {
     {
         let before = cut.from as i32 - self.from as i32;
         let after = self.end() - cut.end();
-        Rest {
-            before: Run {
+        SpansLeft {
+            before: Span {
                 from: self.from,
                 long: before as u16,
             },
-            after: Run {
+            after: Span {
                 from: cut.end() as i16,
                 long: after as u16,
             },

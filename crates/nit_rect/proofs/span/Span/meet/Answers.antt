@@ -1,5 +1,5 @@
 use Rattle.nit_rect.proofs.Lemmas.{arith, ints, spans_earlier, ◌∙◌}
-use Rattle.nit_rect.proofs.run.Run.meet.Goals as goal
+use Rattle.nit_rect.proofs.span.Span.meet.Goals as goal
 
 pub returns-else-self-other : goal.returns-else-self-other
 returns-else-self-other c =

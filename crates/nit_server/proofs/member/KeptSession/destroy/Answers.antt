@@ -1,5 +1,5 @@
 use Rattle.nit_server.proofs.Lemmas.{Destroy, KeptSessionModel, accepted, ap, session_without, ◌∙◌}
-use Rattle.nit_server.proofs.member.Member.destroy.Goals as goal
+use Rattle.nit_server.proofs.member.KeptSession.destroy.Goals as goal
 
 pub returns-clause-session : goal.returns-clause-session
 returns-clause-session c =
