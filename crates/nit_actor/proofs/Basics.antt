@@ -18,8 +18,8 @@ pub use Rattle.nit_actor.specs.Terms.{scenery_of, shot_name, shots, shown, slice
 pub use Rattle.nit_actor.specs.Terms.{slice_index_or, user_actions_from, user_actions_in}
 pub use Rattle.nit_actor.specs.Terms.{user_actions_of, user_actions_to_do, user_phase_left}
 pub use Rattle.nit_actor.specs.Terms.{user_role_of}
-pub use Rattle.nit_hall.proofs.ForCallers.{counted_more, counted_same, deeds_line}
-pub use Rattle.nit_journal.proofs.ForCallers.{deeds_of-append, same_throughout}
+pub use Rattle.nit_hall.proofs.ForCallers.{counted_more, counted_same, actions_line}
+pub use Rattle.nit_journal.proofs.ForCallers.{actions_of-append, same_throughout}
 pub use Rattle.nit_rounds.proofs.ForCallers.{as_many_files, file_of_a_shot, files_both, no_files}
 pub use Rattle.nit_rounds.proofs.ForCallers.{shots_both}
 pub use Rattle.nit_stack.proofs.ForCallers.{drop_at}

@@ -172,10 +172,10 @@ nothing_recorded entries now p p' l at none same role next =
     ∙ ap (λ (cs : List Call). map action_of entries ++ map (Calls p.sid) cs) (sym (none (drop (p.next + 1) p.script))
     ∙ ap calls_in (sym (drop_at p.script p.next l at)))
 
--- ---- the idle user's deeds
+-- ---- the idle user's actions
 
-pub idle_deeds : (ls : List Line) → user_actions_to_do (idle_user ls) ≡ []
-idle_deeds ls = none 0 (count_by is_phase ls)
+pub idle_actions : (ls : List Line) → user_actions_to_do (idle_user ls) ≡ []
+idle_actions ls = none 0 (count_by is_phase ls)
   where
     none : (p n : ℕ) → user_actions_from p (replicate n input.Phase) ≡ []
     none p zero = refl

@@ -4,8 +4,8 @@ use Rattle.nit_actor.specs.Below.{Unstarted}
 use Rattle.nit_actor.specs.declared.crew.Started.{Started}
 use Rattle.nit_actor.specs.declared.crew.Started.TheVariants.{There, Here}
 
--- There is a flag for each of so many passes, and room for all of them where those wait whose threads
--- could not be started. None waits there.
+-- There is a flag for each of so many passes, and room for all of them where those wait whose
+-- threads could not be started. None waits there.
 pub record HasPlaceFor {P : Type 0} (count : ℕ) (u : Unstarted P) : Type 0 where
   pub waiting : u.waiting.items ≡ []
   pub flags : count ≤ length u.raised.now

@@ -6,7 +6,8 @@ use Rattle.nit_actor.specs.Pictures.{GrowsQuietly, PutsShotsBehind}
 use Rattle.nit_actor.specs.Role.{user_role_of}
 
 -- the user is of this opening, and the desk has room for a frame of its screen and for its picture
-pub record CanShoot {S : Type 0} (parts : OpeningParts) (u : UserPassModel) (d : Desk S) : Type 0 where
+pub record CanShoot {S : Type 0} (parts : OpeningParts) (u : UserPassModel)
+    (d : Desk S) : Type 0 where
   pub user : UserBelongs parts u
   pub frame : length d.frame.items ≡ parts.config.width * parts.config.height
   pub text : length d.text.items ≡ picture_length parts.config.width parts.config.height

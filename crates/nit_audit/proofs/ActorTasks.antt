@@ -69,7 +69,8 @@ all_on None xs ts h = h
 all_on (Some x) xs [] h = absurd (cons≢nil h)
 all_on (Some x) xs (t ∷ ts) h = let e : x ∷ xs ≡ t.1 ∷ done ts = h in cc
 
-pub all_back : {A : Type 0} (own : Option A) (xs : List A) (ts : List (ℕ × A)) → LeadsIf own ts → xs ≡ done (left_if own ts)
+pub all_back : {A : Type 0} (own : Option A) (xs : List A) (ts : List (ℕ × A)) → LeadsIf own ts
+    → xs ≡ done (left_if own ts)
     → consed own xs ≡ done ts
 all_back None xs ts l h = h
 all_back (Some x) xs [] l h = absurd l

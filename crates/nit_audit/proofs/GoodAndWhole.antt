@@ -16,12 +16,12 @@ calls_ended s (entry.Input dev routed ∷ front) = calls_ended s front
 calls_ended s (entry.Shot number ∷ front) = calls_ended s front
 calls_ended s (entry.Final ∷ front) = calls_ended s front
 
-deeds_ended : (front : List Entry) → user_actions_of (front ++ entry.Final ∷ []) ≡ user_actions_of front
-deeds_ended [] = refl
-deeds_ended (entry.Call sid call r ∷ front) = deeds_ended front
-deeds_ended (entry.Input dev routed ∷ front) = cc (deeds_ended front)
-deeds_ended (entry.Shot number ∷ front) = cc (deeds_ended front)
-deeds_ended (entry.Final ∷ front) = deeds_ended front
+actions_ended : (front : List Entry) → user_actions_of (front ++ entry.Final ∷ []) ≡ user_actions_of front
+actions_ended [] = refl
+actions_ended (entry.Call sid call r ∷ front) = actions_ended front
+actions_ended (entry.Input dev routed ∷ front) = cc (actions_ended front)
+actions_ended (entry.Shot number ∷ front) = cc (actions_ended front)
+actions_ended (entry.Final ∷ front) = actions_ended front
 
 -- ---- good entries that end are whole
 
@@ -31,7 +31,7 @@ whole config clients user entries g ended =
     let all : IsAllDone clients user ended.0 = g.final ended.0 [] ended.1 in
     record {
       calls = λ s lt. rw (ended.1, calls_ended) (all.calls s lt);
-      deeds = rw (ended.1, deeds_ended) all.deeds;
+      actions = rw (ended.1, actions_ended) all.actions;
       phases = g.phases;
       ends = ended;
     }
@@ -62,7 +62,7 @@ all_before config clients user entries front rest legal w is =
     let ends = rw none at is in
     record {
       calls = λ s lt. rw (← calls_ended s front, ← ends) (w.calls s lt);
-      deeds = rw (← deeds_ended front, ← ends) w.deeds;
+      actions = rw (← actions_ended front, ← ends) w.actions;
     }
 
 pub good : (config : Configuration) (clients : List (List (ℕ × Call))) (user : List (ℕ × UserAction))
@@ -71,7 +71,7 @@ pub good : (config : Configuration) (clients : List (List (ℕ × Call))) (user 
 good config clients user entries legal w = record {
   legal = legal;
   calls = λ s lt. ([], append-nil (calls_of s entries) ∙ w.calls s lt);
-  deeds = ([], append-nil (user_actions_of entries) ∙ w.deeds);
+  actions = ([], append-nil (user_actions_of entries) ∙ w.actions);
   phases = w.phases;
   final = λ front rest is. all_before config clients user entries front rest legal w is;
 }

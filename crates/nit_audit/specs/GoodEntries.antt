@@ -11,7 +11,7 @@ pub record IsAllDone
     (clients : List (List (ℕ × Call))) (user : List (ℕ × UserAction)) (entries : List Entry)
     : Type 0 where
   pub calls : (sid : ℕ) → sid < length clients → calls_of sid entries ≡ done (to_do clients sid)
-  pub deeds : user_actions_of entries ≡ done user
+  pub actions : user_actions_of entries ≡ done user
 
 -- The entries are legal. The calls of each client are the first ones that it is to make, and the
 -- device events and shots are the first ones that the user is to do. Their phases never fall. A
@@ -22,7 +22,7 @@ pub record IsGoodFor
   pub legal : IsLegal config entries
   pub calls : (sid : ℕ) → sid < length clients
       → IsPrefix (calls_of sid entries) (done (to_do clients sid))
-  pub deeds : IsPrefix (user_actions_of entries) (done user)
+  pub actions : IsPrefix (user_actions_of entries) (done user)
   pub phases : IsNonDecreasing (phases_along clients user entries)
   pub final : (front rest : List Entry) → entries ≡ front ++ entry.Final ∷ rest
       → IsAllDone clients user front

@@ -29,7 +29,8 @@ pub use Rattle.nit_audit.specs.Below.{vec_len, with_pointer, without}
 pub use Rattle.nit_audit.specs.GoodEntries.{IsAllDone, IsGood, IsGoodFor}
 pub use Rattle.nit_audit.specs.Keys.{AllHaveViews, HasView, changed_if, has_key, is_meant, swept}
 pub use Rattle.nit_audit.specs.Keys.{taken_if, view_or, view_under, views_at, with_change}
-pub use Rattle.nit_audit.specs.Underway.{Audited, BeginsWithCall, BeginsWithDeed, IsDue, IsGoodFrom}
+pub use Rattle.nit_audit.specs.Underway.{Audited, BeginsWithCall, BeginsWithAction, IsDue}
+pub use Rattle.nit_audit.specs.Underway.{IsGoodFrom}
 pub use Rattle.nit_audit.specs.Underway.{IsMatched, IsNext, IsNothingLeft, MayFollow, first_audited}
 pub use Rattle.nit_audit.specs.Underway.{followed}
 pub use Rattle.nit_audit.specs.Verdict.{IsEnded, IsLeastBad, IsVerdict, IsVerdictFrom}

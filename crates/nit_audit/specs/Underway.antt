@@ -29,7 +29,7 @@ pub record IsGoodFrom (a : Audited) (entries : List Entry) : Type 0 where
   pub legal : LegalFrom a.state a.taken entries
   pub calls : (sid : ℕ) → sid < length a.clients
       → IsPrefix (calls_of sid entries) (done (to_do a.clients sid))
-  pub deeds : IsPrefix (user_actions_of entries) (done a.user)
+  pub actions : IsPrefix (user_actions_of entries) (done a.user)
   pub phases : IsNonDecreasing (a.phase ∷ phases_along a.clients a.user entries)
   pub final : (front rest : List Entry) → entries ≡ front ++ entry.Final ∷ rest
       → IsAllDone a.clients a.user front
@@ -43,7 +43,7 @@ IsNext phase x (t ∷ ts) = (phase ≤ t.0) × (x ≡ t.1)
 pub record IsNothingLeft (clients : List (List (ℕ × Call)))
     (user : List (ℕ × UserAction)) : Type 0 where
   pub calls : (sid : ℕ) → sid < length clients → to_do clients sid ≡ []
-  pub deeds : user ≡ []
+  pub actions : user ≡ []
 
 -- the entry's actor does what it is to do next; the last picture comes when nothing is left
 abbrev pub IsDue : Audited → Entry → Type 0
@@ -85,7 +85,7 @@ BeginsWithCall (line.Call call ∷ rest) = Unit {0}
 BeginsWithCall (other ∷ rest) = ⊥
 
 -- the next line of the input script is a device event or a shot, where there is one
-abbrev pub BeginsWithDeed : List InputLine → Type 0
-BeginsWithDeed [] = Unit {0}
-BeginsWithDeed (input.Phase ∷ rest) = ⊥
-BeginsWithDeed (other ∷ rest) = Unit {0}
+abbrev pub BeginsWithAction : List InputLine → Type 0
+BeginsWithAction [] = Unit {0}
+BeginsWithAction (input.Phase ∷ rest) = ⊥
+BeginsWithAction (other ∷ rest) = Unit {0}

@@ -1,7 +1,7 @@
 //! What the input script has still to do.
 
 ghost use Rattle.std.specs.Prelude.{◌≡◌, ◌↔◌, ◌+◌, ◌≤◌, [], IsTrue, IfSome, IfNone, length};
-ghost use Rattle.nit_audit.specs.Terms.{AllByRecursion, BeginsWithDeed, Does, FitsInputLine};
+ghost use Rattle.nit_audit.specs.Terms.{AllByRecursion, BeginsWithAction, Does, FitsInputLine};
 ghost use Rattle.nit_audit.specs.Terms.{IsDevice, IsNext, Shoots, left, most_lines, next_phase};
 ghost use Rattle.nit_audit.specs.Terms.{user_actions_from, user_actions_to_do};
 
@@ -53,7 +53,7 @@ impl<'a> UserCourse<'a> {
         ensures range { IfSome result (λ _. IsDevice dev) }
         ensures not_next { IfNone result (IsNext from (Does dev) self.old → ⊥) }
     {
-        let (phase, lines) = next_deed(self.lines, self.phase);
+        let (phase, lines) = next_action(self.lines, self.phase);
         let Some((line, rest)) = lines.split_first() else {
             return None;
         };
@@ -73,7 +73,7 @@ impl<'a> UserCourse<'a> {
         ensures left { IfSome result (λ _. self.new ≡ left self.old) }
         ensures not_next { IfNone result (IsNext from Shoots self.old → ⊥) }
     {
-        let (phase, lines) = next_deed(self.lines, self.phase);
+        let (phase, lines) = next_action(self.lines, self.phase);
         let Some((line, rest)) = lines.split_first() else {
             return None;
         };
@@ -89,18 +89,18 @@ impl<'a> UserCourse<'a> {
     pub(crate) fn is_done(&self) -> bool
         ensures { IsTrue result ↔ (self.now ≡ []) }
     {
-        let (_phase, lines) = next_deed(self.lines, self.phase);
+        let (_phase, lines) = next_action(self.lines, self.phase);
         lines.is_empty()
     }
 }
 
 /// The lines from the next device event or shot on, and the phase that it is in. Ends of phases
 /// before it are passed by.
-fn next_deed(lines: &[InputLine], phase: u32) -> (u32, &[InputLine])
+fn next_action(lines: &[InputLine], phase: u32) -> (u32, &[InputLine])
     requires few { phase + length lines.now ≤ most_lines }
     requires fits { AllByRecursion FitsInputLine lines.now }
-    ensures deeds { user_actions_from result.0 result.1.now ≡ user_actions_from phase lines.now }
-    ensures begins { BeginsWithDeed result.1.now }
+    ensures actions { user_actions_from result.0 result.1.now ≡ user_actions_from phase lines.now }
+    ensures begins { BeginsWithAction result.1.now }
     ensures few { result.0 + length result.1.now ≤ most_lines }
     ensures fits { AllByRecursion FitsInputLine result.1.now }
 {

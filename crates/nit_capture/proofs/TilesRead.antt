@@ -41,7 +41,8 @@ record IsSet (w h t k left x : ℕ) (frame : List ℕ) : Type 0 where
   apart : IsOther w t (k + 1) (k + 1 + left) (place w t k)
   mine : slice_index (slice_set frame (place w t k) x) (place w t k) ≡ x
   later : (i : ℕ) → IsOther w t k (k + suc left) i → IsOther w t (k + 1) (k + 1 + left) i
-  others : (i : ℕ) → IsOther w t k (k + suc left) i → slice_index (slice_set frame (place w t k) x) i ≡ slice_index frame i
+  others : (i : ℕ) → IsOther w t k (k + suc left) i
+      → slice_index (slice_set frame (place w t k) x) i ≡ slice_index frame i
   news : (p : List ℕ) → any_new w t (k + 1) left (slice_set frame (place w t k) x) p ≡ any_new w t (k + 1) left frame p
 
 is_set : {w h t : ℕ} {frame : List ℕ} → Here w h t frame → (k left x : ℕ) → k + suc left ≡ area w h t

@@ -2,7 +2,8 @@
 pub use Rattle.nit_config.specs.Terms.{AllByRecursion, AllZip, ConfigError, Configuration, Data}
 pub use Rattle.nit_config.specs.Terms.{Err, HasNoTable, HasRefusedTable, HoldsClient, HoldsTable}
 pub use Rattle.nit_config.specs.Terms.{IfOk, IsConfigAnswer, IsConfiguration, IsConfigurationOf}
-pub use Rattle.nit_config.specs.Terms.{IsMember, IsUtf8, TableKey, KeyRow, Kind, Label, MeetsRefusal}
+pub use Rattle.nit_config.specs.Terms.{IsMember, IsUtf8, TableKey, KeyRow, Kind, Label}
+pub use Rattle.nit_config.specs.Terms.{MeetsRefusal}
 pub use Rattle.nit_config.specs.Terms.{Member, Members, Missing, NoMemory, None, Option, Range}
 pub use Rattle.nit_config.specs.Terms.{ReadsTable, Some, Syntax, TooMany, Twice, Unknown}
 pub use Rattle.nit_config.specs.Terms.{UnlessMemory, Value, array, as_integer, as_str, as_table}

@@ -1,7 +1,8 @@
 -- The keys of a configuration.
 use Rattle.std.specs.Prelude.{ℕ, Bool, true, false, not, ◌&&◌, ◌||◌, is_some, is_none, List, []}
 use Rattle.std.specs.Prelude.{◌∷◌, map, codes, bytes_eq}
-use Rattle.nit_config.specs.Below.{Boolean, Client, Data, Input, Integer, TableKey, Members, TablePlace}
+use Rattle.nit_config.specs.Below.{Boolean, Client, Data, Input, Integer, TableKey, Members}
+use Rattle.nit_config.specs.Below.{TablePlace}
 use Rattle.nit_config.specs.Below.{Screen, Table, Tables, Text, Top, as_array, as_bool, as_integer}
 use Rattle.nit_config.specs.Below.{as_str, as_table, get_member, list_all, list_any, member}
 use Rattle.nit_config.specs.Below.{no_members, option_map_or}

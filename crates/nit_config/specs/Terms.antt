@@ -1,6 +1,7 @@
 -- The words that clauses use: those that come from outside, and those of this crate.
 pub use Rattle.nit_config.specs.Below.{AllByRecursion, AllZip, ConfigError, Data, Err, IfOk, IsUtf8}
-pub use Rattle.nit_config.specs.Below.{TableKey, Kind, Label, Members, Missing, NoMemory, None, Option}
+pub use Rattle.nit_config.specs.Below.{TableKey, Kind, Label, Members, Missing, NoMemory, None}
+pub use Rattle.nit_config.specs.Below.{Option}
 pub use Rattle.nit_config.specs.Below.{Range, Some, Syntax, TooMany, Twice, Unknown, Value, array}
 pub use Rattle.nit_config.specs.Below.{as_integer, as_str, as_table, boolean, bytes_eq, datetime}
 pub use Rattle.nit_config.specs.Below.{first_printable, float, get_member, int_lt, integer}

@@ -26,7 +26,8 @@
 //! the ranges above, which
 //! `IsConfigured` says in the contracts.
 //!
-//! The tests are in `nit_tests`: `scripts/text_tests`, and `top/bad_config_tests` by whole runs.
+//! The tests are `scripts/text_tests` of `nit_tests`, and by whole runs `bad_config_tests` of
+//! `nit_top_tests`.
 #![tactic(auto)]
 
 mod build;

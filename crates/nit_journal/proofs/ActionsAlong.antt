@@ -1,4 +1,4 @@
--- A journal with one more entry: its calls, its deeds and its phases.
+-- A journal with one more entry: its calls, its actions and its phases.
 use Rattle.std.proofs.Common.{Bool, List, [], ap, append-nil, arith, cond, drop, false}
 use Rattle.std.proofs.Common.{get_or-set_other, get_or-set_same, inl, inr, length, length-set, refl}
 use Rattle.std.proofs.Common.{set, subst, suc, sym, true, zero, ℕ, ◌++◌, ◌==◌, ◌∙◌, ◌∷◌, ◌≡◌, ◌≢◌}
@@ -39,19 +39,20 @@ pub calls_other : (t sid : ℕ) (es : List Entry) (c : Call) (r : Reply) → sid
 calls_other t sid es c r ne =
     calls_same t es (entry.Call sid c r) (ap (λ (b : Bool). cond b (c ∷ []) []) (ne_eqb sid t ne))
 
--- ---- deeds
+-- ---- actions
 
-pub deeds_of-append : (es fs : List Entry) → user_actions_of (es ++ fs) ≡ user_actions_of es ++ user_actions_of fs
-deeds_of-append [] fs = refl
-deeds_of-append (entry.Call sid c r ∷ es) fs = deeds_of-append es fs
-deeds_of-append (entry.Input dev routed ∷ es) fs = ap (λ (ds : List UserAction). Does dev ∷ ds) (deeds_of-append es fs)
-deeds_of-append (entry.Shot number ∷ es) fs = ap (λ (ds : List UserAction). Shoots ∷ ds) (deeds_of-append es fs)
-deeds_of-append (entry.Final ∷ es) fs = deeds_of-append es fs
+pub actions_of-append : (es fs : List Entry) → user_actions_of (es ++ fs) ≡ user_actions_of es ++ user_actions_of fs
+actions_of-append [] fs = refl
+actions_of-append (entry.Call sid c r ∷ es) fs = actions_of-append es fs
+actions_of-append (entry.Input dev routed ∷ es) fs = ap (λ (ds : List UserAction). Does dev ∷ ds)
+    (actions_of-append es fs)
+actions_of-append (entry.Shot number ∷ es) fs = ap (λ (ds : List UserAction). Shoots ∷ ds) (actions_of-append es fs)
+actions_of-append (entry.Final ∷ es) fs = actions_of-append es fs
 
 -- an entry that is none of the user's
-pub deeds_same : (es : List Entry) (e : Entry) → user_actions_of (e ∷ []) ≡ []
+pub actions_same : (es : List Entry) (e : Entry) → user_actions_of (e ∷ []) ≡ []
     → user_actions_of (es ++ e ∷ []) ≡ user_actions_of es
-deeds_same es e none = deeds_of-append es (e ∷ []) ∙ ap (λ (ds : List UserAction). user_actions_of es ++ ds) none
+actions_same es e none = actions_of-append es (e ∷ []) ∙ ap (λ (ds : List UserAction). user_actions_of es ++ ds) none
     ∙ append-nil (user_actions_of es)
 
 -- ---- phases
@@ -111,19 +112,19 @@ abbrev pub IsUsers : Entry → Type 0
 IsUsers e = (clients : Todo) (user : List (ℕ × UserAction)) → phases_along clients user (e ∷ []) ≡ next_phase user ∷ []
 
 -- the phase of one more of them is that of what the user is to do next
-pub phases_deed : (clients : Todo) (user : List (ℕ × UserAction)) (es : List Entry) (e : Entry) → IsUsers e
+pub phases_action : (clients : Todo) (user : List (ℕ × UserAction)) (es : List Entry) (e : Entry) → IsUsers e
     → phases_along clients user (es ++ e ∷ []) ≡ phases_along clients user es
     ++ next_phase (drop (length (user_actions_of es)) user) ∷ []
-phases_deed clients user [] e is = is clients user
-phases_deed clients user (entry.Call s d q ∷ es) e is =
-    ap (λ (ps : List ℕ). next_phase (to_do clients s) ∷ ps) (phases_deed (one_done clients s) user es e is)
-phases_deed clients user (entry.Input dev routed ∷ es) e is =
-    ap (λ (ps : List ℕ). next_phase user ∷ ps) (phases_deed clients (left user) es e is
+phases_action clients user [] e is = is clients user
+phases_action clients user (entry.Call s d q ∷ es) e is =
+    ap (λ (ps : List ℕ). next_phase (to_do clients s) ∷ ps) (phases_action (one_done clients s) user es e is)
+phases_action clients user (entry.Input dev routed ∷ es) e is =
+    ap (λ (ps : List ℕ). next_phase user ∷ ps) (phases_action clients (left user) es e is
     ∙ ap (λ (p : ℕ). phases_along clients (left user) es ++ p ∷ []) (next_left (length (user_actions_of es)) user))
-phases_deed clients user (entry.Shot number ∷ es) e is =
-    ap (λ (ps : List ℕ). next_phase user ∷ ps) (phases_deed clients (left user) es e is
+phases_action clients user (entry.Shot number ∷ es) e is =
+    ap (λ (ps : List ℕ). next_phase user ∷ ps) (phases_action clients (left user) es e is
     ∙ ap (λ (p : ℕ). phases_along clients (left user) es ++ p ∷ []) (next_left (length (user_actions_of es)) user))
-phases_deed clients user (entry.Final ∷ es) e is = phases_deed clients user es e is
+phases_action clients user (entry.Final ∷ es) e is = phases_action clients user es e is
 
 -- the last picture is of no phase
 pub phases_final : (clients : Todo) (user : List (ℕ × UserAction)) (es : List Entry)

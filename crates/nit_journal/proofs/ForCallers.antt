@@ -1,7 +1,8 @@
 -- What other crates cite of journals: calls, sessions and states along them, and what a refusal tells.
 pub use Rattle.nit_journal.proofs.ActionsAlong.{IsUsers, calls_of-append, calls_other, calls_own}
-pub use Rattle.nit_journal.proofs.ActionsAlong.{calls_same, deeds_of-append, deeds_same, drop_left}
-pub use Rattle.nit_journal.proofs.ActionsAlong.{phases_call, phases_deed, phases_final}
+pub use Rattle.nit_journal.proofs.ActionsAlong.{calls_same, actions_of-append, actions_same}
+pub use Rattle.nit_journal.proofs.ActionsAlong.{drop_left}
+pub use Rattle.nit_journal.proofs.ActionsAlong.{phases_call, phases_action, phases_final}
 pub use Rattle.nit_journal.proofs.CallRefusals.{accepted_reply, first_none, holds_of, refused_reply}
 pub use Rattle.nit_journal.proofs.CallRefusals.{second_none, serve_accepted, serve_refused}
 pub use Rattle.nit_journal.proofs.CallRefusals.{taken_reply, within_quota, within_reserve}

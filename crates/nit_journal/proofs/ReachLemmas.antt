@@ -33,7 +33,8 @@ first_goes clicks pointed i k none no_xray no_kill =
     ∙ ap (λ (held : List ℕ). if list_any (λ j. j == k) held then Input.ignored i else Input.pressing held clicks pointed
     i k) none
 
-pub key_goes : (clicks : Bool) (pointed : Option ℕ) (i : InputState) (k : ℕ) → i.mode ≡ Flat → i.held ≡ [] → is_key k ≡ true
+pub key_goes : (clicks : Bool) (pointed : Option ℕ) (i : InputState) (k : ℕ) → i.mode ≡ Flat → i.held ≡ []
+    → is_key k ≡ true
     → (Input.press clicks pointed i k).deliveries ≡ Input.to i.focus (event.Press k)
 key_goes clicks pointed i k flat none key =
     let parts = and_parts (not (Input.is_button k)) (not (is_mode_key k)) key in

@@ -10,7 +10,7 @@ pub data UserAction : Type 0 where
   Does : Device → UserAction
   Shoots : UserAction
 
--- what an entry is of: a session's call, the user's deed, or the last picture
+-- what an entry is of: a session's call, the user's action, or the last picture
 pub data Action : Type 0 where
   Calls : ℕ → Call → Action
   Acts : UserAction → Action
@@ -71,6 +71,6 @@ phases_along clients user (entry.Final ∷ rest) = phases_along clients user res
 pub record IsWhole (clients : List (List (ℕ × Call))) (user : List (ℕ × UserAction))
     (journal : List Entry) : Type 0 where
   pub calls : (sid : ℕ) → sid < length clients → calls_of sid journal ≡ done (to_do clients sid)
-  pub deeds : user_actions_of journal ≡ done user
+  pub actions : user_actions_of journal ≡ done user
   pub phases : IsNonDecreasing (phases_along clients user journal)
   pub ends : (front : List Entry) × (journal ≡ front ++ entry.Final ∷ [])

@@ -268,10 +268,10 @@ pub fn input_goes_where_it_is_meant()
         → All (KillsPointed s) (route s.config s.input s.stack dev).deliveries }
 {}
 
-/// Where input goes along any steps from a state in which the user has done nothing yet. The session
-/// that receives what is held got the press of each code that is held, since it last opened. In the
-/// modes Xray and Kill no session gets a key, a button, a motion or a turn of the wheel, as
-/// [`input_goes_where_it_is_meant`] says of journals.
+/// Where input goes along any steps from a state in which the user has done nothing yet. The
+/// session that receives what is held got the press of each code that is held, since it last
+/// opened. In the modes Xray and Kill no session gets a key, a button, a motion or a turn of the
+/// wheel, as [`input_goes_where_it_is_meant`] says of journals.
 pub fn input_goes_where_it_is_meant_along_steps()
     ensures receiver { (s : State) (steps : List Step) (x k : ℕ)
         → AreLive s → s.input ≡ first_input → AreSteps s steps → let now = after_steps s steps in

@@ -4,8 +4,8 @@
 //! [`refusing`] has the reasons for which a session's machine refuses a call, for every crate that
 //! keeps a session.
 //!
-//! The tests are those of its texts and of audits in `nit_tests`: `scripts/text_tests`,
-//! `top/edit_tests`.
+//! The tests are `scripts/text_tests` of `nit_tests`, and by audits `edit_tests` of
+//! `nit_top_tests`.
 #![tactic(auto)]
 
 mod journal;

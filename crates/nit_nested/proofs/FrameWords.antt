@@ -1,5 +1,6 @@
 -- The lines of a frame tell its words.
-use Rattle.nit_nested.proofs.Basics.{All, FitsColour, IsFrame, IsNest, Line, List, ColourRun, [], add-one}
+use Rattle.nit_nested.proofs.Basics.{All, FitsColour, IsFrame, IsNest, Line, List, ColourRun, []}
+use Rattle.nit_nested.proofs.Basics.{add-one}
 use Rattle.nit_nested.proofs.Basics.{all_append, ap, append-nil, arith, cases_eq, count_lines, drop}
 use Rattle.nit_nested.proofs.Basics.{eq-eqb, fills, flat_map, flat_map-append, frame_lines, inl}
 use Rattle.nit_nested.proofs.Basics.{inr, length, map-append, most_lines, mul-suc, ne_eqb}

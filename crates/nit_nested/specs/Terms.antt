@@ -7,7 +7,8 @@ pub use Rattle.nit_nested.specs.Below.{first_session, flat_map, is_accepted, is_
 pub use Rattle.nit_nested.specs.Below.{most_lines, most_width, painted_from, phases, pos}
 pub use Rattle.nit_nested.specs.Below.{prefix_len, refusal, serve, session_size, static, taking}
 pub use Rattle.nit_nested.specs.Below.{word_after_stroke, words_left, zeros}
-pub use Rattle.nit_nested.specs.FrameLines.{IsFrame, ColourRun, fills, frame_lines, row_lines, row_runs}
+pub use Rattle.nit_nested.specs.FrameLines.{IsFrame, ColourRun, fills, frame_lines, row_lines}
+pub use Rattle.nit_nested.specs.FrameLines.{row_runs}
 pub use Rattle.nit_nested.specs.FrameLines.{rows_lines, run_joined, words_of_lines}
 pub use Rattle.nit_nested.specs.FrameScript.{count_lines, first_forbidden, frame_script}
 pub use Rattle.nit_nested.specs.FrameScript.{frames_behind, is_forbidden, next_frame, woven}

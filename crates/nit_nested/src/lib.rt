@@ -6,7 +6,8 @@
 //! first line that may not stand in the other script, since it would change the buffer or its
 //! words.
 //!
-//! The tests are in `nit_tests`: `scenes/nest_tests`, and `top/nested_tests` by whole runs.
+//! The tests are `scenes/nest_tests` of `nit_tests`, and by whole runs `nested_tests` of
+//! `nit_top_tests`.
 #![tactic(auto)]
 
 mod error;

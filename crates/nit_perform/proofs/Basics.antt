@@ -1,8 +1,8 @@
 -- What lemmas use: the words of clauses, the library's lemmas, and those of the crates below.
 pub use Rattle.nit_actor.proofs.ForCallers.{fit_again, fits_belongs, role_at, roles_fit, roles_long}
 pub use Rattle.nit_rounds.proofs.ForCallers.{files_both, no_files}
-pub use Rattle.nit_hall.proofs.ForCallers.{deeds_done, told_word}
-pub use Rattle.nit_journal.proofs.ForCallers.{as_many_as_clients, deeds_of-append, kept_config}
+pub use Rattle.nit_hall.proofs.ForCallers.{actions_done, told_word}
+pub use Rattle.nit_journal.proofs.ForCallers.{as_many_as_clients, actions_of-append, kept_config}
 pub use Rattle.nit_journal.proofs.ForCallers.{same_throughout}
 pub use Rattle.nit_overlay.proofs.ForCallers.{same_frame}
 pub use Rattle.nit_perform.specs.Terms.{ActorLine, AfterPut, All, AllByRecursion, AreBlank}

@@ -11,7 +11,7 @@ use Rattle.nit_perform.proofs.Basics.{OpeningParts, PassModel, PixelSource, Plan
 use Rattle.nit_perform.proofs.Basics.{PutsAll, PutsNext, PutsShotsBehind, Ran, Role, RoomModel}
 use Rattle.nit_perform.proofs.Basics.{Setup, ShotsBehind, State, StoreModel, UserAction}
 use Rattle.nit_perform.proofs.Basics.{UserBelongs, UserPassModel, UserRole, Word, append-nil}
-use Rattle.nit_perform.proofs.Basics.{calls_to_make, deeds_done, deeds_of-append, donation_of}
+use Rattle.nit_perform.proofs.Basics.{calls_to_make, actions_done, actions_of-append, donation_of}
 use Rattle.nit_perform.proofs.Basics.{events_files, files_both, final_name, final_picture}
 use Rattle.nit_perform.proofs.Basics.{first_pass, first_state, fit_again, fits_belongs, frame}
 use Rattle.nit_perform.proofs.Basics.{get_or-map-range_with_len, journal_file, left_word, new_sight}
@@ -167,9 +167,9 @@ known_whole scripts input next known entries journal (more, front) ended is all 
     let rest = more ++ entry.Final ∷ [] in
     let parts : journal ≡ known ++ rest = ended ∙ ap (λ (es : List Entry). es ++ entry.Final ∷ []) (sym front)
     ∙ append_assoc known more (entry.Final ∷ []) in
-    let deeds : user_actions_of known ≡ user_actions_of journal = is
-    ∙ ap user_actions_in (take_all next input (omega (arith, all))) ∙ deeds_done 0 input ∙ sym whole.deeds in
-    let n = ap length (deeds ∙ ap user_actions_of parts ∙ deeds_of-append known rest) in (
+    let actions : user_actions_of known ≡ user_actions_of journal = is
+    ∙ ap user_actions_in (take_all next input (omega (arith, all))) ∙ actions_done 0 input ∙ sym whole.actions in
+    let n = ap length (actions ∙ ap user_actions_of parts ∙ actions_of-append known rest) in (
       rest,
       parts,
       empty (user_actions_of rest)

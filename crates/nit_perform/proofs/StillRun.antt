@@ -119,13 +119,13 @@ alone_leaves one_client idle once config scripts lines first new journal ran (sc
     outputs : List File
     outputs = (final_name, final_picture s journal) ∷ []
 
-    no_deeds : user_actions_to_do lines ≡ []
-    no_deeds = ap user_actions_to_do quiet ∙ idle script
+    no_actions : user_actions_to_do lines ≡ []
+    no_actions = ap user_actions_to_do quiet ∙ idle script
 
     by_rounds : (entries : List Entry) × AreRoundsOf entries scripts lines × (journal ≡ entries ++ entry.Final ∷ [])
     by_rounds = subst (λ (ss : List (List Line)). (entries : List Entry) × AreRoundsOf entries ss lines
         × (journal ≡ entries ++ entry.Final ∷ [])) (sym are)
-        (one_client config script lines journal one no_deeds legal
+        (one_client config script lines journal one no_actions legal
         (subst (λ (ss : List (List Line)). IsWhole (map calls_to_make ss) (user_actions_to_do lines) journal) are
         whole))
 

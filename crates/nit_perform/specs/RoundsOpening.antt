@@ -1,6 +1,7 @@
 -- A run before its first round.
 use Rattle.std.specs.Prelude.{◌≡◌, ◌+◌, ◌≤◌, List, [], length, map}
-use Rattle.nit_perform.specs.Below.{Configuration, InputLine, IsSetUp, Line, OpenedRounds, PlanModel}
+use Rattle.nit_perform.specs.Below.{Configuration, InputLine, IsSetUp, Line, OpenedRounds}
+use Rattle.nit_perform.specs.Below.{PlanModel}
 use Rattle.nit_perform.specs.Below.{Sight, actions_of_turns, donation_of, glass_after}
 use Rattle.nit_perform.specs.Below.{picture_length, plan_of_script, range_with_len, rounds}
 use Rattle.nit_perform.specs.Below.{script_in}

@@ -2,7 +2,8 @@
 use Rattle.std.proofs.Common.{List, None, Option, Some, ap, arith, inl, inr, max, refl, subst, sym}
 use Rattle.std.proofs.Common.{ℕ, ◌<◌, ◌∙◌, ◌≡◌, ◌≤◌, ◌⊎◌}
 use Rattle.nit_place.proofs.Basics.{IfSome, IsAtEdges, IsBefore, IsColumn, IsEdge, IsFree, IsLeast}
-use Rattle.nit_place.proofs.Basics.{IsLeastFree, IsRow, IsSearched, IsWithinScreen, NoPair, ScreenPart}
+use Rattle.nit_place.proofs.Basics.{IsLeastFree, IsRow, IsSearched, IsWithinScreen, NoPair}
+use Rattle.nit_place.proofs.Basics.{ScreenPart}
 use Rattle.nit_place.proofs.Basics.{Point, SlotView, View, area_of, bottom_of, false_from_ne_true}
 use Rattle.nit_place.proofs.Basics.{find_at, fits, fresh, ints, is_slot, label_place, length-map}
 use Rattle.nit_place.proofs.Basics.{negsuc, on_screen, option_map, part_at, point, pos}
@@ -106,7 +107,8 @@ is_within front n area width height w h right bottom (Some q) (x, y, is, found) 
     })
 
 -- the search, by the number of views in front and the area that were worked out
-pub searched_by : (front : ℕ → ScreenPart) (n m : ℕ) (area again : ScreenPart) (w h : ℕ) (o : Option Point) → n ≡ m → area ≡ again
+pub searched_by : (front : ℕ → ScreenPart) (n m : ℕ) (area again : ScreenPart) (w h : ℕ) (o : Option Point) → n ≡ m
+    → area ≡ again
     → IsSearched front n area w h o → IsSearched front m again w h o
 searched_by front n m area again w h o e f found =
     subst (λ k. IsSearched front k again w h o) e (subst (λ (a : ScreenPart). IsSearched front n a w h o) f found)

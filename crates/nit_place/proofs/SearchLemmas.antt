@@ -2,7 +2,8 @@
 use Rattle.std.proofs.Common.{Bool, None, Option, Some, ap, arith, cond, false, inl, inr, ltb, min}
 use Rattle.std.proofs.Common.{refl, subst, sym, true, ℕ, ◌+◌, ◌<◌, ◌∙◌, ◌≡◌, ◌≤◌, ◌⊎◌}
 use Rattle.nit_place.proofs.Basics.{IfSome, IsBlocking, IsEdge, IsFree, IsFull, IsLeastInRow}
-use Rattle.nit_place.proofs.Basics.{IsSearched, ScreenPart, cases_lt, further, meets, nat_tests, nearer}
+use Rattle.nit_place.proofs.Basics.{IsSearched, ScreenPart, cases_lt, further, meets, nat_tests}
+use Rattle.nit_place.proofs.Basics.{nearer}
 use Rattle.nit_place.proofs.Basics.{point}
 use Rattle.nit_place.proofs.BoundLemmas.{below_more}
 
@@ -64,7 +65,8 @@ nearer_is P (Some a) b here before =
     ]
 
 -- past the part that is in the way
-pub row_jump : (front : ℕ → ScreenPart) (n : ℕ) (area : ScreenPart) (w h y x : ℕ) (next : Option ℕ) (r : ScreenPart) (row : ℕ)
+pub row_jump : (front : ℕ → ScreenPart) (n : ℕ) (area : ScreenPart) (w h y x : ℕ) (next : Option ℕ) (r : ScreenPart)
+    (row : ℕ)
     → row ≡ nearer next r.bottom
     → RowSoFar front n area w h y x next → IsBlocking front n x y w h (Some r)
     → RowSoFar front n area w h y r.right (Some row)
@@ -98,7 +100,8 @@ row_jump front n area w h y x next r row e far (k, lt, is, met, right, bottom) =
           (m.bottom, bottom, (k, lt, omega (arith, m.bottom), ap (λ (p : ScreenPart). p.bottom) is)) far.edge);
     }
 
-pub jump_right : (front : ℕ → ScreenPart) (n x y w h : ℕ) (r : ScreenPart) → IsBlocking front n x y w h (Some r) → x < r.right
+pub jump_right : (front : ℕ → ScreenPart) (n x y w h : ℕ) (r : ScreenPart) → IsBlocking front n x y w h (Some r)
+    → x < r.right
 jump_right front n x y w h r (k, lt, is, met, right, bottom) = let m : Meets r x y w h =
     meets-true x y w h r met in m.right
 
@@ -139,7 +142,8 @@ pub block_step : (front : ℕ → ScreenPart) (n x y w h : ℕ) (o : Option Scre
     → meets x y w h r ≡ true → r.right ≤ 65535 → r.bottom ≤ 65535
     → now ≡ further o r → IsBlocking front n x y w h o → IsBlocking front (n + 1) x y w h (Some now)
 block_step front n x y w h None r now is met right bottom e before =
-    subst (λ (p : ScreenPart). IsBlocking front (n + 1) x y w h (Some p)) (sym e) (n, omega arith, is, met, right, bottom)
+    subst (λ (p : ScreenPart). IsBlocking front (n + 1) x y w h (Some p)) (sym e)
+    (n, omega arith, is, met, right, bottom)
 block_step front n x y w h (Some q) r now is met right bottom e (k, lt, same, met', right', bottom') =
     subst (λ (p : ScreenPart). IsBlocking front (n + 1) x y w h (Some p)) (sym e) (go (ltb q.right r.right))
   where
@@ -148,7 +152,8 @@ block_step front n x y w h (Some q) r now is met right bottom e (k, lt, same, me
     go false = (k, omega arith, same, met', right', bottom')
 
 -- one more part is looked at, and is not in the way
-pub clear_step : (front : ℕ → ScreenPart) (n x y w h : ℕ) (o : Option ScreenPart) (r : ScreenPart) → r ≡ front n → meets x y w h r ≡ false
+pub clear_step : (front : ℕ → ScreenPart) (n x y w h : ℕ) (o : Option ScreenPart) (r : ScreenPart) → r ≡ front n
+    → meets x y w h r ≡ false
     → IsBlocking front n x y w h o → IsBlocking front (n + 1) x y w h o
 clear_step front n x y w h None r is clear before =
     below_more n (λ k. meets x y w h (front k) ≡ false) before (ap (meets x y w h) (sym is) ∙ clear)

@@ -39,7 +39,8 @@ nearer None b = b
 nearer (Some a) b = min a b
 
 -- the least column of the row y at which the rectangle is free
-pub record IsLeastInRow (front : ℕ → ScreenPart) (n : ℕ) (area : ScreenPart) (w h y x : ℕ) : Type 0 where
+pub record IsLeastInRow (front : ℕ → ScreenPart) (n : ℕ) (area : ScreenPart)
+    (w h y x : ℕ) : Type 0 where
   pub small : x ≤ most_edge
   pub free : IsFree front n area w h x y
   pub least : (x' : ℕ) → x' < x → IsFree front n area w h x' y → ⊥
@@ -58,7 +59,8 @@ IsRowSearched front n area w h y (Free x) = IsLeastInRow front n area w h y x
 IsRowSearched front n area w h y (Full next) = IsFull front n area w h y next
 
 -- the least place, by row and then by column, at which the rectangle is free
-pub record IsLeastFree (front : ℕ → ScreenPart) (n : ℕ) (area : ScreenPart) (w h x y : ℕ) : Type 0 where
+pub record IsLeastFree (front : ℕ → ScreenPart) (n : ℕ) (area : ScreenPart)
+    (w h x y : ℕ) : Type 0 where
   pub in_row : IsLeastInRow front n area w h y x
   pub above : (x' y' : ℕ) → y' < y → IsFree front n area w h x' y' → ⊥
   pub row : (y ≡ area.top) ⊎ IsEdge front n (λ r. r.bottom) y

@@ -1,5 +1,6 @@
 -- The words that clauses use: those that come from outside, and those of this crate.
-pub use Rattle.nit_place.specs.Below.{AllPairs, Any, IfSome, IsApart, IsStack, NoPair, ScreenPart, Point}
+pub use Rattle.nit_place.specs.Below.{AllPairs, Any, IfSome, IsApart, IsStack, NoPair, ScreenPart}
+pub use Rattle.nit_place.specs.Below.{Point}
 pub use Rattle.nit_place.specs.Below.{Rectangle, SlotView, View, ViewRef, before_first, covers}
 pub use Rattle.nit_place.specs.Below.{fits, flat_map, fresh, fresh_in, has_slot, int_le, int_lt}
 pub use Rattle.nit_place.specs.Below.{is_owner, is_slot, is_view, label_place, list_all, list_any}

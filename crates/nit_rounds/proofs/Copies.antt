@@ -73,7 +73,8 @@ begun s sid w a c =
     same_glass s sid _ (sym (unchanged (rows_to w a c a.y) g
     (for_any (λ words. words ≡ rows_to w a c a.y words) g.words (no_row w a c))))
 
-pub row_drawn : (s now later : SceneModel Sight) (sid w : ℕ) (a : BufferArea) (c : ℕ → ℕ) (j : ℕ) → sid < length s.glasses
+pub row_drawn : (s now later : SceneModel Sight) (sid w : ℕ) (a : BufferArea) (c : ℕ → ℕ) (j : ℕ)
+    → sid < length s.glasses
     → a.x + a.w ≤ w → a.y ≤ j → j < a.y + a.h
     → now ≡ with_glass_of s sid (with_words (rows_to w a c j) (glass_in s.glasses sid))
     → later ≡ with_glass_of now sid (with_words (set_where (is_in_row w a j) c) (glass_in now.glasses sid))
@@ -92,7 +93,8 @@ row_drawn s now later sid w a c j within columns from below was drew =
     ∙ ap (λ (p : SceneModel Sight). with_glass_of p sid after) was
     ∙ ap (λ (gs : List Sight). record s { glasses = gs }) (set-set s.glasses sid before after)
 
-pub all_drawn : (s now : SceneModel Sight) (sid w : ℕ) (a : BufferArea) (c : ℕ → ℕ) (j : ℕ) → a.x + a.w ≤ w → a.y + a.h ≤ j
+pub all_drawn : (s now : SceneModel Sight) (sid w : ℕ) (a : BufferArea) (c : ℕ → ℕ) (j : ℕ) → a.x + a.w ≤ w
+    → a.y + a.h ≤ j
     → now ≡ with_glass_of s sid (with_words (rows_to w a c j) (glass_in s.glasses sid))
     → now ≡ with_glass_of s sid (with_words (set_where (is_number_in w a) c) (glass_in s.glasses sid))
 all_drawn s now sid w a c j columns done was =

@@ -1,6 +1,7 @@
 -- All actors stand at their first lines: nothing is done yet.
 use Rattle.nit_rounds.specs.Places.{left_from}
-use Rattle.nit_rounds.proofs.Basics.{ActorLine, ArePlaces, InputLine, Line, LineTurn, List, LinePlace}
+use Rattle.nit_rounds.proofs.Basics.{ActorLine, ArePlaces, InputLine, Line, LineTurn, List}
+use Rattle.nit_rounds.proofs.Basics.{LinePlace}
 use Rattle.nit_rounds.proofs.Basics.{Places, StandsAt, [], actors, ap, arith, flat_map}
 use Rattle.nit_rounds.proofs.Basics.{get_or-replicate, in_phase, lefts, length, map, phase_count}
 use Rattle.nit_rounds.proofs.Basics.{phase_rounds, range_with_len, refl, replicate, rounds}
@@ -29,7 +30,8 @@ kept_first scripts input few =
       long = refl;
       actor = omega arith;
       phase = omega arith;
-      stand = λ k d inside. subst (λ (p : LinePlace). StandsAt (phase_count scripts input) 0 p (script_of scripts input k))
+      stand = λ k d inside. subst (λ (p : LinePlace). StandsAt (phase_count scripts input) 0 p
+          (script_of scripts input k))
           (sym (get_or-replicate 17 k first_place d (omega arith))) (stands_first scripts input k);
     }
 

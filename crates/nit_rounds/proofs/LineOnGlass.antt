@@ -1,5 +1,6 @@
 -- A line of a script, done on the own glass of its session.
-use Rattle.nit_rounds.proofs.Basics.{BufferArea, FitsInto, IsDonation, IsPaintedTo, IsPlanOf, Line, List}
+use Rattle.nit_rounds.proofs.Basics.{BufferArea, FitsInto, IsDonation, IsPaintedTo, IsPlanOf, Line}
+use Rattle.nit_rounds.proofs.Basics.{List}
 use Rattle.nit_rounds.proofs.Basics.{None, PlanModel, Sight, Some, Step, ap, ap₂, arith, false}
 use Rattle.nit_rounds.proofs.Basics.{get_or, get_or_from_slice_get, glass_after, ink, is_set_by}
 use Rattle.nit_rounds.proofs.Basics.{mul-le-mul_right, plan_of_script, refl, slice_index, static}

@@ -1,7 +1,8 @@
 -- How the actors go on: to the next one with a line to do, into a new round, into a new phase.
 use Rattle.nit_rounds.proofs.Basics.{ActorLine, AllByRecursion, ArePlaces, Bool, ByClient, ByUser}
 use Rattle.nit_rounds.proofs.Basics.{HasTurn, InputLine, IsAtTurn, Line, LineTurn, List, NoneHas}
-use Rattle.nit_rounds.proofs.Basics.{LinePlace, Places, Some, StandsAt, [], actors, add-one, ap, arith}
+use Rattle.nit_rounds.proofs.Basics.{LinePlace, Places, Some, StandsAt, [], actors, add-one, ap}
+use Rattle.nit_rounds.proofs.Basics.{arith}
 use Rattle.nit_rounds.proofs.Basics.{cases_eq, cases_lt, ends_phase, false, get_or, get_or-map}
 use Rattle.nit_rounds.proofs.Basics.{get_or-set_other, get_or-set_same, get_or_default, in_phase}
 use Rattle.nit_rounds.proofs.Basics.{inl, inr, is_active, left_at, left_from, lefts, length}

@@ -29,7 +29,7 @@ first_alone : (l : Line) (ms : List LineTurn)
 first_alone l ms others t = other_line l (lines_of (suc t) ms) (zero == suc t)
     (ne_eqb zero (suc t) (λ e. absurd (omega (arith, e)))) (others t)
 
--- what these moves record, where no client but the first does a line in them, and the user's are no deeds
+-- what these moves record, where no client but the first does a line in them, and the user's are no actions
 abbrev IsAlone : List LineTurn → Type 0
 IsAlone ms = (p q : ℕ) → ((t : ℕ) → lines_of (suc t) ms ≡ []) → user_actions_from q (input_lines_of ms) ≡ []
     → actions_of_turns ms ≡ map (Calls 0) (done (calls_from p (lines_of 0 ms)))
@@ -87,7 +87,7 @@ pub by_rounds_alone : (config : Configuration) (script : List Line) (lines : Lis
 by_rounds_alone config script lines journal one idle legal whole =
     let (front, ends) = whole.ends in
     let own = journal_alone (first_state config) 0 front (as_many_as_clients config [] ∙ one)
-    (subst (λ (js : List Entry). IsLegal config js) ends legal) (ap user_actions_of (sym ends) ∙ whole.deeds
+    (subst (λ (js : List Entry). IsLegal config js) ends legal) (ap user_actions_of (sym ends) ∙ whole.actions
     ∙ ap done idle) in (
       front,
       own ∙ ap (map (Calls 0)) (ap (calls_of 0) (sym ends) ∙ whole.calls 0 (omega arith))

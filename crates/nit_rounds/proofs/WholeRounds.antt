@@ -26,14 +26,14 @@ call_in s p other = []
 abbrev calls_in : ℕ → LineTurn → List (ℕ × Call)
 calls_in s m = call_in s m.phase m.doing
 
--- the user's deed, with its phase
-abbrev deed_in : ℕ → ActorLine → List (ℕ × UserAction)
-deed_in p (ByUser (input.Device d)) = (p, Does d) ∷ []
-deed_in p (ByUser input.Shot) = (p, Shoots) ∷ []
-deed_in p other = []
+-- the user's action, with its phase
+abbrev action_in : ℕ → ActorLine → List (ℕ × UserAction)
+action_in p (ByUser (input.Device d)) = (p, Does d) ∷ []
+action_in p (ByUser input.Shot) = (p, Shoots) ∷ []
+action_in p other = []
 
-abbrev deeds_in : LineTurn → List (ℕ × UserAction)
-deeds_in m = deed_in m.phase m.doing
+abbrev actions_in : LineTurn → List (ℕ × UserAction)
+actions_in m = action_in m.phase m.doing
 
 script_calls : (s p n : ℕ) (ls : List Line) → flat_map (calls_in s) (turns_from p n (map (ByClient s) ls))
     ≡ calls_from p ls
@@ -43,22 +43,23 @@ script_calls s p n (line.Call c ∷ ls) =
 script_calls s p n (line.Stroke x ∷ ls) = script_calls s p (suc n) ls
 script_calls s p n (line.Phase ∷ ls) = script_calls s (suc p) (suc n) ls
 
-script_deeds : (p n : ℕ) (ls : List InputLine) → flat_map deeds_in (turns_from p n (map ByUser ls))
+script_actions : (p n : ℕ) (ls : List InputLine) → flat_map actions_in (turns_from p n (map ByUser ls))
     ≡ user_actions_from p ls
-script_deeds p n [] = refl
-script_deeds p n (input.Device d ∷ ls) = ap (λ (t : List (ℕ × UserAction)). (p, Does d) ∷ t) (script_deeds p (suc n) ls)
-script_deeds p n (input.Shot ∷ ls) = ap (λ (t : List (ℕ × UserAction)). (p, Shoots) ∷ t) (script_deeds p (suc n) ls)
-script_deeds p n (input.Phase ∷ ls) = script_deeds (suc p) (suc n) ls
+script_actions p n [] = refl
+script_actions p n (input.Device d ∷ ls) = ap (λ (t : List (ℕ × UserAction)). (p, Does d) ∷ t)
+    (script_actions p (suc n) ls)
+script_actions p n (input.Shot ∷ ls) = ap (λ (t : List (ℕ × UserAction)). (p, Shoots) ∷ t) (script_actions p (suc n) ls)
+script_actions p n (input.Phase ∷ ls) = script_actions (suc p) (suc n) ls
 
 other_call : (s p t : ℕ) (l : Line) → (t ≡ s → ⊥) → call_in s p (ByClient t l) ≡ []
 other_call s p t (line.Call c) other = rw (ne_eqb t s other) refl
 other_call s p t (line.Stroke x) other = refl
 other_call s p t line.Phase other = refl
 
-no_deed : (p t : ℕ) (l : Line) → deed_in p (ByClient t l) ≡ []
-no_deed p t (line.Call c) = refl
-no_deed p t (line.Stroke x) = refl
-no_deed p t line.Phase = refl
+no_action : (p t : ℕ) (l : Line) → action_in p (ByClient t l) ≡ []
+no_action p t (line.Call c) = refl
+no_action p t (line.Stroke x) = refl
+no_action p t line.Phase = refl
 
 no_call : (s p : ℕ) (l : InputLine) → call_in s p (ByUser l) ≡ []
 no_call s p (input.Device d) = refl
@@ -70,9 +71,10 @@ round_calls : (scripts : List (List Line)) (input : List InputLine) (s : ℕ)
 round_calls scripts input s = client_part (calls_in s) s calls_to_make (λ p n t l other. other_call s p t l other)
     (λ p n l. no_call s p l) refl (script_calls s 0 0) scripts input
 
-round_deeds : (scripts : List (List Line)) (input : List InputLine) → flat_map deeds_in (rounds scripts input)
+round_actions : (scripts : List (List Line)) (input : List InputLine) → flat_map actions_in (rounds scripts input)
     ≡ user_actions_to_do input
-round_deeds scripts input = user_part deeds_in user_actions_to_do (λ p n t l. no_deed p t l) (script_deeds 0 0) scripts
+round_actions scripts input = user_part actions_in user_actions_to_do (λ p n t l. no_action p t l) (script_actions 0 0)
+    scripts
     input
 
 -- ---- one entry
@@ -84,7 +86,7 @@ record IsCall (s : ℕ) (c : Call) (j : Entry) : Type 0 where
       ∷ phases_along (set clients s (left (to_do clients s))) user rest
   calls : (x : ℕ) (rest : List Entry)
       → calls_of x (j ∷ rest) ≡ (if s == x then c ∷ calls_of x rest else calls_of x rest)
-  deeds : (rest : List Entry) → user_actions_of (j ∷ rest) ≡ user_actions_of rest
+  actions : (rest : List Entry) → user_actions_of (j ∷ rest) ≡ user_actions_of rest
 
 is_call : (s : ℕ) (c : Call) (j : Entry) → action_of j ≡ Calls s c → IsCall s c j
 is_call s c (entry.Call t call r) e =
@@ -92,29 +94,29 @@ is_call s c (entry.Call t call r) e =
     let made : call ≡ c = cc in
     subst (λ (x : ℕ). IsCall x c (entry.Call t call r)) same
     (subst (λ (x : Call). IsCall t x (entry.Call t call r)) made
-    (record { phases = λ clients user rest. refl; calls = λ x rest. refl; deeds = λ rest. refl }))
+    (record { phases = λ clients user rest. refl; calls = λ x rest. refl; actions = λ rest. refl }))
 is_call s c (entry.Input dev routed) e = absurd (cc)
 is_call s c (entry.Shot number) e = absurd (cc)
 is_call s c entry.Final e = absurd (cc)
 
--- what an entry that is the user's deed puts in front
-record IsDeed (d : UserAction) (j : Entry) : Type 0 where
+-- what an entry that is the user's action puts in front
+record IsAction (d : UserAction) (j : Entry) : Type 0 where
   phases : (clients : List (List (ℕ × Call))) (user : List (ℕ × UserAction)) (rest : List Entry)
       → phases_along clients user (j ∷ rest) ≡ next_phase user ∷ phases_along clients (left user) rest
   calls : (x : ℕ) (rest : List Entry) → calls_of x (j ∷ rest) ≡ calls_of x rest
-  deeds : (rest : List Entry) → user_actions_of (j ∷ rest) ≡ d ∷ user_actions_of rest
+  actions : (rest : List Entry) → user_actions_of (j ∷ rest) ≡ d ∷ user_actions_of rest
 
-is_deed : (d : UserAction) (j : Entry) → action_of j ≡ Acts d → IsDeed d j
-is_deed d (entry.Input dev routed) e =
+is_action : (d : UserAction) (j : Entry) → action_of j ≡ Acts d → IsAction d j
+is_action d (entry.Input dev routed) e =
     let same : Does dev ≡ d = cc in
-    subst (λ (x : UserAction). IsDeed x (entry.Input dev routed)) same
-    (record { phases = λ clients user rest. refl; calls = λ x rest. refl; deeds = λ rest. refl })
-is_deed d (entry.Shot number) e =
+    subst (λ (x : UserAction). IsAction x (entry.Input dev routed)) same
+    (record { phases = λ clients user rest. refl; calls = λ x rest. refl; actions = λ rest. refl })
+is_action d (entry.Shot number) e =
     let same : Shoots ≡ d = cc in
-    subst (λ (x : UserAction). IsDeed x (entry.Shot number)) same
-    (record { phases = λ clients user rest. refl; calls = λ x rest. refl; deeds = λ rest. refl })
-is_deed d (entry.Call t call r) e = absurd (cc)
-is_deed d entry.Final e = absurd (cc)
+    subst (λ (x : UserAction). IsAction x (entry.Shot number)) same
+    (record { phases = λ clients user rest. refl; calls = λ x rest. refl; actions = λ rest. refl })
+is_action d (entry.Call t call r) e = absurd (cc)
+is_action d entry.Final e = absurd (cc)
 
 -- ---- all entries
 
@@ -124,14 +126,14 @@ move p n d = record { phase = p; number = n; doing = d }
 -- the clients and the user are to do what these moves have them do
 record Ahead (clients : List (List (ℕ × Call))) (user : List (ℕ × UserAction)) (ms : List LineTurn) : Type 0 where
   calls : (s : ℕ) → to_do clients s ≡ flat_map (calls_in s) ms
-  deeds : user ≡ flat_map deeds_in ms
+  actions : user ≡ flat_map actions_in ms
 
 -- the journal, with the last picture behind it, is what these moves have been done as
 record Follows (clients : List (List (ℕ × Call))) (user : List (ℕ × UserAction)) (ms : List LineTurn)
     (js : List Entry) : Type 0 where
   phases : phases_along clients user (js ++ entry.Final ∷ []) ≡ flat_map act_phases ms
   calls : (s : ℕ) → calls_of s (js ++ entry.Final ∷ []) ≡ done (flat_map (calls_in s) ms)
-  deeds : user_actions_of (js ++ entry.Final ∷ []) ≡ done (flat_map deeds_in ms)
+  actions : user_actions_of (js ++ entry.Final ∷ []) ≡ done (flat_map actions_in ms)
 
 abbrev AllFollow : List LineTurn → Type 0
 AllFollow ms = (clients : List (List (ℕ × Call))) (user : List (ℕ × UserAction)) (js : List Entry)
@@ -174,23 +176,23 @@ more_call s p n c ms clients user j js is calls rest =
           ∙ ap₂ (λ (x : ℕ) (xs : List ℕ). x ∷ xs) (ap next_phase here) rest.phases;
       calls = λ x. is.calls x (js ++ entry.Final ∷ [])
           ∙ one_call (s == x) p c (calls_of x (js ++ entry.Final ∷ [])) (flat_map (calls_in x) ms) (rest.calls x);
-      deeds = is.deeds (js ++ entry.Final ∷ []) ∙ rest.deeds;
+      actions = is.actions (js ++ entry.Final ∷ []) ∙ rest.actions;
     }
 
--- one entry more in front, which is the user's deed
-more_deed : (p n : ℕ) (d : UserAction) (of : InputLine) (ms : List LineTurn) (clients : List (List (ℕ × Call)))
-    (user : List (ℕ × UserAction)) (j : Entry) (js : List Entry) → IsDeed d j → Follows clients (left user) ms js →
+-- one entry more in front, which is the user's action
+more_action : (p n : ℕ) (d : UserAction) (of : InputLine) (ms : List LineTurn) (clients : List (List (ℕ × Call)))
+    (user : List (ℕ × UserAction)) (j : Entry) (js : List Entry) → IsAction d j → Follows clients (left user) ms js →
     next_phase user ≡ p → flat_map act_phases (move p n (ByUser of) ∷ ms) ≡ p ∷ flat_map act_phases ms
-    → deed_in p (ByUser of) ≡ (p, d) ∷ [] →
+    → action_in p (ByUser of) ≡ (p, d) ∷ [] →
     Follows clients user (move p n (ByUser of) ∷ ms) (j ∷ js)
-more_deed p n d of ms clients user j js is rest here phases made =
+more_action p n d of ms clients user j js is rest here phases made =
     record {
       phases = is.phases clients user (js ++ entry.Final ∷ []) ∙ ap₂ (λ (x : ℕ) (xs : List ℕ). x ∷ xs) here rest.phases
           ∙ sym phases;
       calls = λ x. is.calls x (js ++ entry.Final ∷ []) ∙ rest.calls x
           ∙ ap (λ (t : List (ℕ × Call)). done (t ++ flat_map (calls_in x) ms)) (sym (no_call x p of));
-      deeds = is.deeds (js ++ entry.Final ∷ []) ∙ ap (λ (t : List UserAction). d ∷ t) rest.deeds
-          ∙ ap (λ (t : List (ℕ × UserAction)). done (t ++ flat_map deeds_in ms)) (sym made);
+      actions = is.actions (js ++ entry.Final ∷ []) ∙ ap (λ (t : List UserAction). d ∷ t) rest.actions
+          ∙ ap (λ (t : List (ℕ × UserAction)). done (t ++ flat_map actions_in ms)) (sym made);
     }
 
 -- what these moves do, a move more does in front
@@ -202,34 +204,34 @@ more p n (ByClient s (line.Call c)) ms follow clients user (j ∷ js) ahead e =
     let tail : map action_of js ≡ actions_of_turns ms = cc in
     more_call s p n c ms clients user j js (is_call s c j head) ahead.calls
     (follow (set clients s (left (to_do clients s))) user js
-    (record { calls = call_left clients s p c ms ahead.calls; deeds = ahead.deeds }) tail)
+    (record { calls = call_left clients s p c ms ahead.calls; actions = ahead.actions }) tail)
 more p n (ByClient s (line.Stroke x)) ms follow clients user js ahead e =
-    let f = follow clients user js (record { calls = ahead.calls; deeds = ahead.deeds }) e in
-    record { phases = f.phases; calls = f.calls; deeds = f.deeds }
+    let f = follow clients user js (record { calls = ahead.calls; actions = ahead.actions }) e in
+    record { phases = f.phases; calls = f.calls; actions = f.actions }
 more p n (ByClient s line.Phase) ms follow clients user js ahead e =
-    let f = follow clients user js (record { calls = ahead.calls; deeds = ahead.deeds }) e in
-    record { phases = f.phases; calls = f.calls; deeds = f.deeds }
+    let f = follow clients user js (record { calls = ahead.calls; actions = ahead.actions }) e in
+    record { phases = f.phases; calls = f.calls; actions = f.actions }
 more p n (ByUser (input.Device d)) ms follow clients user [] ahead e =
     absurd (not_both (Acts (Does d)) (actions_of_turns ms) e)
 more p n (ByUser (input.Device d)) ms follow clients user (j ∷ js) ahead e =
     let head : action_of j ≡ Acts (Does d) = cc in
     let tail : map action_of js ≡ actions_of_turns ms = cc in
-    more_deed p n (Does d) (input.Device d) ms clients user j js (is_deed (Does d) j head)
-    (follow clients (left user) js (record { calls = ahead.calls; deeds = ap left ahead.deeds }) tail)
-    (ap next_phase ahead.deeds) refl refl
+    more_action p n (Does d) (input.Device d) ms clients user j js (is_action (Does d) j head)
+    (follow clients (left user) js (record { calls = ahead.calls; actions = ap left ahead.actions }) tail)
+    (ap next_phase ahead.actions) refl refl
 more p n (ByUser input.Shot) ms follow clients user [] ahead e = absurd (not_both (Acts Shoots) (actions_of_turns ms) e)
 more p n (ByUser input.Shot) ms follow clients user (j ∷ js) ahead e =
     let head : action_of j ≡ Acts Shoots = cc in
     let tail : map action_of js ≡ actions_of_turns ms = cc in
-    more_deed p n Shoots input.Shot ms clients user j js (is_deed Shoots j head)
-    (follow clients (left user) js (record { calls = ahead.calls; deeds = ap left ahead.deeds }) tail)
-    (ap next_phase ahead.deeds) refl refl
+    more_action p n Shoots input.Shot ms clients user j js (is_action Shoots j head)
+    (follow clients (left user) js (record { calls = ahead.calls; actions = ap left ahead.actions }) tail)
+    (ap next_phase ahead.actions) refl refl
 more p n (ByUser input.Phase) ms follow clients user js ahead e =
-    let f = follow clients user js (record { calls = ahead.calls; deeds = ahead.deeds }) e in
-    record { phases = f.phases; calls = f.calls; deeds = f.deeds }
+    let f = follow clients user js (record { calls = ahead.calls; actions = ahead.actions }) e in
+    record { phases = f.phases; calls = f.calls; actions = f.actions }
 
 follow : (ms : List LineTurn) → AllFollow ms
-follow [] clients user [] ahead e = record { phases = refl; calls = λ s. refl; deeds = refl }
+follow [] clients user [] ahead e = record { phases = refl; calls = λ s. refl; actions = refl }
 follow [] clients user (j ∷ js) ahead e = absurd (not_both (action_of j) (map action_of js) (sym e))
 follow (m ∷ ms) clients user js ahead e = more m.phase m.number m.doing ms (follow ms) clients user js ahead e
 
@@ -248,12 +250,12 @@ whole scripts input journal are =
     let done_as = follow (rounds scripts input) (map calls_to_make scripts) (user_actions_to_do input) journal
     (record {
       calls = λ s. made_of scripts s ∙ sym (round_calls scripts input s);
-      deeds =
-          sym (round_deeds scripts input);
+      actions =
+          sym (round_actions scripts input);
     }) are in
     record {
       calls = λ s inside. done_as.calls s ∙ ap done (round_calls scripts input s ∙ sym (made_of scripts s));
-      deeds = done_as.deeds ∙ ap done (round_deeds scripts input);
+      actions = done_as.actions ∙ ap done (round_actions scripts input);
       phases = subst IsNonDecreasing (sym done_as.phases)
           (never_falls 0 _ (rounds_rise (map turns_of (actors scripts input)) 0 (phase_count scripts input)));
       ends = (journal, refl);

@@ -11,7 +11,8 @@ pub record HasSession (s : SceneModel Sight) (sid : ℕ) : Type 0 where
   pub glasses : sid < length s.glasses
 
 -- The script has a line of this number, and the plan is that of the script with the session's
--- opening donation. The lines before it stand on the own glass, and on the scene's but for what is stale.
+-- opening donation. The lines before it stand on the own glass, and on the scene's but for what is
+-- stale.
 pub record CanDraw (s : SceneModel Sight) (part : ClientPart) (number : ℕ) (stale : Option Stale)
     (glass : Sight) : Type 0 where
   pub there : HasSession s part.sid
@@ -22,7 +23,9 @@ pub record CanDraw (s : SceneModel Sight) (part : ClientPart) (number : ℕ) (st
   pub behind : IsBehind stale part.sid (glass_in s.glasses part.sid) glass
 
 -- the line stands on the own glass too, and on the scene's but for what is stale then
-pub record HasDrawn (s s' : SceneModel Sight) (part : ClientPart) (number : ℕ) (stale : Option Stale)
+pub record HasDrawn (s s' : SceneModel Sight) (part : ClientPart) (number : ℕ)
+    (stale : Option Stale)
     (glass : Sight) : Type 0 where
-  pub own : glass ≡ glass_after part.sid part.script.now (donation_of s.config part.sid) (number + 1)
+  pub own : glass ≡ glass_after part.sid part.script.now (donation_of s.config part.sid)
+      (number + 1)
   pub behind : IsBehind stale part.sid (glass_in s'.glasses part.sid) glass

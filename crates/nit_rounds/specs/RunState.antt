@@ -1,7 +1,8 @@
 -- A run by rounds that is under way: what one line leaves, and what holds between two turns.
 use Rattle.std.specs.Prelude.{◌≡◌, ◌≢◌, ℕ, ◌+◌, ◌/◌, ◌%◌, ◌<◌, Bool, true, false, List, [], ◌∷◌}
 use Rattle.std.specs.Prelude.{◌++◌, length, map, slice_index_or, Option, Some, None}
-use Rattle.nit_rounds.specs.Below.{BufferArea, Configuration, Entry, InputLine, IsConfiguration, IsOpen}
+use Rattle.nit_rounds.specs.Below.{BufferArea, Configuration, Entry, InputLine, IsConfiguration}
+use Rattle.nit_rounds.specs.Below.{IsOpen}
 use Rattle.nit_rounds.specs.Below.{IsPlanOf, IsWordOfSource, Line, PlanModel, Reply, Routed}
 use Rattle.nit_rounds.specs.Below.{SceneModel, Sight, State, action_of, after, dirty, donation_of}
 use Rattle.nit_rounds.specs.Below.{frame, glass_in, is_in_area, pixel, pixel_count, plan_in}

@@ -1,5 +1,6 @@
 -- The words that clauses use: those that come from outside, and those of this crate.
-pub use Rattle.nit_rounds.specs.Below.{Action, Acts, AllByRecursion, AreRaw, BufferArea, Bare, Black}
+pub use Rattle.nit_rounds.specs.Below.{Action, Acts, AllByRecursion, AreRaw, BufferArea, Bare}
+pub use Rattle.nit_rounds.specs.Below.{Black}
 pub use Rattle.nit_rounds.specs.Below.{Buffer, Call, Calls, Client, Configuration, Device, Does}
 pub use Rattle.nit_rounds.specs.Below.{Entry, File, Fill, FitsInputLine, InputLine, IsConfiguration}
 pub use Rattle.nit_rounds.specs.Below.{IsDevice, IsDonation, IsGlass, IsInked, IsLegal, IsLoaded}

@@ -83,7 +83,7 @@ finals (entry.Input dev routed ∷ es) = finals es
 finals (entry.Shot number ∷ es) = finals es
 finals (entry.Final ∷ es) = suc (finals es)
 
--- each entry is a call, a deed or the last picture
+-- each entry is a call, an action or the last picture
 counted : (n : ℕ) (s : State) (taken : ℕ) (es : List Entry) → length s.sessions ≡ n → LegalFrom s taken es
     → length es ≡ all_calls n es + length (user_actions_of es) + finals es
 counted n s taken [] e l = let a = no_calls n in omega (arith, a)
@@ -128,12 +128,12 @@ calls_counted phase (line.Call c ∷ lines) = ap suc (calls_counted phase lines)
 calls_counted phase (line.Stroke s ∷ lines) = calls_counted phase lines
 calls_counted phase (line.Phase ∷ lines) = calls_counted (suc phase) lines
 
-deeds_counted : (phase : ℕ) (lines : List InputLine) → length (user_actions_from phase lines)
+actions_counted : (phase : ℕ) (lines : List InputLine) → length (user_actions_from phase lines)
     ≡ length (filter is_device lines) + length (filter is_shot_line lines)
-deeds_counted phase [] = refl
-deeds_counted phase (input.Device d ∷ lines) = let a = deeds_counted phase lines in omega (arith, a)
-deeds_counted phase (input.Shot ∷ lines) = let a = deeds_counted phase lines in omega (arith, a)
-deeds_counted phase (input.Phase ∷ lines) = deeds_counted (suc phase) lines
+actions_counted phase [] = refl
+actions_counted phase (input.Device d ∷ lines) = let a = actions_counted phase lines in omega (arith, a)
+actions_counted phase (input.Shot ∷ lines) = let a = actions_counted phase lines in omega (arith, a)
+actions_counted phase (input.Phase ∷ lines) = actions_counted (suc phase) lines
 
 abbrev shoots : List UserAction → ℕ
 shoots [] = 0
@@ -192,15 +192,15 @@ generated_entries calls devices pictures n journal j =
     let each : (t : ℕ) → t < 8 → length (calls_of t journal) ≡ 1507 =
     λ t lt. ap length (j.whole.calls t lt ∙ ap done (to_do_of n t lt)) ∙ made_by_client calls n t in
     let made = as_many_calls 8 journal each in
-    let deeds : length (user_actions_of journal) ≡ 203 =
-    ap length j.whole.deeds ∙ length-map (user_actions_to_do (user_script n)) (λ t. t.1)
-    ∙ deeds_counted 0 (user_script n)
+    let actions : length (user_actions_of journal) ≡ 203 =
+    ap length j.whole.actions ∙ length-map (user_actions_to_do (user_script n)) (λ t. t.1)
+    ∙ actions_counted 0 (user_script n)
     ∙ (let d = length-filter is_device (user_script n) ∙ devices n in let p = length-filter is_shot_line (user_script n)
     ∙ pictures n in omega (arith, d, p)) in
     let ended = j.whole.ends in
     let last : finals journal ≡ 1 = ap finals ended.1
     ∙ open_finals ended.0 (front_open (first_state config) 0 ended.0 entry.Final []
     (subst (λ (es : List Entry). IsLegal config es) ended.1 j.legal)) in
-    let shot : shots journal ≡ 1 = shots_are journal ∙ ap shoots j.whole.deeds ∙ shots_counted 0 (user_script n)
+    let shot : shots journal ≡ 1 = shots_are journal ∙ ap shoots j.whole.actions ∙ shots_counted 0 (user_script n)
     ∙ length-filter is_shot_line (user_script n) ∙ pictures n in
-    (omega (arith, all, made, deeds, last), shot)
+    (omega (arith, all, made, actions, last), shot)

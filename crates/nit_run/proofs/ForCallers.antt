@@ -9,6 +9,6 @@ pub use Rattle.nit_run.proofs.FileNames.{shots_apart, shots_apart_all, shots_beg
 pub use Rattle.nit_run.proofs.FileNames.{texts_other}
 pub use Rattle.nit_run.proofs.GeneratedTexts.{text_at}
 pub use Rattle.nit_run.proofs.HeadlineLemmas.{FrontsLaw, MachinesLaw, ShotsLaw, drawn_along}
-pub use Rattle.nit_run.proofs.JournalsFit.{deeds_few}
+pub use Rattle.nit_run.proofs.JournalsFit.{actions_few}
 pub use Rattle.nit_run.proofs.NoShots.{UserOnce, no_picture, no_shots}
 pub use Rattle.nit_run.proofs.RunTexts.{with_texts}

@@ -40,22 +40,22 @@ calls_fit phase (line.Call c ∷ rest) f = (f.0, calls_fit phase rest f.1)
 calls_fit phase (line.Stroke x ∷ rest) f = calls_fit phase rest f.1
 calls_fit phase (line.Phase ∷ rest) f = calls_fit (suc phase) rest f.1
 
-abbrev DeedFits : UserAction → Type 0
-DeedFits (Does dev) = FitsDevice dev
-DeedFits Shoots = Unit {0}
+abbrev ActionFits : UserAction → Type 0
+ActionFits (Does dev) = FitsDevice dev
+ActionFits Shoots = Unit {0}
 
-deeds_fit : (phase : ℕ) (lines : List InputLine) → AllByRecursion FitsInputLine lines
-    → AllByRecursion DeedFits (done (user_actions_from phase lines))
-deeds_fit phase [] f = tt
-deeds_fit phase (input.Device d ∷ rest) f = (f.0, deeds_fit phase rest f.1)
-deeds_fit phase (input.Shot ∷ rest) f = (tt, deeds_fit phase rest f.1)
-deeds_fit phase (input.Phase ∷ rest) f = deeds_fit (suc phase) rest f.1
+actions_fit : (phase : ℕ) (lines : List InputLine) → AllByRecursion FitsInputLine lines
+    → AllByRecursion ActionFits (done (user_actions_from phase lines))
+actions_fit phase [] f = tt
+actions_fit phase (input.Device d ∷ rest) f = (f.0, actions_fit phase rest f.1)
+actions_fit phase (input.Shot ∷ rest) f = (tt, actions_fit phase rest f.1)
+actions_fit phase (input.Phase ∷ rest) f = actions_fit (suc phase) rest f.1
 
-pub deeds_few : (phase : ℕ) (lines : List InputLine) → length (done (user_actions_from phase lines)) ≤ length lines
-deeds_few phase [] = omega arith
-deeds_few phase (input.Device d ∷ rest) = let more = deeds_few phase rest in omega arith
-deeds_few phase (input.Shot ∷ rest) = let more = deeds_few phase rest in omega arith
-deeds_few phase (input.Phase ∷ rest) = let more = deeds_few (suc phase) rest in omega arith
+pub actions_few : (phase : ℕ) (lines : List InputLine) → length (done (user_actions_from phase lines)) ≤ length lines
+actions_few phase [] = omega arith
+actions_few phase (input.Device d ∷ rest) = let more = actions_few phase rest in omega arith
+actions_few phase (input.Shot ∷ rest) = let more = actions_few phase rest in omega arith
+actions_few phase (input.Phase ∷ rest) = let more = actions_few (suc phase) rest in omega arith
 
 calls_short : (phase : ℕ) (lines : List Line) → length (done (calls_from phase lines)) ≤ length lines
 calls_short phase [] = omega arith
@@ -79,13 +79,13 @@ call_there (entry.Input d q ∷ front) sid call r rest h = call_there front sid 
 call_there (entry.Shot n ∷ front) sid call r rest h = call_there front sid call r rest h
 call_there (entry.Final ∷ front) sid call r rest h = call_there front sid call r rest h
 
-deed_there : (front : List Entry) (dev : Device) (routed : Routed) (rest : List Entry)
-    → AllByRecursion DeedFits (user_actions_of (front ++ entry.Input dev routed ∷ rest)) → FitsDevice dev
-deed_there [] dev routed rest h = h.0
-deed_there (entry.Call t c q ∷ front) dev routed rest h = deed_there front dev routed rest h
-deed_there (entry.Input d q ∷ front) dev routed rest h = deed_there front dev routed rest h.1
-deed_there (entry.Shot n ∷ front) dev routed rest h = deed_there front dev routed rest h.1
-deed_there (entry.Final ∷ front) dev routed rest h = deed_there front dev routed rest h
+action_there : (front : List Entry) (dev : Device) (routed : Routed) (rest : List Entry)
+    → AllByRecursion ActionFits (user_actions_of (front ++ entry.Input dev routed ∷ rest)) → FitsDevice dev
+action_there [] dev routed rest h = h.0
+action_there (entry.Call t c q ∷ front) dev routed rest h = action_there front dev routed rest h
+action_there (entry.Input d q ∷ front) dev routed rest h = action_there front dev routed rest h.1
+action_there (entry.Shot n ∷ front) dev routed rest h = action_there front dev routed rest h.1
+action_there (entry.Final ∷ front) dev routed rest h = action_there front dev routed rest h
 
 shot_there : (front : List Entry) (number : ℕ) (rest : List Entry)
     → shots front + 1 ≤ length (user_actions_of (front ++ entry.Shot number ∷ rest))
@@ -260,10 +260,10 @@ module _ (laws : Laws) (s : Setup) (runnable : IsRunnable s) (journal : List Ent
   dev_fits : (front : List Entry) (dev : Device) (routed : Routed) (rest : List Entry)
       → journal ≡ front ++ entry.Input dev routed ∷ rest → FitsDevice dev
   dev_fits front dev routed rest parts =
-      deed_there front dev routed rest
-      (subst (λ (es : List Entry). AllByRecursion DeedFits (user_actions_of es)) parts
-      (subst (λ (ds : List UserAction). AllByRecursion DeedFits ds) (sym j.whole.deeds)
-      (deeds_fit 0 s.input runnable.input_lines.0)))
+      action_there front dev routed rest
+      (subst (λ (es : List Entry). AllByRecursion ActionFits (user_actions_of es)) parts
+      (subst (λ (ds : List UserAction). AllByRecursion ActionFits ds) (sym j.whole.actions)
+      (actions_fit 0 s.input runnable.input_lines.0)))
 
   -- the caller is a session
   caller : (front : List Entry) (sid : ℕ) (call : Call) (r : Reply) (rest : List Entry)
@@ -365,9 +365,9 @@ module _ (laws : Laws) (s : Setup) (runnable : IsRunnable s) (journal : List Ent
       let e = entry.Shot number in
       let agrees = laws.agrees s.config front e rest (legal_at (front ++ e ∷ rest) parts) in
       let there = shot_there front number rest in
-      let deeds : length (user_actions_of (front ++ e ∷ rest)) ≡ length (done (user_actions_from 0 s.input)) =
-      ap (λ (es : List Entry). length (user_actions_of es)) (sym parts) ∙ ap length j.whole.deeds in
-      let few = deeds_few 0 s.input in
+      let actions : length (user_actions_of (front ++ e ∷ rest)) ≡ length (done (user_actions_from 0 s.input)) =
+      ap (λ (es : List Entry). length (user_actions_of es)) (sym parts) ∙ ap length j.whole.actions in
+      let few = actions_few 0 s.input in
       let lines = runnable.input_lines.1 in
       (omega (arith, agrees), omega (arith, agrees))
   entry_fits front entry.Final rest parts = tt

@@ -19,9 +19,9 @@ no_shots (entry.Final ∷ es) none = no_shots es none
 
 -- ---- a user who does nothing
 
-no_deeds : (n phase : ℕ) → user_actions_from phase (replicate n input.Phase) ≡ []
-no_deeds zero phase = refl
-no_deeds (suc n) phase = no_deeds n (suc phase)
+no_actions : (n phase : ℕ) → user_actions_from phase (replicate n input.Phase) ≡ []
+no_actions zero phase = refl
+no_actions (suc n) phase = no_actions n (suc phase)
 
 phase_first : (n : ℕ) (l : InputLine) (rest : List InputLine) → l ∷ rest ≡ replicate n input.Phase → (l ≡ input.Phase)
     × ((k : ℕ) × (rest ≡ replicate k input.Phase))
@@ -52,7 +52,7 @@ no_picture config scripts moves n e = no_picture_from config scripts moves (open
 
 nothing_done : (width height : ℕ) (lines : List Line) (journal : List Entry)
     → IsJournal (still_setup width height lines) journal → user_actions_of journal ≡ []
-nothing_done width height lines journal j = j.whole.deeds ∙ ap done (no_deeds (count_by is_phase lines) 0)
+nothing_done width height lines journal j = j.whole.actions ∙ ap done (no_actions (count_by is_phase lines) 0)
 
 -- what the law of rounds says
 abbrev pub UserOnce : Type 0

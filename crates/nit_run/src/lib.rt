@@ -10,7 +10,7 @@
 //! - [`Region`] is the part of the screen that a film shows.
 //!
 //! Setups are made of words and files in `nit_setup`, and run in `nit_perform`. The tests are those
-//! of whole commands, in `nit_tests`.
+//! of whole commands, in `nit_top_tests`.
 #![tactic(auto)]
 
 pub mod laws;

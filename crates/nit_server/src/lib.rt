@@ -9,8 +9,8 @@
 //! All memory is taken by [`Server::new`]. What a caller has to know is asked for by
 //! [`Server::refused`]: a call that it names no refusal for is accepted.
 //!
-//! The tests are those of scenes and of whole runs in `nit_tests`: `scenes/count_tests`,
-//! `top/reply_tests`.
+//! The tests are `scenes/count_tests` of `nit_tests`, and by whole runs `reply_tests` of
+//! `nit_top_tests`.
 #![tactic(auto)]
 
 mod member;

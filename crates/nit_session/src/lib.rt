@@ -7,7 +7,8 @@
 //! and no slot. All its memory is taken when it opens.
 //!
 //! It has no tests of its own: its contracts say all of each answer and of the session after it.
-//! The plans of scripts and the audit stand on it, and are tried on whole runs in nit_tests.
+//! The plans of scripts and the audit stand on it, and are tried on whole runs in
+//! `nit_top_tests`.
 #![tactic(auto)]
 
 mod machine;

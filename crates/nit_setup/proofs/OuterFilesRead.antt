@@ -6,7 +6,8 @@ use Rattle.nit_setup.proofs.Basics.{AreAllOuterFiles, AreOuterFiles, AreOuterScr
 use Rattle.nit_setup.proofs.Basics.{Configuration, FirstFiles, HasReadOuter, IfSome, InputLine}
 use Rattle.nit_setup.proofs.Basics.{IsConfig, IsConfigFault, IsConfiguration, IsInputFault}
 use Rattle.nit_setup.proofs.Basics.{IsInputScript, IsOuter, IsOuterFault, IsOuterLoaded, Judged}
-use Rattle.nit_setup.proofs.Basics.{Line, Loaded, StopName, Nested, NoFile, OuterSoFar, OuterStopped}
+use Rattle.nit_setup.proofs.Basics.{Line, Loaded, StopName, Nested, NoFile, OuterSoFar}
+use Rattle.nit_setup.proofs.Basics.{OuterStopped}
 use Rattle.nit_setup.proofs.Basics.{ReadOuter, Refused, SpellScripts, Stop, StoppedAt}
 use Rattle.nit_setup.proofs.Basics.{StoppedReading, StoreModel, asking_all, asking_both}
 use Rattle.nit_setup.proofs.Basics.{asking_more}

@@ -9,7 +9,8 @@ use Rattle.nit_setup.proofs.Basics.{Configuration, Fault}
 use Rattle.nit_setup.proofs.Basics.{File, FilesRead, FirstFiles, FitsLine, HasRead, HasReadScripts}
 use Rattle.nit_setup.proofs.Basics.{HaveSamePhases, IfSome, InnerFiles, InputLine, IsClientFault}
 use Rattle.nit_setup.proofs.Basics.{IsConfig, IsConfigFault, IsInputFault, IsInputScript, IsLoaded}
-use Rattle.nit_setup.proofs.Basics.{IsRunnable, IsSetupFault, IsValid, Judged, Line, Loaded, StopName}
+use Rattle.nit_setup.proofs.Basics.{IsRunnable, IsSetupFault, IsValid, Judged, Line, Loaded}
+use Rattle.nit_setup.proofs.Basics.{StopName}
 use Rattle.nit_setup.proofs.Basics.{Nested, NoFile, OuterFiles, ReadScripts, ReadsTo, Refused}
 use Rattle.nit_setup.proofs.Basics.{Region}
 use Rattle.nit_setup.proofs.Basics.{Run, RunFiles, RunRead, Setup, SetupRead, SoFar, SpellScripts}
@@ -83,7 +84,8 @@ module _ (old : StoreModel) (name : List ℕ) (front : List (List ℕ)) where
       valid_scripts =
           told_so (λ files. SpellScripts files (script_names config) scripts)
           (λ files. AreScripts files (script_names config) scripts) old.files (λ files p. (p, far.phases))
-          (subst (λ (s : StoreModel). IfSome s.files (λ files. SpellScripts files (script_names config) scripts)) is.asked
+          (subst (λ (s : StoreModel). IfSome s.files (λ files. SpellScripts files (script_names config) scripts))
+              is.asked
           far.valid)
 
       all_names : first_names config scripts ≡ script_names config
@@ -112,7 +114,8 @@ module _ (old : StoreModel) (name : List ℕ) (front : List (List ℕ)) where
             record {
               scripts = subst (λ (k : Configuration). AreScripts files (script_names k) s.scripts) (sym c_is)
                   (subst (λ (ss : List (List Line)). AreScripts files (script_names config) ss) (sym s_is) v.1);
-              input = subst (λ (k : Configuration). IsInputScript (wanted_by s.scripts) (bytes_of k.input files) s.input)
+              input = subst (λ (k : Configuration). IsInputScript (wanted_by s.scripts) (bytes_of k.input files)
+                  s.input)
                   (sym c_is)
                   (subst (λ (ss : List (List Line)). IsInputScript (wanted_by ss) (bytes_of config.input files) s.input)
                   (sym s_is) (subst (λ (ls : List InputLine). IsInputScript (wanted_by scripts)
@@ -177,7 +180,8 @@ module _ (old : StoreModel) (name : List ℕ) (front : List (List ℕ)) where
           ∙ ap (λ (ns : List (List ℕ)). asking_all old (front ++ name ∷ ns)) (sym are)
           ∙ ap (λ (ns : List (List ℕ)). asking_all old ns) (r.further_names config a.scripts)) (a.named c) a.stopped
 
-      input_stopped : (scripts : List (List Line)) (now : StoreModel) (far : SoFar mid (script_names config) scripts now)
+      input_stopped : (scripts : List (List Line)) (now : StoreModel)
+          (far : SoFar mid (script_names config) scripts now)
           → name_text c stop.name ≡ config.input
           → StoppedAt (IsInputFault (wanted_by scripts)) now config.input new stop.end → StoppedReading c old new stop
       input_stopped scripts now far named h =

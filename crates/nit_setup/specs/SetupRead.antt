@@ -1,7 +1,8 @@
 -- Reading all files of a command: what was read, or the file that it stopped at.
 use Rattle.std.specs.Prelude.{◌≡◌, ◌⊎◌, ℕ, ◌≤◌, Bool, true, false, List, length, Some, Result, Ok}
 use Rattle.std.specs.Prelude.{Err, IfSome}
-use Rattle.nit_setup.specs.Below.{Configuration, IsConfiguration, IsRunnable, StopName, RunFiles, Setup}
+use Rattle.nit_setup.specs.Below.{Configuration, IsConfiguration, IsRunnable, StopName, RunFiles}
+use Rattle.nit_setup.specs.Below.{Setup}
 use Rattle.nit_setup.specs.Below.{Stop, StoreModel, asking_all, bytes_of, idle_user, run_files}
 use Rattle.nit_setup.specs.Below.{setup_of, still_configuration, still_setup, with_asked}
 use Rattle.nit_setup.specs.Command.{Audit, Clip, Command, Nested, Still}

@@ -13,7 +13,7 @@
 //! says which one that is, and of a script it holds the name. [`first_other`] names the script that
 //! has another number of phases than an inner run has frames.
 //!
-//! The tests are those of whole commands, in `nit_tests`.
+//! The tests are those of whole commands, in `nit_top_tests`.
 #![tactic(auto)]
 
 mod clips;

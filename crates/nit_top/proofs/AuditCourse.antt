@@ -2,7 +2,8 @@
 use Rattle.std.proofs.Common.{◌≡◌, List, [], ◌∷◌, ◌++◌, Option, Some, None, refl, ap, subst, ◌∙◌}
 use Rattle.std.proofs.Common.{inl, inr, ◌⊎◌}
 use Rattle.nit_top.proofs.Basics.{Audit, AuditOr, Begun, Capture, Clip, Command, Course, Entry}
-use Rattle.nit_top.proofs.Basics.{File, Gen, IsAudit, IsCommandRun, IsSetupOf, Nested, NoCommand}
+use Rattle.nit_top.proofs.Basics.{File, Gen, IsAudit, IsCommandRun, IsSetupOf, IsSomeAnd}
+use Rattle.nit_top.proofs.Basics.{IsValidSo, Nested, NoCommand}
 use Rattle.nit_top.proofs.Basics.{NotBegun, PutFiles, Run, Setup, Still, StoreModel, WithRun}
 use Rattle.nit_top.proofs.Basics.{WithoutRun, made_by}
 
@@ -88,3 +89,15 @@ by_command (Nested outer inner) (inl a) = absurd a.1
 by_command (Nested outer inner) (inr r) = r.0
 by_command NoCommand (inl a) = absurd a.1
 by_command NoCommand (inr r) = r.0
+
+-- an audit films no region
+pub no_outside_audit : (k : Command) (told : Option (List File)) → IsAudit k → IsSomeAnd told (IsValidSo k true) → ⊥
+no_outside_audit (Audit configuration journal) None is v = v
+no_outside_audit (Audit configuration journal) (Some all) is v = let e = v.2 in cc
+no_outside_audit (Still width height script) told is v = is
+no_outside_audit (Run beside configuration) told is v = is
+no_outside_audit (Gen number) told is v = is
+no_outside_audit (Clip configuration) told is v = is
+no_outside_audit (Capture configuration region) told is v = is
+no_outside_audit (Nested outer inner) told is v = is
+no_outside_audit NoCommand told is v = is

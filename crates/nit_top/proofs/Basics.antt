@@ -8,7 +8,8 @@ pub use Rattle.nit_rect.proofs.ForCallers.{all_append, and_true, spans_holds, sp
 pub use Rattle.nit_run.proofs.ForCallers.{Apart, Begin, BeginOther, FrontsLaw, MachinesLaw}
 pub use Rattle.nit_run.proofs.ForCallers.{Numbered, OtherThan, ShotsLaw, also_more, also_none}
 pub use Rattle.nit_run.proofs.ForCallers.{apart_by, apart_front, apart_of, asking_more}
-pub use Rattle.nit_run.proofs.ForCallers.{asking_none, begin_other, deeds_few, differ, drawn_along}
+pub use Rattle.nit_run.proofs.ForCallers.{asking_none, begin_other, actions_few, differ}
+pub use Rattle.nit_run.proofs.ForCallers.{drawn_along}
 pub use Rattle.nit_run.proofs.ForCallers.{events_begin, events_taken, numbered, other_both}
 pub use Rattle.nit_run.proofs.ForCallers.{other_letter, shots_apart_all, shots_begin, stays}
 pub use Rattle.nit_run.proofs.ForCallers.{texts_other}

@@ -15,7 +15,8 @@ use Rattle.nit_top.proofs.Basics.{summary_line, told_so, totals}
 use Rattle.nit_top.proofs.ToldJudgements.{told_valid, told_refused, told_codes, told_side}
 use Rattle.nit_top.proofs.ToldJudgements.{told_outside, no_refusal, no_setup}
 use Rattle.nit_top.proofs.EndCodes.{is_fault_code, not_fault, not_early_0, not_early_4, not_early_7}
-use Rattle.nit_top.proofs.AuditCourse.{with_run, with_run_not, audit_makes_none, not_run}
+use Rattle.nit_top.proofs.AuditCourse.{audit_makes_none, no_outside_audit, not_run, with_run}
+use Rattle.nit_top.proofs.AuditCourse.{with_run_not}
 use Rattle.nit_top.proofs.AuditCourse.{empty_course, front_none, front_same}
 use Rattle.nit_setup.specs.declared.stop.End.TheVariants as ends
 
@@ -29,8 +30,7 @@ module _ (c : Command) (old : StoreModel) (files : Option (List File)) (asked : 
     same = l.same;
     read = l.read;
     valid = l.valid;
-    asks =
-        inr (name, l.next, l.asks);
+    asks = inr (name, l.next, l.asks);
   }
 
   both_begun : IsBothRead course files asked → IsNotBegun course files asked
@@ -46,8 +46,7 @@ module _ (c : Command) (old : StoreModel) (files : Option (List File)) (asked : 
         none = a.none;
         same = a.same;
         read = AllScripts a.setup;
-        valid =
-            far.0;
+        valid = far.0;
         asks = inr (far.1.0, far.1.1, far.1.2);
       }
     where
@@ -336,18 +335,6 @@ module _ (c : Command) (old : StoreModel) (files : Option (List File)) (asked : 
   made_not_outside (Capture configuration region) v = refl
   made_not_outside (Nested outer inner) v = refl
   made_not_outside NoCommand v = refl
-
-  -- an audit films no region
-  no_outside_audit : (k : Command) (told : Option (List File)) → IsAudit k → IsSomeAnd told (IsValidSo k true) → ⊥
-  no_outside_audit (Audit configuration journal) None is v = v
-  no_outside_audit (Audit configuration journal) (Some all) is v = let e = v.2 in cc
-  no_outside_audit (Still width height script) told is v = is
-  no_outside_audit (Run beside configuration) told is v = is
-  no_outside_audit (Gen number) told is v = is
-  no_outside_audit (Clip configuration) told is v = is
-  no_outside_audit (Capture configuration region) told is v = is
-  no_outside_audit (Nested outer inner) told is v = is
-  no_outside_audit NoCommand told is v = is
 
   pub outside_at : (e : End) (line : List ℕ) → Came course files asked e line → code_of e ≡ 10
       → IfSome old.files (IsValidSo c true)

@@ -9,7 +9,7 @@ use Rattle.nit_top.proofs.Basics.{IsJournal, IsNearPicture, IsRunnable, IsSetupO
 use Rattle.nit_top.proofs.Basics.{NoCommand, Numbered, OtherThan, Run, RunFiles, Setup, ShotsLaw}
 use Rattle.nit_top.proofs.Basics.{Still, StoreModel, all_append, apart_by, apart_front}
 use Rattle.nit_top.proofs.Basics.{append_cancel_left, append_cancel_right, begin_other, codes}
-use Rattle.nit_top.proofs.Basics.{deeds_few, differ, done, drawn_along, events_begin, events_file}
+use Rattle.nit_top.proofs.Basics.{actions_few, differ, done, drawn_along, events_begin, events_file}
 use Rattle.nit_top.proofs.Basics.{events_files, events_name, film_name, final_name, final_picture}
 use Rattle.nit_top.proofs.Basics.{first_state, inner_journal_name, journal_file, member, numbered}
 use Rattle.nit_top.proofs.Basics.{other_letter, range_with_len, shots, shots_apart_all, shots_begin}
@@ -101,9 +101,9 @@ module _ (s : Setup) (runnable : IsRunnable s) (journal : List Entry) (j : IsJou
   few : shots journal ≤ 65536
   few =
       let some = shots_few journal in
-      let deeds : length (user_actions_of journal) ≡ length (done (user_actions_from 0 s.input)) =
-      ap length j.whole.deeds in
-      let short = deeds_few 0 s.input in
+      let actions : length (user_actions_of journal) ≡ length (done (user_actions_from 0 s.input)) =
+      ap length j.whole.actions in
+      let short = actions_few 0 s.input in
       let lines = runnable.input_lines.1 in
       omega arith
 

@@ -5,7 +5,8 @@ use Rattle.nit_top.specs.SaidText.{Says}
 use Rattle.nit_top.specs.Work.{Ends, line_on}
 use Rattle.nit_top.specs.Answer.{code_of, status_of}
 
--- the line on the end of the work of a command was said, or a front of it, and the status goes by both
+-- the line on the end of the work of a command was said, or a front of it, and the status goes by
+-- both
 pub record Finished (c : Command) (mid : StoreModel) (worked : Worked) (new : StoreModel)
     (status : ℕ) : Type 0 where
   pub said : Result (Unit {0}) PutError

@@ -17,7 +17,7 @@
 //! What the words ask for, and reading files, of which a run's setup is made, stand in `nit_setup`;
 //! what a run is and promises in `nit_run`; the ways to perform one, and the files that it puts, in
 //! `nit_perform`. Here `run` has the work of each command, and `report` its end and the line that
-//! is said. The tests are those of whole commands, in `nit_tests`.
+//! is said. The tests are those of whole commands, in `nit_top_tests`.
 //!
 //! In each case the work is: read the files and judge them one by one; take all memory of the run;
 //! run, and put the files; say how it went. What a run is made of, its configuration and its

@@ -5,7 +5,8 @@ use Rattle.nit_actor.proofs.single.do_line.Goals as goal
 
 pub returns-in-Call-clause-on : goal.returns-in-Call-clause-on
 returns-in-Call-clause-on c =
-    step_on c.args.room.now c.serve.new.self c.args.pass.now c.serve.new.pass c.args.user.now _ _ _ _ c.requires.alone.step
+    step_on c.args.room.now c.serve.new.self c.args.pass.now c.serve.new.pass c.args.user.now _ _ _ _
+    c.requires.alone.step
     (at_line _ _ _ c.requires.next c.in-Call.is) refl
     (ap (λ (r : RoomModel). r.parts) c.serve.ensures.room) (ap (λ (r : RoomModel). r.phase) c.serve.ensures.room)
     (ap (λ (r : RoomModel). r.arrived) c.serve.ensures.room) c.serve.ensures.pass
@@ -18,7 +19,8 @@ returns-in-Call-clause-recorded c =
 
 pub returns-in-Stroke-clause-on : goal.returns-in-Stroke-clause-on
 returns-in-Stroke-clause-on c =
-    step_on c.args.room.now c.args.room.now c.args.pass.now c.stroke.new.pass c.args.user.now _ _ _ _ c.requires.alone.step
+    step_on c.args.room.now c.args.room.now c.args.pass.now c.stroke.new.pass c.args.user.now _ _ _ _
+    c.requires.alone.step
     (at_line _ _ _ c.requires.next c.in-Stroke.is) refl refl refl refl c.stroke.ensures
 
 pub returns-in-Stroke-clause-recorded : goal.returns-in-Stroke-clause-recorded

@@ -16,7 +16,8 @@ loop-number-preserved c =
     let i = c.loop-number.invariant in
     let count = c.in_ok-count.ensures.count in
     record {
-      bytes = tile_done f g n _ c.loop-number.out.items c.append_changed.new.out.items i.bytes c.in_ok-count.ensures.bytes;
+      bytes = tile_done f g n _ c.loop-number.out.items c.append_changed.new.out.items i.bytes
+          c.in_ok-count.ensures.bytes;
       count = tile_counted f n c.loop-number.count c.in_ok-count.field-0 i.count count;
       few = omega (arith, one_at_most (f n) c.in_ok-count.field-0 count, i.few);
     }
