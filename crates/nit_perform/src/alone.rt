@@ -50,7 +50,7 @@ pub fn run_one<S: Store>(
 
 /// Does all lines of an opening, takes the last picture and puts it. It takes no memory.
 fn play_alone<'a, S: Store>(
-    opened: OpenedRounds<'a>,
+    opened: Opened<'a>,
     frame: Vec<u32>,
     text: Vec<u8>,
     store: &mut S,
@@ -67,7 +67,7 @@ fn play_alone<'a, S: Store>(
     each_line_once();
     idle_user_does_nothing();
     one_client_goes_by_rounds();
-    let OpenedRounds {
+    let Opened {
         mut room,
         mut passes,
         mut user,

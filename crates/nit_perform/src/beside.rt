@@ -12,7 +12,7 @@ use crate::ran::{PutFault, Ran};
 use crate::texts::leave_texts;
 use nit_actor::{Gate, GatedHall, Unstarted, UserAndDesk};
 use nit_config::{Config, Member};
-use nit_hall::{Hall, Name, OpenedRounds, Parts, Pass, open};
+use nit_hall::{Hall, Name, Opened, Parts, Pass, open};
 use nit_rect::NoMemory;
 use nit_rounds::{Desk, PictureName};
 use nit_script::{Client, Input};
@@ -55,7 +55,7 @@ pub fn run_beside<R: Threads + Wait + Sync, S: Store, G: Gate>(
 fn run_named<'a, N: Name + Send + Sync, R: Threads + Wait + Sync, S: Store, G: Gate>(
     host: &ThreadHost<R, G>,
     clients: &[Member],
-    opened: OpenedRounds<'a>,
+    opened: Opened<'a>,
     memory: Memory<Pass<'a>>,
     store: &mut S,
 ) -> Ran
@@ -66,7 +66,7 @@ fn run_named<'a, N: Name + Send + Sync, R: Threads + Wait + Sync, S: Store, G: G
         (setup_of N.parts.config N.parts.scripts N.parts.input true true)
         (S.shown store.new) result }
 {
-    let OpenedRounds {
+    let Opened {
         room,
         mut passes,
         user,

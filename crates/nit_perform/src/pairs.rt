@@ -8,7 +8,7 @@ ghost use Rattle.nit_perform.specs.Terms.{IsSetting, clips_setup, clips_setup_in
 use nit_actor::Pair;
 use nit_clip::ClipScript;
 use nit_config::Config;
-use nit_hall::{ClipOpened, ClipPass, OpenedRounds, Parts, Pass, Room, UserPass, open, open_clips};
+use nit_hall::{ClipOpened, ClipPass, Opened, Parts, Pass, Room, UserPass, open, open_clips};
 use nit_pixels::Canvas;
 use nit_rect::NoMemory;
 use std::alloc::Global;
@@ -62,7 +62,7 @@ fn make_pairs<'a>(opened: ClipOpened<'a>, pairs: Vec<Pair<'a>>) -> Paired<'a>
     ensures back { HasRoomBack result }
 {
     let ClipOpened { opened, clips } = opened;
-    let OpenedRounds { room, passes, user } = opened;
+    let Opened { room, passes, user } = opened;
     let mut passes = passes;
     let mut clips = clips;
     let mut pairs = pairs;
