@@ -1,4 +1,5 @@
 -- The words of the library and of the crates below that are used here, and the crate's plain types.
+pub use Rattle.nit_actor.specs.declared.crew.Crew.{Crew}
 pub use Rattle.nit_actor.specs.declared.crew.Unstarted.{Unstarted}
 pub use Rattle.nit_actor.specs.declared.pair.Pair.{Pair}
 pub use Rattle.nit_clip.specs.ClipGrammar.{clip_phases, is_clip_phase}

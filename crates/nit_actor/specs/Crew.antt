@@ -1,6 +1,6 @@
 -- Passes whose threads are to be started.
-use Rattle.std.specs.Prelude.{◌≡◌, ◌≤◌, ℕ, [], length, vec_capacity}
-use Rattle.nit_actor.specs.Below.{Unstarted}
+use Rattle.std.specs.Prelude.{◌≡◌, ◌≤◌, ◌+◌, ℕ, [], length, map, vec_capacity, vec_len}
+use Rattle.nit_actor.specs.Below.{Crew, Unstarted}
 use Rattle.nit_actor.specs.declared.crew.Started.{Started}
 use Rattle.nit_actor.specs.declared.crew.Started.TheVariants.{There, Here}
 
@@ -15,3 +15,16 @@ pub record HasPlaceFor {P : Type 0} (count : ℕ) (u : Unstarted P) : Type 0 whe
 abbrev pub IsStarted : {P W F : Type 0} → (P → F) → P → Started P W → Type 0
 IsStarted role p (There child) = role child.promise.was.value ≡ role p
 IsStarted role p (Here q) = role q ≡ role p
+
+-- There is a flag for each pass of a crew that is to be started, and room for all of them beside
+-- those that wait.
+pub record HasPlaceToStart {P : Type 0} (c : Crew P) : Type 0 where
+  pub flags : vec_len c.passes ≤ length c.unstarted.raised.now
+  pub room : vec_len c.passes + vec_len c.unstarted.waiting ≤ vec_capacity c.unstarted.waiting
+
+-- each pass of a crew has its role again at its place, and there is as much room as there was
+pub record IsSameCrew {P F : Type 0} (role : P → F) (c c' : Crew P) : Type 0 where
+  pub passes : map role c'.passes.items ≡ map role c.passes.items
+  pub waiting : map role c'.unstarted.waiting.items ≡ map role c.unstarted.waiting.items
+  pub passes_room : vec_capacity c'.passes ≡ vec_capacity c.passes
+  pub waiting_room : vec_capacity c'.unstarted.waiting ≡ vec_capacity c.unstarted.waiting

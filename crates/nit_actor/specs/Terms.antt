@@ -15,7 +15,7 @@ pub use Rattle.nit_actor.specs.Below.{slice_index, slice_index_or, user_actions_
 pub use Rattle.nit_actor.specs.Below.{user_actions_in, user_actions_of, user_actions_to_do}
 pub use Rattle.nit_actor.specs.ClipRole.{DidClips, GoTogether, IsPairIn, IsPairRoleIn, PairIsOneOn}
 pub use Rattle.nit_actor.specs.ClipRole.{PairIsThrough, PairRole, clip_role_of, pair_role_of}
-pub use Rattle.nit_actor.specs.Crew.{HasPlaceFor, IsStarted}
+pub use Rattle.nit_actor.specs.Crew.{HasPlaceFor, HasPlaceToStart, IsSameCrew, IsStarted}
 pub use Rattle.nit_actor.specs.IdleUser.{AreAlone, StepOn, StepTogether, actions_to_be, idle_user}
 pub use Rattle.nit_actor.specs.PhasesLeft.{IsLeastOf, NoneIsBefore, lesser, pair_phase_left}
 pub use Rattle.nit_actor.specs.PhasesLeft.{phase_left, phases_left, user_phase_left}

@@ -3,8 +3,8 @@
 //! A closure whose result names a lifetime says nothing of its result. So what starts threads is
 //! generic in the type of a pass, and what is known of a pass that comes back is its role alone.
 
-ghost use Rattle.std.specs.Prelude.{◌≡◌, ◌+◌, ◌≤◌, All, length, map, vec_len, vec_capacity};
-ghost use Rattle.nit_actor.specs.Terms.{HasPlaceFor, IsStarted};
+ghost use Rattle.std.specs.Prelude.{◌≡◌, All, map, vec_len};
+ghost use Rattle.nit_actor.specs.Terms.{HasPlaceFor, HasPlaceToStart, IsSameCrew, IsStarted};
 
 use crate::actor::Actor;
 use std::marker::PhantomData;
@@ -113,6 +113,13 @@ fn start<'s, E, P: Actor<W> + Send + Drop + 's, W: Sync, R: Threads + Wait + Syn
     }
 }
 
+/// The passes whose threads are to be started, and what there is for those whose threads cannot be.
+#[derive(Drop)]
+struct Crew<'r, P> {
+    passes: Vec<P>,
+    unstarted: Unstarted<'r, P>,
+}
+
 /// Starts the thread of each pass, from the last to the first, then runs what is here, and waits
 /// for the threads. Each pass comes back at its place. There is room for those whose threads could
 /// not be started.
@@ -124,45 +131,31 @@ fn run_rest<
     U: CallerThread<P, W>,
     W: Sync,
     R: Threads + Wait + Sync,
->(
-    scope: &Scope<'s, E>,
-    rt: &'s R,
-    shared: &'s W,
-    unstarted: &mut Unstarted<'r, P>,
-    passes: &mut Vec<P>,
-    own: U,
-) -> U
-    requires fits { All (λ p. P.fits (P.role p)) passes.old.items }
-    requires waiting { All (λ p. P.fits (P.role p)) unstarted.old.waiting.items }
+>(scope: &Scope<'s, E>, rt: &'s R, shared: &'s W, crew: &mut Crew<'r, P>, own: U) -> U
+    requires fits { All (λ p. P.fits (P.role p)) crew.old.passes.items }
+    requires waiting { All (λ p. P.fits (P.role p)) crew.old.unstarted.waiting.items }
     requires ready { U.ready own }
-    requires flags { vec_len passes.old ≤ length unstarted.old.raised.now }
-    requires room { vec_len passes.old + vec_len unstarted.old.waiting
-        ≤ vec_capacity unstarted.old.waiting }
-    ensures passes { map P.role passes.new.items ≡ map P.role passes.old.items }
-    ensures waiting { map P.role unstarted.new.waiting.items
-        ≡ map P.role unstarted.old.waiting.items }
+    requires place { HasPlaceToStart crew.old }
+    ensures same { IsSameCrew P.role crew.old crew.new }
     ensures kept { U.kept own result }
-    ensures passes_room { vec_capacity passes.new ≡ vec_capacity passes.old }
-    ensures waiting_room { vec_capacity unstarted.new.waiting
-        ≡ vec_capacity unstarted.old.waiting }
 {
-    let Some(pass) = passes.pop() else {
-        return own.run_mine(rt, shared, unstarted.waiting.as_mut_slice());
+    let Some(pass) = crew.passes.pop() else {
+        return own.run_mine(rt, shared, crew.unstarted.waiting.as_mut_slice());
     };
-    let flag = &unstarted.raised[passes.len()];
+    let flag = &crew.unstarted.raised[crew.passes.len()];
     match start::<E, P, W, R>(scope, rt, shared, flag, pass) {
         Started::There(child) => {
-            let own = run_rest(scope, rt, shared, unstarted, passes, own);
-            passes.push_reserved(child.join(rt));
+            let own = run_rest(scope, rt, shared, crew, own);
+            crew.passes.push_reserved(child.join(rt));
             own
         }
         Started::Here(pass) => {
-            unstarted.waiting.push_reserved(pass);
-            let own = run_rest(scope, rt, shared, unstarted, passes, own);
-            let Some(pass) = unstarted.waiting.pop() else {
+            crew.unstarted.waiting.push_reserved(pass);
+            let own = run_rest(scope, rt, shared, crew, own);
+            let Some(pass) = crew.unstarted.waiting.pop() else {
                 unreachable!()
             };
-            passes.push_reserved(pass);
+            crew.passes.push_reserved(pass);
             own
         }
     }
@@ -192,9 +185,12 @@ fn run_all<
             ensures passes { map P.role result.0.items ≡ map P.role passes.items }
             ensures kept { U.kept own result.1 }
         {
-            let mut passes = passes;
-            let mut unstarted = unstarted;
-            let own = run_rest(scope, rt, shared, &mut unstarted, &mut passes, own);
+            let mut crew = Crew { passes, unstarted };
+            let own = run_rest(scope, rt, shared, &mut crew, own);
+            let Crew {
+                passes,
+                unstarted: _unstarted,
+            } = crew;
             (passes, own)
         },
     )

@@ -149,10 +149,10 @@ module _ (c : Command) (old : StoreModel) (s : Setup) (files_are : AreAllFiles c
       (refused (output_name f.file) p.front p.bytes p.back p.parts p.mid p.put t f.error p.refused)
 
 -- memory ran out before the first round
-unbegun : (c : Command) (old : StoreModel) (s : Setup) → AreAllFiles c old.files s
+ended_before_run : (c : Command) (old : StoreModel) (s : Setup) → AreAllFiles c old.files s
     → (new : StoreModel) (name : List ℕ) (t : Totals) → new ≡ asking_all old (reads c s)
     → CameTo c old new [] ends.NoMemory name t
-unbegun c old s files_are new name t e = record {
+ended_before_run c old s files_are new name t e = record {
   course = NotBegun refl;
   came = (
     inl (record {
@@ -226,7 +226,7 @@ pub unbegun_ends : (c : Command) (old mid new : StoreModel) (s : Setup) (w : Wor
     → AreAllFiles c old.files s → w.stop.end ≡ ends.NoMemory → new ≡ mid → w.journal.items ≡ [] → Ends c old new w
 unbegun_ends c old mid new s w asked files_are end same none =
     let here : CameTo c old new [] ends.NoMemory (name_text c w.stop.name) (totals_on w) =
-    unbegun c old s files_are new (name_text c w.stop.name) (totals_on w) (same ∙ asked) in
+    ended_before_run c old s files_are new (name_text c w.stop.name) (totals_on w) (same ∙ asked) in
     let so : CameTo c old new [] w.stop.end (name_text c w.stop.name) (totals_on w) =
     subst (λ (e : End). CameTo c old new [] e (name_text c w.stop.name) (totals_on w)) (sym end) here in
     ends_by c old new w (subst

@@ -4,7 +4,7 @@ ghost use Rattle.std.specs.Prelude.{false, true, ◌≤◌, length};
 ghost use Rattle.nit_top.specs.Terms.{Audit, Ends, IsAuditEnd, IsRunnable, most_journal_bytes};
 ghost use Rattle.nit_top.specs.Terms.{setup_of};
 
-use crate::report::finish::{Worked, unbegun};
+use crate::report::finish::{Worked, ended_before_run};
 use nit_audit::{Verdict, audit};
 use nit_config::Config;
 use nit_events::Entry;
@@ -20,10 +20,10 @@ pub fn audited<S: Store>(alloc: Global, store: &mut S, name: &str, journal: &str
 {
     let read = match read_audit(alloc, store, name, journal) {
         Ok(read) => read,
-        Err(stop) => return unbegun(alloc, stop),
+        Err(stop) => return ended_before_run(alloc, stop),
     };
     let end = audit_end(alloc, &read.run.config, &read.run.scripts, &read.entries);
-    unbegun(alloc, at_second(end))
+    ended_before_run(alloc, at_second(end))
 }
 
 /// How the audit of these entries ends.

@@ -6,7 +6,7 @@ ghost use Rattle.nit_top.specs.Terms.{starts_threads, texts};
 
 use crate::audit::audited;
 use crate::laws::names_differ;
-use crate::report::finish::{Done, Worked, status, unbegun};
+use crate::report::finish::{Done, Worked, ended_before_run, status};
 use crate::report::say::tell;
 use crate::run::capture::capture;
 use crate::run::clips::clip;
@@ -81,7 +81,7 @@ fn work<R: Threads + Wait + Sync, S: Store, G: Gate>(
     ensures { Ends (command_of asked.entry) (S.shown store.old) (S.shown store.new) result }
 {
     match asked {
-        Some(Asked::Run { config }) => perform::beside(host, store, config),
+        Some(Asked::Run { config }) => perform::run_command(host, store, config),
         Some(Asked::Gen { number }) => perform::generated(host, store, number),
         Some(Asked::Clip { config }) => clip(host, store, config),
         Some(Asked::Capture { config, region }) => capture(host, store, config, region),
@@ -115,7 +115,7 @@ fn work_alone<S: Store>(alloc: Global, store: &mut S, asked: Option<Asked>) -> W
             | Asked::Capture { .. }
             | Asked::Nested { .. },
         ) => unreachable!(),
-        None => unbegun(alloc, nowhere(End::Usage)),
+        None => ended_before_run(alloc, nowhere(End::Usage)),
     }
 }
 

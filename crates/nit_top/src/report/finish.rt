@@ -53,7 +53,7 @@ impl Worked {
 }
 
 /// The work ended before a run was begun.
-pub fn unbegun(alloc: Global, stop: Stop) -> Worked
+pub fn ended_before_run(alloc: Global, stop: Stop) -> Worked
     ensures stop { result.stop ≡ stop }
     ensures journal { result.journal.items ≡ [] }
 {

@@ -4,7 +4,7 @@ ghost use Rattle.std.specs.Prelude.{◌≡◌, ◌+◌, false, true};
 ghost use Rattle.nit_top.specs.Terms.{Capture, Ends, IsRegionWords, IsRunnable, PerformedFilmed};
 ghost use Rattle.nit_top.specs.Terms.{Region, is_off_screen, setup_of};
 
-use crate::report::finish::{Worked, unbegun};
+use crate::report::finish::{Worked, ended_before_run};
 use nit_actor::Gate;
 use nit_config::Config;
 use nit_perform::{Film, ThreadHost, run_filmed};
@@ -29,10 +29,10 @@ pub fn capture<R: Threads + Wait + Sync, S: Store, G: Gate>(
 {
     let run = match read_run(host.alloc, store, name) {
         Ok(run) => run,
-        Err(stop) => return unbegun(host.alloc, stop),
+        Err(stop) => return ended_before_run(host.alloc, stop),
     };
     if region.is_outside(run.config.width, run.config.height) {
-        return unbegun(host.alloc, nowhere(End::Outside));
+        return ended_before_run(host.alloc, nowhere(End::Outside));
     }
     perform_filmed(host, store, &run.config, &run.scripts, region)
 }
@@ -57,10 +57,10 @@ fn perform_filmed<R: Threads + Wait + Sync, S: Store, G: Gate>(
     let clients = scripts.clients.as_slice();
     let rect = region.rect(config.width, config.height);
     let Ok(film) = Film::new(host.alloc, config.width, config.height, rect) else {
-        return unbegun(host.alloc, nowhere(End::NoMemory));
+        return ended_before_run(host.alloc, nowhere(End::NoMemory));
     };
     let Ok(ran) = run_filmed(host, config, scripts, film, store) else {
-        return unbegun(host.alloc, nowhere(End::NoMemory));
+        return ended_before_run(host.alloc, nowhere(End::NoMemory));
     };
     Worked::after(ran, clients.len())
 }

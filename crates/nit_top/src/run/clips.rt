@@ -4,7 +4,7 @@
 ghost use Rattle.std.specs.Prelude.{◌≡◌, length};
 ghost use Rattle.nit_top.specs.Terms.{Clip, Ends, IsRunnable, PerformedClips, clips_setup_of};
 
-use crate::report::finish::{Worked, unbegun};
+use crate::report::finish::{Worked, ended_before_run};
 use nit_actor::Gate;
 use nit_clip::ClipScript;
 use nit_config::Config;
@@ -34,7 +34,7 @@ pub fn clip<R: Threads + Wait + Sync, S: Store, G: Gate>(
             &read.run.scripts,
             &read.clips,
         ),
-        Err(stop) => unbegun(host.alloc, stop),
+        Err(stop) => ended_before_run(host.alloc, stop),
     }
 }
 
@@ -55,7 +55,7 @@ fn perform_clips<R: Threads + Wait + Sync, S: Store, G: Gate>(
     headline();
     let clients = scripts.clients.as_slice();
     let Ok(ran) = run_with_clips(host, config, scripts, clips, store) else {
-        return unbegun(host.alloc, nowhere(End::NoMemory));
+        return ended_before_run(host.alloc, nowhere(End::NoMemory));
     };
     Worked::after(ran, clients.len())
 }

@@ -4,7 +4,7 @@ ghost use Rattle.std.specs.Prelude.{◌+◌, List, Some, ◌≡◌, ◌≤◌, l
 ghost use Rattle.nit_top.specs.Terms.{Ends, IsRunnable, Line, Nested, PerformedNested, RunFiles};
 ghost use Rattle.nit_top.specs.Terms.{first_other, setup_of};
 
-use crate::report::finish::{Worked, unbegun};
+use crate::report::finish::{Worked, ended_before_run};
 use crate::run::inner::run_inner;
 use nit_actor::Gate;
 use nit_config::Config;
@@ -37,14 +37,14 @@ pub fn nested<R: Threads + Wait + Sync, S: Store, G: Gate>(
     phases_stay();
     let TwoRuns { outer, inner } = match read_nested(host.alloc, store, outer, inner) {
         Ok(read) => read,
-        Err(stop) => return unbegun(host.alloc, stop),
+        Err(stop) => return ended_before_run(host.alloc, stop),
     };
     let Loaded {
         config,
         scripts: shown,
     } = outer;
     if let Some(other) = first_other(frame_count(&inner.scripts.input), &config, &shown) {
-        return unbegun(host.alloc, at(End::Unfit(Fault::PhasesDiffer), other));
+        return ended_before_run(host.alloc, at(End::Unfit(Fault::PhasesDiffer), other));
     }
     let clients = inner.scripts.clients.as_slice();
     match run_inner(
@@ -59,7 +59,7 @@ pub fn nested<R: Threads + Wait + Sync, S: Store, G: Gate>(
             let shown = with_first(shown, made.script);
             perform_nested(host, store, &config, &shown, &made.journal)
         }
-        Err(end) => unbegun(host.alloc, at_second(end)),
+        Err(end) => ended_before_run(host.alloc, at_second(end)),
     }
 }
 
@@ -94,7 +94,7 @@ fn perform_nested<R: Threads + Wait + Sync, S: Store, G: Gate>(
     headline();
     let clients = scripts.clients.as_slice();
     let Ok(ran) = run_beside(host, config, clients, &scripts.input, store) else {
-        return unbegun(host.alloc, nowhere(End::NoMemory));
+        return ended_before_run(host.alloc, nowhere(End::NoMemory));
     };
     let fault = put_inner_journal(host.alloc, store, ran.fault, journal);
     Worked::after(ran.with_fault(fault), clients.len())

@@ -4,7 +4,7 @@ ghost use Rattle.std.specs.Prelude.{◌<◌, ◌≤◌, false, true};
 ghost use Rattle.nit_top.specs.Terms.{Ends, Gen, IsAlone, IsRunnable, Performed, Run, Still};
 ghost use Rattle.nit_top.specs.Terms.{generated, most_height, most_width, number_end, setup_of};
 
-use crate::report::finish::{Worked, stop_after, unbegun};
+use crate::report::finish::{Worked, ended_before_run, stop_after};
 use nit_actor::Gate;
 use nit_config::Config;
 use nit_perform::{ThreadHost, put_files, run_beside, run_one, run_turns};
@@ -38,7 +38,7 @@ pub fn still<S: Store>(
         input,
     } = match read_still(alloc, store, width, height, script) {
         Ok(read) => read,
-        Err(stop) => return unbegun(alloc, stop),
+        Err(stop) => return ended_before_run(alloc, stop),
     };
     perform_alone(alloc, store, &config, &[client], &input)
 }
@@ -55,12 +55,12 @@ pub fn turns<S: Store>(alloc: Global, store: &mut S, name: &str) -> Worked
             &run.scripts.clients,
             &run.scripts.input,
         ),
-        Err(stop) => unbegun(alloc, stop),
+        Err(stop) => ended_before_run(alloc, stop),
     }
 }
 
 /// Runs the configuration of this name with each client on a thread of its own.
-pub fn beside<R: Threads + Wait + Sync, S: Store, G: Gate>(
+pub fn run_command<R: Threads + Wait + Sync, S: Store, G: Gate>(
     host: &ThreadHost<R, G>,
     store: &mut S,
     name: &str,
@@ -69,7 +69,7 @@ pub fn beside<R: Threads + Wait + Sync, S: Store, G: Gate>(
 {
     match read_run(host.alloc, store, name) {
         Ok(run) => perform_beside(host, store, &run.config, &run.scripts),
-        Err(stop) => unbegun(host.alloc, stop),
+        Err(stop) => ended_before_run(host.alloc, stop),
     }
 }
 
@@ -88,17 +88,17 @@ pub fn generated<R: Threads + Wait + Sync, S: Store, G: Gate>(
     headline();
     puts_go_on();
     let Ok(files) = generate(host.alloc, number) else {
-        return unbegun(host.alloc, nowhere(End::NoMemory));
+        return ended_before_run(host.alloc, nowhere(End::NoMemory));
     };
     let fault = put_files(store, number, &files);
     if fault.is_some() {
-        return unbegun(host.alloc, stop_after(fault));
+        return ended_before_run(host.alloc, stop_after(fault));
     }
     let Ok(scripts) = read_files(host.alloc, number, &files) else {
-        return unbegun(host.alloc, nowhere(End::NoMemory));
+        return ended_before_run(host.alloc, nowhere(End::NoMemory));
     };
     let Ok(config) = gen_config(host.alloc) else {
-        return unbegun(host.alloc, nowhere(End::NoMemory));
+        return ended_before_run(host.alloc, nowhere(End::NoMemory));
     };
     perform_beside(host, store, &config, &scripts)
 }
@@ -117,7 +117,7 @@ fn perform<S: Store>(
 {
     headline();
     let Ok(ran) = run_turns(alloc, config, scripts, input, store) else {
-        return unbegun(alloc, nowhere(End::NoMemory));
+        return ended_before_run(alloc, nowhere(End::NoMemory));
     };
     Worked::after(ran, scripts.len())
 }
@@ -138,7 +138,7 @@ fn perform_alone<S: Store>(
 {
     headline();
     let Ok(ran) = run_one(alloc, config, scripts, input, store) else {
-        return unbegun(alloc, nowhere(End::NoMemory));
+        return ended_before_run(alloc, nowhere(End::NoMemory));
     };
     Worked::after(ran, scripts.len())
 }
@@ -160,7 +160,7 @@ pub fn perform_beside<R: Threads + Wait + Sync, S: Store, G: Gate>(
     headline();
     let clients = scripts.clients.as_slice();
     let Ok(ran) = run_beside(host, config, clients, &scripts.input, store) else {
-        return unbegun(host.alloc, nowhere(End::NoMemory));
+        return ended_before_run(host.alloc, nowhere(End::NoMemory));
     };
     Worked::after(ran, clients.len())
 }

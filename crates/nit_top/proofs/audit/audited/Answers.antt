@@ -6,8 +6,8 @@ use Rattle.nit_top.proofs.audit.audited.Goals as goal
 pub returns-in-Err : goal.returns-in-Err
 returns-in-Err g c =
     stopped_ends (Audit c.args.name.now c.args.journal.now) (g.S.Store.shown c.args.store.now)
-    (g.S.Store.shown c.read_audit.new.store) c.in-Err.stop c.in-Err.ensures c.unbegun.result c.unbegun.ensures.stop
-    c.unbegun.ensures.journal
+    (g.S.Store.shown c.read_audit.new.store) c.in-Err.stop c.in-Err.ensures c.ended_before_run.result c.ended_before_run.ensures.stop
+    c.ended_before_run.ensures.journal
 
 pub audit_end-end-requires-clause-runnable : goal.audit_end-end-requires-clause-runnable
 audit_end-end-requires-clause-runnable g c = c.in-Ok.ensures.scripts.runnable
@@ -23,5 +23,5 @@ returns g c =
     c.audit_end-end.ensures) in
     found_ends c.args.name.now c.args.journal.now (g.S.Store.shown c.args.store.now)
     (g.S.Store.shown c.read_audit.new.store) s read.entries.items h.scripts h.asked h.text c.at_second.result
-    c.unbegun-2.result (ap (name_text (Audit c.args.name.now c.args.journal.now)) c.at_second.ensures.1) found
-    c.unbegun-2.ensures.stop c.unbegun-2.ensures.journal
+    c.ended_before_run-2.result (ap (name_text (Audit c.args.name.now c.args.journal.now)) c.at_second.ensures.1) found
+    c.ended_before_run-2.ensures.stop c.ended_before_run-2.ensures.journal

@@ -57,8 +57,8 @@ perform_nested-requires-after_bounds g c κs within =
 pub returns-in-Err : goal.returns-in-Err
 returns-in-Err g c =
     stopped_ends (Nested c.args.outer.now c.args.inner.now) (g.S.Store.shown c.args.store.now)
-    (g.S.Store.shown c.read_nested.new.store) c.in-Err.stop c.in-Err.ensures c.unbegun.result c.unbegun.ensures.stop
-    c.unbegun.ensures.journal
+    (g.S.Store.shown c.read_nested.new.store) c.in-Err.stop c.in-Err.ensures c.ended_before_run.result c.ended_before_run.ensures.stop
+    c.ended_before_run.ensures.journal
 
 pub returns-in-Some : goal.returns-in-Some
 returns-in-Some g c =
@@ -77,11 +77,11 @@ returns-in-Some g c =
     subst (λ (n : ℕ). first_other n (names_in o.config) (phase_counts o) ≡ Some other) wanted
     c.in-Some.ensures.some in
     unfit_ends outer name o first r.valid.0 i r.valid.1 new r.asked
-    other fault.PhasesDiffer c.unbegun-in-Some.result (other_phases name other o i found)
-    (ap (λ (t : Stop). name_text (Nested outer name) t.name) c.unbegun-in-Some.ensures.stop
+    other fault.PhasesDiffer c.ended_before_run-in-Some.result (other_phases name other o i found)
+    (ap (λ (t : Stop). name_text (Nested outer name) t.name) c.ended_before_run-in-Some.ensures.stop
     ∙ c.at.ensures.1 (Nested outer name))
-    (ap (λ (t : Stop). t.end) c.unbegun-in-Some.ensures.stop ∙ c.at.ensures.0)
-    c.unbegun-in-Some.ensures.journal
+    (ap (λ (t : Stop). t.end) c.ended_before_run-in-Some.ensures.stop ∙ c.at.ensures.0)
+    c.ended_before_run-in-Some.ensures.journal
 
 pub returns-in-Ok-run_inner : goal.returns-in-Ok-run_inner
 returns-in-Ok-run_inner g c =
@@ -142,13 +142,13 @@ returns g c =
     let at = c.index.ensures in
     let none = c.in_default.ensures.none in
     let began = begun once o i own r.valid.0.is_outer at c.frame_count.result c.frame_count.ensures none in
-    let w = c.unbegun-in-Err-run_inner.result in
+    let w = c.ended_before_run-in-Err-run_inner.result in
     inner_stopped outer name o first r.valid.0 i r.valid.1 new r.asked
     own began.0 end w began.1
     (no_other once o i own r.valid.0.is_outer at c.frame_count.result c.frame_count.ensures none)
     (subst (λ (ss : List (List Line)). IsInnerEnd (run_files c.in-Ok.read.inner.config ss s.input) own (Err end))
     c.as_slice-clients.ensures.value c.in-Err-run_inner.ensures)
-    (ap (λ (t : Stop). name_text (Nested outer name) t.name) c.unbegun-in-Err-run_inner.ensures.stop
+    (ap (λ (t : Stop). name_text (Nested outer name) t.name) c.ended_before_run-in-Err-run_inner.ensures.stop
     ∙ ap (name_text (Nested outer name)) c.at_second.ensures.1)
-    (ap (λ (t : Stop). t.end) c.unbegun-in-Err-run_inner.ensures.stop ∙ c.at_second.ensures.0)
-    c.unbegun-in-Err-run_inner.ensures.journal
+    (ap (λ (t : Stop). t.end) c.ended_before_run-in-Err-run_inner.ensures.stop ∙ c.at_second.ensures.0)
+    c.ended_before_run-in-Err-run_inner.ensures.journal

@@ -6,16 +6,16 @@ use Rattle.nit_top.proofs.Lemmas.{scripts_of, subst, sym, unmade_runnable, unref
 use Rattle.nit_top.proofs.run.perform.generated.Goals as goal
 
 pub returns-in_default : goal.returns-in_default
-returns-in_default g c = nothing_made c.args.number (g.S.Store.shown c.args.store.now) c.unbegun.result
-    (ap (λ (s : Stop). s.end) c.unbegun.ensures.stop ∙ c.nowhere.ensures.0) c.unbegun.ensures.journal
+returns-in_default g c = nothing_made c.args.number (g.S.Store.shown c.args.store.now) c.ended_before_run.result
+    (ap (λ (s : Stop). s.end) c.ended_before_run.ensures.stop ∙ c.nowhere.ensures.0) c.ended_before_run.ensures.journal
 
 pub returns-then-is_some : goal.returns-then-is_some
 returns-then-is_some g c =
     made_in_part c.args.number (g.S.Store.shown c.args.store.now) (g.S.Store.shown c.put_files-fault.new.store)
-    c.put_files-fault.result c.unbegun-then-is_some.result (sym c.is_some.ensures ∙ c.if-is_some.true)
+    c.put_files-fault.result c.ended_before_run-then-is_some.result (sym c.is_some.ensures ∙ c.if-is_some.true)
     c.put_files-fault.ensures
-    (ap (λ (s : Stop). s.end) c.unbegun-then-is_some.ensures.stop ∙ c.stop_after.ensures.end) (search rules)
-    c.unbegun-then-is_some.ensures.journal
+    (ap (λ (s : Stop). s.end) c.ended_before_run-then-is_some.ensures.stop ∙ c.stop_after.ensures.end) (search rules)
+    c.ended_before_run-then-is_some.ensures.journal
 
 pub returns-in_default-read_files : goal.returns-in_default-read_files
 returns-in_default-read_files g c =
@@ -23,9 +23,9 @@ returns-in_default-read_files g c =
     let made = subst (λ (f : Option PutFault). PutsAll (generated_files c.args.number)
     (unrefused (g.S.Store.shown c.args.store.now)) (put_state_of_run now f))
     (none_is c.put_files-fault.result (sym c.is_some.ensures ∙ c.if-is_some.false)) c.put_files-fault.ensures in
-    made_whole c.args.number (g.S.Store.shown c.args.store.now) now c.unbegun-in_default-read_files.result made
-    (ap (λ (s : Stop). s.end) c.unbegun-in_default-read_files.ensures.stop ∙ c.nowhere-in_default-read_files.ensures.0)
-    c.unbegun-in_default-read_files.ensures.journal
+    made_whole c.args.number (g.S.Store.shown c.args.store.now) now c.ended_before_run-in_default-read_files.result made
+    (ap (λ (s : Stop). s.end) c.ended_before_run-in_default-read_files.ensures.stop ∙ c.nowhere-in_default-read_files.ensures.0)
+    c.ended_before_run-in_default-read_files.ensures.journal
 
 pub returns-in_default-gen_config : goal.returns-in_default-gen_config
 returns-in_default-gen_config g c =
@@ -33,9 +33,9 @@ returns-in_default-gen_config g c =
     let made = subst (λ (f : Option PutFault). PutsAll (generated_files c.args.number)
     (unrefused (g.S.Store.shown c.args.store.now)) (put_state_of_run now f))
     (none_is c.put_files-fault.result (sym c.is_some.ensures ∙ c.if-is_some.false)) c.put_files-fault.ensures in
-    made_whole c.args.number (g.S.Store.shown c.args.store.now) now c.unbegun-in_default-gen_config.result made
-    (ap (λ (s : Stop). s.end) c.unbegun-in_default-gen_config.ensures.stop ∙ c.nowhere-in_default-gen_config.ensures.0)
-    c.unbegun-in_default-gen_config.ensures.journal
+    made_whole c.args.number (g.S.Store.shown c.args.store.now) now c.ended_before_run-in_default-gen_config.result made
+    (ap (λ (s : Stop). s.end) c.ended_before_run-in_default-gen_config.ensures.stop ∙ c.nowhere-in_default-gen_config.ensures.0)
+    c.ended_before_run-in_default-gen_config.ensures.journal
 
 pub perform_beside-requires-after_bounds : goal.perform_beside-requires-after_bounds
 perform_beside-requires-after_bounds g c κs within =
