@@ -57,7 +57,8 @@ perform_nested-requires-after_bounds g c κs within =
 pub returns-in-Err : goal.returns-in-Err
 returns-in-Err g c =
     stopped_ends (Nested c.args.outer.now c.args.inner.now) (g.S.Store.shown c.args.store.now)
-    (g.S.Store.shown c.read_nested.new.store) c.in-Err.stop c.in-Err.ensures c.ended_before_run.result c.ended_before_run.ensures.stop
+    (g.S.Store.shown c.read_nested.new.store) c.in-Err.stop c.in-Err.ensures c.ended_before_run.result
+        c.ended_before_run.ensures.stop
     c.ended_before_run.ensures.journal
 
 pub returns-in-Some : goal.returns-in-Some
