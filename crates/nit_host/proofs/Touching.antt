@@ -146,7 +146,7 @@ module _ (s s' : State) (seat : ℕ) (a : Area) (x y : ℕ) (wide : x < s.config
 
   on_view : (v : ℕ) → HoldsTouched s seat (touch.View v) a → HoldsTouched s' seat (touch.View v) a
       → owns_either seat v s s' (point x y) ≡ true → has_place a x y ≡ true
-  on_view v holds holds' owned = elim (either (view_owns seat v s (point x y)) (view_owns seat v s' (point x y)) owned) [
+  on_view v holds holds' own = elim (either (view_owns seat v s (point x y)) (view_owns seat v s' (point x y)) own) [
     | inl e ↦ of_view v holds e
     | inr e ↦ of_view' v holds' e
   ]
