@@ -56,8 +56,9 @@ impl Sheet {
         ensures sight { result.sight ≡ blank_sheet owner size }
         ensures room { result.room ≡ 0 }
     {
-        let mut reached = Vec::new(alloc);
-        reached.shrink_to_fit();
+        let Ok(reached) = Vec::with_capacity(alloc, 0) else {
+            unreachable!()
+        };
         Sheet {
             owner,
             size,
