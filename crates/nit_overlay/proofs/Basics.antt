@@ -16,7 +16,7 @@ pub use Rattle.nit_overlay.specs.Terms.{tint, unowned_word, view_ref, view_text,
 pub use Rattle.nit_overlay.specs.Terms.{views_of, white_word, word_by}
 pub use Rattle.nit_stack.proofs.ForCallers.{All_found, owner_is, owner_of_views}
 pub use Rattle.nit_word.proofs.ForCallers.{column_and_row}
-pub use Rattle.std.proofs.Common.{List, Some, ap, arith, length, subst, sym, ℕ, ◌∙◌}
+pub use Rattle.std.proofs.Common.{List, ap, arith, length, subst, sym, ℕ, ◌∙◌}
 pub use Rattle.std.proofs.Math.Nat.{div-lt_iff_lt-mul, mul-le-mul_right}
 pub use Rattle.std.proofs.lemmas.Bool.{cases_lt, eqb-true, le-ltb}
 pub use Rattle.std.proofs.lemmas.Bool.Decides.{nat_tests}

@@ -5,11 +5,12 @@ pub use Rattle.nit_overlay.proofs.AreaParts.{no_columns, no_rows, part_at}
 pub use Rattle.nit_overlay.proofs.BarLemmas.{bar_area, bar_black, bar_done, bar_row, bar_shown}
 pub use Rattle.nit_overlay.proofs.BarLemmas.{bar_unowned}
 pub use Rattle.nit_overlay.proofs.Basics.{All_found, IsAreaBy, IsOverlaid, IsPainted, IsPlaced}
-pub use Rattle.nit_overlay.proofs.Basics.{IsSlotView, List, Some, Text, ap, arith, bar_word}
-pub use Rattle.nit_overlay.proofs.Basics.{between, div-mul-add, frame, in_area, is_slot, length}
-pub use Rattle.nit_overlay.proofs.Basics.{max, mod-mul-add, mul-le-mul_right, nat_lt, owner}
-pub use Rattle.nit_overlay.proofs.Basics.{owner_word, pixel, point, scenery, shown, stripe_rule}
-pub use Rattle.nit_overlay.proofs.Basics.{subst, sym, unowned_word, view_word, word_by, ℕ, ◌∙◌}
+pub use Rattle.nit_overlay.proofs.Basics.{IsSlotView, List, Text, ap, arith, bar_word, between}
+pub use Rattle.nit_overlay.proofs.Basics.{div-mul-add, frame, in_area, is_slot, length, max}
+pub use Rattle.nit_overlay.proofs.Basics.{mod-mul-add, mul-le-mul_right, nat_lt, option_map, owner}
+pub use Rattle.nit_overlay.proofs.Basics.{owner_word, pixel, point, scenery, seat_owner, shown}
+pub use Rattle.nit_overlay.proofs.Basics.{stripe_rule, subst, sym, unowned_word, view_ref}
+pub use Rattle.nit_overlay.proofs.Basics.{view_word, word_by, ℕ, ◌∙◌}
 pub use Rattle.nit_overlay.proofs.FrameLemmas.{frame_fits, get_or-frame, is_frame, is_whole}
 pub use Rattle.nit_overlay.proofs.FrameLemmas.{length-frame, rect_shown, same_frame}
 pub use Rattle.nit_overlay.proofs.KeptFrames.{flat_same, renewed}
