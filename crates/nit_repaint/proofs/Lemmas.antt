@@ -1,13 +1,13 @@
 -- What answers use: all that lemmas use, and this crate's lemmas.
-pub use Rattle.nit_repaint.proofs.Basics.{All_found, AreSet, FitsStack, IsSlotView, Point}
-pub use Rattle.nit_repaint.proofs.Basics.{Repainted, arith, eqb-true, found_passes, found_some}
-pub use Rattle.nit_repaint.proofs.Basics.{glasses_of_call, has_come, get_or_default, glass_in, ints}
-pub use Rattle.nit_repaint.proofs.Basics.{is_slot, is_wanted, length, list_any, map, no_sight}
-pub use Rattle.nit_repaint.proofs.Basics.{nothing_set, once, other_count, owner_passes, pieces_left}
-pub use Rattle.nit_repaint.proofs.Basics.{pixel, place_of, refl, same_Some, shown_at}
-pub use Rattle.nit_repaint.proofs.Basics.{slice_index_or, slot_owns_either, source_of_number}
-pub use Rattle.nit_repaint.proofs.Basics.{to_come, true, wanted_of_first, with_offset, with_rect}
-pub use Rattle.nit_repaint.proofs.Basics.{without, ◌∙◌}
+pub use Rattle.nit_repaint.proofs.Basics.{All_found, AreSet, FitsStack, IsSlotView, PaintsByList}
+pub use Rattle.nit_repaint.proofs.Basics.{PaintsMarked, Point, Repainted, arith, eqb-true}
+pub use Rattle.nit_repaint.proofs.Basics.{found_passes, found_some, get_or_default, glass_in}
+pub use Rattle.nit_repaint.proofs.Basics.{glasses_of_call, has_come, ints, is_slot, is_wanted}
+pub use Rattle.nit_repaint.proofs.Basics.{length, list_any, map, nothing_set, once, other_count}
+pub use Rattle.nit_repaint.proofs.Basics.{owner_passes, pieces_left, pixel, place_of, refl}
+pub use Rattle.nit_repaint.proofs.Basics.{same_Some, shown_at, slice_index_or, slot_owns_either}
+pub use Rattle.nit_repaint.proofs.Basics.{source_of_number, to_come, true, wanted_of_first}
+pub use Rattle.nit_repaint.proofs.Basics.{with_offset, with_rect, without, ◌∙◌}
 pub use Rattle.nit_repaint.proofs.BufferParts.{across_told, down_told, part_same, run_none}
 pub use Rattle.nit_repaint.proofs.BufferParts.{run_same}
 pub use Rattle.nit_repaint.proofs.ChangedOwners.{fallen_owns, gone_owns, moved_owns}
@@ -17,6 +17,7 @@ pub use Rattle.nit_repaint.proofs.FrameCopies.{whole_shown}
 pub use Rattle.nit_repaint.proofs.GlassLemmas.{all_painted, as_many, held_words, idle_at, left_at}
 pub use Rattle.nit_repaint.proofs.GlassLemmas.{listed_painted, scene_painted, screen_of}
 pub use Rattle.nit_repaint.proofs.GlassLemmas.{shown_session, still_held}
+pub use Rattle.nit_repaint.proofs.PaintSteps.{cutter_painted, more_painted, nothing_painted}
 pub use Rattle.nit_repaint.proofs.PieceLemmas.{all_came, none_came, one_came}
 pub use Rattle.nit_repaint.proofs.ViewChangeLemmas.{changes, moves_above, moves_back, moves_front}
 pub use Rattle.nit_repaint.proofs.OneViewGone.{gone_change}

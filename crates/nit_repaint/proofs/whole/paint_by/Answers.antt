@@ -7,22 +7,32 @@ pieces-init g c = record {
   fits = c.requires.fits;
   room = refl;
   less = λ p. omega arith;
-  painted = none_came (source_of_number c.args.stack.now) c.args.stack.now _ c.args.cutter.now _ c.args.raw.now.items;
-  count = refl;
-  rests = refl;
+  marked = record {
+    painted = none_came (source_of_number c.args.stack.now) c.args.stack.now _ c.args.cutter.now _
+        c.args.raw.now.items;
+    count = refl;
+    rests = refl;
+  };
 }
+
+pub paint_piece_by-requires-clause-glasses : goal.paint_piece_by-requires-clause-glasses
+paint_piece_by-requires-clause-glasses g c =
+    let i = c.pieces.invariant.marked in
+    record {
+      pixels = i.count ∙ c.requires.glasses.pixels;
+      held = still_held c.args.stack.now _ _ _ _ i.painted.loads c.pieces.auto.owns i.painted.sights
+          c.requires.glasses.held;
+    }
 
 pub paint_piece_by-requires-clause-piece : goal.paint_piece_by-requires-clause-piece
 paint_piece_by-requires-clause-piece g c =
     let e = c.in-Some.ensures in
-    c.pieces_of_owners.ensures c.args.stack.now c.in-Some.piece
-    (screen_of c.size-screen.result c.args.stack.now c.size-screen.ensures.size c.size-screen.ensures.range)
-    e.pixels e.on_screen e.owner
-
-pub paint_piece_by-requires-clause-held : goal.paint_piece_by-requires-clause-held
-paint_piece_by-requires-clause-held g c =
-    still_held c.args.stack.now _ _ _ _ c.pieces.invariant.painted.loads c.pieces.auto.owns
-    c.pieces.invariant.painted.sights c.requires.held
+    record {
+      piece = c.pieces_of_owners.ensures c.args.stack.now c.in-Some.piece
+          (screen_of c.size-screen.result c.args.stack.now c.size-screen.ensures.size c.size-screen.ensures.range)
+          e.pixels e.on_screen e.owner;
+      stands = e.stands;
+    }
 
 pub pieces-preserved : goal.pieces-preserved
 pieces-preserved g c =
@@ -33,14 +43,22 @@ pieces-preserved g c =
       fits = e.fits;
       room = e.room ∙ i.room;
       less = λ p. let was = i.less p in let now = e.count p in omega arith;
-      painted = one_came (source_of_number c.args.stack.now) c.args.stack.now _ c.args.cutter.now c.pieces.cutter
-          c.next.new.self c.in-Some.piece.rect _ _ _ _ _ _
-          c.requires.fits.once i.less e.count e.came i.painted (other_count _ _ _ _ _ _ _ _ i.count p'.painted);
-      count = p'.count ∙ i.count;
-      rests = p'.rests ∙ i.rests;
+      marked = record {
+        painted = one_came (source_of_number c.args.stack.now) c.args.stack.now _ c.args.cutter.now c.pieces.cutter
+            c.next.new.self c.in-Some.piece.rect _ _ _ _ _ _
+            c.requires.fits.once i.less e.count e.came i.marked.painted
+            (other_count _ _ _ _ _ _ _ _ i.marked.count p'.painted);
+        count = p'.count ∙ i.marked.count;
+        rests = p'.rests ∙ i.marked.rests;
+      };
     }
 
-pub returns-clause-painted : goal.returns-clause-painted
-returns-clause-painted g c =
-    all_came (source_of_number c.args.stack.now) c.args.stack.now _ c.args.cutter.now c.pieces.cutter _ _ _ _
-    c.in_default.ensures.came c.pieces.invariant.painted
+pub returns-clause-marked : goal.returns-clause-marked
+returns-clause-marked g c =
+    let i = c.pieces.invariant.marked in
+    record {
+      painted = all_came (source_of_number c.args.stack.now) c.args.stack.now _ c.args.cutter.now c.pieces.cutter _ _
+          _ _ c.in_default.ensures.came i.painted;
+      count = i.count;
+      rests = i.rests;
+    }
