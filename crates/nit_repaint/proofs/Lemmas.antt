@@ -1,13 +1,12 @@
 -- What answers use: all that lemmas use, and this crate's lemmas.
 pub use Rattle.nit_repaint.proofs.Basics.{All_found, AreSet, FitsStack, IsSlotView, PaintsByList}
-pub use Rattle.nit_repaint.proofs.Basics.{PaintsMarked, Point, Repainted, arith, eqb-true}
-pub use Rattle.nit_repaint.proofs.Basics.{found_passes, found_some, get_or_default, glass_in}
-pub use Rattle.nit_repaint.proofs.Basics.{glasses_of_call, has_come, ints, is_slot, is_wanted}
-pub use Rattle.nit_repaint.proofs.Basics.{length, list_any, map, nothing_set, once, other_count}
-pub use Rattle.nit_repaint.proofs.Basics.{owner_passes, pieces_left, pixel, place_of, refl}
-pub use Rattle.nit_repaint.proofs.Basics.{same_Some, shown_at, slice_index_or, slot_owns_either}
-pub use Rattle.nit_repaint.proofs.Basics.{source_of_number, to_come, true, wanted_of_first}
-pub use Rattle.nit_repaint.proofs.Basics.{with_offset, with_rect, without, ◌∙◌}
+pub use Rattle.nit_repaint.proofs.Basics.{PaintsMarked, Point, arith, eqb-true, found_passes}
+pub use Rattle.nit_repaint.proofs.Basics.{found_some, get_or_default, glasses_of_call, has_come}
+pub use Rattle.nit_repaint.proofs.Basics.{ints, is_slot, is_wanted, length, list_any, map, once}
+pub use Rattle.nit_repaint.proofs.Basics.{other_count, owner_passes, pieces_left, pixel, place_of}
+pub use Rattle.nit_repaint.proofs.Basics.{refl, same_Some, shown_at, slice_index_or}
+pub use Rattle.nit_repaint.proofs.Basics.{slot_owns_either, source_of_number, to_come, true}
+pub use Rattle.nit_repaint.proofs.Basics.{wanted_of_first, with_offset, with_rect, without, ◌∙◌}
 pub use Rattle.nit_repaint.proofs.BufferParts.{across_told, down_told, part_same, run_none}
 pub use Rattle.nit_repaint.proofs.BufferParts.{run_same}
 pub use Rattle.nit_repaint.proofs.ChangedOwners.{fallen_owns, gone_owns, moved_owns}

@@ -2,7 +2,7 @@
 use Rattle.std.specs.Prelude.{◌≡◌, ◌*◌, ℕ, Bool, true, List, length, map, All, IfSome, IsSomeAnd}
 use Rattle.nit_repaint.specs.declared.painter.Painter.{Painter}
 use Rattle.nit_repaint.specs.Below.{IsLook, IsPiece, IsWord, Look, Piece, Repainted, Sight}
-use Rattle.nit_repaint.specs.Below.{StackModel, has_slot, source_of_number}
+use Rattle.nit_repaint.specs.Below.{StackModel, has_pixel, has_slot, source_of_number}
 use Rattle.nit_repaint.specs.Glasses.{HoldBuffers, glass_in, glasses_of_call}
 
 -- ---- pieces
@@ -44,6 +44,14 @@ pub record PaintsMarked {G C R Q : Type 0} (sight : G → Sight) (own_sight : C 
       ≡ glass_in (map sight before.glasses.items) sid
   pub rest_of_own : own_rest own' ≡ own_rest own
   pub rests : map rest after'.glasses.items ≡ map rest before.glasses.items
+
+-- exactly the pixels of a piece were loaded again, and the cutter is as before
+pub record PaintsPiece {G C R Q : Type 0} (sight : G → Sight) (own_sight : C → Sight) (rest : G → R)
+    (own_rest : C → Q) (s : StackModel) (sid : ℕ) (piece : Piece) (before after' : Painter G)
+    (own own' : C) : Type 0 where
+  pub marked : PaintsMarked sight own_sight rest own_rest s sid (has_pixel s.width piece.rect)
+      before after' own own'
+  pub cutter : after'.cutter ≡ before.cutter
 
 -- ---- by one list of glasses
 

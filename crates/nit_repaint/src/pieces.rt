@@ -2,7 +2,7 @@
 
 ghost use Rattle.std.specs.Prelude.{◌≡◌, ◌*◌, ◌<◌, ◌≤◌, None, length, map, true, ℕ};
 ghost use Rattle.nit_repaint.specs.Terms.{CanPaint, FitsStack, IsPiece, IsPieceOfStack};
-ghost use Rattle.nit_repaint.specs.Terms.{IsViewPiece, PaintsMarked, Repainted, Sight};
+ghost use Rattle.nit_repaint.specs.Terms.{IsViewPiece, PaintsMarked, PaintsPiece, Repainted, Sight};
 ghost use Rattle.nit_repaint.specs.Terms.{glasses_of_call, has_pixel, has_slot, is_to_come};
 ghost use Rattle.nit_repaint.specs.Terms.{session_of, session_shown, source_of_number, with_glass};
 ghost use Rattle.nit_repaint.specs.Terms.{words_shown};
@@ -67,9 +67,8 @@ impl<G: Glass + Drop> Painter<G> {
         requires words { words_shown stack.now piece.now
             ≤ (glasses_of_call (map G.sight self.old.glasses.items) sid
             (C.sight own.old) session).size }
-        ensures painted { PaintsMarked G.sight C.sight G.rest C.rest stack.now sid
-            (has_pixel stack.now.width piece.now.rect) self.old self.new own.old own.new }
-        ensures cutter { self.new.cutter ≡ self.old.cutter }
+        ensures { PaintsPiece G.sight C.sight G.rest C.rest stack.now sid piece.now
+            self.old self.new own.old own.new }
     {
         if session == sid {
             load_view(stack, &mut self.raw, piece, own);
@@ -89,9 +88,8 @@ impl<G: Glass + Drop> Painter<G> {
     )
         requires painter { CanPaint G.sight C.sight stack.now sid self.old own.old }
         requires piece { IsPieceOfStack stack.now piece.now }
-        ensures painted { PaintsMarked G.sight C.sight G.rest C.rest stack.now sid
-            (has_pixel stack.now.width piece.now.rect) self.old self.new own.old own.new }
-        ensures cutter { self.new.cutter ≡ self.old.cutter }
+        ensures { PaintsPiece G.sight C.sight G.rest C.rest stack.now sid piece.now
+            self.old self.new own.old own.new }
     {
         match piece.owner {
             Some(v) => {

@@ -1,13 +1,12 @@
 //! Loading by one list of glasses alone, where no session calls.
 
 ghost use Rattle.std.specs.Prelude.{◌≡◌, ◌*◌, ◌≤◌, length, map, true};
-ghost use Rattle.nit_repaint.specs.Terms.{CanPaintByList, FitsStack, HoldBuffers, IsPieceOfStack};
-ghost use Rattle.nit_repaint.specs.Terms.{PaintsByList, Repainted, glass_in, has_pixel, is_to_come};
+ghost use Rattle.nit_repaint.specs.Terms.{CanPaintByList, HoldBuffers, IsPieceOfStack};
+ghost use Rattle.nit_repaint.specs.Terms.{PaintsByList, Repainted, glass_in, has_pixel};
 ghost use Rattle.nit_repaint.specs.Terms.{source_of_number};
 
 use crate::painter::Painter;
 use crate::pieces::{load_bare, load_view, session_of};
-use nit_damage::Cutter;
 use nit_paint::laws::pieces_of_owners;
 use nit_stack::{Piece, Stack};
 use nit_word::Glass;
@@ -49,22 +48,11 @@ impl<G: Glass + Drop> Painter<G> {
         ensures glasses { self.new.glasses ≡ self.old.glasses }
     {
         self.cutter.begin_all(stack);
-        paint_by(&mut self.cutter, stack, &mut self.raw, owns);
-    }
-}
-
-/// Paints all pixels that are to come by the cutter, each through its session's glass of this list.
-fn paint_by<C: Glass>(cutter: &mut Cutter, stack: &Stack, raw: &mut Vec<u32>, owns: &mut [C])
-    requires fits { FitsStack cutter.old stack.now }
-    requires glasses { CanPaintByList C.sight stack.now raw.old.items owns.old }
-    ensures room { cutter.new.room ≡ cutter.old.room }
-    ensures marked { PaintsByList C.sight C.rest stack.now (is_to_come cutter.old stack.now)
-        owns.old owns.new raw.old.items raw.new.items }
-{
-    pieces_of_owners();
-    let _screen = stack.size();
-    'pieces: while let Some(piece) = cutter.next(stack) {
-        paint_piece_by(stack, &piece, raw, owns);
+        pieces_of_owners();
+        let _screen = stack.size();
+        'pieces: while let Some(piece) = self.cutter.next(stack) {
+            paint_piece_by(stack, &piece, &mut self.raw, owns);
+        }
     }
 }
 

@@ -39,11 +39,11 @@ pieces-preserved g c =
     record {
       fits = rw p'.cutter e.fits;
       less = rw p'.cutter (λ p. let was = i.less p in let now = e.count p in omega arith);
-      marked = more_painted _ _ _ _ _ _ _ _ _ _ _ _ _ _ _ _ i.marked e.room p'.painted
+      marked = more_painted _ _ _ _ _ _ _ _ _ _ _ _ _ _ _ _ i.marked e.room p'.marked
           (rw p'.cutter (one_came (source_of_number c.args.stack.now) c.args.stack.now _ c.args.self.now.cutter
           c.pieces.self.cutter c.next.new.self c.in-Some.piece.rect _ _ _ _ _ _
           c.requires.fits.once i.less e.count e.came i.marked.painted
-          (other_count _ _ _ _ _ _ _ _ i.marked.count p'.painted.painted)));
+          (other_count _ _ _ _ _ _ _ _ i.marked.count p'.marked.painted)));
     }
 
 pub returns : goal.returns

@@ -1,5 +1,6 @@
 use Rattle.std.proofs.Common.{◌≤◌}
-use Rattle.nit_repaint.proofs.Lemmas.{FitsStack, PaintsMarked, Point, has_come, pieces_left, to_come}
+use Rattle.nit_repaint.proofs.Lemmas.{FitsStack, PaintsMarked, Point, has_come, pieces_left}
+use Rattle.nit_repaint.proofs.Lemmas.{to_come}
 use Rattle.nit_repaint.proofs.painter.Painter.paint_to_come.Given as goal
 
 abbrev pub invariant-pieces : goal.invariant-pieces
