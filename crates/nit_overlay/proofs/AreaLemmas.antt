@@ -1,7 +1,7 @@
 -- An area is painted row by row.
 use Rattle.std.proofs.Common.{Bool, List, ap, ap₂, arith, cond, false, get_or, inl, inr, leb}
-use Rattle.std.proofs.Common.{length, ltb, min, refl, rules, subst, sym, true, ℕ, ◌%◌, ◌&&◌, ◌*◌}
-use Rattle.std.proofs.Common.{◌+◌, ◌-◌, ◌/◌, ◌<◌, ◌∙◌, ◌≡◌, ◌≤◌}
+use Rattle.std.proofs.Common.{length, ltb, refl, rules, subst, sym, true, ℕ, ◌%◌, ◌&&◌, ◌*◌, ◌+◌}
+use Rattle.std.proofs.Common.{◌-◌, ◌/◌, ◌<◌, ◌∙◌, ◌≡◌, ◌≤◌}
 use Rattle.nit_overlay.proofs.Basics.{Area, IsOverlaid, IsPainted, between, cases_lt}
 use Rattle.nit_overlay.proofs.Basics.{div-lt_iff_lt-mul, div-mul-add, get_or-between, in_area}
 use Rattle.nit_overlay.proofs.Basics.{le-div, mod-mul-add, nat_tests, places}
@@ -194,9 +194,3 @@ last_row f a width count raw old now some room far = record {
       ];
   rest = λ k ge. far.whole.rest k (omega arith);
 }
-
--- ---- an area cut to the screen
-
-pub cut_off : (from to most end start at : ℕ) → end ≡ min (to - 32768) most → start ≡ min (from - 32768) end → at < most
-    → (leb start at && ltb at end) ≡ (leb from (at + 32768) && ltb (at + 32768) to)
-cut_off from to most end start at is begins lt = grind (arith, nat_tests)

@@ -21,28 +21,29 @@ both_chosen f first second chosen raw old mid new count is one two = record {
   words =
       λ k lt.
       two.words k lt ∙ ap (λ w. cond (second k) (f k (get_or raw k 0)) w) (one.words k lt)
-      ∙ go (second k) (first k) (f k (get_or raw k 0)) (get_or old k 0)
+      ∙ either_chosen (second k) (first k) (f k (get_or raw k 0)) (get_or old k 0)
       ∙ sym (ap (λ b. cond b (f k (get_or raw k 0)) (get_or old k 0)) (is k));
   rest = λ k ge. two.rest k ge ∙ one.rest k ge;
 }
   where
-    go : (p q : Bool) (w x : ℕ) → cond p w (cond q w x) ≡ cond (p || q) w x
-    go true q w x = refl
-    go false q w x = refl
+    either_chosen : (p q : Bool) (w x : ℕ) → cond p w (cond q w x) ≡ cond (p || q) w x
+    either_chosen true q w x = refl
+    either_chosen false q w x = refl
 
 -- what is painted by one function is painted by another that gives the same words there
 chosen_by : (f g : ℕ → ℕ → ℕ) (chosen : ℕ → Bool) (raw old new : List ℕ) (count : ℕ)
     → ((k w : ℕ) → chosen k ≡ true → f k w ≡ g k w)
     → IsOverlaid f chosen raw old new count → IsOverlaid g chosen raw old new count
 chosen_by f g chosen raw old new count same is = record {
-  words = λ k lt. is.words k lt ∙ go (chosen k) (f k (get_or raw k 0)) (g k (get_or raw k 0)) (get_or old k 0)
+  words =
+      λ k lt. is.words k lt ∙ chosen_or_not (chosen k) (f k (get_or raw k 0)) (g k (get_or raw k 0)) (get_or old k 0)
       (λ on. same k (get_or raw k 0) on);
   rest = is.rest;
 }
   where
-    go : (b : Bool) (v w x : ℕ) → (b ≡ true → v ≡ w) → cond b v x ≡ cond b w x
-    go true v w x e = e refl
-    go false v w x e = refl
+    chosen_or_not : (b : Bool) (v w x : ℕ) → (b ≡ true → v ≡ w) → cond b v x ≡ cond b w x
+    chosen_or_not true v w x e = e refl
+    chosen_or_not false v w x e = refl
 
 -- ---- parts of an area
 

@@ -28,11 +28,11 @@ renewed before now chosen raw raw' old new r was =
 pub flat_shown : (s : Scenery) (p : Point) (w : ℕ) → s.mode ≡ Flat → in_bar s.bar p ≡ false
     → shown s p w ≡ cond (is_some (owner s.bar s.stack p)) w bare_word
 flat_shown s p w flat below = ap (λ (b : Bool). cond b (bar_word s p) (owner_word s p w (owner s.bar s.stack p))) below
-    ∙ go (owner s.bar s.stack p)
+    ∙ owned_or_bare (owner s.bar s.stack p)
   where
-    go : (o : Option View) → owner_word s p w o ≡ cond (is_some o) w bare_word
-    go None = refl
-    go (Some v) = ap (λ (m : Mode). view_word m s v p w) flat
+    owned_or_bare : (o : Option View) → owner_word s p w o ≡ cond (is_some o) w bare_word
+    owned_or_bare None = refl
+    owned_or_bare (Some v) = ap (λ (m : Mode). view_word m s v p w) flat
 
 pub flat_same : (before now : Scenery) (p : Point) (w : ℕ) → before.mode ≡ Flat → now.mode ≡ Flat → before.bar ≡ now.bar
     → in_bar now.bar p ≡ false

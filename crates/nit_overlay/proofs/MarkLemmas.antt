@@ -1,14 +1,13 @@
 -- The server's marks in the modes Xray and Kill.
 use Rattle.std.proofs.Common.{Bool, List, None, Option, Some, ap, arith, cond, false, inl, inr}
 use Rattle.std.proofs.Common.{refl, subst, sym, true, ℕ, ◌++◌, ◌&&◌, ◌∙◌, ◌≡◌, ◌⊎◌}
-use Rattle.nit_overlay.proofs.Basics.{Flat, IsBright, IsMark, IsOfNamed, IsReddish, IsTrue, IsWord}
-use Rattle.nit_overlay.proofs.Basics.{Kill, Mode, Point, Scenery, View, Xray, bar_text, bar_text_of}
-use Rattle.nit_overlay.proofs.Basics.{bar_word, bare_word, by_label, by_mode, codes, covering, dim}
-use Rattle.nit_overlay.proofs.Basics.{draws_labels, eqb-true, grey_word, has_dot, in_bar, in_label}
-use Rattle.nit_overlay.proofs.Basics.{ink_of, is_dot_of_text, is_in_picture, is_in_text}
-use Rattle.nit_overlay.proofs.Basics.{is_label_dot, is_on_ring, is_same, label_of, label_place_of}
-use Rattle.nit_overlay.proofs.Basics.{mode_word, option_map, owner, owner_word, red_word, shown}
-use Rattle.nit_overlay.proofs.Basics.{tint, view_text, view_word, white_word}
+use Rattle.nit_overlay.proofs.Basics.{IsBright, IsMark, IsOfNamed, IsReddish, IsWord, Kill, Mode}
+use Rattle.nit_overlay.proofs.Basics.{Point, Scenery, View, Xray, bar_text, bar_text_of, bar_word}
+use Rattle.nit_overlay.proofs.Basics.{bare_word, by_label, by_mode, codes, covering, dim, eqb-true}
+use Rattle.nit_overlay.proofs.Basics.{grey_word, has_dot, in_bar, in_label, ink_of, is_dot_of_text}
+use Rattle.nit_overlay.proofs.Basics.{is_in_picture, is_in_text, is_on_ring, is_same, label_of}
+use Rattle.nit_overlay.proofs.Basics.{label_place_of, mode_word, option_map, owner, owner_word}
+use Rattle.nit_overlay.proofs.Basics.{red_word, shown, tint, view_text, view_word, white_word}
 
 -- ---- words
 
@@ -105,21 +104,10 @@ xray_bright s p w xray fits bright = shown_bright s p w (in_bar s.bar p) (owner 
 
 -- ---- a label
 
-labelled : (text : List ℕ) (place : Option (ℕ × ℕ)) (p : Point) (w : ℕ) → is_in_text text place p ≡ true
-    → by_label text place p w ≡ ink_of (is_dot_of_text text place p)
-labelled text None p w e = cc
-labelled text (Some q) p w e = rw e refl
-
 unlabelled : (text : List ℕ) (place : Option (ℕ × ℕ)) (p : Point) (w : ℕ) → is_in_text text place p ≡ false
     → by_label text place p w ≡ w
 unlabelled text None p w e = refl
 unlabelled text (Some q) p w e = rw e refl
-
-label_word : (mode : Mode) (s : Scenery) (v : View) (p : Point) (w : ℕ) → IsTrue (draws_labels mode)
-    → in_label s v p ≡ true → view_word mode s v p w ≡ ink_of (is_label_dot s v p)
-label_word Flat s v p w draws in_ = cc
-label_word Xray s v p w draws in_ = labelled (view_text s v) (label_place_of s v) p _ in_
-label_word Kill s v p w draws in_ = labelled (view_text s v) (label_place_of s v) p _ in_
 
 -- the owner of a pixel is below the bar
 owned_below : (b : Bool) (o : Option View) (v : View) → cond b None o ≡ Some v → b ≡ false
@@ -134,10 +122,6 @@ shown_owned : (s : Scenery) (p : Point) (w : ℕ) (v : View) → owner s.bar s.s
     → shown s p w ≡ view_word s.mode s v p w
 shown_owned s p w v owns = shown_below s p w (owned_below (in_bar s.bar p) (covering (λ v. v) s.stack p) v owns)
     ∙ ap (owner_word s p w) owns
-
-pub label_shown : (s : Scenery) (p : Point) (w : ℕ) (v : View) → IsTrue (draws_labels s.mode)
-    → owner s.bar s.stack p ≡ Some v → in_label s v p ≡ true → shown s p w ≡ ink_of (is_label_dot s v p)
-label_shown s p w v draws owns in_ = shown_owned s p w v owns ∙ label_word s.mode s v p w draws in_
 
 -- ---- a view's pixel in mode Kill
 

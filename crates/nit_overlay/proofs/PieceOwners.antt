@@ -21,17 +21,17 @@ shown_owned look p w v view apart owned at = below look.stack.now.bar look.stack
         → slot_view_in v.0 views ≡ Some (record { slot = v.0; view = view })
         → cond (in_bar bar p) (bar_word (scenery look) p) (owner_word (scenery look) p w (owner bar (views_of views) p))
         ≡ view_word look.mode (scenery look) view p w
-    below bar views apart owned at = go (in_bar bar p) refl
+    below bar views apart owned at = in_bar_or_below (in_bar bar p) refl
       where
         is : owner bar (views_of views) p ≡ Some view
         is = owner_of_views bar views p ∙ ap (option_map (λ s. s.view)) (owner_is bar views p v view apart owned at)
 
-        go : (b : Bool) → in_bar bar p ≡ b
+        in_bar_or_below : (b : Bool) → in_bar bar p ≡ b
             → cond b (bar_word (scenery look) p) (owner_word (scenery look) p w (owner bar (views_of views) p))
             ≡ view_word look.mode (scenery look) view p w
-        go true e = absurd (some_none
+        in_bar_or_below true e = absurd (some_none
             (owned ∙ ap (λ b. option_map view_ref (cond b None (covering (λ s. s.view) views p))) e))
-        go false e = ap (owner_word (scenery look) p w) is
+        in_bar_or_below false e = ap (owner_word (scenery look) p w) is
 
 -- a pixel that no view owns
 pub shown_unowned : (look : Look) (p : Point) (w : ℕ)

@@ -18,8 +18,8 @@ pub use Rattle.nit_rect.specs.Rectangle.{IsPlace, Rectangle, covers, rectangle, 
 pub use Rattle.nit_rect.specs.declared.point.Point.{Point}
 pub use Rattle.nit_stack.specs.LabelPlaces.{label_place}
 pub use Rattle.nit_stack.specs.Sources.{covering, in_bar, owner, pixel, point}
-pub use Rattle.nit_stack.specs.Stack.{IsScreenSize, IsSlotView, IsStack, NoPair, SlotView, has_slot}
-pub use Rattle.nit_stack.specs.Stack.{is_slot, same_slot, seat_owner, slot_view_in, view_ref}
+pub use Rattle.nit_stack.specs.Stack.{IsSlotView, IsStack, NoPair, SlotView, has_slot, is_slot}
+pub use Rattle.nit_stack.specs.Stack.{same_slot, seat_owner, slot_view_in, view_ref}
 pub use Rattle.nit_stack.specs.ViewNames.{views_of}
 pub use Rattle.nit_stack.specs.declared.view.View.{View}
 pub use Rattle.nit_stack.specs.declared.view.ViewRef.{ViewRef}

@@ -11,5 +11,7 @@ pub mod Stripe
 pub mod Owner
 pub mod Rule
 pub mod Span
+pub mod Stretch
+pub mod ToPaint
 pub mod Below
 pub mod Terms

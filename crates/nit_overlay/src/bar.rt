@@ -2,7 +2,7 @@
 
 ghost use Rattle.std.specs.Prelude.{◌≡◌, ℕ, ◌*◌, ◌<◌, List, length, nat_lt, slice_index};
 ghost use Rattle.std.specs.Prelude.{if◌then◌else◌};
-ghost use Rattle.nit_overlay.specs.Terms.{IsLook, IsPainted, IsRowPart, bar_text, bar_word};
+ghost use Rattle.nit_overlay.specs.Terms.{IsBarToShow, IsLook, IsPainted, bar_text, bar_word};
 ghost use Rattle.nit_overlay.specs.Terms.{mode_word, pixel, point, scenery};
 
 use crate::look::Look;
@@ -45,9 +45,7 @@ fn text_of(look: &Look) -> LabelText
 
 /// Paints these pixels of a row of the bar.
 pub(crate) fn overlay_bar(look: &Look, part: RowPart, out: &mut [u32])
-    requires look { IsLook look.now }
-    requires part { IsRowPart (length out.old) part }
-    requires down { part.y < 7 }
+    requires { IsBarToShow look.now part out.old }
     ensures { (raw : List ℕ) → IsPainted (λ x w. bar_word (scenery look.now) (point x part.y))
         raw out.old out.new part.from part.to }
 {

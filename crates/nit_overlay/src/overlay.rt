@@ -1,8 +1,8 @@
 //! Rectangles of the screen, and whole frames.
 
 ghost use Rattle.std.specs.Prelude.{◌≡◌, ℕ, ◌*◌, ◌<◌, length, slice_index, All, if◌then◌else◌};
-ghost use Rattle.nit_overlay.specs.Terms.{IsArea, IsLook, IsScreenSize, IsShownIn, IsWord, covers};
-ghost use Rattle.nit_overlay.specs.Terms.{frame, pixel, scenery, shown};
+ghost use Rattle.nit_overlay.specs.Terms.{IsAreaToShow, IsLook, IsShownIn, IsWord, covers, frame};
+ghost use Rattle.nit_overlay.specs.Terms.{pixel, scenery, shown};
 
 use crate::area::{Area, area_of};
 use crate::look::Look;
@@ -26,7 +26,7 @@ pub fn overlay_rect(look: &Look, raw: &[u32], r: Rect, out: &mut [u32])
 {
     let (width, height) = look.stack.size();
     let area = area_of(&r, width, height);
-    overlay_area(look, raw, &area, width, out);
+    overlay_area(look, raw, &area, out);
 }
 
 /// Sets `out` to the frame: the words that the screen shows, row by row from the top, each below
@@ -48,20 +48,15 @@ pub fn frame_into(look: &Look, raw: &[u32], out: &mut [u32])
         right: width,
         bottom: height,
     };
-    overlay_area(look, raw, &area, width, out);
+    overlay_area(look, raw, &area, out);
 }
 
 /// Sets the words of the pixels of the area to what is shown there, row by row.
-fn overlay_area(look: &Look, raw: &[u32], area: &Area, width: u32, out: &mut [u32])
-    requires look { IsLook look.now }
-    requires width { width ≡ look.now.stack.now.width }
-    requires screen { IsScreenSize look.now.stack.now.width look.now.stack.now.height }
-    requires raw { length raw.now ≡ look.now.stack.now.width * look.now.stack.now.height }
-    requires out { length out.old ≡ look.now.stack.now.width * look.now.stack.now.height }
-    requires words { All IsWord raw.now }
-    requires area { IsArea look.now.stack.now.width look.now.stack.now.height area.now }
+fn overlay_area(look: &Look, raw: &[u32], area: &Area, out: &mut [u32])
+    requires { IsAreaToShow look.now area.now raw.now out.old }
     ensures { IsShownIn area.now look.now raw.now out.old out.new }
 {
+    let (width, _height) = look.stack.size();
     'rows: for y in area.top..area.bottom {
         let at = y as usize * width as usize;
         let end = at + width as usize;

@@ -1,9 +1,9 @@
 //! Who owns the pixels of a row.
 
-ghost use Rattle.std.specs.Prelude.{◌≡◌, ℕ, ◌<◌, ◌≤◌, true, length, option_map, slice_get, Some};
-ghost use Rattle.std.specs.Prelude.{IfSome, IsTrue};
-ghost use Rattle.nit_overlay.specs.Terms.{IsLook, IsOwner, IsPlaced, IsStack, draws_labels};
-ghost use Rattle.nit_overlay.specs.Terms.{has_slot, label_place_of, most_height, most_width, owner};
+ghost use Rattle.std.specs.Prelude.{◌≡◌, ◌<◌, true, length, option_map, slice_get, Some, IfSome};
+ghost use Rattle.std.specs.Prelude.{IsTrue};
+ghost use Rattle.nit_overlay.specs.Terms.{AreBelowBar, HoldsUpTo, IsLook, IsOwner, IsPlaced};
+ghost use Rattle.nit_overlay.specs.Terms.{IsStack, draws_labels, has_slot, label_place_of, owner};
 ghost use Rattle.nit_overlay.specs.Terms.{pixel_at, point, scenery, slot_view_in, views_of};
 
 use crate::look::Look;
@@ -51,19 +51,6 @@ fn place_at(look: &Look, v: ViewRef, view: &View) -> Option<Point>
     }
 }
 
-/// The view at place `i` from the front as an owner.
-fn owner_at(look: &Look, i: u32, v: ViewRef, view: View) -> Owner
-    requires look { IsLook look.now }
-    requires place { slice_get look.now.stack.now.views i
-        ≡ Some (record { slot = v.0; view = view }) }
-    requires standing { IsStack look.now.stack.now }
-    ensures view { result.view ≡ view }
-    ensures owner { IsOwner look.now result }
-{
-    let place = place_at(look, v, &view);
-    Owner { view, place }
-}
-
 /// The view in a slot as an owner.
 pub(crate) fn owner_of(look: &Look, v: ViewRef) -> Owner
     requires look { IsLook look.now }
@@ -81,16 +68,11 @@ pub(crate) fn owner_of(look: &Look, v: ViewRef) -> Owner
 /// The owner of the pixel in column x of the row y, which lies below the bar, and the column, at
 /// most `to`, up to which the pixels to the right have the same.
 pub(crate) fn piece_at(look: &Look, x: u32, y: u32, to: u32) -> Piece
-    requires look { IsLook look.now }
-    requires before { x < to }
-    requires across { to ≤ most_width }
-    requires down { y ≤ most_height }
-    requires below { look.now.stack.now.bar ≤ y }
-    ensures after { x < result.end }
-    ensures within { result.end ≤ to }
-    ensures owner { (z : ℕ) → x ≤ z → z < result.end
-        → owner look.now.stack.now.bar (views_of look.now.stack.now.views) (point z y)
-        ≡ option_map (λ o. o.view) result.owner }
+    requires { AreBelowBar look.now x y to }
+    ensures owner { HoldsUpTo
+        (λ z. owner look.now.stack.now.bar (views_of look.now.stack.now.views) (point z y)
+        ≡ option_map (λ o. o.view) result.owner)
+        x to result.end }
     ensures placed { IfSome result.owner (IsOwner look.now) }
 {
     let mut end = to;
@@ -98,8 +80,9 @@ pub(crate) fn piece_at(look: &Look, x: u32, y: u32, to: u32) -> Piece
         let (v, view) = view_at(look.stack, i);
         let (covered, last) = reach(&view.rect, x, y, end);
         if covered {
+            let place = place_at(look, v, &view);
             return Piece {
-                owner: Some(owner_at(look, i, v, view)),
+                owner: Some(Owner { view, place }),
                 end: last,
             };
         }

@@ -1,8 +1,8 @@
 //! A run of pixels that have one rule.
 
-ghost use Rattle.std.specs.Prelude.{◌≡◌, ℕ, ◌+◌, ◌<◌, ◌≤◌, List, length, slice_index, All};
-ghost use Rattle.nit_overlay.specs.Terms.{IsInTag, IsPainted, IsRowPart, IsTagged, IsWord};
-ghost use Rattle.nit_overlay.specs.Terms.{most_width, word_by};
+ghost use Rattle.std.specs.Prelude.{◌≡◌, ℕ, ◌+◌, ◌<◌, ◌≤◌, List, length, slice_index};
+ghost use Rattle.nit_overlay.specs.Terms.{IsInTag, IsPainted, IsRowPart, IsRowToPaint};
+ghost use Rattle.nit_overlay.specs.Terms.{IsRunToPaint, IsTagged, most_width, word_by};
 
 use crate::row_part::RowPart;
 use nit_glyph::{LabelText, label_bit};
@@ -33,9 +33,7 @@ pub(crate) enum Rule {
 
 /// Paints these pixels of a row by the rule.
 pub(crate) fn paint_part(rule: &Rule, part: RowPart, raw: &[u32], out: &mut [u32])
-    requires same_length { length out.old ≡ length raw.now }
-    requires words { All IsWord raw.now }
-    requires part { IsRowPart (length raw.now) part }
+    requires row { IsRowToPaint part raw.now out.old }
     requires tagged { IsTagged rule.now part.from part.to part.y }
     ensures { IsPainted (λ x w. word_by rule.now x part.y w) raw.now out.old out.new part.from
         part.to }
@@ -72,10 +70,7 @@ pub(crate) fn fill_part(word: u32, out: &mut [u32], from: u32, to: u32)
 
 /// Paints `out`, which are pixels of the row y from the column x on, by the rule.
 fn paint(rule: &Rule, raw: &[u32], out: &mut [u32], x: u32, y: u32)
-    requires same_length { length out.old ≡ length raw.now }
-    requires words { All IsWord raw.now }
-    requires tagged { IsTagged rule.now x (x + length raw.now) y }
-    requires across { x + length raw.now ≤ most_width }
+    requires { IsRunToPaint rule.now x y raw.now out.old }
     ensures { (k : ℕ) → k < length raw.now
         → slice_index out.new k ≡ word_by rule.now (x + k) y (slice_index raw.now k) }
 {

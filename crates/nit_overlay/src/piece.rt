@@ -1,13 +1,12 @@
 //! Pieces of the screen, each of which has one owner or none.
 
 ghost use Rattle.std.specs.Prelude.{◌≡◌, ℕ, ◌*◌, ◌<◌, ◌≤◌, length, slice_index, All, IfSome};
-ghost use Rattle.std.specs.Prelude.{IsTrue, None, Some, true, if◌then◌else◌};
-ghost use Rattle.nit_overlay.specs.Terms.{IsArea, IsAreaBy, IsLook, IsOwner, IsPainted, IsRowOfTag};
-ghost use Rattle.nit_overlay.specs.Terms.{IsRowPart, IsScreenSize, IsShownIn, IsTagged, IsWord};
-ghost use Rattle.nit_overlay.specs.Terms.{Point, covers, has_slot, in_area, most_height};
-ghost use Rattle.nit_overlay.specs.Terms.{most_width, option_map, pixel, point, scenery};
-ghost use Rattle.nit_overlay.specs.Terms.{seat_owner, shown, stripe_rule, unowned_word, view_ref};
-ghost use Rattle.nit_overlay.specs.Terms.{view_word, word_by};
+ghost use Rattle.std.specs.Prelude.{IsTrue, None, true, if◌then◌else◌};
+ghost use Rattle.nit_overlay.specs.Terms.{IsAreaBy, IsAreaToPaint, IsAreaToShow, IsLook, IsOwner};
+ghost use Rattle.nit_overlay.specs.Terms.{IsPainted, IsRowOfTag, IsRowToShow, IsShownIn, IsTagged};
+ghost use Rattle.nit_overlay.specs.Terms.{IsWord, Point, covers, has_slot, in_area, option_map};
+ghost use Rattle.nit_overlay.specs.Terms.{pixel, point, scenery, seat_owner, shown, stripe_rule};
+ghost use Rattle.nit_overlay.specs.Terms.{unowned_word, view_ref, view_word, word_by};
 
 use crate::area::{Area, area_of};
 use crate::bar::overlay_bar;
@@ -16,7 +15,7 @@ use crate::owner::{Owner, owner_of};
 use crate::paint::{Rule, paint_part};
 use crate::row_part::RowPart;
 use crate::stripe::{Stripe, band_at, run_at};
-use nit_stack::{Piece, ViewRef};
+use nit_stack::Piece;
 use nit_word::BARE;
 
 /// Sets the words of a piece's pixels to what is shown there; all other words stay. Each pixel of
@@ -42,35 +41,18 @@ pub fn overlay_piece(look: &Look, raw: &[u32], piece: &Piece, out: &mut [u32])
     let (width, height) = look.stack.size();
     let area = area_of(&piece.rect, width, height);
     match piece.owner {
-        Some(v) => overlay_owned(look, v, raw, &area, out),
-        None => overlay_unowned(look, raw, &area, width, out),
+        Some(v) => {
+            let owner = owner_of(look, v);
+            overlay_view(look, &owner, raw, &area, out);
+        }
+        None => overlay_unowned(look, raw, &area, out),
     }
-}
-
-/// Paints an area of which this view owns every pixel.
-fn overlay_owned(look: &Look, v: ViewRef, raw: &[u32], area: &Area, out: &mut [u32])
-    requires look { IsLook look.now }
-    requires screen { IsScreenSize look.now.stack.now.width look.now.stack.now.height }
-    requires raw { length raw.now ≡ look.now.stack.now.width * look.now.stack.now.height }
-    requires out { length out.old ≡ length raw.now }
-    requires words { All IsWord raw.now }
-    requires area { IsArea look.now.stack.now.width look.now.stack.now.height area.now }
-    requires stands { has_slot v.0 look.now.stack.now.views ≡ true }
-    requires owner { (x y : ℕ) → in_area area.now x y ≡ true → Some v ≡ option_map view_ref
-        (seat_owner look.now.stack.now.bar look.now.stack.now.views (point x y)) }
-    ensures { IsShownIn area.now look.now raw.now out.old out.new }
-{
-    let owner = owner_of(look, v);
-    overlay_view(look, &owner, raw, area, out);
 }
 
 /// Paints an area as pixels of this view, one band of rows after the other.
 fn overlay_view(look: &Look, owner: &Owner, raw: &[u32], area: &Area, out: &mut [u32])
     requires owner { IsOwner look.now owner.now }
-    requires same_length { length out.old ≡ length raw.now }
-    requires words { All IsWord raw.now }
-    requires area { IsArea look.now.stack.now.width most_height area.now }
-    requires within { area.now.bottom * look.now.stack.now.width ≤ length raw.now }
+    requires area { IsAreaToPaint look.now.stack.now.width area.now raw.now out.old }
     ensures { IsAreaBy
         (λ x y w. view_word look.now.mode (scenery look.now) owner.now.view (point x y) w)
         area.now look.now.stack.now.width raw.now out.old out.new (length raw.now) }
@@ -95,11 +77,7 @@ fn overlay_band(stripe: &Stripe, raw: &[u32], area: &Area, width: u32, out: &mut
     requires met { (y : ℕ) → area.now.top ≤ y → y < area.now.bottom
         → IfSome stripe.now.tag (IsRowOfTag y) }
     requires rows { area.now.top < area.now.bottom }
-    requires width { (1 ≤ width) × (width ≤ most_width) }
-    requires same_length { length out.old ≡ length raw.now }
-    requires words { All IsWord raw.now }
-    requires area { IsArea width most_height area.now }
-    requires within { area.now.bottom * width ≤ length raw.now }
+    requires area { IsAreaToPaint width area.now raw.now out.old }
     ensures { IsAreaBy (λ x y w. word_by (stripe_rule stripe.now x) x y w)
         area.now width raw.now out.old out.new (length raw.now) }
 {
@@ -121,11 +99,7 @@ fn overlay_band(stripe: &Stripe, raw: &[u32], area: &Area, width: u32, out: &mut
 fn overlay_block(rule: &Rule, raw: &[u32], area: &Area, width: u32, out: &mut [u32])
     requires tagged { (y : ℕ) → area.now.top ≤ y → y < area.now.bottom
         → IsTagged rule.now area.now.left area.now.right y }
-    requires width { (1 ≤ width) × (width ≤ most_width) }
-    requires same_length { length out.old ≡ length raw.now }
-    requires words { All IsWord raw.now }
-    requires area { IsArea width most_height area.now }
-    requires within { area.now.bottom * width ≤ length raw.now }
+    requires area { IsAreaToPaint width area.now raw.now out.old }
     ensures { IsAreaBy (λ x y w. word_by rule.now x y w)
         area.now width raw.now out.old out.new (length raw.now) }
 {
@@ -137,18 +111,13 @@ fn overlay_block(rule: &Rule, raw: &[u32], area: &Area, width: u32, out: &mut [u
 }
 
 /// Paints an area of which no view owns a pixel.
-fn overlay_unowned(look: &Look, raw: &[u32], area: &Area, width: u32, out: &mut [u32])
-    requires look { IsLook look.now }
-    requires width { width ≡ look.now.stack.now.width }
-    requires screen { IsScreenSize look.now.stack.now.width look.now.stack.now.height }
-    requires raw { length raw.now ≡ look.now.stack.now.width * look.now.stack.now.height }
-    requires out { length out.old ≡ length raw.now }
-    requires words { All IsWord raw.now }
-    requires area { IsArea look.now.stack.now.width look.now.stack.now.height area.now }
+fn overlay_unowned(look: &Look, raw: &[u32], area: &Area, out: &mut [u32])
+    requires area { IsAreaToShow look.now area.now raw.now out.old }
     requires owner { (x y : ℕ) → in_area area.now x y ≡ true → None ≡ option_map view_ref
         (seat_owner look.now.stack.now.bar look.now.stack.now.views (point x y)) }
     ensures { IsShownIn area.now look.now raw.now out.old out.new }
 {
+    let (width, _height) = look.stack.size();
     'rows: for y in area.top..area.bottom {
         let at = y as usize * width as usize;
         let end = at + width as usize;
@@ -158,10 +127,7 @@ fn overlay_unowned(look: &Look, raw: &[u32], area: &Area, width: u32, out: &mut 
 
 /// Paints these pixels of a row, which no view owns.
 fn bare_row(look: &Look, part: RowPart, raw: &[u32], out: &mut [u32])
-    requires look { IsLook look.now }
-    requires same_length { length out.old ≡ length raw.now }
-    requires words { All IsWord raw.now }
-    requires part { IsRowPart (length raw.now) part }
+    requires { IsRowToShow look.now part raw.now out.old }
     ensures { IsPainted (λ x w. unowned_word (scenery look.now) (point x part.y))
         raw.now out.old out.new part.from part.to }
 {

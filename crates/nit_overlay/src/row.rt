@@ -1,9 +1,9 @@
 //! A row of the screen, by the pieces of it that have one owner.
 
-ghost use Rattle.std.specs.Prelude.{◌≡◌, ◌<◌, ◌≤◌, length, option_map, All, IfSome};
-ghost use Rattle.nit_overlay.specs.Terms.{IsLook, IsOwner, IsPainted, IsRowOfTag, IsRowPart};
-ghost use Rattle.nit_overlay.specs.Terms.{IsWord, most_height, owner, owner_word, point, scenery};
-ghost use Rattle.nit_overlay.specs.Terms.{shown, stripe_rule, word_by};
+ghost use Rattle.std.specs.Prelude.{option_map, IfSome};
+ghost use Rattle.nit_overlay.specs.Terms.{IsOwner, IsPainted, IsRowOfTag, IsRowToPaint};
+ghost use Rattle.nit_overlay.specs.Terms.{IsRowToShow, owner_word, point, scenery, shown};
+ghost use Rattle.nit_overlay.specs.Terms.{stripe_rule, word_by};
 
 use crate::bar::overlay_bar;
 use crate::look::Look;
@@ -16,9 +16,7 @@ use nit_word::BARE;
 /// Paints these pixels of a row of a view, run by run.
 fn overlay_stripe(stripe: &Stripe, part: RowPart, raw: &[u32], out: &mut [u32])
     requires met { IfSome stripe.now.tag (IsRowOfTag part.y) }
-    requires same_length { length out.old ≡ length raw.now }
-    requires words { All IsWord raw.now }
-    requires part { IsRowPart (length raw.now) part }
+    requires row { IsRowToPaint part raw.now out.old }
     ensures { IsPainted (λ x w. word_by (stripe_rule stripe.now x) x part.y w)
         raw.now out.old out.new part.from part.to }
 {
@@ -38,10 +36,7 @@ fn overlay_stripe(stripe: &Stripe, part: RowPart, raw: &[u32], out: &mut [u32])
 /// Paints these pixels of a row, which have one owner or none.
 fn overlay_owned(look: &Look, owner: Option<Owner>, part: RowPart, raw: &[u32], out: &mut [u32])
     requires owner { IfSome owner (IsOwner look.now) }
-    requires same_length { length out.old ≡ length raw.now }
-    requires words { All IsWord raw.now }
-    requires part { IsRowPart (length raw.now) part }
-    requires down { part.y < most_height }
+    requires row { IsRowToShow look.now part raw.now out.old }
     ensures { IsPainted
         (λ x w. owner_word (scenery look.now) (point x part.y) w (option_map (λ o. o.view) owner))
         raw.now out.old out.new part.from part.to }
@@ -55,17 +50,16 @@ fn overlay_owned(look: &Look, owner: Option<Owner>, part: RowPart, raw: &[u32], 
     }
 }
 
-/// Paints these pixels of a row below the bar.
-fn overlay_below(look: &Look, part: RowPart, raw: &[u32], out: &mut [u32])
-    requires look { IsLook look.now }
-    requires same_length { length out.old ≡ length raw.now }
-    requires words { All IsWord raw.now }
-    requires part { IsRowPart (length raw.now) part }
-    requires down { part.y < most_height }
-    requires below { look.now.stack.now.bar ≤ part.y }
+/// Paints these pixels of a row: those of the bar at once, and others piece by piece.
+pub(crate) fn overlay_row(look: &Look, part: RowPart, raw: &[u32], out: &mut [u32])
+    requires { IsRowToShow look.now part raw.now out.old }
     ensures { IsPainted (λ x w. shown (scenery look.now) (point x part.y) w)
         raw.now out.old out.new part.from part.to }
 {
+    if part.y < look.stack.bar() {
+        overlay_bar(look, part, out);
+        return;
+    }
     let mut x = part.from;
     'pieces: while x < part.to {
         let piece = piece_at(look, x, part.y, part.to);
@@ -76,22 +70,5 @@ fn overlay_below(look: &Look, part: RowPart, raw: &[u32], out: &mut [u32])
         };
         overlay_owned(look, piece.owner, here, raw, out);
         x = piece.end;
-    }
-}
-
-/// Paints these pixels of a row.
-pub(crate) fn overlay_row(look: &Look, part: RowPart, raw: &[u32], out: &mut [u32])
-    requires look { IsLook look.now }
-    requires same_length { length out.old ≡ length raw.now }
-    requires words { All IsWord raw.now }
-    requires part { IsRowPart (length raw.now) part }
-    requires down { part.y < most_height }
-    ensures { IsPainted (λ x w. shown (scenery look.now) (point x part.y) w)
-        raw.now out.old out.new part.from part.to }
-{
-    if part.y < look.stack.bar() {
-        overlay_bar(look, part, out);
-    } else {
-        overlay_below(look, part, raw, out);
     }
 }

@@ -1,8 +1,8 @@
 //! Columns or rows of a rectangle, counted so that none is below 0.
 
 ghost use Rattle.std.specs.Prelude.{◌≡◌, ℕ, ◌+◌, ◌<◌, ◌≤◌, ◌==◌, pos, negsuc, ◌+ℤ◌, ◌-ℤ◌, ◌≤ℤ◌};
-ghost use Rattle.nit_overlay.specs.Terms.{IsPlace, covers, has_at_end, int_eq, most_edge};
-ghost use Rattle.nit_overlay.specs.Terms.{most_height, most_length, most_width, moved_of, point};
+ghost use Rattle.nit_overlay.specs.Terms.{AreOnRow, HoldsUpTo, IsPlace, covers, has_at_end, int_eq};
+ghost use Rattle.nit_overlay.specs.Terms.{most_edge, most_length, most_width, moved_of, point};
 ghost use Rattle.nit_overlay.specs.Terms.{span_has, spans};
 
 use nit_rect::Rect;
@@ -44,18 +44,6 @@ fn moved(z: i32) -> u32
     (z + 32768) as u32
 }
 
-fn moved_ends(from: i32, long: u32) -> Span
-    requires place { IsPlace from }
-    requires length { long ≤ most_length }
-    ensures from { result.from ≡ moved_of from }
-    ensures to { result.to ≡ moved_of (from +ℤ pos long) }
-{
-    Span {
-        from: moved(from),
-        to: moved(from + long as i32),
-    }
-}
-
 /// The `long` places from `from` on.
 pub(crate) fn span_of(from: i32, long: u32) -> Span
     requires place { IsPlace from }
@@ -65,34 +53,29 @@ pub(crate) fn span_of(from: i32, long: u32) -> Span
     ensures last { (at : ℕ)
         → ((at + 32769) == result.to) ≡ int_eq (pos at) ((from +ℤ pos long) -ℤ pos 1) }
 {
-    moved_ends(from, long)
+    Span {
+        from: moved(from),
+        to: moved(from + long as i32),
+    }
 }
 
 /// The cut, a moved column, as a column of the screen where it lies between x and `to`, and `to`
 /// elsewhere.
 pub(crate) fn up_to(x: u32, to: u32, cut: u32) -> u32
-    requires before { x < to }
-    requires across { to ≤ most_width }
+    requires { x < to }
     ensures after { x < result }
     ensures within { result ≤ to }
     ensures uncut { x + 32768 < cut → result + 32768 ≤ cut }
 {
-    if x + SHIFT < cut && cut < to + SHIFT {
-        cut - SHIFT
-    } else {
-        to
-    }
+    let end = cut.saturating_sub(SHIFT);
+    if x < end && end < to { end } else { to }
 }
 
 /// Whether a rectangle covers a pixel, and the column, at most `to`, up to which the same holds of
 /// the pixels to the right.
 pub(crate) fn reach(rect: &Rect, x: u32, y: u32, to: u32) -> (bool, u32)
-    requires before { x < to }
-    requires across { to ≤ most_width }
-    requires down { y ≤ most_height }
-    ensures after { x < result.1 }
-    ensures within { result.1 ≤ to }
-    ensures same { (z : ℕ) → x ≤ z → z < result.1 → covers rect.now (point z y) ≡ result.0 }
+    requires { AreOnRow x y to }
+    ensures { HoldsUpTo (λ z. covers rect.now (point z y) ≡ result.0) x to result.1 }
 {
     let rows = span_of(rect.y(), rect.h());
     if !rows.has(y) {

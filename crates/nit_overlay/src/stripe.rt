@@ -2,9 +2,9 @@
 
 ghost use Rattle.std.specs.Prelude.{◌≡◌, ℕ, ◌+◌, ◌<◌, ◌≤◌, ◌||◌, ◌==◌, true, false, length, Option};
 ghost use Rattle.std.specs.Prelude.{Some, None, IfSome};
-ghost use Rattle.nit_overlay.specs.Terms.{IsOwner, IsRowOfTag, IsTagged, Rule, by_label};
-ghost use Rattle.nit_overlay.specs.Terms.{draws_labels, has_at_end, is_on_ring, is_same};
-ghost use Rattle.nit_overlay.specs.Terms.{label_place_of, mode_rule, most_height, most_width};
+ghost use Rattle.nit_overlay.specs.Terms.{AreColumns, AreRows, AreRowsOf, HoldsUpTo, IsRowOfTag};
+ghost use Rattle.nit_overlay.specs.Terms.{IsTagged, Rule, by_label, draws_labels, has_at_end};
+ghost use Rattle.nit_overlay.specs.Terms.{is_on_ring, is_same, label_place_of, mode_rule};
 ghost use Rattle.nit_overlay.specs.Terms.{picture_width, point, scenery, stripe_rule, tag_rule};
 ghost use Rattle.nit_overlay.specs.Terms.{view_text, view_word, word_by};
 
@@ -79,8 +79,7 @@ pub(crate) fn width_of(text: &LabelText) -> u32
 /// The label of a view, where labels are drawn and the row y meets it, and the row, at most `to`,
 /// up to which it is the same.
 fn tag_at(look: &Look, owner: &Owner, y: u32, to: u32) -> (Option<Tag>, u32)
-    requires owner { IsOwner look.now owner.now }
-    requires before { y < to }
+    requires { AreRowsOf look.now owner.now y to }
     ensures after { y < result.1 }
     ensures within { result.1 ≤ to }
     ensures undrawn { draws_labels look.now.mode ≡ false → result.0 ≡ None }
@@ -111,8 +110,7 @@ fn tag_at(look: &Look, owner: &Owner, y: u32, to: u32) -> (Option<Tag>, u32)
 /// Whether the row y is the first or the last one of a rectangle, the rectangle's columns, and the
 /// row, at most `to`, up to which the rows are so as well.
 fn ring_at(rect: &Rect, y: u32, to: u32) -> (bool, Span, u32)
-    requires before { y < to }
-    requires down { to ≤ most_height }
+    requires { AreRows y to }
     ensures after { y < result.2 }
     ensures within { result.2 ≤ to }
     ensures same { (x z : ℕ) → y ≤ z → z < result.2
@@ -125,9 +123,7 @@ fn ring_at(rect: &Rect, y: u32, to: u32) -> (bool, Span, u32)
 
 /// The row y of a view, and the row, at most `to`, up to which the rows are painted as it is.
 pub(crate) fn band_at(look: &Look, owner: &Owner, y: u32, to: u32) -> Band
-    requires owner { IsOwner look.now owner.now }
-    requires before { y < to }
-    requires down { to ≤ most_height }
+    requires { AreRowsOf look.now owner.now y to }
     ensures after { y < result.end }
     ensures within { result.end ≤ to }
     ensures words { (x z w : ℕ) → y ≤ z → z < result.end
@@ -165,11 +161,8 @@ fn mode_rule(mode: Mode, is_ring: bool, is_focused: bool) -> Rule
 /// The column or row, at most `to`, up to which those from x on are the first or the last one of
 /// the view as x is.
 fn side_end(side: Span, x: u32, to: u32) -> u32
-    requires before { x < to }
-    requires across { to ≤ most_width }
-    ensures after { x < result }
-    ensures within { result ≤ to }
-    ensures same { (z : ℕ) → x ≤ z → z < result → has_at_end side z ≡ has_at_end side x }
+    requires { AreColumns x to }
+    ensures { HoldsUpTo (λ z. has_at_end side z ≡ has_at_end side x) x to result }
 {
     if side.has_at_end(x) {
         return x + 1;
@@ -180,14 +173,12 @@ fn side_end(side: Span, x: u32, to: u32) -> u32
 
 /// The rule of the pixel in column x outside the label, and how far to the right it is the rule.
 fn run_outside(stripe: &Stripe, x: u32, to: u32) -> Run
-    requires before { x < to }
-    requires across { to ≤ most_width }
-    ensures after { x < result.end }
-    ensures within { result.end ≤ to }
-    ensures same { (z : ℕ) → x ≤ z → z < result.end
-        → mode_rule stripe.now.mode (has_at_end stripe.now.columns z || stripe.now.edge)
+    requires { AreColumns x to }
+    ensures { HoldsUpTo
+        (λ z. mode_rule stripe.now.mode (has_at_end stripe.now.columns z || stripe.now.edge)
         stripe.now.focused
-        ≡ result.rule }
+        ≡ result.rule)
+        x to result.end }
 {
     let is_ring = stripe.edge || stripe.columns.has_at_end(x);
     let rule = mode_rule(stripe.mode, is_ring, stripe.focused);
@@ -201,12 +192,9 @@ fn run_outside(stripe: &Stripe, x: u32, to: u32) -> Run
 
 /// The rule of the pixel in column x of the row y, and how far to the right it is the rule.
 pub(crate) fn run_at(stripe: &Stripe, x: u32, y: u32, to: u32) -> Run
-    requires before { x < to }
-    requires across { to ≤ most_width }
+    requires columns { AreColumns x to }
     requires met { IfSome stripe.now.tag (IsRowOfTag y) }
-    ensures after { x < result.end }
-    ensures within { result.end ≤ to }
-    ensures same { (z : ℕ) → x ≤ z → z < result.end → stripe_rule stripe.now z ≡ result.rule }
+    ensures rule { HoldsUpTo (λ z. stripe_rule stripe.now z ≡ result.rule) x to result.end }
     ensures tagged { (z : ℕ) → IfSome stripe.now.tag (IsRowOfTag z)
         → IsTagged result.rule x result.end z }
 {

@@ -8,25 +8,25 @@ pub use Rattle.nit_rect.proofs.ForCallers.{IsSpanned, le_tested, same_tests, spa
 pub use Rattle.nit_rect.proofs.ForCallers.{spans_tells}
 pub use Rattle.nit_repaint.specs.Terms.{AreSet, CoversBoth, CutterModel, FitsStack, HoldBuffers}
 pub use Rattle.nit_repaint.specs.Terms.{IsOnScreen, IsRemovedFrom, IsScreenSize, IsSlotView}
-pub use Rattle.nit_repaint.specs.Terms.{IsStack, IsTrue, IsViewChange, Look, NoPair, Piece}
-pub use Rattle.nit_repaint.specs.Terms.{PixelSource, Point, Rectangle, Repainted, Sight, SlotView}
-pub use Rattle.nit_repaint.specs.Terms.{StackModel, View, ViewRef, among, black_or_word}
-pub use Rattle.nit_repaint.specs.Terms.{buffer_place, changed, covered, covers, frame, glass_in}
-pub use Rattle.nit_repaint.specs.Terms.{glasses_of_call, has_come, has_pixel, in_bar, index_at}
-pub use Rattle.nit_repaint.specs.Terms.{insert, int_le, is_behind, is_index_in, is_of_moved}
-pub use Rattle.nit_repaint.specs.Terms.{is_of_session, is_owned, is_slot, is_to_come, is_wanted}
-pub use Rattle.nit_repaint.specs.Terms.{is_word_in, list_any, moved, moved_above, negsuc, no_sight}
-pub use Rattle.nit_repaint.specs.Terms.{on_view, once, option_map, option_map_or, owner_in}
-pub use Rattle.nit_repaint.specs.Terms.{owner_passes, pieces_left, pixel, place_of, point, pos}
-pub use Rattle.nit_repaint.specs.Terms.{position_or_len, put_above, put_again, put_own_back}
-pub use Rattle.nit_repaint.specs.Terms.{put_own_front, rectangle, same_slot, scenery, seen}
-pub use Rattle.nit_repaint.specs.Terms.{session_of, session_shown, shown_at, shown_index, size_of}
-pub use Rattle.nit_repaint.specs.Terms.{slice_get, slice_index, slot_owns_either, slot_view_covers}
-pub use Rattle.nit_repaint.specs.Terms.{slot_view_in, slot_view_layer, source_in, source_of_number}
-pub use Rattle.nit_repaint.specs.Terms.{source_under, spans, times, to_come, uncovered, views_of}
-pub use Rattle.nit_repaint.specs.Terms.{wanted, wanted_of_first, wants, with_glass, with_offset}
-pub use Rattle.nit_repaint.specs.Terms.{with_rect, without, without_session, word_count}
-pub use Rattle.nit_repaint.specs.Terms.{words_shown, ℤ}
+pub use Rattle.nit_repaint.specs.Terms.{IsStack, IsTrue, IsViewChange, Look, NoPair, PaintsByList}
+pub use Rattle.nit_repaint.specs.Terms.{PaintsMarked, Piece, PixelSource, Point, Rectangle}
+pub use Rattle.nit_repaint.specs.Terms.{Repainted, Sight, SlotView, StackModel, View, ViewRef}
+pub use Rattle.nit_repaint.specs.Terms.{among, black_or_word, buffer_place, changed, covered}
+pub use Rattle.nit_repaint.specs.Terms.{covers, frame, glass_in, glasses_of_call, has_come}
+pub use Rattle.nit_repaint.specs.Terms.{has_pixel, in_bar, index_at, insert, int_le, is_behind}
+pub use Rattle.nit_repaint.specs.Terms.{is_index_in, is_of_moved, is_of_session, is_owned, is_slot}
+pub use Rattle.nit_repaint.specs.Terms.{is_to_come, is_wanted, is_word_in, list_any, moved}
+pub use Rattle.nit_repaint.specs.Terms.{moved_above, negsuc, no_sight, on_view, once, option_map}
+pub use Rattle.nit_repaint.specs.Terms.{option_map_or, owner_in, owner_passes, pieces_left, pixel}
+pub use Rattle.nit_repaint.specs.Terms.{place_of, point, pos, position_or_len, put_above, put_again}
+pub use Rattle.nit_repaint.specs.Terms.{put_own_back, put_own_front, rectangle, same_slot, scenery}
+pub use Rattle.nit_repaint.specs.Terms.{seen, session_of, session_shown, shown_at, shown_index}
+pub use Rattle.nit_repaint.specs.Terms.{size_of, slice_get, slice_index, slot_owns_either}
+pub use Rattle.nit_repaint.specs.Terms.{slot_view_covers, slot_view_in, slot_view_layer, source_in}
+pub use Rattle.nit_repaint.specs.Terms.{source_of_number, source_under, spans, times, to_come}
+pub use Rattle.nit_repaint.specs.Terms.{uncovered, views_of, wanted, wanted_of_first, wants}
+pub use Rattle.nit_repaint.specs.Terms.{with_glass, with_offset, with_rect, without}
+pub use Rattle.nit_repaint.specs.Terms.{without_session, word_count, words_shown, ℤ}
 pub use Rattle.nit_stack.proofs.ForCallers.{All_found, Put, Put-above, Put-back, Put-front, drop_at}
 pub use Rattle.nit_stack.proofs.ForCallers.{found_fails, found_passes, found_some, owner_of_views}
 pub use Rattle.nit_stack.proofs.ForCallers.{place_is}

@@ -118,13 +118,14 @@ index_in part w h (pos m) (negsuc n) =
     none true = refl
     none false = refl
 index_in part w h (pos m) (pos n) =
-    (λ i. covers part (point m n) && (spans_all w m i && spans_all h n i)) ∙ go (nat_lt m w) (nat_lt n h) refl
+    (λ i. covers part (point m n) && (spans_all w m i && spans_all h n i)) ∙ within_or_not (nat_lt m w)
+    (nat_lt n h) refl
   where
-    go : (a b : Bool) → nat_lt m w ≡ a → (covers part (point m n) && (a && b))
+    within_or_not : (a b : Bool) → nat_lt m w ≡ a → (covers part (point m n) && (a && b))
         ≡ is_index_in part w (index_at w (cond a (Some m) None) (cond b (Some n) None))
-    go false b e = fails (covers part (point m n)) b
-    go true false e = fails_then (covers part (point m n)) true
-    go true true e =
+    within_or_not false b e = fails (covers part (point m n)) b
+    within_or_not true false e = fails_then (covers part (point m n)) true
+    within_or_not true true e =
         let l : m < w = grind (arith, nat_tests) in
         let x = column_of w n m l in
         let y = row_of w n m l in
@@ -140,13 +141,13 @@ pub part_same : (part whole both rect : Rectangle) (view : View) (w h width heig
     ≡ spans both.y both.h (buffer_place (pos c) view.rect.y view.oy))
     → IsOnScreen width height p → covers rect p ≡ is_index_in part w (shown_index (record { w = w; h = h }) view p)
 part_same part whole both rect view w h width height left wide top tall p meets whole_ rect_ across down on =
-    go p.x p.y on
+    by_signs p.x p.y on
   where
-    go : (x y : ℤ) → IsOnScreen width height (record { x = x; y = y }) → covers rect (record { x = x; y = y })
+    by_signs : (x y : ℤ) → IsOnScreen width height (record { x = x; y = y }) → covers rect (record { x = x; y = y })
         ≡ is_index_in part w (shown_index (record { w = w; h = h }) view (record { x = x; y = y }))
-    go (negsuc a) y on = let low = on.0 in absurd (omega (arith, ints))
-    go (pos a) (negsuc b) on = let low = on.2 in absurd (omega (arith, ints))
-    go (pos a) (pos b) on =
+    by_signs (negsuc a) y on = let low = on.0 in absurd (omega (arith, ints))
+    by_signs (pos a) (negsuc b) on = let low = on.2 in absurd (omega (arith, ints))
+    by_signs (pos a) (pos b) on =
         let right = on.1 in
         let bottom = on.3 in
         let bx = buffer_place (pos a) view.rect.x view.ox in

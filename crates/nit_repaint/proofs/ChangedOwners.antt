@@ -14,44 +14,45 @@ pub owned_by : (s : StackModel) (k : ℕ) (seat : SlotView) (p : Point) → NoPa
     → slot_view_in k s.views ≡ Some seat
     → owner_passes (is_slot k) s p
     ≡ cond (in_bar s.bar p) false (covers seat.view.rect p && not (covered (take (place_of k s.views) s.views) p))
-owned_by s k seat p apart there = go (in_bar s.bar p)
+owned_by s k seat p apart there = in_bar_or_below (in_bar s.bar p)
   where
-    go : (b : Bool) → option_map_or (is_slot k) (cond b None (find (slot_view_covers p) s.views)) false
+    in_bar_or_below : (b : Bool) → option_map_or (is_slot k) (cond b None (find (slot_view_covers p) s.views)) false
         ≡ cond b false (covers seat.view.rect p && not (covered (take (place_of k s.views) s.views) p))
-    go true = refl
-    go false = owned_is k p s.views seat apart there
+    in_bar_or_below true = refl
+    in_bar_or_below false = owned_is k p s.views seat apart there
 
 -- no view in the slot owns it
 pub owned_not : (s : StackModel) (k : ℕ) (p : Point) → list_any (is_slot k) s.views ≡ false
     → owner_passes (is_slot k) s p ≡ false
-owned_not s k p none = go (in_bar s.bar p)
+owned_not s k p none = in_bar_or_below (in_bar s.bar p)
   where
     found : (o : Option SlotView) → find (slot_view_covers p) s.views ≡ o → option_map_or (is_slot k) o false ≡ false
     found None e = refl
     found (Some x) e = found_fails (slot_view_covers p) (is_slot k) s.views x none e
 
-    go : (b : Bool) → option_map_or (is_slot k) (cond b None (find (slot_view_covers p) s.views)) false ≡ false
-    go true = refl
-    go false = found (find (slot_view_covers p) s.views) refl
+    in_bar_or_below : (b : Bool)
+        → option_map_or (is_slot k) (cond b None (find (slot_view_covers p) s.views)) false ≡ false
+    in_bar_or_below true = refl
+    in_bar_or_below false = found (find (slot_view_covers p) s.views) refl
 
 -- ---- tables
 
 moved_case : (bar now was ci cj : Bool) → (cj ≡ true → ci ≡ true) → (now ≡ was) ⊎ (cj ≡ ci)
     → (not bar && (now || was) && not cj) ≡ (cond bar false (was && not ci) || cond bar false (now && not cj))
 moved_case true now was ci cj more kept = refl
-moved_case false now was true true more kept = go now was
+moved_case false now was true true more kept = table now was
   where
-    go : (a b : Bool) → ((a || b) && false) ≡ ((b && false) || (a && false))
-    go true true = refl
-    go true false = refl
-    go false true = refl
-    go false false = refl
+    table : (a b : Bool) → ((a || b) && false) ≡ ((b && false) || (a && false))
+    table true true = refl
+    table true false = refl
+    table false true = refl
+    table false false = refl
 moved_case false now was false true more kept = let no = more refl in cc
-moved_case false true true ci false more kept = go ci
+moved_case false true true ci false more kept = table ci
   where
-    go : (c : Bool) → true ≡ ((true && not c) || true)
-    go true = refl
-    go false = refl
+    table : (c : Bool) → true ≡ ((true && not c) || true)
+    table true = refl
+    table false = refl
 moved_case false true false ci false more kept = refl
 moved_case false false false ci false more kept = refl
 moved_case false false true false false more kept = refl
@@ -62,11 +63,11 @@ gone_case : (bar now was ci cj : Bool) → (ci ≡ true → cj ≡ true) → now
     → (not bar && was && not ci) ≡ (cond bar false (was && not ci) || cond bar false (now && not cj))
 gone_case true now was ci cj more same = refl
 gone_case false now true false cj more same = refl
-gone_case false now true true true more same = go now
+gone_case false now true true true more same = table now
   where
-    go : (a : Bool) → false ≡ (false || (a && false))
-    go true = refl
-    go false = refl
+    table : (a : Bool) → false ≡ (false || (a && false))
+    table true = refl
+    table false = refl
 gone_case false now true true false more same = let no = more refl in cc
 gone_case false true false ci cj more same = cc
 gone_case false false false ci cj more same = refl

@@ -79,12 +79,13 @@ module _ (s : StackModel) (n sid : ℕ) (part : Option Rectangle) where
   pub first_shown : (word : ℕ → ℕ) (frame : List ℕ)
       → AreSet (λ k. wanted_of_first 0 sid part s (pixel s.width k)) n word frame frame
   first_shown word frame = nothing_set _ n word frame
-      (λ k l. go (in_bar s.bar (pixel s.width k)) (is_wanted sid part s (pixel s.width k)))
+      (λ k l. owned_by_none (in_bar s.bar (pixel s.width k)) (is_wanted sid part s (pixel s.width k)))
     where
-      go : (b : Bool) (test : SlotView → Bool) → option_map_or test (cond {A = Option SlotView} b None None) false
+      owned_by_none : (b : Bool) (test : SlotView → Bool)
+          → option_map_or test (cond {A = Option SlotView} b None None) false
           ≡ false
-      go true test = refl
-      go false test = refl
+      owned_by_none true test = refl
+      owned_by_none false test = refl
 
   pub next_shown : (i : ℕ) (x : SlotView) (word word' : ℕ → ℕ) (frame mid new : List ℕ) → NoPair same_slot s.views
       → slot_view_in x.slot s.views ≡ Some x → slice_get s.views i ≡ Some x

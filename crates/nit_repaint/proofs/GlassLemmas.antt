@@ -32,44 +32,47 @@ held_words s piece v t count glasses own e l h =
 -- the glasses of a call, with one of the scene's by itself
 with_one : (scene : List Sight) (sid t : ℕ) (own g : Sight) → (t ≡ sid → ⊥) → g ≡ slice_index_or scene t no_sight
     → (u : ℕ) → with_glass (glasses_of_call scene sid own) t g u ≡ glasses_of_call scene sid own u
-with_one scene sid t own g ne e u = go (u == t) (u == sid) refl refl
+with_one scene sid t own g ne e u = this_or_another (u == t) (u == sid) refl refl
   where
-    go : (a b : Bool) → (u == t) ≡ a → (u == sid) ≡ b → cond a g (cond b own (slice_index_or scene u no_sight))
+    this_or_another : (a b : Bool) → (u == t) ≡ a → (u == sid) ≡ b
+        → cond a g (cond b own (slice_index_or scene u no_sight))
         ≡ cond b own (slice_index_or scene u no_sight)
-    go true true p q = absurd (ne (sym (eqb-true u t p) ∙ eqb-true u sid q))
-    go true false p q = e ∙ ap (λ (v : ℕ). slice_index_or scene v no_sight) (sym (eqb-true u t p))
-    go false b p q = refl
+    this_or_another true true p q = absurd (ne (sym (eqb-true u t p) ∙ eqb-true u sid q))
+    this_or_another true false p q = e ∙ ap (λ (v : ℕ). slice_index_or scene v no_sight) (sym (eqb-true u t p))
+    this_or_another false b p q = refl
 
 with_new : (scene : List Sight) (sid t : ℕ) (own g : Sight) → (t ≡ sid → ⊥) → t < length scene → (u : ℕ)
     → with_glass (glasses_of_call scene sid own) t g u ≡ glasses_of_call (set scene t g) sid own u
-with_new scene sid t own g ne l u = go (u == t) (u == sid) refl refl
+with_new scene sid t own g ne l u = this_or_another (u == t) (u == sid) refl refl
   where
-    go : (a b : Bool) → (u == t) ≡ a → (u == sid) ≡ b → cond a g (cond b own (slice_index_or scene u no_sight))
+    this_or_another : (a b : Bool) → (u == t) ≡ a → (u == sid) ≡ b
+        → cond a g (cond b own (slice_index_or scene u no_sight))
         ≡ cond b own (slice_index_or (set scene t g) u no_sight)
-    go true true p q = absurd (ne (sym (eqb-true u t p) ∙ eqb-true u sid q))
-    go true false p q = sym (ap (λ (v : ℕ). slice_index_or (set scene t g) v no_sight) (eqb-true u t p)
+    this_or_another true true p q = absurd (ne (sym (eqb-true u t p) ∙ eqb-true u sid q))
+    this_or_another true false p q = sym (ap (λ (v : ℕ). slice_index_or (set scene t g) v no_sight) (eqb-true u t p)
         ∙ get_or-set_same scene t g no_sight l)
-    go false true p q = refl
-    go false false p q = sym (get_or-set_other scene t u g no_sight (eqb-false u t p))
+    this_or_another false true p q = refl
+    this_or_another false false p q = sym (get_or-set_other scene t u g no_sight (eqb-false u t p))
 
 -- one of a list of glasses by itself, before and after
 with_this : (scene : List Sight) (t : ℕ) (g : Sight) → g ≡ slice_index_or scene t no_sight → (u : ℕ)
     → with_glass (glass_in scene) t g u ≡ glass_in scene u
-with_this scene t g e u = go (u == t) refl
+with_this scene t g e u = this_or_another (u == t) refl
   where
-    go : (a : Bool) → (u == t) ≡ a → cond a g (slice_index_or scene u no_sight) ≡ slice_index_or scene u no_sight
-    go true p = e ∙ ap (λ (v : ℕ). slice_index_or scene v no_sight) (sym (eqb-true u t p))
-    go false p = refl
+    this_or_another : (a : Bool) → (u == t) ≡ a → cond a g (slice_index_or scene u no_sight)
+        ≡ slice_index_or scene u no_sight
+    this_or_another true p = e ∙ ap (λ (v : ℕ). slice_index_or scene v no_sight) (sym (eqb-true u t p))
+    this_or_another false p = refl
 
 with_next : (scene : List Sight) (t : ℕ) (g : Sight) → t < length scene → (u : ℕ) → with_glass (glass_in scene) t g u
     ≡ glass_in (set scene t g) u
-with_next scene t g l u = go (u == t) refl
+with_next scene t g l u = this_or_another (u == t) refl
   where
-    go : (a : Bool) → (u == t) ≡ a → cond a g (slice_index_or scene u no_sight)
+    this_or_another : (a : Bool) → (u == t) ≡ a → cond a g (slice_index_or scene u no_sight)
         ≡ slice_index_or (set scene t g) u no_sight
-    go true p = sym (ap (λ (v : ℕ). slice_index_or (set scene t g) v no_sight) (eqb-true u t p)
+    this_or_another true p = sym (ap (λ (v : ℕ). slice_index_or (set scene t g) v no_sight) (eqb-true u t p)
         ∙ get_or-set_same scene t g no_sight l)
-    go false p = sym (get_or-set_other scene t u g no_sight (eqb-false u t p))
+    this_or_another false p = sym (get_or-set_other scene t u g no_sight (eqb-false u t p))
 
 -- a glass of a list, which a piece leaves as another one
 module _ {G : Type 0} (f : G → Sight) (gs : List G) (g g' : G) (t : ℕ) (is : g ≡ slice_index_or gs t g)
@@ -137,12 +140,12 @@ still_held s count count' before after loads same e h = λ t l.
 -- where nobody calls, all glasses are those of the list
 pub nobody_calls : {G : Type 0} (f : G → Sight) (gs : List G) (n : ℕ) → length gs ≤ n → (t : ℕ)
     → glasses_of_call (map f gs) n no_sight t ≡ glass_in (map f gs) t
-nobody_calls f gs n l t = go (t == n) refl
+nobody_calls f gs n l t = this_or_another (t == n) refl
   where
-    go : (b : Bool) → (t == n) ≡ b → cond b no_sight (slice_index_or (map f gs) t no_sight)
+    this_or_another : (b : Bool) → (t == n) ≡ b → cond b no_sight (slice_index_or (map f gs) t no_sight)
         ≡ slice_index_or (map f gs) t no_sight
-    go false e = refl
-    go true e = let same = eqb-true t n e in let count =
+    this_or_another false e = refl
+    this_or_another true e = let same = eqb-true t n e in let count =
         length-map gs f in sym (get_or_past (map f gs) t no_sight (omega (arith, same, count, l)))
 
 pub held_by_all : {G : Type 0} (f : G → Sight) (s : StackModel) (gs : List G) (n : ℕ) → length gs ≤ n

@@ -1,13 +1,12 @@
 -- What answers use: all that lemmas use, and this crate's lemmas.
-pub use Rattle.nit_repaint.proofs.Basics.{All_found, AreSet, FitsStack, IsSlotView, Point}
-pub use Rattle.nit_repaint.proofs.Basics.{Repainted, arith, eqb-true, found_passes, found_some}
-pub use Rattle.nit_repaint.proofs.Basics.{glasses_of_call, has_come, get_or_default, glass_in, ints}
-pub use Rattle.nit_repaint.proofs.Basics.{is_slot, is_wanted, length, list_any, map, no_sight}
-pub use Rattle.nit_repaint.proofs.Basics.{nothing_set, once, other_count, owner_passes, pieces_left}
-pub use Rattle.nit_repaint.proofs.Basics.{pixel, place_of, refl, same_Some, shown_at}
-pub use Rattle.nit_repaint.proofs.Basics.{slice_index_or, slot_owns_either, source_of_number}
-pub use Rattle.nit_repaint.proofs.Basics.{to_come, true, wanted_of_first, with_offset, with_rect}
-pub use Rattle.nit_repaint.proofs.Basics.{without, ◌∙◌}
+pub use Rattle.nit_repaint.proofs.Basics.{All_found, AreSet, FitsStack, IsSlotView, PaintsByList}
+pub use Rattle.nit_repaint.proofs.Basics.{PaintsMarked, Point, arith, eqb-true, found_passes}
+pub use Rattle.nit_repaint.proofs.Basics.{found_some, get_or_default, glasses_of_call, has_come}
+pub use Rattle.nit_repaint.proofs.Basics.{ints, is_slot, is_wanted, length, list_any, map, once}
+pub use Rattle.nit_repaint.proofs.Basics.{other_count, owner_passes, pieces_left, pixel, place_of}
+pub use Rattle.nit_repaint.proofs.Basics.{refl, same_Some, shown_at, slice_index_or}
+pub use Rattle.nit_repaint.proofs.Basics.{slot_owns_either, source_of_number, to_come, true}
+pub use Rattle.nit_repaint.proofs.Basics.{wanted_of_first, with_offset, with_rect, without, ◌∙◌}
 pub use Rattle.nit_repaint.proofs.BufferParts.{across_told, down_told, part_same, run_none}
 pub use Rattle.nit_repaint.proofs.BufferParts.{run_same}
 pub use Rattle.nit_repaint.proofs.ChangedOwners.{fallen_owns, gone_owns, moved_owns}
@@ -17,6 +16,7 @@ pub use Rattle.nit_repaint.proofs.FrameCopies.{whole_shown}
 pub use Rattle.nit_repaint.proofs.GlassLemmas.{all_painted, as_many, held_words, idle_at, left_at}
 pub use Rattle.nit_repaint.proofs.GlassLemmas.{listed_painted, scene_painted, screen_of}
 pub use Rattle.nit_repaint.proofs.GlassLemmas.{shown_session, still_held}
+pub use Rattle.nit_repaint.proofs.PaintSteps.{cutter_painted, more_painted, nothing_painted}
 pub use Rattle.nit_repaint.proofs.PieceLemmas.{all_came, none_came, one_came}
 pub use Rattle.nit_repaint.proofs.ViewChangeLemmas.{changes, moves_above, moves_back, moves_front}
 pub use Rattle.nit_repaint.proofs.OneViewGone.{gone_change}

@@ -1,5 +1,6 @@
 pub mod Screen
 pub mod GlassLemmas
+pub mod PaintSteps
 pub mod PieceLemmas
 pub mod ViewsInFront
 pub mod ChangedOwners

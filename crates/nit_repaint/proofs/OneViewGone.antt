@@ -18,12 +18,12 @@ use Rattle.nit_repaint.proofs.ViewsInFront.{without_none}
 
 pub none_left : {A : Type 0} (is : A → Bool) (xs : List A) → list_any is (without is xs) ≡ false
 none_left is [] = refl
-none_left is (x ∷ xs) = go (is x) refl (none_left is xs)
+none_left is (x ∷ xs) = left_or_not (is x) refl (none_left is xs)
   where
-    go : (b : Bool) → is x ≡ b → list_any is (without is xs) ≡ false
+    left_or_not : (b : Bool) → is x ≡ b → list_any is (without is xs) ≡ false
         → list_any is (cond (not b) (x ∷ without is xs) (without is xs)) ≡ false
-    go true e r = r
-    go false e r = ap (λ (b : Bool). b || list_any is (without is xs)) e ∙ r
+    left_or_not true e r = r
+    left_or_not false e r = ap (λ (b : Bool). b || list_any is (without is xs)) e ∙ r
 
 -- it is a change of one view
 pub gone_change : (s s' : StackModel) (k at : ℕ) (view : View) → NoPair same_slot s.views
@@ -57,12 +57,12 @@ gone_owned s s' k p now =
 
 pub shorter : {A : Type 0} (is : A → Bool) (xs : List A) → length (without is xs) ≤ length xs
 shorter is [] = omega arith
-shorter is (x ∷ xs) = go (is x) (shorter is xs)
+shorter is (x ∷ xs) = left_or_not (is x) (shorter is xs)
   where
-    go : (b : Bool) → length (without is xs) ≤ length xs
+    left_or_not : (b : Bool) → length (without is xs) ≤ length xs
         → length (cond (not b) (x ∷ without is xs) (without is xs)) ≤ length (x ∷ xs)
-    go true r = omega (arith, r)
-    go false r = omega (arith, r)
+    left_or_not true r = omega (arith, r)
+    left_or_not false r = omega (arith, r)
 
 pub gone_room : (s s' : StackModel) (k room : ℕ) → s' ≡ record s { views = without (is_slot k) s.views }
     → length s.views ≤ room → length s'.views ≤ room

@@ -9,21 +9,21 @@ use Rattle.std.proofs.Common.{◌||◌, ◌≡◌, ◌≤◌}
 -- a pixel by the numbers of times that it is to come: before all, now, and after one more piece
 apart_count : (b now : ℕ) (c : Bool) → b ≤ 1 → (c ≡ true → now ≡ 1) → (nat_lt now b && c) ≡ false
 apart_count b now true once came = let e : now ≡ 1 = came refl in grind (arith, nat_tests)
-apart_count b now false once came = go (nat_lt now b)
+apart_count b now false once came = and_false (nat_lt now b)
   where
-    go : (x : Bool) → (x && false) ≡ false
-    go true = refl
-    go false = refl
+    and_false : (x : Bool) → (x && false) ≡ false
+    and_false true = refl
+    and_false false = refl
 
 pub all_count : (b now next : ℕ) (c : Bool) → now ≤ b → now ≡ next + cond c 1 0 → (c ≡ true → now ≡ 1)
     → (nat_lt now b || c) ≡ nat_lt next b
 all_count b now next true less count came = let e : now ≡ 1 = came refl in let z : next ≡ 0 =
     omega arith in grind (arith, nat_tests)
-all_count b now next false less count came = let e : now ≡ next = omega arith in rw e (go (nat_lt next b))
+all_count b now next false less count came = let e : now ≡ next = omega arith in rw e (or_false (nat_lt next b))
   where
-    go : (x : Bool) → (x || false) ≡ x
-    go true = refl
-    go false = refl
+    or_false : (x : Bool) → (x || false) ≡ x
+    or_false true = refl
+    or_false false = refl
 
 module _ (source : ℕ → PixelSource) (s : StackModel) (n : ℕ) where
   pub none_came : (c : CutterModel) (glasses : ℕ → Sight) (raw : List ℕ)

@@ -21,54 +21,56 @@ module _ {A : Type 0} (is : A → Bool) where
   find_insert : (xs : List A) (i : ℕ) (v : A) → is v ≡ true → list_any is xs ≡ false → find is (insert xs i v) ≡ Some v
   find_insert xs zero v e none = ap (λ (b : Bool). cond b (Some v) (find is xs)) e
   find_insert [] (suc i) v e none = ap (λ (b : Bool). cond b (Some v) None) e
-  find_insert (x ∷ xs) (suc i) v e none = go (is x) none (find_insert xs i v e)
+  find_insert (x ∷ xs) (suc i) v e none = first_or_later (is x) none (find_insert xs i v e)
     where
-      go : (b : Bool) → (b || list_any is xs) ≡ false → (list_any is xs ≡ false → find is (insert xs i v) ≡ Some v)
+      first_or_later : (b : Bool) → (b || list_any is xs) ≡ false → (list_any is xs ≡ false
+          → find is (insert xs i v) ≡ Some v)
           → cond b (Some x) (find is (insert xs i v)) ≡ Some v
-      go true m r = cc
-      go false m r = r m
+      first_or_later true m r = cc
+      first_or_later false m r = r m
 
   module _ (put : A → List A → List A) (puts : (v : A) (xs : List A) → Put v xs (put v xs)) where
     pub without_moved : (xs : List A) → without is (moved is put xs) ≡ without is xs
-    without_moved xs = go (find is xs) refl
+    without_moved xs = found_or_not (find is xs) refl
       where
-        go : (o : Option A) → find is xs ≡ o → without is (put_again put (without is xs) xs o) ≡ without is xs
-        go None e = refl
-        go (Some v) e =
+        found_or_not : (o : Option A) → find is xs ≡ o → without is (put_again put (without is xs) xs o) ≡ without is xs
+        found_or_not None e = refl
+        found_or_not (Some v) e =
             let p = puts v (without is xs) in
             ap (without is) p.is ∙ without_insert (without is xs) p.at v (found_passes is xs v e)
             ∙ without_none is (without is xs) (none_left is xs)
 
     pub find_moved : (xs : List A) → find is (moved is put xs) ≡ find is xs
-    find_moved xs = go (find is xs) refl
+    find_moved xs = found_or_not (find is xs) refl
       where
-        go : (o : Option A) → find is xs ≡ o → find is (put_again put (without is xs) xs o) ≡ find is xs
-        go None e = refl
-        go (Some v) e =
+        found_or_not : (o : Option A) → find is xs ≡ o → find is (put_again put (without is xs) xs o) ≡ find is xs
+        found_or_not None e = refl
+        found_or_not (Some v) e =
             let p = puts v (without is xs) in
             ap (find is) p.is ∙ find_insert (without is xs) p.at v (found_passes is xs v e) (none_left is xs) ∙ sym e
 
   module _ (change : A → A) (same : (x : A) → is (change x) ≡ is x) where
     pub without_changed : (xs : List A) → without is (changed is change xs) ≡ without is xs
     without_changed [] = refl
-    without_changed (x ∷ xs) = go (is x) refl (without_changed xs)
+    without_changed (x ∷ xs) = changed_or_not (is x) refl (without_changed xs)
       where
-        go : (b : Bool) → is x ≡ b → without is (changed is change xs) ≡ without is xs
+        changed_or_not : (b : Bool) → is x ≡ b → without is (changed is change xs) ≡ without is xs
             → without is (cond b (change x) x ∷ changed is change xs) ≡ cond (not b) (x ∷ without is xs) (without is xs)
-        go true e r = ap (λ (b : Bool). cond (not b) (change x ∷ without is (changed is change xs))
+        changed_or_not true e r = ap (λ (b : Bool). cond (not b) (change x ∷ without is (changed is change xs))
             (without is (changed is change xs))) (same x ∙ e) ∙ r
-        go false e r = ap (λ (b : Bool). cond (not b) (x ∷ without is (changed is change xs))
+        changed_or_not false e r = ap (λ (b : Bool). cond (not b) (x ∷ without is (changed is change xs))
             (without is (changed is change xs))) e ∙ ap (λ (ys : List A). x ∷ ys) r
 
     pub place_changed : (xs : List A) → position_or_len is (changed is change xs) ≡ position_or_len is xs
     place_changed [] = refl
-    place_changed (x ∷ xs) = go (is x) refl (place_changed xs)
+    place_changed (x ∷ xs) = changed_or_not (is x) refl (place_changed xs)
       where
-        go : (b : Bool) → is x ≡ b → position_or_len is (changed is change xs) ≡ position_or_len is xs
+        changed_or_not : (b : Bool) → is x ≡ b → position_or_len is (changed is change xs) ≡ position_or_len is xs
             → position_or_len is (cond b (change x) x ∷ changed is change xs)
             ≡ cond (not b) (1 + position_or_len is xs) 0
-        go true e r = ap (λ (b : Bool). cond (not b) (1 + position_or_len is (changed is change xs)) 0) (same x ∙ e)
-        go false e r = ap (λ (b : Bool). cond (not b) (1 + position_or_len is (changed is change xs)) 0) e
+        changed_or_not true e r =
+            ap (λ (b : Bool). cond (not b) (1 + position_or_len is (changed is change xs)) 0) (same x ∙ e)
+        changed_or_not false e r = ap (λ (b : Bool). cond (not b) (1 + position_or_len is (changed is change xs)) 0) e
             ∙ ap (λ (n : ℕ). 1 + n) r
 
 -- ---- stacks
@@ -115,12 +117,12 @@ module _ (s : StackModel) (k : ℕ) (seat : SlotView) (standing : IsStack s) (th
 
     pub moves_above : (n : ℕ) → IsViewChange k (place_of k s.views) seat.view.rect s
         (record s { views = moved_above k n s.views })
-    moves_above n = go (k == n)
+    moves_above n = itself_or_another (k == n)
       where
-        go : (b : Bool) → IsViewChange k (place_of k s.views) seat.view.rect s
+        itself_or_another : (b : Bool) → IsViewChange k (place_of k s.views) seat.view.rect s
             (record s { views = cond b s.views (moved (is_slot k) (put_above (is_slot n)) s.views) })
-        go true = stays
-        go false = moves (put_above (is_slot n)) (λ v xs. Put-above (is_slot n) v xs)
+        itself_or_another true = stays
+        itself_or_another false = moves (put_above (is_slot n)) (λ v xs. Put-above (is_slot n) v xs)
 
     pub moves_front : IsViewChange k (place_of k s.views) seat.view.rect s
         (record s { views = moved (is_slot k) (put_own_front (slot_view_layer s.layers)) s.views })

@@ -33,11 +33,11 @@ pub record Rear (is : SlotView → Bool) (k : ℕ) (q : SlotView → Bool) (xs :
 
 found_not : (is q : SlotView → Bool) (xs : List SlotView) → list_any is xs ≡ false → option_map_or is (find q xs) false
     ≡ false
-found_not is q xs none = go (find q xs) refl
+found_not is q xs none = found_or_not (find q xs) refl
   where
-    go : (o : Option SlotView) → find q xs ≡ o → option_map_or is o false ≡ false
-    go None e = refl
-    go (Some x) e = found_fails q is xs x none e
+    found_or_not : (o : Option SlotView) → find q xs ≡ o → option_map_or is o false ≡ false
+    found_or_not None e = refl
+    found_or_not (Some x) e = found_fails q is xs x none e
 
 pub rear : (is : SlotView → Bool) (k : ℕ) (q : SlotView → Bool) (xs : List SlotView) (i : ℕ) (x : SlotView)
     → NoPair same_slot xs → slice_get xs i ≡ Some x → x.slot ≡ k → is x ≡ true → list_any is (drop (suc i) xs) ≡ false
@@ -56,19 +56,19 @@ rear is k q (y ∷ ys) zero x apart at slot own none =
     ∙ without_none is ys none in
     record {
       owned = ap (λ (zs : List SlotView). option_map_or is (find q zs) false) left ∙ found_not is q ys none
-          ∙ sym (go (q y) here mine);
+          ∙ sym (first_or_later (q y) here mine);
       seen_through = λ e. ap (find q) left ∙ sym (ap (find q) bare);
     }
   where
-    go : (b : Bool) → is_slot k y ≡ true → is y ≡ true
+    first_or_later : (b : Bool) → is_slot k y ≡ true → is y ≡ true
         → (option_map_or is (cond b (Some y) (find q ys)) false && not
         (option_map_or (is_slot k) (cond b (Some y) (find q ys)) false)) ≡ false
-    go true here mine = ap (λ (c : Bool). is y && not c) here ∙ never (is y)
-    go false here mine = ap (λ (c : Bool). c && not (option_map_or (is_slot k) (find q ys) false))
+    first_or_later true here mine = ap (λ (c : Bool). is y && not c) here ∙ never (is y)
+    first_or_later false here mine = ap (λ (c : Bool). c && not (option_map_or (is_slot k) (find q ys) false))
         (found_not is q ys none)
 rear is k q (y ∷ ys) (suc i) x apart at slot own none =
     let other : is_slot k y ≡ false = subst (λ (n : ℕ). is_slot n y ≡ false) slot (other_slot ys i x y apart.0 at) in
-    go (q y) refl other (rear is k q ys i x apart.1 at slot own none)
+    first_or_later (q y) refl other (rear is k q ys i x apart.1 at slot own none)
   where
     left : is_slot k y ≡ false → without (is_slot k) (y ∷ ys) ≡ y ∷ without (is_slot k) ys
     left other = ap (λ (b : Bool). cond (not b) (y ∷ without (is_slot k) ys) (without (is_slot k) ys)) other
@@ -78,8 +78,8 @@ rear is k q (y ∷ ys) (suc i) x apart at slot own none =
     skipped true e = refl
     skipped false e = ap (λ (c : Bool). cond c (Some y) (find q (without is ys))) e
 
-    go : (b : Bool) → q y ≡ b → is_slot k y ≡ false → Rear is k q ys → Rear is k q (y ∷ ys)
-    go true e other r = record {
+    first_or_later : (b : Bool) → q y ≡ b → is_slot k y ≡ false → Rear is k q ys → Rear is k q (y ∷ ys)
+    first_or_later true e other r = record {
       owned = ap (λ (zs : List SlotView). option_map_or is (find q zs) false) (left other)
           ∙ ap (λ (c : Bool). option_map_or is (cond c (Some y) (find q (without (is_slot k) ys))) false) e
           ∙ sym (ap (λ (c : Bool). option_map_or is (cond c (Some y) (find q ys)) false && not
@@ -88,7 +88,7 @@ rear is k q (y ∷ ys) (suc i) x apart at slot own none =
       seen_through = λ f. absurd (false≢true
           (sym (ap (λ (c : Bool). option_map_or (is_slot k) (cond c (Some y) (find q ys)) false) e ∙ other) ∙ f));
     }
-    go false e other r = record {
+    first_or_later false e other r = record {
       owned = ap (λ (zs : List SlotView). option_map_or is (find q zs) false) (left other)
           ∙ ap (λ (c : Bool). option_map_or is (cond c (Some y) (find q (without (is_slot k) ys))) false) e ∙ r.owned
           ∙ sym (ap (λ (c : Bool). option_map_or is (cond c (Some y) (find q ys)) false && not
@@ -104,7 +104,7 @@ pub of_slot : (is : SlotView → Bool) (k : ℕ) (q : SlotView → Bool) (xs : L
     → NoPair same_slot xs → slice_get xs i ≡ Some x → x.slot ≡ k → is x ≡ true
     → option_map_or (is_slot k) (find q xs) false ≡ true → option_map_or is (find q xs) false ≡ true
 of_slot is k q [] i x apart at slot own e = cc
-of_slot is k q (y ∷ ys) zero x apart at slot own e = go (q y) e
+of_slot is k q (y ∷ ys) zero x apart at slot own e = first_or_later (q y) e
   where
     same : y ≡ x
     same = cc
@@ -112,20 +112,21 @@ of_slot is k q (y ∷ ys) zero x apart at slot own e = go (q y) e
     others : list_any (is_slot k) ys ≡ false
     others = subst (λ (n : ℕ). list_any (is_slot n) ys ≡ false) (ap (λ (z : SlotView). z.slot) same ∙ slot) apart.0
 
-    go : (b : Bool) → option_map_or (is_slot k) (cond b (Some y) (find q ys)) false ≡ true
+    first_or_later : (b : Bool) → option_map_or (is_slot k) (cond b (Some y) (find q ys)) false ≡ true
         → option_map_or is (cond b (Some y) (find q ys)) false ≡ true
-    go true e = ap is same ∙ own
-    go false e = absurd (false≢true (sym (found_not (is_slot k) q ys others) ∙ e))
-of_slot is k q (y ∷ ys) (suc i) x apart at slot own e = go (q y) e (of_slot is k q ys i x apart.1 at slot own)
+    first_or_later true e = ap is same ∙ own
+    first_or_later false e = absurd (false≢true (sym (found_not (is_slot k) q ys others) ∙ e))
+of_slot is k q (y ∷ ys) (suc i) x apart at slot own e =
+    first_or_later (q y) e (of_slot is k q ys i x apart.1 at slot own)
   where
     other : is_slot k y ≡ false
     other = subst (λ (n : ℕ). is_slot n y ≡ false) slot (other_slot ys i x y apart.0 at)
 
-    go : (b : Bool) → option_map_or (is_slot k) (cond b (Some y) (find q ys)) false ≡ true
+    first_or_later : (b : Bool) → option_map_or (is_slot k) (cond b (Some y) (find q ys)) false ≡ true
         → (option_map_or (is_slot k) (find q ys) false ≡ true → option_map_or is (find q ys) false ≡ true)
         → option_map_or is (cond b (Some y) (find q ys)) false ≡ true
-    go true e r = absurd (false≢true (sym other ∙ e))
-    go false e r = r e
+    first_or_later true e r = absurd (false≢true (sym other ∙ e))
+    first_or_later false e r = r e
 
 -- ---- the list that is left
 
@@ -185,26 +186,27 @@ pub same_source : (sid k : ℕ) (s : StackModel) (p : Point) → Rear (is_of_ses
     → source_in (record s { views = without (is_slot k) s.views }) p ≡ source_in (without_session sid s) p
 same_source sid k s p r owns =
     ap (source_under (size_of s.sizes) p) (owner_of_views s.bar (without (is_slot k) s.views) p
-    ∙ ap (option_map (λ (a : SlotView). a.view)) (go (in_bar s.bar p) owns)
+    ∙ ap (option_map (λ (a : SlotView). a.view)) (in_bar_or_below (in_bar s.bar p) owns)
     ∙ sym (owner_of_views s.bar (without (is_of_session sid) s.views) p))
   where
-    go : (b : Bool) → option_map_or (is_slot k) (cond b None (find (slot_view_covers p) s.views)) false ≡ true
+    in_bar_or_below : (b : Bool)
+        → option_map_or (is_slot k) (cond b None (find (slot_view_covers p) s.views)) false ≡ true
         → cond b None (find (slot_view_covers p) (without (is_slot k) s.views))
         ≡ cond b None (find (slot_view_covers p) (without (is_of_session sid) s.views))
-    go true e = cc
-    go false e = r.seen_through e
+    in_bar_or_below true e = cc
+    in_bar_or_below false e = r.seen_through e
 
 pub less_owned : (sid k : ℕ) (s : StackModel) (p : Point) → Rear (is_of_session sid) k (slot_view_covers p) s.views
     → owner_passes (is_of_session sid) (record s { views = without (is_slot k) s.views }) p
     ≡ (owner_passes (is_of_session sid) s p && not (owner_passes (is_slot k) s p))
-less_owned sid k s p r = go (in_bar s.bar p)
+less_owned sid k s p r = in_bar_or_below (in_bar s.bar p)
   where
-    go : (b : Bool) → option_map_or (is_of_session sid)
+    in_bar_or_below : (b : Bool) → option_map_or (is_of_session sid)
         (cond b None (find (slot_view_covers p) (without (is_slot k) s.views))) false
         ≡ (option_map_or (is_of_session sid) (cond b None (find (slot_view_covers p) s.views)) false && not
         (option_map_or (is_slot k) (cond b None (find (slot_view_covers p) s.views)) false))
-    go true = refl
-    go false = r.owned
+    in_bar_or_below true = refl
+    in_bar_or_below false = r.owned
 
 pub skip_behind : (is : SlotView → Bool) (views : List SlotView) (i : ℕ) (x : SlotView) → slice_get views i ≡ Some x
     → is x ≡ false → list_any is (drop (i + 1) views) ≡ false → list_any is (drop i views) ≡ false
@@ -261,12 +263,13 @@ module _ (sid i k : ℕ) (s s' : StackModel) (x : SlotView) (apart : NoPair same
 
   -- it owned the pixel for its session
   of_session : (p : Point) → owner_passes (is_slot k) s p ≡ true → owner_passes (is_of_session sid) s p ≡ true
-  of_session p e = go (in_bar s.bar p) e
+  of_session p e = in_bar_or_below (in_bar s.bar p) e
     where
-      go : (b : Bool) → option_map_or (is_slot k) (cond b None (find (slot_view_covers p) s.views)) false ≡ true
+      in_bar_or_below : (b : Bool)
+          → option_map_or (is_slot k) (cond b None (find (slot_view_covers p) s.views)) false ≡ true
           → option_map_or (is_of_session sid) (cond b None (find (slot_view_covers p) s.views)) false ≡ true
-      go true e = cc
-      go false e = of_slot (is_of_session sid) k (slot_view_covers p) s.views i x apart at slot mine e
+      in_bar_or_below true e = cc
+      in_bar_or_below false e = of_slot (is_of_session sid) k (slot_view_covers p) s.views i x apart at slot mine e
 
   table : (a b : Bool) → (b ≡ true → a ≡ true) → b ≡ (a && not (a && not b))
   table true true h = refl
@@ -369,11 +372,12 @@ all_taken sid before now taken = taken.rest
 
 no_owner : (sid : ℕ) (s : StackModel) (p : Point) → list_any (is_of_session sid) s.views ≡ false
     → owner_passes (is_of_session sid) s p ≡ false
-no_owner sid s p none = go (in_bar s.bar p)
+no_owner sid s p none = in_bar_or_below (in_bar s.bar p)
   where
-    go : (b : Bool) → option_map_or (is_of_session sid) (cond b None (find (slot_view_covers p) s.views)) false ≡ false
-    go true = refl
-    go false = found_not (is_of_session sid) (slot_view_covers p) s.views none
+    in_bar_or_below : (b : Bool)
+        → option_map_or (is_of_session sid) (cond b None (find (slot_view_covers p) s.views)) false ≡ false
+    in_bar_or_below true = refl
+    in_bar_or_below false = found_not (is_of_session sid) (slot_view_covers p) s.views none
 
 pub all_painted : (sid n : ℕ) (before now : StackModel) (a b : ℕ → Sight) (raw last : List ℕ)
     → IsRemovedFrom sid 0 before now

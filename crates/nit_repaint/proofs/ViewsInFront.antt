@@ -15,13 +15,13 @@ pub take_front : {A : Type 0} (is : A → Bool) (xs : List A) (i : ℕ) → i �
     → take i xs ≡ take i (without is xs)
 take_front is [] i l = refl
 take_front is (x ∷ xs) zero l = refl
-take_front is (x ∷ xs) (suc i) l = go (is x) l (take_front is xs i)
+take_front is (x ∷ xs) (suc i) l = first_or_later (is x) l (take_front is xs i)
   where
-    go : (b : Bool) → suc i ≤ cond (not b) (1 + position_or_len is xs) 0
+    first_or_later : (b : Bool) → suc i ≤ cond (not b) (1 + position_or_len is xs) 0
         → (i ≤ position_or_len is xs → take i xs ≡ take i (without is xs))
         → take (suc i) (x ∷ xs) ≡ take (suc i) (cond (not b) (x ∷ without is xs) (without is xs))
-    go true m r = absurd (omega arith)
-    go false m r = ap (λ (ys : List _). x ∷ ys) (r (omega arith))
+    first_or_later true m r = absurd (omega arith)
+    first_or_later false m r = ap (λ (ys : List _). x ∷ ys) (r (omega arith))
 
 -- which views cover a pixel is told by the views without their slots
 pub same_covered : (p : Point) (i : ℕ) (xs ys : List SlotView) → views_of xs ≡ views_of ys
@@ -47,12 +47,12 @@ covers_more p [] (suc i) zero l h = h
 covers_more p [] (suc i) (suc j) l h = h
 covers_more p (x ∷ xs) zero j l h = cc
 covers_more p (x ∷ xs) (suc i) zero l h = absurd (omega arith)
-covers_more p (x ∷ xs) (suc i) (suc j) l h = go (slot_view_covers p x) h (covers_more p xs i j (omega arith))
+covers_more p (x ∷ xs) (suc i) (suc j) l h = covers_or_not (slot_view_covers p x) h (covers_more p xs i j (omega arith))
   where
-    go : (b : Bool) → (b || covered (take i xs) p) ≡ true
+    covers_or_not : (b : Bool) → (b || covered (take i xs) p) ≡ true
         → (covered (take i xs) p ≡ true → covered (take j xs) p ≡ true) → (b || covered (take j xs) p) ≡ true
-    go true m r = refl
-    go false m r = r m
+    covers_or_not true m r = refl
+    covers_or_not false m r = r m
 
 -- a view that is apart from the others stands in another slot than each of them
 pub other_slot : (views : List SlotView) (i : ℕ) (s x : SlotView) → list_any (same_slot x) views ≡ false
@@ -71,28 +71,28 @@ other_slot views i s x apart at = other (is_slot s.slot x) refl
 pub stands_there : {A : Type 0} (is : A → Bool) (xs : List A) → position_or_len is xs < length xs
     → list_any is xs ≡ true
 stands_there is [] l = absurd (omega arith)
-stands_there is (x ∷ xs) l = go (is x) l (stands_there is xs)
+stands_there is (x ∷ xs) l = first_or_later (is x) l (stands_there is xs)
   where
-    go : (b : Bool) → cond (not b) (1 + position_or_len is xs) 0 < length (x ∷ xs)
+    first_or_later : (b : Bool) → cond (not b) (1 + position_or_len is xs) 0 < length (x ∷ xs)
         → (position_or_len is xs < length xs → list_any is xs ≡ true) → (b || list_any is xs) ≡ true
-    go true m r = refl
-    go false m r = r (omega arith)
+    first_or_later true m r = refl
+    first_or_later false m r = r (omega arith)
 
 pub stands_nowhere : {A : Type 0} (is : A → Bool) (xs : List A) → length xs ≤ position_or_len is xs
     → list_any is xs ≡ false
 stands_nowhere is [] l = refl
-stands_nowhere is (x ∷ xs) l = go (is x) l (stands_nowhere is xs)
+stands_nowhere is (x ∷ xs) l = first_or_later (is x) l (stands_nowhere is xs)
   where
-    go : (b : Bool) → length (x ∷ xs) ≤ cond (not b) (1 + position_or_len is xs) 0
+    first_or_later : (b : Bool) → length (x ∷ xs) ≤ cond (not b) (1 + position_or_len is xs) 0
         → (length xs ≤ position_or_len is xs → list_any is xs ≡ false) → (b || list_any is xs) ≡ false
-    go true m r = absurd (omega arith)
-    go false m r = r (omega arith)
+    first_or_later true m r = absurd (omega arith)
+    first_or_later false m r = r (omega arith)
 
 pub without_none : {A : Type 0} (is : A → Bool) (xs : List A) → list_any is xs ≡ false → without is xs ≡ xs
 without_none is [] h = refl
-without_none is (x ∷ xs) h = go (is x) h (without_none is xs)
+without_none is (x ∷ xs) h = first_or_later (is x) h (without_none is xs)
   where
-    go : (b : Bool) → (b || list_any is xs) ≡ false → (list_any is xs ≡ false → without is xs ≡ xs)
+    first_or_later : (b : Bool) → (b || list_any is xs) ≡ false → (list_any is xs ≡ false → without is xs ≡ xs)
         → cond (not b) (x ∷ without is xs) (without is xs) ≡ x ∷ xs
-    go true m r = cc
-    go false m r = ap (λ (ys : List _). x ∷ ys) (r m)
+    first_or_later true m r = cc
+    first_or_later false m r = ap (λ (ys : List _). x ∷ ys) (r m)

@@ -45,31 +45,31 @@ find_more : {A : Type 0} (q : A → Bool) (xs : List A) (i : ℕ) (x : A) → sl
     → find q (take (suc i) xs) ≡ or_else (find q (take i xs)) (cond (q x) (Some x) None)
 find_more q [] i x at = cc
 find_more {A} q (y ∷ ys) zero x at = let same : y ≡ x = cc in ap (λ (z : A). cond (q z) (Some z) None) same
-find_more q (y ∷ ys) (suc i) x at = go (q y) (find_more q ys i x at)
+find_more q (y ∷ ys) (suc i) x at = first_or_later (q y) (find_more q ys i x at)
   where
-    go : (b : Bool) → find q (take (suc i) ys) ≡ or_else (find q (take i ys)) (cond (q x) (Some x) None)
+    first_or_later : (b : Bool) → find q (take (suc i) ys) ≡ or_else (find q (take i ys)) (cond (q x) (Some x) None)
         → cond b (Some y) (find q (take (suc i) ys))
         ≡ or_else (cond b (Some y) (find q (take i ys))) (cond (q x) (Some x) None)
-    go true r = refl
-    go false r = r
+    first_or_later true r = refl
+    first_or_later false r = r
 
 found_any : {A : Type 0} (q : A → Bool) (xs : List A) (a : A) → find q xs ≡ Some a → list_any q xs ≡ true
 found_any q [] a e = cc
-found_any q (x ∷ xs) a e = go (q x) e (found_any q xs a)
+found_any q (x ∷ xs) a e = first_or_later (q x) e (found_any q xs a)
   where
-    go : (b : Bool) → cond b (Some x) (find q xs) ≡ Some a → (find q xs ≡ Some a → list_any q xs ≡ true)
+    first_or_later : (b : Bool) → cond b (Some x) (find q xs) ≡ Some a → (find q xs ≡ Some a → list_any q xs ≡ true)
         → (b || list_any q xs) ≡ true
-    go true e r = refl
-    go false e r = r e
+    first_or_later true e r = refl
+    first_or_later false e r = r e
 
 found_none : {A : Type 0} (q : A → Bool) (xs : List A) → find q xs ≡ None → list_any q xs ≡ false
 found_none q [] e = refl
-found_none q (x ∷ xs) e = go (q x) e (found_none q xs)
+found_none q (x ∷ xs) e = first_or_later (q x) e (found_none q xs)
   where
-    go : (b : Bool) → cond b (Some x) (find q xs) ≡ None → (find q xs ≡ None → list_any q xs ≡ false)
+    first_or_later : (b : Bool) → cond b (Some x) (find q xs) ≡ None → (find q xs ≡ None → list_any q xs ≡ false)
         → (b || list_any q xs) ≡ false
-    go true e r = cc
-    go false e r = r e
+    first_or_later true e r = cc
+    first_or_later false e r = r e
 
 -- the owner among one view more, and that the one of fewer is another
 pub record OneMore (test : SlotView → Bool) (s : StackModel) (p : Point) (i : ℕ) (x : SlotView) : Type 0 where
@@ -93,7 +93,7 @@ none_more false = refl
 
 pub one_more : (test : SlotView → Bool) (s : StackModel) (p : Point) (i : ℕ) (x : SlotView) → NoPair same_slot s.views
     → slot_view_in x.slot s.views ≡ Some x → slice_get s.views i ≡ Some x → OneMore test s p i x
-one_more test s p i x apart there at = let r = go (in_bar s.bar p) in record { all = r.0; apart = r.1 }
+one_more test s p i x apart there at = let r = in_bar_or_below (in_bar s.bar p) in record { all = r.0; apart = r.1 }
   where
     own : option_map_or (is_slot x.slot) (find (slot_view_covers p) s.views) false
         ≡ (slot_view_covers p x && not (covered (take i s.views) p))
@@ -119,21 +119,21 @@ one_more test s p i x apart there at = let r = go (in_bar s.bar p) in record { a
         )
     found None e =
         let any = found_none (slot_view_covers p) (take i s.views) e in
-        (ap (λ (b : Bool). (slot_view_covers p x && not b) && test x) any ∙ go_none (slot_view_covers p x), refl)
+        (ap (λ (b : Bool). (slot_view_covers p x && not b) && test x) any ∙ covers_or_not (slot_view_covers p x), refl)
       where
-        go_none : (b : Bool) → ((b && true) && test x) ≡ option_map_or test (cond b (Some x) None) false
-        go_none true = refl
-        go_none false = refl
+        covers_or_not : (b : Bool) → ((b && true) && test x) ≡ option_map_or test (cond b (Some x) None) false
+        covers_or_not true = refl
+        covers_or_not false = refl
 
-    go : (b : Bool)
+    in_bar_or_below : (b : Bool)
         → ((option_map_or test (cond b None (find (slot_view_covers p) (take i s.views)))
         false || (option_map_or (is_slot x.slot) (cond b None (find (slot_view_covers p) s.views)) false && test x))
         ≡ option_map_or test (cond b None (find (slot_view_covers p) (take (i + 1) s.views))) false)
         × ((option_map_or test (cond b None (find (slot_view_covers p) (take i s.views)))
         false && (option_map_or (is_slot x.slot) (cond b None (find (slot_view_covers p) s.views)) false && test x))
         ≡ false)
-    go true = (refl, refl)
-    go false =
+    in_bar_or_below true = (refl, refl)
+    in_bar_or_below false =
         let f = found (find (slot_view_covers p) (take i s.views)) refl in (
           ap (λ (b : Bool). option_map_or test (find (slot_view_covers p) (take i s.views)) false || (b && test x)) own
               ∙ f.0 ∙ ap (λ (o : Option SlotView). option_map_or test o false) (sym more),
@@ -145,12 +145,15 @@ one_more test s p i x apart there at = let r = go (in_bar s.bar p) in record { a
 
 owned_covers : (s : StackModel) (k : ℕ) (seat : SlotView) (p : Point) → NoPair same_slot s.views
     → slot_view_in k s.views ≡ Some seat → owner_passes (is_slot k) s p ≡ true → covers seat.view.rect p ≡ true
-owned_covers s k seat p apart there owns = go (in_bar s.bar p) (sym (owned_by s k seat p apart there) ∙ owns)
+owned_covers s k seat p apart there owns =
+    in_bar_or_below (in_bar s.bar p) (sym (owned_by s k seat p apart there) ∙ owns)
   where
-    go : (b : Bool) → cond b false (covers seat.view.rect p && not (covered (take (place_of k s.views) s.views) p))
+    in_bar_or_below : (b : Bool)
+        → cond b false (covers seat.view.rect p && not (covered (take (place_of k s.views) s.views) p))
         ≡ true → covers seat.view.rect p ≡ true
-    go true e = cc
-    go false e = (and_parts (covers seat.view.rect p) (not (covered (take (place_of k s.views) s.views) p)) e).0
+    in_bar_or_below true e = cc
+    in_bar_or_below false e =
+        (and_parts (covers seat.view.rect p) (not (covered (take (place_of k s.views) s.views) p)) e).0
 
 -- what is wanted of a view of the session, and of another one
 pub wanted_here : (s : StackModel) (view : View) (sid : ℕ) (part : Option Rectangle) (p : Point) → view.sid ≡ sid
@@ -180,13 +183,13 @@ pub seat_set : (s : StackModel) (rect : Rectangle) (v : ViewRef) (view : View) (
     → is_owned v s rect p ≡ (owner_passes (is_slot x.slot) s p && is_wanted sid part s p x)
 seat_set s rect v view x sid part p apart there same shows =
     subst (λ (y : SlotView). is_owned v s rect p ≡ (owner_passes (is_slot y.slot) s p && is_wanted sid part s p y)) same
-    (go (owner_passes (is_slot v.0) s p) refl)
+    (owned_or_not (owner_passes (is_slot v.0) s p) refl)
   where
-    go : (b : Bool) → owner_passes (is_slot v.0) s p ≡ b
+    owned_or_not : (b : Bool) → owner_passes (is_slot v.0) s p ≡ b
         → (covers rect p && b) ≡ (b && (is_of_session sid (record { slot = v.0; view = view }) && wants part
         (size_of s.sizes sid) view p))
-    go false e = never (covers rect p)
-    go true e = sym (none_and (covers rect p))
+    owned_or_not false e = never (covers rect p)
+    owned_or_not true e = sym (none_and (covers rect p))
         ∙ shows (owned_covers s v.0 (record { slot = v.0; view = view }) p apart there e)
 
 -- ---- the first so many views
@@ -195,12 +198,13 @@ module _ (source : ℕ → PixelSource) (s : StackModel) (n sid : ℕ) (part : O
   pub none_wanted : (glasses : ℕ → Sight) (raw : List ℕ)
       → Repainted source (λ k. wanted_of_first 0 sid part s (pixel s.width k)) n glasses glasses raw raw
   none_wanted glasses raw = repainted_none source _ n glasses raw
-      (λ k l. go (in_bar s.bar (pixel s.width k)) (is_wanted sid part s (pixel s.width k)))
+      (λ k l. owned_by_none (in_bar s.bar (pixel s.width k)) (is_wanted sid part s (pixel s.width k)))
     where
-      go : (b : Bool) (test : SlotView → Bool) → option_map_or test (cond {A = Option SlotView} b None None) false
+      owned_by_none : (b : Bool) (test : SlotView → Bool)
+          → option_map_or test (cond {A = Option SlotView} b None None) false
           ≡ false
-      go true test = refl
-      go false test = refl
+      owned_by_none true test = refl
+      owned_by_none false test = refl
 
   pub one_wanted : (i : ℕ) (x : SlotView) (a b c : ℕ → Sight) (raw mid last : List ℕ) → NoPair same_slot s.views
       → slot_view_in x.slot s.views ≡ Some x → slice_get s.views i ≡ Some x
@@ -243,17 +247,17 @@ seat_here (y ∷ views) (suc i) x apart at =
 -- ---- what is wanted, in other words
 
 pub all_of_session : (sid : ℕ) (s : StackModel) (p : Point) → wanted sid None s p ≡ owner_passes (is_of_session sid) s p
-all_of_session sid s p = go (owner_in (λ a. a.view) s.bar s.views p)
+all_of_session sid s p = owned_or_bare (owner_in (λ a. a.view) s.bar s.views p)
   where
-    go : (o : Option SlotView) → option_map_or (is_wanted sid None s p) o false
+    owned_or_bare : (o : Option SlotView) → option_map_or (is_wanted sid None s p) o false
         ≡ option_map_or (is_of_session sid) o false
-    go None = refl
-    go (Some x) = sym (none_and (is_of_session sid x))
+    owned_or_bare None = refl
+    owned_or_bare (Some x) = sym (none_and (is_of_session sid x))
 
 pub part_of_session : (sid : ℕ) (part : Rectangle) (s : StackModel) (p : Point)
     → wanted sid (Some part) s p ≡ is_word_in sid (size_of s.sizes sid).w part (source_in s p)
 part_of_session sid part s p =
-    go (owner_in (λ a. a.view) s.bar s.views p)
+    owned_or_bare (owner_in (λ a. a.view) s.bar s.views p)
     ∙ ap (λ (o : Option View). is_word_in sid (size_of s.sizes sid).w part (source_under (size_of s.sizes) p o))
     (sym (owner_of_views s.bar s.views p))
   where
@@ -277,8 +281,8 @@ part_of_session sid part s p =
         own None = refl
         own (Some i) = ap (λ (b : Bool). b && covers part (pixel (size_of s.sizes sid).w i)) (sym e)
 
-    go : (o : Option SlotView) → option_map_or (is_wanted sid (Some part) s p) o false
+    owned_or_bare : (o : Option SlotView) → option_map_or (is_wanted sid (Some part) s p) o false
         ≡ is_word_in sid (size_of s.sizes sid).w part
         (source_under (size_of s.sizes) p (option_map (λ (a : SlotView). a.view) o))
-    go None = refl
-    go (Some x) = shows x (x.view.sid == sid) refl
+    owned_or_bare None = refl
+    owned_or_bare (Some x) = shows x (x.view.sid == sid) refl

@@ -1,11 +1,11 @@
 //! Loading pieces of the screen again: the caller's by its own glass, all others by the scene's.
 
-ghost use Rattle.std.specs.Prelude.{◌≡◌, ◌*◌, ◌<◌, ◌≤◌, Some, None, IfSome, IsSomeAnd, length, map};
-ghost use Rattle.std.specs.Prelude.{true, ℕ};
-ghost use Rattle.nit_repaint.specs.Terms.{FitsStack, HoldBuffers, IsPiece, Repainted, glass_in};
+ghost use Rattle.std.specs.Prelude.{◌≡◌, ◌*◌, ◌<◌, ◌≤◌, None, length, map, true, ℕ};
+ghost use Rattle.nit_repaint.specs.Terms.{CanPaint, FitsStack, IsPiece, IsPieceOfStack};
+ghost use Rattle.nit_repaint.specs.Terms.{IsViewPiece, PaintsMarked, PaintsPiece, Repainted, Sight};
 ghost use Rattle.nit_repaint.specs.Terms.{glasses_of_call, has_pixel, has_slot, is_to_come};
-ghost use Rattle.nit_repaint.specs.Terms.{session_of, session_shown, source_of_number, words_shown};
-ghost use Rattle.nit_repaint.specs.Terms.{Sight, with_glass};
+ghost use Rattle.nit_repaint.specs.Terms.{session_of, session_shown, source_of_number, with_glass};
+ghost use Rattle.nit_repaint.specs.Terms.{words_shown};
 
 use crate::painter::Painter;
 use nit_paint::laws::pieces_of_owners;
@@ -24,9 +24,7 @@ pub(crate) fn session_of(stack: &Stack, v: ViewRef) -> u32
 
 /// Paints a piece that a view owns, by the glass of the view's session.
 pub(crate) fn load_view<C: Glass>(stack: &Stack, raw: &mut Vec<u32>, piece: &Piece, glass: &mut C)
-    requires raw { length raw.old.items ≡ stack.now.width * stack.now.height }
-    requires piece { IsPiece stack.now piece.now }
-    requires view { IsSomeAnd piece.now.owner (λ v. has_slot v.0 stack.now.views ≡ true) }
+    requires piece { IsViewPiece stack.now raw.old.items piece.now }
     requires words { words_shown stack.now piece.now ≤ (C.sight glass.old).size }
     ensures painted { (others : ℕ → Sight)
         → Repainted (source_of_number stack.now) (has_pixel stack.now.width piece.now.rect)
@@ -63,25 +61,14 @@ impl<G: Glass + Drop> Painter<G> {
         sid: u32,
         own: &mut C,
     )
-        requires pixels { length self.old.raw.items ≡ stack.now.width * stack.now.height }
-        requires piece { IsPiece stack.now piece.now }
-        requires owner { IsSomeAnd piece.now.owner (λ v. has_slot v.0 stack.now.views ≡ true) }
+        requires piece { IsViewPiece stack.now self.old.raw.items piece.now }
         requires session { session_shown stack.now piece.now ≡ session }
         requires glass { session < length self.old.glasses.items }
         requires words { words_shown stack.now piece.now
             ≤ (glasses_of_call (map G.sight self.old.glasses.items) sid
             (C.sight own.old) session).size }
-        ensures painted { Repainted (source_of_number stack.now)
-            (has_pixel stack.now.width piece.now.rect) (length self.old.raw.items)
-            (glasses_of_call (map G.sight self.old.glasses.items) sid (C.sight own.old))
-            (glasses_of_call (map G.sight self.new.glasses.items) sid (C.sight own.new))
-            self.old.raw.items self.new.raw.items }
-        ensures count { length self.new.raw.items ≡ length self.old.raw.items }
-        ensures cutter { self.new.cutter ≡ self.old.cutter }
-        ensures idle { glass_in (map G.sight self.new.glasses.items) sid
-            ≡ glass_in (map G.sight self.old.glasses.items) sid }
-        ensures rest { C.rest own.new ≡ C.rest own.old }
-        ensures rests { map G.rest self.new.glasses.items ≡ map G.rest self.old.glasses.items }
+        ensures { PaintsPiece G.sight C.sight G.rest C.rest stack.now sid piece.now
+            self.old self.new own.old own.new }
     {
         if session == sid {
             load_view(stack, &mut self.raw, piece, own);
@@ -89,37 +76,6 @@ impl<G: Glass + Drop> Painter<G> {
             let glass = &mut self.glasses[session as usize];
             load_view(stack, &mut self.raw, piece, glass);
         }
-    }
-
-    /// Paints a piece that a view owns.
-    fn paint_owned<C: Glass>(
-        &mut self,
-        stack: &Stack,
-        v: ViewRef,
-        piece: &Piece,
-        sid: u32,
-        own: &mut C,
-    )
-        requires pixels { length self.old.raw.items ≡ stack.now.width * stack.now.height }
-        requires piece { IsPiece stack.now piece.now }
-        requires owner { piece.now.owner ≡ Some v }
-        requires stands { has_slot v.0 stack.now.views ≡ true }
-        requires held { HoldBuffers stack.now (length self.old.glasses.items)
-            (glasses_of_call (map G.sight self.old.glasses.items) sid (C.sight own.old)) }
-        ensures painted { Repainted (source_of_number stack.now)
-            (has_pixel stack.now.width piece.now.rect) (length self.old.raw.items)
-            (glasses_of_call (map G.sight self.old.glasses.items) sid (C.sight own.old))
-            (glasses_of_call (map G.sight self.new.glasses.items) sid (C.sight own.new))
-            self.old.raw.items self.new.raw.items }
-        ensures count { length self.new.raw.items ≡ length self.old.raw.items }
-        ensures cutter { self.new.cutter ≡ self.old.cutter }
-        ensures idle { glass_in (map G.sight self.new.glasses.items) sid
-            ≡ glass_in (map G.sight self.old.glasses.items) sid }
-        ensures rest { C.rest own.new ≡ C.rest own.old }
-        ensures rests { map G.rest self.new.glasses.items ≡ map G.rest self.old.glasses.items }
-    {
-        let session = session_of(stack, v);
-        self.paint_shown(stack, session, piece, sid, own);
     }
 
     /// Paints a piece. Each session has a glass with a word for each of its buffer's.
@@ -130,25 +86,16 @@ impl<G: Glass + Drop> Painter<G> {
         sid: u32,
         own: &mut C,
     )
-        requires pixels { length self.old.raw.items ≡ stack.now.width * stack.now.height }
-        requires piece { IsPiece stack.now piece.now }
-        requires stands { IfSome piece.now.owner (λ v. has_slot v.0 stack.now.views ≡ true) }
-        requires held { HoldBuffers stack.now (length self.old.glasses.items)
-            (glasses_of_call (map G.sight self.old.glasses.items) sid (C.sight own.old)) }
-        ensures painted { Repainted (source_of_number stack.now)
-            (has_pixel stack.now.width piece.now.rect) (length self.old.raw.items)
-            (glasses_of_call (map G.sight self.old.glasses.items) sid (C.sight own.old))
-            (glasses_of_call (map G.sight self.new.glasses.items) sid (C.sight own.new))
-            self.old.raw.items self.new.raw.items }
-        ensures count { length self.new.raw.items ≡ length self.old.raw.items }
-        ensures cutter { self.new.cutter ≡ self.old.cutter }
-        ensures idle { glass_in (map G.sight self.new.glasses.items) sid
-            ≡ glass_in (map G.sight self.old.glasses.items) sid }
-        ensures rest { C.rest own.new ≡ C.rest own.old }
-        ensures rests { map G.rest self.new.glasses.items ≡ map G.rest self.old.glasses.items }
+        requires painter { CanPaint G.sight C.sight stack.now sid self.old own.old }
+        requires piece { IsPieceOfStack stack.now piece.now }
+        ensures { PaintsPiece G.sight C.sight G.rest C.rest stack.now sid piece.now
+            self.old self.new own.old own.new }
     {
         match piece.owner {
-            Some(v) => self.paint_owned(stack, v, piece, sid, own),
+            Some(v) => {
+                let session = session_of(stack, v);
+                self.paint_shown(stack, session, piece, sid, own);
+            }
             None => load_bare(stack, &mut self.raw, piece),
         }
     }
@@ -159,20 +106,9 @@ impl<G: Glass + Drop> Painter<G> {
     /// calls.
     pub fn paint_to_come<C: Glass>(&mut self, stack: &Stack, sid: u32, own: &mut C)
         requires fits { FitsStack self.old.cutter stack.now }
-        requires pixels { length self.old.raw.items ≡ stack.now.width * stack.now.height }
-        requires held { HoldBuffers stack.now (length self.old.glasses.items)
-            (glasses_of_call (map G.sight self.old.glasses.items) sid (C.sight own.old)) }
-        ensures room { self.new.cutter.room ≡ self.old.cutter.room }
-        ensures painted { Repainted (source_of_number stack.now)
-            (is_to_come self.old.cutter stack.now) (length self.old.raw.items)
-            (glasses_of_call (map G.sight self.old.glasses.items) sid (C.sight own.old))
-            (glasses_of_call (map G.sight self.new.glasses.items) sid (C.sight own.new))
-            self.old.raw.items self.new.raw.items }
-        ensures count { length self.new.raw.items ≡ length self.old.raw.items }
-        ensures idle { glass_in (map G.sight self.new.glasses.items) sid
-            ≡ glass_in (map G.sight self.old.glasses.items) sid }
-        ensures rest { C.rest own.new ≡ C.rest own.old }
-        ensures rests { map G.rest self.new.glasses.items ≡ map G.rest self.old.glasses.items }
+        requires painter { CanPaint G.sight C.sight stack.now sid self.old own.old }
+        ensures { PaintsMarked G.sight C.sight G.rest C.rest stack.now sid
+            (is_to_come self.old.cutter stack.now) self.old self.new own.old own.new }
     {
         pieces_of_owners();
         let _screen = stack.size();

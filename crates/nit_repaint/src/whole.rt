@@ -1,12 +1,12 @@
 //! Loading by one list of glasses alone, where no session calls.
 
-ghost use Rattle.std.specs.Prelude.{◌≡◌, ◌*◌, ◌≤◌, IfSome, length, map, true};
-ghost use Rattle.nit_repaint.specs.Terms.{FitsStack, HoldBuffers, IsPiece, Repainted, glass_in};
-ghost use Rattle.nit_repaint.specs.Terms.{has_pixel, has_slot, is_to_come, source_of_number};
+ghost use Rattle.std.specs.Prelude.{◌≡◌, ◌*◌, ◌≤◌, length, map, true};
+ghost use Rattle.nit_repaint.specs.Terms.{CanPaintByList, HoldBuffers, IsPieceOfStack};
+ghost use Rattle.nit_repaint.specs.Terms.{PaintsByList, Repainted, glass_in, has_pixel};
+ghost use Rattle.nit_repaint.specs.Terms.{source_of_number};
 
 use crate::painter::Painter;
 use crate::pieces::{load_bare, load_view, session_of};
-use nit_damage::Cutter;
 use nit_paint::laws::pieces_of_owners;
 use nit_stack::{Piece, Stack};
 use nit_word::Glass;
@@ -48,42 +48,20 @@ impl<G: Glass + Drop> Painter<G> {
         ensures glasses { self.new.glasses ≡ self.old.glasses }
     {
         self.cutter.begin_all(stack);
-        paint_by(&mut self.cutter, stack, &mut self.raw, owns);
-    }
-}
-
-/// Paints all pixels that are to come by the cutter, each through its session's glass of this list.
-fn paint_by<C: Glass>(cutter: &mut Cutter, stack: &Stack, raw: &mut Vec<u32>, owns: &mut [C])
-    requires fits { FitsStack cutter.old stack.now }
-    requires pixels { length raw.old.items ≡ stack.now.width * stack.now.height }
-    requires held { HoldBuffers stack.now (length owns.old) (glass_in (map C.sight owns.old)) }
-    ensures room { cutter.new.room ≡ cutter.old.room }
-    ensures painted { Repainted (source_of_number stack.now) (is_to_come cutter.old stack.now)
-        (length raw.old.items)
-        (glass_in (map C.sight owns.old)) (glass_in (map C.sight owns.new))
-        raw.old.items raw.new.items }
-    ensures count { length raw.new.items ≡ length raw.old.items }
-    ensures rests { map C.rest owns.new ≡ map C.rest owns.old }
-{
-    pieces_of_owners();
-    let _screen = stack.size();
-    'pieces: while let Some(piece) = cutter.next(stack) {
-        paint_piece_by(stack, &piece, raw, owns);
+        pieces_of_owners();
+        let _screen = stack.size();
+        'pieces: while let Some(piece) = self.cutter.next(stack) {
+            paint_piece_by(stack, &piece, &mut self.raw, owns);
+        }
     }
 }
 
 /// Paints a piece, through its session's glass of this list.
 fn paint_piece_by<C: Glass>(stack: &Stack, piece: &Piece, raw: &mut Vec<u32>, owns: &mut [C])
-    requires pixels { length raw.old.items ≡ stack.now.width * stack.now.height }
-    requires piece { IsPiece stack.now piece.now }
-    requires stands { IfSome piece.now.owner (λ v. has_slot v.0 stack.now.views ≡ true) }
-    requires held { HoldBuffers stack.now (length owns.old) (glass_in (map C.sight owns.old)) }
-    ensures painted { Repainted (source_of_number stack.now)
-        (has_pixel stack.now.width piece.now.rect) (length raw.old.items)
-        (glass_in (map C.sight owns.old)) (glass_in (map C.sight owns.new))
-        raw.old.items raw.new.items }
-    ensures count { length raw.new.items ≡ length raw.old.items }
-    ensures rests { map C.rest owns.new ≡ map C.rest owns.old }
+    requires glasses { CanPaintByList C.sight stack.now raw.old.items owns.old }
+    requires piece { IsPieceOfStack stack.now piece.now }
+    ensures { PaintsByList C.sight C.rest stack.now (has_pixel stack.now.width piece.now.rect)
+        owns.old owns.new raw.old.items raw.new.items }
 {
     match piece.owner {
         Some(v) => {

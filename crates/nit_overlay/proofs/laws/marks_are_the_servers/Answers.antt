@@ -1,8 +1,5 @@
-use Rattle.nit_overlay.proofs.Lemmas.{kill_tints, label_shown, plain_is_label, xray_bright}
+use Rattle.nit_overlay.proofs.Lemmas.{kill_tints, plain_is_label, xray_bright}
 use Rattle.nit_overlay.proofs.laws.marks_are_the_servers.Goals as goal
-
-pub returns-clause-labels : goal.returns-clause-labels
-returns-clause-labels c = label_shown
 
 pub returns-clause-xray : goal.returns-clause-xray
 returns-clause-xray c = xray_bright

@@ -6,13 +6,12 @@ use Rattle.nit_overlay.proofs.overlay.overlay_area.Goals as goal
 
 pub rows-preserved : goal.rows-preserved
 rows-preserved c =
-    let width = c.args.width in
+    let width = c.size-width.result.0 in
+    let stack = c.args.look.now.stack.now in
     let s = scenery c.args.look.now in
-    let row : (c.rows.y + 1) * width ≤ c.args.look.now.stack.now.height * width =
-    mul-le-mul_right width (omega arith) in
-    let count : width * c.args.look.now.stack.now.height
-    ≡ c.args.look.now.stack.now.width * c.args.look.now.stack.now.height =
-    ap (λ n. n * c.args.look.now.stack.now.height) c.requires.width in
+    let wide : width ≡ stack.width = ap (λ size. size.0) c.size-width.ensures.size in
+    let row : (c.rows.y + 1) * width ≤ stack.height * width = mul-le-mul_right width (omega arith) in
+    let count : width * stack.height ≡ stack.width * stack.height = ap (λ n. n * stack.height) wide in
     next_row (λ k w. shown s (pixel width k) w) c.args.area.now width c.rows.y
     (c.rows.y * width + width - c.rows.y * width)
     c.args.raw.now c.args.out.now c.rows.out c.overlay_row.new.out (omega arith) c.requires.area.across (omega arith)
@@ -29,17 +28,16 @@ rows-preserved c =
 
 pub returns : goal.returns
 returns c =
-    let width = c.args.width in
-    let row : c.args.area.now.bottom * width ≤ c.args.look.now.stack.now.height * width =
-    mul-le-mul_right width c.requires.area.bottom in
-    let count : width * c.args.look.now.stack.now.height
-    ≡ c.args.look.now.stack.now.width * c.args.look.now.stack.now.height =
-    ap (λ n. n * c.args.look.now.stack.now.height) c.requires.width in
+    let width = c.size-width.result.0 in
+    let stack = c.args.look.now.stack.now in
+    let wide : width ≡ stack.width = ap (λ size. size.0) c.size-width.ensures.size in
+    let row : c.args.area.now.bottom * width ≤ stack.height * width = mul-le-mul_right width c.requires.area.bottom in
+    let count : width * stack.height ≡ stack.width * stack.height = ap (λ n. n * stack.height) wide in
     let f = λ (width k w : ℕ). shown (scenery c.args.look.now) (pixel width k) w in
     let done : c.rows.y ≡ c.args.area.now.bottom = omega (arith, c.rows.invariant.inside) in
     subst (λ n. IsOverlaid (f n) (λ k. in_area c.args.area.now (k % n) (k / n)) c.args.raw.now c.args.out.now c.rows.out
-    (c.args.look.now.stack.now.width * c.args.look.now.stack.now.height)) c.requires.width
-    (last_row (f width) c.args.area.now width (c.args.look.now.stack.now.width * c.args.look.now.stack.now.height)
-    c.args.raw.now c.args.out.now c.rows.out (omega arith) (omega arith)
+    (stack.width * stack.height)) wide
+    (last_row (f width) c.args.area.now width (stack.width * stack.height) c.args.raw.now c.args.out.now c.rows.out
+    (omega arith) (omega arith)
     (subst (RowsSoFar (f width) c.args.area.now width c.args.raw.now c.args.out.now c.rows.out) done
     c.rows.invariant))

@@ -7,7 +7,7 @@ runs-init c =
     let a = c.args.area.now in
     record {
       after = omega arith;
-      inside = c.requires.area.across;
+      inside = c.requires.area.area.across;
       painted = no_columns (λ x y w. word_by (stripe_rule c.args.stripe.now x) x y w) c.args.width c.args.raw.now
           (length c.args.raw.now) a.left a.top a.bottom c.args.out.now;
     }
@@ -19,7 +19,7 @@ runs-preserved c =
     let run = c.run_at-run.result in
     record {
       after = omega (arith, i.after);
-      inside = c.run_at-run.ensures.within;
+      inside = c.run_at-run.ensures.rule.within;
       painted = more_columns (λ x y w. word_by (stripe_rule c.args.stripe.now x) x y w) c.args.width c.args.raw.now
           (length c.args.raw.now) a.left a.top a.bottom c.runs.x run.end c.args.out.now c.runs.out
           c.overlay_block.new.out
@@ -28,6 +28,6 @@ runs-preserved c =
           (part_at c.runs.x a.top run.end a.bottom) c.args.width c.args.raw.now c.runs.out c.overlay_block.new.out
           (length c.args.raw.now)
           (λ x y w on. let at = in_columns (part_at c.runs.x a.top run.end a.bottom) x y on in ap (λ r. word_by r x y w)
-          (sym (c.run_at-run.ensures.same x at.0 at.1)))
+          (sym (c.run_at-run.ensures.rule.all x at.0 at.1)))
           c.overlay_block.ensures);
     }

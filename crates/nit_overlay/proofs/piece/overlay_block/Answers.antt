@@ -9,8 +9,8 @@ rows-preserved c =
     let row : (c.rows.y + 1) * width ≤ c.args.area.now.bottom * width = mul-le-mul_right width (omega arith) in
     next_of (λ x y w. word_by c.args.rule.now x y w) c.args.area.now width c.rows.y
     (c.rows.y * width + width - c.rows.y * width)
-    c.args.raw.now c.args.out.now c.rows.out c.paint_part.new.out (omega arith) c.requires.area.across
-    c.requires.area.right c.rows-test.true
+    c.args.raw.now c.args.out.now c.rows.out c.paint_part.new.out (omega arith) c.requires.area.area.across
+    c.requires.area.area.right c.rows-test.true
     (omega arith) (omega arith) c.rows.invariant
     (subst (λ p. IsPainted (λ x w. word_by c.args.rule.now x p.y w)
     (between (c.rows.y * width) (c.rows.y * width + width) c.args.raw.now)
@@ -23,5 +23,5 @@ returns c =
     let f = λ (k w : ℕ). word_by c.args.rule.now (k % width) (k / width) w in
     let done : c.rows.y ≡ c.args.area.now.bottom = omega (arith, c.rows.invariant.inside) in
     last_row f c.args.area.now width (length c.args.raw.now) c.args.raw.now c.args.out.now c.rows.out (omega arith)
-    c.requires.within
+    c.requires.area.within
     (subst (RowsSoFar f c.args.area.now width c.args.raw.now c.args.out.now c.rows.out) done c.rows.invariant)

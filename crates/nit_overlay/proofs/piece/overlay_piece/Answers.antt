@@ -1,15 +1,35 @@
-use Rattle.std.proofs.Common.{ap, arith, ◌≡◌}
+use Rattle.std.proofs.Common.{Some, ap, arith, length, subst, sym, true, ℕ, ◌<◌, ◌∙◌, ◌≡◌}
+use Rattle.nit_overlay.proofs.Lemmas.{IsAreaBy, area_as, in_area, in_columns, in_rows, option_map}
+use Rattle.nit_overlay.proofs.Lemmas.{point, rect_shown, scenery, seat_owner, shown, shown_owned}
+use Rattle.nit_overlay.proofs.Lemmas.{view_ref, view_word}
 use Rattle.nit_overlay.proofs.piece.overlay_piece.Goals as goal
-use Rattle.nit_overlay.proofs.Lemmas.{rect_shown}
 
 pub returns-in-Some-clause-pixels : goal.returns-in-Some-clause-pixels
 returns-in-Some-clause-pixels c =
-    let wide : c.size-width.result.0 ≡ c.args.look.now.stack.now.width =
-    ap (λ size. size.0) c.size-width.ensures.size in
-    let high : c.size-width.result.1 ≡ c.args.look.now.stack.now.height =
-    ap (λ size. size.1) c.size-width.ensures.size in
-    rect_shown c.area_of-area.result c.args.look.now c.args.piece.now.rect c.args.raw.now c.args.out.now
-    c.overlay_owned.new.out c.overlay_owned.ensures
+    let look = c.args.look.now in
+    let stack = look.stack.now in
+    let s = scenery look in
+    let area = c.area_of-area.result in
+    let view = c.owner_of-owner.result.view in
+    let now = c.overlay_view.new.out in
+    let wide : c.size-width.result.0 ≡ stack.width = ap (λ size. size.0) c.size-width.ensures.size in
+    let high : c.size-width.result.1 ≡ stack.height = ap (λ size. size.1) c.size-width.ensures.size in
+    let owned : (x y : ℕ) → in_area area x y ≡ true
+    → Some c.in-Some.v ≡ option_map view_ref (seat_owner stack.bar stack.views (point x y)) =
+    λ x y on.
+    let across = in_columns area x y on in
+    let down = in_rows area x y on in
+    let left : x < c.size-width.result.0 = omega (arith, across, c.area_of-area.ensures.area.right) in
+    let above : y < c.size-width.result.1 = omega (arith, down, c.area_of-area.ensures.area.bottom) in
+    sym c.in-Some.is ∙ c.requires.owner (point x y) (sym (c.area_of-area.ensures.same x y left above) ∙ on) in
+    rect_shown area look c.args.piece.now.rect c.args.raw.now c.args.out.now now
+    (subst (λ m. IsAreaBy (λ x y w. shown s (point x y) w) area stack.width c.args.raw.now c.args.out.now now m)
+    c.requires.raw
+    (area_as (λ x y w. view_word look.mode s view (point x y) w) (λ x y w. shown s (point x y) w) area stack.width
+    c.args.raw.now c.args.out.now now (length c.args.raw.now)
+    (λ x y w on. sym (shown_owned look (point x y) w c.in-Some.v view c.owner_of-owner.ensures.standing.slots
+    (owned x y on) c.owner_of-owner.ensures.view))
+    c.overlay_view.ensures))
     (λ x y lt less. c.area_of-area.ensures.same x y (omega arith) (omega arith))
 
 pub returns-in-None-clause-pixels : goal.returns-in-None-clause-pixels

@@ -8,7 +8,7 @@ bands-init c =
     let a = c.args.area.now in
     record {
       after = omega arith;
-      inside = c.requires.area.down;
+      inside = c.requires.area.area.down;
       painted = no_rows (λ x y w. view_word c.args.look.now.mode (scenery c.args.look.now) c.args.owner.now.view
           (point x y) w) c.size-width.result.0 c.args.raw.now (length c.args.raw.now) a.left a.top a.right
           c.args.out.now;

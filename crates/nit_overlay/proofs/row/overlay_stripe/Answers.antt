@@ -7,4 +7,5 @@ runs-preserved c =
     c.runs.out c.paint_part.new.out c.args.part.from c.args.part.to c.runs.x c.run_at-run.result.end
     c.runs.invariant (omega arith) (omega arith)
     (painted_by _ _ c.args.raw.now c.runs.out c.paint_part.new.out c.runs.x c.run_at-run.result.end
-    (λ k w le lt. ap (λ r. word_by r k c.args.part.y w) (sym (c.run_at-run.ensures.same k le lt))) c.paint_part.ensures)
+    (λ k w le lt. ap (λ r. word_by r k c.args.part.y w) (sym (c.run_at-run.ensures.rule.all k le lt)))
+    c.paint_part.ensures)

@@ -12,7 +12,7 @@ pieces-init c = record {
 }
 
 pub overlay_piece-requires-clause-out : goal.overlay_piece-requires-clause-out
-overlay_piece-requires-clause-out c = c.pieces.invariant.shown.count ∙ c.requires.frame ∙ c.requires.pixels
+overlay_piece-requires-clause-out c = c.pieces.invariant.shown.count ∙ c.requires.look.frame ∙ c.requires.look.pixels
 
 pub pieces-preserved : goal.pieces-preserved
 pieces-preserved c =
@@ -29,7 +29,7 @@ pieces-preserved c =
           c.pieces.frame c.overlay_piece.new.out
           i.less e.count e.came (λ k out. refl) i.shown
           (piece_shown s n c.in-Some.piece.rect (shown_at c.args.look.now c.args.raw.now) c.pieces.frame
-          c.overlay_piece.new.out c.requires.pixels c.overlay_piece.ensures.pixels c.overlay_piece.ensures.length);
+          c.overlay_piece.new.out c.requires.look.pixels c.overlay_piece.ensures.pixels c.overlay_piece.ensures.length);
     }
 
 pub returns-clause-shown : goal.returns-clause-shown

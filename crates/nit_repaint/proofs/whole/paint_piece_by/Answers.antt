@@ -2,20 +2,17 @@ use Rattle.nit_repaint.proofs.Lemmas.{get_or_default, left_at, listed_painted, s
 use Rattle.nit_repaint.proofs.Lemmas.{slice_index_or}
 use Rattle.nit_repaint.proofs.whole.paint_piece_by.Goals as goal
 
-pub returns-in-Some-clause-painted : goal.returns-in-Some-clause-painted
-returns-in-Some-clause-painted g c =
+pub returns-in-Some : goal.returns-in-Some
+returns-in-Some g c =
     let gs = c.args.owns.now in
     let t = c.session_of-session.result in
     let this = slice_index_or gs t c.index-owns-session.result in
-    let within = (c.requires.held t c.session_of-session.ensures.within).0 in
-    listed_painted g.C.Glass.sight gs this c.load_view.new.glass t (get_or_default gs t _ _ within) within
-    _ _ _ _ _ _ (shown_session c.args.stack.now c.args.piece.now c.in-Some.v t c.in-Some.is
-    c.session_of-session.ensures.session) c.load_view.ensures.painted
-
-pub returns-in-Some-clause-rests : goal.returns-in-Some-clause-rests
-returns-in-Some-clause-rests g c =
-    let gs = c.args.owns.now in
-    let t = c.session_of-session.result in
-    let within = (c.requires.held t c.session_of-session.ensures.within).0 in
-    left_at g.C.Glass.rest gs (slice_index_or gs t c.index-owns-session.result) c.load_view.new.glass t
-    (get_or_default gs t _ _ within) within c.load_view.ensures.rest
+    let within = (c.requires.glasses.held t c.session_of-session.ensures.within).0 in
+    record {
+      painted = listed_painted g.C.Glass.sight gs this c.load_view.new.glass t (get_or_default gs t _ _ within) within
+          _ _ _ _ _ _ (shown_session c.args.stack.now c.args.piece.now c.in-Some.v t c.in-Some.is
+          c.session_of-session.ensures.session) c.load_view.ensures.painted;
+      count = c.load_view.ensures.count;
+      rests = left_at g.C.Glass.rest gs this c.load_view.new.glass t (get_or_default gs t _ _ within) within
+          c.load_view.ensures.rest;
+    }

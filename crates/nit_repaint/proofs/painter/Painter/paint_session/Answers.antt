@@ -1,27 +1,24 @@
 use Rattle.std.proofs.Common.{◌&&◌}
 use Rattle.nit_repaint.proofs.Basics.{pixel, repainted_none}
-use Rattle.nit_repaint.proofs.Lemmas.{Point, all_wanted, arith, as_many, comes_as, is_slot}
-use Rattle.nit_repaint.proofs.Lemmas.{is_wanted, none_wanted, one_wanted, other_count, owner_passes}
-use Rattle.nit_repaint.proofs.Lemmas.{refl, seat_here, seat_there, source_of_number, still_held}
-use Rattle.nit_repaint.proofs.Lemmas.{◌∙◌}
+use Rattle.nit_repaint.proofs.Lemmas.{Point, all_wanted, arith, as_many, comes_as, cutter_painted}
+use Rattle.nit_repaint.proofs.Lemmas.{is_slot, is_wanted, more_painted, none_wanted}
+use Rattle.nit_repaint.proofs.Lemmas.{nothing_painted, one_wanted, other_count, owner_passes}
+use Rattle.nit_repaint.proofs.Lemmas.{seat_here, seat_there, source_of_number, still_held, ◌∙◌}
 use Rattle.nit_repaint.proofs.painter.Painter.paint_session.Goals as goal
 
 pub views-init : goal.views-init
-views-init g c = record {
-  room = refl;
-  painted = none_wanted (source_of_number c.args.stack.now) c.args.stack.now _ c.args.of c.args.part.now _
-      c.args.self.now.raw.items;
-  count = refl;
-  many = refl;
-  idle = refl;
-  rest = refl;
-  rests = refl;
-}
+views-init g c = nothing_painted _ _ _ _ _ _ _ _ _ (none_wanted (source_of_number c.args.stack.now) c.args.stack.now _
+    c.args.of c.args.part.now _ c.args.self.now.raw.items)
 
-pub paint_to_come-requires-clause-held : goal.paint_to_come-requires-clause-held
-paint_to_come-requires-clause-held g c =
-    still_held c.args.stack.now _ _ _ _ c.views.invariant.painted.loads c.views.invariant.many
-    c.views.invariant.painted.sights c.requires.held
+pub paint_to_come-requires-clause-painter : goal.paint_to_come-requires-clause-painter
+paint_to_come-requires-clause-painter g c =
+    let v = c.views.invariant in
+    record {
+      pixels = v.count ∙ c.requires.pixels;
+      held = still_held c.args.stack.now _ _ _ _ v.painted.loads
+          (as_many g.G.Glass.rest c.views.self.glasses.items c.args.self.now.glasses.items v.rests)
+          v.painted.sights c.requires.held;
+    }
 
 pub views-preserved : goal.views-preserved
 views-preserved g c =
@@ -29,41 +26,27 @@ views-preserved g c =
     let v = c.views.invariant in
     let e = c.paint_to_come.ensures in
     let x = seat_there s.views c.views.i (omega (arith, c.views-test.true, c.len-views.ensures.count)) in
-    record {
-      room = e.room ∙ c.begin_seat-is_of_session.ensures.room ∙ v.room;
-      painted = one_wanted (source_of_number s) s _ c.args.of c.args.part.now c.views.i x.0 _ _ _ _ _ _
-          c.len-views.ensures.standing.slots (seat_here s.views c.views.i x.0 c.len-views.ensures.standing.slots x.1)
-          x.1 v.painted
-          (other_count _ _ _ _ _ _ _ _ v.count
-          (comes_as _ s c.begin_seat-is_of_session.new.cutter
-          (λ (p : Point). owner_passes (is_slot x.0.slot) s p && is_wanted c.args.of c.args.part.now s p x.0) _ _ _
-          _ _ (v.count ∙ c.requires.pixels)
-          (c.begin_seat-is_of_session.ensures.to_come c.if-not-is_of_session.false x.0 x.1) e.painted));
-      count = e.count ∙ v.count;
-      many = as_many g.G.Glass.rest c.paint_to_come.new.self.glasses.items c.views.self.glasses.items e.rests ∙ v.many;
-      idle = e.idle ∙ v.idle;
-      rest = e.rest ∙ v.rest;
-      rests = e.rests ∙ v.rests;
-    }
+    more_painted _ _ _ _ _ _ _ _ _ _ _ _ _ _ _ _ v c.begin_seat-is_of_session.ensures.room e
+    (one_wanted (source_of_number s) s _ c.args.of c.args.part.now c.views.i x.0 _ _ _ _ _ _
+    c.len-views.ensures.standing.slots (seat_here s.views c.views.i x.0 c.len-views.ensures.standing.slots x.1)
+    x.1 v.painted
+    (other_count _ _ _ _ _ _ _ _ v.count
+    (comes_as _ s c.begin_seat-is_of_session.new.cutter
+    (λ (p : Point). owner_passes (is_slot x.0.slot) s p && is_wanted c.args.of c.args.part.now s p x.0) _ _ _
+    _ _ (v.count ∙ c.requires.pixels)
+    (c.begin_seat-is_of_session.ensures.to_come c.if-not-is_of_session.false x.0 x.1) e.painted)))
 
 pub views-preserved-then-not-is_of_session : goal.views-preserved-then-not-is_of_session
 views-preserved-then-not-is_of_session g c =
     let s = c.args.stack.now in
     let v = c.views.invariant in
     let x = seat_there s.views c.views.i (omega (arith, c.views-test.true, c.len-views.ensures.count)) in
-    record {
-      room = c.begin_seat-is_of_session.ensures.room ∙ v.room;
-      painted = one_wanted (source_of_number s) s _ c.args.of c.args.part.now c.views.i x.0 _ _ _ _ _ _
-          c.len-views.ensures.standing.slots (seat_here s.views c.views.i x.0 c.len-views.ensures.standing.slots x.1)
-          x.1 v.painted
-          (repainted_none _ _ _ _ _ (λ k l. c.begin_seat-is_of_session.ensures.none c.if-not-is_of_session.true x.0 x.1
-          (pixel s.width k)));
-      count = v.count;
-      many = v.many;
-      idle = v.idle;
-      rest = v.rest;
-      rests = v.rests;
-    }
+    cutter_painted _ _ _ _ _ _ _ _ _ _ _ _ _ v c.begin_seat-is_of_session.ensures.room
+    (one_wanted (source_of_number s) s _ c.args.of c.args.part.now c.views.i x.0 _ _ _ _ _ _
+    c.len-views.ensures.standing.slots (seat_here s.views c.views.i x.0 c.len-views.ensures.standing.slots x.1)
+    x.1 v.painted
+    (repainted_none _ _ _ _ _ (λ k l. c.begin_seat-is_of_session.ensures.none c.if-not-is_of_session.true x.0 x.1
+    (pixel s.width k))))
 
 pub returns-clause-painted : goal.returns-clause-painted
 returns-clause-painted g c =

@@ -1,53 +1,60 @@
-use Rattle.nit_repaint.proofs.Lemmas.{all_came, arith, as_many, none_came, one_came, other_count}
-use Rattle.nit_repaint.proofs.Lemmas.{refl, screen_of, source_of_number, still_held, ◌∙◌}
+use Rattle.nit_repaint.proofs.Lemmas.{all_came, arith, as_many, more_painted, none_came}
+use Rattle.nit_repaint.proofs.Lemmas.{nothing_painted, one_came, other_count, screen_of}
+use Rattle.nit_repaint.proofs.Lemmas.{source_of_number, still_held, ◌∙◌}
 use Rattle.nit_repaint.proofs.painter.Painter.paint_to_come.Goals as goal
 
 pub pieces-init : goal.pieces-init
 pieces-init g c = record {
   fits = c.requires.fits;
-  room = refl;
   less = λ p. omega arith;
-  painted = none_came (source_of_number c.args.stack.now) c.args.stack.now _ c.args.self.now.cutter _
-      c.args.self.now.raw.items;
-  count = refl;
-  many = refl;
-  idle = refl;
-  rest = refl;
-  rests = refl;
+  marked = nothing_painted _ _ _ _ _ _ _ _ _ (none_came (source_of_number c.args.stack.now) c.args.stack.now _
+      c.args.self.now.cutter _ c.args.self.now.raw.items);
 }
+
+pub paint_piece-requires-clause-painter : goal.paint_piece-requires-clause-painter
+paint_piece-requires-clause-painter g c =
+    let i = c.pieces.invariant.marked in
+    record {
+      pixels = i.count ∙ c.requires.painter.pixels;
+      held = still_held c.args.stack.now _ _ _ _ i.painted.loads
+          (as_many g.G.Glass.rest c.pieces.self.glasses.items c.args.self.now.glasses.items i.rests)
+          i.painted.sights c.requires.painter.held;
+    }
 
 pub paint_piece-requires-clause-piece : goal.paint_piece-requires-clause-piece
 paint_piece-requires-clause-piece g c =
     let e = c.in-Some.ensures in
-    c.pieces_of_owners.ensures c.args.stack.now c.in-Some.piece
-    (screen_of c.size-screen.result c.args.stack.now c.size-screen.ensures.size c.size-screen.ensures.range)
-    e.pixels e.on_screen e.owner
-
-pub paint_piece-requires-clause-held : goal.paint_piece-requires-clause-held
-paint_piece-requires-clause-held g c =
-    still_held c.args.stack.now _ _ _ _ c.pieces.invariant.painted.loads c.pieces.invariant.many
-    c.pieces.invariant.painted.sights c.requires.held
+    record {
+      piece = c.pieces_of_owners.ensures c.args.stack.now c.in-Some.piece
+          (screen_of c.size-screen.result c.args.stack.now c.size-screen.ensures.size c.size-screen.ensures.range)
+          e.pixels e.on_screen e.owner;
+      stands = e.stands;
+    }
 
 pub pieces-preserved : goal.pieces-preserved
 pieces-preserved g c =
     let i = c.pieces.invariant in
     let e = c.in-Some.ensures in
     let p' = c.paint_piece.ensures in
-    rw p'.cutter (record {
-      fits = e.fits;
-      room = e.room ∙ i.room;
-      less = λ p. let was = i.less p in let now = e.count p in omega arith;
-      painted = one_came (source_of_number c.args.stack.now) c.args.stack.now _ c.args.self.now.cutter
+    record {
+      fits = rw p'.cutter e.fits;
+      less = rw p'.cutter (λ p. let was = i.less p in let now = e.count p in omega arith);
+      marked = more_painted _ _ _ _ _ _ _ _ _ _ _ _ _ _ _ _ i.marked e.room p'.marked
+          (rw p'.cutter (one_came (source_of_number c.args.stack.now) c.args.stack.now _ c.args.self.now.cutter
           c.pieces.self.cutter c.next.new.self c.in-Some.piece.rect _ _ _ _ _ _
-          c.requires.fits.once i.less e.count e.came i.painted (other_count _ _ _ _ _ _ _ _ i.count p'.painted);
-      count = p'.count ∙ i.count;
-      many = as_many g.G.Glass.rest c.paint_piece.new.self.glasses.items c.pieces.self.glasses.items p'.rests ∙ i.many;
-      idle = p'.idle ∙ i.idle;
-      rest = p'.rest ∙ i.rest;
-      rests = p'.rests ∙ i.rests;
-    })
+          c.requires.fits.once i.less e.count e.came i.marked.painted
+          (other_count _ _ _ _ _ _ _ _ i.marked.count p'.marked.painted)));
+    }
 
-pub returns-clause-painted : goal.returns-clause-painted
-returns-clause-painted g c =
-    all_came (source_of_number c.args.stack.now) c.args.stack.now _ c.args.self.now.cutter c.pieces.self.cutter _ _ _ _
-    c.in_default.ensures.came c.pieces.invariant.painted
+pub returns : goal.returns
+returns g c =
+    let i = c.pieces.invariant.marked in
+    record {
+      painted = all_came (source_of_number c.args.stack.now) c.args.stack.now _ c.args.self.now.cutter
+          c.pieces.self.cutter _ _ _ _ c.in_default.ensures.came i.painted;
+      count = i.count;
+      room = c.in_default.ensures.room ∙ i.room;
+      idle = i.idle;
+      rest_of_own = i.rest_of_own;
+      rests = i.rests;
+    }

@@ -1,6 +1,63 @@
-use Rattle.nit_repaint.proofs.Lemmas.{all_painted, source_of_number}
+use Rattle.nit_repaint.proofs.Lemmas.{all_came, all_painted, arith, none_came, one_came}
+use Rattle.nit_repaint.proofs.Lemmas.{other_count, refl, screen_of, source_of_number, still_held}
+use Rattle.nit_repaint.proofs.Lemmas.{◌∙◌}
 use Rattle.nit_repaint.proofs.painter.Painter.paint_whole.Goals as goal
 
+pub pieces-init : goal.pieces-init
+pieces-init g c = record {
+  fits = c.begin_all.ensures.fits;
+  room = refl;
+  less = λ p. omega arith;
+  glasses = refl;
+  marked = record {
+    painted = none_came (source_of_number c.args.stack.now) c.args.stack.now _ c.begin_all.new.self _
+        c.args.self.now.raw.items;
+    count = refl;
+    rests = refl;
+  };
+}
+
+pub paint_piece_by-requires-clause-glasses : goal.paint_piece_by-requires-clause-glasses
+paint_piece_by-requires-clause-glasses g c =
+    let i = c.pieces.invariant.marked in
+    record {
+      pixels = i.count ∙ c.requires.pixels;
+      held = still_held c.args.stack.now _ _ _ _ i.painted.loads c.pieces.auto.owns i.painted.sights c.requires.held;
+    }
+
+pub paint_piece_by-requires-clause-piece : goal.paint_piece_by-requires-clause-piece
+paint_piece_by-requires-clause-piece g c =
+    let e = c.in-Some.ensures in
+    record {
+      piece = c.pieces_of_owners.ensures c.args.stack.now c.in-Some.piece
+          (screen_of c.size-screen.result c.args.stack.now c.size-screen.ensures.size c.size-screen.ensures.range)
+          e.pixels e.on_screen e.owner;
+      stands = e.stands;
+    }
+
+pub pieces-preserved : goal.pieces-preserved
+pieces-preserved g c =
+    let i = c.pieces.invariant in
+    let e = c.in-Some.ensures in
+    let p' = c.paint_piece_by.ensures in
+    record {
+      fits = e.fits;
+      room = e.room ∙ i.room;
+      less = λ p. let was = i.less p in let now = e.count p in omega arith;
+      glasses = i.glasses;
+      marked = record {
+        painted = one_came (source_of_number c.args.stack.now) c.args.stack.now _ c.begin_all.new.self
+            c.pieces.self.cutter c.next.new.self c.in-Some.piece.rect _ _ _ _ _ _
+            c.begin_all.ensures.fits.once i.less e.count e.came i.marked.painted
+            (other_count _ _ _ _ _ _ _ _ i.marked.count p'.painted);
+        count = p'.count ∙ i.marked.count;
+        rests = p'.rests ∙ i.marked.rests;
+      };
+    }
+
 pub returns-clause-painted : goal.returns-clause-painted
-returns-clause-painted g c = all_painted (source_of_number c.args.stack.now) c.args.stack.now c.begin_all.new.self _ _ _
-    _ _ c.requires.pixels c.begin_all.ensures.to_come c.paint_by.ensures.painted
+returns-clause-painted g c =
+    all_painted (source_of_number c.args.stack.now) c.args.stack.now c.begin_all.new.self _ _ _ _ _ c.requires.pixels
+    c.begin_all.ensures.to_come
+    (all_came (source_of_number c.args.stack.now) c.args.stack.now _ c.begin_all.new.self c.pieces.self.cutter _ _ _ _
+    c.in_default.ensures.came c.pieces.invariant.marked.painted)
