@@ -16,7 +16,10 @@ pub use Rattle.nit_repaint.proofs.ForCallers.{stays_clean, taken_held, taken_mor
 pub use Rattle.nit_repaint.proofs.ForCallers.{without_changed, without_moved, without_none}
 pub use Rattle.nit_screen.specs.Terms.{Above, Agrees, AllByRecursion, AreBelowNext, AreInked}
 pub use Rattle.nit_screen.specs.Terms.{AreLabelled, AreLabelsApart, AreLive, AreRaw, AreSet, Back}
-pub use Rattle.nit_screen.specs.Terms.{Bare, Black, Buffer, Call, CanShow, Close, Configuration}
+pub use Rattle.nit_screen.specs.Terms.{Bare, Black, Buffer, Call, CanAccept, CanPaint, CanServe}
+pub use Rattle.nit_screen.specs.Terms.{CanShow, CanShowBy, Close, Configuration, IsCallShown}
+pub use Rattle.nit_screen.specs.Terms.{ArePixels, IsPartShown, IsRepaint, IsScreen, IsShown}
+pub use Rattle.nit_screen.specs.Terms.{LoadsNothing}
 pub use Rattle.nit_screen.specs.Terms.{Delivery, Destroy, Device, Entry, Event, Flat, Front}
 pub use Rattle.nit_screen.specs.Terms.{HaveOwnNames, HoldBuffers, InputState, IsAmongLoads, IsClean}
 pub use Rattle.nit_screen.specs.Terms.{IsCopied, IsForgottenIfKilled, IsFrameOf, IsGlass, IsGlassOf}
@@ -59,6 +62,7 @@ pub use Rattle.nit_screen.specs.Terms.{view_text, view_word, views_of, wanted, w
 pub use Rattle.nit_screen.specs.Terms.{with_ended, with_new, with_opened, with_reopened}
 pub use Rattle.nit_screen.specs.Terms.{with_routed, without, without_session, without_view}
 pub use Rattle.nit_screen.specs.Terms.{without_views, word_count, ℕ, ◌orelse◌}
+pub use Rattle.nit_screen.specs.Below.{Painter, Pixels}
 pub use Rattle.nit_server.proofs.ForCallers.{All-changed, All-put, IsPutIn, IsSpared, NoPair-map}
 pub use Rattle.nit_server.proofs.ForCallers.{NoPair-put, NoPair-without, client_kept, closed}
 pub use Rattle.nit_server.proofs.ForCallers.{find-alike, find-changed, find-moved, find-put_failing}

@@ -1,6 +1,7 @@
 -- A kept frame stays the frame of the state and of the raw words.
 use Rattle.nit_screen.proofs.Basics.{Above, Agrees, All-replicate, AreSet, Back, Bare, Black}
-use Rattle.nit_screen.proofs.Basics.{Buffer, Call, CanShow, Close, Configuration, Delivery, Destroy}
+use Rattle.nit_screen.proofs.Basics.{Buffer, Call, CanShowBy, Close, Configuration, Delivery}
+use Rattle.nit_screen.proofs.Basics.{Destroy, Pixels}
 use Rattle.nit_screen.proofs.Basics.{Device, Flat, Front, InputState, IsCopied, IsPartOf, IsQuiet}
 use Rattle.nit_screen.proofs.Basics.{IsServed, IsWord, IsWordOfSource, Kill, Mode, Offset, Painted}
 use Rattle.nit_screen.proofs.Basics.{PixelSource, Place, Point, Rectangle, Refresh, Reply, Scenery}
@@ -20,6 +21,7 @@ use Rattle.std.proofs.Common.{length, map, refl, replicate, subst, sym, true, �
 use Rattle.std.proofs.Common.{◌||◌, ◌∙◌, ◌≡◌}
 use Rattle.nit_events.specs.declared.entry.Entry.TheVariants as entry
 use Rattle.nit_stack.specs.declared.view.View.{View as ViewOf}
+use Rattle.nit_repaint.specs.declared.painter.Painter.{Painter}
 use Rattle.nit_screen.proofs.CleanCalls.{call_is_clean, stack_accepted}
 use Rattle.nit_screen.proofs.CallAnswers.{unrefused_reply}
 
@@ -318,11 +320,11 @@ kept_part before after' sid part call r glasses glasses' raw raw' old new chosen
 -- ---- what a frame is made by
 
 -- it stays where the server keeps its configuration and its slots, and the words of the pixels were loaded
-pub can_still : (s s' : ServerModel) (raw raw' : List ℕ) (reached most_ room room' : ℕ) (labels : List (List ℕ))
-    (places bar : ℕ) → s'.config ≡ s.config → s'.stack.most ≡ s.stack.most
-    → length raw' ≡ length raw → All IsWord raw' → room' ≡ room → CanShow s raw reached most_ room labels places bar
-    → CanShow s' raw' reached most_ room' labels places bar
-can_still s s' raw raw' reached most_ room room' labels places bar config most long words room_ h = record {
+pub can_still : {G : Type 0} (s s' : ServerModel) (p : Pixels G) (painter : Painter G) → s'.config ≡ s.config
+    → s'.stack.most ≡ s.stack.most → length painter.raw.items ≡ length p.painter.raw.items
+    → All IsWord painter.raw.items → painter.cutter.room ≡ p.painter.cutter.room → CanShowBy s p
+    → CanShowBy s' (record p { painter = painter })
+can_still s s' p painter config most long words room_ h = record {
   words = words;
   pixels = long ∙ h.pixels ∙ area;
   few = let m = h.few in omega (arith, m, area);
@@ -336,6 +338,11 @@ can_still s s' raw raw' reached most_ room room' labels places bar config most l
   where
     area : s.config.width * s.config.height ≡ s'.config.width * s'.config.height
     area = ap (λ (c : Configuration). c.width * c.height) (sym config)
+
+-- and where nothing was loaded
+pub can_stay : {G : Type 0} (s s' : ServerModel) (p : Pixels G) → s'.config ≡ s.config
+    → s'.stack.most ≡ s.stack.most → CanShowBy s p → CanShowBy s' p
+can_stay s s' p config most h = can_still s s' p p.painter config most refl h.words refl h
 
 -- a device event that kills nobody changes the input and queues alone
 pub input_scenery : (s mid now : ServerModel) (dev : Device) (ds : List Delivery) → mid ≡ with_routed dev s

@@ -1,8 +1,10 @@
 pub mod BufferSizes
 pub mod CallAnswers
+pub mod CallsShown
 pub mod CleanCalls
 pub mod CleanInput
 pub mod CleanPixels
+pub mod CleanShown
 pub mod FrameLabelLemmas
 pub mod Handles
 pub mod ViewNameLemmas
@@ -15,6 +17,7 @@ pub mod Marks
 pub mod OneList
 pub mod RawWithBar
 pub mod OneViewChanges
+pub mod Repaints
 pub mod QuietCalls
 pub mod ScreenLemmas
 pub mod SessionEnds

@@ -202,18 +202,6 @@ module _ (before after' : ServerModel) (sid handle : ℕ) (v : ViewRef) (call : 
         (pixel before.config.width k)) (ap is_accepted s.replied
         ∙ unrefused_reply (session (state_of before) sid) call none))
 
-    pub painted_by_change : (n : ℕ) (glasses glasses' : ℕ → Sight) (raw raw' : List ℕ)
-        → n ≡ pixel_count (state_of before)
-        → Repainted (pieces.source_of_number after'.stack)
-        (λ k. slot_owns_either v.0 before.stack after'.stack (pixel after'.stack.width k)) n glasses glasses' raw raw'
-        → Painted (state_of before) (entry.Call sid call r) (state_of after') glasses glasses' raw raw'
-    painted_by_change n glasses glasses' raw raw' count painted =
-        subst (λ (c : ℕ). Repainted (source_at (state_of after'))
-        (λ k. dirty (state_of before) (entry.Call sid call r) (state_of after') (pixel before.config.width k)) c
-        glasses glasses' raw raw') count
-        (repainted_same _ _ _ _ n glasses glasses glasses' glasses' raw raw' (λ k l. dirty_by_change k)
-        (λ k l m. source_of_number after' ha k) (λ t. refl) (λ t. refl) painted)
-
 -- a view that has a name stands in the stack
 pub named_stands : (k sid handle : ℕ) (xs : List SlotView) → IsNamedBy k sid handle xs → has_slot k xs ≡ true
 named_stands k sid handle xs by = go (slot_view_in k xs) refl by.name

@@ -44,14 +44,3 @@ module _ (before after' : ServerModel) (sid : ℕ) (part : Option Rectangle) (ca
       ∙ sym (ap (λ (b : Bool). b && dirty_by_call sid call (state_of before) (state_of after')
       (pixel before.config.width k)) (ap is_accepted s.replied
       ∙ unrefused_reply (session (state_of before) sid) call none))
-
-  pub painted_by_views : (n : ℕ) (glasses glasses' : ℕ → Sight) (raw raw' : List ℕ) → n ≡ pixel_count (state_of before)
-      → Repainted (pieces.source_of_number after'.stack)
-      (λ k. wanted sid part after'.stack (pixel after'.stack.width k)) n glasses glasses' raw raw'
-      → Painted (state_of before) (entry.Call sid call r) (state_of after') glasses glasses' raw raw'
-  painted_by_views n glasses glasses' raw raw' count painted =
-      subst (λ (c : ℕ). Repainted (source_at (state_of after'))
-      (λ k. dirty (state_of before) (entry.Call sid call r) (state_of after') (pixel before.config.width k)) c
-      glasses glasses' raw raw') count
-      (repainted_same _ _ _ _ n glasses glasses glasses' glasses' raw raw' (λ k l. dirty_by_views k)
-      (λ k l m. source_of_number after' ha k) (λ t. refl) (λ t. refl) painted)

@@ -50,6 +50,7 @@ pub use Rattle.nit_repaint.specs.PixelOwners.{is_word_in, owner_passes, source_i
 pub use Rattle.nit_repaint.specs.ViewChange.{IsViewChange, slot_owns_either}
 pub use Rattle.nit_repaint.specs.ViewRemoval.{IsRemovedFrom, uncovered, without_session}
 pub use Rattle.nit_repaint.specs.WantedPixels.{wanted}
+pub use Rattle.nit_repaint.specs.declared.painter.Painter.{Painter}
 pub use Rattle.nit_screen.specs.declared.screen.pixels.Pixels.{Pixels}
 pub use Rattle.nit_server.specs.Seats.{with_opened, with_reopened}
 pub use Rattle.nit_server.specs.Server.{IsServed, IsServer, ServerModel, size_of_buffer, state_of}

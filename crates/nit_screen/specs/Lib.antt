@@ -18,9 +18,11 @@ pub mod CallKinds
 pub mod DirtyPixels
 pub mod FrameLabels
 pub mod LabelSlots
+pub mod Painting
 pub mod Pixels
 pub mod RawWords
 pub mod Screen
+pub mod ServedCalls
 pub mod ViewNames
 pub mod StateScenery
 pub mod Below

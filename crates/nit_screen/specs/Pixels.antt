@@ -2,7 +2,7 @@
 use Rattle.std.specs.Prelude.{◌≡◌, ℕ, ◌*◌, ◌<◌, ◌≤◌, ◌++◌, Bool, true, false, All, IsTrue, List}
 use Rattle.std.specs.Prelude.{drop, length, map, replicate, slice_index, vec_capacity}
 use Rattle.std.specs.Prelude.{if◌then◌else◌}
-use Rattle.nit_screen.specs.Below.{IsWord, Pixels, ServerModel, State, bar_rows, bare_word}
+use Rattle.nit_screen.specs.Below.{AreSet, IsWord, Pixels, ServerModel, State, bar_rows, bare_word}
 use Rattle.nit_screen.specs.Below.{draws_labels, frame, in_bar, pixel, shown, state_of}
 use Rattle.nit_screen.specs.StateScenery.{scenery_of}
 
@@ -23,10 +23,8 @@ abbrev pub kept_frame : {G : Type 0} → Pixels G → List ℕ
 kept_frame p = if p.is_apart then p.frame.items else p.painter.raw.items
 
 -- A frame can be made: a word below 2^24 for each pixel, room for as many words of a frame apart,
--- of
--- which some are there, room to cut out every view, the label of each session, room for the place
--- of
--- each view's label, and the number of pixels that the bar has.
+-- of which some are there, room to cut out every view, the label of each session, room for the
+-- place of each view's label, and the number of pixels that the bar has.
 pub record CanShow (s : ServerModel) (raw : List ℕ) (reached most room : ℕ)
     (labels : List (List ℕ)) (places first : ℕ) : Type 0 where
   pub words : All IsWord raw
@@ -65,3 +63,21 @@ IsFrameOf s p = kept_frame p ≡ frame (scenery_of (state_of s)) (raw_of p)
 abbrev pub ArePixels : {G : Type 0} → ServerModel → Pixels G → Type 0
 ArePixels s p =
     CanShowBy s p × IsFrameOf s p × (IsTrue (draws_labels s.input.mode) → p.is_apart ≡ true)
+
+-- All is shown: the frame is the one of the server's state and of the raw words. These are as they
+-- were, and so are the glasses.
+pub record IsShown {G : Type 0} (s : ServerModel) (before now : Pixels G) : Type 0 where
+  pub pixels : ArePixels s now
+  pub raw : raw_of now ≡ raw_of before
+  pub glasses : now.painter.glasses ≡ before.painter.glasses
+
+-- The chosen pixels of a frame apart were set to what is shown there, and nothing else changed that
+-- a frame is made by.
+pub record IsPartShown {G : Type 0} (s : ServerModel) (chosen : ℕ → Bool)
+    (before now : Pixels G) : Type 0 where
+  pub can : CanShowBy s now
+  pub raw : now.painter.raw ≡ before.painter.raw
+  pub glasses : now.painter.glasses ≡ before.painter.glasses
+  pub kept : (now.is_apart ≡ before.is_apart) × (now.bar ≡ before.bar)
+  pub shown : AreSet chosen (length now.painter.raw.items)
+      (shown_by (state_of s) now.painter.raw.items) before.frame.items now.frame.items

@@ -7,7 +7,6 @@ ghost use Rattle.nit_events.specs.declared.entry.Entry.TheVariants as entry;
 ghost use Rattle.nit_events.specs.declared.event.Status.TheVariants as status;
 
 use crate::screen::Screen;
-use crate::screen::pixels::show_input;
 use crate::screen::sessions::kill_session;
 use nit_events::{Device, Routed};
 use nit_journal::laws::kills_stand_alone;
@@ -43,7 +42,7 @@ impl<G: Glass + Drop> Screen<G> {
             return routed;
         }
         self.server.tell_all(&routed);
-        show_input(&self.server, mode, focus, &mut self.pixels);
+        self.pixels.show_input(&self.server, mode, focus);
         routed
     }
 }

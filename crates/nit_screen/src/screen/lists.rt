@@ -1,8 +1,8 @@
 //! The raw words and the frame, in two lists or in one.
 
 ghost use Rattle.std.specs.Prelude.{◌≡◌, ◌≤◌, false, length, vec_capacity};
-ghost use Rattle.nit_screen.specs.Terms.{ArePixels, AreRaw, Flat, raw_in, raw_of, state_of};
-ghost use Rattle.nit_screen.specs.Terms.{unbarred};
+ghost use Rattle.nit_screen.specs.Terms.{ArePixels, AreRaw, Flat, IsShown, raw_in, raw_of};
+ghost use Rattle.nit_screen.specs.Terms.{state_of, unbarred};
 
 use crate::screen::pixels::Pixels;
 use nit_events::Mode;
@@ -43,35 +43,22 @@ pub(crate) fn take_bar_off(raw: &mut Vec<u32>, is_apart: bool, bar: usize)
     bare_first(raw.as_mut_slice(), bar);
 }
 
-/// In mode Flat, makes the frame the one list of which both are seen.
-pub(crate) fn make_one<G: Drop>(server: &Server, pixels: &mut Pixels<G>)
-    requires pixels { ArePixels server.now pixels.old }
-    requires raw { AreRaw (state_of server.now) (raw_of pixels.old) }
-    ensures pixels { ArePixels server.now pixels.new }
-    ensures raw { raw_of pixels.new ≡ raw_of pixels.old }
-    ensures glasses { pixels.new.painter.glasses ≡ pixels.old.painter.glasses }
-    ensures one { server.now.input.mode ≡ Flat → pixels.new.is_apart ≡ false }
-{
-    match server.mode() {
-        Mode::Flat => join(server, pixels),
-        _ => {}
+impl<G: Drop> Pixels<G> {
+    /// In mode Flat, makes the frame the one list of which both are seen.
+    pub(crate) fn make_one(&mut self, server: &Server)
+        requires pixels { ArePixels server.now self.old }
+        requires raw { AreRaw (state_of server.now) (raw_of self.old) }
+        ensures shown { IsShown server.now self.old self.new }
+        ensures one { server.now.input.mode ≡ Flat → self.new.is_apart ≡ false }
+    {
+        server.facts();
+        if !self.is_apart {
+            return;
+        }
+        if server.mode() != Mode::Flat {
+            return;
+        }
+        swap(&mut self.painter.raw, &mut self.frame);
+        self.is_apart = false;
     }
-}
-
-/// The same, where the mode is Flat.
-fn join<G: Drop>(server: &Server, pixels: &mut Pixels<G>)
-    requires flat { server.now.input.mode ≡ Flat }
-    requires pixels { ArePixels server.now pixels.old }
-    requires raw { AreRaw (state_of server.now) (raw_of pixels.old) }
-    ensures pixels { ArePixels server.now pixels.new }
-    ensures raw { raw_of pixels.new ≡ raw_of pixels.old }
-    ensures glasses { pixels.new.painter.glasses ≡ pixels.old.painter.glasses }
-    ensures one { pixels.new.is_apart ≡ false }
-{
-    server.facts();
-    if !pixels.is_apart {
-        return;
-    }
-    swap(&mut pixels.painter.raw, &mut pixels.frame);
-    pixels.is_apart = false;
 }

@@ -7,7 +7,7 @@ ghost use Rattle.nit_screen.specs.Terms.{first_state, glass_in, most_slots, stat
 
 use crate::screen::Screen;
 use crate::screen::labels::Labels;
-use crate::screen::pixels::{Pixels, show_again};
+use crate::screen::pixels::Pixels;
 use nit_config::Config;
 use nit_damage::Cutter;
 use nit_glyph::Label;
@@ -35,7 +35,7 @@ impl<G: Glass + Drop> Screen<G> {
         let server = Server::new(alloc, config)?;
         server.facts();
         let mut pixels = bare_pixels(alloc, config, glasses, bar_pixels(&server))?;
-        show_again(&server, &mut pixels);
+        pixels.show_again(&server);
         Ok(Screen { server, pixels })
     }
 }

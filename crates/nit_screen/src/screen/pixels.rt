@@ -2,10 +2,9 @@
 
 ghost use Rattle.std.specs.Prelude.{◌≡◌, ℕ, ◌*◌, ◌<◌, ◌≤◌, All, IsTrue, Option, false, length, map};
 ghost use Rattle.std.specs.Prelude.{nat_lt, slice_index, true, if◌then◌else◌};
-ghost use Rattle.nit_screen.specs.Terms.{ArePixels, AreSet, CanShowBy, Flat, IsServer, IsWord};
+ghost use Rattle.nit_screen.specs.Terms.{CanShowBy, Flat, IsPartShown, IsServer, IsShown, IsWord};
 ghost use Rattle.nit_screen.specs.Terms.{ShowsBelow, bar_rows, bar_word, draws_labels, frame};
-ghost use Rattle.nit_screen.specs.Terms.{kept_frame, pixel, raw_of, scenery_of, shown_by, state_of};
-ghost use Rattle.nit_screen.specs.Terms.{wanted};
+ghost use Rattle.nit_screen.specs.Terms.{kept_frame, pixel, raw_of, scenery_of, state_of, wanted};
 
 use crate::screen::labels::Labels;
 use crate::screen::lists::{reach, take_bar_off};
@@ -45,6 +44,115 @@ impl<G: Drop> Pixels<G> {
             self.painter.raw.as_slice()
         }
     }
+
+    /// Makes the whole frame again, apart from the raw words.
+    pub(crate) fn redraw(&mut self, server: &Server)
+        requires { CanShowBy server.now self.old }
+        ensures { IsShown server.now self.old self.new }
+    {
+        take_bar_off(&mut self.painter.raw, self.is_apart, self.bar);
+        self.is_apart = true;
+        reach(&mut self.frame, self.painter.raw.len());
+        frame_of(
+            server,
+            &mut self.painter,
+            &mut self.labels,
+            self.frame.as_mut_slice(),
+        );
+    }
+
+    /// Shows again, after the input went on, what was shown in this mode with this focus: the bar
+    /// where the focus moved in mode Flat, the whole frame where the mode changed or the focus
+    /// moved in another mode, and nothing else.
+    pub(crate) fn show_input(&mut self, server: &Server, mode: Mode, focus: Option<u32>)
+        requires can { CanShowBy server.now self.old }
+        requires before { kept_frame self.old
+            ≡ frame (record (scenery_of (state_of server.now)) { mode = mode; focus = focus })
+            (raw_of self.old) }
+        requires apart { IsTrue (draws_labels mode) → self.old.is_apart ≡ true }
+        ensures { IsShown server.now self.old self.new }
+    {
+        if server.mode() != mode {
+            self.redraw(server);
+            return;
+        }
+        if server.focus() == focus {
+            return;
+        }
+        self.show_again(server);
+    }
+
+    /// Shows again, where one list is both and is right below the bar in mode Flat, the bar, and
+    /// else the whole frame.
+    pub(crate) fn show_again(&mut self, server: &Server)
+        requires can { CanShowBy server.now self.old }
+        requires below { server.now.input.mode ≡ Flat → self.old.is_apart ≡ false
+            → ShowsBelow (state_of server.now) self.old.painter.raw.items }
+        ensures { IsShown server.now self.old self.new }
+    {
+        if self.is_apart {
+            self.redraw(server);
+            return;
+        }
+        match server.mode() {
+            Mode::Flat => draw_bar(server, &self.labels, &mut self.painter.raw),
+            _ => self.redraw(server),
+        }
+    }
+
+    /// Shows again all, in the modes that draw labels, where views or their titles changed.
+    /// In mode Flat nothing is to be done: one list has the words that were loaded and the frame.
+    pub(crate) fn show_views(&mut self, server: &Server)
+        requires { CanShowBy server.now self.old }
+        ensures flat { server.now.input.mode ≡ Flat → self.new ≡ self.old }
+        ensures labelled { IsTrue (draws_labels server.now.input.mode)
+            → IsShown server.now self.old self.new }
+    {
+        match server.mode() {
+            Mode::Flat => {}
+            _ => self.redraw(server),
+        }
+    }
+
+    /// Shows again, in the modes that draw labels, what views of a session own and what of it shows
+    /// this part of its buffer, or all of it, once it was loaded. In mode Flat the frame stays.
+    pub(crate) fn show_part(&mut self, server: &Server, of: u32, part: &Option<Rect>)
+        requires can { CanShowBy server.now self.old }
+        requires apart { IsTrue (draws_labels server.now.input.mode)
+            → length self.old.frame.items ≡ length self.old.painter.raw.items }
+        ensures flat { server.now.input.mode ≡ Flat → self.new ≡ self.old }
+        ensures labelled { IsTrue (draws_labels server.now.input.mode) → IsPartShown server.now
+            (λ k. wanted of part.now server.now.stack (pixel server.now.stack.width k))
+            self.old self.new }
+    {
+        match server.mode() {
+            Mode::Flat => {}
+            _ => self.overlay_part(server, of, part),
+        }
+    }
+
+    /// Sets the frame to what is shown at what views of a session own, or at what of it shows a
+    /// part of its buffer. Where the labels stand is worked out first.
+    fn overlay_part(&mut self, server: &Server, of: u32, part: &Option<Rect>)
+        requires can { CanShowBy server.now self.old }
+        requires apart { length self.old.frame.items ≡ length self.old.painter.raw.items }
+        ensures { IsPartShown server.now
+            (λ k. wanted of part.now server.now.stack (pixel server.now.stack.width k))
+            self.old self.new }
+    {
+        server.facts();
+        let mode = server.mode();
+        self.labels.place(mode, server.stack());
+        let look = Look {
+            stack: server.stack(),
+            labels: self.labels.texts.as_slice(),
+            mode,
+            focus: server.focus(),
+            places: self.labels.places.as_slice(),
+        };
+        self.painter
+            .show_session(&look, of, part, self.frame.as_mut_slice());
+    }
 }
 
 /// Sets `out` to the whole frame. Where the mode draws labels, their places are worked out first.
@@ -81,85 +189,6 @@ fn frame_of<G: Drop>(
     painter.show_whole(&look, out);
 }
 
-/// Makes the whole frame again, apart from the raw words.
-pub(crate) fn redraw<G: Drop>(server: &Server, pixels: &mut Pixels<G>)
-    requires can { CanShowBy server.now pixels.old }
-    ensures pixels { ArePixels server.now pixels.new }
-    ensures raw { raw_of pixels.new ≡ raw_of pixels.old }
-    ensures glasses { pixels.new.painter.glasses ≡ pixels.old.painter.glasses }
-{
-    take_bar_off(&mut pixels.painter.raw, pixels.is_apart, pixels.bar);
-    pixels.is_apart = true;
-    reach(&mut pixels.frame, pixels.painter.raw.len());
-    frame_of(
-        server,
-        &mut pixels.painter,
-        &mut pixels.labels,
-        pixels.frame.as_mut_slice(),
-    );
-}
-
-/// Shows again, after the input went on, what was shown in this mode with this focus: the bar where
-/// the focus moved in mode Flat, the whole frame where the mode changed or the focus moved in
-/// another mode, and nothing else.
-pub(crate) fn show_input<G: Drop>(
-    server: &Server,
-    mode: Mode,
-    focus: Option<u32>,
-    pixels: &mut Pixels<G>,
-)
-    requires can { CanShowBy server.now pixels.old }
-    requires before { kept_frame pixels.old
-        ≡ frame (record (scenery_of (state_of server.now)) { mode = mode; focus = focus })
-        (raw_of pixels.old) }
-    requires apart { IsTrue (draws_labels mode) → pixels.old.is_apart ≡ true }
-    ensures pixels { ArePixels server.now pixels.new }
-    ensures raw { raw_of pixels.new ≡ raw_of pixels.old }
-    ensures glasses { pixels.new.painter.glasses ≡ pixels.old.painter.glasses }
-{
-    if server.mode() != mode {
-        redraw(server, pixels);
-        return;
-    }
-    if server.focus() == focus {
-        return;
-    }
-    show_again(server, pixels);
-}
-
-/// Shows again, where one list is both and is right below the bar in mode Flat, the bar, and else
-/// the whole frame.
-pub(crate) fn show_again<G: Drop>(server: &Server, pixels: &mut Pixels<G>)
-    requires can { CanShowBy server.now pixels.old }
-    requires below { server.now.input.mode ≡ Flat → pixels.old.is_apart ≡ false
-        → ShowsBelow (state_of server.now) pixels.old.painter.raw.items }
-    ensures pixels { ArePixels server.now pixels.new }
-    ensures raw { raw_of pixels.new ≡ raw_of pixels.old }
-    ensures glasses { pixels.new.painter.glasses ≡ pixels.old.painter.glasses }
-{
-    if pixels.is_apart {
-        redraw(server, pixels);
-        return;
-    }
-    match server.mode() {
-        Mode::Flat => redraw_bar(server, pixels),
-        _ => redraw(server, pixels),
-    }
-}
-
-/// Draws the bar into the one list of mode Flat.
-fn redraw_bar<G: Drop>(server: &Server, pixels: &mut Pixels<G>)
-    requires flat { server.now.input.mode ≡ Flat }
-    requires one { pixels.old.is_apart ≡ false }
-    requires can { CanShowBy server.now pixels.old }
-    requires below { ShowsBelow (state_of server.now) pixels.old.painter.raw.items }
-    ensures pixels { ArePixels server.now pixels.new }
-    ensures raw { raw_of pixels.new ≡ raw_of pixels.old }
-    ensures glasses { pixels.new.painter.glasses ≡ pixels.old.painter.glasses }
-{
-    draw_bar(server, &pixels.labels, &mut pixels.painter.raw);
-}
-
 /// Sets the words of the bar's pixels to what is shown there in mode Flat.
 fn draw_bar(server: &Server, labels: &Labels, words: &mut Vec<u32>)
     requires flat { server.now.input.mode ≡ Flat }
@@ -181,115 +210,4 @@ fn draw_bar(server: &Server, labels: &Labels, words: &mut Vec<u32>)
         places: labels.places.as_slice(),
     };
     bar_into(&look, words.as_mut_slice());
-}
-
-/// Shows again all, in the modes that draw labels, where views or their titles changed.
-/// In mode Flat nothing is to be done: one list has the words that were loaded and the frame.
-pub(crate) fn show_views<G: Drop>(mode: Mode, server: &Server, pixels: &mut Pixels<G>)
-    requires mode { mode ≡ server.now.input.mode }
-    requires can { CanShowBy server.now pixels.old }
-    ensures can { CanShowBy server.now pixels.new }
-    ensures raw { raw_of pixels.new ≡ raw_of pixels.old }
-    ensures glasses { pixels.new.painter.glasses ≡ pixels.old.painter.glasses }
-    ensures flat { mode ≡ Flat → pixels.new ≡ pixels.old }
-    ensures labelled { IsTrue (draws_labels mode) → ArePixels server.now pixels.new }
-{
-    match mode {
-        Mode::Flat => {}
-        _ => redraw(server, pixels),
-    }
-}
-
-/// Shows again, in the modes that draw labels, what views of a session own and what of it shows
-/// this part of its buffer, or all of it, once it was loaded. In mode Flat the frame stays.
-pub(crate) fn show_part<G: Drop>(
-    mode: Mode,
-    server: &Server,
-    of: u32,
-    part: &Option<Rect>,
-    pixels: &mut Pixels<G>,
-)
-    requires mode { mode ≡ server.now.input.mode }
-    requires can { CanShowBy server.now pixels.old }
-    requires apart { IsTrue (draws_labels mode)
-        → length pixels.old.frame.items ≡ length pixels.old.painter.raw.items }
-    ensures can { CanShowBy server.now pixels.new }
-    ensures raw { pixels.new.painter.raw ≡ pixels.old.painter.raw }
-    ensures glasses { pixels.new.painter.glasses ≡ pixels.old.painter.glasses }
-    ensures kept { (pixels.new.is_apart ≡ pixels.old.is_apart) × (pixels.new.bar ≡ pixels.old.bar) }
-    ensures flat { mode ≡ Flat → pixels.new ≡ pixels.old }
-    ensures labelled { IsTrue (draws_labels mode) → AreSet
-        (λ k. wanted of part.now server.now.stack (pixel server.now.stack.width k))
-        (length pixels.new.painter.raw.items)
-        (shown_by (state_of server.now) pixels.new.painter.raw.items)
-        pixels.old.frame.items pixels.new.frame.items }
-{
-    match mode {
-        Mode::Flat => {}
-        _ => overlay_part(server, of, part, pixels),
-    }
-}
-
-/// Sets the frame to what is shown at what views of a session own, or at what of it shows a part of
-/// its buffer.
-fn overlay_part<G: Drop>(server: &Server, of: u32, part: &Option<Rect>, pixels: &mut Pixels<G>)
-    requires can { CanShowBy server.now pixels.old }
-    requires apart { length pixels.old.frame.items ≡ length pixels.old.painter.raw.items }
-    ensures can { CanShowBy server.now pixels.new }
-    ensures raw { pixels.new.painter.raw ≡ pixels.old.painter.raw }
-    ensures glasses { pixels.new.painter.glasses ≡ pixels.old.painter.glasses }
-    ensures kept { (pixels.new.is_apart ≡ pixels.old.is_apart) × (pixels.new.bar ≡ pixels.old.bar) }
-    ensures shown { AreSet
-        (λ k. wanted of part.now server.now.stack (pixel server.now.stack.width k))
-        (length pixels.new.painter.raw.items)
-        (shown_by (state_of server.now) pixels.new.painter.raw.items)
-        pixels.old.frame.items pixels.new.frame.items }
-{
-    part_of(
-        server,
-        of,
-        part,
-        &mut pixels.painter,
-        &mut pixels.labels,
-        pixels.frame.as_mut_slice(),
-    );
-}
-
-/// The same, of a frame by itself. Where the labels stand is worked out first.
-fn part_of<G: Drop>(
-    server: &Server,
-    of: u32,
-    part: &Option<Rect>,
-    painter: &mut Painter<G>,
-    labels: &mut Labels,
-    out: &mut [u32],
-)
-    requires room { server.now.stack.most ≤ painter.old.cutter.room }
-    requires named { labels.old.texts.items ≡ map (λ m. m.label) server.now.config.clients }
-    requires placed { server.now.stack.most ≤ length labels.old.places.items }
-    requires pixels { length painter.old.raw.items
-        ≡ server.now.config.width * server.now.config.height }
-    requires out { length out.old ≡ server.now.config.width * server.now.config.height }
-    requires words { All IsWord painter.old.raw.items }
-    ensures room { painter.new.cutter.room ≡ painter.old.cutter.room }
-    ensures kept { (painter.new.raw ≡ painter.old.raw) ×
-        (painter.new.glasses ≡ painter.old.glasses) }
-    ensures shown { AreSet
-        (λ k. wanted of part.now server.now.stack (pixel server.now.stack.width k))
-        (length painter.old.raw.items) (shown_by (state_of server.now) painter.old.raw.items)
-        out.old out.new }
-    ensures places { length labels.new.places.items ≡ length labels.old.places.items }
-    ensures texts { labels.new.texts ≡ labels.old.texts }
-{
-    server.facts();
-    let mode = server.mode();
-    labels.place(mode, server.stack());
-    let look = Look {
-        stack: server.stack(),
-        labels: labels.texts.as_slice(),
-        mode,
-        focus: server.focus(),
-        places: labels.places.as_slice(),
-    };
-    painter.show_session(&look, of, part, out);
 }

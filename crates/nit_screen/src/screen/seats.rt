@@ -7,7 +7,6 @@ ghost use Rattle.nit_screen.specs.Terms.{pixel_count, session_owns, state_of, wi
 ghost use Rattle.nit_screen.specs.RawWords.{source_at as scene_source_at};
 
 use crate::screen::Screen;
-use crate::screen::pixels::redraw;
 use crate::screen::sessions::kill_session;
 use nit_glyph::Label;
 use nit_word::Glass;
@@ -33,7 +32,7 @@ impl<G: Glass + Drop> Screen<G> {
         kill_session(&mut self.server, sid, &mut self.pixels);
         self.server.open(sid, label);
         self.pixels.labels.texts[sid as usize] = label;
-        redraw(&self.server, &mut self.pixels);
+        self.pixels.redraw(&self.server);
     }
 
     /// The screen's glass for the session `sid` and `glass`, which is one of the session too,

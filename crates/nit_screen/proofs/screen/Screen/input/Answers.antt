@@ -1,8 +1,8 @@
-use Rattle.nit_screen.proofs.Lemmas.{Mode, Scenery, ServerModel, can_still, deliveries_of}
+use Rattle.nit_screen.proofs.Lemmas.{Mode, Scenery, ServerModel, can_stay, deliveries_of}
 use Rattle.nit_screen.proofs.Lemmas.{draws_labels, frame, input_scenery, kill_alone, kill_is_live}
 use Rattle.nit_screen.proofs.Lemmas.{killed_painted, killed_state, kills, no_kill, raw_of}
-use Rattle.nit_screen.proofs.Lemmas.{scenery_of, state_of, told_paints_nothing, vec_capacity}
-use Rattle.std.proofs.Common.{IsTrue, ap, length, refl, subst, sym, ◌<◌, ◌∙◌}
+use Rattle.nit_screen.proofs.Lemmas.{scenery_of, state_of, told_paints_nothing}
+use Rattle.std.proofs.Common.{IsTrue, ap, length, subst, sym, ◌<◌, ◌∙◌}
 use Rattle.nit_screen.proofs.screen.Screen.input.Goals as goal
 
 pub kill_session-requires-clause-session : goal.kill_session-requires-clause-session
@@ -16,27 +16,17 @@ kill_session-requires-clause-session g c =
 
 pub kill_session-requires-clause-can : goal.kill_session-requires-clause-can
 kill_session-requires-clause-can g c =
-    let s = c.self.inside.server in
-    let p = c.self.inside.pixels in
-    let r = c.route-routed.ensures in
-    can_still s c.route-routed.new.self p.painter.raw.items p.painter.raw.items (length p.frame.items)
-    (vec_capacity p.frame) p.painter.cutter.room p.painter.cutter.room p.labels.texts.items
-    (length p.labels.places.items) p.bar
-    (ap (λ (t : ServerModel). t.config) r.server) (ap (λ (t : ServerModel). t.stack.most) r.server) refl
-    c.self.invariant.shown.0.words refl c.self.invariant.shown.0
+    let r = c.route-routed.ensures.server in
+    can_stay c.self.inside.server c.route-routed.new.self c.self.inside.pixels (ap (λ (t : ServerModel). t.config) r)
+    (ap (λ (t : ServerModel). t.stack.most) r) c.self.invariant.shown.0
 
 pub show_input-requires-clause-can : goal.show_input-requires-clause-can
 show_input-requires-clause-can g c =
-    let s = c.self.inside.server in
-    let p = c.self.inside.pixels in
-    let r = c.route-routed.ensures in
+    let r = c.route-routed.ensures.server in
     let e = c.tell_all.ensures in
-    can_still s c.tell_all.new.self p.painter.raw.items p.painter.raw.items (length p.frame.items)
-    (vec_capacity p.frame) p.painter.cutter.room p.painter.cutter.room p.labels.texts.items
-    (length p.labels.places.items) p.bar
-    (ap (λ (t : ServerModel). t.config) e ∙ ap (λ (t : ServerModel). t.config) r.server)
-    (ap (λ (t : ServerModel). t.stack.most) e ∙ ap (λ (t : ServerModel). t.stack.most) r.server) refl
-    c.self.invariant.shown.0.words refl c.self.invariant.shown.0
+    can_stay c.self.inside.server c.tell_all.new.self c.self.inside.pixels
+    (ap (λ (t : ServerModel). t.config) e ∙ ap (λ (t : ServerModel). t.config) r)
+    (ap (λ (t : ServerModel). t.stack.most) e ∙ ap (λ (t : ServerModel). t.stack.most) r) c.self.invariant.shown.0
 
 pub show_input-requires-clause-before : goal.show_input-requires-clause-before
 show_input-requires-clause-before g c =

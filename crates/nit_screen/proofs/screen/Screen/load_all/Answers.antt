@@ -1,37 +1,44 @@
-use Rattle.nit_screen.proofs.Lemmas.{can_still, entry_painted_in, flat_below, glass_in, holds}
-use Rattle.nit_screen.proofs.Lemmas.{length, map, painted_bare, painted_whole, refl}
-use Rattle.nit_screen.proofs.Lemmas.{repainted_words, state_of, vec_capacity}
+use Rattle.nit_screen.proofs.Lemmas.{can_still, entry_painted_in, few_views, flat_below, glass_in}
+use Rattle.nit_screen.proofs.Lemmas.{holds, painted_bare, painted_whole, refl, repainted_words}
+use Rattle.nit_screen.proofs.Lemmas.{state_of}
+use Rattle.std.proofs.Common.{arith, length, map, sym, ◌*◌, ◌∙◌, ◌≤◌}
 use Rattle.nit_events.specs.declared.entry.Entry.TheVariants as entry
 use Rattle.nit_screen.proofs.screen.Screen.load_all.Goals as goal
 
-pub load_whole-requires-clause-room : goal.load_whole-requires-clause-room
-load_whole-requires-clause-room g c = c.self.invariant.shown.0.cuts
+pub paint_whole-requires-clause-room : goal.paint_whole-requires-clause-room
+paint_whole-requires-clause-room g c =
+    let few = few_views c.self.inside.server.stack c.facts.ensures.standing in
+    let cut = c.self.invariant.shown.0.cuts in
+    rw c.stack.ensures.stack (omega (arith, few, cut))
 
-pub load_whole-requires-clause-held : goal.load_whole-requires-clause-held
-load_whole-requires-clause-held g c =
+pub paint_whole-requires-clause-pixels : goal.paint_whole-requires-clause-pixels
+paint_whole-requires-clause-pixels g c =
+    let screen = c.facts.ensures.screen in
+    rw c.stack.ensures.stack (c.self.invariant.shown.0.pixels ∙ (λ i. sym screen.0 i * sym screen.1 i))
+
+pub paint_whole-requires-clause-held : goal.paint_whole-requires-clause-held
+paint_whole-requires-clause-held g c =
     let tables = rw (← c.self.view_is) at c.requires.tables in
-    holds c.self.inside.server (glass_in (map g.C.Glass.sight c.args.owns.now)) (length c.args.owns.now) c.facts.ensures
-    (rw (← c.self.view_is) at c.requires.owns) (λ t l. (tables t l).1)
+    rw c.stack.ensures.stack (holds c.self.inside.server (glass_in (map g.C.Glass.sight c.args.owns.now))
+    (length c.args.owns.now) c.facts.ensures (rw (← c.self.view_is) at c.requires.owns) (λ t l. (tables t l).1))
 
 pub show_again-requires-clause-can : goal.show_again-requires-clause-can
 show_again-requires-clause-can g c =
     let s = c.self.inside.server in
     let p = c.self.inside.pixels in
-    let raw' = c.load_whole.new.painter.raw.items in
-    let e = c.load_whole.ensures in
-    can_still s s p.painter.raw.items raw' (length p.frame.items) (vec_capacity p.frame) p.painter.cutter.room
-    c.load_whole.new.painter.cutter.room p.labels.texts.items (length p.labels.places.items) p.bar
-    refl refl e.long (repainted_words _ _ _ _ _ p.painter.raw.items raw' e.long e.painted
-    c.self.invariant.shown.0.words) e.room c.self.invariant.shown.0
+    let painter = c.paint_whole.new.self in
+    let e = c.paint_whole.ensures in
+    can_still s s p painter refl refl e.count (repainted_words _ _ _ _ _ p.painter.raw.items painter.raw.items e.count
+    e.painted c.self.invariant.shown.0.words) e.room c.self.invariant.shown.0
 
 -- each pixel was loaded, so a bare one has the bare word
 pub show_again-requires-clause-below : goal.show_again-requires-clause-below
 show_again-requires-clause-below g c = λ flat one.
     let s = c.self.inside.server in
     let p = c.self.inside.pixels in
-    let raw' = c.load_whole.new.painter.raw.items in
+    let raw' = c.paint_whole.new.self.raw.items in
     let all = painted_whole s (length p.painter.raw.items) _ _ p.painter.raw.items raw' c.facts.ensures
-    c.self.invariant.shown.0.pixels c.load_whole.ensures.painted in
+    c.self.invariant.shown.0.pixels (rw c.stack.ensures.stack at c.paint_whole.ensures.painted) in
     flat_below (state_of s) raw' flat
     (λ k l below bare. painted_bare _ _ _ _ _ p.painter.raw.items raw' k all l refl bare)
 
@@ -39,8 +46,9 @@ pub returns-clause-painted : goal.returns-clause-painted
 returns-clause-painted g c =
     let s = c.self.inside.server in
     let p = c.self.inside.pixels in
+    let raw' = c.paint_whole.new.self.raw.items in
     rw (← c.self.view_is) (rw c.show_again.ensures.raw
-    (entry_painted_in p.is_apart p.bar (state_of s) entry.Final (state_of s) _ _ p.painter.raw.items
-    c.load_whole.new.painter.raw.items c.self.invariant.shown.0.bar
-    (painted_whole s (length p.painter.raw.items) _ _ p.painter.raw.items c.load_whole.new.painter.raw.items
-    c.facts.ensures c.self.invariant.shown.0.pixels c.load_whole.ensures.painted)))
+    (entry_painted_in p.is_apart p.bar (state_of s) entry.Final (state_of s) _ _ p.painter.raw.items raw'
+    c.self.invariant.shown.0.bar
+    (painted_whole s (length p.painter.raw.items) _ _ p.painter.raw.items raw' c.facts.ensures
+    c.self.invariant.shown.0.pixels (rw c.stack.ensures.stack at c.paint_whole.ensures.painted))))

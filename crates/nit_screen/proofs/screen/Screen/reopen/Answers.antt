@@ -15,12 +15,9 @@ index_mut-requires g c =
 pub redraw-requires : goal.redraw-requires
 redraw-requires g c =
     let p = c.kill_session.new.pixels in
-    record {
-      can = can_relabel c.kill_session.new.server c.open.new.self c.args.sid c.args.label p.painter.raw.items
-          (length p.frame.items) (vec_capacity p.frame) p.painter.cutter.room p.labels.texts.items
-          (length p.labels.places.items) p.bar
-          c.open.ensures c.kill_session.ensures.pixels.0;
-    }
+    can_relabel c.kill_session.new.server c.open.new.self c.args.sid c.args.label p.painter.raw.items
+    (length p.frame.items) (vec_capacity p.frame) p.painter.cutter.room p.labels.texts.items
+    (length p.labels.places.items) p.bar c.open.ensures c.kill_session.ensures.pixels.0
 
 pub invariant_of-self : goal.invariant_of-self
 invariant_of-self g c =

@@ -1,47 +1,52 @@
-use Rattle.nit_screen.proofs.Lemmas.{ServerModel, bar_is_bare, bar_kept, can_still, glass_in}
-use Rattle.nit_screen.proofs.Lemmas.{held_by_all, holds, length-map, nobody_ends, painted_in}
-use Rattle.nit_screen.proofs.Lemmas.{repainted_words, state_of, vec_capacity}
-use Rattle.std.proofs.Common.{ap, arith, length, map, subst, sym, ℕ, ◌<◌, ◌∙◌, ◌≡◌, ◌≤◌}
+use Rattle.nit_screen.proofs.Lemmas.{ServerModel, as_many_as, bar_is_bare, bar_kept, can_paint_by}
+use Rattle.nit_screen.proofs.Lemmas.{can_show_loaded, ended_painted, ended_server, glass_in}
+use Rattle.nit_screen.proofs.Lemmas.{held_by_all, holds, nobody_ends, painted_in, state_of}
+use Rattle.std.proofs.Common.{ap, arith, length, map, refl, subst, ℕ, ◌<◌, ◌≡◌, ◌≤◌}
+use Rattle.nit_events.specs.declared.event.Status.TheVariants as status
 use Rattle.nit_screen.proofs.screen.sessions.kill_session.Goals as goal
 
-pub end_session-requires-clause-held : goal.end_session-requires-clause-held
-end_session-requires-clause-held g c =
+pub take_views_away-requires-clause-can : goal.take_views_away-requires-clause-can
+take_views_away-requires-clause-can g c =
+    let s = c.args.server.now in
     let gs = c.args.pixels.now.painter.glasses.items in
     let many : length gs ≤ c.len-nobody.result =
     omega (arith, c.len-nobody.ensures, c.args.pixels.now.painter.glasses.ok.0) in
-    held_by_all g.G.Glass.sight c.args.server.now.stack gs c.len-nobody.result many
-    (holds c.args.server.now (glass_in (map g.G.Glass.sight gs)) (length gs) c.facts.ensures c.requires.glasses
-    (λ t l. (c.requires.tables t l).1))
+    can_paint_by s s c.args.pixels.now _ c.facts.ensures refl refl c.requires.can
+    (held_by_all g.G.Glass.sight s.stack gs c.len-nobody.result many
+    (holds s (glass_in (map g.G.Glass.sight gs)) (length gs) c.facts.ensures c.requires.glasses
+    (λ t l. (c.requires.tables t l).1)))
 
 pub redraw-requires : goal.redraw-requires
 redraw-requires g c =
     let s = c.args.server.now in
-    let s' = c.end_session.new.server in
-    let p = c.args.pixels.now in
-    let raw' = c.end_session.new.painter.raw.items in
-    let e = c.end_session.ensures in
-    record {
-      can = can_still s s' p.painter.raw.items raw' (length p.frame.items) (vec_capacity p.frame) p.painter.cutter.room
-          c.end_session.new.painter.cutter.room p.labels.texts.items (length p.labels.places.items) p.bar
-          (ap (λ (t : ServerModel). t.config) e.server) (ap (λ (t : ServerModel). t.stack.most) e.server) e.count
-          (repainted_words _ _ _ _ _ p.painter.raw.items raw' e.count e.painted c.requires.can.words) e.room
-          c.requires.can;
-    }
+    let e = c.take_views_away.ensures in
+    let now = ended_server c.args.of status.Killed s c.take_views_away.new.server c.end_session.new.self
+    c.requires.session e.session e.left c.end_session.ensures in
+    can_show_loaded s c.end_session.new.self c.args.pixels.now c.take_views_away.new.painter
+    (ap (λ (t : ServerModel). t.config) now) (ap (λ (t : ServerModel). t.stack.most) now) e.painted c.requires.can
+
+pub returns-clause-server : goal.returns-clause-server
+returns-clause-server g c =
+    ended_server c.args.of status.Killed c.args.server.now c.take_views_away.new.server c.end_session.new.self
+    c.requires.session c.take_views_away.ensures.session c.take_views_away.ensures.left c.end_session.ensures
 
 pub returns-clause-painted : goal.returns-clause-painted
 returns-clause-painted g c =
-    let gs = c.args.pixels.now.painter.glasses.items in
-    let gs' = c.end_session.new.painter.glasses.items in
-    let many : length gs ≤ c.len-nobody.result =
-    omega (arith, c.len-nobody.ensures, c.args.pixels.now.painter.glasses.ok.0) in
-    let same_ : length gs' ≡ length gs = sym (length-map gs' g.G.Glass.rest) ∙ ap length c.end_session.ensures.rests
-    ∙ length-map gs g.G.Glass.rest in
+    let s = c.args.server.now in
+    let s' = c.end_session.new.self in
     let p = c.args.pixels.now in
-    let s' = c.end_session.new.server in
-    rw c.redraw.ensures.glasses (rw c.redraw.ensures.raw
-    (painted_in p.is_apart _ _ _ p.bar _ _ p.painter.raw.items c.end_session.new.painter.raw.items
+    let gs = p.painter.glasses.items in
+    let gs' = c.take_views_away.new.painter.glasses.items in
+    let e = c.take_views_away.ensures in
+    let many : length gs ≤ c.len-nobody.result = omega (arith, c.len-nobody.ensures, p.painter.glasses.ok.0) in
+    let same_ = as_many_as g.G.Glass.rest gs gs' e.painted.rests in
+    let now = ended_server c.args.of status.Killed s c.take_views_away.new.server s' c.requires.session e.session e.left
+    c.end_session.ensures in
+    rw (c.redraw.ensures.glasses, c.redraw.ensures.raw)
+    (painted_in p.is_apart _ _ _ p.bar _ _ p.painter.raw.items c.take_views_away.new.painter.raw.items
     (λ k l. bar_is_bare (state_of s') k
-    (subst (λ (n : ℕ). k < n) (bar_kept c.args.server.now s' p.bar
-    (ap (λ (t : ServerModel). t.config) c.end_session.ensures.server) c.requires.can.bar) l))
+    (subst (λ (n : ℕ). k < n) (bar_kept s s' p.bar (ap (λ (t : ServerModel). t.config) now) c.requires.can.bar) l))
     (nobody_ends g.G.Glass.sight _ _ _ c.len-nobody.result gs gs' p.painter.raw.items
-    c.end_session.new.painter.raw.items many (omega (arith, many, same_)) c.end_session.ensures.painted)))
+    c.take_views_away.new.painter.raw.items many (omega (arith, many, same_))
+    (ended_painted s s' c.args.of status.Killed _ _ _ p.painter.raw.items c.take_views_away.new.painter.raw.items
+    c.facts.ensures c.facts-2.ensures now c.requires.can.pixels e.painted.painted)))

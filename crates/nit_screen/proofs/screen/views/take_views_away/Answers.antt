@@ -1,9 +1,12 @@
-use Rattle.nit_screen.proofs.Lemmas.{IsRemovedFrom, StackModel, all_painted, all_taken}
-use Rattle.nit_screen.proofs.Lemmas.{glasses_of_call, is_of_session, length-map, list_any}
-use Rattle.nit_screen.proofs.Lemmas.{other_count, painted_more, pixel, repainted_none, stays_clean}
-use Rattle.nit_screen.proofs.Lemmas.{taken_held, taken_more, taken_none, uncovered}
-use Rattle.std.proofs.Common.{ap, arith, drop, false, length, map, refl, subst, sym, ℕ, ◌*◌, ◌+◌}
-use Rattle.std.proofs.Common.{◌-◌, ◌<◌, ◌∙◌, ◌≡◌, ◌≤◌}
+use Rattle.nit_screen.proofs.Lemmas.{CanPaint, IsNamedBy, IsRemovedFrom, IsRepaint, IsViewChange}
+use Rattle.nit_screen.proofs.Lemmas.{StackModel, all_taken, can_paint_gone, can_paint_rest}
+use Rattle.nit_screen.proofs.Lemmas.{all_painted, goes, goes_painted, gone_by_slot, gone_change}
+use Rattle.nit_screen.proofs.Lemmas.{gone_painted, gone_room, is_of_session, list_any, map}
+use Rattle.nit_screen.proofs.Lemmas.{no_repaint, one_less, pixel, place_is, repaint_more, seat_here}
+use Rattle.nit_screen.proofs.Lemmas.{source_of_number, stays, still_there, stays_clean, taken_more, taken_none}
+use Rattle.nit_screen.proofs.Lemmas.{uncovered, without_session, without_views}
+use Rattle.std.proofs.Common.{ap, arith, drop, false, length, refl, subst, sym, ℕ, ◌+◌, ◌-◌, ◌<◌}
+use Rattle.std.proofs.Common.{◌∙◌, ◌≡◌, ◌≤◌}
 use Rattle.nit_screen.proofs.screen.views.take_views_away.Goals as goal
 
 pub views-init : goal.views-init
@@ -13,67 +16,86 @@ views-init g c =
       taken = subst (λ (n : ℕ). IsRemovedFrom c.args.of n s s) (sym c.view_count-i.ensures) (taken_none c.args.of s);
       left = refl;
       session = c.requires.session;
-      room = refl;
-      painted = repainted_none _ (λ (k : ℕ). uncovered c.args.of s s (pixel s.width k)) _ _ c.args.painter.now.raw.items
-          (λ k l. stays_clean c.args.of s (pixel s.width k));
-      count = refl;
-      many = refl;
-      idle = refl;
-      rest = refl;
-      rests = refl;
+      painted = no_repaint _ _ _ _ _ (λ k. uncovered c.args.of s s (pixel s.width k)) _ _ _
+          (λ k. stays_clean c.args.of s (pixel s.width k));
     }
 
 -- the place that is looked at, and those behind it
 down : (c : ℕ) → 0 < c → c ≡ (c - 1) + 1
 down c l = omega arith
 
-pub take_seat_away-requires-clause-place : goal.take_seat_away-requires-clause-place
-take_seat_away-requires-clause-place g c = let w = c.views.invariant.taken.within in omega (arith, w, c.views-test.true)
+within : (c n : ℕ) → 0 < c → c ≤ n → c - 1 < n
+within c n l w = omega arith
 
-pub take_seat_away-requires-clause-behind : goal.take_seat_away-requires-clause-behind
-take_seat_away-requires-clause-behind g c =
-    subst (λ (n : ℕ). list_any (is_of_session c.args.of) (drop n c.views.server.stack.views) ≡ false)
-    (down c.views.i c.views-test.true) c.views.invariant.taken.behind
-
-pub take_seat_away-requires-clause-room : goal.take_seat_away-requires-clause-room
-take_seat_away-requires-clause-room g c =
-    let f = c.views.invariant.taken.fewer in
-    let r = c.views.invariant.room in
-    omega (arith, f, r, c.requires.room)
-
-pub take_seat_away-requires-clause-pixels : goal.take_seat_away-requires-clause-pixels
-take_seat_away-requires-clause-pixels g c = c.views.invariant.count ∙ c.requires.pixels
-    ∙ sym (ap (λ (t : StackModel). t.width * t.height) c.views.invariant.taken.rest)
-
-pub take_seat_away-requires-clause-held : goal.take_seat_away-requires-clause-held
-take_seat_away-requires-clause-held g c =
+-- the view at the place is of another session
+pub views-preserved-then-view-of : goal.views-preserved-then-view-of
+views-preserved-then-view-of g c =
     let i = c.views.invariant in
-    taken_held c.args.of c.views.i _ _ c.args.server.now.stack c.views.server.stack
-    (glasses_of_call (map g.G.Glass.sight c.args.painter.now.glasses.items) c.args.sid
-    (g.C.Glass.sight c.args.own.now))
-    (glasses_of_call (map g.G.Glass.sight c.views.painter.glasses.items) c.args.sid (g.C.Glass.sight c.views.own))
-    i.painted.loads i.taken i.many i.painted.sights c.requires.held
+    let mid = c.views.server.stack in
+    let first = rw (down c.views.i c.views-test.true) at i.taken in
+    record {
+      taken = taken_more c.args.of (c.views.i - 1) c.args.server.now.stack mid mid first
+          (stays c.args.of (c.views.i - 1) mid _ c.seated-view.ensures.place c.if-view-of.true
+          (within _ _ c.views-test.true i.taken.within) first.behind);
+      left = i.left;
+      session = i.session;
+      painted = i.painted;
+    }
 
+pub paint_changed-requires-clause-room : goal.paint_changed-requires-clause-room
+paint_changed-requires-clause-room g c =
+    let i = c.views.invariant in
+    let mid = c.views.server in
+    let by = rw c.if-view-of.false at c.seated-view.ensures.named in
+    let can = can_paint_rest _ _ _ _ c.args.of c.views.i c.args.sid c.args.server.now.stack mid.stack _ _ _ _ _ _ i.taken
+    i.painted c.requires.can in
+    rw c.stack.ensures.stack (can_paint_gone _ mid.stack c.remove_view.new.self.stack c.seated-view.result.0.0 _
+    (gone_by_slot mid c.remove_view.new.self c.args.of _ _ by c.remove_view.ensures) can).room
+
+pub paint_changed-requires-clause-held : goal.paint_changed-requires-clause-held
+paint_changed-requires-clause-held g c =
+    let i = c.views.invariant in
+    let mid = c.views.server in
+    let by = rw c.if-view-of.false at c.seated-view.ensures.named in
+    let can = can_paint_rest _ _ _ _ c.args.of c.views.i c.args.sid c.args.server.now.stack mid.stack _ _ _ _ _ _ i.taken
+    i.painted c.requires.can in
+    rw c.stack.ensures.stack (can_paint_gone _ mid.stack c.remove_view.new.self.stack c.seated-view.result.0.0 _
+    (gone_by_slot mid c.remove_view.new.self c.args.of _ _ by c.remove_view.ensures) can).held
+
+-- the view at the place goes
 pub views-preserved : goal.views-preserved
 views-preserved g c =
     let i = c.views.invariant in
-    let e = c.take_seat_away.ensures in
-    let s = c.args.server.now.stack in
-    let mid = c.views.server.stack in
-    let first = subst (λ (n : ℕ). IsRemovedFrom c.args.of n s mid) (down c.views.i c.views-test.true) i.taken in
+    let e = c.paint_changed.ensures in
+    let mid = c.views.server in
+    let next = c.remove_view.new.self in
+    let k = c.seated-view.result.0.0 in
+    let view = c.seated-view.result.1 in
+    let at = c.seated-view.ensures.place in
+    let by = rw c.if-view-of.false at c.seated-view.ensures.named in
+    let now = gone_by_slot mid next c.args.of view.handle k by c.remove_view.ensures in
+    let first = rw (down c.views.i c.views-test.true) at i.taken in
+    let gone = goes c.args.of (c.views.i - 1) k mid.stack next.stack _ by.slots at refl c.if-view-of.false first.behind
+    now (within _ _ c.views-test.true i.taken.within) in
+    let change : IsViewChange k (c.views.i - 1) view.rect mid.stack next.stack =
+    gone_change mid.stack next.stack k (c.views.i - 1) view by.slots (seat_here mid.stack.views (c.views.i - 1) _ by.slots
+    at) (sym (place_is mid.stack.views (c.views.i - 1) _ by.slots at)) now in
     record {
-      taken = taken_more c.args.of (c.views.i - 1) s mid c.take_seat_away.new.server.stack first e.taken;
-      left = e.left ∙ i.left;
-      session = e.session;
-      room = e.room ∙ i.room;
-      painted = painted_more c.args.of (c.views.i - 1) _ s mid c.take_seat_away.new.server.stack _ _ _ _ _ _ first
-          e.taken i.painted (other_count _ _ _ _ _ _ _ _ i.count e.painted);
-      count = e.count ∙ i.count;
-      many = sym (length-map c.take_seat_away.new.painter.glasses.items g.G.Glass.rest) ∙ ap length e.rests
-          ∙ length-map c.views.painter.glasses.items g.G.Glass.rest ∙ i.many;
-      idle = e.idle ∙ i.idle;
-      rest = e.rest ∙ i.rest;
-      rests = e.rests ∙ i.rests;
+      taken = taken_more c.args.of (c.views.i - 1) c.args.server.now.stack mid.stack next.stack first gone;
+      left = ap (without_views c.args.of) c.remove_view.ensures ∙ one_less c.args.of view.handle mid i.session ∙ i.left;
+      session = still_there mid next c.args.of view.handle c.remove_view.ensures i.session;
+      painted = repaint_more _ _ _ _ c.args.of (c.views.i - 1) c.args.sid c.args.server.now.stack mid.stack next.stack
+          _ _ _ _ _ _ first gone i.painted (record {
+            room = e.room;
+            painted = goes_painted c.args.of (c.views.i - 1) k mid.stack next.stack _ by.slots at refl
+                c.if-view-of.false first.behind now _ _ _ _ _
+                (gone_painted mid.stack next.stack k _ _ _ _ _ now
+                ((rw c.stack.ensures.stack at e.painted) mid.stack change));
+            count = e.count;
+            idle = e.idle;
+            own_stays = e.rest;
+            rests = e.rests;
+          });
     }
 
 -- no place is left
@@ -82,11 +104,17 @@ none_left c l = omega arith
 
 pub returns-clause-stack : goal.returns-clause-stack
 returns-clause-stack g c = all_taken c.args.of c.args.server.now.stack c.views.server.stack
-    (subst (λ (n : ℕ). IsRemovedFrom c.args.of n c.args.server.now.stack c.views.server.stack)
-    (none_left c.views.i c.views-test.false) c.views.invariant.taken)
+    (rw (none_left c.views.i c.views-test.false) at c.views.invariant.taken)
 
 pub returns-clause-painted : goal.returns-clause-painted
 returns-clause-painted g c =
-    all_painted c.args.of _ c.args.server.now.stack c.views.server.stack _ _ _ _
-    (subst (λ (n : ℕ). IsRemovedFrom c.args.of n c.args.server.now.stack c.views.server.stack)
-    (none_left c.views.i c.views-test.false) c.views.invariant.taken) c.views.invariant.painted
+    let i = c.views.invariant.painted in
+    record {
+      room = i.room;
+      painted = all_painted c.args.of _ c.args.server.now.stack c.views.server.stack _ _ _ _
+          (rw (none_left c.views.i c.views-test.false) at c.views.invariant.taken) i.painted;
+      count = i.count;
+      idle = i.idle;
+      own_stays = i.own_stays;
+      rests = i.rests;
+    }

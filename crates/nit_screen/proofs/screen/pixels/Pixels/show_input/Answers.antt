@@ -1,12 +1,12 @@
 use Rattle.nit_screen.proofs.Lemmas.{Mode, frame, other_focus, raw_in, rules, scenery_of, state_of}
 use Rattle.nit_screen.proofs.Lemmas.{unbarred}
 use Rattle.std.proofs.Common.{Bool, ap, cond, false, subst, ◌∙◌, ◌≡◌}
-use Rattle.nit_screen.proofs.screen.pixels.show_input.Goals as goal
+use Rattle.nit_screen.proofs.screen.pixels.Pixels.show_input.Goals as goal
 
 pub show_again-requires-clause-below : goal.show_again-requires-clause-below
 show_again-requires-clause-below g c = λ flat one.
     let s = c.args.server.now in
-    let p = c.args.pixels.now in
+    let p = c.args.self.now in
     let was : p.painter.raw.items
     ≡ frame (record (scenery_of (state_of s)) { mode = c.args.mode; focus = c.args.focus })
     (raw_in false p.bar p.painter.raw.items) =

@@ -1,0 +1,32 @@
+use Rattle.nit_screen.proofs.Lemmas.{clean_painted, clean_shown, refl, same_config, screen_unloaded}
+use Rattle.nit_screen.proofs.Lemmas.{state_of}
+use Rattle.nit_screen.proofs.screen.Screen.serve_clean.Goals as goal
+
+pub invariant_of-self : goal.invariant_of-self
+invariant_of-self g c =
+    let s = c.self.inside.server in
+    let s' = c.accept-reply.new.self in
+    let p = c.self.inside.pixels in
+    let can = rw (← c.self.view_is) at c.requires.can in
+    screen_unloaded g.G.Glass.sight s s' p c.show_views.new.self
+    (same_config c.args.sid c.args.call.now c.accept-reply.result s s' c.accept-reply.ensures) c.self.invariant
+    (clean_shown s s' p c.show_views.new.self c.args.sid c.args.call.now c.accept-reply.result c.facts.ensures
+    c.facts-2.ensures can c.accept-reply.ensures c.requires.clean c.self.invariant.shown c.show_views.ensures.flat
+    c.show_views.ensures.labelled)
+
+pub returns : goal.returns
+returns g c =
+    let s = c.self.inside.server in
+    let s' = c.accept-reply.new.self in
+    let p = c.self.inside.pixels in
+    let can = rw (← c.self.view_is) at c.requires.can in
+    let shown = clean_shown s s' p c.show_views.new.self c.args.sid c.args.call.now c.accept-reply.result
+    c.facts.ensures c.facts-2.ensures can c.accept-reply.ensures c.requires.clean c.self.invariant.shown
+    c.show_views.ensures.flat c.show_views.ensures.labelled in
+    rw (← c.self.view_is) (record {
+      served = c.accept-reply.ensures;
+      raw = shown.raw;
+      glasses = rw shown.glasses refl;
+      painted = λ glasses raw. clean_painted (state_of s) (state_of s') c.args.sid c.args.call.now
+          c.accept-reply.result glasses raw c.requires.clean;
+    })

@@ -1,0 +1,23 @@
+use Rattle.nit_screen.proofs.Lemmas.{quiet_painted, quiet_shown, refl, same_config, screen_unloaded}
+use Rattle.nit_screen.proofs.Lemmas.{state_of}
+use Rattle.nit_screen.proofs.screen.Screen.serve_quiet.Goals as goal
+
+pub invariant_of-self : goal.invariant_of-self
+invariant_of-self g c =
+    let s = c.self.inside.server in
+    let s' = c.accept-reply.new.self in
+    let p = c.self.inside.pixels in
+    let can = rw (← c.self.view_is) at c.requires.can in
+    screen_unloaded g.G.Glass.sight s s' p p
+    (same_config c.args.sid c.args.call.now c.accept-reply.result s s' c.accept-reply.ensures) c.self.invariant
+    (quiet_shown s s' p c.args.sid c.args.call.now c.accept-reply.result c.facts.ensures c.facts-2.ensures can
+    c.accept-reply.ensures c.requires.quiet c.self.invariant.shown)
+
+pub returns : goal.returns
+returns g c = rw (← c.self.view_is) (record {
+  served = c.accept-reply.ensures;
+  raw = refl;
+  glasses = refl;
+  painted = λ glasses raw. quiet_painted (state_of c.self.inside.server) (state_of c.accept-reply.new.self) c.args.sid
+      c.args.call.now c.accept-reply.result glasses raw c.requires.quiet;
+})

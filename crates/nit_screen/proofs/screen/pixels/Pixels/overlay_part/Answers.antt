@@ -1,0 +1,39 @@
+use Rattle.std.proofs.Common.{List, ap, arith, drop, length, refl, take, ℕ, ◌++◌, ◌∙◌, ◌≡◌, ◌≤◌}
+use Rattle.std.proofs.Math.Seq.{take-append_seam}
+use Rattle.nit_screen.proofs.Lemmas.{StackModel, few_views, part_shown, rules, views_of}
+use Rattle.nit_screen.proofs.screen.pixels.Pixels.overlay_part.Goals as goal
+
+pub show_session-requires-clause-room : goal.show_session-requires-clause-room
+show_session-requires-clause-room g c =
+    let few = few_views c.args.server.now.stack c.facts.ensures.standing in
+    rw c.stack-2.ensures.stack (omega (arith, few, c.requires.can.cuts))
+
+-- what was written into a list is all of it
+written : (n : ℕ) (new old : List ℕ) → length new ≡ n → take n (new ++ drop (length new) old) ≡ new
+written n new old e = rw (← e) (take-append_seam new (drop (length new) old))
+
+pub returns : goal.returns
+returns g c =
+    let p = c.args.self.now in
+    let is = c.stack-2.ensures.stack in
+    let screen = c.facts.ensures.screen in
+    let e = c.show_session.ensures in
+    let back = written p.frame.len c.show_session.new.frame p.frame.items (e.shown.count ∙ c.as_mut_slice.ensures.len) in
+    let shown = part_shown c.args.server.now c.stack-2.result.now _ c.args.of c.args.part.now p.painter.raw.items
+    c.as_mut_slice.result.now c.show_session.new.frame is
+    (λ i. record {
+      width = (ap (λ (s : StackModel). s.width) is ∙ screen.0) i;
+      height = (ap (λ (s : StackModel). s.height) is ∙ screen.1) i;
+      bar = (ap (λ (s : StackModel). s.bar) is ∙ screen.2) i;
+      stack = views_of (is i).views;
+      labels = (c.as_slice.ensures.value ∙ ap (λ v. v.items) c.place.ensures.texts ∙ c.requires.can.named) i;
+      mode = c.mode-mode.ensures i;
+      focus = c.focus.ensures.focus i;
+    }) e.shown in
+    record {
+      can = rw back (search rules);
+      raw = e.kept.0;
+      glasses = e.kept.1;
+      kept = (refl, refl);
+      shown = rw (back, e.kept.0, ← c.as_mut_slice.ensures.value) shown;
+    }
