@@ -32,7 +32,7 @@ impl Area {
 
 /// The first of these columns or rows that the screen has, of `most`, and the first one behind
 /// them.
-fn clipped(places: Span, most: u32) -> (u32, u32)
+fn on_screen(places: Span, most: u32) -> (u32, u32)
     ensures in_order { result.0 ≤ result.1 }
     ensures within { result.1 ≤ most }
     ensures same { (at : ℕ) → at < most
@@ -49,8 +49,8 @@ pub(crate) fn area_of(rect: &Rect, width: u32, height: u32) -> Area
     ensures same { (x y : ℕ) → x < width → y < height
         → in_area result x y ≡ covers rect.now (point x y) }
 {
-    let (left, right) = clipped(span_of(rect.x(), rect.w()), width);
-    let (top, bottom) = clipped(span_of(rect.y(), rect.h()), height);
+    let (left, right) = on_screen(span_of(rect.x(), rect.w()), width);
+    let (top, bottom) = on_screen(span_of(rect.y(), rect.h()), height);
     Area {
         left,
         top,

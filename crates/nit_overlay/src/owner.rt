@@ -22,7 +22,7 @@ pub(crate) struct Owner {
 /// What pixels that follow one another in a row have in common: their owner, and the column behind
 /// the last.
 #[derive(Clone, Copy)]
-pub(crate) struct Piece {
+pub(crate) struct OwnedColumns {
     pub owner: Option<Owner>,
     pub end: u32,
 }
@@ -67,7 +67,7 @@ pub(crate) fn owner_of(look: &Look, v: ViewRef) -> Owner
 
 /// The owner of the pixel in column x of the row y, which lies below the bar, and the column, at
 /// most `to`, up to which the pixels to the right have the same.
-pub(crate) fn piece_at(look: &Look, x: u32, y: u32, to: u32) -> Piece
+pub(crate) fn piece_at(look: &Look, x: u32, y: u32, to: u32) -> OwnedColumns
     requires { AreBelowBar look.now x y to }
     ensures owner { HoldsUpTo
         (λ z. owner look.now.stack.now.bar (views_of look.now.stack.now.views) (point z y)
@@ -81,12 +81,12 @@ pub(crate) fn piece_at(look: &Look, x: u32, y: u32, to: u32) -> Piece
         let (covered, last) = reach(&view.rect, x, y, end);
         if covered {
             let place = place_at(look, v, &view);
-            return Piece {
+            return OwnedColumns {
                 owner: Some(Owner { view, place }),
                 end: last,
             };
         }
         end = last;
     }
-    Piece { owner: None, end }
+    OwnedColumns { owner: None, end }
 }

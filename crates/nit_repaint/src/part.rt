@@ -10,7 +10,7 @@ use nit_stack::View;
 
 /// The first place of a screen of `most` that is not in front of this one. `most` where there is
 /// none.
-fn clipped(place: i32, most: u32) -> u32
+fn first_on_screen(place: i32, most: u32) -> u32
     ensures within { result ≤ most }
     ensures same { (c : ℕ) → c < most → nat_le result c ≡ int_le place (pos c) }
 {
@@ -33,8 +33,8 @@ fn shown_run(from: i32, long: u32, corner: i32, offset: i32, most: u32) -> (u32,
         ≡ spans from long (buffer_place (pos c) corner offset) }
 {
     let first = from + corner + offset;
-    let left = clipped(first, most);
-    let right = clipped(first + long as i32, most);
+    let left = first_on_screen(first, most);
+    let right = first_on_screen(first + long as i32, most);
     if right <= left {
         return (0, 0);
     }

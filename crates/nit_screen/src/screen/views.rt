@@ -31,7 +31,7 @@ impl<G: Glass + Drop> Screen<G> {
     {
         self.server.facts();
         self.pixels.make_one(&self.server);
-        let was = stood(&self.server, sid, handle);
+        let was = view_before(&self.server, sid, handle);
         let reply = self.server.accept(sid, call);
         let stack = self.server.stack();
         self.pixels.painter.paint_changed(stack, &was, sid, own);
@@ -41,7 +41,7 @@ impl<G: Glass + Drop> Screen<G> {
 }
 
 /// The view of this session and handle, as it stands in the stack before a change.
-fn stood(server: &Server, sid: u32, handle: u32) -> ViewBefore
+fn view_before(server: &Server, sid: u32, handle: u32) -> ViewBefore
     requires session { sid < length server.now.sessions }
     requires held { has_view (session_in server.now.sessions sid) handle ≡ true }
     ensures named { IsNamedBy result.view.0 sid handle server.now.stack.views }

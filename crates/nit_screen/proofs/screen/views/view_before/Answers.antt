@@ -1,6 +1,6 @@
 use Rattle.std.proofs.Common.{Some, refl, subst, ◌≡◌}
 use Rattle.nit_screen.proofs.Lemmas.{StackModel, named_stands, slot_view_in}
-use Rattle.nit_screen.proofs.screen.views.stood.Goals as goal
+use Rattle.nit_screen.proofs.screen.views.view_before.Goals as goal
 
 pub view-requires : goal.view-requires
 view-requires c = rw c.stack-stack.ensures.stack
