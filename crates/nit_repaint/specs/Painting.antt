@@ -74,7 +74,7 @@ pub record PaintsByList {C R : Type 0} (sight : C → Sight) (rest : C → R) (s
 -- ---- in a frame
 
 -- there is a raw word for each pixel of the look's screen, each below 2^24, and a word of the frame
-pub record CanShow (l : Look) (raw out : List ℕ) : Type 0 where
+pub record IsFrameToShow (l : Look) (raw out : List ℕ) : Type 0 where
   pub look : IsLook l
   pub pixels : length raw ≡ l.stack.now.width * l.stack.now.height
   pub frame : length out ≡ length raw

@@ -18,7 +18,7 @@ pub use Rattle.nit_repaint.specs.Below.{slot_view_layer, source_of_number, sourc
 pub use Rattle.nit_repaint.specs.Below.{times, to_come, views_of, with_glass, with_offset}
 pub use Rattle.nit_repaint.specs.Below.{with_rect, without, word_count, words_shown, ℤ}
 pub use Rattle.nit_repaint.specs.Glasses.{HoldBuffers, glass_in, glasses_of_call}
-pub use Rattle.nit_repaint.specs.Painting.{CanPaint, CanPaintByList, CanShow, IsPieceOfStack}
+pub use Rattle.nit_repaint.specs.Painting.{CanPaint, CanPaintByList, IsFrameToShow, IsPieceOfStack}
 pub use Rattle.nit_repaint.specs.Painting.{IsViewPiece, PaintsByList, PaintsMarked, PaintsPiece}
 pub use Rattle.nit_repaint.specs.PixelOwners.{is_word_in, owner_passes, source_in}
 pub use Rattle.nit_repaint.specs.PixelsToCome.{has_come, is_to_come}

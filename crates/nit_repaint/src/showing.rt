@@ -1,7 +1,7 @@
 //! Showing again, where more is shown than raw words, what views of one session show.
 
 ghost use Rattle.std.specs.Prelude.{◌≡◌, ◌*◌, ◌<◌, ◌≤◌, All, Some, length};
-ghost use Rattle.nit_repaint.specs.Terms.{AreSet, CanShow, FitsStack, IsLook, IsWord, frame};
+ghost use Rattle.nit_repaint.specs.Terms.{AreSet, FitsStack, IsFrameToShow, IsLook, IsWord, frame};
 ghost use Rattle.nit_repaint.specs.Terms.{is_to_come, pixel, scenery, shown_at, wanted};
 
 use crate::buffers::begin_seat;
@@ -13,7 +13,7 @@ use nit_rect::Rect;
 /// Sets the frame to what is shown at each pixel that is to come by the cutter.
 fn show_to_come(cutter: &mut Cutter, look: &Look, raw: &[u32], frame: &mut [u32])
     requires fits { FitsStack cutter.old look.now.stack.now }
-    requires look { CanShow look.now raw.now frame.old }
+    requires look { IsFrameToShow look.now raw.now frame.old }
     ensures room { cutter.new.room ≡ cutter.old.room }
     ensures shown { AreSet (is_to_come cutter.old look.now.stack.now) (length raw.now)
         (shown_at look.now raw.now) frame.old frame.new }
