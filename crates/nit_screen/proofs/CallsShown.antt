@@ -3,16 +3,16 @@ use Rattle.nit_screen.proofs.Basics.{ArePixels, Call, CanPaint, CanServe, CanSho
 use Rattle.nit_screen.proofs.Basics.{Configuration, Entry, Flat, HoldBuffers, IsCallShown, IsFrameOf}
 use Rattle.nit_screen.proofs.Basics.{IsGlassOf, IsNamedBy, IsOn, IsPartOf, IsPartShown, IsRepaint}
 use Rattle.nit_screen.proofs.Basics.{IsScreen, IsServed, IsServer, IsShown, IsViewChange}
-use Rattle.nit_screen.proofs.Basics.{LoadsNothing, Painted, Painter, PixelSource, Pixels}
+use Rattle.nit_screen.proofs.Basics.{Painted, Painter, PixelSource, Pixels}
 use Rattle.nit_screen.proofs.Basics.{Rectangle, Repainted, Reply, ScreenModel, ServerModel, Sight}
 use Rattle.nit_screen.proofs.Basics.{SlotView, StackModel, ViewRef, dirty, draws_labels, false≢true}
 use Rattle.nit_screen.proofs.Basics.{frame, glass_in, glasses_of_call, length-frame, length-map, pixel}
-use Rattle.nit_screen.proofs.Basics.{pixel_count, place_of, raw_in, raw_of, refusal, repainted_same}
-use Rattle.nit_screen.proofs.Basics.{closed, is_of_session, owner_passes, repainted_words, scenery_of, session}
+use Rattle.nit_screen.proofs.Basics.{pixel_count, place_of, raw_in, raw_of, repainted_same}
+use Rattle.nit_screen.proofs.Basics.{closed, is_of_session, owner_passes, repainted_words, scenery_of}
 use Rattle.nit_screen.proofs.Basics.{slot_owns_either, with_ended, without_session, without_views}
-use Rattle.nit_screen.proofs.Basics.{slot_view_in, source_at, state_of, vec_capacity, wanted}
-use Rattle.std.proofs.Common.{Bool, IsTrue, List, None, Option, Some, ap, arith, cond, false, length}
-use Rattle.std.proofs.Common.{map, refl, subst, sym, true, ℕ, ◌*◌, ◌<◌, ◌∙◌, ◌≡◌, ◌≤◌}
+use Rattle.nit_screen.proofs.Basics.{slot_view_in, source_at, state_of, wanted}
+use Rattle.std.proofs.Common.{Bool, IsTrue, List, Option, Some, ap, arith, cond, false, length}
+use Rattle.std.proofs.Common.{map, refl, subst, sym, true, ℕ, ◌*◌, ◌<◌, ◌∙◌, ◌≡◌}
 use Rattle.nit_events.specs.declared.call.Reply.TheVariants as reply
 use Rattle.nit_events.specs.declared.entry.Entry.TheVariants as entry
 use Rattle.nit_events.specs.declared.event.Status.TheVariants as status
@@ -165,11 +165,8 @@ module _ {G C R S : Type 0} {sight : G → Sight} {rest : G → R} {own_sight : 
   flat_frame flat =
       let some : 0 < s.config.width = let a = hb.standing.screen.0 in let b =
       hb.screen.0 in omega (arith, a, b) in
-      flat_kept s s' sid call reply _ _ one.is_apart one.bar one.painter.raw.items painter.raw.items one.frame.items
-      (length one.frame.items) (vec_capacity one.frame) one.painter.cutter.room one.labels.texts.items
-      (length one.labels.places.items) chosen can.unrefused.session other served some made.pixels.0 loads.count
-      (bar_kept s s' one.bar (same_config sid call reply s s' served) made.pixels.0.bar) dirty_painted is_dirty single
-      flat made.pixels.1
+      flat_kept s s' sid call reply _ _ one painter chosen can.unrefused.session other served some made.pixels.0
+      loads.count dirty_painted is_dirty single flat made.pixels.1
 
   -- where labels are drawn, the words of the frame stand apart before the call
   labelled_before : IsTrue (draws_labels s'.input.mode) → one.is_apart ≡ true
@@ -327,16 +324,4 @@ screen_unloaded sight s s' p now config screen shown = record {
   shown = shown.pixels;
   glasses = rw (shown.glasses, config) screen.glasses;
   tables = rw (shown.glasses, config) screen.tables;
-}
-
-pub unloaded_shown : {G C R S : Type 0} {sight : G → Sight} {rest : G → R} {own_sight : C → Sight} {own_rest : C → S}
-    {sid : ℕ} {call : Call} {reply : Reply} {own : C} {before now : ScreenModel G}
-    → LoadsNothing sid call reply before now
-    → IsCallShown sight rest own_sight own_rest sid call reply own own before now
-unloaded_shown e = record {
-  served = e.served;
-  painted = rw (e.raw, e.glasses) (e.painted _ _);
-  idle = rw e.glasses refl;
-  own_stays = refl;
-  rests = rw e.glasses refl;
 }

@@ -54,7 +54,7 @@ pub use Rattle.nit_screen.proofs.ScreenLemmas.{held_by_glasses, holds, painted_w
 pub use Rattle.nit_screen.proofs.ScreenLemmas.{same_config, tables_kept, unpainted}
 pub use Rattle.nit_screen.proofs.SeatLemmas.{as_many, can_relabel, exchanged, label_there}
 pub use Rattle.nit_screen.proofs.SeatLemmas.{same_source, tables_stay}
-pub use Rattle.nit_screen.proofs.SessionEnds.{close_painted, ended_painted, ended_server}
+pub use Rattle.nit_screen.proofs.SessionEnds.{ended_painted, ended_server}
 pub use Rattle.nit_screen.proofs.SessionEnds.{nobody_ends}
 pub use Rattle.nit_screen.proofs.SessionViews.{dirty_by_views}
 pub use Rattle.nit_screen.proofs.StackRoom.{few_views, same_most}

@@ -144,20 +144,3 @@ module _ (before after' : ServerModel) (hb : IsServer before) (ha : IsServer aft
   meant (Title v text) r m none s is = cc
   meant Take r m none s is = cc
   meant (Upgrade n) r m none s is = cc
-
--- a call without marks makes nothing dirty
-pub unmeant : (s : ServerModel) (sid : ℕ) (call : Call) → IsMarkOf s sid call None → (before after' : State) (p : Point)
-    → dirty_by_call sid call before after' p ≡ false
-unmeant s sid (Place v x y w h) is before after' p = cc
-unmeant s sid (Offset v ox oy) is before after' p = cc
-unmeant s sid (Front v) is before after' p = cc
-unmeant s sid (Back v) is before after' p = cc
-unmeant s sid (Above v n) is before after' p = cc
-unmeant s sid (Destroy v) is before after' p = cc
-unmeant s sid Close is before after' p = cc
-unmeant s sid (Buffer w h) is before after' p = cc
-unmeant s sid (Refresh x y w h) is before after' p = cc
-unmeant s sid View is before after' p = refl
-unmeant s sid (Title v text) is before after' p = refl
-unmeant s sid Take is before after' p = refl
-unmeant s sid (Upgrade n) is before after' p = refl

@@ -60,10 +60,6 @@ pub raw_long : (b : Bool) (n : ℕ) (xs : List ℕ) → n ≤ length xs → leng
 raw_long true n xs fits = refl
 raw_long false n xs fits = unbarred_long n xs fits
 
-pub raw_words : (b : Bool) (n : ℕ) (xs : List ℕ) → All IsWord xs → All IsWord (raw_in b n xs)
-raw_words true n xs words = words
-raw_words false n xs words = unbarred_words n xs words
-
 -- ---- the pixels of the bar
 
 pub bar_at : (width bar k : ℕ) → k < width * bar → in_bar bar (pixel width k) ≡ true

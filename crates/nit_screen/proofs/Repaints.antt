@@ -6,7 +6,7 @@ use Rattle.nit_screen.proofs.Basics.{painted_more, pixel, repainted_none, source
 use Rattle.nit_screen.proofs.Basics.{taken_held, uncovered, without, without_session}
 use Rattle.nit_repaint.specs.declared.painter.Painter.{Painter}
 use Rattle.std.proofs.Common.{Bool, List, ap, arith, false, length, refl, sym, ℕ, ◌*◌, ◌+◌, ◌∙◌}
-use Rattle.std.proofs.Common.{◌≡◌, ◌≤◌}
+use Rattle.std.proofs.Common.{◌≡◌}
 
 -- lists that look alike are equally long
 pub as_many_as : {G R : Type 0} (rest : G → R) (gs gs' : List G) → map rest gs' ≡ map rest gs → length gs' ≡ length gs

@@ -6,13 +6,11 @@ use Rattle.nit_screen.proofs.Basics.{glasses_of_call, is_accepted, length-map, m
 use Rattle.nit_screen.proofs.Basics.{pixel, pixel_count, repainted_none, repainted_same, seen}
 use Rattle.nit_screen.proofs.Basics.{session_in, size_of_buffer, source_at, state_of, table_size}
 use Rattle.nit_screen.proofs.Basics.{word_count}
-use Rattle.std.proofs.Common.{Bool, List, None, ap, cond, false, length, refl, slice_index_or}
+use Rattle.std.proofs.Common.{Bool, List, ap, cond, false, length, refl, slice_index_or}
 use Rattle.std.proofs.Common.{subst, sym, true, ℕ, ◌&&◌, ◌*◌, ◌<◌, ◌==◌, ◌∙◌, ◌≡◌, ◌≤◌}
 use Rattle.nit_events.specs.declared.entry.Entry.TheVariants as entry
 use Rattle.nit_paint.specs.Pieces as pieces
-use Rattle.nit_screen.proofs.Marks.{IsMarkOf}
-use Rattle.nit_screen.proofs.MarkLemmas.{size_at, source_of_number, unmeant}
-use Rattle.nit_screen.proofs.CleanCalls.{right_fails}
+use Rattle.nit_screen.proofs.MarkLemmas.{size_at, source_of_number}
 
 -- an entry that makes nothing dirty
 pub unpainted : (s : State) (e : Entry) (s' : State) (glasses : ℕ → Sight) (raw : List ℕ)
@@ -23,10 +21,6 @@ unpainted s e s' glasses raw clean =
 pub refused_clean : (s s' : State) (sid : ℕ) (call : Call) (r : Reply) (p : Point) → is_accepted r ≡ false
     → dirty s (entry.Call sid call r) s' p ≡ false
 refused_clean s s' sid call r p e = ap (λ (b : Bool). b && dirty_by_call sid call s s' p) e
-
-pub unmarked_clean : (s : ServerModel) (before after' : State) (sid : ℕ) (call : Call) (r : Reply) (p : Point)
-    → IsMarkOf s sid call None → dirty before (entry.Call sid call r) after' p ≡ false
-unmarked_clean s before after' sid call r p is = right_fails (is_accepted r) _ (unmeant s sid call is before after' p)
 
 -- ---- the glasses
 

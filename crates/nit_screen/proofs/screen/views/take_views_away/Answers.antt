@@ -1,11 +1,11 @@
-use Rattle.nit_screen.proofs.Lemmas.{CanPaint, IsNamedBy, IsRemovedFrom, IsRepaint, IsViewChange}
-use Rattle.nit_screen.proofs.Lemmas.{StackModel, all_taken, can_paint_gone, can_paint_rest}
+use Rattle.nit_screen.proofs.Lemmas.{IsRemovedFrom, IsViewChange}
+use Rattle.nit_screen.proofs.Lemmas.{all_taken, can_paint_gone, can_paint_rest}
 use Rattle.nit_screen.proofs.Lemmas.{all_painted, goes, goes_painted, gone_by_slot, gone_change}
-use Rattle.nit_screen.proofs.Lemmas.{gone_painted, gone_room, is_of_session, list_any, map}
+use Rattle.nit_screen.proofs.Lemmas.{gone_painted}
 use Rattle.nit_screen.proofs.Lemmas.{no_repaint, one_less, pixel, place_is, repaint_more, seat_here}
-use Rattle.nit_screen.proofs.Lemmas.{source_of_number, stays, still_there, stays_clean, taken_more, taken_none}
-use Rattle.nit_screen.proofs.Lemmas.{uncovered, without_session, without_views}
-use Rattle.std.proofs.Common.{ap, arith, drop, false, length, refl, subst, sym, ℕ, ◌+◌, ◌-◌, ◌<◌}
+use Rattle.nit_screen.proofs.Lemmas.{stays, still_there, stays_clean, taken_more, taken_none}
+use Rattle.nit_screen.proofs.Lemmas.{uncovered, without_views}
+use Rattle.std.proofs.Common.{ap, arith, refl, subst, sym, ℕ, ◌+◌, ◌-◌, ◌<◌}
 use Rattle.std.proofs.Common.{◌∙◌, ◌≡◌, ◌≤◌}
 use Rattle.nit_screen.proofs.screen.views.take_views_away.Goals as goal
 

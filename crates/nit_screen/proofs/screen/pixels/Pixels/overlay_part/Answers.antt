@@ -1,4 +1,4 @@
-use Rattle.std.proofs.Common.{List, ap, arith, drop, length, refl, take, ℕ, ◌++◌, ◌∙◌, ◌≡◌, ◌≤◌}
+use Rattle.std.proofs.Common.{List, ap, arith, drop, length, refl, take, ℕ, ◌++◌, ◌∙◌, ◌≡◌}
 use Rattle.std.proofs.Math.Seq.{take-append_seam}
 use Rattle.nit_screen.proofs.Lemmas.{StackModel, few_views, part_shown, rules, views_of}
 use Rattle.nit_screen.proofs.screen.pixels.Pixels.overlay_part.Goals as goal
