@@ -1,17 +1,17 @@
 -- A call was served, the pixels that it makes dirty were loaded again, and all is shown.
-use Rattle.nit_screen.proofs.Basics.{ArePixels, Call, CanPaint, CanServe, CanShowBy, Close}
-use Rattle.nit_screen.proofs.Basics.{Configuration, Entry, Flat, HoldBuffers, IsCallShown, IsFrameOf}
-use Rattle.nit_screen.proofs.Basics.{IsGlassOf, IsNamedBy, IsOn, IsPartOf, IsPartShown, IsRepaint}
-use Rattle.nit_screen.proofs.Basics.{IsScreen, IsServed, IsServer, IsShown, IsViewChange}
-use Rattle.nit_screen.proofs.Basics.{Painted, Painter, PixelSource, Pixels}
-use Rattle.nit_screen.proofs.Basics.{Rectangle, Repainted, Reply, ScreenModel, ServerModel, Sight}
-use Rattle.nit_screen.proofs.Basics.{SlotView, StackModel, ViewRef, dirty, draws_labels, false≢true}
-use Rattle.nit_screen.proofs.Basics.{frame, glass_in, glasses_of_call, length-frame, length-map, pixel}
-use Rattle.nit_screen.proofs.Basics.{pixel_count, place_of, raw_in, raw_of, repainted_same}
-use Rattle.nit_screen.proofs.Basics.{closed, is_of_session, owner_passes, repainted_words, scenery_of}
-use Rattle.nit_screen.proofs.Basics.{slot_owns_either, with_ended, without_session, without_views}
-use Rattle.nit_screen.proofs.Basics.{slot_view_in, source_at, state_of, wanted}
-use Rattle.std.proofs.Common.{Bool, IsTrue, List, Option, Some, ap, arith, cond, false, length}
+use Rattle.nit_screen.proofs.Basics.{ArePixels, Bool, Call, CanPaint, CanServe, CanShowBy, Close}
+use Rattle.nit_screen.proofs.Basics.{Configuration, Entry, Flat, HoldBuffers, IsCallShown}
+use Rattle.nit_screen.proofs.Basics.{IsFrameOf, IsGlassOf, IsNamedBy, IsOn, IsPartOf, IsPartShown}
+use Rattle.nit_screen.proofs.Basics.{IsRepaint, IsScreen, IsServed, IsServer, IsShown, IsTrue}
+use Rattle.nit_screen.proofs.Basics.{IsViewChange, List, Option, Painted, Painter, PixelSource}
+use Rattle.nit_screen.proofs.Basics.{Pixels, Rectangle, Repainted, Reply, ScreenModel, ServerModel}
+use Rattle.nit_screen.proofs.Basics.{Sight, SlotView, Some, StackModel, ViewRef, ap, arith, closed}
+use Rattle.nit_screen.proofs.Basics.{cond, dirty, draws_labels, false, false≢true, frame, glass_in}
+use Rattle.nit_screen.proofs.Basics.{glasses_of_call, is_of_session, length, length-frame}
+use Rattle.nit_screen.proofs.Basics.{length-map, owner_passes, pixel, pixel_count, place_of, raw_in}
+use Rattle.nit_screen.proofs.Basics.{raw_of, repainted_same, repainted_words, scenery_of}
+use Rattle.nit_screen.proofs.Basics.{slot_owns_either, slot_view_in, source_at, state_of, wanted}
+use Rattle.nit_screen.proofs.Basics.{with_ended, without_session, without_views}
 use Rattle.std.proofs.Common.{map, refl, subst, sym, true, ℕ, ◌*◌, ◌<◌, ◌∙◌, ◌≡◌}
 use Rattle.nit_events.specs.declared.call.Reply.TheVariants as reply
 use Rattle.nit_events.specs.declared.entry.Entry.TheVariants as entry

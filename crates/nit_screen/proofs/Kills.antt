@@ -1,16 +1,15 @@
 -- What a device event does to a screen.
-use Rattle.nit_screen.proofs.Basics.{All-head, Configuration, Delivery, Device, InputState}
-use Rattle.nit_screen.proofs.Basics.{IsForgottenIfKilled, IsKillAlone, IsLive, Item}
-use Rattle.nit_screen.proofs.Basics.{Painted, Point, Repainted, Routed, Routing, ServerModel}
-use Rattle.nit_screen.proofs.Basics.{Session, Sight, State, Status, after, after_deliveries}
-use Rattle.nit_screen.proofs.Basics.{after_delivery, by_life, delivered, deliveries_of, dirty}
-use Rattle.nit_screen.proofs.Basics.{ended, false_from_ne_true, forget, forgotten_again}
-use Rattle.nit_screen.proofs.Basics.{is_kill, is_killed, killed_by, killed_in, kills, list_any}
-use Rattle.nit_screen.proofs.Basics.{or_parts, pixel, pixel_count, receive, repainted_same, route}
-use Rattle.nit_screen.proofs.Basics.{routed_as, routing_of, session_in, session_owns}
-use Rattle.nit_screen.proofs.Basics.{source_at, state_of, views_closed, views_of}
+use Rattle.nit_screen.proofs.Basics.{All, All-head, Bool, Configuration, Delivery, Device}
+use Rattle.nit_screen.proofs.Basics.{InputState, IsForgottenIfKilled, IsKillAlone, IsLive, Item}
+use Rattle.nit_screen.proofs.Basics.{List, None, Option, Painted, Point, Repainted, Routed, Routing}
+use Rattle.nit_screen.proofs.Basics.{ServerModel, Session, Sight, Some, State, Status, [], after}
+use Rattle.nit_screen.proofs.Basics.{after_deliveries, after_delivery, ap, by_life, delivered}
+use Rattle.nit_screen.proofs.Basics.{deliveries_of, dirty, ended, false, false_from_ne_true, forget}
+use Rattle.nit_screen.proofs.Basics.{forgotten_again, is_kill, is_killed, killed_by, killed_in}
+use Rattle.nit_screen.proofs.Basics.{kills, list_any, or_parts, pixel, pixel_count, receive, refl}
+use Rattle.nit_screen.proofs.Basics.{repainted_same, route, routed_as, routing_of, session_in}
+use Rattle.nit_screen.proofs.Basics.{session_owns, set, source_at, state_of, views_closed, views_of}
 use Rattle.nit_screen.proofs.Basics.{with_ended, with_routed}
-use Rattle.std.proofs.Common.{All, Bool, List, None, Option, Some, [], ap, false, refl, set}
 use Rattle.std.proofs.Common.{subst, sym, true, ℕ, ◌||◌, ◌∙◌, ◌∷◌, ◌≡◌}
 use Rattle.nit_events.specs.declared.event.Item.TheVariants as item
 use Rattle.nit_events.specs.declared.event.Status.TheVariants as status

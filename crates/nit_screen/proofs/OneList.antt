@@ -1,20 +1,16 @@
 -- One list that is both the raw words and the frame: they differ in the first words, where the bar stands.
-use Rattle.nit_screen.proofs.Basics.{ArePixels, AreRaw, Bare, Call, IsFrameOf, IsShown, Painter, Pixels, raw_of}
-use Rattle.nit_screen.proofs.Basics.{CanShowBy, Close, Entry, Flat, IsAmongLoads}
-use Rattle.nit_screen.proofs.Basics.{IsCopied, IsRawOf, IsServed, IsWord, IsWordOfSource, Kill}
-use Rattle.nit_screen.proofs.Basics.{Mode, Painted, PixelSource, Point, Repainted, Reply, Scenery}
-use Rattle.nit_screen.proofs.Basics.{ServerModel, ShowsBelow, Sight, State, Xray, bar_rows}
-use Rattle.nit_screen.proofs.Basics.{bar_word, bare_word, dirty}
-use Rattle.nit_screen.proofs.Basics.{draws_labels, ext_get_or, false≢true, flat_same, flat_shown}
-use Rattle.nit_screen.proofs.Basics.{frame, frame_fits}
-use Rattle.nit_screen.proofs.Basics.{get_or-frame, get_or-replicate, in_bar}
-use Rattle.nit_screen.proofs.Basics.{length-frame}
-use Rattle.nit_screen.proofs.Basics.{length-replicate, nat_tests, owner}
-use Rattle.nit_screen.proofs.Basics.{owner_word, pixel, pixel_count, raw_in, scenery_of}
-use Rattle.nit_screen.proofs.Basics.{shown, slice_index, source_at, state_of}
-use Rattle.nit_screen.proofs.Basics.{unbarred}
-use Rattle.std.proofs.Common.{All, Bool, IsTrue, List, Option, ap, arith, cond, false}
-use Rattle.std.proofs.Common.{length, nat_lt, refl, replicate, subst, suc, sym, true, zero}
+use Rattle.nit_screen.proofs.Basics.{All, ArePixels, AreRaw, Bare, Bool, Call, CanShowBy, Close}
+use Rattle.nit_screen.proofs.Basics.{Entry, Flat, IsAmongLoads, IsCopied, IsFrameOf, IsRawOf}
+use Rattle.nit_screen.proofs.Basics.{IsServed, IsShown, IsTrue, IsWord, IsWordOfSource, Kill, List}
+use Rattle.nit_screen.proofs.Basics.{Mode, Option, Painted, Painter, PixelSource, Pixels, Point}
+use Rattle.nit_screen.proofs.Basics.{Repainted, Reply, Scenery, ServerModel, ShowsBelow, Sight}
+use Rattle.nit_screen.proofs.Basics.{State, Xray, ap, arith, bar_rows, bar_word, bare_word, cond}
+use Rattle.nit_screen.proofs.Basics.{dirty, draws_labels, ext_get_or, false, false≢true, flat_same}
+use Rattle.nit_screen.proofs.Basics.{flat_shown, frame, frame_fits, get_or-frame, get_or-replicate}
+use Rattle.nit_screen.proofs.Basics.{in_bar, length, length-frame, length-replicate, nat_lt}
+use Rattle.nit_screen.proofs.Basics.{nat_tests, owner, owner_word, pixel, pixel_count, raw_in}
+use Rattle.nit_screen.proofs.Basics.{raw_of, refl, replicate, scenery_of, shown, slice_index}
+use Rattle.nit_screen.proofs.Basics.{source_at, state_of, subst, suc, sym, true, unbarred, zero}
 use Rattle.std.proofs.Common.{ℕ, ◌*◌, ◌<◌, ◌∙◌, ◌≡◌, ◌≤◌}
 use Rattle.nit_events.specs.declared.entry.Entry.TheVariants as entry
 use Rattle.nit_screen.proofs.KeptFrames.{bar_clean, bare_source, has_owner, kept_served, owned}

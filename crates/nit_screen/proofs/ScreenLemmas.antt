@@ -1,12 +1,12 @@
 -- What a call does to a screen.
-use Rattle.nit_screen.proofs.Basics.{Call, Configuration, Entry, HoldBuffers, IsGlassOf, IsServed}
-use Rattle.nit_screen.proofs.Basics.{IsServer, Painted, Point, Repainted, Reply, ServerModel, Sight}
-use Rattle.nit_screen.proofs.Basics.{State, dirty, dirty_by_call, eqb-true, glass_in}
-use Rattle.nit_screen.proofs.Basics.{glasses_of_call, is_accepted, length-map, member, no_sight}
-use Rattle.nit_screen.proofs.Basics.{pixel, pixel_count, repainted_none, repainted_same, seen}
-use Rattle.nit_screen.proofs.Basics.{session_in, size_of_buffer, source_at, state_of, table_size}
-use Rattle.nit_screen.proofs.Basics.{word_count}
-use Rattle.std.proofs.Common.{Bool, List, ap, cond, false, length, refl, slice_index_or}
+use Rattle.nit_screen.proofs.Basics.{Bool, Call, Configuration, Entry, HoldBuffers, IsGlassOf}
+use Rattle.nit_screen.proofs.Basics.{IsServed, IsServer, List, Painted, Point, Repainted, Reply}
+use Rattle.nit_screen.proofs.Basics.{ServerModel, Sight, State, ap, cond, dirty, dirty_by_call}
+use Rattle.nit_screen.proofs.Basics.{eqb-true, false, glass_in, glasses_of_call, is_accepted}
+use Rattle.nit_screen.proofs.Basics.{length, length-map, member, no_sight, pixel, pixel_count, refl}
+use Rattle.nit_screen.proofs.Basics.{repainted_none, repainted_same, seen, session_in}
+use Rattle.nit_screen.proofs.Basics.{size_of_buffer, slice_index_or, source_at, state_of}
+use Rattle.nit_screen.proofs.Basics.{table_size, word_count}
 use Rattle.std.proofs.Common.{subst, sym, true, ℕ, ◌&&◌, ◌*◌, ◌<◌, ◌==◌, ◌∙◌, ◌≡◌, ◌≤◌}
 use Rattle.nit_events.specs.declared.entry.Entry.TheVariants as entry
 use Rattle.nit_paint.specs.Pieces as pieces

@@ -1,14 +1,13 @@
 -- What holds of a screen stays so when a session, of which nothing is left, opens again.
-use Rattle.std.proofs.Common.{Bool, List, ap, false, get_or-set_other, get_or-set_same, length, map}
+use Rattle.nit_screen.proofs.Basics.{Bool, CanShow, CanShowBy, Configuration, IsGlass, IsGlassOf}
+use Rattle.nit_screen.proofs.Basics.{IsServer, List, Member, Pixels, ServerModel, Session, Sight}
+use Rattle.nit_screen.proofs.Basics.{ap, bar_rows, buffer_size, client_kept, ended, eqb-false}
+use Rattle.nit_screen.proofs.Basics.{eqb-true, false, first_session, get_or-set_other}
+use Rattle.nit_screen.proofs.Basics.{get_or-set_same, glass_in, length, length-map, length-set, map}
+use Rattle.nit_screen.proofs.Basics.{map-set, member, no_sight, no_size, pixel, relabelled, renamed}
+use Rattle.nit_screen.proofs.Basics.{seen, session_in, size_of_buffer, source, source_at, state_of}
+use Rattle.nit_screen.proofs.Basics.{table_size, vec_capacity, views_of, with_ended, with_opened}
 use Rattle.std.proofs.Common.{refl, set, subst, sym, true, ℕ, ◌<◌, ◌==◌, ◌∙◌, ◌≡◌}
-use Rattle.nit_screen.proofs.Basics.{CanShow, CanShowBy, Pixels, vec_capacity}
-use Rattle.nit_screen.proofs.Basics.{Configuration, IsGlass, IsGlassOf, IsServer, Member}
-use Rattle.nit_screen.proofs.Basics.{ServerModel, Session, Sight, bar_rows, buffer_size}
-use Rattle.nit_screen.proofs.Basics.{client_kept, ended, eqb-false, eqb-true, first_session}
-use Rattle.nit_screen.proofs.Basics.{glass_in, length-map, length-set, map-set, member, no_sight}
-use Rattle.nit_screen.proofs.Basics.{no_size, pixel, relabelled, renamed, seen, session_in}
-use Rattle.nit_screen.proofs.Basics.{size_of_buffer, source, source_at, state_of, table_size}
-use Rattle.nit_screen.proofs.Basics.{views_of, with_ended, with_opened}
 use Rattle.nit_screen.proofs.BufferSizes.{sizes_stay}
 use Rattle.nit_events.specs.declared.event.Status.TheVariants as status
 

@@ -1,5 +1,5 @@
-use Rattle.nit_screen.proofs.Lemmas.{PixelSource, Repainted, arith, as_many, as_many_as, can_relabel}
-use Rattle.nit_screen.proofs.Lemmas.{glass_in, label_there, length-map, map, pixel}
+use Rattle.nit_screen.proofs.Lemmas.{PixelSource, Repainted, arith, as_many, as_many_as}
+use Rattle.nit_screen.proofs.Lemmas.{can_relabel, glass_in, label_there, length-map, map, pixel}
 use Rattle.nit_screen.proofs.Lemmas.{pixel_count, raw_of, same_source, session_owns, state_of}
 use Rattle.nit_screen.proofs.Lemmas.{subst, sym, tables_stay, ℕ, ◌∙◌}
 use Rattle.nit_screen.proofs.screen.Screen.reopen.Goals as goal

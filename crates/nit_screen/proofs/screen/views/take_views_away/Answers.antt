@@ -1,12 +1,9 @@
-use Rattle.nit_screen.proofs.Lemmas.{IsRemovedFrom, IsViewChange}
-use Rattle.nit_screen.proofs.Lemmas.{all_taken, can_paint_gone, can_paint_rest}
-use Rattle.nit_screen.proofs.Lemmas.{all_painted, goes, goes_painted, gone_by_slot, gone_change}
-use Rattle.nit_screen.proofs.Lemmas.{gone_painted}
-use Rattle.nit_screen.proofs.Lemmas.{no_repaint, one_less, pixel, place_is, repaint_more, seat_here}
-use Rattle.nit_screen.proofs.Lemmas.{stays, still_there, stays_clean, taken_more, taken_none}
-use Rattle.nit_screen.proofs.Lemmas.{uncovered, without_views}
-use Rattle.std.proofs.Common.{ap, arith, refl, subst, sym, ℕ, ◌+◌, ◌-◌, ◌<◌}
-use Rattle.std.proofs.Common.{◌∙◌, ◌≡◌, ◌≤◌}
+use Rattle.nit_screen.proofs.Lemmas.{IsRemovedFrom, IsViewChange, all_painted, all_taken}
+use Rattle.nit_screen.proofs.Lemmas.{can_paint_gone, can_paint_rest, goes, goes_painted}
+use Rattle.nit_screen.proofs.Lemmas.{gone_by_slot, gone_change, gone_painted, no_repaint, one_less}
+use Rattle.nit_screen.proofs.Lemmas.{pixel, place_is, repaint_more, seat_here, stays, stays_clean}
+use Rattle.nit_screen.proofs.Lemmas.{still_there, taken_more, taken_none, uncovered, without_views}
+use Rattle.std.proofs.Common.{ap, arith, refl, subst, sym, ℕ, ◌+◌, ◌-◌, ◌<◌, ◌∙◌, ◌≡◌, ◌≤◌}
 use Rattle.nit_screen.proofs.screen.views.take_views_away.Goals as goal
 
 pub views-init : goal.views-init
