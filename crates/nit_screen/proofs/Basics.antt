@@ -1,5 +1,4 @@
 -- What lemmas use: the words of clauses, the library's lemmas, and those of the crates below.
-pub use Rattle.nit_damage.proofs.ForCallers.{rows_hold}
 pub use Rattle.nit_journal.proofs.ForCallers.{accepted_reply, refused_reply, serve_accepted}
 pub use Rattle.nit_journal.proofs.ForCallers.{serve_refused}
 pub use Rattle.nit_overlay.proofs.ForCallers.{flat_same, flat_shown, frame_fits, get_or-frame}
@@ -10,59 +9,59 @@ pub use Rattle.nit_place.proofs.ForCallers.{apart, fits_within, name_both, pixel
 pub use Rattle.nit_repaint.proofs.ForCallers.{all_of_session, all_painted, all_taken, find_moved}
 pub use Rattle.nit_repaint.proofs.ForCallers.{goes, goes_painted, gone_change, gone_painted}
 pub use Rattle.nit_repaint.proofs.ForCallers.{gone_room, held_by_all, nobody_calls, none_left}
-pub use Rattle.nit_repaint.proofs.ForCallers.{nothing_spanned, on_screen, painted_more}
-pub use Rattle.nit_repaint.proofs.ForCallers.{part_of_session, place_changed, seat_here, stays}
-pub use Rattle.nit_repaint.proofs.ForCallers.{stays_clean, taken_held, taken_more, taken_none}
-pub use Rattle.nit_repaint.proofs.ForCallers.{without_changed, without_moved, without_none}
+pub use Rattle.nit_repaint.proofs.ForCallers.{nothing_spanned, painted_more, part_of_session}
+pub use Rattle.nit_repaint.proofs.ForCallers.{place_changed, seat_here, stays, stays_clean}
+pub use Rattle.nit_repaint.proofs.ForCallers.{taken_held, taken_more, taken_none, without_changed}
+pub use Rattle.nit_repaint.proofs.ForCallers.{without_moved, without_none}
 pub use Rattle.nit_screen.specs.Terms.{Above, Agrees, AllByRecursion, AreBelowNext, AreInked}
-pub use Rattle.nit_screen.specs.Terms.{AreLabelled, AreLabelsApart, AreLive, AreRaw, AreSet, Back}
-pub use Rattle.nit_screen.specs.Terms.{Bare, Black, Buffer, Call, CanAccept, CanPaint, CanServe}
-pub use Rattle.nit_screen.specs.Terms.{CanShow, CanShowBy, Close, Configuration, IsCallShown}
-pub use Rattle.nit_screen.specs.Terms.{ArePixels, IsPartShown, IsRepaint, IsScreen, IsShown}
-pub use Rattle.nit_screen.specs.Terms.{LoadsNothing}
-pub use Rattle.nit_screen.specs.Terms.{Delivery, Destroy, Device, Entry, Event, Flat, Front}
-pub use Rattle.nit_screen.specs.Terms.{HaveOwnNames, HoldBuffers, InputState, IsAmongLoads, IsClean}
-pub use Rattle.nit_screen.specs.Terms.{IsCopied, IsForgottenIfKilled, IsFrameOf, IsGlass, IsGlassOf}
-pub use Rattle.nit_screen.specs.Terms.{IsInked, IsInkedBy, IsKillAlone, IsLabelShown, IsLabelled}
-pub use Rattle.nit_screen.specs.Terms.{IsLegal, IsLive, IsNamedBy, IsNewlyNamed, IsOn, IsPartOf}
-pub use Rattle.nit_screen.specs.Terms.{IsQuiet, IsRawOf, IsRemovedFrom, IsServed, IsServer}
-pub use Rattle.nit_screen.specs.Terms.{IsSlotView, IsStack, IsViewChange, IsWord, IsWordOfSource}
-pub use Rattle.nit_screen.specs.Terms.{Item, Kill, LegalFrom, MeanSame, Member, Mode, NoPair}
-pub use Rattle.nit_screen.specs.Terms.{Offset, Painted, PixelSource, Place, Point, Rectangle}
-pub use Rattle.nit_screen.specs.Terms.{Refresh, Repainted, Reply, Routed, Routing, Scenery}
-pub use Rattle.nit_screen.specs.Terms.{ScreenModel, ServerModel, Session, ShowsBelow, ShowsLabels}
-pub use Rattle.nit_screen.specs.Terms.{Sight, Size, SlotView, StackModel, State, Status, Take}
-pub use Rattle.nit_screen.specs.Terms.{Title, Upgrade, View, ViewRef, Word, Xray, [], accepted}
-pub use Rattle.nit_screen.specs.Terms.{after, after_accepted, after_deliveries, after_delivery}
-pub use Rattle.nit_screen.specs.Terms.{bar_rows, bar_word, bare_word, black_or_word, buffer_size}
-pub use Rattle.nit_screen.specs.Terms.{by_life, by_refusal, by_status, changed, covering, covers}
-pub use Rattle.nit_screen.specs.Terms.{delivered, deliveries_of, dirty, dirty_by_call, dot}
-pub use Rattle.nit_screen.specs.Terms.{draws_labels, ended, first_session, first_state, fits}
-pub use Rattle.nit_screen.specs.Terms.{forget, frame, glass_in, glasses_of_call, has_dot, has_slot}
-pub use Rattle.nit_screen.specs.Terms.{in_bar, ink_of, input_after_call, is_accepted, is_in_picture}
-pub use Rattle.nit_screen.specs.Terms.{is_kill, is_killed, is_named, is_of_session, is_owned_by}
-pub use Rattle.nit_screen.specs.Terms.{is_owner, is_session, is_slot, is_some, is_view, is_word_in}
+pub use Rattle.nit_screen.specs.Terms.{AreLabelled, AreLabelsApart, AreLive, ArePixels, AreRaw}
+pub use Rattle.nit_screen.specs.Terms.{AreSet, Back, Bare, Black, Buffer, Call, CanAccept, CanPaint}
+pub use Rattle.nit_screen.specs.Terms.{CanServe, CanShow, CanShowBy, Close, Configuration, Delivery}
+pub use Rattle.nit_screen.specs.Terms.{Destroy, Device, Entry, Event, Flat, Front, HaveOwnNames}
+pub use Rattle.nit_screen.specs.Terms.{HoldBuffers, IfSome, InputState, IsAmongLoads, IsCallShown}
+pub use Rattle.nit_screen.specs.Terms.{IsClean, IsCopied, IsForgottenIfKilled, IsFrameOf, IsGlass}
+pub use Rattle.nit_screen.specs.Terms.{IsGlassOf, IsInked, IsInkedBy, IsKillAlone, IsLabelShown}
+pub use Rattle.nit_screen.specs.Terms.{IsLabelled, IsLegal, IsLive, IsNamedBy, IsNewlyNamed, IsOn}
+pub use Rattle.nit_screen.specs.Terms.{IsPartOf, IsPartShown, IsQuiet, IsRawOf, IsRemovedFrom}
+pub use Rattle.nit_screen.specs.Terms.{IsRepaint, IsScreen, IsServed, IsServer, IsShown, IsSlotView}
+pub use Rattle.nit_screen.specs.Terms.{IsStack, IsTrue, IsViewChange, IsWord, IsWordOfSource, Item}
+pub use Rattle.nit_screen.specs.Terms.{Kill, LegalFrom, MeanSame, Member, Mode, NoPair, Offset}
+pub use Rattle.nit_screen.specs.Terms.{Painted, Painter, PixelSource, Pixels, Place, Point}
+pub use Rattle.nit_screen.specs.Terms.{Rectangle, Refresh, Repainted, Reply, Routed, Routing}
+pub use Rattle.nit_screen.specs.Terms.{Scenery, ScreenModel, ServerModel, Session, ShowsBelow}
+pub use Rattle.nit_screen.specs.Terms.{ShowsLabels, Sight, Size, SlotView, Some, StackModel, State}
+pub use Rattle.nit_screen.specs.Terms.{Status, Take, Title, Upgrade, View, ViewRef, Word, Xray, []}
+pub use Rattle.nit_screen.specs.Terms.{accepted, after, after_accepted, after_deliveries}
+pub use Rattle.nit_screen.specs.Terms.{after_delivery, bar_rows, bar_word, bare_word, black_or_word}
+pub use Rattle.nit_screen.specs.Terms.{buffer_size, by_life, by_refusal, by_status, changed}
+pub use Rattle.nit_screen.specs.Terms.{covering, covers, delivered, deliveries_of, dirty}
+pub use Rattle.nit_screen.specs.Terms.{dirty_by_call, dot, draws_labels, drop, ended, false}
+pub use Rattle.nit_screen.specs.Terms.{first_session, first_state, fits, forget, frame, glass_in}
+pub use Rattle.nit_screen.specs.Terms.{glasses_of_call, has_dot, has_slot, in_bar, ink_of}
+pub use Rattle.nit_screen.specs.Terms.{input_after_call, is_accepted, is_in_picture, is_kill}
+pub use Rattle.nit_screen.specs.Terms.{is_killed, is_named, is_of_session, is_owned_by, is_owner}
+pub use Rattle.nit_screen.specs.Terms.{is_session, is_slot, is_some, is_view, is_word_in}
 pub use Rattle.nit_screen.specs.Terms.{kept_frame, killed_by, killed_in, kills, label_place}
 pub use Rattle.nit_screen.specs.Terms.{label_place_of, label_scenery, label_text_of, label_width}
 pub use Rattle.nit_screen.specs.Terms.{layer, length, list_any, loads_at, map, member, moved}
-pub use Rattle.nit_screen.specs.Terms.{name_of, new_view, no_sight, no_size, opened, option_map_or}
-pub use Rattle.nit_screen.specs.Terms.{owner, owner_of, owner_passes, owner_word, owns_either}
-pub use Rattle.nit_screen.specs.Terms.{picture_height, picture_width, pixel, pixel_at, pixel_count}
-pub use Rattle.nit_screen.specs.Terms.{place_of, point, pos, position_or_len, put_above, put_again}
-pub use Rattle.nit_screen.specs.Terms.{put_back, put_front, raw_in, raw_of, receive, rectangle}
-pub use Rattle.nit_screen.specs.Terms.{refusal, relabelled, replay, replay_from, route, routed_as}
-pub use Rattle.nit_screen.specs.Terms.{routing_of, same_slot, scenery_of, seen, serve, session}
-pub use Rattle.nit_screen.specs.Terms.{session_in, session_owns, shown, shown_by, shown_index}
-pub use Rattle.nit_screen.specs.Terms.{shows_part, size_of, size_of_buffer, slice_get, slice_index}
-pub use Rattle.nit_screen.specs.Terms.{slot_owns_either, slot_view_in, source, source_at, source_in}
-pub use Rattle.nit_screen.specs.Terms.{source_of, source_of_number, source_under, spans, state_of}
-pub use Rattle.nit_screen.specs.Terms.{table_size, taking, times_shown, unbarred, uncovered, unless}
+pub use Rattle.nit_screen.specs.Terms.{name_of, new_view, no_sight, no_size, opened, option_map}
+pub use Rattle.nit_screen.specs.Terms.{option_map_or, owner, owner_of, owner_passes, owner_word}
+pub use Rattle.nit_screen.specs.Terms.{owns_either, picture_height, picture_width, pixel, pixel_at}
+pub use Rattle.nit_screen.specs.Terms.{pixel_count, place_of, point, pos, position_or_len}
+pub use Rattle.nit_screen.specs.Terms.{put_above, put_again, put_back, put_front, raw_in, raw_of}
+pub use Rattle.nit_screen.specs.Terms.{receive, rectangle, refusal, relabelled, replay, replay_from}
+pub use Rattle.nit_screen.specs.Terms.{replicate, route, routed_as, routing_of, same_slot}
+pub use Rattle.nit_screen.specs.Terms.{scenery_of, seen, serve, session, session_in, session_owns}
+pub use Rattle.nit_screen.specs.Terms.{shown, shown_by, shown_index, shows_part, size_of}
+pub use Rattle.nit_screen.specs.Terms.{size_of_buffer, slice_get, slice_index, slot_owns_either}
+pub use Rattle.nit_screen.specs.Terms.{slot_view_in, source, source_at, source_in, source_of}
+pub use Rattle.nit_screen.specs.Terms.{source_of_number, source_under, spans, state_of, table_size}
+pub use Rattle.nit_screen.specs.Terms.{taking, times_shown, unbarred, uncovered, unless}
 pub use Rattle.nit_screen.specs.Terms.{unless_it_is, vec_capacity, view_owns, view_ref, view_slots}
 pub use Rattle.nit_screen.specs.Terms.{view_text, view_word, views_of, wanted, with_delivered}
 pub use Rattle.nit_screen.specs.Terms.{with_ended, with_new, with_opened, with_reopened}
 pub use Rattle.nit_screen.specs.Terms.{with_routed, without, without_session, without_view}
 pub use Rattle.nit_screen.specs.Terms.{without_views, word_count, ℕ, ◌orelse◌}
-pub use Rattle.nit_screen.specs.Below.{Painter, Pixels}
 pub use Rattle.nit_server.proofs.ForCallers.{All-changed, All-put, IsPutIn, IsSpared, NoPair-map}
 pub use Rattle.nit_server.proofs.ForCallers.{NoPair-put, NoPair-without, client_kept, closed}
 pub use Rattle.nit_server.proofs.ForCallers.{find-alike, find-changed, find-moved, find-put_failing}
@@ -74,10 +73,12 @@ pub use Rattle.nit_stack.proofs.ForCallers.{found_passes, found_some, list_any-m
 pub use Rattle.nit_stack.proofs.ForCallers.{owner_named, owner_of_session, owner_of_views, place_is}
 pub use Rattle.nit_stack.proofs.ForCallers.{slot_at, views_closed}
 pub use Rattle.nit_word.proofs.ForCallers.{seen_none}
-pub use Rattle.std.proofs.Common.{IsTrue, ap, arith, false, refl, rules, subst, sym, ◌∙◌}
+pub use Rattle.std.proofs.Common.{All, Bool, List, None, Option, ap, arith, cond, eqb, find, get_or}
+pub use Rattle.std.proofs.Common.{get_or-set_other, get_or-set_same, inl, inr, nat_lt, not, refl}
+pub use Rattle.std.proofs.Common.{rules, set, slice_index_or, subst, suc, sum, sym, true, zero, ◌∙◌}
 pub use Rattle.std.proofs.Math.ListN.{get_or-map, length-set}
 pub use Rattle.std.proofs.Math.Nat.{mul-le-mul_right}
-pub use Rattle.std.proofs.Math.Seq.{map-set_same}
+pub use Rattle.std.proofs.Math.Seq.{map-set_same, take-append_seam}
 pub use Rattle.std.proofs.lemmas.Bool.{and_parts, cases_lt, eq-eqb, eqb-false, eqb-true}
 pub use Rattle.std.proofs.lemmas.Bool.{false_from_ne_true, false≢true, or_from, or_parts}
 pub use Rattle.std.proofs.lemmas.Bool.Decides.{nat_tests}

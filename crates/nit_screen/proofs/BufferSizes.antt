@@ -1,12 +1,12 @@
 -- The sizes of the sessions' buffers after a call or an item, and the sources of pixels by them.
-use Rattle.std.proofs.Common.{Bool, List, None, Option, Some, [], ap, false, get_or}
-use Rattle.std.proofs.Common.{get_or-set_other, length, nat_lt, refl, set, sym, true, ℕ, ◌++◌, ◌+◌}
-use Rattle.std.proofs.Common.{◌∙◌, ◌∷◌, ◌≡◌, if◌then◌else◌}
-use Rattle.nit_screen.proofs.Basics.{Buffer, Call, Close, Event, IsSpared, Point, Reply, Session}
-use Rattle.nit_screen.proofs.Basics.{Size, Status, Take, accepted, accepted_reply, buffer_size}
-use Rattle.nit_screen.proofs.Basics.{by_life, by_refusal, eqb-false, first_session, get_or-map}
+use Rattle.nit_screen.proofs.Basics.{Bool, Buffer, Call, Close, Event, IsSpared, List, None, Option}
+use Rattle.nit_screen.proofs.Basics.{Point, Reply, Session, Size, Some, Status, Take, [], accepted}
+use Rattle.nit_screen.proofs.Basics.{accepted_reply, ap, buffer_size, by_life, by_refusal}
+use Rattle.nit_screen.proofs.Basics.{eqb-false, false, first_session, get_or, get_or-map}
 use Rattle.nit_screen.proofs.Basics.{is_accepted, is_session, map-set_same, receive, refusal}
 use Rattle.nit_screen.proofs.Basics.{session_in, source_under, taking}
+use Rattle.std.proofs.Common.{get_or-set_other, length, nat_lt, refl, set, sym, true, ℕ, ◌++◌, ◌+◌}
+use Rattle.std.proofs.Common.{◌∙◌, ◌∷◌, ◌≡◌, if◌then◌else◌}
 use Rattle.nit_journal.specs.Session.{serve}
 use Rattle.nit_events.specs.declared.event.Item.TheVariants as item
 use Rattle.nit_events.specs.declared.event.Status.TheVariants as status

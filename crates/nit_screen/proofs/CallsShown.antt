@@ -1,22 +1,18 @@
 -- A call was served, the pixels that it makes dirty were loaded again, and all is shown.
-use Rattle.nit_screen.proofs.Basics.{ArePixels, Call, CanPaint, CanServe, CanShowBy, Close}
+use Rattle.nit_screen.proofs.Basics.{ArePixels, Bool, Call, CanPaint, CanServe, CanShowBy, Close}
 use Rattle.nit_screen.proofs.Basics.{Configuration, Entry, Flat, HoldBuffers, IsCallShown}
-use Rattle.nit_screen.proofs.Basics.{IsFrameOf}
-use Rattle.nit_screen.proofs.Basics.{IsGlassOf, IsNamedBy, IsOn, IsPartOf, IsPartShown, IsRepaint}
-use Rattle.nit_screen.proofs.Basics.{IsScreen, IsServed, IsServer, IsShown, IsViewChange}
-use Rattle.nit_screen.proofs.Basics.{LoadsNothing, Painted, Painter, PixelSource, Pixels}
-use Rattle.nit_screen.proofs.Basics.{Rectangle, Repainted, Reply, ScreenModel, ServerModel, Sight}
-use Rattle.nit_screen.proofs.Basics.{SlotView, StackModel, ViewRef, dirty, draws_labels, false≢true}
-use Rattle.nit_screen.proofs.Basics.{frame, glass_in, glasses_of_call, length-frame, length-map}
-use Rattle.nit_screen.proofs.Basics.{pixel}
-use Rattle.nit_screen.proofs.Basics.{pixel_count, place_of, raw_in, raw_of, refusal, repainted_same}
-use Rattle.nit_screen.proofs.Basics.{closed, is_of_session, owner_passes, repainted_words}
-use Rattle.nit_screen.proofs.Basics.{scenery_of, session}
-use Rattle.nit_screen.proofs.Basics.{slot_owns_either, with_ended, without_session, without_views}
-use Rattle.nit_screen.proofs.Basics.{slot_view_in, source_at, state_of, vec_capacity, wanted}
-use Rattle.std.proofs.Common.{Bool, IsTrue, List, None, Option, Some, ap, arith, cond, false}
-use Rattle.std.proofs.Common.{length}
-use Rattle.std.proofs.Common.{map, refl, subst, sym, true, ℕ, ◌*◌, ◌<◌, ◌∙◌, ◌≡◌, ◌≤◌}
+use Rattle.nit_screen.proofs.Basics.{IsFrameOf, IsGlassOf, IsNamedBy, IsOn, IsPartOf, IsPartShown}
+use Rattle.nit_screen.proofs.Basics.{IsRepaint, IsScreen, IsServed, IsServer, IsShown, IsTrue}
+use Rattle.nit_screen.proofs.Basics.{IsViewChange, List, Option, Painted, Painter, PixelSource}
+use Rattle.nit_screen.proofs.Basics.{Pixels, Rectangle, Repainted, Reply, ScreenModel, ServerModel}
+use Rattle.nit_screen.proofs.Basics.{Sight, SlotView, Some, StackModel, ViewRef, ap, arith, closed}
+use Rattle.nit_screen.proofs.Basics.{cond, dirty, draws_labels, false, false≢true, frame, glass_in}
+use Rattle.nit_screen.proofs.Basics.{glasses_of_call, is_of_session, length, length-frame}
+use Rattle.nit_screen.proofs.Basics.{length-map, owner_passes, pixel, pixel_count, place_of, raw_in}
+use Rattle.nit_screen.proofs.Basics.{raw_of, repainted_same, repainted_words, scenery_of}
+use Rattle.nit_screen.proofs.Basics.{slot_owns_either, slot_view_in, source_at, state_of, wanted}
+use Rattle.nit_screen.proofs.Basics.{with_ended, without_session, without_views}
+use Rattle.std.proofs.Common.{map, refl, subst, sym, true, ℕ, ◌*◌, ◌<◌, ◌∙◌, ◌≡◌}
 use Rattle.nit_events.specs.declared.call.Reply.TheVariants as reply
 use Rattle.nit_events.specs.declared.entry.Entry.TheVariants as entry
 use Rattle.nit_events.specs.declared.event.Status.TheVariants as status
@@ -169,11 +165,8 @@ module _ {G C R S : Type 0} {sight : G → Sight} {rest : G → R} {own_sight : 
   flat_frame flat =
       let some : 0 < s.config.width = let a = hb.standing.screen.0 in let b =
       hb.screen.0 in omega (arith, a, b) in
-      flat_kept s s' sid call reply _ _ one.is_apart one.bar one.painter.raw.items painter.raw.items one.frame.items
-      (length one.frame.items) (vec_capacity one.frame) one.painter.cutter.room one.labels.texts.items
-      (length one.labels.places.items) chosen can.unrefused.session other served some made.pixels.0 loads.count
-      (bar_kept s s' one.bar (same_config sid call reply s s' served) made.pixels.0.bar) dirty_painted is_dirty single
-      flat made.pixels.1
+      flat_kept s s' sid call reply _ _ one painter chosen can.unrefused.session other served some made.pixels.0
+      loads.count dirty_painted is_dirty single flat made.pixels.1
 
   -- where labels are drawn, the words of the frame stand apart before the call
   labelled_before : IsTrue (draws_labels s'.input.mode) → one.is_apart ≡ true
@@ -203,8 +196,7 @@ module _ {G C R S : Type 0} {sight : G → Sight} {rest : G → R} {own_sight : 
           (kept_part s s' sid part call reply
           (glasses_of_call (map sight one.painter.glasses.items) sid (own_sight own))
           (glasses_of_call (map sight painter.glasses.items) sid (own_sight own')) one.painter.raw.items
-          now.painter.raw.items one.frame.items now.frame.items chosen can.unrefused.accepted served on
-              (rw e.raw dirty_painted)
+          now.painter.raw.items one.frame.items now.frame.items chosen can.unrefused.accepted served on (rw e.raw dirty_painted)
           (ap (λ w. length w.items) e.raw ∙ loads.count ∙ made.pixels.0.pixels) is_dirty e.shown (frame_before m)),
       λ d. e.kept.0 ∙ labelled_before m,
     );
@@ -293,8 +285,7 @@ module _ {G C R S : Type 0} (sight : G → Sight) (rest : G → R) (own_sight : 
         can_show_call s s' p one painter hb ha can served other screen made single is_dirty loaded,
         apart_before s s' p one painter hb ha can served other screen made single is_dirty loaded,
         λ now flat labelled. loaded_shown s s' p one painter hb ha can served other screen made single is_dirty loaded
-            now flat (λ m. part_is_shown s s' p one painter hb ha can served other screen made single is_dirty loaded
-                now
+            now flat (λ m. part_is_shown s s' p one painter hb ha can served other screen made single is_dirty loaded now
             part on m (labelled m)),
       )
 
@@ -307,8 +298,7 @@ pub close_call : {G C R S : Type 0} {sight : G → Sight} {rest : G → R} {own_
     → sid < length mid.sessions → without_views sid mid ≡ without_views sid s → s' ≡ with_ended sid status.Closed mid
     → IsRepaint sight rest own_sight own_rest (pieces.source_of_number (without_session sid s.stack))
     (λ k. owner_passes (is_of_session sid) s.stack (pixel s.stack.width k)) sid own own' p.painter painter
-    → CanShowBy s' (record p { painter = painter }) × ((now : Pixels G) → IsShown s' (record p { painter = painter })
-        now
+    → CanShowBy s' (record p { painter = painter }) × ((now : Pixels G) → IsShown s' (record p { painter = painter }) now
     → IsScreen s' (map sight now.painter.glasses.items) now
     × IsCallShown sight rest own_sight own_rest sid Close reply.Done own own' (screen_of s p) (screen_of s' now))
 close_call {sid = sid} {s = s} {s' = s'} {p = p} {painter = painter} mid hb ha can screen within left now loaded =
@@ -334,16 +324,4 @@ screen_unloaded sight s s' p now config screen shown = record {
   shown = shown.pixels;
   glasses = rw (shown.glasses, config) screen.glasses;
   tables = rw (shown.glasses, config) screen.tables;
-}
-
-pub unloaded_shown : {G C R S : Type 0} {sight : G → Sight} {rest : G → R} {own_sight : C → Sight} {own_rest : C → S}
-    {sid : ℕ} {call : Call} {reply : Reply} {own : C} {before now : ScreenModel G}
-    → LoadsNothing sid call reply before now
-    → IsCallShown sight rest own_sight own_rest sid call reply own own before now
-unloaded_shown e = record {
-  served = e.served;
-  painted = rw (e.raw, e.glasses) (e.painted _ _);
-  idle = rw e.glasses refl;
-  own_stays = refl;
-  rests = rw e.glasses refl;
 }

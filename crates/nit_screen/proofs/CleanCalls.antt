@@ -1,18 +1,17 @@
 -- The owner and the source of a pixel that a call does not make dirty.
-use Rattle.std.proofs.Common.{Bool, List, None, Option, Some, ap, cond, false, find, map}
+use Rattle.nit_screen.proofs.Basics.{Above, Agrees, Back, Bool, Buffer, Call, Close, Destroy, Front}
+use Rattle.nit_screen.proofs.Basics.{InputState, IsPutIn, IsSpared, List, None, Offset, Option}
+use Rattle.nit_screen.proofs.Basics.{Place, Point, Reply, Session, Size, Some, State, Title, View}
+use Rattle.nit_screen.proofs.Basics.{after, after_accepted, ap, bar_rows, buffer_size, changed}
+use Rattle.nit_screen.proofs.Basics.{cond, covers, dirty_by_call, false, find, find-alike}
+use Rattle.nit_screen.proofs.Basics.{find-changed, find-moved, find-put_failing, find-spared}
+use Rattle.nit_screen.proofs.Basics.{in_bar, input_after_call, is_accepted, is_session, is_view}
+use Rattle.nit_screen.proofs.Basics.{layer, map, moved, new_view, nothing_spanned, option_map_or}
+use Rattle.nit_screen.proofs.Basics.{or_parts, owner, owner_of, pos, put_above, put_back, put_front}
+use Rattle.nit_screen.proofs.Basics.{puts_above, puts_back, puts_front, rectangle, serve, session}
+use Rattle.nit_screen.proofs.Basics.{source, source_of, source_under, spans, with_new, without}
 use Rattle.std.proofs.Common.{option_map, refl, set, subst, sym, true, ℕ, ◌&&◌, ◌==◌, ◌||◌, ◌∙◌}
 use Rattle.std.proofs.Common.{◌≡◌, if◌then◌else◌}
-use Rattle.nit_screen.proofs.Basics.{Above, Agrees, Back, Buffer, Call, Close, Destroy, Front}
-use Rattle.nit_screen.proofs.Basics.{InputState, IsPutIn, IsSpared, Offset, Place, Point, Reply}
-use Rattle.nit_screen.proofs.Basics.{Session, Size, State, Title, View, after, after_accepted}
-use Rattle.nit_screen.proofs.Basics.{bar_rows, buffer_size, changed, covers, dirty_by_call}
-use Rattle.nit_screen.proofs.Basics.{find-alike, find-changed, find-moved, find-put_failing}
-use Rattle.nit_screen.proofs.Basics.{find-spared, in_bar, input_after_call, is_accepted, is_session}
-use Rattle.nit_screen.proofs.Basics.{is_view, layer, moved, new_view, nothing_spanned}
-use Rattle.nit_screen.proofs.Basics.{option_map_or, or_parts, owner, owner_of, pos, put_above}
-use Rattle.nit_screen.proofs.Basics.{put_back, put_front, puts_above, puts_back, puts_front}
-use Rattle.nit_screen.proofs.Basics.{rectangle, serve, session, source, source_of, source_under}
-use Rattle.nit_screen.proofs.Basics.{spans, with_new, without}
 use Rattle.nit_journal.specs.StackAfter.{stack_after_call}
 use Rattle.nit_events.specs.declared.call.Reply.TheVariants as reply
 use Rattle.nit_events.specs.declared.entry.Entry.TheVariants as entry

@@ -2,8 +2,8 @@
 use Rattle.nit_screen.proofs.Basics.{ArePixels, Call, CanAccept, Flat, IsClean, IsFrameOf, IsQuiet}
 use Rattle.nit_screen.proofs.Basics.{IsServed, IsServer, IsShown, Pixels, Reply, Scenery}
 use Rattle.nit_screen.proofs.Basics.{ServerModel, Sight, draws_labels, false≢true, frame}
-use Rattle.nit_screen.proofs.Basics.{kept_frame, no_sight, nothing_set, pixel, raw_of, scenery_of}
-use Rattle.nit_screen.proofs.Basics.{slice_index, state_of}
+use Rattle.nit_screen.proofs.Basics.{kept_frame, no_sight, nothing_set, pixel, raw_of, slice_index}
+use Rattle.nit_screen.proofs.Basics.{state_of}
 use Rattle.std.proofs.Common.{IsTrue, ap, false, length, refl, subst, sym, ℕ, ◌∙◌, ◌≡◌}
 use Rattle.nit_screen.proofs.CallsShown.{shown_by_mode, still_shown}
 use Rattle.nit_screen.proofs.KeptFrames.{can_stay, kept_served, quiet_scenery}

@@ -1,16 +1,15 @@
 -- Labels in a frame: each stands in pixels of its own view, so nothing covers it.
-use Rattle.nit_screen.proofs.Basics.{AreLabelsApart, Configuration, Entry, Flat, HaveOwnNames}
-use Rattle.nit_screen.proofs.Basics.{IsLabelShown, IsLegal, Kill, Mode, Point, Scenery, ShowsLabels}
-use Rattle.nit_screen.proofs.Basics.{State, Xray, apart, bar_word, covering, covers, dot}
-use Rattle.nit_screen.proofs.Basics.{draws_labels, fits, fits_within, found_passes, frame}
+use Rattle.nit_screen.proofs.Basics.{AreLabelsApart, Bool, Configuration, Entry, Flat, HaveOwnNames}
+use Rattle.nit_screen.proofs.Basics.{IfSome, IsLabelShown, IsLegal, IsTrue, Kill, List, Mode, None}
+use Rattle.nit_screen.proofs.Basics.{Option, Point, Scenery, ShowsLabels, Some, Xray, [], ap, apart}
+use Rattle.nit_screen.proofs.Basics.{arith, bar_word, cond, covering, covers, dot, draws_labels}
+use Rattle.nit_screen.proofs.Basics.{false, find, fits, fits_within, found_passes, frame}
 use Rattle.nit_screen.proofs.Basics.{get_or-frame, has_dot, in_bar, ink_of, is_in_picture, is_owner}
-use Rattle.nit_screen.proofs.Basics.{is_view, label_place_of, label_width, list_any, list_any_at}
-use Rattle.nit_screen.proofs.Basics.{mul-le-mul_right, name_both, nat_tests, owner, owner_word}
-use Rattle.nit_screen.proofs.Basics.{picture_height, picture_width, pixel, pixel_owned, point}
-use Rattle.nit_screen.proofs.Basics.{replay, rows, scenery_of, shown, slice_index, view_text}
-use Rattle.nit_screen.proofs.Basics.{view_word}
-use Rattle.std.proofs.Common.{Bool, IfSome, IsTrue, List, None, Option, Some, [], ap, arith, cond}
-use Rattle.std.proofs.Common.{false, find, length, refl, slice_index_or, subst, suc, sym, true}
+use Rattle.nit_screen.proofs.Basics.{is_view, label_place_of, label_width, length, list_any}
+use Rattle.nit_screen.proofs.Basics.{list_any_at, mul-le-mul_right, name_both, nat_tests, owner}
+use Rattle.nit_screen.proofs.Basics.{owner_word, picture_height, picture_width, pixel, pixel_owned}
+use Rattle.nit_screen.proofs.Basics.{point, refl, replay, rows, scenery_of, shown, slice_index}
+use Rattle.nit_screen.proofs.Basics.{slice_index_or, subst, suc, true, view_text, view_word}
 use Rattle.std.proofs.Common.{zero, ℕ, ◌%◌, ◌*◌, ◌+◌, ◌-◌, ◌/◌, ◌<◌, ◌||◌, ◌∙◌, ◌∷◌, ◌≡◌, ◌≤◌}
 use Rattle.nit_stack.specs.declared.view.View.{View}
 use Rattle.nit_screen.proofs.Handles.{named_throughout}

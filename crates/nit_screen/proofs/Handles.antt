@@ -1,15 +1,15 @@
 -- Handles count up: each view's is below the next one of its session.
-use Rattle.nit_screen.proofs.Basics.{Agrees, All-changed, All-filter, All-head, All-nil, All-put}
-use Rattle.nit_screen.proofs.Basics.{All-tail, All-weaker, All_found, AreBelowNext, Call}
-use Rattle.nit_screen.proofs.Basics.{Configuration, Delivery, Entry, Event, HaveOwnNames, IsLegal}
-use Rattle.nit_screen.proofs.Basics.{IsNewlyNamed, IsPutIn, IsSpared, Item, LegalFrom, Reply}
-use Rattle.nit_screen.proofs.Basics.{Session, State, Status, Take, View, accepted, after, by_life}
-use Rattle.nit_screen.proofs.Basics.{by_refusal, by_status, delivered, first_session, first_state}
-use Rattle.nit_screen.proofs.Basics.{is_accepted, is_view, list_any, new_view, or_from, put_again}
-use Rattle.nit_screen.proofs.Basics.{receive, refusal, replay, replay_from, route, session}
-use Rattle.nit_screen.proofs.Basics.{session_in, taking, unless, without, ◌orelse◌}
-use Rattle.std.proofs.Common.{All, Bool, List, None, Option, Some, [], ap, arith, false, find}
-use Rattle.std.proofs.Common.{get_or, get_or-set_same, length, nat_lt, not, refl, set, subst, suc}
+use Rattle.nit_screen.proofs.Basics.{Agrees, All, All-changed, All-filter, All-head, All-nil}
+use Rattle.nit_screen.proofs.Basics.{All-put, All-tail, All-weaker, All_found, AreBelowNext, Bool}
+use Rattle.nit_screen.proofs.Basics.{Call, Configuration, Delivery, Entry, Event, HaveOwnNames}
+use Rattle.nit_screen.proofs.Basics.{IsLegal, IsNewlyNamed, IsPutIn, IsSpared, Item, LegalFrom}
+use Rattle.nit_screen.proofs.Basics.{List, None, Option, Reply, Session, Some, State, Status, Take}
+use Rattle.nit_screen.proofs.Basics.{View, [], accepted, after, ap, arith, by_life, by_refusal}
+use Rattle.nit_screen.proofs.Basics.{by_status, delivered, false, find, first_session, first_state}
+use Rattle.nit_screen.proofs.Basics.{get_or, get_or-set_same, is_accepted, is_view, length}
+use Rattle.nit_screen.proofs.Basics.{list_any, nat_lt, new_view, not, or_from, put_again, receive}
+use Rattle.nit_screen.proofs.Basics.{refl, refusal, replay, replay_from, route, session, session_in}
+use Rattle.nit_screen.proofs.Basics.{set, subst, suc, taking, unless, without, ◌orelse◌}
 use Rattle.std.proofs.Common.{sym, true, zero, ℕ, ◌++◌, ◌+◌, ◌<◌, ◌∙◌, ◌∷◌, ◌≡◌, ◌≤◌, if◌then◌else◌}
 use Rattle.nit_journal.specs.Session.{serve}
 use Rattle.nit_events.specs.declared.event.Item.TheVariants as item

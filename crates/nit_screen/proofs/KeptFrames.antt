@@ -1,27 +1,25 @@
 -- A kept frame stays the frame of the state and of the raw words.
-use Rattle.nit_screen.proofs.Basics.{Above, Agrees, All-replicate, AreSet, Back, Bare, Black}
-use Rattle.nit_screen.proofs.Basics.{Buffer, Call, CanShowBy, Close, Configuration, Delivery}
-use Rattle.nit_screen.proofs.Basics.{Destroy, Pixels}
-use Rattle.nit_screen.proofs.Basics.{Device, Flat, Front, InputState, IsCopied, IsPartOf, IsQuiet}
-use Rattle.nit_screen.proofs.Basics.{IsServed, IsWord, IsWordOfSource, Kill, Mode, Offset, Painted}
-use Rattle.nit_screen.proofs.Basics.{PixelSource, Place, Point, Rectangle, Refresh, Reply, Scenery}
-use Rattle.nit_screen.proofs.Basics.{ServerModel, Sight, Size, StackModel, State, Take, Title}
-use Rattle.nit_screen.proofs.Basics.{Upgrade, View, Word, Xray, after, bar_rows, bar_word}
-use Rattle.nit_screen.proofs.Basics.{bare_word, black_or_word, buffer_size, covering, covers, dirty}
-use Rattle.nit_screen.proofs.Basics.{dirty_by_call, draws_labels, flat_same, flat_shown, frame}
-use Rattle.nit_screen.proofs.Basics.{in_bar, ints, is_accepted, is_owned_by, is_session, is_some}
-use Rattle.nit_screen.proofs.Basics.{is_view, is_word_in, layer, length-frame, on_screen}
+use Rattle.nit_screen.proofs.Basics.{Above, Agrees, All, All-replicate, AreSet, Back, Bare, Black}
+use Rattle.nit_screen.proofs.Basics.{Bool, Buffer, Call, CanShowBy, Close, Configuration, Delivery}
+use Rattle.nit_screen.proofs.Basics.{Destroy, Device, Flat, Front, InputState, IsCopied, IsPartOf}
+use Rattle.nit_screen.proofs.Basics.{IsQuiet, IsServed, IsTrue, IsWord, IsWordOfSource, Kill, List}
+use Rattle.nit_screen.proofs.Basics.{Mode, None, Offset, Option, Painted, Painter, PixelSource}
+use Rattle.nit_screen.proofs.Basics.{Pixels, Place, Point, Rectangle, Refresh, Reply, Scenery}
+use Rattle.nit_screen.proofs.Basics.{ServerModel, Sight, Size, Some, StackModel, State, Take, Title}
+use Rattle.nit_screen.proofs.Basics.{Upgrade, View, Word, Xray, after, ap, arith, bar_rows}
+use Rattle.nit_screen.proofs.Basics.{bar_word, bare_word, black_or_word, buffer_size, cond}
+use Rattle.nit_screen.proofs.Basics.{covering, dirty, dirty_by_call, draws_labels, false, flat_same}
+use Rattle.nit_screen.proofs.Basics.{flat_shown, frame, in_bar, is_accepted, is_owned_by}
+use Rattle.nit_screen.proofs.Basics.{is_session, is_some, is_view, is_word_in, layer, length-frame}
 use Rattle.nit_screen.proofs.Basics.{option_map_or, or_from, owner, owner_word, pixel, pixel_count}
-use Rattle.nit_screen.proofs.Basics.{pos, rectangle, refusal, renewed, rows_hold, scenery_of}
-use Rattle.nit_screen.proofs.Basics.{session, set_same, shown, shown_by, shown_index, shows_part}
-use Rattle.nit_screen.proofs.Basics.{slice_index, source_of, source_under, state_of, view_owns}
-use Rattle.nit_screen.proofs.Basics.{wanted, with_delivered, with_routed}
-use Rattle.std.proofs.Common.{All, Bool, IsTrue, List, None, Option, Some, ap, arith, cond, false}
+use Rattle.nit_screen.proofs.Basics.{rectangle, refusal, renewed, scenery_of, session, set_same}
+use Rattle.nit_screen.proofs.Basics.{shown, shown_by, shown_index, shows_part, slice_index}
+use Rattle.nit_screen.proofs.Basics.{source_of, source_under, state_of, view_owns, wanted}
+use Rattle.nit_screen.proofs.Basics.{with_delivered, with_routed}
 use Rattle.std.proofs.Common.{length, map, refl, replicate, subst, sym, true, ℕ, ◌&&◌, ◌*◌, ◌<◌}
 use Rattle.std.proofs.Common.{◌||◌, ◌∙◌, ◌≡◌}
 use Rattle.nit_events.specs.declared.entry.Entry.TheVariants as entry
 use Rattle.nit_stack.specs.declared.view.View.{View as ViewOf}
-use Rattle.nit_repaint.specs.declared.painter.Painter.{Painter}
 use Rattle.nit_screen.proofs.CleanCalls.{call_is_clean, stack_accepted}
 use Rattle.nit_screen.proofs.CallAnswers.{unrefused_reply}
 
@@ -352,14 +350,6 @@ input_scenery s mid now dev ds one two = sym (ap as_before one) ∙ sym (ap as_b
   where
     as_before : ServerModel → Scenery
     as_before t = record (scenery_of (state_of t)) { mode = s.input.mode; focus = s.input.focus }
-
--- the bar's rectangle has all pixels of the bar
-pub bar_covered : (width height bar k : ℕ) → k < width * height → in_bar bar (pixel width k) ≡ true
-    → covers (rectangle (pos 0) (pos 0) width bar) (pixel width k) ≡ true
-bar_covered width height bar k l b =
-    let on = on_screen width height k l in
-    rows_hold width 0 bar (pixel width k)
-    (record { left = on.0; right = on.1; top = on.2; bottom = omega (arith, ints) })
 
 -- the bare screen's words
 pub bare_are_words : (n : ℕ) → All IsWord (replicate n bare_word)

@@ -1,17 +1,16 @@
 -- What a device event does to a screen.
-use Rattle.nit_screen.proofs.Basics.{All-head, Configuration, Delivery, Device, InputState}
-use Rattle.nit_screen.proofs.Basics.{IsForgottenIfKilled, IsGlass, IsKillAlone, IsLive, Item}
-use Rattle.nit_screen.proofs.Basics.{Painted, Point, Repainted, Routed, Routing, ServerModel}
-use Rattle.nit_screen.proofs.Basics.{Session, Sight, State, Status, after, after_deliveries}
-use Rattle.nit_screen.proofs.Basics.{after_delivery, by_life, delivered, deliveries_of, dirty}
-use Rattle.nit_screen.proofs.Basics.{ended, false_from_ne_true, forget, forgotten_again, glass_in}
-use Rattle.nit_screen.proofs.Basics.{is_kill, is_killed, killed_by, killed_in, kills, list_any}
-use Rattle.nit_screen.proofs.Basics.{or_parts, pixel, pixel_count, receive, repainted_same, route}
-use Rattle.nit_screen.proofs.Basics.{routed_as, routing_of, seen, session_in, session_owns}
-use Rattle.nit_screen.proofs.Basics.{source_at, state_of, views_closed, views_of, with_delivered}
+use Rattle.nit_screen.proofs.Basics.{All, All-head, Bool, Configuration, Delivery, Device}
+use Rattle.nit_screen.proofs.Basics.{InputState, IsForgottenIfKilled, IsKillAlone, IsLive, Item}
+use Rattle.nit_screen.proofs.Basics.{List, None, Option, Painted, Point, Repainted, Routed, Routing}
+use Rattle.nit_screen.proofs.Basics.{ServerModel, Session, Sight, Some, State, Status, [], after}
+use Rattle.nit_screen.proofs.Basics.{after_deliveries, after_delivery, ap, by_life, delivered}
+use Rattle.nit_screen.proofs.Basics.{deliveries_of, dirty, ended, false, false_from_ne_true, forget}
+use Rattle.nit_screen.proofs.Basics.{forgotten_again, is_kill, is_killed, killed_by, killed_in}
+use Rattle.nit_screen.proofs.Basics.{kills, list_any, or_parts, pixel, pixel_count, receive, refl}
+use Rattle.nit_screen.proofs.Basics.{repainted_same, route, routed_as, routing_of, session_in}
+use Rattle.nit_screen.proofs.Basics.{session_owns, set, source_at, state_of, views_closed, views_of}
 use Rattle.nit_screen.proofs.Basics.{with_ended, with_routed}
-use Rattle.std.proofs.Common.{All, Bool, List, None, Option, Some, [], ap, false, length, refl, set}
-use Rattle.std.proofs.Common.{subst, sym, true, ℕ, ◌<◌, ◌||◌, ◌∙◌, ◌∷◌, ◌≡◌}
+use Rattle.std.proofs.Common.{subst, sym, true, ℕ, ◌||◌, ◌∙◌, ◌∷◌, ◌≡◌}
 use Rattle.nit_events.specs.declared.event.Item.TheVariants as item
 use Rattle.nit_events.specs.declared.event.Status.TheVariants as status
 use Rattle.nit_events.specs.declared.entry.Entry.TheVariants as entry
@@ -81,18 +80,6 @@ kept_stack (d ∷ ds) stack e = kept_stack ds (after_delivery d stack) parts.1 �
     one : (sid : ℕ) (i : Item) → is_kill i ≡ false → after_delivery (record { sid = sid; item = i }) stack ≡ stack
     one sid (item.Event x) f = refl
     one sid item.Kill f = cc
-
-pub told_state : (s : ServerModel) (dev : Device) (routed : Routed)
-    → deliveries_of routed ≡ (routing_of s dev).deliveries → kills (deliveries_of routed) ≡ false
-    → state_of (with_delivered (deliveries_of routed) (with_routed dev s)) ≡ after (state_of s) (entry.Input dev routed)
-told_state s dev routed all none =
-    let r : Routing = routing_of s dev in
-    λ i. record {
-      config = s.config;
-      sessions = delivered (all i) s.sessions;
-      stack = sym (kept_stack r.deliveries (views_of s.stack.views) (sym (ap kills all) ∙ none)) i;
-      input = r.state;
-    }
 
 none_dirty : (s : State) (p : Point) (ds : List Delivery) → kills ds ≡ false
     → list_any (λ d. is_killed s p d.sid d.item) ds ≡ false
@@ -177,12 +164,3 @@ killed_painted s mid s' dev routed sid glasses glasses' raw raw' first alone pai
         p
     is_dirty p = one (session_owns sid (state_of s) p)
         ∙ ap (list_any (λ (d : Delivery). is_killed (state_of s) p d.sid d.item)) (sym alone)
-
--- loads leave the owners and sizes of the scene's glasses
-pub glasses_kept : (config : Configuration) (sights sights' : List Sight) (loads : ℕ → List (ℕ × ℕ))
-    → ((t : ℕ) → glass_in sights' t ≡ seen (glass_in sights t) (loads t))
-    → ((t : ℕ) → t < length config.clients → IsGlass config t (glass_in sights t)) → (t : ℕ) → t < length config.clients
-    → IsGlass config t (glass_in sights' t)
-glasses_kept config sights sights' loads seen_ tables t l =
-    let old = tables t l in
-    (ap (λ (x : Sight). x.owner) (seen_ t) ∙ old.0, ap (λ (x : Sight). x.size) (seen_ t) ∙ old.1)

@@ -1,12 +1,12 @@
 -- Places of labels that are written one after the other, each at the slot of its view.
-use Rattle.nit_screen.proofs.Basics.{AreLabelled, IsLabelled, IsSlotView, IsStack, NoPair, Point}
-use Rattle.nit_screen.proofs.Basics.{SlotView, StackModel, ViewRef, cases_lt, eq-eqb, false≢true}
-use Rattle.nit_screen.proofs.Basics.{get_or_from_slice_get, label_place, label_place_of}
-use Rattle.nit_screen.proofs.Basics.{label_scenery, label_text_of, length-set, list_any_at}
+use Rattle.nit_screen.proofs.Basics.{All, AreLabelled, IsLabelled, IsSlotView, IsStack, List}
+use Rattle.nit_screen.proofs.Basics.{NoPair, Option, Point, SlotView, Some, StackModel, ViewRef, []}
+use Rattle.nit_screen.proofs.Basics.{ap, arith, cases_lt, eq-eqb, false≢true, get_or_from_slice_get}
+use Rattle.nit_screen.proofs.Basics.{inl, inr, label_place, label_place_of, label_scenery}
+use Rattle.nit_screen.proofs.Basics.{label_text_of, length, length-set, list_any_at, map}
 use Rattle.nit_screen.proofs.Basics.{picture_height, picture_width, pixel_at, same_slot, slice_get}
 use Rattle.nit_screen.proofs.Basics.{slice_get-get_or, slice_get_within, slot_at, view_ref}
 use Rattle.nit_screen.proofs.Basics.{views_of}
-use Rattle.std.proofs.Common.{All, List, Option, Some, [], ap, arith, inl, inr, length, map}
 use Rattle.std.proofs.Common.{option_map, refl, set, slice_index_or, subst, suc, sym, zero, ℕ, ◌+◌}
 use Rattle.std.proofs.Common.{◌<◌, ◌∙◌, ◌∷◌, ◌≡◌, ◌≢◌, ◌≤◌}
 

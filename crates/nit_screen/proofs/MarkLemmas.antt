@@ -1,16 +1,17 @@
 -- The pixels that the marks of a call mean are those that the call makes dirty.
-use Rattle.nit_screen.proofs.Basics.{Above, Back, Buffer, Call, Close, Destroy, Front, IsNamedBy}
-use Rattle.nit_screen.proofs.Basics.{IsServed, IsServer, MeanSame, Offset, Place, Point, Rectangle}
-use Rattle.nit_screen.proofs.Basics.{Refresh, Reply, ServerModel, State, Take, Title, Upgrade, View}
-use Rattle.nit_screen.proofs.Basics.{agree_by, bar_rows, buffer_size, covers, dirty_by_call}
-use Rattle.nit_screen.proofs.Basics.{first_session, found_fails, get_or-map, in_bar, is_accepted}
-use Rattle.nit_screen.proofs.Basics.{is_of_session, is_session, is_slot, is_view, is_word_in, layer}
-use Rattle.nit_screen.proofs.Basics.{none_left, option_map_or, owner, owner_named, owner_of_session}
-use Rattle.nit_screen.proofs.Basics.{owner_passes, owns_either, pixel, rectangle, refusal}
-use Rattle.nit_screen.proofs.Basics.{same_Some, serve_accepted, session, session_owns, set-get_or}
-use Rattle.nit_screen.proofs.Basics.{shows_part, size_of, size_of_buffer, source, source_at}
-use Rattle.nit_screen.proofs.Basics.{source_in, state_of, view_owns, views_of, without}
-use Rattle.std.proofs.Common.{Bool, List, None, Option, Some, ap, cond, false, find, refl, set, sym}
+use Rattle.nit_screen.proofs.Basics.{Above, Back, Bool, Buffer, Call, Close, Destroy, Front}
+use Rattle.nit_screen.proofs.Basics.{IsNamedBy, IsServed, IsServer, List, MeanSame, None, Offset}
+use Rattle.nit_screen.proofs.Basics.{Option, Place, Point, Rectangle, Refresh, Reply, ServerModel}
+use Rattle.nit_screen.proofs.Basics.{Some, State, Take, Title, Upgrade, View, agree_by, ap}
+use Rattle.nit_screen.proofs.Basics.{bar_rows, buffer_size, cond, covers, dirty_by_call, false}
+use Rattle.nit_screen.proofs.Basics.{find, first_session, found_fails, get_or-map, in_bar}
+use Rattle.nit_screen.proofs.Basics.{is_accepted, is_of_session, is_session, is_slot, is_view}
+use Rattle.nit_screen.proofs.Basics.{is_word_in, layer, none_left, option_map_or, owner}
+use Rattle.nit_screen.proofs.Basics.{owner_named, owner_of_session, owner_passes, owns_either}
+use Rattle.nit_screen.proofs.Basics.{pixel, rectangle, refl, refusal, same_Some, serve_accepted}
+use Rattle.nit_screen.proofs.Basics.{session, session_owns, set, set-get_or, shows_part, size_of}
+use Rattle.nit_screen.proofs.Basics.{size_of_buffer, source, source_at, source_in, state_of, sym}
+use Rattle.nit_screen.proofs.Basics.{view_owns, views_of, without}
 use Rattle.std.proofs.Common.{true, ℕ, ◌||◌, ◌∙◌, ◌≡◌}
 use Rattle.nit_stack.specs.declared.view.View.{View as ViewOf}
 use Rattle.nit_paint.specs.Pieces as pieces
@@ -144,20 +145,3 @@ module _ (before after' : ServerModel) (hb : IsServer before) (ha : IsServer aft
   meant (Title v text) r m none s is = cc
   meant Take r m none s is = cc
   meant (Upgrade n) r m none s is = cc
-
--- a call without marks makes nothing dirty
-pub unmeant : (s : ServerModel) (sid : ℕ) (call : Call) → IsMarkOf s sid call None → (before after' : State) (p : Point)
-    → dirty_by_call sid call before after' p ≡ false
-unmeant s sid (Place v x y w h) is before after' p = cc
-unmeant s sid (Offset v ox oy) is before after' p = cc
-unmeant s sid (Front v) is before after' p = cc
-unmeant s sid (Back v) is before after' p = cc
-unmeant s sid (Above v n) is before after' p = cc
-unmeant s sid (Destroy v) is before after' p = cc
-unmeant s sid Close is before after' p = cc
-unmeant s sid (Buffer w h) is before after' p = cc
-unmeant s sid (Refresh x y w h) is before after' p = cc
-unmeant s sid View is before after' p = refl
-unmeant s sid (Title v text) is before after' p = refl
-unmeant s sid Take is before after' p = refl
-unmeant s sid (Upgrade n) is before after' p = refl

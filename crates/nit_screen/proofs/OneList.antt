@@ -1,21 +1,17 @@
 -- One list that is both the raw words and the frame: they differ in the first words, where the bar stands.
-use Rattle.nit_screen.proofs.Basics.{AreRaw, Bare, Call}
-use Rattle.nit_screen.proofs.Basics.{CanShow, Close, Entry, Flat, IsAmongLoads}
-use Rattle.nit_screen.proofs.Basics.{IsCopied, IsRawOf, IsServed, IsWord, IsWordOfSource, Kill}
-use Rattle.nit_screen.proofs.Basics.{Mode, Painted, PixelSource, Point, Repainted, Reply, Scenery}
-use Rattle.nit_screen.proofs.Basics.{ServerModel, ShowsBelow, Sight, State, Xray, bar_rows}
-use Rattle.nit_screen.proofs.Basics.{bar_word, bare_word, dirty}
-use Rattle.nit_screen.proofs.Basics.{draws_labels, ext_get_or, false≢true, flat_same, flat_shown}
-use Rattle.nit_screen.proofs.Basics.{frame, frame_fits}
-use Rattle.nit_screen.proofs.Basics.{get_or-frame, get_or-replicate, in_bar}
-use Rattle.nit_screen.proofs.Basics.{length-frame}
-use Rattle.nit_screen.proofs.Basics.{length-replicate, nat_tests, owner}
-use Rattle.nit_screen.proofs.Basics.{owner_word, pixel, pixel_count, raw_in, scenery_of}
-use Rattle.nit_screen.proofs.Basics.{shown, slice_index, source_at, state_of}
-use Rattle.nit_screen.proofs.Basics.{unbarred}
-use Rattle.std.proofs.Common.{All, Bool, IsTrue, List, Option, ap, arith, cond, false}
-use Rattle.std.proofs.Common.{length, nat_lt, refl, replicate, subst, suc, sym, true, zero}
-use Rattle.std.proofs.Common.{ℕ, ◌%◌, ◌*◌, ◌+◌, ◌-◌, ◌/◌, ◌<◌, ◌∙◌, ◌≡◌, ◌≤◌}
+use Rattle.nit_screen.proofs.Basics.{All, ArePixels, AreRaw, Bare, Bool, Call, CanShowBy, Close}
+use Rattle.nit_screen.proofs.Basics.{Entry, Flat, IsAmongLoads, IsCopied, IsFrameOf, IsRawOf}
+use Rattle.nit_screen.proofs.Basics.{IsServed, IsShown, IsTrue, IsWord, IsWordOfSource, Kill, List}
+use Rattle.nit_screen.proofs.Basics.{Mode, Option, Painted, Painter, PixelSource, Pixels, Point}
+use Rattle.nit_screen.proofs.Basics.{Repainted, Reply, Scenery, ServerModel, ShowsBelow, Sight}
+use Rattle.nit_screen.proofs.Basics.{State, Xray, ap, arith, bar_rows, bar_word, bare_word, cond}
+use Rattle.nit_screen.proofs.Basics.{dirty, draws_labels, ext_get_or, false, false≢true, flat_same}
+use Rattle.nit_screen.proofs.Basics.{flat_shown, frame, frame_fits, get_or-frame, get_or-replicate}
+use Rattle.nit_screen.proofs.Basics.{in_bar, length, length-frame, length-replicate, nat_lt}
+use Rattle.nit_screen.proofs.Basics.{nat_tests, owner, owner_word, pixel, pixel_count, raw_in}
+use Rattle.nit_screen.proofs.Basics.{raw_of, refl, replicate, scenery_of, shown, slice_index}
+use Rattle.nit_screen.proofs.Basics.{source_at, state_of, subst, suc, sym, true, unbarred, zero}
+use Rattle.std.proofs.Common.{ℕ, ◌*◌, ◌<◌, ◌∙◌, ◌≡◌, ◌≤◌}
 use Rattle.nit_events.specs.declared.entry.Entry.TheVariants as entry
 use Rattle.nit_screen.proofs.KeptFrames.{bar_clean, bare_source, has_owner, kept_served, owned}
 use Rattle.nit_screen.proofs.KeptFrames.{still}
@@ -117,41 +113,43 @@ flat_raw s bar raw flat some is fits many raws =
         ∙ here k l (has_owner (source_at s k)) refl
 
 -- the frame takes the place of the raw words, in mode Flat
-pub made_one : (s : ServerModel) (apart : Bool) (bar : ℕ) (raw shown : List ℕ) (reached most least room : ℕ)
-    (labels : List (List ℕ)) (places : ℕ) → apart ≡ true → s.input.mode ≡ Flat → 0 < s.config.width → length raw ≤ least
-    → CanShow s raw reached most room labels places bar
-    → cond apart shown raw ≡ frame (scenery_of (state_of s)) (raw_in apart bar raw)
-    → AreRaw (state_of s) (raw_in apart bar raw)
-    → CanShow s shown (length raw) least room labels places bar
-    × (shown ≡ frame (scenery_of (state_of s)) (unbarred bar shown)) × (unbarred bar shown ≡ raw_in apart bar raw)
-made_one s apart bar raw shown reached most least room labels places is flat some spare h was raws =
-    subst (λ (b : Bool). cond b shown raw ≡ frame (scenery_of (state_of s)) (raw_in b bar raw)
-    → AreRaw (state_of s) (raw_in b bar raw)
-    → CanShow s shown (length raw) least room labels places bar
-    × (shown ≡ frame (scenery_of (state_of s)) (unbarred bar shown)) × (unbarred bar shown ≡ raw_in b bar raw)) (sym is)
-    go was raws
+pub made_one : {G : Type 0} (s : ServerModel) (p : Pixels G) → p.is_apart ≡ true → s.input.mode ≡ Flat
+    → 0 < s.config.width → ArePixels s p → AreRaw (state_of s) (raw_of p)
+    → IsShown s p (record p { painter = record p.painter { raw = p.frame }; frame = p.painter.raw; is_apart = false })
+made_one s p is flat some (h, was, apart) raws =
+    let area = h.pixels in
+    let spare = p.painter.raw.ok in record {
+      pixels = (
+        record {
+          words = subst (All IsWord) (sym e) (frame_fits (scenery_of (state_of s)) raw h.pixels h.words);
+          pixels = many;
+          few = omega (arith, area);
+          spare = omega (arith, area, spare);
+          cuts = h.cuts;
+          named = h.named;
+          placed = h.placed;
+          bar = h.bar;
+          fits = let a = h.fits in omega (arith, a, area, many);
+        },
+        e ∙ ap (frame (scenery_of (state_of s))) (sym back),
+        λ m. absurd (false≢true (sym (ap draws_labels flat) ∙ m)),
+      );
+      raw = back ∙ sym (ap (λ (b : Bool). raw_in b p.bar raw) is);
+      glasses = refl;
+    }
   where
-    go : shown ≡ frame (scenery_of (state_of s)) raw → AreRaw (state_of s) raw
-        → CanShow s shown (length raw) least room labels places bar
-        × (shown ≡ frame (scenery_of (state_of s)) (unbarred bar shown)) × (unbarred bar shown ≡ raw)
-    go e f =
-        let many : length shown ≡ pixel_count (state_of s) = ap length e ∙ length-frame (scenery_of (state_of s)) raw in
-        let back : unbarred bar shown ≡ raw = ap (unbarred bar) e
-        ∙ flat_raw (state_of s) bar raw flat some h.bar h.fits h.pixels f in (
-          record {
-            words = subst (All IsWord) (sym e) (frame_fits (scenery_of (state_of s)) raw h.pixels h.words);
-            pixels = many;
-            few = let b = h.pixels in omega (arith, b);
-            spare = let b = h.pixels in omega (arith, b, spare);
-            cuts = h.cuts;
-            named = h.named;
-            placed = h.placed;
-            bar = h.bar;
-            fits = let a = h.fits in let b = h.pixels in omega (arith, a, b, many);
-          },
-          e ∙ ap (frame (scenery_of (state_of s))) (sym back),
-          back,
-        )
+    raw : List ℕ
+    raw = p.painter.raw.items
+
+    e : p.frame.items ≡ frame (scenery_of (state_of s)) raw
+    e = subst (λ (b : Bool). cond b p.frame.items raw ≡ frame (scenery_of (state_of s)) (raw_in b p.bar raw)) is was
+
+    many : length p.frame.items ≡ pixel_count (state_of s)
+    many = ap length e ∙ length-frame (scenery_of (state_of s)) raw
+
+    back : unbarred p.bar p.frame.items ≡ raw
+    back = ap (unbarred p.bar) e ∙ flat_raw (state_of s) p.bar raw flat some h.bar h.fits h.pixels
+        (subst (λ (b : Bool). AreRaw (state_of s) (raw_in b p.bar raw)) is raws)
 
 -- ---- the bar is drawn
 
@@ -243,39 +241,41 @@ module _ (s : State) (bar : ℕ) (raw now : List ℕ) (some : 0 < s.config.width
       ∙ sym (get_or-frame (scenery_of s) (unbarred bar now) k m))
 
 -- so a server's frame can be made of it again
-pub bar_again : (s : ServerModel) (apart : Bool) (bar : ℕ) (raw shown_ now : List ℕ) (reached most room : ℕ)
-    (labels : List (List ℕ)) (places : ℕ) → apart ≡ false → s.input.mode ≡ Flat → 0 < s.config.width
-    → CanShow s raw reached most room labels places bar → length now ≡ length raw
-    → ((k : ℕ) → slice_index now k ≡ cond (nat_lt k (s.config.width * bar_rows s.config))
-    (bar_word (scenery_of (state_of s)) (pixel s.config.width k)) (slice_index raw k))
-    → ShowsBelow (state_of s) raw
-    → (CanShow s now reached most room labels places bar
-    × (cond apart shown_ now ≡ frame (scenery_of (state_of s)) (raw_in apart bar now))
-    × (IsTrue (draws_labels s.input.mode) → apart ≡ true))
-    × (raw_in apart bar now ≡ raw_in apart bar raw)
-bar_again s apart bar raw shown_ now reached most room labels places one flat some h long drawn below =
-    let is = bar_drawn (state_of s) bar raw now some h.bar h.fits h.pixels long drawn below in
-    let same = drawn_raw (state_of s) bar raw now some h.bar h.fits h.pixels long drawn in (
-      (
+pub bar_again : {G : Type 0} (s : ServerModel) (p : Pixels G) (painter : Painter G) → p.is_apart ≡ false
+    → s.input.mode ≡ Flat → 0 < s.config.width → CanShowBy s p → painter ≡ record p.painter { raw = painter.raw }
+    → length painter.raw.items ≡ length p.painter.raw.items
+    → ((k : ℕ) → slice_index painter.raw.items k ≡ cond (nat_lt k (s.config.width * bar_rows s.config))
+    (bar_word (scenery_of (state_of s)) (pixel s.config.width k)) (slice_index p.painter.raw.items k))
+    → ShowsBelow (state_of s) p.painter.raw.items → IsShown s p (record p { painter = painter })
+bar_again s p painter one flat some h other long drawn below =
+    let raw = p.painter.raw.items in
+    let now = painter.raw.items in
+    let fits = h.fits in
+    let cuts = h.cuts in
+    let room = ap (λ q. q.cutter.room) other in
+    let is = bar_drawn (state_of s) p.bar raw now some h.bar h.fits h.pixels long drawn below in
+    let same = drawn_raw (state_of s) p.bar raw now some h.bar h.fits h.pixels long drawn in record {
+      pixels = (
         record {
           words = subst (All IsWord) (sym is)
-              (frame_fits (scenery_of (state_of s)) (unbarred bar now)
-              (unbarred_long bar now (let f = h.fits in omega (arith, f, long)) ∙ long ∙ h.pixels)
-              (subst (All IsWord) (sym same) (unbarred_words bar raw h.words)));
+              (frame_fits (scenery_of (state_of s)) (unbarred p.bar now)
+              (unbarred_long p.bar now (omega (arith, fits, long)) ∙ long ∙ h.pixels)
+              (subst (All IsWord) (sym same) (unbarred_words p.bar raw h.words)));
           pixels = long ∙ h.pixels;
           few = h.few;
           spare = h.spare;
-          cuts = h.cuts;
+          cuts = omega (arith, cuts, room);
           named = h.named;
           placed = h.placed;
           bar = h.bar;
-          fits = let f = h.fits in omega (arith, f, long);
+          fits = omega (arith, fits, long);
         },
-        subst (λ (b : Bool). cond b shown_ now ≡ frame (scenery_of (state_of s)) (raw_in b bar now)) (sym one) is,
+        subst (λ (b : Bool). cond b p.frame.items now ≡ frame (scenery_of (state_of s)) (raw_in b p.bar now)) (sym one) is,
         λ m. absurd (false≢true (sym (ap draws_labels flat) ∙ m)),
-      ),
-      subst (λ (b : Bool). raw_in b bar now ≡ raw_in b bar raw) (sym one) same,
-    )
+      );
+      raw = subst (λ (b : Bool). raw_in b p.bar now ≡ raw_in b p.bar raw) (sym one) same;
+      glasses = ap (λ q. q.glasses) other;
+    }
 
 -- ---- a call
 
@@ -291,32 +291,39 @@ mode_stays before after' sid call r other served = ap (λ (t : State). t.input.m
     ∙ ap (λ i. i.mode) (still (state_of before) sid call r other)
 
 -- in mode Flat the one list is the frame of what was loaded
-pub flat_kept : (before after' : ServerModel) (sid : ℕ) (call : Call) (r : Reply) (glasses glasses' : ℕ → Sight)
-    (apart : Bool) (bar : ℕ) (raw raw' shown_ : List ℕ) (reached most room : ℕ) (labels : List (List ℕ)) (places : ℕ)
-    (chosen : ℕ → Bool)
+pub flat_kept : {G : Type 0} (before after' : ServerModel) (sid : ℕ) (call : Call) (r : Reply)
+    (glasses glasses' : ℕ → Sight) (p : Pixels G) (painter : Painter G) (chosen : ℕ → Bool)
     → sid < length before.sessions → (call ≡ Close → ⊥) → IsServed sid call r before after' → 0 < before.config.width
-    → CanShow before raw reached most room labels places bar → length raw' ≡ length raw
-    → bar ≡ after'.config.width * bar_rows after'.config
-    → Painted (state_of before) (entry.Call sid call r) (state_of after') glasses glasses' raw raw'
+    → CanShowBy before p → length painter.raw.items ≡ length p.painter.raw.items
+    → Painted (state_of before) (entry.Call sid call r) (state_of after') glasses glasses' p.painter.raw.items
+    painter.raw.items
     → ((k : ℕ) → chosen k ≡ dirty (state_of before) (entry.Call sid call r) (state_of after')
     (pixel before.config.width k))
-    → (before.input.mode ≡ Flat → apart ≡ false) → after'.input.mode ≡ Flat
-    → cond apart shown_ raw ≡ frame (scenery_of (state_of before)) (raw_in apart bar raw)
-    → cond apart shown_ raw' ≡ frame (scenery_of (state_of after')) (raw_in apart bar raw')
-flat_kept before after' sid call r glasses glasses' apart bar raw raw' shown_ reached most room labels places chosen
-    within other served some h long bar_ painted same one flat was =
-    subst (λ (b : Bool). cond b shown_ raw' ≡ frame (scenery_of (state_of after')) (raw_in b bar raw')) (sym is)
+    → (before.input.mode ≡ Flat → p.is_apart ≡ false) → after'.input.mode ≡ Flat → IsFrameOf before p
+    → IsFrameOf after' (record p { painter = painter })
+flat_kept before after' sid call r glasses glasses' p painter chosen within other served some h long painted same one flat
+    was =
+    subst (λ (b : Bool). cond b p.frame.items raw' ≡ frame (scenery_of (state_of after')) (raw_in b bar raw')) (sym is)
     (kept_served before after' sid call r glasses glasses' (unbarred bar raw) (unbarred bar raw') raw raw' chosen within
     other served
     (entry_painted_in false bar (state_of before) (entry.Call sid call r) (state_of after') glasses glasses' raw raw'
-    bar_ painted)
+    (h.bar ∙ ap (λ (t : State). t.config.width * bar_rows t.config) (sym served.state)) painted)
     (unbarred_long bar raw' (let f = h.fits in omega (arith, f, long)) ∙ long ∙ h.pixels) same
     (λ m. one_copied chosen (length (unbarred bar raw')) bar raw raw' (λ k l e. below k e (nat_lt k bar) refl)
     (λ k l e. painted.others k (λ lt. sym (same k) ∙ e)) long)
     (λ d. absurd (false≢true (sym (ap draws_labels flat) ∙ d)))
-    (subst (λ (b : Bool). cond b shown_ raw ≡ frame (scenery_of (state_of before)) (raw_in b bar raw)) is was))
+    (subst (λ (b : Bool). cond b p.frame.items raw ≡ frame (scenery_of (state_of before)) (raw_in b bar raw)) is was))
   where
-    is : apart ≡ false
+    bar : ℕ
+    bar = p.bar
+
+    raw : List ℕ
+    raw = p.painter.raw.items
+
+    raw' : List ℕ
+    raw' = painter.raw.items
+
+    is : p.is_apart ≡ false
     is = one (sym (mode_stays before after' sid call r other served) ∙ flat)
 
     below : (k : ℕ) → chosen k ≡ true → (b : Bool) → nat_lt k bar ≡ b → nat_lt k bar ≡ false

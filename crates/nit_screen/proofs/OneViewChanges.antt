@@ -1,26 +1,23 @@
 -- An accepted call on a view changes that view alone in the stack.
-use Rattle.nit_screen.proofs.Basics.{Above, AllByRecursion, Back, Buffer, Call, Close, Destroy}
-use Rattle.nit_screen.proofs.Basics.{Front, IsNamedBy, IsOn, IsServed, IsServer, IsViewChange}
-use Rattle.nit_screen.proofs.Basics.{MeanSame, Offset, Painted, Place, Put, Put-above, Put-back}
-use Rattle.nit_screen.proofs.Basics.{Put-front, Rectangle, Refresh, Repainted, Reply, ServerModel}
-use Rattle.nit_screen.proofs.Basics.{Sight, SlotView, State, Take, Title, Upgrade, View, ViewRef}
-use Rattle.nit_screen.proofs.Basics.{after_accepted, agree_by, any_found, bar_rows, dirty}
-use Rattle.nit_screen.proofs.Basics.{dirty_by_call, find-map, find_moved, found_passes, has_slot}
-use Rattle.nit_screen.proofs.Basics.{is_accepted, is_named, is_slot, is_view, layer, length-set}
-use Rattle.nit_screen.proofs.Basics.{list_any, map-without, moved, name_of, none_left, or_parts}
-use Rattle.nit_screen.proofs.Basics.{pixel, pixel_count, place_changed, place_of, position_or_len}
-use Rattle.nit_screen.proofs.Basics.{put_above, put_back, put_front, rectangle, refusal}
-use Rattle.nit_screen.proofs.Basics.{repainted_same, same_Some, session, slot_owns_either}
-use Rattle.nit_screen.proofs.Basics.{slot_view_in, source_at, state_of, views_of, without}
-use Rattle.nit_screen.proofs.Basics.{without_changed, without_moved, without_none, without_same}
-use Rattle.nit_screen.proofs.Basics.{without_view}
-use Rattle.std.proofs.Common.{Bool, List, None, Option, Some, [], ap, cond, false, find, inl, inr}
+use Rattle.nit_screen.proofs.Basics.{Above, AllByRecursion, Back, Bool, Buffer, Call, Close}
+use Rattle.nit_screen.proofs.Basics.{Destroy, Front, IsNamedBy, IsOn, IsServed, IsServer}
+use Rattle.nit_screen.proofs.Basics.{IsViewChange, List, MeanSame, None, Offset, Option, Place, Put}
+use Rattle.nit_screen.proofs.Basics.{Put-above, Put-back, Put-front, Rectangle, Refresh, Reply}
+use Rattle.nit_screen.proofs.Basics.{ServerModel, SlotView, Some, State, Take, Title, Upgrade, View}
+use Rattle.nit_screen.proofs.Basics.{ViewRef, [], after_accepted, agree_by, any_found, ap, bar_rows}
+use Rattle.nit_screen.proofs.Basics.{cond, dirty, dirty_by_call, false, find, find-map, find_moved}
+use Rattle.nit_screen.proofs.Basics.{found_passes, has_slot, inl, inr, is_accepted, is_named}
+use Rattle.nit_screen.proofs.Basics.{is_slot, is_view, layer, length-set, list_any, map-without}
+use Rattle.nit_screen.proofs.Basics.{moved, name_of, none_left, or_parts, pixel, place_changed}
+use Rattle.nit_screen.proofs.Basics.{place_of, position_or_len, put_above, put_back, put_front}
+use Rattle.nit_screen.proofs.Basics.{rectangle, refusal, same_Some, session, slot_owns_either}
+use Rattle.nit_screen.proofs.Basics.{slot_view_in, state_of, views_of, without, without_changed}
+use Rattle.nit_screen.proofs.Basics.{without_moved, without_none, without_same, without_view}
 use Rattle.std.proofs.Common.{length, not, option_map, refl, subst, sym, true, ℕ, ◌&&◌, ◌+◌, ◌<◌}
 use Rattle.std.proofs.Common.{◌==◌, ◌∙◌, ◌∷◌, ◌≡◌, ◌⊎◌}
 use Rattle.nit_events.specs.declared.entry.Entry.TheVariants as entry
-use Rattle.nit_paint.specs.Pieces as pieces
 use Rattle.nit_screen.proofs.Marks.{OfView, IsMarkOf}
-use Rattle.nit_screen.proofs.MarkLemmas.{meant, source_of_number}
+use Rattle.nit_screen.proofs.MarkLemmas.{meant}
 use Rattle.nit_stack.specs.declared.view.View.{View as ViewOf}
 use Rattle.nit_screen.proofs.CleanCalls.{stack_accepted}
 use Rattle.nit_screen.proofs.CallAnswers.{unrefused_reply}

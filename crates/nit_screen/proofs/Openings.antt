@@ -1,15 +1,15 @@
 -- A session that is over opens again: what stays, where whoever has a view is live.
-use Rattle.nit_screen.proofs.Basics.{All-head, All-tail, All_found, AreBelowNext, AreLive, AreRaw}
-use Rattle.nit_screen.proofs.Basics.{IsLive, IsRawOf, PixelSource, Point, Repainted, ServerModel}
-use Rattle.nit_screen.proofs.Basics.{Session, Sight, State, bar_rows, buffer_size, covers, ended}
-use Rattle.nit_screen.proofs.Basics.{eq-eqb, eqb-true, ext_get_or, first_session, forget, in_bar}
-use Rattle.nit_screen.proofs.Basics.{is_session, loads_at, member, opened, option_map_or, owner_of}
-use Rattle.nit_screen.proofs.Basics.{pixel, relabelled, seen, seen_none, session, session_in}
-use Rattle.nit_screen.proofs.Basics.{session_owns, set-set, source_of, state_of, sum_by-cons}
-use Rattle.nit_screen.proofs.Basics.{times_shown, unless_it_is, views_closed, views_of}
-use Rattle.nit_screen.proofs.Basics.{with_reopened, without}
-use Rattle.std.proofs.Common.{All, Bool, IfSome, List, None, Option, Some, [], ap, arith, cond}
-use Rattle.std.proofs.Common.{false, find, get_or, get_or-set_other, length, not, refl, set, subst}
+use Rattle.nit_screen.proofs.Basics.{All, All-head, All-tail, All_found, AreBelowNext, AreLive}
+use Rattle.nit_screen.proofs.Basics.{AreRaw, Bool, IfSome, IsLive, IsRawOf, List, None, Option}
+use Rattle.nit_screen.proofs.Basics.{PixelSource, Point, Repainted, ServerModel, Session, Sight}
+use Rattle.nit_screen.proofs.Basics.{Some, State, [], ap, arith, bar_rows, buffer_size, cond}
+use Rattle.nit_screen.proofs.Basics.{covers, ended, eq-eqb, eqb-true, ext_get_or, false, find}
+use Rattle.nit_screen.proofs.Basics.{first_session, forget, get_or, get_or-set_other, in_bar}
+use Rattle.nit_screen.proofs.Basics.{is_session, length, loads_at, member, not, opened}
+use Rattle.nit_screen.proofs.Basics.{option_map_or, owner_of, pixel, refl, relabelled, seen}
+use Rattle.nit_screen.proofs.Basics.{seen_none, session, session_in, session_owns, set, set-set}
+use Rattle.nit_screen.proofs.Basics.{source_of, state_of, subst, sum_by-cons, times_shown}
+use Rattle.nit_screen.proofs.Basics.{unless_it_is, views_closed, views_of, with_reopened, without}
 use Rattle.std.proofs.Common.{suc, sym, true, zero, ℕ, ◌<◌, ◌==◌, ◌∙◌, ◌∷◌, ◌≡◌, ◌≢◌}
 use Rattle.nit_events.specs.declared.event.Status.TheVariants as status
 use Rattle.nit_stack.specs.declared.view.View.{View}

@@ -1,19 +1,13 @@
 -- The raw words of a list that has the bar in its first words.
-use Rattle.nit_screen.proofs.Basics.{All-append, All-drop, All-replicate, Bare}
-use Rattle.nit_screen.proofs.Basics.{Configuration}
-use Rattle.nit_screen.proofs.Basics.{IsWord}
-use Rattle.nit_screen.proofs.Basics.{ServerModel, State, bar_rows}
-use Rattle.nit_screen.proofs.Basics.{bare_word, buffer_size, covering}
-use Rattle.nit_screen.proofs.Basics.{ext_get_or, false≢true}
-use Rattle.nit_screen.proofs.Basics.{get_or-append_right, get_or-drop}
-use Rattle.nit_screen.proofs.Basics.{get_or-replicate, get_or_append_left, in_bar}
-use Rattle.nit_screen.proofs.Basics.{ints, length-append, length-drop}
-use Rattle.nit_screen.proofs.Basics.{length-replicate, mul-le-mul_right, nat_tests}
-use Rattle.nit_screen.proofs.Basics.{pixel, raw_in, rows}
-use Rattle.nit_screen.proofs.Basics.{slice_index, source_at, source_under}
-use Rattle.nit_screen.proofs.Basics.{unbarred}
-use Rattle.std.proofs.Common.{All, Bool, List, None, ap, arith, cond, drop, false}
-use Rattle.std.proofs.Common.{get_or, length, nat_lt, refl, replicate, subst, suc, sym, true}
+use Rattle.nit_screen.proofs.Basics.{All, All-append, All-drop, All-replicate, Bare, Bool}
+use Rattle.nit_screen.proofs.Basics.{Configuration, IsWord, List, None, ServerModel, State, ap}
+use Rattle.nit_screen.proofs.Basics.{arith, bar_rows, bare_word, buffer_size, cond, covering, drop}
+use Rattle.nit_screen.proofs.Basics.{ext_get_or, false, false≢true, get_or, get_or-append_right}
+use Rattle.nit_screen.proofs.Basics.{get_or-drop, get_or-replicate, get_or_append_left, in_bar}
+use Rattle.nit_screen.proofs.Basics.{ints, length, length-append, length-drop, length-replicate}
+use Rattle.nit_screen.proofs.Basics.{mul-le-mul_right, nat_lt, nat_tests, pixel, raw_in, refl}
+use Rattle.nit_screen.proofs.Basics.{replicate, rows, slice_index, source_at, source_under, subst}
+use Rattle.nit_screen.proofs.Basics.{suc, sym, true, unbarred}
 use Rattle.std.proofs.Common.{ℕ, ◌%◌, ◌*◌, ◌+◌, ◌-◌, ◌/◌, ◌<◌, ◌∙◌, ◌≡◌, ◌≤◌}
 use Rattle.nit_stack.specs.declared.view.View.{View as ViewOf}
 
@@ -59,10 +53,6 @@ unbarred_same n xs ys fits long same =
 pub raw_long : (b : Bool) (n : ℕ) (xs : List ℕ) → n ≤ length xs → length (raw_in b n xs) ≡ length xs
 raw_long true n xs fits = refl
 raw_long false n xs fits = unbarred_long n xs fits
-
-pub raw_words : (b : Bool) (n : ℕ) (xs : List ℕ) → All IsWord xs → All IsWord (raw_in b n xs)
-raw_words true n xs words = words
-raw_words false n xs words = unbarred_words n xs words
 
 -- ---- the pixels of the bar
 

@@ -1,12 +1,11 @@
 -- What a painter loads again, told by one record.
-use Rattle.nit_screen.proofs.Basics.{CanPaint, IsRemovedFrom, IsRepaint, PixelSource, Sight}
-use Rattle.nit_screen.proofs.Basics.{StackModel, glasses_of_call, gone_room, is_slot, length-map}
-use Rattle.nit_screen.proofs.Basics.{map, other_count}
-use Rattle.nit_screen.proofs.Basics.{painted_more, pixel, repainted_none, source_of_number}
-use Rattle.nit_screen.proofs.Basics.{taken_held, uncovered, without, without_session}
-use Rattle.nit_repaint.specs.declared.painter.Painter.{Painter}
+use Rattle.nit_screen.proofs.Basics.{CanPaint, IsRemovedFrom, IsRepaint, Painter, PixelSource}
+use Rattle.nit_screen.proofs.Basics.{Sight, StackModel, glasses_of_call, gone_room, is_slot}
+use Rattle.nit_screen.proofs.Basics.{length-map, map, other_count, painted_more, pixel}
+use Rattle.nit_screen.proofs.Basics.{repainted_none, source_of_number, taken_held, uncovered}
+use Rattle.nit_screen.proofs.Basics.{without, without_session}
 use Rattle.std.proofs.Common.{Bool, List, ap, arith, false, length, refl, sym, ℕ, ◌*◌, ◌+◌, ◌∙◌}
-use Rattle.std.proofs.Common.{◌≡◌, ◌≤◌}
+use Rattle.std.proofs.Common.{◌≡◌}
 
 -- lists that look alike are equally long
 pub as_many_as : {G R : Type 0} (rest : G → R) (gs gs' : List G) → map rest gs' ≡ map rest gs → length gs' ≡ length gs

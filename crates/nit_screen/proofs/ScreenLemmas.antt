@@ -1,18 +1,16 @@
 -- What a call does to a screen.
-use Rattle.nit_screen.proofs.Basics.{Call, Configuration, Entry, HoldBuffers, IsGlassOf, IsServed}
-use Rattle.nit_screen.proofs.Basics.{IsServer, Painted, Point, Repainted, Reply, ServerModel, Sight}
-use Rattle.nit_screen.proofs.Basics.{State, dirty, dirty_by_call, eqb-true, glass_in}
-use Rattle.nit_screen.proofs.Basics.{glasses_of_call, is_accepted, length-map, member, no_sight}
-use Rattle.nit_screen.proofs.Basics.{pixel, pixel_count, repainted_none, repainted_same, seen}
-use Rattle.nit_screen.proofs.Basics.{session_in, size_of_buffer, source_at, state_of, table_size}
-use Rattle.nit_screen.proofs.Basics.{word_count}
-use Rattle.std.proofs.Common.{Bool, List, None, ap, cond, false, length, refl, slice_index_or}
+use Rattle.nit_screen.proofs.Basics.{Bool, Call, Configuration, Entry, HoldBuffers, IsGlassOf}
+use Rattle.nit_screen.proofs.Basics.{IsServed, IsServer, List, Painted, Point, Repainted, Reply}
+use Rattle.nit_screen.proofs.Basics.{ServerModel, Sight, State, ap, cond, dirty, dirty_by_call}
+use Rattle.nit_screen.proofs.Basics.{eqb-true, false, glass_in, glasses_of_call, is_accepted}
+use Rattle.nit_screen.proofs.Basics.{length, length-map, member, no_sight, pixel, pixel_count, refl}
+use Rattle.nit_screen.proofs.Basics.{repainted_none, repainted_same, seen, session_in}
+use Rattle.nit_screen.proofs.Basics.{size_of_buffer, slice_index_or, source_at, state_of}
+use Rattle.nit_screen.proofs.Basics.{table_size, word_count}
 use Rattle.std.proofs.Common.{subst, sym, true, ℕ, ◌&&◌, ◌*◌, ◌<◌, ◌==◌, ◌∙◌, ◌≡◌, ◌≤◌}
 use Rattle.nit_events.specs.declared.entry.Entry.TheVariants as entry
 use Rattle.nit_paint.specs.Pieces as pieces
-use Rattle.nit_screen.proofs.Marks.{IsMarkOf}
-use Rattle.nit_screen.proofs.MarkLemmas.{size_at, source_of_number, unmeant}
-use Rattle.nit_screen.proofs.CleanCalls.{right_fails}
+use Rattle.nit_screen.proofs.MarkLemmas.{size_at, source_of_number}
 
 -- an entry that makes nothing dirty
 pub unpainted : (s : State) (e : Entry) (s' : State) (glasses : ℕ → Sight) (raw : List ℕ)
@@ -23,10 +21,6 @@ unpainted s e s' glasses raw clean =
 pub refused_clean : (s s' : State) (sid : ℕ) (call : Call) (r : Reply) (p : Point) → is_accepted r ≡ false
     → dirty s (entry.Call sid call r) s' p ≡ false
 refused_clean s s' sid call r p e = ap (λ (b : Bool). b && dirty_by_call sid call s s' p) e
-
-pub unmarked_clean : (s : ServerModel) (before after' : State) (sid : ℕ) (call : Call) (r : Reply) (p : Point)
-    → IsMarkOf s sid call None → dirty before (entry.Call sid call r) after' p ≡ false
-unmarked_clean s before after' sid call r p is = right_fails (is_accepted r) _ (unmeant s sid call is before after' p)
 
 -- ---- the glasses
 

@@ -1,34 +1,33 @@
 -- What holds of a screen stays so when a session, of which nothing is left, opens again.
-use Rattle.std.proofs.Common.{Bool, List, ap, false, get_or-set_other, get_or-set_same, length, map}
+use Rattle.nit_screen.proofs.Basics.{Bool, CanShow, CanShowBy, Configuration, IsGlass, IsGlassOf}
+use Rattle.nit_screen.proofs.Basics.{IsServer, List, Member, Pixels, ServerModel, Session, Sight}
+use Rattle.nit_screen.proofs.Basics.{ap, bar_rows, buffer_size, client_kept, ended, eqb-false}
+use Rattle.nit_screen.proofs.Basics.{eqb-true, false, first_session, get_or-set_other}
+use Rattle.nit_screen.proofs.Basics.{get_or-set_same, glass_in, length, length-map, length-set, map}
+use Rattle.nit_screen.proofs.Basics.{map-set, member, no_sight, no_size, pixel, relabelled, renamed}
+use Rattle.nit_screen.proofs.Basics.{seen, session_in, size_of_buffer, source, source_at, state_of}
+use Rattle.nit_screen.proofs.Basics.{table_size, vec_capacity, views_of, with_ended, with_opened}
 use Rattle.std.proofs.Common.{refl, set, subst, sym, true, ℕ, ◌<◌, ◌==◌, ◌∙◌, ◌≡◌}
-use Rattle.nit_screen.proofs.Basics.{CanShow, Configuration, IsGlass, IsGlassOf, IsServer, Member}
-use Rattle.nit_screen.proofs.Basics.{ServerModel, Session, Sight, bar_rows, buffer_size}
-use Rattle.nit_screen.proofs.Basics.{client_kept, ended, eqb-false, eqb-true, first_session}
-use Rattle.nit_screen.proofs.Basics.{glass_in, length-map, length-set, map-set, member, no_sight}
-use Rattle.nit_screen.proofs.Basics.{no_size, pixel, relabelled, renamed, seen, session_in}
-use Rattle.nit_screen.proofs.Basics.{size_of_buffer, source, source_at, state_of, table_size}
-use Rattle.nit_screen.proofs.Basics.{views_of, with_ended, with_opened}
 use Rattle.nit_screen.proofs.BufferSizes.{sizes_stay}
 use Rattle.nit_events.specs.declared.event.Status.TheVariants as status
 
 -- a frame can still be made, with the new label
-pub can_relabel : (mid s' : ServerModel) (sid : ℕ) (label raw : List ℕ) (reached most_ room : ℕ)
-    (labels : List (List ℕ)) (places bar : ℕ) → s' ≡ with_opened sid label mid
-    → CanShow mid raw reached most_ room labels places bar
-    → CanShow s' raw reached most_ room (set labels sid label) places bar
-can_relabel mid s' sid label raw reached most_ room labels places bar is h =
-    subst (λ (z : ServerModel). CanShow z raw reached most_ room (set labels sid label) places bar) (sym is) (record {
-      words = h.words;
-      pixels = h.pixels;
-      few = h.few;
-      spare = h.spare;
-      cuts = h.cuts;
-      named = ap (λ (l : List (List ℕ)). set l sid label) h.named
-          ∙ sym (map-set (λ (m : Member). m.label) mid.config.clients sid (renamed mid.config sid label));
-      placed = h.placed;
-      bar = h.bar;
-      fits = h.fits;
-    })
+pub can_relabel : {G : Type 0} (mid s' : ServerModel) (sid : ℕ) (label : List ℕ) (p : Pixels G)
+    → s' ≡ with_opened sid label mid → CanShowBy mid p
+    → CanShow s' p.painter.raw.items (length p.frame.items) (vec_capacity p.frame) p.painter.cutter.room
+    (set p.labels.texts.items sid label) (length p.labels.places.items) p.bar
+can_relabel mid s' sid label p is h = rw is (record {
+  words = h.words;
+  pixels = h.pixels;
+  few = h.few;
+  spare = h.spare;
+  cuts = h.cuts;
+  named = ap (λ (l : List (List ℕ)). set l sid label) h.named
+      ∙ sym (map-set (λ (m : Member). m.label) mid.config.clients sid (renamed mid.config sid label));
+  placed = h.placed;
+  bar = h.bar;
+  fits = h.fits;
+})
 
 -- there is a label for each session
 pub label_there : (s mid : ServerModel) (sid : ℕ) (texts : List (List ℕ)) → IsServer s

@@ -1,20 +1,18 @@
 -- A session ends: what is left of the server, and what is painted.
-use Rattle.nit_screen.proofs.Basics.{Close, IsServer, Painted, PixelSource, Point, Repainted}
-use Rattle.nit_screen.proofs.Basics.{ServerModel, Session, Sight, Size, SlotView, StackModel}
-use Rattle.nit_screen.proofs.Basics.{Status, black_or_word, covers, ended, eqb-false, first_session}
-use Rattle.nit_screen.proofs.Basics.{forget, found_fails, glass_in, glasses_of_call, in_bar}
-use Rattle.nit_screen.proofs.Basics.{is_of_session, no_sight, no_size, nobody_calls, none_left}
-use Rattle.nit_screen.proofs.Basics.{owner_of_views, owner_passes, pixel, pixel_count}
-use Rattle.nit_screen.proofs.Basics.{repainted_same, session_in, session_owns, set-set, shown_index}
-use Rattle.nit_screen.proofs.Basics.{size_of, source_at, source_in, source_under, state_of}
-use Rattle.nit_screen.proofs.Basics.{with_ended, without, without_session, without_views}
-use Rattle.std.proofs.Common.{Bool, List, None, Option, Some, [], ap, cond, false, find}
-use Rattle.std.proofs.Common.{get_or-set_other, get_or-set_same, length, map, option_map, refl, set}
+use Rattle.nit_screen.proofs.Basics.{Bool, IsServer, List, None, Option, PixelSource, Point}
+use Rattle.nit_screen.proofs.Basics.{Repainted, ServerModel, Session, Sight, Size, SlotView, Some}
+use Rattle.nit_screen.proofs.Basics.{StackModel, Status, [], ap, black_or_word, cond, covers, ended}
+use Rattle.nit_screen.proofs.Basics.{eqb-false, false, find, first_session, forget, found_fails}
+use Rattle.nit_screen.proofs.Basics.{get_or-set_other, get_or-set_same, glass_in, glasses_of_call}
+use Rattle.nit_screen.proofs.Basics.{in_bar, is_of_session, length, map, no_sight, no_size}
+use Rattle.nit_screen.proofs.Basics.{nobody_calls, none_left, option_map, owner_of_views}
+use Rattle.nit_screen.proofs.Basics.{owner_passes, pixel, pixel_count, refl, repainted_same}
+use Rattle.nit_screen.proofs.Basics.{session_in, session_owns, set, set-set, shown_index, size_of}
+use Rattle.nit_screen.proofs.Basics.{source_at, source_in, source_under, state_of, with_ended}
+use Rattle.nit_screen.proofs.Basics.{without, without_session, without_views}
 use Rattle.std.proofs.Common.{subst, sym, true, ℕ, ◌*◌, ◌<◌, ◌==◌, ◌∙◌, ◌≡◌, ◌≤◌}
-use Rattle.nit_events.specs.declared.entry.Entry.TheVariants as entry
 use Rattle.nit_paint.specs.Pieces as pieces
 use Rattle.nit_screen.proofs.MarkLemmas.{session_meant, source_of_number}
-use Rattle.nit_events.specs.declared.call.Reply.TheVariants as reply
 
 -- what is left of a server when a session ends is told by what is left without its views
 same_ended : (sid : ℕ) (how : Status) (s t : ServerModel) → sid < length s.sessions → sid < length t.sessions
@@ -103,12 +101,6 @@ ended_painted s s' sid how n a b raw raw' h h' now count painted =
     (λ k l m. sym (ended_source sid s.stack (pixel s.stack.width k))
     ∙ ap (λ (t : ServerModel). pieces.source_of_number t.stack k) (sym now) ∙ source_of_number s' h' k) (λ t. refl)
     (λ t. refl) painted)
-
-pub close_painted : (s s' : ServerModel) (sid : ℕ) (a b : ℕ → Sight) (raw raw' : List ℕ)
-    → Repainted (source_at (state_of s')) (λ k. session_owns sid (state_of s) (pixel s.config.width k))
-    (pixel_count (state_of s)) a b raw raw'
-    → Painted (state_of s) (entry.Call sid Close reply.Done) (state_of s') a b raw raw'
-close_painted s s' sid a b raw raw' painted = painted
 
 pub nobody_ends : {G : Type 0} (f : G → Sight) (source : ℕ → PixelSource) (marked : ℕ → Bool) (n m : ℕ)
     (gs gs' : List G) (raw raw' : List ℕ) → length gs ≤ m → length gs' ≤ m

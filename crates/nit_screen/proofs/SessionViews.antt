@@ -1,14 +1,13 @@
 -- A call that draws the views of a session makes their pixels dirty, and paints them.
 use Rattle.nit_screen.proofs.Basics.{Above, Back, Buffer, Call, Close, Destroy, Front, IsPartOf}
-use Rattle.nit_screen.proofs.Basics.{IsServed, IsServer, Offset, Painted, Place, Point, Rectangle}
-use Rattle.nit_screen.proofs.Basics.{Refresh, Repainted, Reply, ServerModel, Sight, State, Take}
-use Rattle.nit_screen.proofs.Basics.{Title, Upgrade, View, all_of_session, dirty, dirty_by_call}
-use Rattle.nit_screen.proofs.Basics.{is_accepted, part_of_session, pixel, pixel_count, rectangle}
-use Rattle.nit_screen.proofs.Basics.{refusal, repainted_same, session, source_at, state_of, wanted}
-use Rattle.std.proofs.Common.{Bool, List, None, Option, ap, refl, subst, sym, ℕ, ◌&&◌, ◌∙◌, ◌≡◌}
+use Rattle.nit_screen.proofs.Basics.{IsServed, IsServer, Offset, Place, Point, Rectangle, Refresh}
+use Rattle.nit_screen.proofs.Basics.{Reply, ServerModel, State, Take, Title, Upgrade, View}
+use Rattle.nit_screen.proofs.Basics.{all_of_session, dirty, dirty_by_call, is_accepted}
+use Rattle.nit_screen.proofs.Basics.{part_of_session, pixel, rectangle, refusal, session, state_of}
+use Rattle.nit_screen.proofs.Basics.{wanted}
+use Rattle.std.proofs.Common.{Bool, None, Option, ap, sym, ℕ, ◌&&◌, ◌∙◌, ◌≡◌}
 use Rattle.nit_events.specs.declared.entry.Entry.TheVariants as entry
-use Rattle.nit_paint.specs.Pieces as pieces
-use Rattle.nit_screen.proofs.MarkLemmas.{part_meant, session_meant, source_of_number}
+use Rattle.nit_screen.proofs.MarkLemmas.{part_meant, session_meant}
 use Rattle.nit_screen.proofs.CallAnswers.{unrefused_reply}
 
 wanted_dirty : (before after' : ServerModel) (sid : ℕ) (part : Option Rectangle) (call : Call) (p : Point)

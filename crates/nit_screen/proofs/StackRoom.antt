@@ -1,10 +1,11 @@
 -- A stack has room for its views, and as much after a call.
-use Rattle.nit_screen.proofs.Basics.{AllByRecursion, All_found, Call, IsServed, IsServer}
-use Rattle.nit_screen.proofs.Basics.{IsSlotView, IsStack, NoPair, Reply, ServerModel, SlotView}
-use Rattle.nit_screen.proofs.Basics.{StackModel, State, eqb-true, flip, found_passes, found_some}
+use Rattle.nit_screen.proofs.Basics.{All, AllByRecursion, All_found, Call, IsServed, IsServer}
+use Rattle.nit_screen.proofs.Basics.{IsSlotView, IsStack, List, NoPair, Reply, ServerModel}
+use Rattle.nit_screen.proofs.Basics.{SlotView, StackModel, State, [], ap, arith, eqb, eqb-true}
+use Rattle.nit_screen.proofs.Basics.{false, flip, found_passes, found_some, length}
 use Rattle.nit_screen.proofs.Basics.{length-le_from_distinct_below, length-map, list_any}
-use Rattle.nit_screen.proofs.Basics.{list_any-map, or_parts, same_slot, view_slots}
-use Rattle.std.proofs.Common.{All, List, [], ap, arith, eqb, false, length, map, subst, sum, sym}
+use Rattle.nit_screen.proofs.Basics.{list_any-map, map, or_parts, same_slot, subst, sum, sym}
+use Rattle.nit_screen.proofs.Basics.{view_slots}
 use Rattle.std.proofs.Common.{true, ℕ, ◌<◌, ◌==◌, ◌∙◌, ◌∷◌, ◌≡◌, ◌≤◌}
 use Rattle.std.specs.List.{IsDistinct}
 

@@ -1,9 +1,9 @@
 -- No two views have the same session and handle.
-use Rattle.nit_screen.proofs.Basics.{Entry, HaveOwnNames, IsNewlyNamed, IsPutIn, NoPair-map}
-use Rattle.nit_screen.proofs.Basics.{NoPair-put, NoPair-without, State, View, after, and_parts}
-use Rattle.nit_screen.proofs.Basics.{eqb-true, flip, found_passes, is_view, list_any, none_left}
-use Rattle.nit_screen.proofs.Basics.{put_again, without}
-use Rattle.std.proofs.Common.{Bool, List, None, Option, Some, ap, cond, false, find, refl, subst}
+use Rattle.nit_screen.proofs.Basics.{Bool, Entry, HaveOwnNames, IsNewlyNamed, IsPutIn, List}
+use Rattle.nit_screen.proofs.Basics.{NoPair-map, NoPair-put, NoPair-without, None, Option, Some}
+use Rattle.nit_screen.proofs.Basics.{State, View, after, and_parts, ap, cond, eqb-true, false, find}
+use Rattle.nit_screen.proofs.Basics.{flip, found_passes, is_view, list_any, none_left, put_again}
+use Rattle.nit_screen.proofs.Basics.{refl, subst, without}
 use Rattle.std.proofs.Common.{sym, true, ℕ, ◌&&◌, ◌==◌, ◌∙◌, ◌≡◌}
 use Rattle.nit_events.specs.declared.call.Reply.TheVariants as reply
 use Rattle.nit_events.specs.declared.entry.Entry.TheVariants as entry

@@ -76,4 +76,6 @@ pub use Rattle.nit_word.specs.Sight.{Sight, seen, stored, told_at}
 pub use Rattle.nit_word.specs.Updates.{is_between, set_where, with_words}
 pub use Rattle.std.specs.List.{AllByRecursion, list_any, position_or_len, range_with_len}
 pub use Rattle.std.specs.Option.{is_some, option_map_or}
-pub use Rattle.std.specs.Prelude.{[], length, map, pos, slice_get, slice_index, vec_capacity, ℕ}
+pub use Rattle.std.specs.Prelude.{AllPairs, IfSome, IsTrue, Some, [], drop, false, length, map}
+pub use Rattle.std.specs.Prelude.{option_map, pos, replicate, slice_get, slice_index, vec_capacity}
+pub use Rattle.std.specs.Prelude.{ℕ}

@@ -1,9 +1,8 @@
 -- What a frame shows of the labels of views.
 use Rattle.std.specs.Prelude.{◌≡◌, ℕ, ◌+◌, ◌*◌, ◌<◌, ◌≤◌, pos, List, length, slice_index, All}
-use Rattle.std.specs.Prelude.{AllPairs, IfSome, IsTrue}
-use Rattle.nit_screen.specs.Below.{IsApart, Rectangle, Scenery, dot, draws_labels, ink_of}
-use Rattle.nit_screen.specs.Below.{label_place_of, picture_height, picture_width, rectangle}
-use Rattle.nit_screen.specs.Below.{view_text}
+use Rattle.nit_screen.specs.Below.{AllPairs, IfSome, IsApart, IsTrue, Rectangle, Scenery, dot}
+use Rattle.nit_screen.specs.Below.{draws_labels, ink_of, label_place_of, picture_height}
+use Rattle.nit_screen.specs.Below.{picture_width, rectangle, view_text}
 use Rattle.nit_stack.specs.declared.view.View.{View}
 
 -- how many columns the label of a view has

@@ -1,9 +1,9 @@
 -- A frame that is kept, with what it is made by.
 use Rattle.std.specs.Prelude.{◌≡◌, ℕ, ◌*◌, ◌<◌, ◌≤◌, ◌++◌, Bool, true, false, All, IsTrue, List}
-use Rattle.std.specs.Prelude.{drop, length, map, replicate, slice_index, vec_capacity}
 use Rattle.std.specs.Prelude.{if◌then◌else◌}
 use Rattle.nit_screen.specs.Below.{AreSet, IsWord, Pixels, ServerModel, State, bar_rows, bare_word}
-use Rattle.nit_screen.specs.Below.{draws_labels, frame, in_bar, pixel, shown, state_of}
+use Rattle.nit_screen.specs.Below.{draws_labels, drop, frame, in_bar, length, map, pixel, replicate}
+use Rattle.nit_screen.specs.Below.{shown, slice_index, state_of, vec_capacity}
 use Rattle.nit_screen.specs.StateScenery.{scenery_of}
 
 -- the words with the bare word in place of the first so many, where the bar stands

@@ -1,42 +1,44 @@
 -- The words that clauses use: those that come from outside, and those of this crate.
 pub use Rattle.nit_screen.specs.Below.{Above, Agrees, AllByRecursion, AreLive, AreSet, Back, Bare}
 pub use Rattle.nit_screen.specs.Below.{Black, Buffer, Call, Close, Configuration, Delivery, Destroy}
-pub use Rattle.nit_screen.specs.Below.{Device, Entry, Event, Flat, Front, HoldBuffers, InputState}
-pub use Rattle.nit_screen.specs.Below.{IsAmongLoads, IsConfiguration, IsCopied, IsDevice}
-pub use Rattle.nit_screen.specs.Below.{IsForgottenIfKilled, IsFreeLabel, IsInked, IsKillAlone}
-pub use Rattle.nit_screen.specs.Below.{IsLegal, IsLive, IsNamedBy, IsRemovedFrom, IsServed}
-pub use Rattle.nit_screen.specs.Below.{IsServer, IsSlotView, IsStack, IsViewChange, IsWord}
-pub use Rattle.nit_screen.specs.Below.{IsWordOfSource, Item, Kill, LegalFrom, MayLose, MeanSame}
-pub use Rattle.nit_screen.specs.Below.{Member, Mode, NoPair, Offset, PixelSource, Place, Point}
-pub use Rattle.nit_screen.specs.Below.{Rectangle, Refresh, Repainted, Reply, Routed, Routing}
-pub use Rattle.nit_screen.specs.Below.{Scenery, ServerModel, Session, Sight, Size, SlotView}
-pub use Rattle.nit_screen.specs.Below.{StackModel, State, Status, Take, Title, Upgrade, View}
-pub use Rattle.nit_screen.specs.Below.{ViewRef, Word, Xray, [], accepted, after, after_accepted}
-pub use Rattle.nit_screen.specs.Below.{after_deliveries, after_delivery, bar_rows, bar_word}
-pub use Rattle.nit_screen.specs.Below.{bare_word, black_or_word, buffer_size, by_life, by_refusal}
-pub use Rattle.nit_screen.specs.Below.{by_status, changed, covering, covers, delivered}
-pub use Rattle.nit_screen.specs.Below.{deliveries_of, dot, draws_labels, ended, first_session}
-pub use Rattle.nit_screen.specs.Below.{first_state, fits, forget, frame, glasses_of_call, has_dot}
-pub use Rattle.nit_screen.specs.Below.{has_slot, has_view, in_bar, ink_of, input_after_call}
-pub use Rattle.nit_screen.specs.Below.{is_accepted, is_between, is_in_picture, is_kill, is_named}
-pub use Rattle.nit_screen.specs.Below.{is_of_session, is_owner, is_rectangle, is_session, is_slot}
-pub use Rattle.nit_screen.specs.Below.{is_some, is_view, is_word_in, killed_by, killed_in, kills}
+pub use Rattle.nit_screen.specs.Below.{Device, Entry, Event, Flat, Front, HoldBuffers, IfSome}
+pub use Rattle.nit_screen.specs.Below.{InputState, IsAmongLoads, IsConfiguration, IsCopied}
+pub use Rattle.nit_screen.specs.Below.{IsDevice, IsForgottenIfKilled, IsFreeLabel, IsInked}
+pub use Rattle.nit_screen.specs.Below.{IsKillAlone, IsLegal, IsLive, IsNamedBy, IsRemovedFrom}
+pub use Rattle.nit_screen.specs.Below.{IsServed, IsServer, IsSlotView, IsStack, IsTrue}
+pub use Rattle.nit_screen.specs.Below.{IsViewChange, IsWord, IsWordOfSource, Item, Kill, LegalFrom}
+pub use Rattle.nit_screen.specs.Below.{MayLose, MeanSame, Member, Mode, NoPair, Offset, Painter}
+pub use Rattle.nit_screen.specs.Below.{PixelSource, Pixels, Place, Point, Rectangle, Refresh}
+pub use Rattle.nit_screen.specs.Below.{Repainted, Reply, Routed, Routing, Scenery, ServerModel}
+pub use Rattle.nit_screen.specs.Below.{Session, Sight, Size, SlotView, Some, StackModel, State}
+pub use Rattle.nit_screen.specs.Below.{Status, Take, Title, Upgrade, View, ViewRef, Word, Xray, []}
+pub use Rattle.nit_screen.specs.Below.{accepted, after, after_accepted, after_deliveries}
+pub use Rattle.nit_screen.specs.Below.{after_delivery, bar_rows, bar_word, bare_word, black_or_word}
+pub use Rattle.nit_screen.specs.Below.{buffer_size, by_life, by_refusal, by_status, changed}
+pub use Rattle.nit_screen.specs.Below.{covering, covers, delivered, deliveries_of, dot}
+pub use Rattle.nit_screen.specs.Below.{draws_labels, drop, ended, false, first_session, first_state}
+pub use Rattle.nit_screen.specs.Below.{fits, forget, frame, glasses_of_call, has_dot, has_slot}
+pub use Rattle.nit_screen.specs.Below.{has_view, in_bar, ink_of, input_after_call, is_accepted}
+pub use Rattle.nit_screen.specs.Below.{is_between, is_in_picture, is_kill, is_named, is_of_session}
+pub use Rattle.nit_screen.specs.Below.{is_owner, is_rectangle, is_session, is_slot, is_some}
+pub use Rattle.nit_screen.specs.Below.{is_view, is_word_in, killed_by, killed_in, kills}
 pub use Rattle.nit_screen.specs.Below.{label_place, label_place_of, label_text_of, layer, length}
 pub use Rattle.nit_screen.specs.Below.{list_any, loads_at, map, member, most_slots, moved, name_of}
-pub use Rattle.nit_screen.specs.Below.{new_view, no_sight, no_size, opened, option_map_or, owner}
-pub use Rattle.nit_screen.specs.Below.{owner_of, owner_passes, owner_word, picture_height}
-pub use Rattle.nit_screen.specs.Below.{picture_width, pixel, pixel_at, place_of, point, pos}
-pub use Rattle.nit_screen.specs.Below.{position_or_len, put_above, put_again, put_back, put_front}
-pub use Rattle.nit_screen.specs.Below.{receive, rectangle, refusal, relabelled, replay, replay_from}
-pub use Rattle.nit_screen.specs.Below.{route, routed_as, routing_of, same_slot, seen, serve}
-pub use Rattle.nit_screen.specs.Below.{session, session_in, set_where, shown, shown_index, size_of}
-pub use Rattle.nit_screen.specs.Below.{size_of_buffer, slice_get, slice_index, slot_owns_either}
-pub use Rattle.nit_screen.specs.Below.{slot_view_in, source, source_in, source_of, source_of_number}
-pub use Rattle.nit_screen.specs.Below.{source_under, spans, state_of, stored, table_size, taking}
-pub use Rattle.nit_screen.specs.Below.{times_shown, told_at, uncovered, unless, unless_it_is}
-pub use Rattle.nit_screen.specs.Below.{vec_capacity, view_ref, view_slots, view_text, view_word}
-pub use Rattle.nit_screen.specs.Below.{views_of, wanted, with_delivered, with_ended, with_new}
-pub use Rattle.nit_screen.specs.Below.{with_opened, with_reopened, with_routed, with_words, without}
+pub use Rattle.nit_screen.specs.Below.{new_view, no_sight, no_size, opened, option_map}
+pub use Rattle.nit_screen.specs.Below.{option_map_or, owner, owner_of, owner_passes, owner_word}
+pub use Rattle.nit_screen.specs.Below.{picture_height, picture_width, pixel, pixel_at, place_of}
+pub use Rattle.nit_screen.specs.Below.{point, pos, position_or_len, put_above, put_again, put_back}
+pub use Rattle.nit_screen.specs.Below.{put_front, receive, rectangle, refusal, relabelled, replay}
+pub use Rattle.nit_screen.specs.Below.{replay_from, replicate, route, routed_as, routing_of}
+pub use Rattle.nit_screen.specs.Below.{same_slot, seen, serve, session, session_in, set_where}
+pub use Rattle.nit_screen.specs.Below.{shown, shown_index, size_of, size_of_buffer, slice_get}
+pub use Rattle.nit_screen.specs.Below.{slice_index, slot_owns_either, slot_view_in, source}
+pub use Rattle.nit_screen.specs.Below.{source_in, source_of, source_of_number, source_under, spans}
+pub use Rattle.nit_screen.specs.Below.{state_of, stored, table_size, taking, times_shown, told_at}
+pub use Rattle.nit_screen.specs.Below.{uncovered, unless, unless_it_is, vec_capacity, view_ref}
+pub use Rattle.nit_screen.specs.Below.{view_slots, view_text, view_word, views_of, wanted}
+pub use Rattle.nit_screen.specs.Below.{with_delivered, with_ended, with_new, with_opened}
+pub use Rattle.nit_screen.specs.Below.{with_reopened, with_routed, with_words, without}
 pub use Rattle.nit_screen.specs.Below.{without_session, without_view, without_views, word_count, ℕ}
 pub use Rattle.nit_screen.specs.Below.{◌orelse◌}
 pub use Rattle.nit_screen.specs.CallKinds.{IsClean, IsOn, IsPartOf, IsQuiet}

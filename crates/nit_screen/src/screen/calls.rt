@@ -1,11 +1,10 @@
 //! Calls of sessions, and exactly the pixels that they make dirty.
 
-ghost use Rattle.std.specs.Prelude.{◌≡◌, ◌+◌, ◌-◌, ◌^◌, ◌<◌, true, None, length, ℕ, ◌*◌, List};
-ghost use Rattle.std.specs.Prelude.{false, Some, map};
+ghost use Rattle.std.specs.Prelude.{◌≡◌, ◌-◌, ◌^◌, ◌<◌, true, None, length};
 ghost use Rattle.nit_screen.specs.Terms.{AreRaw, CanAccept, CanServe, IsCallShown, IsClean};
-ghost use Rattle.nit_screen.specs.Terms.{IsGlassOf, IsQuiet, LoadsNothing, Painted, accepted};
-ghost use Rattle.nit_screen.specs.Terms.{after, glass_in, glasses_of_call, is_accepted};
-ghost use Rattle.nit_screen.specs.Terms.{is_rectangle, rectangle, serve, session, session_in};
+ghost use Rattle.nit_screen.specs.Terms.{IsGlassOf, IsQuiet, LoadsNothing, Painted, Some, after};
+ghost use Rattle.nit_screen.specs.Terms.{false, glass_in, glasses_of_call, is_accepted};
+ghost use Rattle.nit_screen.specs.Terms.{is_rectangle, map, rectangle, serve, session, session_in};
 ghost use Rattle.nit_screen.specs.Terms.{state_of};
 ghost use Rattle.nit_events.specs.declared.call.Call.TheVariants as call;
 ghost use Rattle.nit_events.specs.declared.entry.Entry.TheVariants as entry;

@@ -1,9 +1,8 @@
 //! Where the labels of the views stand.
 
 ghost use Rattle.std.specs.Prelude.{◌≡◌, ◌-◌, ◌<◌, ◌≤◌, length, IsTrue, Some, slice_get};
-ghost use Rattle.std.specs.Prelude.{option_map};
 ghost use Rattle.nit_screen.specs.Terms.{AreLabelled, Point, SlotView, draws_labels};
-ghost use Rattle.nit_screen.specs.Terms.{label_place_of, label_scenery, pixel_at};
+ghost use Rattle.nit_screen.specs.Terms.{label_place_of, label_scenery, option_map, pixel_at};
 
 use nit_events::Mode;
 use nit_glyph::{Label, label_size, label_text};

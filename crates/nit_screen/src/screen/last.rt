@@ -1,6 +1,6 @@
 //! The whole screen, for the last picture.
 
-ghost use Rattle.std.specs.Prelude.{◌≡◌, ◌+◌, ◌<◌, ◌≤◌, true, length, ℕ, ◌*◌, map};
+ghost use Rattle.std.specs.Prelude.{◌≡◌, ◌<◌, length, ℕ, map};
 ghost use Rattle.nit_screen.specs.Terms.{IsGlassOf, Painted, glass_in, state_of};
 ghost use Rattle.nit_events.specs.declared.entry.Entry.TheVariants as entry;
 

@@ -1,9 +1,9 @@
 //! A screen before its first entry.
 
 ghost use Rattle.std.specs.Prelude.{◌≡◌, ◌+◌, ◌-◌, ◌<◌, ◌≤◌, None, IfOk, length, ℕ, ◌*◌, map};
-ghost use Rattle.std.specs.Prelude.{false, replicate, vec_capacity};
 ghost use Rattle.nit_screen.specs.Terms.{IsConfiguration, IsGlass, Point, bar_rows, bare_word};
-ghost use Rattle.nit_screen.specs.Terms.{first_state, glass_in, most_slots, state_of};
+ghost use Rattle.nit_screen.specs.Terms.{false, first_state, glass_in, most_slots, replicate};
+ghost use Rattle.nit_screen.specs.Terms.{state_of, vec_capacity};
 
 use crate::screen::Screen;
 use crate::screen::labels::Labels;

@@ -1,13 +1,12 @@
 //! Calls on a whole session, its end, and exactly the pixels that they make dirty.
 
-ghost use Rattle.std.specs.Prelude.{◌≡◌, ◌-◌, ◌^◌, ◌<◌, ◌≤◌, None, false, length, ℕ, ◌*◌, map};
+ghost use Rattle.std.specs.Prelude.{◌≡◌, ◌<◌, length, ℕ, map};
 ghost use Rattle.nit_events.specs.declared.call.Call.TheVariants as call;
 ghost use Rattle.nit_events.specs.declared.entry.Entry.TheVariants as entry;
 ghost use Rattle.nit_events.specs.declared.event.Status.TheVariants as status;
 ghost use Rattle.nit_screen.specs.Terms.{ArePixels, CanServe, CanShowBy, IsCallShown, IsGlassOf};
-ghost use Rattle.nit_screen.specs.Terms.{IsPartOf, Repainted, accepted, glass_in, pixel};
-ghost use Rattle.nit_screen.specs.Terms.{pixel_count, raw_of, session, session_owns, state_of};
-ghost use Rattle.nit_screen.specs.Terms.{with_ended};
+ghost use Rattle.nit_screen.specs.Terms.{IsPartOf, Repainted, glass_in, pixel, pixel_count, raw_of};
+ghost use Rattle.nit_screen.specs.Terms.{session_owns, state_of, with_ended};
 ghost use Rattle.nit_screen.specs.RawWords.{source_at as scene_source_at};
 
 use crate::screen::Screen;

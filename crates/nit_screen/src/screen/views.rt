@@ -1,12 +1,11 @@
 //! Calls on one view, and exactly the pixels that they make dirty.
 
 ghost use Rattle.nit_screen.specs.Terms.{CanPaint, CanServe, IsCallShown, IsNamedBy, IsOn};
-ghost use Rattle.nit_screen.specs.Terms.{IsRepaint, SlotView, accepted, glasses_of_call, has_view};
-ghost use Rattle.nit_screen.specs.Terms.{is_of_session, owner_passes, pixel, place_of, session};
+ghost use Rattle.nit_screen.specs.Terms.{IsRepaint, SlotView, Some, glasses_of_call, has_view};
+ghost use Rattle.nit_screen.specs.Terms.{is_of_session, map, owner_passes, pixel, place_of};
 ghost use Rattle.nit_screen.specs.Terms.{session_in, slot_view_in, source_of_number};
 ghost use Rattle.nit_screen.specs.Terms.{without_session, without_views};
-ghost use Rattle.std.specs.Prelude.{◌≡◌, ◌+◌, ◌-◌, ◌^◌, ◌<◌, ◌≤◌, true, None, length, ℕ, ◌*◌};
-ghost use Rattle.std.specs.Prelude.{false, drop, Some, map};
+ghost use Rattle.std.specs.Prelude.{◌≡◌, ◌<◌, true, length};
 
 use crate::screen::Screen;
 use nit_events::{Call, Reply};

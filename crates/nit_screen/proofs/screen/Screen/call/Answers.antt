@@ -1,7 +1,6 @@
-use Rattle.nit_screen.proofs.Lemmas.{ap, false≢true, is_accepted}
-use Rattle.nit_screen.proofs.Lemmas.{map, refused_clean, refused_reply, refused_state, same_config}
-use Rattle.nit_screen.proofs.Lemmas.{serve_refused, session, session_in, state_of, sym, tables_kept}
-use Rattle.nit_screen.proofs.Lemmas.{unpainted, unrefused_reply, ◌∙◌}
+use Rattle.nit_screen.proofs.Lemmas.{ap, false≢true, is_accepted, refused_clean, refused_reply}
+use Rattle.nit_screen.proofs.Lemmas.{refused_state, serve_refused, session, session_in, state_of}
+use Rattle.nit_screen.proofs.Lemmas.{sym, unpainted, unrefused_reply, ◌∙◌}
 use Rattle.nit_events.specs.declared.entry.Entry.TheVariants as entry
 use Rattle.nit_screen.proofs.screen.Screen.call.Goals as goal
 

@@ -1,7 +1,7 @@
-use Rattle.nit_screen.proofs.Lemmas.{PixelSource, Repainted, ap, arith, as_many, can_relabel}
-use Rattle.nit_screen.proofs.Lemmas.{glass_in, label_there, length, length-map, map, pixel}
+use Rattle.nit_screen.proofs.Lemmas.{PixelSource, Repainted, arith, as_many, as_many_as}
+use Rattle.nit_screen.proofs.Lemmas.{can_relabel, glass_in, label_there, length-map, map, pixel}
 use Rattle.nit_screen.proofs.Lemmas.{pixel_count, raw_of, same_source, session_owns, state_of}
-use Rattle.nit_screen.proofs.Lemmas.{subst, sym, tables_stay, vec_capacity, ℕ, ◌∙◌}
+use Rattle.nit_screen.proofs.Lemmas.{subst, sym, tables_stay, ℕ, ◌∙◌}
 use Rattle.nit_screen.proofs.screen.Screen.reopen.Goals as goal
 
 pub index_mut-requires : goal.index_mut-requires
@@ -14,10 +14,8 @@ index_mut-requires g c =
 
 pub redraw-requires : goal.redraw-requires
 redraw-requires g c =
-    let p = c.kill_session.new.pixels in
-    can_relabel c.kill_session.new.server c.open.new.self c.args.sid c.args.label p.painter.raw.items
-    (length p.frame.items) (vec_capacity p.frame) p.painter.cutter.room p.labels.texts.items
-    (length p.labels.places.items) p.bar c.open.ensures c.kill_session.ensures.pixels.0
+    can_relabel c.kill_session.new.server c.open.new.self c.args.sid c.args.label c.kill_session.new.pixels
+    c.open.ensures c.kill_session.ensures.pixels.0
 
 pub invariant_of-self : goal.invariant_of-self
 invariant_of-self g c =
@@ -30,8 +28,7 @@ invariant_of-self g c =
     let lt = rw (← c.self.view_is) at c.requires.session in
     rw c.redraw.ensures.glasses (record {
       shown = c.redraw.ensures.pixels;
-      glasses = length-map gs' g.G.Glass.sight ∙ sym (length-map gs' g.G.Glass.rest) ∙ ap length e.rests
-          ∙ length-map gs g.G.Glass.rest
+      glasses = length-map gs' g.G.Glass.sight ∙ as_many_as g.G.Glass.rest gs gs' e.rests
           ∙ sym (length-map gs g.G.Glass.sight) ∙ c.self.invariant.glasses
           ∙ as_many s mid s' c.args.sid c.args.label e.server c.open.ensures;
       tables = tables_stay s mid s' c.args.sid c.args.label (map g.G.Glass.sight gs) (map g.G.Glass.sight gs')

@@ -1,7 +1,7 @@
 use Rattle.nit_screen.proofs.Lemmas.{ServerModel, as_many_as, bar_is_bare, bar_kept, can_paint_by}
 use Rattle.nit_screen.proofs.Lemmas.{can_show_loaded, ended_painted, ended_server, glass_in}
 use Rattle.nit_screen.proofs.Lemmas.{held_by_all, holds, nobody_ends, painted_in, state_of}
-use Rattle.std.proofs.Common.{ap, arith, length, map, refl, subst, ℕ, ◌<◌, ◌≡◌, ◌≤◌}
+use Rattle.std.proofs.Common.{ap, arith, length, map, refl, subst, ℕ, ◌<◌, ◌≤◌}
 use Rattle.nit_events.specs.declared.event.Status.TheVariants as status
 use Rattle.nit_screen.proofs.screen.sessions.kill_session.Goals as goal
 

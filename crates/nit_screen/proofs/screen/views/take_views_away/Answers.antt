@@ -1,13 +1,9 @@
-use Rattle.nit_screen.proofs.Lemmas.{CanPaint, IsNamedBy, IsRemovedFrom, IsRepaint, IsViewChange}
-use Rattle.nit_screen.proofs.Lemmas.{StackModel, all_taken, can_paint_gone, can_paint_rest}
-use Rattle.nit_screen.proofs.Lemmas.{all_painted, goes, goes_painted, gone_by_slot, gone_change}
-use Rattle.nit_screen.proofs.Lemmas.{gone_painted, gone_room, is_of_session, list_any, map}
-use Rattle.nit_screen.proofs.Lemmas.{no_repaint, one_less, pixel, place_is, repaint_more, seat_here}
-use Rattle.nit_screen.proofs.Lemmas.{source_of_number, stays, still_there, stays_clean, taken_more}
-use Rattle.nit_screen.proofs.Lemmas.{taken_none}
-use Rattle.nit_screen.proofs.Lemmas.{uncovered, without_session, without_views}
-use Rattle.std.proofs.Common.{ap, arith, drop, false, length, refl, subst, sym, ℕ, ◌+◌, ◌-◌, ◌<◌}
-use Rattle.std.proofs.Common.{◌∙◌, ◌≡◌, ◌≤◌}
+use Rattle.nit_screen.proofs.Lemmas.{IsRemovedFrom, IsViewChange, all_painted, all_taken}
+use Rattle.nit_screen.proofs.Lemmas.{can_paint_gone, can_paint_rest, goes, goes_painted}
+use Rattle.nit_screen.proofs.Lemmas.{gone_by_slot, gone_change, gone_painted, no_repaint, one_less}
+use Rattle.nit_screen.proofs.Lemmas.{pixel, place_is, repaint_more, seat_here, stays, stays_clean}
+use Rattle.nit_screen.proofs.Lemmas.{still_there, taken_more, taken_none, uncovered, without_views}
+use Rattle.std.proofs.Common.{ap, arith, refl, subst, sym, ℕ, ◌+◌, ◌-◌, ◌<◌, ◌∙◌, ◌≡◌, ◌≤◌}
 use Rattle.nit_screen.proofs.screen.views.take_views_away.Goals as goal
 
 pub views-init : goal.views-init
@@ -48,8 +44,7 @@ paint_changed-requires-clause-room g c =
     let i = c.views.invariant in
     let mid = c.views.server in
     let by = rw c.if-view-of.false at c.seated-view.ensures.named in
-    let can = can_paint_rest _ _ _ _ c.args.of c.views.i c.args.sid c.args.server.now.stack mid.stack _ _ _ _ _ _
-        i.taken
+    let can = can_paint_rest _ _ _ _ c.args.of c.views.i c.args.sid c.args.server.now.stack mid.stack _ _ _ _ _ _ i.taken
     i.painted c.requires.can in
     rw c.stack.ensures.stack (can_paint_gone _ mid.stack c.remove_view.new.self.stack c.seated-view.result.0.0 _
     (gone_by_slot mid c.remove_view.new.self c.args.of _ _ by c.remove_view.ensures) can).room
@@ -59,8 +54,7 @@ paint_changed-requires-clause-held g c =
     let i = c.views.invariant in
     let mid = c.views.server in
     let by = rw c.if-view-of.false at c.seated-view.ensures.named in
-    let can = can_paint_rest _ _ _ _ c.args.of c.views.i c.args.sid c.args.server.now.stack mid.stack _ _ _ _ _ _
-        i.taken
+    let can = can_paint_rest _ _ _ _ c.args.of c.views.i c.args.sid c.args.server.now.stack mid.stack _ _ _ _ _ _ i.taken
     i.painted c.requires.can in
     rw c.stack.ensures.stack (can_paint_gone _ mid.stack c.remove_view.new.self.stack c.seated-view.result.0.0 _
     (gone_by_slot mid c.remove_view.new.self c.args.of _ _ by c.remove_view.ensures) can).held
@@ -81,8 +75,7 @@ views-preserved g c =
     let gone = goes c.args.of (c.views.i - 1) k mid.stack next.stack _ by.slots at refl c.if-view-of.false first.behind
     now (within _ _ c.views-test.true i.taken.within) in
     let change : IsViewChange k (c.views.i - 1) view.rect mid.stack next.stack =
-    gone_change mid.stack next.stack k (c.views.i - 1) view by.slots
-        (seat_here mid.stack.views (c.views.i - 1) _ by.slots
+    gone_change mid.stack next.stack k (c.views.i - 1) view by.slots (seat_here mid.stack.views (c.views.i - 1) _ by.slots
     at) (sym (place_is mid.stack.views (c.views.i - 1) _ by.slots at)) now in
     record {
       taken = taken_more c.args.of (c.views.i - 1) c.args.server.now.stack mid.stack next.stack first gone;
