@@ -196,7 +196,8 @@ module _ {G C R S : Type 0} {sight : G → Sight} {rest : G → R} {own_sight : 
           (kept_part s s' sid part call reply
           (glasses_of_call (map sight one.painter.glasses.items) sid (own_sight own))
           (glasses_of_call (map sight painter.glasses.items) sid (own_sight own')) one.painter.raw.items
-          now.painter.raw.items one.frame.items now.frame.items chosen can.unrefused.accepted served on (rw e.raw dirty_painted)
+          now.painter.raw.items one.frame.items now.frame.items chosen can.unrefused.accepted served on
+          (rw e.raw dirty_painted)
           (ap (λ w. length w.items) e.raw ∙ loads.count ∙ made.pixels.0.pixels) is_dirty e.shown (frame_before m)),
       λ d. e.kept.0 ∙ labelled_before m,
     );
@@ -285,7 +286,8 @@ module _ {G C R S : Type 0} (sight : G → Sight) (rest : G → R) (own_sight : 
         can_show_call s s' p one painter hb ha can served other screen made single is_dirty loaded,
         apart_before s s' p one painter hb ha can served other screen made single is_dirty loaded,
         λ now flat labelled. loaded_shown s s' p one painter hb ha can served other screen made single is_dirty loaded
-            now flat (λ m. part_is_shown s s' p one painter hb ha can served other screen made single is_dirty loaded now
+            now flat (λ m. part_is_shown s s' p one painter hb ha can served other screen made single is_dirty loaded
+            now
             part on m (labelled m)),
       )
 
@@ -298,7 +300,8 @@ pub close_call : {G C R S : Type 0} {sight : G → Sight} {rest : G → R} {own_
     → sid < length mid.sessions → without_views sid mid ≡ without_views sid s → s' ≡ with_ended sid status.Closed mid
     → IsRepaint sight rest own_sight own_rest (pieces.source_of_number (without_session sid s.stack))
     (λ k. owner_passes (is_of_session sid) s.stack (pixel s.stack.width k)) sid own own' p.painter painter
-    → CanShowBy s' (record p { painter = painter }) × ((now : Pixels G) → IsShown s' (record p { painter = painter }) now
+    → CanShowBy s' (record p { painter = painter }) × ((now : Pixels G) → IsShown s' (record p { painter = painter })
+    now
     → IsScreen s' (map sight now.painter.glasses.items) now
     × IsCallShown sight rest own_sight own_rest sid Close reply.Done own own' (screen_of s p) (screen_of s' now))
 close_call {sid = sid} {s = s} {s' = s'} {p = p} {painter = painter} mid hb ha can screen within left now loaded =

@@ -270,7 +270,8 @@ bar_again s p painter one flat some h other long drawn below =
           bar = h.bar;
           fits = omega (arith, fits, long);
         },
-        subst (λ (b : Bool). cond b p.frame.items now ≡ frame (scenery_of (state_of s)) (raw_in b p.bar now)) (sym one) is,
+        subst (λ (b : Bool). cond b p.frame.items now ≡ frame (scenery_of (state_of s)) (raw_in b p.bar now)) (sym one)
+            is,
         λ m. absurd (false≢true (sym (ap draws_labels flat) ∙ m)),
       );
       raw = subst (λ (b : Bool). raw_in b p.bar now ≡ raw_in b p.bar raw) (sym one) same;
@@ -301,7 +302,8 @@ pub flat_kept : {G : Type 0} (before after' : ServerModel) (sid : ℕ) (call : C
     (pixel before.config.width k))
     → (before.input.mode ≡ Flat → p.is_apart ≡ false) → after'.input.mode ≡ Flat → IsFrameOf before p
     → IsFrameOf after' (record p { painter = painter })
-flat_kept before after' sid call r glasses glasses' p painter chosen within other served some h long painted same one flat
+flat_kept before after' sid call r glasses glasses' p painter chosen within other served some h long painted same one
+    flat
     was =
     subst (λ (b : Bool). cond b p.frame.items raw' ≡ frame (scenery_of (state_of after')) (raw_in b bar raw')) (sym is)
     (kept_served before after' sid call r glasses glasses' (unbarred bar raw) (unbarred bar raw') raw raw' chosen within

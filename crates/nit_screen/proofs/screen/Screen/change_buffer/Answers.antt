@@ -47,7 +47,7 @@ returns g c =
     let made = c.make_one.ensures in
     let e = c.paint_session.ensures in
     rw (← c.self.view_is) (((part_call g.G.Glass.sight g.G.Glass.rest g.C.Glass.sight g.C.Glass.rest c.args.own.now
-        c.paint_session.new.own
+    c.paint_session.new.own
     c.paint_session.new.self c.facts.ensures c.stack-stack.ensures.facts can c.accept-reply.ensures c.self.invariant
     made.shown made.one c.stack-stack.ensures.stack e.room e.count e.idle e.rest e.rests c.args.part.now c.requires.on
     e.painted).2

@@ -44,7 +44,8 @@ paint_changed-requires-clause-room g c =
     let i = c.views.invariant in
     let mid = c.views.server in
     let by = rw c.if-view-of.false at c.seated-view.ensures.named in
-    let can = can_paint_rest _ _ _ _ c.args.of c.views.i c.args.sid c.args.server.now.stack mid.stack _ _ _ _ _ _ i.taken
+    let can = can_paint_rest _ _ _ _ c.args.of c.views.i c.args.sid c.args.server.now.stack mid.stack _ _ _ _ _ _
+    i.taken
     i.painted c.requires.can in
     rw c.stack.ensures.stack (can_paint_gone _ mid.stack c.remove_view.new.self.stack c.seated-view.result.0.0 _
     (gone_by_slot mid c.remove_view.new.self c.args.of _ _ by c.remove_view.ensures) can).room
@@ -54,7 +55,8 @@ paint_changed-requires-clause-held g c =
     let i = c.views.invariant in
     let mid = c.views.server in
     let by = rw c.if-view-of.false at c.seated-view.ensures.named in
-    let can = can_paint_rest _ _ _ _ c.args.of c.views.i c.args.sid c.args.server.now.stack mid.stack _ _ _ _ _ _ i.taken
+    let can = can_paint_rest _ _ _ _ c.args.of c.views.i c.args.sid c.args.server.now.stack mid.stack _ _ _ _ _ _
+    i.taken
     i.painted c.requires.can in
     rw c.stack.ensures.stack (can_paint_gone _ mid.stack c.remove_view.new.self.stack c.seated-view.result.0.0 _
     (gone_by_slot mid c.remove_view.new.self c.args.of _ _ by c.remove_view.ensures) can).held
@@ -75,7 +77,8 @@ views-preserved g c =
     let gone = goes c.args.of (c.views.i - 1) k mid.stack next.stack _ by.slots at refl c.if-view-of.false first.behind
     now (within _ _ c.views-test.true i.taken.within) in
     let change : IsViewChange k (c.views.i - 1) view.rect mid.stack next.stack =
-    gone_change mid.stack next.stack k (c.views.i - 1) view by.slots (seat_here mid.stack.views (c.views.i - 1) _ by.slots
+    gone_change mid.stack next.stack k (c.views.i - 1) view by.slots
+    (seat_here mid.stack.views (c.views.i - 1) _ by.slots
     at) (sym (place_is mid.stack.views (c.views.i - 1) _ by.slots at)) now in
     record {
       taken = taken_more c.args.of (c.views.i - 1) c.args.server.now.stack mid.stack next.stack first gone;
