@@ -3,7 +3,6 @@ use Rattle.nit_audit.proofs.Basics.{IsNonDecreasing, List, None, Option, Some, [
 use Rattle.nit_audit.proofs.Basics.{left}
 use Rattle.std.proofs.Common.{suc, zero, ℕ, ◌++◌, ◌∷◌, ◌≡◌, ◌≤◌}
 use mathlib.Core.List.{IsPrefix, cons≢nil}
-use Rattle.nit_events.specs.declared.entry.Entry.TheVariants as entry
 
 -- ---- phases that never fall
 

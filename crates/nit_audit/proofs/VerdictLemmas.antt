@@ -1,5 +1,5 @@
 -- What is answered of entries, one at a time.
-use Rattle.nit_audit.proofs.Basics.{Call, Entry, Err, IfOk, IsEnded, IsLeastBad, IsOpen, IsVerdict}
+use Rattle.nit_audit.proofs.Basics.{Entry, Err, IfOk, IsEnded, IsLeastBad, IsOpen, IsVerdict}
 use Rattle.nit_audit.proofs.Basics.{IsVerdictFrom, List, Ok, Result, Verdict, [], ap, arith}
 use Rattle.nit_audit.proofs.Basics.{cases_lt, inl, inr, refl, subst, suc, sym}
 use Rattle.std.proofs.Common.{take, zero, ℕ, ◌++◌, ◌+◌, ◌<◌, ◌∙◌, ◌∷◌, ◌≡◌, ◌↔◌, ◌≢◌}

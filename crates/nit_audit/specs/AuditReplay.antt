@@ -3,7 +3,8 @@ use Rattle.std.specs.Prelude.{◌≡◌, ℕ, ◌+◌, ◌*◌, ◌<◌, ◌≤�
 use Rattle.nit_audit.specs.Below.{Agrees, Call, Close, Configuration, Device, Entry, FocusModel}
 use Rattle.nit_audit.specs.Below.{InputState, IsTrue, Place, Routing, Session, State, Title}
 use Rattle.nit_audit.specs.Below.{UserAction, Verdict, View, after, forget, is_rectangle, is_title}
-use Rattle.nit_audit.specs.Below.{member, most_sessions, route, session_in, slice_index_or}
+use Rattle.nit_audit.specs.Below.{member, most_read, most_sessions, route, session_in}
+use Rattle.nit_audit.specs.Below.{slice_index_or}
 use Rattle.nit_events.specs.declared.entry.Entry.TheVariants as entry
 use Rattle.nit_audit.specs.Underway.{Audited, IsGoodFrom, MayFollow, followed}
 use Rattle.nit_audit.specs.Verdict.{IsVerdictFrom}
@@ -33,6 +34,11 @@ pub record IsReplay (config : Configuration) (r : ReplayModel) : Type 0 where
   pub next : (t : ℕ) → (session_in r.sessions t).next ≤ r.count + 1
   pub lost : (t : ℕ) → (session_in r.sessions t).lost ≤ 3 * r.count
   pub shots : r.shots ≤ r.count
+
+-- The replay is one by this configuration, and it has room for one more entry.
+pub record CanReplay (config : Configuration) (r : ReplayModel) : Type 0 where
+  pub kept : IsReplay config r
+  pub few : r.count < most_read
 
 -- what a device event leaves of the input, and what it delivers
 abbrev pub replay_routing : Configuration → ReplayModel → Device → Routing
@@ -67,6 +73,11 @@ abbrev pub IsSound : Call → Type 0
 IsSound (Place v x y w h) = IsTrue (is_rectangle x y w h)
 IsSound (Title v text) = IsTrue (is_title text)
 IsSound other = Unit {0}
+
+-- the views can follow the session's call
+pub record CanRestack (sid : ℕ) (call : Call) : Type 0 where
+  pub sound : IsSound call
+  pub session : sid < most_sessions
 
 -- the replay, and what is still to be done
 pub record UnderwayModel : Type 0 where

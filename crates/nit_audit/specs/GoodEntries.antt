@@ -1,8 +1,9 @@
 -- Entries that a run may have made so far.
-use Rattle.std.specs.Prelude.{◌≡◌, ℕ, ◌<◌, List, ◌∷◌, ◌++◌, map, length}
-use Rattle.nit_audit.specs.Below.{Call, Configuration, Entry, InputLine, IsLegal, IsNonDecreasing}
-use Rattle.nit_audit.specs.Below.{Line, UserAction, calls_of, calls_to_make, done, phases_along}
-use Rattle.nit_audit.specs.Below.{to_do, user_actions_of, user_actions_to_do}
+use Rattle.std.specs.Prelude.{◌≡◌, ℕ, ◌<◌, ◌≤◌, List, ◌∷◌, ◌++◌, map, length}
+use Rattle.nit_audit.specs.Below.{Call, Configuration, Entry, InputLine, IsConfiguration, IsLegal}
+use Rattle.nit_audit.specs.Below.{IsNonDecreasing, Line, UserAction, calls_of, calls_to_make, done}
+use Rattle.nit_audit.specs.Below.{most_read, phases_along, to_do, user_actions_of}
+use Rattle.nit_audit.specs.Below.{user_actions_to_do}
 use mathlib.Core.List.{IsPrefix}
 use Rattle.nit_events.specs.declared.entry.Entry.TheVariants as entry
 
@@ -31,3 +32,10 @@ pub record IsGoodFor
 abbrev pub IsGood : Configuration → List (List Line) → List InputLine → List Entry → Type 0
 IsGood config scripts input entries =
     IsGoodFor config (map calls_to_make scripts) (user_actions_to_do input) entries
+
+-- The configuration is one, each client has a script, and there are not too many entries.
+pub record CanAudit (config : Configuration) (scripts : List (List Line)) (entries : List Entry)
+    : Type 0 where
+  pub configured : IsConfiguration config
+  pub each : length scripts ≡ length config.clients
+  pub few : length entries ≤ most_read

@@ -1,8 +1,8 @@
 -- The views as the audit keeps them: the records under their keys, and the keys, front first.
-use Rattle.std.specs.Prelude.{ℕ, ◌<◌, ◌==◌, Bool, List, map, Option, Some, None, option_map}
-use Rattle.std.specs.Prelude.{IsSomeAnd, if◌then◌else◌}
-use Rattle.nit_audit.specs.Below.{AllByRecursion, Change, Slab, View, Which, get, is_view, list_any}
-use Rattle.nit_audit.specs.Below.{most_sessions, new_view}
+use Rattle.std.specs.Prelude.{◌≡◌, ◌≢◌, ℕ, ◌<◌, ◌≤◌, ◌==◌, Bool, List, length, map, Option, Some}
+use Rattle.std.specs.Prelude.{None, option_map, IsSomeAnd, if◌then◌else◌}
+use Rattle.nit_audit.specs.Below.{AllByRecursion, Change, Slab, View, Which, get, insert, is_view}
+use Rattle.nit_audit.specs.Below.{list_any, most_sessions, new_view, position_or_len, put_back}
 use Rattle.nit_audit.specs.declared.keys.Change.TheVariants as change
 use Rattle.nit_audit.specs.declared.keys.Which.TheVariants as which
 
@@ -53,3 +53,19 @@ has_key keys key = list_any (λ k. k == key) keys
 -- what the records under these keys became
 abbrev pub swept : (Option View → Option View) → List ℕ → Slab View → ℕ → Option View
 swept f keys records key = if has_key keys key then f (get records key) else get records key
+
+-- the record under one key became this, and the others stay
+pub record IsSweptAt (f : Option View → Option View) (key : ℕ) (old new : Slab View)
+    : Type 0 where
+  pub here : get new key ≡ f (get old key)
+  pub others : (k : ℕ) → k ≢ key → get new k ≡ get old k
+
+-- the place of the first key of which this holds; their number where there is none
+pub record IsFirstPlace (f : ℕ → Bool) (keys : List ℕ) (i : ℕ) : Type 0 where
+  pub place : i ≡ position_or_len f keys
+  pub within : i ≤ length keys
+
+-- the place behind the last key of this number or a lower one; the first place where none is
+pub record IsBackPlace (on : ℕ → ℕ) (high : ℕ) (keys : List ℕ) (i : ℕ) : Type 0 where
+  pub place : (v : ℕ) → insert keys i v ≡ put_back on high v keys
+  pub within : i ≤ length keys

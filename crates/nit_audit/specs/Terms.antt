@@ -1,8 +1,8 @@
 -- The words that clauses use: those that come from outside, and those of this crate.
-pub use Rattle.nit_audit.specs.AuditReplay.{HasReplayed, IsAhead, IsFollowed, IsFollowing, IsGone}
-pub use Rattle.nit_audit.specs.AuditReplay.{IsReplay, IsReplayAnswer, IsSound, ReplayModel}
-pub use Rattle.nit_audit.specs.AuditReplay.{UnderwayModel, audited, input_closing, replay_routing}
-pub use Rattle.nit_audit.specs.AuditReplay.{state_of_replay}
+pub use Rattle.nit_audit.specs.AuditReplay.{CanReplay, CanRestack, HasReplayed, IsAhead, IsFollowed}
+pub use Rattle.nit_audit.specs.AuditReplay.{IsFollowing, IsGone, IsReplay, IsReplayAnswer, IsSound}
+pub use Rattle.nit_audit.specs.AuditReplay.{ReplayModel, UnderwayModel, audited, input_closing}
+pub use Rattle.nit_audit.specs.AuditReplay.{replay_routing, state_of_replay}
 pub use Rattle.nit_audit.specs.Below.{Above, Agrees, AllByRecursion, Answered, Back, Buffer, Call}
 pub use Rattle.nit_audit.specs.Below.{Change, Close, Configuration, Delivery, Destroy, Device, Does}
 pub use Rattle.nit_audit.specs.Below.{Entry, Err, Event, FitsInputLine, FocusModel, Front, IfOk}
@@ -26,11 +26,12 @@ pub use Rattle.nit_audit.specs.Below.{put_front, receive, rectangle, refusal, re
 pub use Rattle.nit_audit.specs.Below.{routing, serve, session_in, slice_set, taking, to_do}
 pub use Rattle.nit_audit.specs.Below.{user_actions_from, user_actions_of, user_actions_to_do}
 pub use Rattle.nit_audit.specs.Below.{vec_len, with_pointer, without}
-pub use Rattle.nit_audit.specs.GoodEntries.{IsAllDone, IsGood, IsGoodFor}
-pub use Rattle.nit_audit.specs.Keys.{AllHaveViews, HasView, changed_if, has_key, is_meant, swept}
-pub use Rattle.nit_audit.specs.Keys.{taken_if, view_or, view_under, views_at, with_change}
-pub use Rattle.nit_audit.specs.Underway.{Audited, BeginsWithCall, BeginsWithAction, IsDue}
-pub use Rattle.nit_audit.specs.Underway.{IsGoodFrom}
+pub use Rattle.nit_audit.specs.GoodEntries.{CanAudit, IsAllDone, IsGood, IsGoodFor}
+pub use Rattle.nit_audit.specs.Keys.{AllHaveViews, HasView, IsBackPlace, IsFirstPlace, IsSweptAt}
+pub use Rattle.nit_audit.specs.Keys.{changed_if, has_key, is_meant, swept, taken_if, view_or}
+pub use Rattle.nit_audit.specs.Keys.{view_under, views_at, with_change}
+pub use Rattle.nit_audit.specs.Underway.{AreInputLines, Audited, BeginsWithCall, BeginsWithAction}
+pub use Rattle.nit_audit.specs.Underway.{IsAtCall, IsAtAction, IsCourseAnswer, IsDue, IsGoodFrom}
 pub use Rattle.nit_audit.specs.Underway.{IsMatched, IsNext, IsNothingLeft, MayFollow, first_audited}
 pub use Rattle.nit_audit.specs.Underway.{followed}
 pub use Rattle.nit_audit.specs.Verdict.{IsEnded, IsLeastBad, IsVerdict, IsVerdictFrom}

@@ -1,9 +1,11 @@
 -- An audit under way: what the entries so far lead to, and which entry may come next.
 use Rattle.std.specs.Prelude.{◌≡◌, ℕ, ◌+◌, ◌<◌, ◌≤◌, List, [], ◌∷◌, ◌++◌, length, slice_set}
-use Rattle.nit_audit.specs.Below.{Agrees, Call, Configuration, Does, Entry, InputLine}
-use Rattle.nit_audit.specs.Below.{IsNonDecreasing, LegalFrom, Line, Shoots, State, UserAction}
-use Rattle.nit_audit.specs.Below.{after, calls_of, done, first_state, left, next_phase}
-use Rattle.nit_audit.specs.Below.{phases_along, to_do, user_actions_of}
+use Rattle.std.specs.Prelude.{Option, Some, None}
+use Rattle.nit_audit.specs.Below.{Agrees, AllByRecursion, Call, Configuration, Does, Entry}
+use Rattle.nit_audit.specs.Below.{FitsInputLine, InputLine, IsNonDecreasing, LegalFrom, Line}
+use Rattle.nit_audit.specs.Below.{Shoots, State, UserAction, after, calls_from, calls_of, done}
+use Rattle.nit_audit.specs.Below.{first_state, left, most_lines, next_phase, phases_along, to_do}
+use Rattle.nit_audit.specs.Below.{user_actions_from, user_actions_of}
 use mathlib.Core.List.{IsPrefix}
 use Rattle.nit_events.specs.declared.entry.Entry.TheVariants as entry
 use Rattle.nit_script.specs.declared.line.Line.TheVariants as line
@@ -38,6 +40,18 @@ pub record IsGoodFrom (a : Audited) (entries : List Entry) : Type 0 where
 abbrev pub IsNext : {A : Type 0} → ℕ → A → List (ℕ × A) → Type 0
 IsNext phase x [] = ⊥
 IsNext phase x (t ∷ ts) = (phase ≤ t.0) × (x ≡ t.1)
+
+-- this was done next, in this phase or a later one, and what was left goes on
+pub record IsDoneNext {A : Type 0} (from : ℕ) (x : A) (old new : List (ℕ × A)) (phase : ℕ)
+    : Type 0 where
+  pub next : IsNext from x old
+  pub when : phase ≡ next_phase old
+  pub rest : new ≡ left old
+
+-- the phase in which this is done next; none where it is not done next
+abbrev pub IsCourseAnswer : {A : Type 0} → ℕ → A → List (ℕ × A) → List (ℕ × A) → Option ℕ → Type 0
+IsCourseAnswer from x old new (Some phase) = IsDoneNext from x old new phase
+IsCourseAnswer from x old new None = IsNext from x old → ⊥
 
 -- nothing is left to do
 pub record IsNothingLeft (clients : List (List (ℕ × Call)))
@@ -89,3 +103,21 @@ abbrev pub BeginsWithAction : List InputLine → Type 0
 BeginsWithAction [] = Unit {0}
 BeginsWithAction (input.Phase ∷ rest) = ⊥
 BeginsWithAction (other ∷ rest) = Unit {0}
+
+-- the rest of a client's lines, from its next call on, and the phase that it is in
+pub record IsAtCall (phase : ℕ) (lines : List Line) (at : ℕ) (rest : List Line) : Type 0 where
+  pub calls : calls_from at rest ≡ calls_from phase lines
+  pub begins : BeginsWithCall rest
+  pub few : at + length rest ≤ most_lines
+
+-- lines of the input script, the first one in this phase
+pub record AreInputLines (phase : ℕ) (lines : List InputLine) : Type 0 where
+  pub few : phase + length lines ≤ most_lines
+  pub fits : AllByRecursion FitsInputLine lines
+
+-- the rest of the input script, from the next device event or shot on, and the phase that it is in
+pub record IsAtAction (phase : ℕ) (lines : List InputLine) (at : ℕ) (rest : List InputLine)
+    : Type 0 where
+  pub actions : user_actions_from at rest ≡ user_actions_from phase lines
+  pub begins : BeginsWithAction rest
+  pub fits : AreInputLines at rest

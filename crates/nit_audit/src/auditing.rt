@@ -1,8 +1,9 @@
 //! The audit.
 
 ghost use Rattle.std.specs.Prelude.{◌≡◌, ◌≢◌, ℕ, ◌<◌, ◌≤◌, ◌↔◌, ◌⊎◌, ◌+◌, [], length, map};
-ghost use Rattle.nit_audit.specs.Terms.{Does, IfOk, IsConfiguration, IsDevice, IsFollowing, IsGone};
-ghost use Rattle.nit_audit.specs.Terms.{IsGood, IsLegal, IsNext, IsNothingLeft, IsReplay, IsTrue};
+ghost use Rattle.nit_audit.specs.Terms.{CanAudit, CanReplay, Does, IfOk, IsConfiguration};
+ghost use Rattle.nit_audit.specs.Terms.{IsDevice, IsFollowing, IsGone, IsGood, IsLegal, IsNext};
+ghost use Rattle.nit_audit.specs.Terms.{IsNothingLeft, IsReplay, IsTrue};
 ghost use Rattle.nit_audit.specs.Terms.{IsVerdict, IsWhole, Ok, Shoots, alone, audited};
 ghost use Rattle.nit_audit.specs.Terms.{calls_to_make, donation_of, first_audited, left, most_read};
 ghost use Rattle.nit_audit.specs.Terms.{next_phase, projection, replies_to, slice_set, to_do};
@@ -70,9 +71,7 @@ fn judged(
     input: &Input,
     entries: &[Entry],
 ) -> Result<Verdict, NoMemory>
-    requires configured { IsConfiguration config.now }
-    requires scripts { length scripts.now ≡ length config.now.clients }
-    requires few { length entries.now ≤ most_read }
+    requires { CanAudit config.now scripts.now entries.now }
     ensures { IfOk result (IsVerdict (IsGood config.now scripts.now input.now) entries.now) }
 {
     let mut underway = Underway::new(alloc, config, scripts, input)?;
@@ -122,8 +121,7 @@ impl<'a> Underway<'a> {
         scripts: &'a [Client],
         input: &'a Input,
     ) -> Result<Underway<'a>, NoMemory>
-        requires configured { IsConfiguration config.now }
-        requires scripts { length scripts.now ≡ length config.now.clients }
+        requires { IsConfiguration config.now }
         ensures kept { IfOk result (λ a. IsReplay config.now a.replay) }
         ensures none { IfOk result (λ a. a.replay.count ≡ 0) }
         ensures first { IfOk result (λ a. audited config.now a
@@ -141,8 +139,7 @@ impl<'a> Underway<'a> {
     /// Whether the entry may come next; it is not the last picture. Where it may, the audit goes
     /// on.
     fn follow(&mut self, config: &Config, e: &Entry) -> Result<bool, NoMemory>
-        requires kept { IsReplay config.now self.old.replay }
-        requires few { self.old.replay.count < most_read }
+        requires going { CanReplay config.now self.old.replay }
         requires open { e.now ≢ entry.Final }
         ensures { IfOk result (IsFollowing config.now e.now self.old self.new) }
     {
@@ -162,8 +159,7 @@ impl<'a> Underway<'a> {
         call: &Call,
         reply: &Reply,
     ) -> Result<bool, NoMemory>
-        requires kept { IsReplay config.now self.old.replay }
-        requires few { self.old.replay.count < most_read }
+        requires { CanReplay config.now self.old.replay }
         ensures { IfOk result
             (IsFollowing config.now (entry.Call sid call.now reply.now) self.old self.new) }
     {
@@ -175,8 +171,7 @@ impl<'a> Underway<'a> {
 
     /// A device event, with its deliveries.
     fn input(&mut self, config: &Config, dev: Device, routed: &Routed) -> bool
-        requires kept { IsReplay config.now self.old.replay }
-        requires few { self.old.replay.count < most_read }
+        requires { CanReplay config.now self.old.replay }
         ensures { IsFollowing config.now (entry.Input dev routed.now) self.old self.new result }
     {
         if !self.act(dev) {
@@ -187,8 +182,7 @@ impl<'a> Underway<'a> {
 
     /// A shot, with its number.
     fn shot(&mut self, config: &Config, number: u32) -> bool
-        requires kept { IsReplay config.now self.old.replay }
-        requires few { self.old.replay.count < most_read }
+        requires { CanReplay config.now self.old.replay }
         ensures { IsFollowing config.now (entry.Shot number) self.old self.new result }
     {
         if !self.shoot() {

@@ -1,10 +1,9 @@
 //! What a client's script has still to do.
 
-ghost use Rattle.std.specs.Prelude.{◌≡◌, ◌↔◌, ◌+◌, ◌≤◌, [], IsTrue, IfSome, IfNone, length};
-ghost use Rattle.nit_audit.specs.Terms.{BeginsWithCall, IsNext, calls_from, calls_to_make, left};
-ghost use Rattle.nit_audit.specs.Terms.{most_lines, next_phase};
+ghost use Rattle.std.specs.Prelude.{◌≡◌, ◌↔◌, ◌+◌, ◌≤◌, [], IsTrue, length};
+ghost use Rattle.nit_audit.specs.Terms.{IsAtCall, IsCourseAnswer, calls_to_make, most_lines};
 
-use crate::same::same_call;
+use crate::same::Same;
 use nit_events::Call;
 use nit_script::{Client, Line};
 use std::marker::Model;
@@ -44,10 +43,7 @@ impl<'a> ClientCourse<'a> {
     /// The client makes this call next, in the phase `from` or a later one: answers that phase.
     /// None exactly where it does not.
     pub(crate) fn make(&mut self, from: u32, call: &Call) -> Option<u32>
-        ensures made { IfSome result (λ phase. IsNext from call.now self.old
-            × (phase ≡ next_phase self.old)) }
-        ensures left { IfSome result (λ _. self.new ≡ left self.old) }
-        ensures not_next { IfNone result (IsNext from call.now self.old → ⊥) }
+        ensures { IsCourseAnswer from call.now self.old self.new result }
     {
         let (phase, lines) = next_call(self.lines, self.phase);
         let Some((line, rest)) = lines.split_first() else {
@@ -74,9 +70,7 @@ impl<'a> ClientCourse<'a> {
 /// it are passed by.
 fn next_call(lines: &[Line], phase: u32) -> (u32, &[Line])
     requires { phase + length lines.now ≤ most_lines }
-    ensures calls { calls_from result.0 result.1.now ≡ calls_from phase lines.now }
-    ensures begins { BeginsWithCall result.1.now }
-    ensures few { result.0 + length result.1.now ≤ most_lines }
+    ensures { IsAtCall phase lines.now result.0 result.1.now }
 {
     let mut rest = lines;
     let mut at = phase;
@@ -96,7 +90,7 @@ fn is_call(line: &Line, call: &Call) -> bool
     ensures { IsTrue result ↔ (line.now ≡ Line.Call call.now) }
 {
     match *line {
-        Line::Call(made) => same_call(&made, call),
+        Line::Call(made) => made.is_same(call),
         Line::Stroke(_) | Line::Phase => false,
     }
 }

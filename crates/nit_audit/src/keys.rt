@@ -1,9 +1,9 @@
 //! Records of views under their keys, and the order of the keys, front first.
 
-ghost use Rattle.std.specs.Prelude.{◌≡◌, ◌≢◌, ◌≤◌, ℕ, filter, find, length, nat_le, option_map};
-ghost use Rattle.nit_audit.specs.Terms.{AllHaveViews, HasView, OnOk, changed_if, covers, get};
-ghost use Rattle.nit_audit.specs.Terms.{insert, is_meant, is_some, layer, member, new_view};
-ghost use Rattle.nit_audit.specs.Terms.{position_or_len, put_back, swept, taken_if, vec_len};
+ghost use Rattle.std.specs.Prelude.{◌≡◌, ◌≤◌, ℕ, filter, find, nat_le, option_map};
+ghost use Rattle.nit_audit.specs.Terms.{AllHaveViews, HasView, IsBackPlace, IsFirstPlace};
+ghost use Rattle.nit_audit.specs.Terms.{IsSweptAt, OnOk, changed_if, covers, get, insert, is_meant};
+ghost use Rattle.nit_audit.specs.Terms.{is_some, layer, member, new_view, swept, taken_if, vec_len};
 ghost use Rattle.nit_audit.specs.Terms.{view_under, with_change, without};
 ghost use Rattle.slab.specs.Slab.{Slab as SlabOf};
 ghost use Rattle.nit_stack.specs.declared.view.View.{View as ViewOf};
@@ -109,9 +109,7 @@ pub(crate) fn first_key(records: &Slab<View>, keys: &[usize], which: Which) -> O
 
 /// The place of the front-most key whose view is meant. The number of keys where there is none.
 pub(crate) fn place_of(records: &Slab<View>, keys: &[usize], which: Which) -> usize
-    ensures place { result
-        ≡ position_or_len (λ k. is_meant which (view_under records.now k)) keys.now }
-    ensures within { result ≤ length keys.now }
+    ensures { IsFirstPlace (λ k. is_meant which (view_under records.now k)) keys.now result }
 {
     for (i, key) in keys.iter().enumerate() {
         if is_meant(which, &view_under(records, *key)) {
@@ -124,9 +122,8 @@ pub(crate) fn place_of(records: &Slab<View>, keys: &[usize], which: Which) -> us
 /// The place of the first view of this layer or of a layer behind. The number of keys where there
 /// is none.
 pub(crate) fn front_place(records: &Slab<View>, keys: &[usize], config: &Config, low: u32) -> usize
-    ensures place { result ≡ position_or_len
-        (λ k. nat_le low (layer config.now (view_under records.now k).sid)) keys.now }
-    ensures within { result ≤ length keys.now }
+    ensures { IsFirstPlace (λ k. nat_le low (layer config.now (view_under records.now k).sid))
+        keys.now result }
 {
     for (i, key) in keys.iter().enumerate() {
         if low <= layer_of(config, view_under(records, *key).sid) {
@@ -139,9 +136,8 @@ pub(crate) fn front_place(records: &Slab<View>, keys: &[usize], config: &Config,
 /// The place behind the last view of this layer or of a layer in front. The first place where there
 /// is none.
 pub(crate) fn back_place(records: &Slab<View>, keys: &[usize], config: &Config, high: u32) -> usize
-    ensures place { (v : ℕ) → insert keys.now result v
-        ≡ put_back (λ k. layer config.now (view_under records.now k).sid) high v keys.now }
-    ensures within { result ≤ length keys.now }
+    ensures { IsBackPlace (λ k. layer config.now (view_under records.now k).sid) high keys.now
+        result }
 {
     for i in (0..keys.len()).rev() {
         if layer_of(config, view_under(records, keys[i]).sid) <= high {
@@ -198,8 +194,7 @@ pub(crate) fn drop_all(records: &mut Slab<View>, keys: &[usize], which: Which)
 
 /// Changes the record under a key, where it is meant.
 fn change_one(records: &mut Slab<View>, key: usize, which: Which, change: &Change)
-    ensures here { get records.new key ≡ changed_if which change.now (get records.old key) }
-    ensures others { (k : ℕ) → k ≢ key → get records.new k ≡ get records.old k }
+    ensures { IsSweptAt (changed_if which change.now) key records.old records.new }
 {
     if let Some(view) = records.get_mut(key) {
         *view = changed(which, change, view);
@@ -208,8 +203,7 @@ fn change_one(records: &mut Slab<View>, key: usize, which: Which, change: &Chang
 
 /// Takes the record out under a key, where it is meant.
 fn drop_one(records: &mut Slab<View>, key: usize, which: Which)
-    ensures here { get records.new key ≡ taken_if which (get records.old key) }
-    ensures others { (k : ℕ) → k ≢ key → get records.new k ≡ get records.old k }
+    ensures { IsSweptAt (taken_if which) key records.old records.new }
 {
     let is_meant = match records.get(key) {
         Some(view) => is_meant(which, view),

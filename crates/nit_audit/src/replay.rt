@@ -4,8 +4,9 @@ ghost use Rattle.std.specs.Prelude.{◌≡◌, ◌+◌, ◌<◌, ◌≤◌, true
 ghost use Rattle.std.specs.Prelude.{slice_index_or, slice_set, None, IsTrue, ◌↔◌, ℕ, ◌∷◌, [], ◌-◌};
 ghost use Rattle.std.specs.Prelude.{◌^◌};
 ghost use Rattle.nit_events.specs.declared.entry.Entry.TheVariants as entry;
-ghost use Rattle.nit_audit.specs.Terms.{IsConfiguration, IsDevice, IsMember, IsReplay};
-ghost use Rattle.nit_audit.specs.Terms.{IsReplayAnswer, IsSound, View, accepted, after_accepted};
+ghost use Rattle.nit_audit.specs.Terms.{CanReplay, CanRestack, IsConfiguration, IsDevice};
+ghost use Rattle.nit_audit.specs.Terms.{IsMember, IsReplay, IsReplayAnswer, View, accepted};
+ghost use Rattle.nit_audit.specs.Terms.{after_accepted};
 ghost use Rattle.nit_audit.specs.Terms.{after_deliveries, bar_rows, changed, delivered};
 ghost use Rattle.nit_audit.specs.Terms.{deliveries_of, delivery, first_input, first_session};
 ghost use Rattle.nit_audit.specs.Terms.{first_state, input_closing, is_rectangle, is_title};
@@ -14,7 +15,7 @@ ghost use Rattle.nit_audit.specs.Terms.{rectangle, refusal, replay_routing, rout
 ghost use Rattle.nit_audit.specs.Terms.{state_of_replay};
 
 use crate::keys::{Change, Which};
-use crate::same::{same_deliveries, same_reply};
+use crate::same::Same;
 use crate::views::Views;
 use nit_config::Config;
 use nit_events::{Call, Delivery, Device, Item, Reply, Routed, Text};
@@ -74,8 +75,7 @@ impl Replay {
         call: &Call,
         reply: &Reply,
     ) -> Result<bool, NoMemory>
-        requires kept { IsReplay config.now self.old }
-        requires few { self.old.count < most_read }
+        requires { CanReplay config.now self.old }
         ensures { IfOk result (IsReplayAnswer config.now (entry.Call sid call.now reply.now)
             self.old self.new) }
     {
@@ -84,10 +84,10 @@ impl Replay {
         }
         if let Some(refused) = self.refused(sid, call) {
             self.count();
-            return Ok(same_reply(&refused, reply));
+            return Ok(refused.is_same(reply));
         }
         let answer = self.accept(sid, call);
-        if !same_reply(&answer, reply) {
+        if !answer.is_same(reply) {
             return Ok(false);
         }
         self.settle(config, sid, call, reply)?;
@@ -131,8 +131,7 @@ impl Replay {
         call: &Call,
         reply: &Reply,
     ) -> Result<(), NoMemory>
-        requires sound { IsSound call.now }
-        requires session { sid < most_sessions }
+        requires call { CanRestack sid call.now }
         requires few { self.old.count < most_read }
         ensures { OnOk result (self.new ≡ record self.old {
           stack = after_accepted (layer config.now) sid call.now reply.now self.old.stack;
@@ -156,13 +155,12 @@ impl Replay {
 
     /// A device event, with its deliveries.
     pub(crate) fn input(&mut self, config: &Config, dev: Device, routed: &Routed) -> bool
-        requires kept { IsReplay config.now self.old }
-        requires few { self.old.count < most_read }
+        requires going { CanReplay config.now self.old }
         requires device { IsDevice dev }
         ensures { IsReplayAnswer config.now (entry.Input dev routed.now) self.old self.new result }
     {
         let told = self.route(config, dev);
-        if !same_deliveries(&told, routed) {
+        if !told.is_same(routed) {
             return false;
         }
         self.deliver(told.a);
@@ -188,8 +186,7 @@ impl Replay {
 
     /// A shot, with its number.
     pub(crate) fn shot(&mut self, config: &Config, number: u32) -> bool
-        requires kept { IsReplay config.now self.old }
-        requires few { self.old.count < most_read }
+        requires { CanReplay config.now self.old }
         ensures { IsReplayAnswer config.now (entry.Shot number) self.old self.new result }
     {
         if number != self.shots + 1 {
@@ -245,8 +242,7 @@ fn restack(
     call: &Call,
     reply: &Reply,
 ) -> Result<(), NoMemory>
-    requires sound { IsSound call.now }
-    requires session { sid < most_sessions }
+    requires { CanRestack sid call.now }
     ensures { OnOk result (views.new
         ≡ after_accepted (layer config.now) sid call.now reply.now views.old) }
 {

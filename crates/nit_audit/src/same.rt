@@ -4,86 +4,87 @@ ghost use Rattle.std.specs.Prelude.{◌≡◌, ◌↔◌, IsTrue};
 
 use nit_events::{Call, Delivery, Item, Reply, Routed, Text};
 
-/// Whether the two calls are the same.
-pub(crate) fn same_call(a: &Call, b: &Call) -> bool
-    ensures { IsTrue result ↔ (a.now ≡ b.now) }
-{
-    match *a {
-        Call::Buffer(w, h) => matches!(*b, Call::Buffer(w2, h2) if w == w2 && h == h2),
-        Call::View => matches!(*b, Call::View),
-        Call::Place(v, x, y, w, h) => {
-            matches!(*b, Call::Place(v2, x2, y2, w2, h2)
-                if v == v2 && x == x2 && y == y2 && w == w2 && h == h2)
+/// A kind of which two can be compared.
+pub(crate) trait Same {
+    /// Whether the two are the same.
+    fn is_same(&self, other: &Self) -> bool
+        ensures { IsTrue result ↔ (self.now ≡ other.now) };
+}
+
+impl Same for Call {
+    fn is_same(&self, other: &Call) -> bool {
+        match *self {
+            Call::Buffer(w, h) => matches!(*other, Call::Buffer(w2, h2) if w == w2 && h == h2),
+            Call::View => matches!(*other, Call::View),
+            Call::Place(v, x, y, w, h) => {
+                matches!(*other, Call::Place(v2, x2, y2, w2, h2)
+                    if v == v2 && x == x2 && y == y2 && w == w2 && h == h2)
+            }
+            Call::Offset(v, x, y) => {
+                matches!(*other, Call::Offset(v2, x2, y2) if v == v2 && x == x2 && y == y2)
+            }
+            Call::Front(v) => matches!(*other, Call::Front(v2) if v == v2),
+            Call::Back(v) => matches!(*other, Call::Back(v2) if v == v2),
+            Call::Above(v, n) => matches!(*other, Call::Above(v2, n2) if v == v2 && n == n2),
+            Call::Title(v, text) => {
+                matches!(*other, Call::Title(v2, text2) if v == v2 && text.is_same(&text2))
+            }
+            Call::Destroy(v) => matches!(*other, Call::Destroy(v2) if v == v2),
+            Call::Refresh(x, y, w, h) => {
+                matches!(*other, Call::Refresh(x2, y2, w2, h2)
+                    if x == x2 && y == y2 && w == w2 && h == h2)
+            }
+            Call::Take => matches!(*other, Call::Take),
+            Call::Upgrade(n) => matches!(*other, Call::Upgrade(n2) if n == n2),
+            Call::Close => matches!(*other, Call::Close),
         }
-        Call::Offset(v, x, y) => {
-            matches!(*b, Call::Offset(v2, x2, y2) if v == v2 && x == x2 && y == y2)
-        }
-        Call::Front(v) => matches!(*b, Call::Front(v2) if v == v2),
-        Call::Back(v) => matches!(*b, Call::Back(v2) if v == v2),
-        Call::Above(v, n) => matches!(*b, Call::Above(v2, n2) if v == v2 && n == n2),
-        Call::Title(v, text) => {
-            matches!(*b, Call::Title(v2, text2) if v == v2 && same_text(&text, &text2))
-        }
-        Call::Destroy(v) => matches!(*b, Call::Destroy(v2) if v == v2),
-        Call::Refresh(x, y, w, h) => {
-            matches!(*b, Call::Refresh(x2, y2, w2, h2)
-                if x == x2 && y == y2 && w == w2 && h == h2)
-        }
-        Call::Take => matches!(*b, Call::Take),
-        Call::Upgrade(n) => matches!(*b, Call::Upgrade(n2) if n == n2),
-        Call::Close => matches!(*b, Call::Close),
     }
 }
 
-/// Whether the two texts are the same.
-fn same_text(a: &Text, b: &Text) -> bool
-    ensures { IsTrue result ↔ (a.now ≡ b.now) }
-{
-    a.as_bytes() == b.as_bytes()
-}
-
-/// Whether the two replies are the same.
-pub(crate) fn same_reply(a: &Reply, b: &Reply) -> bool
-    ensures { IsTrue result ↔ (a.now ≡ b.now) }
-{
-    *a == *b
-}
-
-/// Whether the deliveries are the same.
-pub(crate) fn same_deliveries(a: &Routed, b: &Routed) -> bool
-    ensures { IsTrue result ↔ (a.now ≡ b.now) }
-{
-    same_delivery(&a.a, &b.a) && same_delivery(&a.b, &b.b) && same_delivery(&a.c, &b.c)
-}
-
-/// Whether the two are the same delivery, or none.
-fn same_delivery(a: &Option<Delivery>, b: &Option<Delivery>) -> bool
-    ensures { IsTrue result ↔ (a.now ≡ b.now) }
-{
-    match *a {
-        Some(d) => match *b {
-            Some(e) => d.sid == e.sid && same_item(&d.item, &e.item),
-            None => false,
-        },
-        None => match *b {
-            Some(_) => false,
-            None => true,
-        },
+impl Same for Text {
+    fn is_same(&self, other: &Text) -> bool {
+        self.as_bytes() == other.as_bytes()
     }
 }
 
-/// Whether the two items are the same.
-fn same_item(a: &Item, b: &Item) -> bool
-    ensures { IsTrue result ↔ (a.now ≡ b.now) }
-{
-    match *a {
-        Item::Event(e) => match *b {
-            Item::Event(f) => e == f,
-            Item::Kill => false,
-        },
-        Item::Kill => match *b {
-            Item::Event(_) => false,
-            Item::Kill => true,
-        },
+impl Same for Reply {
+    fn is_same(&self, other: &Reply) -> bool {
+        *self == *other
+    }
+}
+
+impl Same for Routed {
+    fn is_same(&self, other: &Routed) -> bool {
+        self.a.is_same(&other.a) && self.b.is_same(&other.b) && self.c.is_same(&other.c)
+    }
+}
+
+impl Same for Option<Delivery> {
+    fn is_same(&self, other: &Option<Delivery>) -> bool {
+        match *self {
+            Some(d) => match *other {
+                Some(e) => d.sid == e.sid && d.item.is_same(&e.item),
+                None => false,
+            },
+            None => match *other {
+                Some(_) => false,
+                None => true,
+            },
+        }
+    }
+}
+
+impl Same for Item {
+    fn is_same(&self, other: &Item) -> bool {
+        match *self {
+            Item::Event(e) => match *other {
+                Item::Event(f) => e == f,
+                Item::Kill => false,
+            },
+            Item::Kill => match *other {
+                Item::Event(_) => false,
+                Item::Kill => true,
+            },
+        }
     }
 }

@@ -1,9 +1,8 @@
 //! What the input script has still to do.
 
-ghost use Rattle.std.specs.Prelude.{◌≡◌, ◌↔◌, ◌+◌, ◌≤◌, [], IsTrue, IfSome, IfNone, length};
-ghost use Rattle.nit_audit.specs.Terms.{AllByRecursion, BeginsWithAction, Does, FitsInputLine};
-ghost use Rattle.nit_audit.specs.Terms.{IsDevice, IsNext, Shoots, left, most_lines, next_phase};
-ghost use Rattle.nit_audit.specs.Terms.{user_actions_from, user_actions_to_do};
+ghost use Rattle.std.specs.Prelude.{◌≡◌, ◌↔◌, [], IsTrue, IfSome};
+ghost use Rattle.nit_audit.specs.Terms.{AreInputLines, Does, IsAtAction, IsCourseAnswer, IsDevice};
+ghost use Rattle.nit_audit.specs.Terms.{Shoots, user_actions_to_do};
 
 use nit_events::Device;
 use nit_script::{Input, InputLine};
@@ -18,19 +17,16 @@ pub(crate) struct UserCourse<'a> {
 }
 
 impl<'a> Model for UserCourse<'a> {
-    ghost use Rattle.std.specs.Prelude.{ℕ, ◌+◌, ◌≤◌, List, length};
-    ghost use Rattle.std.specs.List.{AllByRecursion};
-    ghost use Rattle.nit_script.specs.Spelling.{FitsInputLine};
+    ghost use Rattle.std.specs.Prelude.{ℕ, List};
+    ghost use Rattle.nit_audit.specs.Underway.{AreInputLines};
     ghost use Rattle.nit_journal.specs.WholeJournals.{UserAction};
     ghost use Rattle.nit_plan.specs.Calls.{user_actions_from};
-    ghost use Rattle.nit_script.specs.Grammar.{most_lines};
 
     ghost Value = { List (ℕ × UserAction) };
 
     ghost view = { λ c. user_actions_from c.phase c.lines.now };
 
-    ghost invariant = { λ c. (c.phase + length c.lines.now ≤ most_lines)
-        × AllByRecursion FitsInputLine c.lines.now };
+    ghost invariant = { λ c. AreInputLines c.phase c.lines.now };
 }
 
 impl<'a> UserCourse<'a> {
@@ -47,11 +43,8 @@ impl<'a> UserCourse<'a> {
     /// The user does this next, in the phase `from` or a later one: answers that phase. None
     /// exactly where it is not so.
     pub(crate) fn act(&mut self, from: u32, dev: Device) -> Option<u32>
-        ensures done { IfSome result (λ phase. IsNext from (Does dev) self.old
-            × (phase ≡ next_phase self.old)) }
-        ensures left { IfSome result (λ _. self.new ≡ left self.old) }
+        ensures done { IsCourseAnswer from (Does dev) self.old self.new result }
         ensures range { IfSome result (λ _. IsDevice dev) }
-        ensures not_next { IfNone result (IsNext from (Does dev) self.old → ⊥) }
     {
         let (phase, lines) = next_action(self.lines, self.phase);
         let Some((line, rest)) = lines.split_first() else {
@@ -68,10 +61,7 @@ impl<'a> UserCourse<'a> {
     /// A picture is taken next, in the phase `from` or a later one: answers that phase. None
     /// exactly where it is not so.
     pub(crate) fn shoot(&mut self, from: u32) -> Option<u32>
-        ensures done { IfSome result (λ phase. IsNext from Shoots self.old
-            × (phase ≡ next_phase self.old)) }
-        ensures left { IfSome result (λ _. self.new ≡ left self.old) }
-        ensures not_next { IfNone result (IsNext from Shoots self.old → ⊥) }
+        ensures { IsCourseAnswer from Shoots self.old self.new result }
     {
         let (phase, lines) = next_action(self.lines, self.phase);
         let Some((line, rest)) = lines.split_first() else {
@@ -97,12 +87,8 @@ impl<'a> UserCourse<'a> {
 /// The lines from the next device event or shot on, and the phase that it is in. Ends of phases
 /// before it are passed by.
 fn next_action(lines: &[InputLine], phase: u32) -> (u32, &[InputLine])
-    requires few { phase + length lines.now ≤ most_lines }
-    requires fits { AllByRecursion FitsInputLine lines.now }
-    ensures actions { user_actions_from result.0 result.1.now ≡ user_actions_from phase lines.now }
-    ensures begins { BeginsWithAction result.1.now }
-    ensures few { result.0 + length result.1.now ≤ most_lines }
-    ensures fits { AllByRecursion FitsInputLine result.1.now }
+    requires { AreInputLines phase lines.now }
+    ensures { IsAtAction phase lines.now result.0 result.1.now }
 {
     let mut rest = lines;
     let mut at = phase;
