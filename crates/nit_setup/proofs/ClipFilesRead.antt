@@ -133,7 +133,7 @@ module _ (name : List ℕ) where
               IfSome old.files (λ files. AreClipScripts files wanted ns a.clips)) (sym names) valid;
         } in
         stopped_reading clip old (AllScripts s) first n
-            (ap (λ (ns : List (List ℕ)). slice_get ns (length a.clips)) parts
+        (ap (λ (ns : List (List ℕ)). slice_get ns (length a.clips)) parts
         ∙ get_behind before n behind a.clips count) (IsClipFault wanted) new
         (λ f p. told_so_both (λ files. AreSetup name files s × AreClipScripts files wanted before a.clips)
         (λ files. IsClipFault wanted (bytes_of n files) f) (λ files. Judged clip files (Refused n f)) old.files

@@ -85,7 +85,7 @@ module _ (old : StoreModel) (name : List ℕ) (front : List (List ℕ)) where
           told_so (λ files. SpellScripts files (script_names config) scripts)
           (λ files. AreScripts files (script_names config) scripts) old.files (λ files p. (p, far.phases))
           (subst (λ (s : StoreModel). IfSome s.files (λ files. SpellScripts files (script_names config) scripts))
-              is.asked
+          is.asked
           far.valid)
 
       all_names : first_names config scripts ≡ script_names config

@@ -10,7 +10,7 @@ pub returns : goal.returns
 returns c =
     five_pieces c.args.out.now.items
     (codes "\n[[client]]\nlabel = \"") (client_label c.args.client) (codes "\"\ndonation = 262144\nscript = \"")
-        (script_name c.args.client) (codes "\"\n") _ _ _ _ _
+    (script_name c.args.client) (codes "\"\n") _ _ _ _ _
     c.in_ok-put_text.ensures (c.in_ok-put_text-2.ensures
     ∙ ap (λ (bytes : List ℕ). c.put_text.new.out.items ++ bytes) c.label_text.ensures.text)
     c.in_ok-put_text-3.ensures (c.in_ok-put_text-4.ensures

@@ -10,13 +10,13 @@ names_of clients = map (λ (c : Member). c.script) clients
 pub at_clips_of-requires : goal.at_clips_of-requires
 at_clips_of-requires g c =
     short_script c.args.clients.now c.loop-client.client-index c.client-item.result c.as_str-script.result.now
-        c.requires
+    c.requires
     c.loop-client-test.true c.client-item.is c.as_str-script.ensures
 
 pub at_clips_of-requires-then-is_err : goal.at_clips_of-requires-then-is_err
 at_clips_of-requires-then-is_err g c =
     short_script c.args.clients.now c.loop-client.client-index c.client-item.result c.as_str-script.result.now
-        c.requires
+    c.requires
     c.loop-client-test.true c.client-item.is c.as_str-script.ensures
 
 pub returns-in-Err : goal.returns-in-Err

@@ -18,7 +18,7 @@ returns-in_default g c =
     picture_stopped c.args.width c.args.height c.args.script.now old new c.at_first-in_default.result
     c.at_first-in_default.ensures.1
     (subst (λ (e : End). StoppedAt (IsClientFault None) old c.args.script.now new e)
-        (sym c.at_first-in_default.ensures.0)
+    (sym c.at_first-in_default.ensures.0)
     (inl c.in-Ok.ensures.loaded.0))
 
 pub returns-in_default-idle_user : goal.returns-in_default-idle_user

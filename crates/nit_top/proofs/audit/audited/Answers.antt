@@ -7,7 +7,7 @@ pub returns-in-Err : goal.returns-in-Err
 returns-in-Err g c =
     stopped_ends (Audit c.args.name.now c.args.journal.now) (g.S.Store.shown c.args.store.now)
     (g.S.Store.shown c.read_audit.new.store) c.in-Err.stop c.in-Err.ensures c.ended_before_run.result
-        c.ended_before_run.ensures.stop
+    c.ended_before_run.ensures.stop
     c.ended_before_run.ensures.journal
 
 pub audit_end-end-requires-clause-runnable : goal.audit_end-end-requires-clause-runnable

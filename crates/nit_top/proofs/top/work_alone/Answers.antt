@@ -9,5 +9,5 @@ returns-in-None g c =
     let old = g.S.Store.shown c.args.store.now in
     subst (λ (a : Option Asked). Ends (command_of a) old old c.ended_before_run.result) (sym c.in-None.is)
     (usage_ends old c.ended_before_run.result (ap (λ (s : Stop). s.end) c.ended_before_run.ensures.stop ∙
-        c.nowhere.ensures.0)
+    c.nowhere.ensures.0)
     c.ended_before_run.ensures.journal)

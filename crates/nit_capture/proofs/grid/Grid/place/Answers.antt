@@ -6,7 +6,7 @@ pub overflow_add-down : goal.overflow_add-down
 overflow_add-down c =
     let s = c.args.self.size in
     let down = place_down c.args.self.width c.args.self.height c.args.tile c.args.pixel s.some_columns c.requires.tile
-        c.requires.pixel in
+    c.requires.pixel in
     rw (c.wide-wide.ensures.value, c.top.ensures.value) (omega (arith, s.rows))
 
 pub overflow_mul-result : goal.overflow_mul-result

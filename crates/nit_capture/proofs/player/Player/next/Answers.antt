@@ -19,4 +19,4 @@ pub returns-in-None-clause-is_frame : goal.returns-in-None-clause-is_frame
 returns-in-None-clause-is_frame c = λ now rest r.
     let size = rw (← c.self.view_is) at c.requires in
     absurd (none_read _ _ _ _ now rest c.self.invariant.some_columns size.size c.in-None.ensures.read
-        (rw (← c.self.view_is) at r))
+    (rw (← c.self.view_is) at r))

@@ -15,7 +15,7 @@ returns-then-is_outside g c =
     let r = c.in-Ok.ensures.film c.args.region in
     outside_ends (Capture c.args.name.now c.args.region) (g.S.Store.shown c.args.store.now)
     (g.S.Store.shown c.read_run.new.store) (setup_in c.in-Ok.run' true) c.ended_before_run-then-is_outside.result
-        r.asked r.valid
+    r.asked r.valid
     (sym (ap (λ (k : Loaded). is_off_screen c.args.region k.config.width k.config.height) c.run.view_is)
     ∙ sym c.is_outside.ensures ∙ c.if-is_outside.true)
     (ap (λ (stop : Stop). stop.end) c.ended_before_run-then-is_outside.ensures.stop ∙ c.nowhere.ensures.0)

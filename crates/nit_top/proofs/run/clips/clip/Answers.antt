@@ -7,7 +7,7 @@ pub returns-in-Err : goal.returns-in-Err
 returns-in-Err g c =
     stopped_ends (Clip c.args.name.now) (g.S.Store.shown c.args.store.now) (g.S.Store.shown c.read_clips.new.store)
     c.in-Err.stop c.in-Err.ensures c.ended_before_run.result c.ended_before_run.ensures.stop
-        c.ended_before_run.ensures.journal
+    c.ended_before_run.ensures.journal
 
 pub perform_clips-requires-clause-runnable : goal.perform_clips-requires-clause-runnable
 perform_clips-requires-clause-runnable g c κs within =

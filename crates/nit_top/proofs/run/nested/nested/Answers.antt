@@ -58,7 +58,7 @@ pub returns-in-Err : goal.returns-in-Err
 returns-in-Err g c =
     stopped_ends (Nested c.args.outer.now c.args.inner.now) (g.S.Store.shown c.args.store.now)
     (g.S.Store.shown c.read_nested.new.store) c.in-Err.stop c.in-Err.ensures c.ended_before_run.result
-        c.ended_before_run.ensures.stop
+    c.ended_before_run.ensures.stop
     c.ended_before_run.ensures.journal
 
 pub returns-in-Some : goal.returns-in-Some

@@ -25,7 +25,7 @@ returns-in_default-read_files g c =
     (none_is c.put_files-fault.result (sym c.is_some.ensures ∙ c.if-is_some.false)) c.put_files-fault.ensures in
     made_whole c.args.number (g.S.Store.shown c.args.store.now) now c.ended_before_run-in_default-read_files.result made
     (ap (λ (s : Stop). s.end) c.ended_before_run-in_default-read_files.ensures.stop ∙
-        c.nowhere-in_default-read_files.ensures.0)
+    c.nowhere-in_default-read_files.ensures.0)
     c.ended_before_run-in_default-read_files.ensures.journal
 
 pub returns-in_default-gen_config : goal.returns-in_default-gen_config
@@ -36,7 +36,7 @@ returns-in_default-gen_config g c =
     (none_is c.put_files-fault.result (sym c.is_some.ensures ∙ c.if-is_some.false)) c.put_files-fault.ensures in
     made_whole c.args.number (g.S.Store.shown c.args.store.now) now c.ended_before_run-in_default-gen_config.result made
     (ap (λ (s : Stop). s.end) c.ended_before_run-in_default-gen_config.ensures.stop ∙
-        c.nowhere-in_default-gen_config.ensures.0)
+    c.nowhere-in_default-gen_config.ensures.0)
     c.ended_before_run-in_default-gen_config.ensures.journal
 
 pub perform_beside-requires-after_bounds : goal.perform_beside-requires-after_bounds

@@ -5,7 +5,7 @@ pub returns-in-Err : goal.returns-in-Err
 returns-in-Err g c =
     stopped_ends (Run true c.args.name.now) (g.S.Store.shown c.args.store.now) (g.S.Store.shown c.read_run.new.store)
     c.in-Err.stop (c.in-Err.ensures.run true) c.ended_before_run.result c.ended_before_run.ensures.stop
-        c.ended_before_run.ensures.journal
+    c.ended_before_run.ensures.journal
 
 pub perform_beside-requires-after_bounds : goal.perform_beside-requires-after_bounds
 perform_beside-requires-after_bounds g c κs within = (c.in-Ok.ensures.run true).valid.runnable

@@ -23,7 +23,7 @@ pub returns-in-Err : goal.returns-in-Err
 returns-in-Err g c =
     stopped_ends (Still c.args.width c.args.height c.args.script.now) (g.S.Store.shown c.args.store.now)
     (g.S.Store.shown c.read_still.new.store) c.in-Err.stop c.in-Err.ensures c.ended_before_run.result
-        c.ended_before_run.ensures.stop
+    c.ended_before_run.ensures.stop
     c.ended_before_run.ensures.journal
 
 pub perform_alone-requires-clause-runnable : goal.perform_alone-requires-clause-runnable

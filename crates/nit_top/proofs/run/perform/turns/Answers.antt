@@ -7,7 +7,7 @@ pub returns-in-Err : goal.returns-in-Err
 returns-in-Err g c =
     stopped_ends (Run false c.args.name.now) (g.S.Store.shown c.args.store.now) (g.S.Store.shown c.read_run.new.store)
     c.in-Err.stop (c.in-Err.ensures.run false) c.ended_before_run.result c.ended_before_run.ensures.stop
-        c.ended_before_run.ensures.journal
+    c.ended_before_run.ensures.journal
 
 pub perform-requires : goal.perform-requires
 perform-requires g c = subst (λ (ss : List (List Line)).
