@@ -26,11 +26,11 @@ pub use Rattle.nit_repaint.specs.Terms.{slot_view_covers, slot_view_in, slot_vie
 pub use Rattle.nit_repaint.specs.Terms.{source_of_number, source_under, spans, times, to_come}
 pub use Rattle.nit_repaint.specs.Terms.{uncovered, views_of, wanted, wanted_of_first, wants}
 pub use Rattle.nit_repaint.specs.Terms.{with_glass, with_offset, with_rect, without}
-pub use Rattle.nit_repaint.specs.Terms.{without_session, word_count, words_shown, ℤ}
+pub use Rattle.nit_repaint.specs.Terms.{without_session, word_count, ℤ}
 pub use Rattle.nit_stack.proofs.ForCallers.{All_found, Put, Put-above, Put-back, Put-front, drop_at}
 pub use Rattle.nit_stack.proofs.ForCallers.{found_fails, found_passes, found_some, owner_of_views}
 pub use Rattle.nit_stack.proofs.ForCallers.{place_is}
-pub use Rattle.std.proofs.Common.{arith, length, map, refl, slice_index_or, true, ◌∙◌}
+pub use Rattle.std.proofs.Common.{arith, length, refl, slice_index_or, true, ◌∙◌}
 pub use Rattle.std.proofs.lemmas.Bool.{and_parts, eq-eqb, eqb-false, eqb-true, false≢true, ne_eqb}
 pub use Rattle.std.proofs.lemmas.Bool.Decides.{nat_tests}
 pub use Rattle.std.proofs.lemmas.Grind.{same_number_lists}

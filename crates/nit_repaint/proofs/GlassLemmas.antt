@@ -5,7 +5,7 @@ use Rattle.nit_repaint.proofs.Basics.{eqb-false, eqb-true, get_or-map, get_or_pa
 use Rattle.nit_repaint.proofs.Basics.{glasses_of_call, is_to_come, length-map, map-set, no_sight}
 use Rattle.nit_repaint.proofs.Basics.{option_map_or, pixel, repainted_same, seen, session_of}
 use Rattle.nit_repaint.proofs.Basics.{session_shown, set-get_or, size_of, to_come, with_glass}
-use Rattle.nit_repaint.proofs.Basics.{word_count, words_shown}
+use Rattle.nit_repaint.proofs.Basics.{word_count}
 use Rattle.std.proofs.Common.{Bool, List, Some, ap, arith, cond, false, get_or-set_other}
 use Rattle.std.proofs.Common.{get_or-set_same, length, map, nat_lt, refl, set, slice_index_or}
 use Rattle.std.proofs.Common.{subst, sym, true, ℕ, ◌*◌, ◌<◌, ◌==◌, ◌∙◌, ◌≡◌, ◌≤◌}
@@ -20,14 +20,6 @@ screen_of z s e h = subst (λ (y : ℕ × ℕ). IsScreenSize y.0 y.1) e h
 pub shown_session : (s : StackModel) (piece : Piece) (v : ViewRef) (t : ℕ) → piece.owner ≡ Some v
     → t ≡ session_of s.views v.0 → session_shown s piece ≡ t
 shown_session s piece v t own e = ap (λ o. option_map_or (λ w. session_of s.views w.0) o 0) own ∙ sym e
-
--- its glass has the words of its buffer
-pub held_words : (s : StackModel) (piece : Piece) (v : ViewRef) (t count : ℕ) (glasses : ℕ → Sight)
-    → piece.owner ≡ Some v → t ≡ session_of s.views v.0 → t < length s.sizes → HoldBuffers s count glasses
-    → words_shown s piece ≤ (glasses t).size
-held_words s piece v t count glasses own e l h =
-    subst (λ (u : ℕ). word_count (size_of s.sizes u) ≤ (glasses t).size) (sym (shown_session s piece v t own e))
-    (h t l).1
 
 -- the glasses of a call, with one of the scene's by itself
 with_one : (scene : List Sight) (sid t : ℕ) (own g : Sight) → (t ≡ sid → ⊥) → g ≡ slice_index_or scene t no_sight

@@ -1,16 +1,11 @@
 -- What one view uncovers when it is taken away.
-use Rattle.nit_repaint.proofs.Basics.{HoldBuffers, IsViewChange, NoPair, Point}
-use Rattle.nit_repaint.proofs.Basics.{Repainted, Sight, StackModel, View}
-use Rattle.nit_repaint.proofs.Basics.{false≢true, found_fails, found_passes}
-use Rattle.nit_repaint.proofs.Basics.{is_slot, list_any}
-use Rattle.nit_repaint.proofs.Basics.{owner_passes, pixel, place_of}
-use Rattle.nit_repaint.proofs.Basics.{repainted_same, same_slot}
-use Rattle.nit_repaint.proofs.Basics.{slot_owns_either, slot_view_in}
-use Rattle.nit_repaint.proofs.Basics.{source_of_number}
-use Rattle.nit_repaint.proofs.Basics.{views_of, without}
-use Rattle.std.proofs.Common.{Bool, List, Some, [], ap, arith, cond}
-use Rattle.std.proofs.Common.{false, length, not, refl, subst, sym, true, ℕ, ◌&&◌}
-use Rattle.std.proofs.Common.{◌*◌, ◌+◌, ◌<◌, ◌||◌, ◌∙◌, ◌∷◌, ◌≡◌, ◌≤◌}
+use Rattle.nit_repaint.proofs.Basics.{HoldBuffers, IsViewChange, NoPair, Point, Repainted, Sight}
+use Rattle.nit_repaint.proofs.Basics.{StackModel, View, false≢true, found_fails, found_passes}
+use Rattle.nit_repaint.proofs.Basics.{is_slot, list_any, owner_passes, pixel, place_of}
+use Rattle.nit_repaint.proofs.Basics.{repainted_same, same_slot, slot_owns_either, slot_view_in}
+use Rattle.nit_repaint.proofs.Basics.{source_of_number, views_of, without}
+use Rattle.std.proofs.Common.{Bool, List, Some, [], ap, arith, cond, false, length, not, refl}
+use Rattle.std.proofs.Common.{subst, sym, true, ℕ, ◌*◌, ◌||◌, ◌∙◌, ◌∷◌, ◌≡◌, ◌≤◌}
 use Rattle.nit_repaint.proofs.ChangedOwners.{owned_not}
 use Rattle.nit_repaint.proofs.ViewsInFront.{without_none}
 

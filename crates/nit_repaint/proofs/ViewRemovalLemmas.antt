@@ -1,16 +1,15 @@
 -- What views uncover when they are taken away.
-use Rattle.nit_repaint.proofs.Basics.{HoldBuffers, IsRemovedFrom, NoPair, Point}
-use Rattle.nit_repaint.proofs.Basics.{Repainted, Sight, SlotView, StackModel, drop_all}
-use Rattle.nit_repaint.proofs.Basics.{drop_at, eq-eqb, false≢true, found_fails}
-use Rattle.nit_repaint.proofs.Basics.{in_bar, is_of_session, is_slot, list_any, ne_eqb, option_map}
-use Rattle.nit_repaint.proofs.Basics.{option_map_or, owner_of_views, owner_passes, pixel}
-use Rattle.nit_repaint.proofs.Basics.{repainted_same, repainted_union, same_slot, seen, size_of}
-use Rattle.nit_repaint.proofs.Basics.{slice_get, slot_view_covers}
-use Rattle.nit_repaint.proofs.Basics.{source_in, source_of_number, source_under, uncovered}
-use Rattle.nit_repaint.proofs.Basics.{without, without_session}
+use Rattle.nit_repaint.proofs.Basics.{HoldBuffers, IsRemovedFrom, NoPair, Point, Repainted, Sight}
+use Rattle.nit_repaint.proofs.Basics.{SlotView, StackModel, drop_all, drop_at, eq-eqb, false≢true}
+use Rattle.nit_repaint.proofs.Basics.{found_fails, in_bar, is_of_session, is_slot, list_any, ne_eqb}
+use Rattle.nit_repaint.proofs.Basics.{option_map, option_map_or, owner_of_views, owner_passes}
+use Rattle.nit_repaint.proofs.Basics.{pixel, repainted_same, repainted_union, same_slot, seen}
+use Rattle.nit_repaint.proofs.Basics.{size_of, slice_get, slot_view_covers, source_in}
+use Rattle.nit_repaint.proofs.Basics.{source_of_number, source_under, uncovered, without}
+use Rattle.nit_repaint.proofs.Basics.{without_session}
 use Rattle.std.proofs.Common.{Bool, List, None, Option, Some, [], add-one, ap, arith, cond, drop}
 use Rattle.std.proofs.Common.{false, find, length, not, refl, subst, suc, sym, true, zero, ℕ, ◌&&◌}
-use Rattle.std.proofs.Common.{◌*◌, ◌+◌, ◌<◌, ◌||◌, ◌∙◌, ◌∷◌, ◌≡◌, ◌≤◌}
+use Rattle.std.proofs.Common.{◌+◌, ◌<◌, ◌||◌, ◌∙◌, ◌∷◌, ◌≡◌}
 use Rattle.nit_repaint.proofs.GlassLemmas.{still_held}
 use Rattle.nit_repaint.proofs.ViewsInFront.{other_slot, without_none}
 

@@ -10,7 +10,7 @@ pub use Rattle.nit_paint.specs.Pieces.{IsPiece, has_pixel, session_shown, source
 pub use Rattle.nit_paint.specs.Pieces.{words_shown}
 pub use Rattle.nit_paint.specs.Repaint.{Repainted, no_sight, with_glass}
 pub use Rattle.nit_rect.specs.Intersection.{CoversBoth}
-pub use Rattle.nit_rect.specs.Limits.{most_length, most_sessions, most_side}
+pub use Rattle.nit_rect.specs.Limits.{most_length, most_side}
 pub use Rattle.nit_rect.specs.Rectangle.{IsPlace, Rectangle, covers, rectangle, spans}
 pub use Rattle.nit_rect.specs.Strips.{times}
 pub use Rattle.nit_rect.specs.declared.point.Point.{Point}

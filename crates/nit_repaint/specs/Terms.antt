@@ -7,16 +7,16 @@ pub use Rattle.nit_repaint.specs.Below.{View, ViewRef, among, black_or_word, buf
 pub use Rattle.nit_repaint.specs.Below.{covered, covers, frame, has_pixel, has_slot, in_bar}
 pub use Rattle.nit_repaint.specs.Below.{index_at, insert, int_le, is_behind, is_of_moved}
 pub use Rattle.nit_repaint.specs.Below.{is_of_session, is_owned, is_slot, list_any, most_length}
-pub use Rattle.nit_repaint.specs.Below.{most_sessions, most_side, moved, moved_above, negsuc}
-pub use Rattle.nit_repaint.specs.Below.{no_sight, on_view, once, option_map, option_map_or}
-pub use Rattle.nit_repaint.specs.Below.{owner_in, pieces_left, pixel, place_of, point, pos}
-pub use Rattle.nit_repaint.specs.Below.{position_or_len, put_above, put_again, put_own_back}
-pub use Rattle.nit_repaint.specs.Below.{put_own_front, rectangle, same_slot, scenery, seen}
-pub use Rattle.nit_repaint.specs.Below.{session_of, session_shown, shown_index, size_of, slice_get}
-pub use Rattle.nit_repaint.specs.Below.{slice_index, slot_view_covers, slot_view_in}
-pub use Rattle.nit_repaint.specs.Below.{slot_view_layer, source_of_number, source_under, spans}
-pub use Rattle.nit_repaint.specs.Below.{times, to_come, views_of, with_glass, with_offset}
-pub use Rattle.nit_repaint.specs.Below.{with_rect, without, word_count, words_shown, ℤ}
+pub use Rattle.nit_repaint.specs.Below.{most_side, moved, moved_above, negsuc, no_sight, on_view}
+pub use Rattle.nit_repaint.specs.Below.{once, option_map, option_map_or, owner_in, pieces_left}
+pub use Rattle.nit_repaint.specs.Below.{pixel, place_of, point, pos, position_or_len, put_above}
+pub use Rattle.nit_repaint.specs.Below.{put_again, put_own_back, put_own_front, rectangle}
+pub use Rattle.nit_repaint.specs.Below.{same_slot, scenery, seen, session_of, session_shown}
+pub use Rattle.nit_repaint.specs.Below.{shown_index, size_of, slice_get, slice_index}
+pub use Rattle.nit_repaint.specs.Below.{slot_view_covers, slot_view_in, slot_view_layer}
+pub use Rattle.nit_repaint.specs.Below.{source_of_number, source_under, spans, times, to_come}
+pub use Rattle.nit_repaint.specs.Below.{views_of, with_glass, with_offset, with_rect, without}
+pub use Rattle.nit_repaint.specs.Below.{word_count, words_shown, ℤ}
 pub use Rattle.nit_repaint.specs.Glasses.{HoldBuffers, glass_in, glasses_of_call}
 pub use Rattle.nit_repaint.specs.Painting.{CanPaint, CanPaintByList, IsFrameToShow, IsPieceOfStack}
 pub use Rattle.nit_repaint.specs.Painting.{IsViewPiece, PaintsByList, PaintsMarked, PaintsPiece}
