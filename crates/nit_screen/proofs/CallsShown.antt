@@ -18,7 +18,7 @@ use Rattle.nit_events.specs.declared.entry.Entry.TheVariants as entry
 use Rattle.nit_events.specs.declared.event.Status.TheVariants as status
 use Rattle.nit_paint.specs.Pieces as pieces
 use Rattle.nit_screen.proofs.KeptFrames.{can_still, kept_part}
-use Rattle.nit_screen.proofs.MarkLemmas.{source_of_number}
+use Rattle.nit_screen.proofs.StackPixels.{source_of_number}
 use Rattle.nit_screen.proofs.OneList.{by_mode, entry_painted_in, flat_kept, mode_stays}
 use Rattle.nit_screen.proofs.OneViewChanges.{change_stood, dirty_by_change}
 use Rattle.nit_screen.proofs.RawWithBar.{bar_kept}

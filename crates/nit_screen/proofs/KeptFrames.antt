@@ -175,19 +175,8 @@ module _ (s : State) (taken sid : ℕ) (call : Call) (r : Reply) (glasses glasse
 -- no call but `Close` changes the input
 pub still : (s : State) (sid : ℕ) (c : Call) (r : Reply) → (c ≡ Close → ⊥) → (after s (entry.Call sid c r)).input
     ≡ s.input
-still s sid (Buffer w h) r other = refl
-still s sid View r other = refl
-still s sid (Place v x y w h) r other = refl
-still s sid (Offset v ox oy) r other = refl
-still s sid (Front v) r other = refl
-still s sid (Back v) r other = refl
-still s sid (Above v n) r other = refl
-still s sid (Title v text) r other = refl
-still s sid (Destroy v) r other = refl
-still s sid (Refresh x y w h) r other = refl
-still s sid Take r other = refl
-still s sid (Upgrade n) r other = refl
 still s sid Close r other = absurd (other refl)
+still s sid c r other = refl
 
 pub kept_served : (before after' : ServerModel) (sid : ℕ) (call : Call) (r : Reply) (glasses glasses' : ℕ → Sight)
     (raw raw' old new : List ℕ) (chosen : ℕ → Bool)
@@ -241,17 +230,7 @@ quiet_scenery before after' sid call r none served quiet = ap scenery_of served.
         (stack_accepted (layer s.config) sid Take r s.stack e)
     go (Upgrade n) q e = ap (λ (vs : List ViewOf). record (scenery_of s) { stack = vs })
         (stack_accepted (layer s.config) sid (Upgrade n) r s.stack e)
-    go (Buffer w h) q e = absurd q
-    go View q e = absurd q
-    go (Place v x y w h) q e = absurd q
-    go (Offset v ox oy) q e = absurd q
-    go (Front v) q e = absurd q
-    go (Back v) q e = absurd q
-    go (Above v n) q e = absurd q
-    go (Title v text) q e = absurd q
-    go (Destroy v) q e = absurd q
-    go (Refresh x y w h) q e = absurd q
-    go Close q e = absurd q
+    go other q e = absurd q
 
 -- a call that asks for pixels of its session's views
 part_scenery : (before after' : ServerModel) (sid : ℕ) (part : Option Rectangle) (call : Call) (r : Reply)
@@ -270,17 +249,7 @@ part_scenery before after' sid part call r none served of = ap scenery_of served
         (stack_accepted (layer s.config) sid (Buffer w h) r s.stack e)
     go (Refresh x y w h) q e = ap (λ (vs : List ViewOf). record (scenery_of s) { stack = vs })
         (stack_accepted (layer s.config) sid (Refresh x y w h) r s.stack e)
-    go View q e = absurd q
-    go (Place v x y w h) q e = absurd q
-    go (Offset v ox oy) q e = absurd q
-    go (Front v) q e = absurd q
-    go (Back v) q e = absurd q
-    go (Above v n) q e = absurd q
-    go (Title v text) q e = absurd q
-    go (Destroy v) q e = absurd q
-    go Take q e = absurd q
-    go (Upgrade n) q e = absurd q
-    go Close q e = absurd q
+    go other q e = absurd q
 
 -- where labels are drawn, the dirty pixels got their raw words, and then what is shown there
 pub kept_part : (before after' : ServerModel) (sid : ℕ) (part : Option Rectangle) (call : Call) (r : Reply)

@@ -12,8 +12,6 @@ pub mod KeptFrames
 pub mod Kills
 pub mod LabelSlotLemmas
 pub mod Loads
-pub mod MarkLemmas
-pub mod Marks
 pub mod OneList
 pub mod RawWithBar
 pub mod OneViewChanges
@@ -22,6 +20,7 @@ pub mod QuietCalls
 pub mod ScreenLemmas
 pub mod SessionEnds
 pub mod SessionViews
+pub mod StackPixels
 pub mod StackRoom
 pub mod StackFacts
 pub mod Openings

@@ -1,9 +1,9 @@
 -- An accepted call on a view changes that view alone in the stack.
-use Rattle.nit_screen.proofs.Basics.{Above, AllByRecursion, Back, Bool, Buffer, Call, Close}
+use Rattle.nit_screen.proofs.Basics.{Above, AllByRecursion, Back, Bool, Call}
 use Rattle.nit_screen.proofs.Basics.{Destroy, Front, IsNamedBy, IsOn, IsServed, IsServer}
 use Rattle.nit_screen.proofs.Basics.{IsViewChange, List, MeanSame, None, Offset, Option, Place, Put}
-use Rattle.nit_screen.proofs.Basics.{Put-above, Put-back, Put-front, Rectangle, Refresh, Reply}
-use Rattle.nit_screen.proofs.Basics.{ServerModel, SlotView, Some, State, Take, Title, Upgrade, View}
+use Rattle.nit_screen.proofs.Basics.{Put-above, Put-back, Put-front, Rectangle, Reply}
+use Rattle.nit_screen.proofs.Basics.{ServerModel, SlotView, Some, State}
 use Rattle.nit_screen.proofs.Basics.{ViewRef, [], after_accepted, agree_by, any_found, ap, bar_rows}
 use Rattle.nit_screen.proofs.Basics.{cond, dirty, dirty_by_call, false, find, find-map, find_moved}
 use Rattle.nit_screen.proofs.Basics.{found_passes, has_slot, inl, inr, is_accepted, is_named}
@@ -13,11 +13,12 @@ use Rattle.nit_screen.proofs.Basics.{place_of, position_or_len, put_above, put_b
 use Rattle.nit_screen.proofs.Basics.{rectangle, refusal, same_Some, session, slot_owns_either}
 use Rattle.nit_screen.proofs.Basics.{slot_view_in, state_of, views_of, without, without_changed}
 use Rattle.nit_screen.proofs.Basics.{without_moved, without_none, without_same, without_view}
-use Rattle.std.proofs.Common.{length, not, option_map, refl, subst, sym, true, ℕ, ◌&&◌, ◌+◌, ◌<◌}
+use Rattle.nit_screen.proofs.Basics.{Point, owner_passes, owns_either, view_owns}
+use Rattle.std.proofs.Common.{length, not, option_map, refl, subst, sym, true, ℕ, ◌&&◌, ◌||◌, ◌+◌}
+use Rattle.std.proofs.Common.{◌<◌}
 use Rattle.std.proofs.Common.{◌==◌, ◌∙◌, ◌∷◌, ◌≡◌, ◌⊎◌}
 use Rattle.nit_events.specs.declared.entry.Entry.TheVariants as entry
-use Rattle.nit_screen.proofs.Marks.{OfView, IsMarkOf}
-use Rattle.nit_screen.proofs.MarkLemmas.{meant}
+use Rattle.nit_screen.proofs.StackPixels.{view_meant}
 use Rattle.nit_stack.specs.declared.view.View.{View as ViewOf}
 use Rattle.nit_screen.proofs.CleanCalls.{stack_accepted}
 use Rattle.nit_screen.proofs.CallAnswers.{unrefused_reply}
@@ -101,18 +102,12 @@ module _ (layers : ℕ → ℕ) (sid : ℕ) (stack : List ViewOf) (r : Reply) wh
       go : (b : Bool) → Changes sid u stack (cond b stack (moved (is_view sid u) (put_above (is_view sid n)) stack))
       go true = record { left = refl; kept = inl refl }
       go false = moves u (put_above (is_view sid n)) (λ a xs. Put-above (is_view sid n) a xs)
-  changes v (Buffer w h) on = absurd on
-  changes v View on = absurd on
-  changes v (Title u text) on = absurd on
   changes v (Destroy u) on = subst (λ (n : ℕ). Changes sid n stack (after_accepted layers sid (Destroy u) r stack)) on
       record {
         left = without_none (is_view sid u) (without (is_view sid u) stack) (none_left (is_view sid u) stack);
         kept = inr (inr (nothing (is_view sid u) (without (is_view sid u) stack) (none_left (is_view sid u) stack)));
       }
-  changes v (Refresh x y w h) on = absurd on
-  changes v Take on = absurd on
-  changes v (Upgrade n) on = absurd on
-  changes v Close on = absurd on
+  changes v other on = absurd on
 
 -- an accepted call on a view is a change of the view in its slot
 pub change_of_call : (before after' : ServerModel) (sid handle k : ℕ) (call : Call) (r : Reply) (seat : SlotView)
@@ -169,32 +164,38 @@ change_of_call before after' sid handle k call r seat hb ha none s on by there =
 
 -- ---- what is painted
 
+-- a call on a view makes dirty what the view owned before or owns after it
+made_dirty : (sid handle : ℕ) (before after' : State) (p : Point) (call : Call) → IsOn handle call
+    → owns_either sid handle before after' p ≡ dirty_by_call sid call before after' p
+made_dirty sid handle before after' p (Place v x y w h) on = ap (λ (n : ℕ). owns_either sid n before after' p) (sym on)
+made_dirty sid handle before after' p (Offset v ox oy) on = ap (λ (n : ℕ). owns_either sid n before after' p) (sym on)
+made_dirty sid handle before after' p (Front v) on = ap (λ (n : ℕ). owns_either sid n before after' p) (sym on)
+made_dirty sid handle before after' p (Back v) on = ap (λ (n : ℕ). owns_either sid n before after' p) (sym on)
+made_dirty sid handle before after' p (Above v n) on = ap (λ (m : ℕ). owns_either sid m before after' p) (sym on)
+made_dirty sid handle before after' p (Destroy v) on = ap (λ (n : ℕ). owns_either sid n before after' p) (sym on)
+made_dirty sid handle before after' p other on = absurd on
+
 -- the pixels of a change are those that the entry makes dirty
 module _ (before after' : ServerModel) (sid handle : ℕ) (v : ViewRef) (call : Call) (r : Reply) (hb : IsServer before)
     (ha : IsServer after') (none : refusal (session (state_of before) sid) call ≡ None)
     (s : IsServed sid call r before after') (on : IsOn handle call) (by : IsNamedBy v.0 sid handle before.stack.views)
   where
-    mark_ : (c : Call) → IsOn handle c → IsMarkOf before sid c (Some (OfView v))
-    mark_ (Place u x y w h) on = (v, refl, subst (λ (m : ℕ). IsNamedBy v.0 sid m before.stack.views) (sym on) by)
-    mark_ (Offset u ox oy) on = (v, refl, subst (λ (m : ℕ). IsNamedBy v.0 sid m before.stack.views) (sym on) by)
-    mark_ (Front u) on = (v, refl, subst (λ (m : ℕ). IsNamedBy v.0 sid m before.stack.views) (sym on) by)
-    mark_ (Back u) on = (v, refl, subst (λ (m : ℕ). IsNamedBy v.0 sid m before.stack.views) (sym on) by)
-    mark_ (Above u n) on = (v, refl, subst (λ (m : ℕ). IsNamedBy v.0 sid m before.stack.views) (sym on) by)
-    mark_ (Buffer w h) on = absurd on
-    mark_ View on = absurd on
-    mark_ (Title u text) on = absurd on
-    mark_ (Destroy u) on = (v, refl, subst (λ (m : ℕ). IsNamedBy v.0 sid m before.stack.views) (sym on) by)
-    mark_ (Refresh x y w h) on = absurd on
-    mark_ Take on = absurd on
-    mark_ (Upgrade n) on = absurd on
-    mark_ Close on = absurd on
+    owned_before : (k : ℕ) → owner_passes (is_slot v.0) before.stack (pixel before.config.width k)
+        ≡ view_owns sid handle (state_of before) (pixel before.config.width k)
+    owned_before k = view_meant before hb v.0 sid handle (agree_by v.0 sid handle before.stack.views by)
+        (pixel before.config.width k)
+
+    owned_after : (k : ℕ) → owner_passes (is_slot v.0) after'.stack (pixel before.config.width k)
+        ≡ view_owns sid handle (state_of after') (pixel before.config.width k)
+    owned_after k = view_meant after' ha v.0 sid handle (s.named v.0 handle by) (pixel before.config.width k)
 
     pub dirty_by_change : (k : ℕ) → slot_owns_either v.0 before.stack after'.stack (pixel after'.stack.width k)
         ≡ dirty (state_of before) (entry.Call sid call r) (state_of after') (pixel before.config.width k)
     dirty_by_change k =
         ap (λ (w : ℕ). slot_owns_either v.0 before.stack after'.stack (pixel w k)) (ha.screen.0
         ∙ ap (λ (t : State). t.config.width) s.state)
-        ∙ meant before after' hb ha sid (pixel before.config.width k) call r (OfView v) none s (mark_ call on)
+        ∙ (λ i. owned_before k i || owned_after k i)
+        ∙ made_dirty sid handle (state_of before) (state_of after') (pixel before.config.width k) call on
         ∙ sym (ap (λ (b : Bool). b && dirty_by_call sid call (state_of before) (state_of after')
         (pixel before.config.width k)) (ap is_accepted s.replied
         ∙ unrefused_reply (session (state_of before) sid) call none))

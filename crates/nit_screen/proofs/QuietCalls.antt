@@ -1,7 +1,7 @@
 -- Calls that make nothing dirty paint nothing.
 use Rattle.std.proofs.Common.{List, false, refl, ℕ, ◌≡◌}
-use Rattle.nit_screen.proofs.Basics.{Above, Back, Buffer, Call, Close, Destroy, Front, IsClean}
-use Rattle.nit_screen.proofs.Basics.{IsQuiet, Offset, Painted, Place, Point, Refresh, Reply, Sight}
+use Rattle.nit_screen.proofs.Basics.{Call, IsClean}
+use Rattle.nit_screen.proofs.Basics.{IsQuiet, Painted, Point, Reply, Sight}
 use Rattle.nit_screen.proofs.Basics.{State, Take, Title, Upgrade, View, dirty, dirty_by_call}
 use Rattle.nit_screen.proofs.Basics.{is_accepted}
 use Rattle.nit_events.specs.declared.entry.Entry.TheVariants as entry
@@ -15,17 +15,7 @@ clean_call before after' sid call r p is = right_fails (is_accepted r) _ (go cal
     go : (c : Call) → IsClean c → dirty_by_call sid c before after' p ≡ false
     go View is = refl
     go (Title v text) is = refl
-    go Take is = absurd is
-    go (Upgrade n) is = absurd is
-    go (Place v x y w h) is = absurd is
-    go (Offset v ox oy) is = absurd is
-    go (Front v) is = absurd is
-    go (Back v) is = absurd is
-    go (Above v n) is = absurd is
-    go (Destroy v) is = absurd is
-    go (Buffer w h) is = absurd is
-    go (Refresh x y w h) is = absurd is
-    go Close is = absurd is
+    go other is = absurd is
 
 quiet_call : (before after' : State) (sid : ℕ) (call : Call) (r : Reply) (p : Point) → IsQuiet call
     → dirty before (entry.Call sid call r) after' p ≡ false
@@ -34,17 +24,7 @@ quiet_call before after' sid call r p is = right_fails (is_accepted r) _ (go cal
     go : (c : Call) → IsQuiet c → dirty_by_call sid c before after' p ≡ false
     go Take is = refl
     go (Upgrade n) is = refl
-    go View is = absurd is
-    go (Title v text) is = absurd is
-    go (Place v x y w h) is = absurd is
-    go (Offset v ox oy) is = absurd is
-    go (Front v) is = absurd is
-    go (Back v) is = absurd is
-    go (Above v n) is = absurd is
-    go (Destroy v) is = absurd is
-    go (Buffer w h) is = absurd is
-    go (Refresh x y w h) is = absurd is
-    go Close is = absurd is
+    go other is = absurd is
 
 pub quiet_painted : (before after' : State) (sid : ℕ) (call : Call) (r : Reply) (glasses : ℕ → Sight) (raw : List ℕ)
     → IsQuiet call → Painted before (entry.Call sid call r) after' glasses glasses raw raw

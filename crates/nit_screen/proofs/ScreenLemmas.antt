@@ -10,7 +10,7 @@ use Rattle.nit_screen.proofs.Basics.{table_size, word_count}
 use Rattle.std.proofs.Common.{subst, sym, true, ℕ, ◌&&◌, ◌*◌, ◌<◌, ◌==◌, ◌∙◌, ◌≡◌, ◌≤◌}
 use Rattle.nit_events.specs.declared.entry.Entry.TheVariants as entry
 use Rattle.nit_paint.specs.Pieces as pieces
-use Rattle.nit_screen.proofs.MarkLemmas.{size_at, source_of_number}
+use Rattle.nit_screen.proofs.StackPixels.{size_at, source_of_number}
 
 -- an entry that makes nothing dirty
 pub unpainted : (s : State) (e : Entry) (s' : State) (glasses : ℕ → Sight) (raw : List ℕ)

@@ -12,7 +12,7 @@ use Rattle.nit_screen.proofs.Basics.{source_at, source_in, source_under, state_o
 use Rattle.nit_screen.proofs.Basics.{without, without_session, without_views}
 use Rattle.std.proofs.Common.{subst, sym, true, ℕ, ◌*◌, ◌<◌, ◌==◌, ◌∙◌, ◌≡◌, ◌≤◌}
 use Rattle.nit_paint.specs.Pieces as pieces
-use Rattle.nit_screen.proofs.MarkLemmas.{session_meant, source_of_number}
+use Rattle.nit_screen.proofs.StackPixels.{session_meant, source_of_number}
 
 -- what is left of a server when a session ends is told by what is left without its views
 same_ended : (sid : ℕ) (how : Status) (s t : ServerModel) → sid < length s.sessions → sid < length t.sessions

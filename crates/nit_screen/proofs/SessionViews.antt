@@ -1,13 +1,13 @@
 -- A call that draws the views of a session makes their pixels dirty, and paints them.
-use Rattle.nit_screen.proofs.Basics.{Above, Back, Buffer, Call, Close, Destroy, Front, IsPartOf}
-use Rattle.nit_screen.proofs.Basics.{IsServed, IsServer, Offset, Place, Point, Rectangle, Refresh}
-use Rattle.nit_screen.proofs.Basics.{Reply, ServerModel, State, Take, Title, Upgrade, View}
+use Rattle.nit_screen.proofs.Basics.{Buffer, Call, IsPartOf}
+use Rattle.nit_screen.proofs.Basics.{IsServed, IsServer, Point, Rectangle, Refresh}
+use Rattle.nit_screen.proofs.Basics.{Reply, ServerModel, State}
 use Rattle.nit_screen.proofs.Basics.{all_of_session, dirty, dirty_by_call, is_accepted}
 use Rattle.nit_screen.proofs.Basics.{part_of_session, pixel, rectangle, refusal, session, state_of}
 use Rattle.nit_screen.proofs.Basics.{wanted}
 use Rattle.std.proofs.Common.{Bool, None, Option, ap, sym, ℕ, ◌&&◌, ◌∙◌, ◌≡◌}
 use Rattle.nit_events.specs.declared.entry.Entry.TheVariants as entry
-use Rattle.nit_screen.proofs.MarkLemmas.{part_meant, session_meant}
+use Rattle.nit_screen.proofs.StackPixels.{part_meant, session_meant}
 use Rattle.nit_screen.proofs.CallAnswers.{unrefused_reply}
 
 wanted_dirty : (before after' : ServerModel) (sid : ℕ) (part : Option Rectangle) (call : Call) (p : Point)
@@ -19,17 +19,7 @@ wanted_dirty before after' sid part (Refresh x y w h) p ha on =
     ap (λ (o : Option Rectangle). wanted sid o after'.stack p) on
     ∙ part_of_session sid (rectangle x y w h) after'.stack p
     ∙ part_meant after' ha sid (rectangle x y w h) p
-wanted_dirty before after' sid part (Place v x y w h) p ha on = absurd on
-wanted_dirty before after' sid part (Offset v ox oy) p ha on = absurd on
-wanted_dirty before after' sid part (Front v) p ha on = absurd on
-wanted_dirty before after' sid part (Back v) p ha on = absurd on
-wanted_dirty before after' sid part (Above v n) p ha on = absurd on
-wanted_dirty before after' sid part (Destroy v) p ha on = absurd on
-wanted_dirty before after' sid part View p ha on = absurd on
-wanted_dirty before after' sid part (Title v text) p ha on = absurd on
-wanted_dirty before after' sid part Take p ha on = absurd on
-wanted_dirty before after' sid part (Upgrade n) p ha on = absurd on
-wanted_dirty before after' sid part Close p ha on = absurd on
+wanted_dirty before after' sid part other p ha on = absurd on
 
 module _ (before after' : ServerModel) (sid : ℕ) (part : Option Rectangle) (call : Call) (r : Reply)
     (ha : IsServer after') (none : refusal (session (state_of before) sid) call ≡ None)
