@@ -8,8 +8,12 @@
 #![tactic(auto)]
 
 #[cfg(test)]
+mod checks;
+#[cfg(test)]
 mod parts;
 #[cfg(test)]
 mod scenes;
 #[cfg(test)]
 mod scripts;
+#[cfg(test)]
+mod words;

@@ -2,7 +2,7 @@
 
 use crate::cases::table::{Case, lines_of};
 use crate::cases::{alone, assert_cases, files, over, texts};
-use nit_checks::same;
+use crate::checks::same;
 use std::alloc::Global;
 use std::process::Abort;
 use std::sync::Wait;

@@ -2,7 +2,7 @@
 
 use crate::cases::table::{Case, lines};
 use crate::cases::{assert_cases, bytes_of, files, over};
-use nit_checks::{found, must, same};
+use crate::checks::{found, must, same};
 use nit_store::MemoryStore;
 use std::alloc::Global;
 use std::process::Abort;

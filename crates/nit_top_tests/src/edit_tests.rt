@@ -8,7 +8,7 @@
 
 use crate::cases::table::{Case, lines_of, number, worded};
 use crate::cases::{assert_alone, assert_cases, bytes_of, files};
-use nit_checks::{fail, found, must, same};
+use crate::checks::{fail, found, must, same};
 use std::alloc::Global;
 use std::process::Abort;
 

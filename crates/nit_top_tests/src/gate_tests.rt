@@ -2,8 +2,8 @@
 
 use crate::cases::assert_case;
 use crate::cases::table::{Case, lines_of};
+use crate::checks::{must, same};
 use nit_actor::Gate;
-use nit_checks::{must, same};
 use std::alloc::Global;
 use std::process::Abort;
 use std::sync::Wait;

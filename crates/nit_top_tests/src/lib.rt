@@ -12,6 +12,8 @@
 
 #[cfg(test)]
 mod cases;
+#[cfg(test)]
+mod checks;
 
 // What is refused: words, configurations, scripts and clip scripts, and calls of a store that fail.
 #[cfg(test)]

@@ -1,6 +1,6 @@
 //! The rounds of scripts, turn by turn.
 
-use nit_checks::{must, same};
+use crate::checks::{must, same};
 use nit_rounds::{Turn, Turns};
 use nit_script::{Client, parse_client, parse_input};
 use std::alloc::Global;

@@ -2,7 +2,7 @@
 
 use crate::cases::table::{Case, lines_of};
 use crate::cases::{Came, alone, assert_came, assert_cases, assert_end, files, words};
-use nit_checks::must;
+use crate::checks::must;
 use nit_store::{NeverFails, have_different_names};
 use nit_top::Done;
 use std::alloc::Global;

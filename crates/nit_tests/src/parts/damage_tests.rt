@@ -3,9 +3,9 @@
 ghost use Rattle.std.specs.Prelude.{◌≡◌, length};
 ghost use Rattle.nit_damage.specs.Cutter.{FitsStack};
 
+use crate::checks::{must, same};
 use crate::parts::pictures::picture;
 use crate::parts::screens::{Numbers, rect, three_views};
-use nit_checks::{must, same};
 use nit_damage::Cutter;
 use nit_stack::Stack;
 use std::alloc::Global;

@@ -2,8 +2,9 @@
 
 ghost use Rattle.std.specs.Prelude.{◌≡◌, length};
 
+use crate::checks::same;
 use crate::parts::screens::rect;
-use nit_checks::{repeated, same};
+use crate::words::repeated;
 use nit_events::Mode;
 use nit_glyph::Label;
 use nit_overlay::{Look, overlay_rect};

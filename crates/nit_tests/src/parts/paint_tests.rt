@@ -5,7 +5,7 @@ ghost use Rattle.nit_rect.specs.Rectangle.{IsPlace, rectangle};
 ghost use Rattle.nit_stack.specs.Stack.{IsOnScreen, empty_stack};
 ghost use Rattle.nit_tests.specs.Painted.{one_view};
 
-use nit_checks::same;
+use crate::checks::same;
 use nit_paint::{paint_bare, paint_view};
 use nit_rect::{Point, Rect};
 use nit_stack::{Piece, Source, Stack, ViewRef};

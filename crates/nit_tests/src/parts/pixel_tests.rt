@@ -2,7 +2,7 @@
 ghost use Rattle.std.specs.Prelude.{◌≡◌, ◌<◌};
 ghost use Rattle.nit_pixels.specs.Inks.{IsInked};
 
-use nit_checks::{must, same};
+use crate::checks::{must, same};
 use nit_pixels::{Canvas, Lens, PixelBuffer};
 use nit_word::Glass;
 use std::thread::join;

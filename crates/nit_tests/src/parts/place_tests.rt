@@ -3,8 +3,8 @@
 ghost use Rattle.std.specs.Prelude.{◌≡◌, true};
 ghost use Rattle.nit_stack.specs.Stack.{has_slot};
 
+use crate::checks::same;
 use crate::parts::screens::{Numbers, three_views, within};
-use nit_checks::same;
 use nit_place::place_label;
 use nit_rect::Point;
 use nit_stack::{Stack, ViewRef};

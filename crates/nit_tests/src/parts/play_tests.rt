@@ -2,10 +2,10 @@
 
 ghost use Rattle.nit_capture.specs.Tiles.{IsPicture};
 
+use crate::checks::same;
 use crate::parts::films::{CUT, LEFT, RIGHT};
 use crate::parts::stream_tests::black;
 use nit_capture::{Played, Player};
-use nit_checks::same;
 use std::alloc::Global;
 use std::process::Abort;
 

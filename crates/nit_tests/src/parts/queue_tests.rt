@@ -1,6 +1,6 @@
 //! The events that wait for a session.
 
-use nit_checks::same;
+use crate::checks::same;
 use nit_events::{Event, Queue};
 use std::process::Abort;
 

@@ -1,7 +1,7 @@
 //! Rectangles inside others, and the order of a stack.
 
+use crate::checks::same;
 use crate::parts::screens::{Numbers, rect, three_views};
-use nit_checks::same;
 use nit_stack::ViewRef;
 use std::process::Abort;
 

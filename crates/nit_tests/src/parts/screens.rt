@@ -3,7 +3,7 @@
 ghost use Rattle.std.specs.Prelude.{◌≡◌, ◌≤◌, true};
 ghost use Rattle.nit_stack.specs.Stack.{empty_stack, has_slot};
 
-use nit_checks::must;
+use crate::checks::must;
 use nit_rect::Rect;
 use nit_stack::{Stack, ViewRef};
 use std::alloc::Global;

@@ -3,7 +3,7 @@
 ghost use Rattle.std.specs.Prelude.{All};
 ghost use Rattle.nit_word.specs.Inks.{IsWord};
 
-use nit_checks::same;
+use crate::checks::same;
 use nit_word::{dim, dim_row, tint, tint_row};
 use std::alloc::Global;
 use std::process::Abort;

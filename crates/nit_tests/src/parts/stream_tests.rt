@@ -5,9 +5,10 @@
 
 ghost use Rattle.nit_capture.specs.Tiles.{IsPictureSize, IsPicture};
 
+use crate::checks::same;
 use crate::parts::films::{CUT, LEFT, RIGHT};
+use crate::words::repeated;
 use nit_capture::{Played, Player};
-use nit_checks::{repeated, same};
 use std::alloc::Global;
 use std::process::Abort;
 

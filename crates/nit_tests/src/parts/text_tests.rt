@@ -1,6 +1,6 @@
 //! Titles and labels.
 
-use nit_checks::same;
+use crate::checks::same;
 use nit_glyph::{Label, Title, label_text};
 use std::process::Abort;
 

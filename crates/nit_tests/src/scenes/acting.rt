@@ -9,10 +9,11 @@ ghost use Rattle.nit_hall.specs.ClipPass.{AreDoneClips, ClipBelongs};
 ghost use Rattle.nit_hall.specs.ClipOpening.{AreFirstClipPasses};
 ghost use Rattle.nit_actor.specs.ClipRole.{GoTogether, IsPairIn, pair_role_of};
 
+use crate::checks::{must, same};
+use crate::words::repeated;
 use nit_actor::{
     GatedHall, Open, Pair, UserAndDesk, run_actor, run_clips, run_mine, run_mine_clips,
 };
-use nit_checks::{must, repeated, same};
 use nit_clip::{ClipEntry, clip_text};
 use nit_hall::{ClipPass, Hall, Name, Pass, UserPass};
 use nit_report::{journal_text, ppm_len};

@@ -4,7 +4,7 @@ ghost use Rattle.std.specs.Prelude.{◌≡◌, ◌+◌, All};
 ghost use Rattle.nit_hall.specs.Pass.{Belongs, UserBelongs};
 ghost use Rattle.nit_hall.specs.ClipPass.{ClipBelongs, IsAtPhaseEnd};
 
-use nit_checks::{fail, must};
+use crate::checks::{fail, must};
 use nit_clip::{ClipLine, ClipReply};
 use nit_hall::{ClipPass, Hall, Name, Pass, UserPass};
 use nit_script::{InputLine, Line};

@@ -6,8 +6,8 @@ ghost use Rattle.nit_word.specs.Inks.{IsWord};
 ghost use Rattle.nit_stack.specs.Stack.{IsOnScreen};
 ghost use Rattle.nit_tests.specs.Painted.{two_views};
 
+use crate::checks::{must, same};
 use crate::scenes::stage::{Counting, Stage, set_up};
-use nit_checks::{must, same};
 use nit_events::Mode;
 use nit_glyph::Label;
 use nit_overlay::{Look, frame_into};

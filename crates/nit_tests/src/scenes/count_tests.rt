@@ -1,8 +1,8 @@
 //! How many slots, views and sessions a scene has, and words that are drawn in its own glasses.
 
+use crate::checks::{must, same};
 use crate::scenes::glasses::glass;
 use crate::scenes::stage::{TWO, set_up, set_up_drawn};
-use nit_checks::{must, same};
 use nit_config::read_config;
 use nit_events::Call;
 use nit_scene::{Counts, Scene};

@@ -4,7 +4,7 @@ ghost use Rattle.std.specs.Prelude.{◌<◌, length};
 ghost use Rattle.nit_config.specs.ConfigurationRanges.{IsConfiguration};
 ghost use Rattle.nit_scene.specs.Screen.{IsGlass};
 
-use nit_checks::repeated;
+use crate::words::repeated;
 use nit_config::Config;
 use nit_slots::room;
 use nit_word::Inked;

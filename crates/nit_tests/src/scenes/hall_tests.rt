@@ -11,10 +11,10 @@ ghost use Rattle.nit_hall.specs.Pass.{Belongs, UserBelongs};
 ghost use Rattle.nit_hall.specs.ClipPass.{ClipBelongs};
 ghost use Rattle.nit_tests.specs.HallOpening.{IsOpenRoom};
 
+use crate::checks::{fail, must, same};
 use crate::scenes::acting::{Way, act, act_clips};
 use crate::scenes::actors::{Client, User, clients};
 use crate::scenes::hall_opening::{buffers_of, canvases_of, plans_of};
-use nit_checks::{fail, must, same};
 use nit_clip::{ClipEntry, ClipReply, ClipScript, clip_text, parse_clip};
 use nit_config::{Config, read_config};
 use nit_hall::{ClipOpened, ClipPass, Hall, Name, Opened, Parts, Pass, UserPass, open, open_clips};

@@ -1,7 +1,7 @@
 //! How many words of each session a scene loads at each entry.
 
+use crate::checks::same;
 use crate::scenes::stage::{Counting, Loads, Stage, TWO, set_up, taken};
-use nit_checks::same;
 use std::alloc::Global;
 use std::cell::Cell;
 use std::process::Abort;

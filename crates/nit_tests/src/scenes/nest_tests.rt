@@ -3,7 +3,7 @@
 ghost use Rattle.std.specs.Prelude.{◌≡◌, ◌*◌, IsTrue, All, length};
 ghost use Rattle.nit_nested.specs.Spelling.{FitsColour};
 
-use nit_checks::{must, same};
+use crate::checks::{must, same};
 use nit_nested::Nest;
 use nit_script::{Client, parse_client, print_client};
 use std::alloc::Global;

@@ -7,8 +7,9 @@ ghost use Rattle.nit_events.specs.Ranges.{IsDevice};
 ghost use Rattle.nit_config.specs.ConfigurationRanges.{IsConfiguration};
 ghost use Rattle.nit_scene.specs.Screen.{IsGlass};
 
+use crate::checks::{found, must, same};
 use crate::scenes::glasses::glass;
-use nit_checks::{found, must, repeated, same};
+use crate::words::repeated;
 use nit_config::{Config, read_config};
 use nit_events::{Call, Device};
 use nit_scene::{Counts, Scene};

@@ -1,6 +1,6 @@
 //! The configuration of a generated run.
 
-use nit_checks::same;
+use crate::checks::same;
 use nit_config::{Config, Member, read_config};
 use nit_report::{gen_config, generate};
 use std::alloc::Global;

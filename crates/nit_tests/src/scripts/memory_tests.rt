@@ -1,7 +1,7 @@
 //! Calls that may answer want of memory, for the most that they are asked for, where there is
 //! enough.
 
-use nit_checks::same;
+use crate::checks::same;
 use nit_clip::Clip;
 use nit_journal::Journal;
 use nit_slots::{Slots, Table};

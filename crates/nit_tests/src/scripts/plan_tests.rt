@@ -4,8 +4,8 @@ ghost use Rattle.nit_slots.specs.Account.{IsDonation};
 ghost use Rattle.nit_plan.specs.ScriptWords.{words_after, words_left};
 ghost use Rattle.nit_plan.specs.Surface.{IsPaintedTo};
 
+use crate::checks::same;
 use Expect::{Nothing, Taken};
-use nit_checks::same;
 use nit_events::Reply;
 use nit_plan::laws::no_line_done;
 use nit_plan::{Expect, Plan, Step, ink_of, plan_of, stroke};

@@ -1,6 +1,6 @@
 //! Scripts that are read and printed again.
 
-use nit_checks::same;
+use crate::checks::same;
 use nit_script::{parse_client, parse_input, print_client, print_input};
 use std::alloc::Global;
 use std::process::Abort;

@@ -1,6 +1,6 @@
 //! Journals as texts, and their entries as values; and the texts of refused configurations.
 
-use nit_checks::{must, same};
+use crate::checks::{must, same};
 use nit_config::ConfigError;
 use nit_events::{Call, Delivery, Device, Entry, Event, Item, Reply, Routed};
 use nit_report::{journal_text, parse_journal};

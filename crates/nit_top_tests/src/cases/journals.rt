@@ -3,7 +3,7 @@
 use crate::cases::sessions::assert_sessions;
 use crate::cases::table::{Case, number, worded};
 use crate::cases::{assert_text, owned};
-use nit_checks::{must, same};
+use crate::checks::{must, same};
 use nit_events::{Entry, Reply};
 use nit_report::parse_journal;
 use std::alloc::Global;

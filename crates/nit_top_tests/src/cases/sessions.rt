@@ -2,7 +2,7 @@
 //! is routed to them.
 
 use crate::cases::table::Case;
-use nit_checks::same;
+use crate::checks::same;
 use nit_events::{Call, Delivery, Entry, Event, Item, Reply};
 use std::alloc::Global;
 use std::process::Abort;

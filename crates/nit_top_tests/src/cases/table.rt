@@ -3,7 +3,7 @@
 //! Where a table cannot be read so, the test fails, and says what it is that it cannot read.
 
 use crate::cases::shared::TEXTS;
-use nit_checks::found;
+use crate::checks::found;
 use std::alloc::Global;
 use std::fmt::Write;
 use std::process::Abort;

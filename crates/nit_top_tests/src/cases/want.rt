@@ -2,7 +2,7 @@
 
 use crate::cases::bytes_of;
 use crate::cases::table::{Case, number, worded};
-use nit_checks::{fail, found, same};
+use crate::checks::{fail, found, same};
 use std::alloc::Global;
 use std::process::Abort;
 
