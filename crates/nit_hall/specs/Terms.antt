@@ -31,10 +31,11 @@ pub use Rattle.nit_hall.specs.ClipPass.{AreDoneClips, AreTogether, ClipBelongs, 
 pub use Rattle.nit_hall.specs.ClipPass.{IsAtClip, IsAtClipPhase, IsAtPhaseEnd, IsClipPass}
 pub use Rattle.nit_hall.specs.ClipPass.{IsDoneClip, clip_phases_before, clip_script_in}
 pub use Rattle.nit_hall.specs.ClipPass.{knowing_clip, next_clip}
+pub use Rattle.nit_hall.specs.Meeting.{ClipHasMet, HasMet, UserHasMet}
 pub use Rattle.nit_hall.specs.NearWords.{AreNear, IsLastDirtied, IsNear, IsNearBy, IsNearFrame}
 pub use Rattle.nit_hall.specs.NearWords.{IsWordOfScripts, is_dirtied, words_at_call}
-pub use Rattle.nit_hall.specs.Opening.{AreBlank, AreSplitOff, IsFirst, IsOpening, IsSetting}
-pub use Rattle.nit_hall.specs.Opening.{first_pass, first_user, parts_of}
+pub use Rattle.nit_hall.specs.Opening.{AreBlank, AreSplitOff, CanOpen, IsFirst, IsOpening}
+pub use Rattle.nit_hall.specs.Opening.{IsSetting, first_pass, first_user, parts_of}
 pub use Rattle.nit_hall.specs.OpeningParts.{OpeningParts}
 pub use Rattle.nit_hall.specs.Pass.{AreDone, Belongs, HasLoaded, IsAtCall, IsAtDevice, IsAtPhase}
 pub use Rattle.nit_hall.specs.Pass.{IsAtShot, IsAtUserPhase, IsDonePass, IsDoneUser, IsPass}
@@ -46,6 +47,7 @@ pub use Rattle.nit_hall.specs.Room.{after_arrival, arrived_one, clip_entry, lens
 pub use Rattle.nit_hall.specs.Room.{stands, with_clip, with_entry, with_final, without_final}
 pub use Rattle.nit_hall.specs.RoomClips.{FollowsClips, lines_of_clips}
 pub use Rattle.nit_hall.specs.RoomEnd.{IsKnownPass, left_word, words_left_in}
+pub use Rattle.nit_hall.specs.RoomLaws.{CallLaws, EntryLaws}
 pub use Rattle.nit_hall.specs.ServedLines.{input_phases_before, is_served, lines_of_all}
 pub use Rattle.nit_hall.specs.ServedLines.{lines_to_call, phases_before, served, user_actions_in}
 pub use Rattle.nit_hall.specs.declared.pass.PassRest.{PassRest}
