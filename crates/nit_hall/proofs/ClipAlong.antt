@@ -1,21 +1,19 @@
 -- A clip pass along the journal: what a clip call finds, and clip passes that are done.
-use Rattle.nit_hall.proofs.Basics.{AreDoneClips, AreTogether, Belongs, BookModel, Call, CallLaws}
-use Rattle.nit_hall.proofs.Basics.{ClipBelongs, ClipCall, ClipHasMet, ClipLine, ClipModel}
-use Rattle.nit_hall.proofs.Basics.{ClipPassModel, ClipReply, IsAtClip, IsAtClipPhase, IsAtPhaseEnd}
-use Rattle.nit_hall.proofs.Basics.{IsClipPass, IsDoneClip, IsOpen, IsRoom, IsWholeClips, List}
-use Rattle.nit_hall.proofs.Basics.{OpeningParts, Option, PassModel, RoomModel, ShareModel, Some, []}
-use Rattle.nit_hall.proofs.Basics.{ap, ap₂, arith, calls_to_make, cases_eq, clip_calls_in}
-use Rattle.nit_hall.proofs.Basics.{clip_entry, clip_phases_before, clip_script_in, clips_to_make}
-use Rattle.nit_hall.proofs.Basics.{done, drop, get_or, get_or-drop, get_or_from_slice_get, inl, inr}
-use Rattle.nit_hall.proofs.Basics.{is_clip_phase, knowing_clip, length, length-append, length-map}
-use Rattle.nit_hall.proofs.Basics.{map, map_over_more, next_clip, phases_before, raised, refl}
-use Rattle.nit_hall.proofs.Basics.{served, set, slice_get, slice_get-get_or, slice_get_within}
-use Rattle.nit_hall.proofs.Basics.{slice_index, state_now, subst, take_all, user_actions_to_do}
-use Rattle.nit_hall.proofs.Basics.{with_clip, without_final}
-use Rattle.std.proofs.Common.{sym, take, ℕ, ◌++◌, ◌+◌, ◌-◌, ◌<◌, ◌∙◌, ◌∷◌, ◌≡◌, ◌≤◌}
+use Rattle.nit_hall.proofs.Basics.{AreDoneClips, BookModel, CallLaws, ClipBelongs, ClipCall}
+use Rattle.nit_hall.proofs.Basics.{ClipHasMet, ClipLine, ClipModel, ClipPassModel, ClipReply}
+use Rattle.nit_hall.proofs.Basics.{IsAtClip, IsAtClipPhase, IsClipPass, IsDoneClip, IsRoom}
+use Rattle.nit_hall.proofs.Basics.{IsWholeClips, List, OpeningParts, Option, RoomModel, ShareModel}
+use Rattle.nit_hall.proofs.Basics.{Some, [], ap, ap₂, arith, calls_to_make, clip_calls_in}
+use Rattle.nit_hall.proofs.Basics.{clip_entry, clip_script_in, clips_to_make, done, drop, get_or}
+use Rattle.nit_hall.proofs.Basics.{get_or-drop, get_or_from_slice_get, is_clip_phase, length}
+use Rattle.nit_hall.proofs.Basics.{length-append, length-map, map, next_clip, raised, refl}
+use Rattle.nit_hall.proofs.Basics.{slice_get, slice_get-get_or, slice_get_within, slice_index}
+use Rattle.nit_hall.proofs.Basics.{state_now, subst, take_all, user_actions_to_do, with_clip}
+use Rattle.nit_hall.proofs.Basics.{without_final}
+use Rattle.std.proofs.Common.{sym, take, ℕ, ◌++◌, ◌+◌, ◌-◌, ◌<◌, ◌∙◌, ◌∷◌, ◌≡◌}
 use mathlib.Core.List.{IsPrefix}
 use Rattle.nit_clip.specs.declared.line.ClipLine.TheVariants as line
-use Rattle.nit_hall.proofs.LineLemmas.{counted_more, counted_same}
+use Rattle.nit_hall.proofs.LineLemmas.{counted_more, counted_same, item_there}
 use Rattle.nit_hall.proofs.ClipLineLemmas.{made_by}
 
 -- ---- what a clip call finds
@@ -106,12 +104,6 @@ pub record IsKnownClip (r : RoomModel) (k : ℕ) (q : ClipPassModel) : Type 0 wh
   pub front : IsPrefix q.seen (without_final r.scene.entries)
   pub counted : slice_index r.clip_counts k ≡ length (clip_calls_in (take q.next q.script))
 
-clip_there : (parts : OpeningParts) (qs : List ClipPassModel) (k : ℕ) → AreDoneClips parts qs → k < length parts.clips
-    → (q : ClipPassModel) × (slice_get qs k ≡ Some q)
-clip_there parts [] k done_all h = absurd (let n = done_all.each in omega (arith, n, h))
-clip_there parts (q ∷ qs) k done_all h =
-    (get_or (q ∷ qs) k q, slice_get-get_or (q ∷ qs) k q (let n = done_all.each in omega (arith, n, h)))
-
 -- what the law of all clip calls of a script says
 abbrev pub AllClipCalls : Type 0
 AllClipCalls = (lines : List ClipLine) → clip_calls_in lines ≡ done (clips_to_make lines)
@@ -122,8 +114,8 @@ pub clips_whole : AllClipCalls → (r : RoomModel) (qs : List ClipPassModel) →
     (map clips_to_make r.parts.clips) r.clips.entries
 clips_whole all r qs room are met = record {
   calls = λ sid h.
-      let there = clip_there r.parts qs sid are (let n =
-      length-map r.parts.clips clips_to_make in omega (arith, n, h)) in
+      let m = are.each in
+      let there = item_there qs sid (omega (arith, length-map r.parts.clips clips_to_make, m, h)) in
       let q = there.0 in
       let is = are.done_all sid q there.1 in
       let script : clip_script_in r.parts.clips sid ≡ q.script =

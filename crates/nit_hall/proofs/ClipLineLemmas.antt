@@ -75,14 +75,10 @@ pub calls_of_phases : (script : List Line) (p k : ℕ) → (slice_get script k �
     → length (calls_up_to (p + phases_before script k) (calls_from p script)) ≡ length (calls_in (take k script))
 calls_of_phases [] p zero at = refl
 calls_of_phases [] p (suc k) at = refl
-calls_of_phases (line.Call c ∷ script) p zero at = elim at [
-  | inl e ↦ absurd cc
-  | inr e ↦ absurd (omega (arith, e))
-]
-calls_of_phases (line.Stroke s ∷ script) p zero at = elim at [
-  | inl e ↦ absurd cc
-  | inr e ↦ absurd (omega (arith, e))
-]
+calls_of_phases (line.Call c ∷ script) p zero (inl e) = absurd cc
+calls_of_phases (line.Call c ∷ script) p zero (inr e) = absurd (omega (arith, e))
+calls_of_phases (line.Stroke s ∷ script) p zero (inl e) = absurd cc
+calls_of_phases (line.Stroke s ∷ script) p zero (inr e) = absurd (omega (arith, e))
 calls_of_phases (line.Phase ∷ script) p zero at = ap length (later (p + 0) (suc p) script (omega arith))
 calls_of_phases (line.Call c ∷ script) p (suc k) at =
     let n : p + phases_before (line.Call c ∷ script) (suc k) ≡ p + phases_before script k =

@@ -1,21 +1,23 @@
 -- What answers use: all that lemmas use, and this crate's lemmas.
-pub use Rattle.nit_hall.proofs.Basics.{AreBlank, AreSplitOff, BookModel, ClipPassModel}
-pub use Rattle.nit_hall.proofs.Basics.{Configuration, Device, End, Entry, HaveInks, InputLine}
-pub use Rattle.nit_hall.proofs.Basics.{IsFirst, IsGlass, IsKnownPass, IsLegalClips, IsOpen, IsRoom}
-pub use Rattle.nit_hall.proofs.Basics.{IsWhole, JournalModel, Line, List, OpeningParts, Painted}
-pub use Rattle.nit_hall.proofs.Basics.{PassModel, RoomModel, SceneModel, ShareModel, Sight, Some}
+pub use Rattle.nit_hall.proofs.Basics.{AllServed, AreBlank, AreDone, AreSplitOff, BookModel}
+pub use Rattle.nit_hall.proofs.Basics.{ClipPassModel, Configuration, Device, End, Entry, HaveInks}
+pub use Rattle.nit_hall.proofs.Basics.{InputLine, IsDoneUser, IsFirst, IsGlass, IsKnownPass}
+pub use Rattle.nit_hall.proofs.Basics.{IsLegalClips, IsOpen, IsRoom, IsWhole, JournalModel, Line}
+pub use Rattle.nit_hall.proofs.Basics.{List, OpeningParts, Painted, PassModel, RoomModel}
+pub use Rattle.nit_hall.proofs.Basics.{SceneModel, ShareModel, Sight, Some, UserHasMet}
 pub use Rattle.nit_hall.proofs.Basics.{UserPassModel, [], ap, ap₂, arith, call_entry, calls_of}
 pub use Rattle.nit_hall.proofs.Basics.{calls_to_make, clip_answer, clip_script_in, clipboard_of}
 pub use Rattle.nit_hall.proofs.Basics.{common_steps, device_entry, drop, drop_all, first_user}
 pub use Rattle.nit_hall.proofs.Basics.{frame, get_or-take, get_or_default, glass_in}
-pub use Rattle.nit_hall.proofs.Basics.{input_phases_before, into_iter_items, knowing, knowing_clip}
-pub use Rattle.nit_hall.proofs.Basics.{length, length-append, length-map, length-replicate, map}
-pub use Rattle.nit_hall.proofs.Basics.{next_call, next_clip, next_device, parts_of, raised}
-pub use Rattle.nit_hall.proofs.Basics.{reader_sight, refl, replay, rest_of, rules, scenery_of}
-pub use Rattle.nit_hall.proofs.Basics.{sight_after_line, slice_get, slice_get_within, slice_index}
-pub use Rattle.nit_hall.proofs.Basics.{source_at, state_now, subst, sum, sym, take, take-set-le}
-pub use Rattle.nit_hall.proofs.Basics.{take_all, user_actions_of, user_actions_to_do, with_entry}
-pub use Rattle.nit_hall.proofs.Basics.{without_final, words_after, words_left_in, ℕ, ◌∙◌}
+pub use Rattle.nit_hall.proofs.Basics.{input_phases_before, into_iter_items, is_input_phase}
+pub use Rattle.nit_hall.proofs.Basics.{is_phase, knowing, knowing_clip, length, length-append}
+pub use Rattle.nit_hall.proofs.Basics.{length-map, length-replicate, map, next_call, next_clip}
+pub use Rattle.nit_hall.proofs.Basics.{next_device, parts_of, raised, reader_sight, refl, replay}
+pub use Rattle.nit_hall.proofs.Basics.{rest_of, rules, scenery_of, sight_after_line, slice_get}
+pub use Rattle.nit_hall.proofs.Basics.{slice_get_within, slice_index, source_at, state_now, subst}
+pub use Rattle.nit_hall.proofs.Basics.{sum, sym, take, take-set-le, take_all, user_actions_of}
+pub use Rattle.nit_hall.proofs.Basics.{user_actions_to_do, with_entry, without_final, words_after}
+pub use Rattle.nit_hall.proofs.Basics.{words_left_in, ℕ, ◌∙◌}
 pub use Rattle.nit_hall.proofs.ClipAlong.{IsKnownClip, clip_counted, clip_met, clip_pass_call}
 pub use Rattle.nit_hall.proofs.ClipAlong.{clip_pass_phase, clips_whole, number_is, served_clip}
 pub use Rattle.nit_hall.proofs.ClipsStay.{follow_on}
@@ -28,7 +30,7 @@ pub use Rattle.nit_hall.proofs.PassCounts.{own_back, own_raised, pass_counted, u
 pub use Rattle.nit_hall.proofs.PassCounts.{user_counted, user_raised}
 pub use Rattle.nit_hall.proofs.PhaseEnds.{deeds_known, deeds_still, few_arrived, pass_phase}
 pub use Rattle.nit_hall.proofs.PhaseEnds.{pass_stroke, phase_small, room_phase, room_user_phase}
-pub use Rattle.nit_hall.proofs.PhaseEnds.{user_open, user_phase, user_phase_small}
+pub use Rattle.nit_hall.proofs.PhaseEnds.{user_open, user_phase}
 pub use Rattle.nit_hall.proofs.RoomEndLemmas.{AreKnown, all_served, booked_still, holds_below}
 pub use Rattle.nit_hall.proofs.RoomEndLemmas.{last_frame, left_of, long_same, met_now, rests_again}
 pub use Rattle.nit_hall.proofs.RoomEndLemmas.{rests_knowing, room_ended, same_sights, step_far}

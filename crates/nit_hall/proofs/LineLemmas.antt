@@ -1,14 +1,15 @@
 -- Scripts line by line: what the lines before the next one are, and what the next one adds.
 use Rattle.nit_hall.proofs.Basics.{Bool, Call, Device, Does, FitsDevice, InputLine, IsDevice, Line}
-use Rattle.nit_hall.proofs.Basics.{List, Shoots, Some, Stroke, [], ap, append-nil, arith}
-use Rattle.nit_hall.proofs.Basics.{calls_from, calls_in, cond, count_by, count_by_more_no}
-use Rattle.nit_hall.proofs.Basics.{count_by_more_yes, done, drop, false, filter, filter-append}
+use Rattle.nit_hall.proofs.Basics.{List, Shoots, Some, [], ap, append-nil, arith, calls_from}
+use Rattle.nit_hall.proofs.Basics.{calls_in, cond, count_by, count_by_more_no, count_by_more_yes}
+use Rattle.nit_hall.proofs.Basics.{done, drop, false, filter, filter-append, get_or}
 use Rattle.nit_hall.proofs.Basics.{get_or_from_slice_get, input_phases_before, is_input_phase}
 use Rattle.nit_hall.proofs.Basics.{is_phase, is_served, length, length-take, lines_to_call}
-use Rattle.nit_hall.proofs.Basics.{next_phase, phases_before, served, slice_get_within, sum_by-cons}
-use Rattle.nit_hall.proofs.Basics.{take_more, user_actions_from, user_actions_in}
-use Rattle.std.proofs.Common.{length-append, refl, slice_get, suc, sym, take, true, zero, ℕ, ◌++◌}
-use Rattle.std.proofs.Common.{◌+◌, ◌∙◌, ◌∷◌, ◌≡◌, ◌≤◌}
+use Rattle.nit_hall.proofs.Basics.{next_phase, phases_before, served, slice_get-get_or}
+use Rattle.nit_hall.proofs.Basics.{slice_get_within, sum_by-cons, take_more, user_actions_from}
+use Rattle.nit_hall.proofs.Basics.{user_actions_in}
+use Rattle.std.proofs.Common.{◌<◌, length-append, refl, slice_get, suc, sym, take, true, zero, ℕ}
+use Rattle.std.proofs.Common.{◌++◌, ◌+◌, ◌∙◌, ◌∷◌, ◌≡◌, ◌≤◌}
 use Rattle.nit_events.specs.declared.device.Device.TheVariants as device
 use Rattle.nit_script.specs.declared.line.Line.TheVariants as line
 use Rattle.nit_script.specs.declared.line.InputLine.TheVariants as inputs
@@ -19,6 +20,11 @@ pub take_line : {X : Type 0} (xs : List X) (k : ℕ) (x : X) → slice_get xs k 
     → take (k + 1) xs ≡ take k xs ++ x ∷ []
 take_line xs k x at = take_more xs k x (slice_get_within xs k x at)
     ∙ ap (λ y. take k xs ++ y ∷ []) (get_or_from_slice_get xs k x x at)
+
+-- within a list there is an element
+pub item_there : {X : Type 0} (xs : List X) (k : ℕ) → k < length xs → (x : X) × (slice_get xs k ≡ Some x)
+item_there [] k h = absurd (omega arith)
+item_there (x ∷ xs) k h = (get_or (x ∷ xs) k x, slice_get-get_or (x ∷ xs) k x h)
 
 -- those of the first n that pass are the first so many that pass
 pub front_filter : {X : Type 0} (p : X → Bool) (n : ℕ) (xs : List X)

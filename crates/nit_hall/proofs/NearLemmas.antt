@@ -1,12 +1,11 @@
 -- What each pixel may hold, after one more entry.
-use Rattle.nit_hall.proofs.Basics.{Agrees, AreNear, Bare, Black, Call, Configuration, Entry}
-use Rattle.nit_hall.proofs.Basics.{EntryLaws, IfSome, IsInked, IsLegal, IsNear, IsNearBy}
-use Rattle.nit_hall.proofs.Basics.{IsWordOfScripts, IsWordOfSource, LegalFrom, Line, List, None}
-use Rattle.nit_hall.proofs.Basics.{Option, Painted, PixelSource, Point, Reply, Sight, Some, State}
-use Rattle.nit_hall.proofs.Basics.{Word, [], after, ap, cases_Bool, dirty, false, first_state, ink}
-use Rattle.nit_hall.proofs.Basics.{inl, inr, is_dirtied, pixel, pixel_count, replay, replay_from}
-use Rattle.nit_hall.proofs.Basics.{same_config, script_in, shots, slice_index, slice_index_or}
-use Rattle.nit_hall.proofs.Basics.{source_at, source_of, subst, sym, words_at_call}
+use Rattle.nit_hall.proofs.Basics.{AreNear, Bare, Black, Call, Configuration, Entry, EntryLaws}
+use Rattle.nit_hall.proofs.Basics.{IfSome, IsInked, IsLegal, IsNear, IsNearBy, IsWordOfScripts}
+use Rattle.nit_hall.proofs.Basics.{IsWordOfSource, Line, List, None, Option, Painted, PixelSource}
+use Rattle.nit_hall.proofs.Basics.{Reply, Sight, Some, State, Word, [], after, ap, cases_Bool}
+use Rattle.nit_hall.proofs.Basics.{false, first_state, ink, inl, inr, is_dirtied, pixel}
+use Rattle.nit_hall.proofs.Basics.{pixel_count, replay, same_config, script_in, shots, slice_index}
+use Rattle.nit_hall.proofs.Basics.{slice_index_or, source_at, source_of, subst, sym, words_at_call}
 use Rattle.std.proofs.Common.{true, ℕ, ◌*◌, ◌++◌, ◌+◌, ◌<◌, ◌∙◌, ◌∷◌, ◌≡◌}
 use Rattle.nit_events.specs.declared.entry.Entry.TheVariants as entry
 use Rattle.nit_hall.proofs.LastDirty.{last_is_last, last_before}

@@ -1,8 +1,9 @@
 -- Numbers that never fall.
-use Rattle.std.proofs.Common.{List, [], ap, arith, get_or, length, length-append, refl, subst, ℕ}
-use Rattle.std.proofs.Common.{◌++◌, ◌-◌, ◌+◌, ◌<◌, ◌∙◌, ◌∷◌, ◌≡◌, ◌≤◌}
 use Rattle.nit_hall.proofs.Basics.{IsNonDecreasing, IsNonDecreasingBy-push, IsNonDecreasingBy-take}
-use Rattle.nit_hall.proofs.Basics.{get_or-append_seam, get_or_append_left, take_at}
+use Rattle.nit_hall.proofs.Basics.{List, [], ap, arith, get_or, get_or-append_seam}
+use Rattle.nit_hall.proofs.Basics.{get_or_append_left, length, length-append, refl, subst, take_at}
+use Rattle.nit_hall.proofs.Basics.{ℕ}
+use Rattle.std.proofs.Common.{◌++◌, ◌-◌, ◌+◌, ◌<◌, ◌∙◌, ◌∷◌, ◌≡◌, ◌≤◌}
 
 get_last : (xs : List ℕ) (x d : ℕ) → get_or (xs ++ x ∷ []) (length xs) d ≡ x
 get_last xs x d = get_or-append_seam xs x [] d

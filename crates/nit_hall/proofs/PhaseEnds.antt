@@ -1,16 +1,15 @@
 -- A room and its passes after a stroke, and after the end of a phase.
-use Rattle.nit_hall.proofs.Basics.{AreNear, Bool, Configuration, Entry, IfSome, InputLine, IsLegal}
-use Rattle.nit_hall.proofs.Basics.{IsOpen, IsPaintedTo, IsPass, IsRoom, IsUserPass, Line, List}
-use Rattle.nit_hall.proofs.Basics.{Option, Painting, PassModel, RoomModel, ShareModel, Sight, Some}
-use Rattle.nit_hall.proofs.Basics.{Stroke, UserPassModel, [], after_arrival, after_line, ap}
-use Rattle.nit_hall.proofs.Basics.{append-nil, ap₂, arith, blank, calls_in, calls_of, cases_Bool}
-use Rattle.nit_hall.proofs.Basics.{cond, count_by, count_by-le-length, false, inl}
-use Rattle.nit_hall.proofs.Basics.{input_phases_before, is_input_phase, is_phase, length-take}
-use Rattle.nit_hall.proofs.Basics.{nat_tests, option_map, painted_from, phases_before, raised}
-use Rattle.nit_hall.proofs.Basics.{slice_get_within, slice_index, sum_by_push, user_actions_in}
-use Rattle.nit_hall.proofs.Basics.{user_actions_of, with_words, without_final, words_after}
-use Rattle.std.proofs.Common.{inr, length, refl, slice_get, subst, sym, take, true, ℕ, ◌++◌, ◌+◌}
-use Rattle.std.proofs.Common.{◌<◌, ◌==◌, ◌∙◌, ◌∷◌, ◌≡◌, ◌≤◌}
+use Rattle.nit_hall.proofs.Basics.{Bool, Entry, IfSome, InputLine, IsOpen, IsPaintedTo, IsPass}
+use Rattle.nit_hall.proofs.Basics.{IsRoom, IsUserPass, Line, List, Option, Painting, PassModel}
+use Rattle.nit_hall.proofs.Basics.{RoomModel, ShareModel, Sight, Some, Stroke, UserPassModel}
+use Rattle.nit_hall.proofs.Basics.{after_arrival, after_line, ap, append-nil, ap₂, arith, blank}
+use Rattle.nit_hall.proofs.Basics.{calls_in, calls_of, cond, count_by, count_by-le-length, false}
+use Rattle.nit_hall.proofs.Basics.{inl, input_phases_before, is_input_phase, is_phase, length-take}
+use Rattle.nit_hall.proofs.Basics.{option_map, painted_from, phases_before, raised}
+use Rattle.nit_hall.proofs.Basics.{slice_get_within, slice_index, user_actions_in, user_actions_of}
+use Rattle.nit_hall.proofs.Basics.{with_words, without_final, words_after}
+use Rattle.std.proofs.Common.{inr, length, refl, slice_get, subst, sym, take, true, ℕ, ◌+◌, ◌<◌}
+use Rattle.std.proofs.Common.{◌==◌, ◌∙◌, ◌≡◌, ◌≤◌}
 use Rattle.nit_script.specs.declared.line.Line.TheVariants as line
 use Rattle.nit_script.specs.declared.line.InputLine.TheVariants as inputs
 use Rattle.nit_hall.proofs.LineLemmas.{counted_more, counted_same, served_counted, unserved_line}
@@ -22,27 +21,10 @@ use Rattle.nit_hall.proofs.ServedCalls.{still_open}
 
 -- ---- phases
 
-pub phase_small : (script : List Line) (k : ℕ) (l : Line) → slice_get script k ≡ Some l → length script ≤ 65536
-    → phases_before script k < 65536
-phase_small script k l at most = let w =
-    slice_get_within script k l at in omega (
-      arith,
-      w,
-      most,
-      count_by-le-length is_phase (take k script),
-      length-take k script,
-    )
-
-pub user_phase_small : (script : List InputLine) (k : ℕ) (l : InputLine) → slice_get script k ≡ Some l
-    → length script ≤ 65536 → input_phases_before script k < 65536
-user_phase_small script k l at most = let w =
-    slice_get_within script k l at in omega (
-      arith,
-      w,
-      most,
-      count_by-le-length is_input_phase (take k script),
-      length-take k script,
-    )
+pub phase_small : {X : Type 0} (p : X → Bool) (script : List X) (k : ℕ) (l : X) → slice_get script k ≡ Some l
+    → length script ≤ 65536 → count_by p (take k script) < 65536
+phase_small p script k l at most =
+    omega (arith, slice_get_within script k l at, most, count_by-le-length p (take k script), length-take k script)
 
 pub not_back : (clients phase arrived : ℕ) → phase ≤ (after_arrival clients phase arrived).0
 not_back clients phase arrived = go (arrived == clients)

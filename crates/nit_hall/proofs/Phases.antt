@@ -5,7 +5,7 @@ use Rattle.nit_hall.proofs.Basics.{count_by-le-length, eq-eqb, eqb-true, false, 
 use Rattle.nit_hall.proofs.Basics.{get_or-set_same, inl, input_phases_before, inr, is_phase}
 use Rattle.nit_hall.proofs.Basics.{is_served, length, length-set, nat_tests, ne_eqb, phases_before}
 use Rattle.nit_hall.proofs.Basics.{phases_ended, raised, refl, script_in, served, set, set-get_or}
-use Rattle.nit_hall.proofs.Basics.{slice_get_within, slice_index, subst, suc, sum_by, sum_by-set}
+use Rattle.nit_hall.proofs.Basics.{slice_index, subst, suc, sum_by, sum_by-set}
 use Rattle.std.proofs.Common.{sym, take, true, zero, ℕ, ◌+◌, ◌<◌, ◌==◌, ◌∙◌, ◌∷◌, ◌≡◌, ◌≤◌, ◌⊎◌}
 use Rattle.nit_script.specs.declared.line.Line.TheVariants as line
 use Rattle.nit_hall.proofs.LineLemmas.{count_cons, front_filter}
@@ -191,9 +191,7 @@ one_more_ended clients phase arrived xs i long inside at is =
           let full : count_by (λ n. n == phase + 1) ys ≡ length ys = omega (arith, more, counted, all, many, long) in
           let there : (k : ℕ) → k < length ys → slice_index ys k ≡ phase + 1 =
           λ k h. eqb-true (slice_index ys k) (phase + 1) (all_pass (λ n. n == phase + 1) ys full k h) in
-          subst (λ (b : Bool). let x = cond {A = ℕ × ℕ} b (phase + 1, 0) (phase, arrived + 1) in IsServedPhase x.0 x.1
-          ys) (sym last)
-          (record {
+          rw last (record {
             each = λ k h. inl (there k h);
             counted = sym (none_pass (λ n. n == phase + 1 + 1) ys
                 (λ k h. ne_eqb (slice_index ys k) (phase + 1 + 1) (λ e. let a = there k h in let b : slice_index ys k
@@ -201,9 +199,7 @@ one_more_ended clients phase arrived xs i long inside at is =
             some_left = omega (arith, many, inside);
           })
       | inr not_last ↦
-          subst (λ (b : Bool). let x = cond {A = ℕ × ℕ} b (phase + 1, 0) (phase, arrived + 1) in IsServedPhase x.0 x.1
-          ys) (sym not_last)
-          (record {
+          rw not_last (record {
             each = each_one_more phase xs i inside is.each;
             counted = omega (arith, more, counted);
             some_left = let below : arrived + 1 < clients + 1 =

@@ -1,23 +1,21 @@
 -- Passes that are done, and the last picture.
-use Rattle.nit_hall.proofs.Basics.{AllServed, AreDone, AreNear, Bare, Black, Bool, Configuration}
-use Rattle.nit_hall.proofs.Basics.{End, Entry, EntryLaws, Follows, HasMet, HaveInks, IsDonePass}
-use Rattle.nit_hall.proofs.Basics.{IsGlass, IsInked, IsKnownPass, IsLegal, IsLoaded, IsOpen}
-use Rattle.nit_hall.proofs.Basics.{IsPaintedTo, IsRoom, IsTrue, IsWordOfSource, Line, List}
-use Rattle.nit_hall.proofs.Basics.{OpeningParts, Option, Painted, Painting, PassModel, PassRest}
-use Rattle.nit_hall.proofs.Basics.{PixelSource, RoomModel, SceneModel, Sight, Some, State, Word, []}
-use Rattle.nit_hall.proofs.Basics.{ap, append-nil, ap₂, arith, blank, cases_eq, cases_lt}
+use Rattle.nit_hall.proofs.Basics.{AllServed, AreDone, Bare, Black, Bool, Configuration, End, Entry}
+use Rattle.nit_hall.proofs.Basics.{EntryLaws, Follows, HasMet, HaveInks, IsDonePass, IsGlass}
+use Rattle.nit_hall.proofs.Basics.{IsInked, IsKnownPass, IsLoaded, IsOpen, IsRoom, IsTrue}
+use Rattle.nit_hall.proofs.Basics.{IsWordOfSource, Line, List, Painted, Painting, PassModel}
+use Rattle.nit_hall.proofs.Basics.{PassRest, PixelSource, RoomModel, SceneModel, Sight, Some, State}
+use Rattle.nit_hall.proofs.Basics.{Word, [], ap, append-nil, ap₂, arith, blank, cases_eq, cases_lt}
 use Rattle.nit_hall.proofs.Basics.{donation_of, drop, eqb-true, false, frame, get_or}
 use Rattle.nit_hall.proofs.Basics.{get_or-map-range_with_len, get_or_from_slice_get, get_or_past}
-use Rattle.nit_hall.proofs.Basics.{glass_in, ink, inl, inr, knowing, left_word, length}
-use Rattle.nit_hall.proofs.Basics.{length-append, length-map, map, map_over_more, no_sight}
-use Rattle.nit_hall.proofs.Basics.{option_map, painted_from, pixel_count, range_with_len, refl}
-use Rattle.nit_hall.proofs.Basics.{rest_of, same_Some, same_frame, scenery_of, script_in, served}
-use Rattle.nit_hall.proofs.Basics.{set, slice_get, slice_get-get_or, slice_get-map, slice_get_read}
-use Rattle.nit_hall.proofs.Basics.{slice_index, source_at, state_now, subst, table_size, take_all}
-use Rattle.nit_hall.proofs.Basics.{without_final, words_after, words_left, words_left_in, zero_at}
-use Rattle.std.proofs.Common.{suc, sym, take, true, zero, zero-add, ℕ, ◌++◌, ◌+◌, ◌-◌, ◌<◌, ◌==◌}
-use Rattle.std.proofs.Common.{◌||◌, ◌∙◌, ◌∷◌, ◌≡◌, ◌≤◌}
-use mathlib.Core.List.{IsPrefix}
+use Rattle.nit_hall.proofs.Basics.{glass_in, ink, inl, inr, knowing, left_word, length, length-map}
+use Rattle.nit_hall.proofs.Basics.{map, map_over_more, no_sight, option_map, painted_from}
+use Rattle.nit_hall.proofs.Basics.{pixel_count, range_with_len, refl, rest_of, same_Some}
+use Rattle.nit_hall.proofs.Basics.{same_frame, scenery_of, script_in, served, set, slice_get}
+use Rattle.nit_hall.proofs.Basics.{slice_get-get_or, slice_get-map, slice_get_read, slice_index}
+use Rattle.nit_hall.proofs.Basics.{source_at, state_now, subst, table_size, take_all, without_final}
+use Rattle.nit_hall.proofs.Basics.{words_after, words_left, words_left_in, zero_at}
+use Rattle.std.proofs.Common.{suc, sym, take, true, zero, zero-add, ℕ, ◌++◌, ◌+◌, ◌<◌, ◌==◌, ◌||◌}
+use Rattle.std.proofs.Common.{◌∙◌, ◌∷◌, ◌≡◌, ◌≤◌}
 use Rattle.nit_events.specs.declared.entry.Entry.TheVariants as entry
 use Rattle.nit_hall.proofs.FinalEntries.{without-append}
 use Rattle.nit_hall.proofs.NearLemmas.{AreInks, told_word}
@@ -205,11 +203,6 @@ sights_knowing : (known : List Entry) (ps : List PassModel)
 sights_knowing known [] = refl
 sights_knowing known (p ∷ ps) = ap (λ (gs : List Sight). p.sight ∷ gs) (sights_knowing known ps)
 
-tables_of : {r : RoomModel} {ps : List PassModel} → AreKnown r ps → (t : ℕ) → t < length r.parts.scripts
-    → IsGlass r.parts.config t (glass_in (map (λ (q : PassModel). q.sight) ps) t)
-tables_of {r = r} are t h = let there = pass_there t are h in
-    subst (λ (g : Sight). IsGlass r.parts.config t g) (sym there.sight) there.known.glass
-
 inks_of : {r : RoomModel} {ps : List PassModel} → AreKnown r ps
     → AreInks r.parts.scripts (glass_in (map (λ (q : PassModel). q.sight) ps))
 inks_of {r = r} {ps = ps} are t = elim (cases_lt t (length r.parts.scripts)) [
@@ -255,7 +248,9 @@ pub tables_settled : {r : RoomModel} {ps₀ : List PassModel} (ps : List PassMod
     → map (λ (p : PassModel). p.sight) ps ≡ map (λ (p : PassModel). p.sight) ps₀ → (t : ℕ)
     → t < length r.parts.scripts → IsGlass r.parts.config t (glass_in (map (λ (p : PassModel). p.sight) ps) t)
 tables_settled {r = r} ps are same t h =
-    subst (λ (gs : List Sight). IsGlass r.parts.config t (glass_in gs t)) (sym same) (tables_of are t h)
+    let there = pass_there t are h in
+    subst (λ (g : Sight). IsGlass r.parts.config t g)
+    (sym (ap (λ (gs : List Sight). glass_in gs t) same ∙ there.sight)) there.known.glass
 
 -- the left side of an equation
 abbrev pub left_of : {X : Type 0} {x y : X} → x ≡ y → X

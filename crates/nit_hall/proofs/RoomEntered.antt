@@ -1,5 +1,5 @@
 -- The room after a line that put an entry into the journal, part by part.
-use Rattle.std.proofs.Common.{[], drop, take, ℕ, ◌++◌, ◌-◌, ◌∙◌, ◌∷◌, ◌≡◌}
+use Rattle.std.proofs.Common.{drop, take, ℕ, ◌∙◌, ◌≡◌}
 use Rattle.nit_hall.proofs.RoomSteps.{IsAdded}
 use Rattle.nit_hall.proofs.Basics.{BookModel, End, Entry, RoomModel, SceneModel, raised, with_entry}
 

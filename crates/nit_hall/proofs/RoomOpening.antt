@@ -3,22 +3,22 @@ use Rattle.nit_hall.proofs.Basics.{AreBlank, AreNear, AreSplitOff, BookModel, Bo
 use Rattle.nit_hall.proofs.Basics.{ClipModel, ClipPassModel, Configuration, End, Entry, Follows}
 use Rattle.nit_hall.proofs.Basics.{FollowsClips, HaveInks, IfSome, InputLine, IsDonation, IsFirst}
 use Rattle.nit_hall.proofs.Basics.{IsGlass, IsLegalClips, IsNearBy, IsPass, IsPlanOf, IsRoom}
-use Rattle.nit_hall.proofs.Basics.{IsSetting, Line, List, Member, OpeningParts, Option, Painting}
-use Rattle.nit_hall.proofs.Basics.{PassModel, PixelSource, PlanModel, RoomModel, ShareModel, Sight}
-use Rattle.nit_hall.proofs.Basics.{Some, [], ap, append_assoc, arith, bare_everywhere, bare_word}
-use Rattle.nit_hall.proofs.Basics.{calls_in, calls_of, cases_lt, clip_calls_in, clip_script_in}
-use Rattle.nit_hall.proofs.Basics.{donation_of, drop, drop_at, false, first_pass, get_or}
-use Rattle.nit_hall.proofs.Basics.{get_or-replicate, get_or_default, get_or_from_slice_get}
-use Rattle.nit_hall.proofs.Basics.{get_or_past, glass_in, ink, inl, inr, length, length-map}
-use Rattle.nit_hall.proofs.Basics.{length-replicate, lines_of_all, lines_of_clips, map, new_sight}
-use Rattle.nit_hall.proofs.Basics.{no_sight, none-some, option_map, painted_from, parts_of}
-use Rattle.nit_hall.proofs.Basics.{phases_before, pixel, plan_in, reader_sight, refl, replicate}
-use Rattle.nit_hall.proofs.Basics.{replicate-append-replicate, replicate_more, same_Some, script_in}
-use Rattle.nit_hall.proofs.Basics.{served, slice_get, slice_get-get_or, slice_get-map, slice_index}
-use Rattle.nit_hall.proofs.Basics.{slice_index_or, subst, suc, sum, sum_by-cons, sym, table_size}
-use Rattle.nit_hall.proofs.Basics.{take, take_all, take_at, user_actions_in, with_clip_scripts}
-use Rattle.nit_hall.proofs.Basics.{words_after}
+use Rattle.nit_hall.proofs.Basics.{IsSetting, Line, List, Member, OpeningParts, Option, PassModel}
+use Rattle.nit_hall.proofs.Basics.{PixelSource, PlanModel, RoomModel, ShareModel, Sight, Some, []}
+use Rattle.nit_hall.proofs.Basics.{ap, append_assoc, arith, bare_everywhere, bare_word, calls_in}
+use Rattle.nit_hall.proofs.Basics.{calls_of, cases_lt, clip_calls_in, clip_script_in, donation_of}
+use Rattle.nit_hall.proofs.Basics.{drop, drop_at, false, first_pass, get_or, get_or-replicate}
+use Rattle.nit_hall.proofs.Basics.{get_or_default, get_or_from_slice_get, get_or_past, glass_in}
+use Rattle.nit_hall.proofs.Basics.{ink, inl, inr, length, length-map, length-replicate}
+use Rattle.nit_hall.proofs.Basics.{lines_of_all, lines_of_clips, map, new_sight, no_sight}
+use Rattle.nit_hall.proofs.Basics.{none-some, option_map, parts_of, phases_before, pixel, plan_in}
+use Rattle.nit_hall.proofs.Basics.{reader_sight, refl, replicate, replicate_more, same_Some}
+use Rattle.nit_hall.proofs.Basics.{script_in, served, slice_get, slice_get-get_or, slice_get-map}
+use Rattle.nit_hall.proofs.Basics.{slice_index, slice_index_or, subst, suc, sum, sum_by-cons, sym}
+use Rattle.nit_hall.proofs.Basics.{table_size, take, take_all, take_at, user_actions_in}
+use Rattle.nit_hall.proofs.Basics.{with_clip_scripts, words_after}
 use Rattle.std.proofs.Common.{zero, ℕ, ⊎_elim, ◌*◌, ◌++◌, ◌+◌, ◌<◌, ◌∙◌, ◌∷◌, ◌≡◌, ◌≤◌, ◌⊎◌}
+use Rattle.nit_hall.proofs.LineLemmas.{item_there}
 use Rattle.nit_hall.proofs.Phases.{phases_begun}
 
 pub near_begun : (config : Configuration) (scripts : List (List Line))
@@ -29,16 +29,12 @@ near_begun config scripts k inside =
     (sym (bare_everywhere config (pixel config.width k)))
     (get_or-replicate (config.width * config.height) k bare_word 0 inside)
 
-begun_calls : (counts : List ℕ) (scripts : List (List Line)) → ((k : ℕ) → slice_index counts k ≡ 0) → (t : ℕ)
-    → [] ≡ calls_in (take (slice_index counts t) (served (script_in scripts t)))
-begun_calls counts scripts none t = sym (ap (λ (n : ℕ). calls_in (take n (served (script_in scripts t)))) (none t))
-
 pub follows_begun : (scripts : List (List Line)) (input : List InputLine) (counts : List ℕ)
     → length counts ≡ length scripts + 1 → ((k : ℕ) → slice_index counts k ≡ 0) → Follows scripts input counts 0 []
 follows_begun scripts input counts long none =
     record {
       each = long;
-      calls = λ t within. begun_calls counts scripts none t;
+      calls = λ t within. sym (ap (λ (n : ℕ). calls_in (take n (served (script_in scripts t)))) (none t));
       deeds = sym (ap (λ (n : ℕ). user_actions_in (take n input)) (none (length scripts)));
       phases = one;
       few = λ t within. let z = none t in omega (arith, z);
@@ -203,18 +199,12 @@ zeros_push n m cs ds is all more = is ∙ ap (λ (xs : List ℕ). xs ++ 0 ∷ []
 
 -- ---- the readers' ends
 
-canvas_at : (config : Configuration) (plans : List PlanModel) (canvases : List End) (t : ℕ)
-    → AreBlank config plans canvases → t < length config.clients → (c : End) × (slice_get canvases t ≡ Some c)
-canvas_at config plans [] t b h = absurd (let n = b.canvas_each in omega (arith, n, h))
-canvas_at config plans (c ∷ cs) t b h =
-    (get_or (c ∷ cs) t c, slice_get-get_or (c ∷ cs) t c (let n = b.canvas_each in omega (arith, n, h)))
-
 lens_at : (config : Configuration) (plans : List PlanModel) (canvases lenses : List End) (t : ℕ)
     → AreBlank config plans canvases → AreSplitOff canvases lenses → t < length config.clients
     → glass_in (map (λ (e : End). e.sight) lenses) t
     ≡ reader_sight (new_sight t (table_size (donation_of config t)) (plan_in plans t).ink)
 lens_at config plans canvases lenses t b are h =
-    let at = canvas_at config plans canvases t b h in
+    let at = item_there canvases t (let n = b.canvas_each in omega (arith, n, h)) in
     ap (λ (gs : List Sight). glass_in gs t) are.sights
     ∙ get_or_from_slice_get (map (λ (e : End). reader_sight e.sight) canvases) t (reader_sight at.0.sight) no_sight
     (slice_get-map (λ (e : End). reader_sight e.sight) canvases t

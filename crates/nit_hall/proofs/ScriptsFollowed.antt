@@ -16,7 +16,6 @@ use Rattle.std.proofs.Common.{refl, slice_get, subst, suc, sym, take, true, zero
 use Rattle.std.proofs.Common.{◌∙◌, ◌∷◌, ◌≡◌, ◌≢◌, ◌≤◌}
 use Rattle.nit_events.specs.declared.entry.Entry.TheVariants as entry
 use Rattle.nit_script.specs.declared.line.Line.TheVariants as line
-use Rattle.nit_script.specs.declared.line.InputLine.TheVariants as inputs
 use Rattle.nit_hall.proofs.LineLemmas.{front_filter, front_short, served_counted, calls_front}
 use Rattle.nit_hall.proofs.LineLemmas.{calls_served, calls_line, calls_append, phase_of_call}
 use Rattle.nit_hall.proofs.LineLemmas.{deeds_append, deeds_line, deeds_done, phase_of_deed}

@@ -1,18 +1,16 @@
 -- A room and a pass after a call.
-use Rattle.nit_hall.proofs.Basics.{AreNear, Belongs, Call, Configuration, End, Entry, EntryLaws}
-use Rattle.nit_hall.proofs.Basics.{Follows, HasMet, IsAtCall, IsLegal, IsOpen, IsPaintedTo, IsPass}
-use Rattle.nit_hall.proofs.Basics.{IsRoom, Line, List, OpeningParts, Painted, PassModel, PlanModel}
-use Rattle.nit_hall.proofs.Basics.{Reply, RoomModel, SceneModel, ShareModel, Sight, Some, [], after}
-use Rattle.nit_hall.proofs.Basics.{ap, ap₂, arith, calls_in, calls_of, calls_own, cases_eq, cond}
-use Rattle.nit_hall.proofs.Basics.{count_by, donation_of, eq-eqb, first_state}
-use Rattle.nit_hall.proofs.Basics.{get_or_from_slice_get, glass_in, glasses_of_call, ink, inl, inr}
-use Rattle.nit_hall.proofs.Basics.{is_phase, is_served, knowing, length, length-append}
-use Rattle.nit_hall.proofs.Basics.{lines_to_call, map, ne_eqb, next_call, option_map, phases_before}
-use Rattle.nit_hall.proofs.Basics.{raised, replay, script_in, seen, serve, served, session}
-use Rattle.nit_hall.proofs.Basics.{slice_get_within, slice_index, state_now, sum_by_push}
-use Rattle.nit_hall.proofs.Basics.{with_words, without_final, words_after, words_at_call}
-use Rattle.std.proofs.Common.{refl, slice_get, subst, sym, take, true, ℕ, ◌++◌, ◌+◌, ◌-◌, ◌∙◌, ◌∷◌}
-use Rattle.std.proofs.Common.{◌≡◌, ◌≢◌, ◌≤◌}
+use Rattle.nit_hall.proofs.Basics.{Belongs, Call, Configuration, End, Entry, EntryLaws, Follows}
+use Rattle.nit_hall.proofs.Basics.{HasMet, IsAtCall, IsOpen, IsPaintedTo, IsPass, IsRoom, Line}
+use Rattle.nit_hall.proofs.Basics.{List, OpeningParts, Painted, PassModel, PlanModel, Reply}
+use Rattle.nit_hall.proofs.Basics.{RoomModel, SceneModel, ShareModel, Sight, Some, [], ap, ap₂}
+use Rattle.nit_hall.proofs.Basics.{arith, calls_in, calls_of, calls_own, cases_eq, donation_of}
+use Rattle.nit_hall.proofs.Basics.{eq-eqb, get_or_from_slice_get, glass_in, glasses_of_call, ink}
+use Rattle.nit_hall.proofs.Basics.{inl, inr, is_phase, is_served, knowing, length, lines_to_call}
+use Rattle.nit_hall.proofs.Basics.{map, ne_eqb, next_call, option_map, phases_before, raised}
+use Rattle.nit_hall.proofs.Basics.{script_in, seen, served, slice_get_within, slice_index}
+use Rattle.nit_hall.proofs.Basics.{state_now, with_words, without_final, words_after, words_at_call}
+use Rattle.std.proofs.Common.{refl, slice_get, subst, sym, take, true, ℕ, ◌++◌, ◌+◌, ◌∙◌, ◌∷◌, ◌≡◌}
+use Rattle.std.proofs.Common.{◌≢◌}
 use Rattle.nit_events.specs.declared.entry.Entry.TheVariants as entry
 use Rattle.nit_script.specs.declared.line.Line.TheVariants as line
 use Rattle.nit_hall.proofs.LineLemmas.{counted_same, served_counted, calls_front, calls_line}
@@ -99,7 +97,7 @@ inks_after scripts old new sid own own' inks were idle t = elim (cases_eq t sid)
 
 -- ---- the room after it
 
-abbrev sights : SceneModel End → List Sight
+abbrev pub sights : SceneModel End → List Sight
 sights scene = map (λ e. e.sight) scene.glasses
 
 -- what the scene promises of a call

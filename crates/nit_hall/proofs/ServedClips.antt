@@ -1,21 +1,18 @@
 -- A room and a clip pass after a clip call, and clip passes that are done.
-use Rattle.nit_hall.proofs.Basics.{AllByRecursion, AreInPhases, AreTogether, Belongs, Call}
-use Rattle.nit_hall.proofs.Basics.{CallLaws, ClipBelongs, ClipCall, ClipEntry, ClipLine}
-use Rattle.nit_hall.proofs.Basics.{ClipPassModel, ClipReply, Configuration, Entry, FollowsClips}
-use Rattle.nit_hall.proofs.Basics.{IsAtClip, IsAtPhaseEnd, IsInPhase, IsLegalClips, IsOpen, IsRoom}
-use Rattle.nit_hall.proofs.Basics.{List, PassModel, RoomModel, Some, UserAction, [], ap, ap₂, arith}
-use Rattle.nit_hall.proofs.Basics.{calls_in, calls_of, calls_to_make, calls_up_to, cases_eq}
-use Rattle.nit_hall.proofs.Basics.{clip_answer, clip_calls_in, clip_calls_of, clip_entry}
+use Rattle.nit_hall.proofs.Basics.{AllByRecursion, AreTogether, Belongs, Call, CallLaws}
+use Rattle.nit_hall.proofs.Basics.{ClipBelongs, ClipCall, ClipLine, ClipPassModel, ClipReply}
+use Rattle.nit_hall.proofs.Basics.{Configuration, Entry, FollowsClips, IsAtClip, IsAtPhaseEnd}
+use Rattle.nit_hall.proofs.Basics.{IsInPhase, IsOpen, IsRoom, List, PassModel, RoomModel, [], ap}
+use Rattle.nit_hall.proofs.Basics.{ap₂, arith, calls_in, calls_of, calls_to_make, calls_up_to}
+use Rattle.nit_hall.proofs.Basics.{cases_eq, clip_answer, clip_calls_in, clip_calls_of, clip_entry}
 use Rattle.nit_hall.proofs.Basics.{clip_phases_before, clip_script_in, clipboard_of, clips_to_do}
-use Rattle.nit_hall.proofs.Basics.{clips_to_make, count_by, drop, get_or_from_slice_get, inl, inr}
-use Rattle.nit_hall.proofs.Basics.{is_clip_phase, left_after, length, length-append, length-set}
-use Rattle.nit_hall.proofs.Basics.{lines_of_clips, map, next_clip, next_phase, phases_along}
-use Rattle.nit_hall.proofs.Basics.{phases_before, raised, refl, replay, script_in, served}
-use Rattle.nit_hall.proofs.Basics.{slice_get, slice_get_within, slice_index, state_now, subst, sum}
-use Rattle.nit_hall.proofs.Basics.{sum_by-cons, take_all, to_do, user_actions_to_do, with_clip}
-use Rattle.nit_hall.proofs.Basics.{without_final}
-use Rattle.std.proofs.Common.{suc, sym, take, zero, ℕ, ◌++◌, ◌+◌, ◌-◌, ◌<◌, ◌∙◌, ◌∷◌, ◌≡◌, ◌≤◌}
-use Rattle.nit_clip.specs.declared.line.ClipLine.TheVariants as line
+use Rattle.nit_hall.proofs.Basics.{clips_to_make, drop, get_or_from_slice_get, inl, inr, left_after}
+use Rattle.nit_hall.proofs.Basics.{length, length-append, length-set, lines_of_clips, map}
+use Rattle.nit_hall.proofs.Basics.{next_clip, next_phase, phases_along, phases_before, raised, refl}
+use Rattle.nit_hall.proofs.Basics.{replay, script_in, served, slice_get_within, slice_index}
+use Rattle.nit_hall.proofs.Basics.{state_now, subst, sum, sum_by-cons, take_all, to_do}
+use Rattle.nit_hall.proofs.Basics.{user_actions_to_do, with_clip, without_final}
+use Rattle.std.proofs.Common.{suc, sym, take, ℕ, ◌++◌, ◌+◌, ◌<◌, ◌∙◌, ◌∷◌, ◌≡◌, ◌≤◌}
 use Rattle.nit_hall.proofs.LineLemmas.{front_short}
 use Rattle.nit_hall.proofs.FinalEntries.{open_whole}
 use Rattle.nit_hall.proofs.ScriptsFollowed.{raised_at, raised_other, sum_raised, made_of}
@@ -39,8 +36,17 @@ pub record FoundClip (r : RoomModel) (p : PassModel) (q : ClipPassModel) : Type 
   pub phase_is : p.phase ≡ phases_before p.script p.next
   pub clip_phase_is : q.phase ≡ clip_phases_before q.script q.next
 
-sum_more : (n : ℕ) (ns : List ℕ) → sum (n ∷ ns) ≡ n + sum ns
-sum_more n ns = sum_by-cons (λ (x : ℕ). x) n ns
+counts_most : (scripts : List (List ClipLine)) (counts : List ℕ) → length counts ≡ length scripts
+    → ((t : ℕ) → slice_index counts t ≤ length (clip_script_in scripts t)) → sum counts ≤ lines_of_clips scripts
+counts_most [] [] long few = omega arith
+counts_most [] (c ∷ counts) long few = absurd (omega (arith, long))
+counts_most (s ∷ scripts) [] long few = absurd (omega (arith, long))
+counts_most (s ∷ scripts) (c ∷ counts) long few =
+    let rest = counts_most scripts counts (omega (arith, long)) (λ t. few (suc t)) in
+    let here : c ≤ length s = few 0 in
+    let a = sum_by-cons (λ (x : ℕ). x) c counts in
+    let b = sum_by-cons (λ (x : ℕ). x) (length s) (map length scripts) in
+    omega (arith, rest, here, a, b)
 
 module _ (laws : CallLaws) {r : RoomModel} {p : PassModel} {q : ClipPassModel} (room : IsRoom r) (f : FoundClip r p q)
   where
@@ -116,44 +122,23 @@ module _ (laws : CallLaws) {r : RoomModel} {p : PassModel} {q : ClipPassModel} (
         → IsInPhase (map calls_to_make r.parts.scripts) (user_actions_to_do r.parts.input) r.scene.entries
         (next_phase (clips_to_do (left_after (map clips_to_make r.parts.clips) r.clips.entries) q.sid))
         (clip_entry r q reply)
-    in_phase reply =
-        subst (λ (n : ℕ). IsInPhase (map calls_to_make r.parts.scripts) (user_actions_to_do r.parts.input)
-        r.scene.entries
-        n (clip_entry r q reply)) (sym next_in)
-        (record { behind = let e = called in omega (arith, e); before = phases_so_far })
+    in_phase reply = rw next_in (record { behind = let e = called in omega (arith, e); before = phases_so_far })
+
+    few_then : (t : ℕ) → slice_index (raised r.clip_counts q.sid) t ≤ length
+        (clip_calls_in (clip_script_in r.parts.clips t))
+    few_then t = elim (cases_eq t q.sid) [
+      | inl e ↦ rw (e, script_is) one_left
+      | inr ne ↦ omega (arith, raised_other r.clip_counts q.sid t ne, room.clips_follow.few t)
+    ]
 
     -- there is room
     pub room_left : 1 ≤ r.clips.spare
     room_left =
-        let below = counts_below r.parts.clips r.clip_counts q.sid room.clips_follow.each
-        (λ t. omega (arith, room.clips_follow.few t, clips_short (clip_script_in r.parts.clips t)))
-        (omega (arith, one_left, clips_short q.script, raised_at r.clip_counts q.sid inside, ap length script_is)) in
+        let most = counts_most r.parts.clips (raised r.clip_counts q.sid)
+        (length-set r.clip_counts q.sid (slice_index r.clip_counts q.sid + 1) ∙ room.clips_follow.each)
+        (λ t. omega (arith, few_then t, clips_short (clip_script_in r.parts.clips t))) in
         let sum = room.clips_follow.room in
-        omega (arith, below, sum)
-      where
-        counts_most : (scripts : List (List ClipLine)) (counts : List ℕ) → length counts ≡ length scripts
-            → ((t : ℕ) → slice_index counts t ≤ length (clip_script_in scripts t)) → sum counts ≤ lines_of_clips scripts
-        counts_most [] [] long few = omega arith
-        counts_most [] (c ∷ counts) long few = absurd (omega (arith, long))
-        counts_most (s ∷ scripts) [] long few = absurd (omega (arith, long))
-        counts_most (s ∷ scripts) (c ∷ counts) long few =
-            let rest = counts_most scripts counts (omega (arith, long)) (λ t. few (suc t)) in
-            let here : c ≤ length s = few 0 in
-            omega (arith, rest, here, sum_more c counts, sum_more (length s) (map length scripts))
-
-        counts_below : (scripts : List (List ClipLine)) (counts : List ℕ) (t : ℕ) → length counts ≡ length scripts
-            → ((t : ℕ) → slice_index counts t ≤ length (clip_script_in scripts t))
-            → slice_index counts t + 1 ≤ length (clip_script_in scripts t) → sum counts + 1 ≤ lines_of_clips scripts
-        counts_below [] counts t long few one = absurd (omega (arith, one))
-        counts_below (s ∷ scripts) [] t long few one = absurd (omega (arith, long))
-        counts_below (s ∷ scripts) (c ∷ counts) zero long few one =
-            let rest = counts_most scripts counts (omega (arith, long)) (λ t. few (suc t)) in
-            let here : c + 1 ≤ length s = one in
-            omega (arith, rest, here, sum_more c counts, sum_more (length s) (map length scripts))
-        counts_below (s ∷ scripts) (c ∷ counts) (suc t) long few one =
-            let rest = counts_below scripts counts t (omega (arith, long)) (λ t. few (suc t)) one in
-            let here : c ≤ length s = few 0 in
-            omega (arith, rest, here, sum_more c counts, sum_more (length s) (map length scripts))
+        omega (arith, most, sum_raised r.clip_counts q.sid inside, sum)
 
     -- ---- after it
 
@@ -172,13 +157,6 @@ module _ (laws : CallLaws) {r : RoomModel} {p : PassModel} {q : ClipPassModel} (
         | inr ne ↦ other_clip t r.clips.entries (clip_entry r q reply) (λ e. ne (sym e)) ∙ room.clips_follow.calls t
             ∙ ap (λ (n : ℕ). take n (clip_calls_in (clip_script_in r.parts.clips t)))
             (sym (raised_other r.clip_counts q.sid t ne))
-      ]
-
-      few_then : (t : ℕ) → slice_index (raised r.clip_counts q.sid) t ≤ length
-          (clip_calls_in (clip_script_in r.parts.clips t))
-      few_then t = elim (cases_eq t q.sid) [
-        | inl e ↦ rw (e, script_is) one_left
-        | inr ne ↦ omega (arith, raised_other r.clip_counts q.sid t ne, room.clips_follow.few t)
       ]
 
       session_is : q.sid < length r.parts.config.clients

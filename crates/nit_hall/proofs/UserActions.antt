@@ -1,13 +1,12 @@
 -- A room and the user's pass after a device event, and after a shot.
-use Rattle.nit_hall.proofs.Basics.{AreNear, Configuration, Device, End, Entry, EntryLaws, Follows}
-use Rattle.nit_hall.proofs.Basics.{HaveInks, InputLine, IsLegal, IsOpen, IsRoom, IsUserPass, Line}
-use Rattle.nit_hall.proofs.Basics.{List, Painted, RoomModel, Routed, SceneModel, ShareModel, Sight}
-use Rattle.nit_hall.proofs.Basics.{Some, UserAction, UserBelongs, UserHasMet, UserPassModel, [], ap}
-use Rattle.nit_hall.proofs.Basics.{ap₂, arith, deeds_of-append, glass_in, inl, input_phases_before}
-use Rattle.nit_hall.proofs.Basics.{is_input_phase, length, length-append, map, raised, refl}
-use Rattle.nit_hall.proofs.Basics.{slice_get_within, slice_index, state_now, user_actions_in}
-use Rattle.nit_hall.proofs.Basics.{user_actions_of, without_final}
-use Rattle.std.proofs.Common.{slice_get, subst, sym, take, ℕ, ◌++◌, ◌+◌, ◌-◌, ◌∙◌, ◌∷◌, ◌≡◌, ◌≤◌}
+use Rattle.nit_hall.proofs.Basics.{AreNear, Device, End, Entry, EntryLaws, Follows, HaveInks}
+use Rattle.nit_hall.proofs.Basics.{InputLine, IsOpen, IsRoom, IsUserPass, Line, List, Painted}
+use Rattle.nit_hall.proofs.Basics.{RoomModel, Routed, SceneModel, ShareModel, Sight, Some}
+use Rattle.nit_hall.proofs.Basics.{UserAction, UserBelongs, UserHasMet, UserPassModel, [], ap, ap₂}
+use Rattle.nit_hall.proofs.Basics.{arith, deeds_of-append, glass_in, inl, input_phases_before}
+use Rattle.nit_hall.proofs.Basics.{is_input_phase, length, raised, refl, slice_get_within}
+use Rattle.nit_hall.proofs.Basics.{slice_index, state_now, user_actions_of, without_final}
+use Rattle.std.proofs.Common.{slice_get, subst, sym, ℕ, ◌++◌, ◌+◌, ◌-◌, ◌∙◌, ◌∷◌, ◌≡◌}
 use Rattle.nit_events.specs.declared.entry.Entry.TheVariants as entry
 use Rattle.nit_script.specs.declared.line.InputLine.TheVariants as inputs
 use Rattle.nit_hall.proofs.LineLemmas.{counted_same, deeds_line}
@@ -17,6 +16,7 @@ use Rattle.nit_hall.proofs.Phases.{same_phase, user_ends}
 use Rattle.nit_hall.proofs.RoomSteps.{IsAdded, booked_more, legal_then, near_before, near_then}
 use Rattle.nit_hall.proofs.RoomSteps.{room_grown, room_then}
 use Rattle.nit_hall.proofs.PhaseEnds.{deeds_known, user_open}
+use Rattle.nit_hall.proofs.ServedCalls.{sights}
 
 -- a device event, and a shot, are the user's
 pub adds_input : {dev : Device} {routed : Routed} → AddsDeed (inputs.Device dev) (entry.Input dev routed)
@@ -45,9 +45,6 @@ room_deed laws {r = r} {new = new} {next = next} {l = l} {e = e} room at adds re
     (same_phase (user_ends room.follows.each at)
     (counted_same is_input_phase r.parts.input next l at.line_is adds.no_phase) room.phases)
     (inl did.open_is)
-
-abbrev sights : SceneModel End → List Sight
-sights scene = map (λ e. e.sight) scene.glasses
 
 pub done_input : EntryLaws → {r : RoomModel} {new : SceneModel End} {dev : Device} {routed : Routed} → IsRoom r
     → IsOpen r.scene.entries → IsAdded r.scene new (entry.Input dev routed) → IsOpen new.entries

@@ -1,13 +1,12 @@
 -- The laws of lower crates that a room goes by, line after line.
 use Rattle.std.specs.Prelude.{◌≡◌, ◌≤◌, ◌<◌, ◌+◌, ◌++◌, ◌∷◌, [], ℕ, false, length, take, drop}
-use Rattle.std.specs.Prelude.{count_by}
 use Rattle.nit_hall.specs.Below.{Agrees, AreInPhases, Call, ClipCall, ClipEntry, ClipLine}
 use Rattle.nit_hall.specs.Below.{ClipModel, Configuration, Entry, IsInPhase, IsLegalClips, IsOpen}
 use Rattle.nit_hall.specs.Below.{LegalFrom, List, Point, Some, State, UserAction, after}
 use Rattle.nit_hall.specs.Below.{clip_answer, clip_calls_in, clip_calls_of, clipboard_of}
-use Rattle.nit_hall.specs.Below.{clips_to_do, clips_to_make, dirty, is_clip_phase, last_at}
-use Rattle.nit_hall.specs.Below.{left_after, next_phase, replay, replay_from, shots, slice_get}
-use Rattle.nit_hall.specs.Below.{source_of}
+use Rattle.nit_hall.specs.Below.{clips_to_do, clips_to_make, count_by, dirty, is_clip_phase}
+use Rattle.nit_hall.specs.Below.{last_at, left_after, next_phase, replay, replay_from, shots}
+use Rattle.nit_hall.specs.Below.{slice_get, source_of}
 use Rattle.nit_clip.specs.declared.line.ClipLine.TheVariants as line
 use Rattle.nit_hall.specs.OpeningParts.{OpeningParts}
 use Rattle.nit_hall.specs.RoomClips.{FollowsClips}
