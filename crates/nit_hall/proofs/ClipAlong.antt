@@ -1,83 +1,42 @@
 -- A clip pass along the journal: what a clip call finds, and clip passes that are done.
-use Rattle.nit_hall.proofs.Basics.{AreDoneClips, AreTogether, Belongs}
-use Rattle.nit_hall.proofs.Basics.{BookModel, Call, ClipBelongs, ClipCall, ClipLine}
-use Rattle.nit_hall.proofs.Basics.{ClipModel, ClipPassModel, ClipReply}
-use Rattle.nit_hall.proofs.Basics.{IsAtClip, IsAtClipPhase, IsAtPhaseEnd, IsClipPass}
-use Rattle.nit_hall.proofs.Basics.{IsDoneClip, IsOpen, IsRoom}
-use Rattle.nit_hall.proofs.Basics.{IsWholeClips, List, OpeningParts, Option, PassModel, RoomModel}
-use Rattle.nit_hall.proofs.Basics.{ShareModel, Some, [], ap, ap₂, arith}
-use Rattle.nit_hall.proofs.Basics.{calls_to_make, cases_eq}
-use Rattle.nit_hall.proofs.Basics.{clip_calls_in, clip_entry, clip_phases_before}
-use Rattle.nit_hall.proofs.Basics.{clip_script_in, clips_to_make}
-use Rattle.nit_hall.proofs.Basics.{done, drop, get_or, get_or_from_slice_get, inl, inr}
-use Rattle.nit_hall.proofs.Basics.{is_clip_phase, knowing_clip, length, length-append}
-use Rattle.nit_hall.proofs.Basics.{length-map, map, map_over_more}
-use Rattle.nit_hall.proofs.Basics.{next_clip, phases_before, raised, refl}
-use Rattle.nit_hall.proofs.Basics.{served, set, slice_get, slice_get-get_or}
-use Rattle.nit_hall.proofs.Basics.{slice_get_within, slice_index, state_now, subst}
-use Rattle.nit_hall.proofs.Basics.{take_all, user_actions_to_do, with_clip}
+use Rattle.nit_hall.proofs.Basics.{AreDoneClips, BookModel, CallLaws, ClipBelongs, ClipCall}
+use Rattle.nit_hall.proofs.Basics.{ClipHasMet, ClipLine, ClipModel, ClipPassModel, ClipReply}
+use Rattle.nit_hall.proofs.Basics.{IsAtClip, IsAtClipPhase, IsClipPass, IsDoneClip, IsRoom}
+use Rattle.nit_hall.proofs.Basics.{IsWholeClips, List, OpeningParts, Option, RoomModel, ShareModel}
+use Rattle.nit_hall.proofs.Basics.{Some, [], ap, ap₂, arith, calls_to_make, clip_calls_in}
+use Rattle.nit_hall.proofs.Basics.{clip_entry, clip_script_in, clips_to_make, done, drop, get_or}
+use Rattle.nit_hall.proofs.Basics.{get_or-drop, get_or_from_slice_get, is_clip_phase, length}
+use Rattle.nit_hall.proofs.Basics.{length-append, length-map, map, next_clip, raised, refl}
+use Rattle.nit_hall.proofs.Basics.{slice_get, slice_get-get_or, slice_get_within, slice_index}
+use Rattle.nit_hall.proofs.Basics.{state_now, subst, take_all, user_actions_to_do, with_clip}
 use Rattle.nit_hall.proofs.Basics.{without_final}
-use Rattle.std.proofs.Common.{sym, take, ℕ, ◌++◌, ◌+◌, ◌-◌, ◌<◌, ◌∙◌, ◌∷◌, ◌≡◌, ◌≤◌}
+use Rattle.std.proofs.Common.{sym, take, ℕ, ◌++◌, ◌+◌, ◌-◌, ◌<◌, ◌∙◌, ◌∷◌, ◌≡◌}
 use mathlib.Core.List.{IsPrefix}
 use Rattle.nit_clip.specs.declared.line.ClipLine.TheVariants as line
-use Rattle.nit_hall.proofs.CountParts.{back_count}
-use Rattle.nit_hall.proofs.PhaseEnds.{counted_more, counted_same}
+use Rattle.nit_hall.proofs.LineLemmas.{counted_more, counted_same, item_there}
 use Rattle.nit_hall.proofs.ClipLineLemmas.{made_by}
-use Rattle.nit_hall.proofs.ServedClips.{CallLaws, FoundClip}
 
 -- ---- what a clip call finds
 
 -- the number of the clip pass's share
-pub number_is : (r r₀ : RoomModel) (q q₀ : ClipPassModel) (share : ShareModel) → r ≡ r₀ → q ≡ q₀ → IsClipPass q share
+pub number_is : {r r₀ : RoomModel} {q q₀ : ClipPassModel} {share : ShareModel} → r ≡ r₀ → q ≡ q₀ → IsClipPass q share
     → ClipBelongs r₀.parts q₀ → share.number ≡ length r.parts.scripts + 1 + q.sid
-number_is r r₀ q q₀ share er eq is of =
-    let here : ClipBelongs r.parts q =
-    subst (λ (x : RoomModel). ClipBelongs x.parts q) (sym er)
-    (subst (λ (x : ClipPassModel). ClipBelongs r₀.parts x) (sym eq) of) in
+number_is {r = r} {r₀ = r₀} {q = q} er eq is of =
+    let here : ClipBelongs r.parts q = subst (λ (x : RoomModel). ClipBelongs x.parts q) (sym er)
+    (subst (ClipBelongs r₀.parts) (sym eq) of) in
     is.number ∙ here.number
 
 -- its count is the room's count of its client's clip calls
-pub clip_counted : (r r₀ : RoomModel) (q q₀ : ClipPassModel) (share : ShareModel) (counts : List ℕ) → r ≡ r₀ → q ≡ q₀
+pub clip_counted : {r r₀ : RoomModel} {q q₀ : ClipPassModel} {share : ShareModel} (counts : List ℕ) → r ≡ r₀ → q ≡ q₀
     → IsClipPass q share → ClipBelongs r₀.parts q₀ → r.clip_counts ≡ drop (length r.parts.scripts + 1) counts
     → slice_index counts share.number ≡ share.count
     → slice_index r₀.clip_counts q₀.sid ≡ length (clip_calls_in (take q₀.next q₀.script))
-clip_counted r r₀ q q₀ share counts er eq is of split counted =
-    let number = number_is r r₀ q q₀ share er eq is of in
+clip_counted {r = r} {q = q} {share = share} counts er eq is of split counted =
     let here : slice_index r.clip_counts q.sid ≡ length (clip_calls_in (take q.next q.script)) =
     ap (λ (cs : List ℕ). slice_index cs q.sid) split
-    ∙ back_count (length r.parts.scripts + 1) q.sid share.number counts number ∙ counted ∙ is.counted in
-    subst (λ (x : RoomModel). slice_index x.clip_counts q₀.sid ≡ length (clip_calls_in (take q₀.next q₀.script))) er
-    (subst (λ (y : ClipPassModel). slice_index r.clip_counts y.sid ≡ length (clip_calls_in (take y.next y.script)))
-    eq here)
-
--- what is asked for, and what was found when the passes met the room
-pub record AskedClip (r : RoomModel) (p : PassModel) (q : ClipPassModel) : Type 0 where
-  pub belongs : Belongs r.parts p
-  pub clip_belongs : ClipBelongs r.parts q
-  pub together : AreTogether p q
-  pub ready : p.phase ≡ r.phase
-  pub phase_end : IsAtPhaseEnd p
-  pub next_is : IsAtClip q
-  pub open_is : IsOpen r.scene.entries
-  pub counted : slice_index r.counts p.sid ≡ length (served (take p.next p.script))
-  pub phase_is : p.phase ≡ phases_before p.script p.next
-
-pub found_clip : (r r₀ : RoomModel) (p : PassModel) (q q₀ : ClipPassModel) (share : ShareModel) (counts : List ℕ)
-    → r ≡ r₀ → q ≡ q₀ → IsClipPass q share → r.clip_counts ≡ drop (length r.parts.scripts + 1) counts
-    → slice_index counts share.number ≡ share.count → AskedClip r₀ p q₀ → FoundClip r₀ p q₀
-found_clip r r₀ p q q₀ share counts er eq is split counted asked = record {
-  belongs = asked.belongs;
-  clip_belongs = asked.clip_belongs;
-  together = asked.together;
-  ready = asked.ready;
-  phase_end = asked.phase_end;
-  next_is = asked.next_is;
-  open_is = asked.open_is;
-  counted = asked.counted;
-  clip_counted = clip_counted r r₀ q q₀ share counts er eq is asked.clip_belongs split counted;
-  phase_is = asked.phase_is;
-  clip_phase_is = subst (λ (y : ClipPassModel). y.phase ≡ clip_phases_before y.script y.next) eq is.phase;
-}
+    ∙ get_or-drop (length r.parts.scripts + 1) counts q.sid 0
+    ∙ ap (slice_index counts) (sym (number_is er eq is of)) ∙ counted ∙ is.counted in
+    rw (← er, ← eq) here
 
 -- ---- the room, part by part
 
@@ -87,48 +46,19 @@ pub served_clip : (r r₀ : RoomModel) (q q₀ : ClipPassModel) (book : BookMode
     → drop n book.counts ≡ raised r.clip_counts q.sid
     → at ≡ length r.scene.entries → focus ≡ (state_now r.scene).input.focus → call ≡ next_clip q
     → list ≡ record {
-      entries = r.clips.entries ++ record {
-        at = at;
-        sid = q.sid;
-        focus = focus;
-        call = call;
-        reply =
-            reply;
-      } ∷ [];
+      entries = r.clips.entries ++ record { at = at; sid = q.sid; focus = focus; call = call; reply = reply } ∷ [];
       spare = r.clips.spare - 1;
     }
-    → ◌≡◌ {A = RoomModel} (record {
-      parts = record {
-        name = book.name;
-        config = r.scene.config;
-        scripts = r.parts.scripts;
-        plans =
-            r.parts.plans;
-        input = r.parts.input;
-        clips = r.parts.clips;
-      };
-      scene = r.scene;
+    → ◌≡◌ {A = RoomModel} (record r {
+      parts = record r.parts { name = book.name; config = r.scene.config };
       counts = take n book.counts;
-      phase = r.phase;
-      arrived = r.arrived;
       clips = list;
       clip_counts = drop n book.counts;
     }) (with_clip r₀ (clip_entry r₀ q₀ reply))
 served_clip r r₀ q q₀ book list n at focus call reply er eq config name front back at_is focus_is call_is list_is =
-    (λ i. record {
-      parts = record {
-        name = name i;
-        config = config i;
-        scripts = r.parts.scripts;
-        plans = r.parts.plans;
-        input =
-            r.parts.input;
-        clips = r.parts.clips;
-      };
-      scene = r.scene;
+    (λ i. record r {
+      parts = record r.parts { name = name i; config = config i };
       counts = front i;
-      phase = r.phase;
-      arrived = r.arrived;
       clips = list_is i;
       clip_counts = back i;
     })
@@ -140,16 +70,8 @@ served_clip r r₀ q q₀ book list n at focus call reply er eq config name fron
 -- a clip call was served
 pub clip_pass_call : CallLaws → (q : ClipPassModel) (share share' : ShareModel) → IsClipPass q share → IsAtClip q
     → share'.count ≡ share.count + 1
-    → IsClipPass (record {
-      sid = q.sid;
-      next = q.next + 1;
-      phase = q.phase;
-      number = share'.number;
-      name =
-          share'.name;
-      script = q.script;
-      seen = share'.seen;
-    }) share'
+    → IsClipPass (record q { next = q.next + 1; number = share'.number; name = share'.name; seen = share'.seen })
+    share'
 clip_pass_call laws q share share' is at count = record {
   number = refl;
   counted = count ∙ ap (λ (n : ℕ). n + 1) is.counted
@@ -167,16 +89,7 @@ NoClipCall = (lines : List ClipLine) (k : ℕ) → slice_get lines k ≡ Some li
 -- the end of a phase is done
 pub clip_pass_phase : NoClipCall → (q : ClipPassModel) (share : ShareModel) (phase : ℕ) → IsClipPass q share
     → IsAtClipPhase q → phase ≡ q.phase + 1
-    → IsClipPass (record {
-      sid = q.sid;
-      next = q.next + 1;
-      phase = phase;
-      number = q.number;
-      name = q.name;
-      script =
-          q.script;
-      seen = q.seen;
-    }) share
+    → IsClipPass (record q { next = q.next + 1; phase = phase }) share
 clip_pass_phase no_call q share phase is at ahead = record {
   number = is.number;
   counted = is.counted ∙ ap length (sym (no_call q.script q.next at));
@@ -191,12 +104,6 @@ pub record IsKnownClip (r : RoomModel) (k : ℕ) (q : ClipPassModel) : Type 0 wh
   pub front : IsPrefix q.seen (without_final r.scene.entries)
   pub counted : slice_index r.clip_counts k ≡ length (clip_calls_in (take q.next q.script))
 
-clip_there : (parts : OpeningParts) (qs : List ClipPassModel) (k : ℕ) → AreDoneClips parts qs → k < length parts.clips
-    → (q : ClipPassModel) × (slice_get qs k ≡ Some q)
-clip_there parts [] k done_all h = absurd (let n = done_all.each in omega (arith, n, h))
-clip_there parts (q ∷ qs) k done_all h =
-    (get_or (q ∷ qs) k q, slice_get-get_or (q ∷ qs) k q (let n = done_all.each in omega (arith, n, h)))
-
 -- what the law of all clip calls of a script says
 abbrev pub AllClipCalls : Type 0
 AllClipCalls = (lines : List ClipLine) → clip_calls_in lines ≡ done (clips_to_make lines)
@@ -207,8 +114,8 @@ pub clips_whole : AllClipCalls → (r : RoomModel) (qs : List ClipPassModel) →
     (map clips_to_make r.parts.clips) r.clips.entries
 clips_whole all r qs room are met = record {
   calls = λ sid h.
-      let there = clip_there r.parts qs sid are (let n =
-      length-map r.parts.clips clips_to_make in omega (arith, n, h)) in
+      let m = are.each in
+      let there = item_there qs sid (omega (arith, length-map r.parts.clips clips_to_make, m, h)) in
       let q = there.0 in
       let is = are.done_all sid q there.1 in
       let script : clip_script_in r.parts.clips sid ≡ q.script =
@@ -225,35 +132,8 @@ clips_whole all r qs room are met = record {
   placed = room.clips_follow.in_phases;
 }
 
--- ---- one clip pass after the other
-
-pub clip_far : (r₀ r : RoomModel) (xs ys : List ClipPassModel) (i : ℕ) (p q : ClipPassModel) → r ≡ r₀ → i < length xs
-    → ys ≡ map (knowing_clip (without_final r₀.scene.entries)) (take i xs) ++ drop i xs → p ≡ get_or ys i p
-    → q ≡ knowing_clip (without_final r.scene.entries) (get_or ys i p)
-    → set ys i q ≡ map (knowing_clip (without_final r₀.scene.entries)) (take (i + 1) xs) ++ drop (i + 1) xs
-clip_far r₀ r xs ys i p q er inside so_far at eq =
-    ap (set ys i) (eq ∙ ap₂ (λ (x : RoomModel) (y : ClipPassModel). knowing_clip (without_final x.scene.entries) y) er
-    (sym at))
-    ∙ map_over_more (knowing_clip (without_final r₀.scene.entries)) xs ys i p inside so_far at
-
-pub clip_met : (r₀ r : RoomModel) (k : ℕ) (q x : ClipPassModel) → r ≡ r₀ → q ≡ x
-    → IsPrefix x.seen (without_final r.scene.entries)
-    → slice_index r.clip_counts x.sid ≡ length (clip_calls_in (take x.next x.script)) → IsDoneClip r₀.parts k q
-    → IsKnownClip r₀ k q
-clip_met r₀ r k q x er eq front counted is =
-    let known : IsKnownClip r x.sid x = record { front = front; counted = counted } in
-    let here : IsKnownClip r₀ q.sid q =
-    subst (λ (y : RoomModel). IsKnownClip y q.sid q) er
-    (subst (λ (y : ClipPassModel). IsKnownClip r y.sid y) (sym eq) known) in
-    subst (λ (n : ℕ). IsKnownClip r₀ n q) is.number here
-
-pub clips_met_below : (r : RoomModel) (i : ℕ) (qs : List ClipPassModel) (q : ClipPassModel)
-    → ((k : ℕ) (x : ClipPassModel) → k < i → slice_get qs k ≡ Some x → IsKnownClip r k x) → slice_get qs i ≡ Some q
-    → IsKnownClip r i q
-    → (k : ℕ) (x : ClipPassModel) → k < i + 1 → slice_get qs k ≡ Some x → IsKnownClip r k x
-clips_met_below r i qs q below at here k x h e = elim (cases_eq k i) [
-  | inl same ↦ subst (λ (n : ℕ). IsKnownClip r n x) (sym same)
-      (subst (λ (y : ClipPassModel). IsKnownClip r i y) (let a : Some q ≡ Some x = sym at
-      ∙ ap (λ (n : ℕ). slice_get qs n) (sym same) ∙ e in cc) here)
-  | inr ne ↦ below k x (omega arith) e
-]
+-- a clip pass has met the room
+pub clip_met : {r r' : RoomModel} {q q' : ClipPassModel} (k : ℕ) → IsDoneClip r.parts k q → ClipHasMet r q r' q'
+    → IsKnownClip r k q
+clip_met {r = r} k is met =
+    record { front = met.before; counted = ap (slice_index r.clip_counts) (sym is.number) ∙ met.counted }

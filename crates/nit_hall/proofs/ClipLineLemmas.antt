@@ -65,19 +65,20 @@ later p q (line.Call c ∷ script) h =
 later p q (line.Stroke s ∷ script) h = later p q script h
 later p q (line.Phase ∷ script) h = later p (suc q) script (omega arith)
 
+behind : (script : List Line) (k : ℕ) → (slice_get script k ≡ Some line.Phase) ⊎ (suc k ≡ suc (length script))
+    → (slice_get script k ≡ Some line.Phase) ⊎ (k ≡ length script)
+behind script k (inl e) = inl e
+behind script k (inr e) = inr (omega (arith, e))
+
 -- where the lines so far end at the end of a phase, their calls are those of all phases so far
 pub calls_of_phases : (script : List Line) (p k : ℕ) → (slice_get script k ≡ Some line.Phase) ⊎ (k ≡ length script)
     → length (calls_up_to (p + phases_before script k) (calls_from p script)) ≡ length (calls_in (take k script))
 calls_of_phases [] p zero at = refl
 calls_of_phases [] p (suc k) at = refl
-calls_of_phases (line.Call c ∷ script) p zero at = elim at [
-  | inl e ↦ absurd cc
-  | inr e ↦ absurd (omega (arith, e))
-]
-calls_of_phases (line.Stroke s ∷ script) p zero at = elim at [
-  | inl e ↦ absurd cc
-  | inr e ↦ absurd (omega (arith, e))
-]
+calls_of_phases (line.Call c ∷ script) p zero (inl e) = absurd cc
+calls_of_phases (line.Call c ∷ script) p zero (inr e) = absurd (omega (arith, e))
+calls_of_phases (line.Stroke s ∷ script) p zero (inl e) = absurd cc
+calls_of_phases (line.Stroke s ∷ script) p zero (inr e) = absurd (omega (arith, e))
 calls_of_phases (line.Phase ∷ script) p zero at = ap length (later (p + 0) (suc p) script (omega arith))
 calls_of_phases (line.Call c ∷ script) p (suc k) at =
     let n : p + phases_before (line.Call c ∷ script) (suc k) ≡ p + phases_before script k =
@@ -87,30 +88,16 @@ calls_of_phases (line.Call c ∷ script) p (suc k) at =
     ∙ ap (λ (b : Bool). length (cond {A = List (ℕ × Call)} b
     ((p, c) ∷ calls_up_to (p + phases_before script k) (calls_from p script))
     (calls_up_to (p + phases_before script k) (calls_from p script)))) passes
-    ∙ ap suc (calls_of_phases script p k (behind at))
-  where
-    behind : (slice_get (line.Call c ∷ script) (suc k) ≡ Some line.Phase) ⊎ (suc k ≡ length (line.Call c ∷ script))
-        → (slice_get script k ≡ Some line.Phase) ⊎ (k ≡ length script)
-    behind (inl e) = inl e
-    behind (inr e) = inr (omega (arith, e))
+    ∙ ap suc (calls_of_phases script p k (behind script k at))
 calls_of_phases (line.Stroke s ∷ script) p (suc k) at =
     let n : p + phases_before (line.Stroke s ∷ script) (suc k) ≡ p + phases_before script k =
     omega (arith, count_cons is_phase (line.Stroke s) (take k script)) in
-    ap (λ (m : ℕ). length (calls_up_to m (calls_from p script))) n ∙ calls_of_phases script p k (behind at)
-  where
-    behind : (slice_get (line.Stroke s ∷ script) (suc k) ≡ Some line.Phase) ⊎ (suc k ≡ length (line.Stroke s ∷ script))
-        → (slice_get script k ≡ Some line.Phase) ⊎ (k ≡ length script)
-    behind (inl e) = inl e
-    behind (inr e) = inr (omega (arith, e))
+    ap (λ (m : ℕ). length (calls_up_to m (calls_from p script))) n ∙ calls_of_phases script p k (behind script k at)
 calls_of_phases (line.Phase ∷ script) p (suc k) at =
     let n : p + phases_before (line.Phase ∷ script) (suc k) ≡ suc p + phases_before script k =
     omega (arith, count_cons is_phase line.Phase (take k script)) in
-    ap (λ (m : ℕ). length (calls_up_to m (calls_from (suc p) script))) n ∙ calls_of_phases script (suc p) k (behind at)
-  where
-    behind : (slice_get (line.Phase ∷ script) (suc k) ≡ Some line.Phase) ⊎ (suc k ≡ length (line.Phase ∷ script))
-        → (slice_get script k ≡ Some line.Phase) ⊎ (k ≡ length script)
-    behind (inl e) = inl e
-    behind (inr e) = inr (omega (arith, e))
+    ap (λ (m : ℕ). length (calls_up_to m (calls_from (suc p) script))) n
+    ∙ calls_of_phases script (suc p) k (behind script k at)
 
 -- ---- phases so far
 
@@ -122,4 +109,4 @@ all_below (x ∷ xs) p each (suc k) = (each 0 (omega arith), all_below xs p (λ 
 
 -- of numbers that never fall each is at most the last
 pub all_up_to : (xs : List ℕ) (p k : ℕ) → IsNonDecreasing (xs ++ p ∷ []) → AllByRecursion (λ x. x ≤ p) (take k xs)
-all_up_to xs p k old = all_below xs p (each_below xs p old) k
+all_up_to xs p k old = all_below xs p (λ i h. each_below xs p old i 0 h) k

@@ -6,7 +6,7 @@ use Rattle.nit_hall.proofs.Basics.{IsRoom, IsThere, OpeningParts, RoomModel, Sce
 use Rattle.nit_hall.proofs.Basics.{before_final}
 
 -- what the laws of clip lists say of one more entry
-pub record EntryLaws : Type 0 where
+pub record ListLaws : Type 0 where
   pub legal : (config : Configuration) (journal : List Entry) (e : Entry) (clips : List ClipEntry)
       → IsLegalClips config journal clips → IsLegalClips config (journal ++ e ∷ []) clips
   pub placed : (clients : List (List (ℕ × Call))) (user : List (ℕ × UserAction)) (journal : List Entry) (e : Entry)
@@ -25,7 +25,7 @@ abbrev pub ClipsStay : Type 0
 ClipsStay = (parts : OpeningParts) (counts : List ℕ) (entries : List Entry) (e : Entry) (clips : ClipModel)
     → FollowsClips parts counts entries clips → FollowsClips parts counts (entries ++ e ∷ []) clips
 
-pub follow_on : EntryLaws → ClipsStay
+pub follow_on : ListLaws → ClipsStay
 follow_on laws parts counts entries e clips f = record {
   legal = laws.legal parts.config entries e clips.entries f.legal;
   each = f.each;
@@ -38,24 +38,14 @@ follow_on laws parts counts entries e clips f = record {
 
 -- the parts of a room with this configuration
 abbrev pub parts_with : RoomModel → Configuration → OpeningParts
-parts_with r config = record {
-  name = r.parts.name;
-  config = config;
-  scripts = r.parts.scripts;
-  plans =
-      r.parts.plans;
-  input = r.parts.input;
-  clips = r.parts.clips;
-}
+parts_with r config = record r.parts { config = config }
 
-pub clips_same : (r : RoomModel) → IsRoom r
+pub clips_same : {r : RoomModel} → IsRoom r
     → FollowsClips (parts_with r r.scene.config) r.clip_counts r.scene.entries r.clips
-clips_same r room = subst (λ (c : Configuration). FollowsClips (parts_with r c) r.clip_counts r.scene.entries r.clips)
-    (sym room.config) room.clips_follow
+clips_same {r = r} room = subst (λ (c : Configuration). FollowsClips (parts_with r c) r.clip_counts r.scene.entries
+    r.clips) (sym room.config) room.clips_follow
 
 pub clips_then : ClipsStay → (r : RoomModel) (new : SceneModel End) (e : Entry) → IsRoom r → new.config ≡ r.scene.config
     → new.entries ≡ r.scene.entries ++ e ∷ [] → FollowsClips (parts_with r new.config) r.clip_counts new.entries r.clips
 clips_then stay r new e room config recorded =
-    subst (λ (c : Configuration). FollowsClips (parts_with r c) r.clip_counts new.entries r.clips) (sym config)
-    (subst (λ (js : List Entry). FollowsClips (parts_with r r.scene.config) r.clip_counts js r.clips) (sym recorded)
-    (stay (parts_with r r.scene.config) r.clip_counts r.scene.entries e r.clips (clips_same r room)))
+    rw (config, recorded) (stay (parts_with r r.scene.config) r.clip_counts r.scene.entries e r.clips (clips_same room))

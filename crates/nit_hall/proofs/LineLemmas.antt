@@ -1,13 +1,15 @@
 -- Scripts line by line: what the lines before the next one are, and what the next one adds.
 use Rattle.nit_hall.proofs.Basics.{Bool, Call, Device, Does, FitsDevice, InputLine, IsDevice, Line}
-use Rattle.nit_hall.proofs.Basics.{List, Shoots, Some, Stroke, [], ap, arith, calls_from, calls_in}
-use Rattle.nit_hall.proofs.Basics.{cond, count_by, done, drop, false, filter, filter-append}
+use Rattle.nit_hall.proofs.Basics.{List, Shoots, Some, [], ap, append-nil, arith, calls_from}
+use Rattle.nit_hall.proofs.Basics.{calls_in, cond, count_by, count_by_more_no, count_by_more_yes}
+use Rattle.nit_hall.proofs.Basics.{done, drop, false, filter, filter-append, get_or}
 use Rattle.nit_hall.proofs.Basics.{get_or_from_slice_get, input_phases_before, is_input_phase}
 use Rattle.nit_hall.proofs.Basics.{is_phase, is_served, length, length-take, lines_to_call}
-use Rattle.nit_hall.proofs.Basics.{next_phase, phases_before, served, slice_get_within, sum_by-cons}
-use Rattle.nit_hall.proofs.Basics.{take_more, user_actions_from, user_actions_in}
-use Rattle.std.proofs.Common.{length-append, refl, slice_get, suc, sym, take, true, zero, ℕ, ◌++◌}
-use Rattle.std.proofs.Common.{◌+◌, ◌∙◌, ◌∷◌, ◌≡◌, ◌≤◌}
+use Rattle.nit_hall.proofs.Basics.{next_phase, phases_before, served, slice_get-get_or}
+use Rattle.nit_hall.proofs.Basics.{slice_get_within, sum_by-cons, take_more, user_actions_from}
+use Rattle.nit_hall.proofs.Basics.{user_actions_in}
+use Rattle.std.proofs.Common.{◌<◌, length-append, refl, slice_get, suc, sym, take, true, zero, ℕ}
+use Rattle.std.proofs.Common.{◌++◌, ◌+◌, ◌∙◌, ◌∷◌, ◌≡◌, ◌≤◌}
 use Rattle.nit_events.specs.declared.device.Device.TheVariants as device
 use Rattle.nit_script.specs.declared.line.Line.TheVariants as line
 use Rattle.nit_script.specs.declared.line.InputLine.TheVariants as inputs
@@ -18,6 +20,11 @@ pub take_line : {X : Type 0} (xs : List X) (k : ℕ) (x : X) → slice_get xs k 
     → take (k + 1) xs ≡ take k xs ++ x ∷ []
 take_line xs k x at = take_more xs k x (slice_get_within xs k x at)
     ∙ ap (λ y. take k xs ++ y ∷ []) (get_or_from_slice_get xs k x x at)
+
+-- within a list there is an element
+pub item_there : {X : Type 0} (xs : List X) (k : ℕ) → k < length xs → (x : X) × (slice_get xs k ≡ Some x)
+item_there [] k h = absurd (omega arith)
+item_there (x ∷ xs) k h = (get_or (x ∷ xs) k x, slice_get-get_or (x ∷ xs) k x h)
 
 -- those of the first n that pass are the first so many that pass
 pub front_filter : {X : Type 0} (p : X → Bool) (n : ℕ) (xs : List X)
@@ -45,10 +52,7 @@ pub unserved_line : (script : List Line) (k : ℕ) (l : Line) → slice_get scri
 unserved_line script k l at is =
     ap (λ ls. length (served ls)) (take_line script k l at)
     ∙ ap length (filter-append is_served (take k script) (l ∷ [])
-    ∙ ap (λ b. served (take k script) ++ cond b (l ∷ []) []) is) ∙ nothing (served (take k script))
-  where
-    nothing : (ls : List Line) → length (ls ++ []) ≡ length ls
-    nothing ls = omega (arith, length-append ls [])
+    ∙ ap (λ b. served (take k script) ++ cond b (l ∷ []) []) is ∙ append-nil (served (take k script)))
 
 pub served_counted : (script : List Line) (k : ℕ) (l : Line) → slice_get script k ≡ Some l → is_served l ≡ true
     → length (served (take (k + 1) script)) ≡ length (served (take k script)) + 1
@@ -74,27 +78,14 @@ pub calls_front : (script : List Line) (k : ℕ) → calls_in (take (length (ser
     ≡ calls_in (take k script)
 calls_front script k = ap calls_in (front_filter is_served k script) ∙ calls_served (take k script)
 
-pub calls_line : (script : List Line) (k : ℕ) (c : Call) → slice_get script k ≡ Some (line.Call c)
-    → calls_in (take (k + 1) script) ≡ calls_in (take k script) ++ c ∷ []
-calls_line script k c at = ap calls_in (take_line script k (line.Call c) at)
-    ∙ calls_append (take k script) (line.Call c ∷ [])
+pub calls_line : (script : List Line) (k : ℕ) (l : Line) → slice_get script k ≡ Some l
+    → calls_in (take (k + 1) script) ≡ calls_in (take k script) ++ calls_in (l ∷ [])
+calls_line script k l at = ap calls_in (take_line script k l at) ∙ calls_append (take k script) (l ∷ [])
 
-no_more_calls : (script : List Line) (k : ℕ) (l : Line) → slice_get script k ≡ Some l → calls_in (l ∷ []) ≡ []
+pub no_more_calls : (script : List Line) (k : ℕ) (l : Line) → slice_get script k ≡ Some l → calls_in (l ∷ []) ≡ []
     → calls_in (take (k + 1) script) ≡ calls_in (take k script)
-no_more_calls script k l at none = ap calls_in (take_line script k l at) ∙ calls_append (take k script) (l ∷ [])
-    ∙ ap (λ (cs : List Call). calls_in (take k script) ++ cs) none ∙ nothing (calls_in (take k script))
-  where
-    nothing : (cs : List Call) → cs ++ [] ≡ cs
-    nothing [] = refl
-    nothing (c ∷ cs) = ap (λ ds. c ∷ ds) (nothing cs)
-
-pub no_calls_line : (script : List Line) (k : ℕ) → slice_get script k ≡ Some line.Phase
-    → calls_in (take (k + 1) script) ≡ calls_in (take k script)
-no_calls_line script k at = no_more_calls script k line.Phase at refl
-
-pub no_calls_stroke : (script : List Line) (k : ℕ) (s : Stroke) → slice_get script k ≡ Some (line.Stroke s)
-    → calls_in (take (k + 1) script) ≡ calls_in (take k script)
-no_calls_stroke script k s at = no_more_calls script k (line.Stroke s) at refl
+no_more_calls script k l at none = calls_line script k l at
+    ∙ ap (λ (cs : List Call). calls_in (take k script) ++ cs) none ∙ append-nil (calls_in (take k script))
 
 -- the line behind so many calls is the one that was counted
 pub line_counted : (script : List Line) (k : ℕ) (c : Call) → slice_get script k ≡ Some (line.Call c)
@@ -137,6 +128,16 @@ phase_of_call (line.Stroke s ∷ ls) p (suc k) c at =
     omega (arith, phase_of_call ls p k c at, count_cons is_phase (line.Stroke s) (take k ls))
 phase_of_call (line.Phase ∷ ls) p (suc k) c at =
     omega (arith, phase_of_call ls (suc p) k c at, count_cons is_phase line.Phase (take k ls))
+
+pub counted_more : {X : Type 0} (p : X → Bool) (xs : List X) (k : ℕ) (x : X) → slice_get xs k ≡ Some x → p x ≡ true
+    → count_by p (take (k + 1) xs) ≡ count_by p (take k xs) + 1
+counted_more p xs k x at is = count_by_more_yes p xs k x (slice_get_within xs k x at)
+    (ap p (get_or_from_slice_get xs k x x at) ∙ is)
+
+pub counted_same : {X : Type 0} (p : X → Bool) (xs : List X) (k : ℕ) (x : X) → slice_get xs k ≡ Some x → p x ≡ false
+    → count_by p (take (k + 1) xs) ≡ count_by p (take k xs)
+counted_same p xs k x at is = count_by_more_no p xs k x (slice_get_within xs k x at)
+    (ap p (get_or_from_slice_get xs k x x at) ∙ is)
 
 -- ---- the user's lines
 

@@ -1,38 +1,16 @@
 -- What each pixel may hold, after one more entry.
-use Rattle.nit_hall.proofs.Basics.{Agrees, AreNear, Bare, Black, Call, Configuration, Entry, IfSome}
-use Rattle.nit_hall.proofs.Basics.{IsInked, IsLegal, IsNear, IsNearBy, IsWordOfScripts}
-use Rattle.nit_hall.proofs.Basics.{IsWordOfSource, LegalFrom, Line, List, None, Option, Painted}
-use Rattle.nit_hall.proofs.Basics.{PixelSource, Point, Reply, Sight, Some, State, Word, [], after}
-use Rattle.nit_hall.proofs.Basics.{ap, cases_Bool, dirty, false, first_state, ink, inl, inr}
-use Rattle.nit_hall.proofs.Basics.{is_dirtied, pixel, pixel_count, replay, replay_from, same_config}
-use Rattle.nit_hall.proofs.Basics.{script_in, shots, slice_index, slice_index_or, source_at}
-use Rattle.nit_hall.proofs.Basics.{source_of, subst, sym, words_at_call}
+use Rattle.nit_hall.proofs.Basics.{AreNear, Bare, Black, Call, Configuration, Entry, EntryLaws}
+use Rattle.nit_hall.proofs.Basics.{IfSome, IsInked, IsLegal, IsNear, IsNearBy, IsWordOfScripts}
+use Rattle.nit_hall.proofs.Basics.{IsWordOfSource, Line, List, None, Option, Painted, PixelSource}
+use Rattle.nit_hall.proofs.Basics.{Reply, Sight, Some, State, Word, [], after, ap, cases_Bool}
+use Rattle.nit_hall.proofs.Basics.{false, first_state, ink, inl, inr, is_dirtied, pixel}
+use Rattle.nit_hall.proofs.Basics.{pixel_count, replay, same_config, script_in, shots, slice_index}
+use Rattle.nit_hall.proofs.Basics.{slice_index_or, source_at, source_of, subst, sym, words_at_call}
 use Rattle.std.proofs.Common.{true, ℕ, ◌*◌, ◌++◌, ◌+◌, ◌<◌, ◌∙◌, ◌∷◌, ◌≡◌}
 use Rattle.nit_events.specs.declared.entry.Entry.TheVariants as entry
 use Rattle.nit_hall.proofs.LastDirty.{last_is_last, last_before}
 
 -- ---- one more entry
-
--- what the law of clean pixels says
-abbrev pub KeepsSource : Type 0
-KeepsSource = (s : State) (taken : ℕ) (e : Entry) (p : Point) → Agrees s taken e → dirty s e (after s e) p ≡ false
-    → source_of (after s e) p ≡ source_of s p
-
--- what the law of one more entry says
-abbrev pub OneMore : Type 0
-OneMore = (s : State) (journal : List Entry) (e : Entry) → replay_from s (journal ++ e ∷ [])
-    ≡ after (replay_from s journal) e
-
--- what the law of one more entry says of the last entry of a legal journal
-abbrev pub LastAgrees : Type 0
-LastAgrees = (s : State) (taken : ℕ) (journal : List Entry) (e : Entry) → LegalFrom s taken (journal ++ e ∷ [])
-    → Agrees (replay_from s journal) (taken + shots journal) e
-
--- the laws of lower crates that a room goes by
-pub record Laws : Type 0 where
-  pub keeps : KeepsSource
-  pub more : OneMore
-  pub agrees : LastAgrees
 
 -- a pixel that the next entry leaves clean may hold what it might before
 near_still : (config : Configuration) (scripts : List (List Line)) (journal : List Entry) (e : Entry) (k : ℕ)
@@ -48,7 +26,7 @@ near_still config scripts journal e k (Word t i) w clean near =
           before.1;
     }
 
-pub near_more : Laws → (config : Configuration) (scripts : List (List Line)) (journal : List Entry) (e : Entry)
+pub near_more : EntryLaws → (config : Configuration) (scripts : List (List Line)) (journal : List Entry) (e : Entry)
     (raw raw' : List ℕ)
     → IsLegal config (journal ++ e ∷ [])
     → ((k : ℕ) → k < pixel_count (replay config journal) → is_dirtied config journal e k ≡ true
@@ -112,7 +90,7 @@ held_near config scripts journal e glasses k (Word t i) w is inks tells held =
     }
 
 -- an entry that loads its dirty pixels by such glasses
-pub near_painted : Laws → (config : Configuration) (scripts : List (List Line)) (journal : List Entry) (e : Entry)
+pub near_painted : EntryLaws → (config : Configuration) (scripts : List (List Line)) (journal : List Entry) (e : Entry)
     (s' : State) (glasses glasses' : ℕ → Sight) (raw raw' : List ℕ)
     → IsLegal config (journal ++ e ∷ []) → s' ≡ after (replay config journal) e → AreInks scripts glasses
     → TellsWords config scripts journal e glasses

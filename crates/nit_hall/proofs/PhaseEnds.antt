@@ -1,48 +1,30 @@
 -- A room and its passes after a stroke, and after the end of a phase.
-use Rattle.nit_hall.proofs.Basics.{AreNear, Bool, Configuration, Entry, IfSome, InputLine, IsLegal}
-use Rattle.nit_hall.proofs.Basics.{IsOpen, IsPaintedTo, IsPass, IsRoom, IsUserPass, Line, List}
-use Rattle.nit_hall.proofs.Basics.{Option, Painting, PassModel, RoomModel, ShareModel, Sight, Some}
-use Rattle.nit_hall.proofs.Basics.{Stroke, UserPassModel, [], after_arrival, after_line, ap, arith}
-use Rattle.nit_hall.proofs.Basics.{blank, calls_in, calls_of, cases_Bool, cond, count_by}
-use Rattle.nit_hall.proofs.Basics.{count_by-le-length, false, inl, input_phases_before}
-use Rattle.nit_hall.proofs.Basics.{is_input_phase, is_phase, length-take, nat_tests, option_map}
-use Rattle.nit_hall.proofs.Basics.{painted_from, phases_before, raised, slice_get_within}
-use Rattle.nit_hall.proofs.Basics.{slice_index, sum_by_push, user_actions_in, user_actions_of}
+use Rattle.nit_hall.proofs.Basics.{Bool, Entry, IfSome, InputLine, IsOpen, IsPaintedTo, IsPass}
+use Rattle.nit_hall.proofs.Basics.{IsRoom, IsUserPass, Line, List, Option, Painting, PassModel}
+use Rattle.nit_hall.proofs.Basics.{RoomModel, ShareModel, Sight, Some, Stroke, UserPassModel}
+use Rattle.nit_hall.proofs.Basics.{after_arrival, after_line, ap, append-nil, ap₂, arith, blank}
+use Rattle.nit_hall.proofs.Basics.{calls_in, calls_of, cond, count_by, count_by-le-length, false}
+use Rattle.nit_hall.proofs.Basics.{inl, input_phases_before, is_input_phase, is_phase, length-take}
+use Rattle.nit_hall.proofs.Basics.{option_map, painted_from, phases_before, raised}
+use Rattle.nit_hall.proofs.Basics.{slice_get_within, slice_index, user_actions_in, user_actions_of}
 use Rattle.nit_hall.proofs.Basics.{with_words, without_final, words_after}
-use Rattle.std.proofs.Common.{inr, length, refl, slice_get, subst, sym, take, true, ℕ, ◌++◌, ◌+◌}
-use Rattle.std.proofs.Common.{◌<◌, ◌==◌, ◌∙◌, ◌∷◌, ◌≡◌, ◌≤◌}
+use Rattle.std.proofs.Common.{inr, length, refl, slice_get, subst, sym, take, true, ℕ, ◌+◌, ◌<◌}
+use Rattle.std.proofs.Common.{◌==◌, ◌∙◌, ◌≡◌, ◌≤◌}
 use Rattle.nit_script.specs.declared.line.Line.TheVariants as line
 use Rattle.nit_script.specs.declared.line.InputLine.TheVariants as inputs
-use Rattle.nit_hall.proofs.LineLemmas.{take_line, served_counted, unserved_line, no_calls_line}
-use Rattle.nit_hall.proofs.LineLemmas.{no_calls_stroke, deeds_line}
-use Rattle.nit_hall.proofs.Phases.{client_phase, user_phase_served, ended_long}
-use Rattle.nit_hall.proofs.ScriptsFollowed.{IsNext, follows_phase, follows_user_phase}
-use Rattle.nit_hall.proofs.ServedCalls.{still_open, room_then}
-use Rattle.nit_hall.proofs.ClipsStay.{clips_same}
+use Rattle.nit_hall.proofs.LineLemmas.{counted_more, counted_same, served_counted, unserved_line}
+use Rattle.nit_hall.proofs.LineLemmas.{deeds_line, no_more_calls}
+use Rattle.nit_hall.proofs.Phases.{client_ends, user_ends, phase_ended, ended_long}
+use Rattle.nit_hall.proofs.ScriptsFollowed.{IsNext, IsUserNext, follows_phase, follows_user_phase}
+use Rattle.nit_hall.proofs.RoomSteps.{room_then, room_turned}
+use Rattle.nit_hall.proofs.ServedCalls.{still_open}
 
 -- ---- phases
 
-pub phase_small : (script : List Line) (k : ℕ) (l : Line) → slice_get script k ≡ Some l → length script ≤ 65536
-    → phases_before script k < 65536
-phase_small script k l at most = let w =
-    slice_get_within script k l at in omega (
-      arith,
-      w,
-      most,
-      count_by-le-length is_phase (take k script),
-      length-take k script,
-    )
-
-pub user_phase_small : (script : List InputLine) (k : ℕ) (l : InputLine) → slice_get script k ≡ Some l
-    → length script ≤ 65536 → input_phases_before script k < 65536
-user_phase_small script k l at most = let w =
-    slice_get_within script k l at in omega (
-      arith,
-      w,
-      most,
-      count_by-le-length is_input_phase (take k script),
-      length-take k script,
-    )
+pub phase_small : {X : Type 0} (p : X → Bool) (script : List X) (k : ℕ) (l : X) → slice_get script k ≡ Some l
+    → length script ≤ 65536 → count_by p (take k script) < 65536
+phase_small p script k l at most =
+    omega (arith, slice_get_within script k l at, most, count_by-le-length p (take k script), length-take k script)
 
 pub not_back : (clients phase arrived : ℕ) → phase ≤ (after_arrival clients phase arrived).0
 not_back clients phase arrived = go (arrived == clients)
@@ -51,26 +33,6 @@ not_back clients phase arrived = go (arrived == clients)
     go true = omega arith
     go false = omega arith
 
-pub not_more : (clients phase arrived : ℕ) → arrived ≤ clients → (after_arrival clients phase arrived).1 ≤ clients
-not_more clients phase arrived few = elim (cases_Bool (arrived == clients)) [
-  | inl is ↦ subst (λ (b : Bool). (cond {A = ℕ × ℕ} b (phase + 1, 0) (phase, arrived + 1)).1 ≤ clients) (sym is)
-      (omega arith)
-  | inr is ↦ subst (λ (b : Bool). (cond {A = ℕ × ℕ} b (phase + 1, 0) (phase, arrived + 1)).1 ≤ clients) (sym is)
-      (let below : arrived + 1 ≤ clients = grind (arith, nat_tests) in below)
-]
-
-pub counted_more : {X : Type 0} (p : X → Bool) (xs : List X) (k : ℕ) (x : X) → slice_get xs k ≡ Some x → p x ≡ true
-    → count_by p (take (k + 1) xs) ≡ count_by p (take k xs) + 1
-counted_more p xs k x at is = ap (count_by p) (take_line xs k x at)
-    ∙ sum_by_push (λ y. cond {A = ℕ} (p y) 1 0) (take k xs) x
-    ∙ ap (λ (b : Bool). count_by p (take k xs) + cond {A = ℕ} b 1 0) is
-
-pub counted_same : {X : Type 0} (p : X → Bool) (xs : List X) (k : ℕ) (x : X) → slice_get xs k ≡ Some x → p x ≡ false
-    → count_by p (take (k + 1) xs) ≡ count_by p (take k xs)
-counted_same p xs k x at is = ap (count_by p) (take_line xs k x at)
-    ∙ sum_by_push (λ y. cond {A = ℕ} (p y) 1 0) (take k xs) x
-    ∙ ap (λ (b : Bool). count_by p (take k xs) + cond {A = ℕ} b 1 0) is ∙ (omega arith)
-
 -- ---- the passes
 
 -- what the law of one more line says
@@ -78,54 +40,22 @@ abbrev pub NextLine : Type 0
 NextLine = (p : Painting) (script : List Line) (k : ℕ) (l : Line) → slice_get script k ≡ Some l
     → painted_from p (take (k + 1) script) ≡ after_line (painted_from p (take k script)) l
 
-pub words_stay : NextLine → (script : List Line) (donation k : ℕ) → slice_get script k ≡ Some line.Phase
-    → words_after script donation (k + 1) ≡ words_after script donation k
-words_stay next script donation k at = ap (λ (p : Painting). p.words) (next (blank donation) script k line.Phase at)
-
 -- the end of a phase was served
-pub pass_phase : NextLine → (p : PassModel) (share share' : ShareModel) (name : _) (known known' : List Entry)
+pub pass_phase : NextLine → {p : PassModel} {share share' : ShareModel} (name : _) (known known' : List Entry)
     → IsPass p share → slice_get p.script p.next ≡ Some line.Phase
     → share' ≡ record share { count = share.count + 1; seen = known }
-    → calls_of p.sid known' ≡ calls_in (take p.next p.script) →
-    IsPass (record {
-      sid = p.sid;
-      next = p.next + 1;
-      phase = p.phase + 1;
-      met = p.met;
-      name = name;
-      script =
-          p.script;
-      plan = p.plan;
-      donation = p.donation;
-      seen = known';
-      sight = p.sight;
-      stand = p.stand;
-    }) share'
-pass_phase next p share share' name known known' is at e knows =
-    let same = words_stay next p.script p.donation p.next at in
+    → calls_of p.sid known' ≡ calls_in (take p.next p.script)
+    → IsPass (record p { next = p.next + 1; phase = p.phase + 1; name = name; seen = known' }) share'
+pass_phase next {p = p} name known known' is at e knows =
     let h = is.painted in
-    subst (λ (s : ShareModel). IsPass
-    (record {
-      sid = p.sid;
-      next = p.next + 1;
-      phase = p.phase + 1;
-      met = p.met;
-      name = name;
-      script =
-          p.script;
-      plan = p.plan;
-      donation = p.donation;
-      seen = known';
-      sight = p.sight;
-      stand = p.stand;
-    }) s)
-    (sym e)
-    (record {
+    let told : p.sight.words ≡ Some (words_after p.script p.donation (p.next + 1)) = is.told
+    ∙ sym (ap (λ (x : Painting). Some x.words) (next (blank p.donation) p.script p.next line.Phase at)) in
+    rw e (record {
       number = is.number;
       counted = ap (λ (n : ℕ). n + 1) is.counted ∙ sym (served_counted p.script p.next line.Phase at refl);
       within = let w = slice_get_within p.script p.next line.Phase at in omega (arith, w);
       phase = ap (λ (n : ℕ). n + 1) is.phase ∙ sym (counted_more is_phase p.script p.next line.Phase at refl);
-      known = knows ∙ sym (no_calls_line p.script p.next at);
+      known = knows ∙ sym (no_more_calls p.script p.next line.Phase at refl);
       owner = is.owner;
       painted = record {
         opens = h.opens;
@@ -134,9 +64,9 @@ pass_phase next p share share' name known known' is at e knows =
         size = h.size;
         words =
             subst (λ (o : Option (List ℕ)). IfSome o (λ words. words ≡ words_after p.script p.donation (p.next + 1)))
-            (sym (is.told ∙ ap (λ (ws : List ℕ). Some ws) (sym same))) refl;
+            (sym told) refl;
       };
-      told = is.told ∙ ap (λ (ws : List ℕ). Some ws) (sym same);
+      told = told;
     })
 
 -- the pass found a phase served
@@ -149,8 +79,7 @@ pass_admitted p share met is =
       within = is.within;
       phase = is.phase;
       known = is.known;
-      owner =
-          is.owner;
+      owner = is.owner;
       painted = is.painted;
       told = is.told;
     }
@@ -159,27 +88,14 @@ pass_admitted p share met is =
 pub pass_stroke : (p : PassModel) (share : ShareModel) (s : Stroke) (sight : Sight) (stand : _) → IsPass p share
     → slice_get p.script p.next ≡ Some (line.Stroke s) → IsPaintedTo p.script p.donation p.plan (p.next + 1) sight
     → sight ≡ with_words (λ words. words_after p.script p.donation (p.next + 1)) p.sight
-    → IsPass (record {
-      sid = p.sid;
-      next = p.next + 1;
-      phase = p.phase;
-      met = p.met;
-      name = p.name;
-      script =
-          p.script;
-      plan = p.plan;
-      donation = p.donation;
-      seen = p.seen;
-      sight = sight;
-      stand = stand;
-    }) share
+    → IsPass (record p { next = p.next + 1; sight = sight; stand = stand }) share
 pass_stroke p share s sight stand is at painted set =
     record {
       number = is.number;
       counted = is.counted ∙ sym (unserved_line p.script p.next (line.Stroke s) at refl);
       within = let w = slice_get_within p.script p.next (line.Stroke s) at in omega (arith, w);
       phase = is.phase ∙ sym (counted_same is_phase p.script p.next (line.Stroke s) at refl);
-      known = is.known ∙ sym (no_calls_stroke p.script p.next s at);
+      known = is.known ∙ sym (no_more_calls p.script p.next (line.Stroke s) at refl);
       owner = ap (λ (g : Sight). g.owner) set ∙ is.owner;
       painted = painted;
       told = ap (λ (g : Sight). g.words) set ∙ ap (option_map (λ words. words_after p.script p.donation (p.next + 1)))
@@ -191,13 +107,11 @@ pub user_phase : (u : UserPassModel) (share share' : ShareModel) (name : _) (kno
     → IsUserPass u share → slice_get u.input u.next ≡ Some inputs.Phase
     → share' ≡ record share { count = share.count + 1; seen = known }
     → user_actions_of known' ≡ user_actions_in (take (u.next + 1) u.input)
-    → IsUserPass (record {
+    → IsUserPass (record u {
       number = share'.number;
       next = u.next + 1;
       phase = u.phase + 1;
       name = name;
-      input =
-          u.input;
       seen = known';
     }) share'
 user_phase u share share' name known known' is at e deeds =
@@ -211,80 +125,56 @@ user_phase u share share' name known known' is at e deeds =
 
 -- ---- the room
 
-pub room_phase : (r : RoomModel) (sid next : ℕ) (script : List Line) → IsRoom r
+pub room_phase : {r : RoomModel} {sid next : ℕ} {script : List Line} → IsRoom r
     → IsNext r.parts.scripts r.counts sid next script line.Phase → r.phase ≡ phases_before script next
     → let then = after_arrival (length r.parts.scripts) r.phase r.arrived in IsRoom
     (room_then r r.scene (raised r.counts sid) then.0 then.1)
-room_phase r sid next script room at ready =
-    let up : phases_before script (next + 1) ≡ r.phase + 1 =
-    counted_more is_phase script next line.Phase at.line_is refl ∙ ap (λ (n : ℕ). n + 1) (sym ready) in
-    record {
-      config = refl;
-      legal = subst (λ (x : Configuration). IsLegal x r.scene.entries) (sym room.config) room.legal;
-      sessions = room.sessions ∙ ap (λ (x : Configuration). length x.clients) (sym room.config);
-      clients = room.clients;
-      follows = follows_phase r.parts.scripts r.parts.input r.counts r.phase
-          (after_arrival (length r.parts.scripts) r.phase r.arrived).0 (without_final r.scene.entries) sid next script
-          room.follows at (not_back (length r.parts.scripts) r.phase r.arrived);
-      phases = client_phase r.parts.scripts r.parts.input r.counts r.phase r.arrived sid next script room.follows.each
-          at ready up room.phases;
-      inks = room.inks;
-      near = subst (λ (x : Configuration). AreNear x r.parts.scripts r.scene.entries r.scene.raw) (sym room.config)
-          room.near;
-      room = room.room;
-      ended = inl (still_open r sid next script line.Phase room at);
-      clips_follow = clips_same r room;
-    }
+room_phase {r = r} {sid = sid} {next = next} {script = script} room at ready =
+    let n = length r.parts.scripts in
+    let then = after_arrival n r.phase r.arrived in
+    room_turned (raised r.counts sid) then.0 then.1 room (still_open room at)
+    (follows_phase room.follows at then.0 refl (not_back n r.phase r.arrived))
+    (phase_ended n (ended_long r.parts.scripts r.parts.input r.counts room.follows.each)
+    (client_ends r.parts.input room.follows.each at) (sym ready)
+    (counted_more is_phase script next line.Phase at.line_is refl ∙ ap (λ (k : ℕ). k + 1) (sym ready)) room.phases)
 
 -- the room in which the user has a line left is open
-pub user_open : (r : RoomModel) (next : ℕ) (l : InputLine) → IsRoom r → slice_get r.parts.input next ≡ Some l
-    → slice_index r.counts (length r.parts.scripts) ≡ next → IsOpen r.scene.entries
-user_open r next l room at counted = elim room.ended [
+pub user_open : {r : RoomModel} {next : ℕ} {l : InputLine} → IsRoom r
+    → IsUserNext r.parts.scripts r.parts.input r.counts next l → IsOpen r.scene.entries
+user_open {r = r} {next = next} {l = l} room at = elim room.ended [
   | inl o ↦ o
-  | inr all ↦ absurd (let w = slice_get_within r.parts.input next l at in let full =
-      all.1 in omega (arith, w, full, counted))
+  | inr all ↦ absurd (let full = all.1 in let counted = at.counted in
+      omega (arith, slice_get_within r.parts.input next l at.line_is, full, counted))
 ]
 
-pub room_user_phase : (r : RoomModel) (next : ℕ) → IsRoom r → slice_get r.parts.input next ≡ Some inputs.Phase
-    → slice_index r.counts (length r.parts.scripts) ≡ next → r.phase ≡ input_phases_before r.parts.input next
+pub room_user_phase : {r : RoomModel} {next : ℕ} → IsRoom r
+    → IsUserNext r.parts.scripts r.parts.input r.counts next inputs.Phase
+    → r.phase ≡ input_phases_before r.parts.input next
     → let then = after_arrival (length r.parts.scripts) r.phase r.arrived in IsRoom
     (room_then r r.scene (raised r.counts (length r.parts.scripts)) then.0 then.1)
-room_user_phase r next room at counted ready =
-    let up : input_phases_before r.parts.input (next + 1) ≡ r.phase + 1 =
-    counted_more is_input_phase r.parts.input next inputs.Phase at refl ∙ ap (λ (n : ℕ). n + 1) (sym ready) in
-    record {
-      config = refl;
-      legal = subst (λ (x : Configuration). IsLegal x r.scene.entries) (sym room.config) room.legal;
-      sessions = room.sessions ∙ ap (λ (x : Configuration). length x.clients) (sym room.config);
-      clients = room.clients;
-      follows = follows_user_phase r.parts.scripts r.parts.input r.counts r.phase
-          (after_arrival (length r.parts.scripts) r.phase r.arrived).0 (without_final r.scene.entries) next room.follows
-          at counted (not_back (length r.parts.scripts) r.phase r.arrived);
-      phases = user_phase_served r.parts.scripts r.parts.input r.counts r.phase r.arrived next room.follows.each counted
-          ready up room.phases;
-      inks = room.inks;
-      near = subst (λ (x : Configuration). AreNear x r.parts.scripts r.scene.entries r.scene.raw) (sym room.config)
-          room.near;
-      room = room.room;
-      ended = inl (user_open r next inputs.Phase room at counted);
-      clips_follow = clips_same r room;
-    }
+room_user_phase {r = r} {next = next} room at ready =
+    let n = length r.parts.scripts in
+    let then = after_arrival n r.phase r.arrived in
+    room_turned (raised r.counts n) then.0 then.1 room (user_open room at)
+    (follows_user_phase room.follows at then.0 refl (not_back n r.phase r.arrived))
+    (phase_ended n (ended_long r.parts.scripts r.parts.input r.counts room.follows.each)
+    (user_ends room.follows.each at) (sym ready)
+    (counted_more is_input_phase r.parts.input next inputs.Phase at.line_is refl ∙ ap (λ (k : ℕ). k + 1) (sym ready))
+    room.phases)
 
 -- not all actors have ended the phase that is served
-pub few_arrived : (r : RoomModel) → IsRoom r → r.arrived ≤ length r.parts.scripts
-few_arrived r room = let left = room.phases.some_left in let many =
-    ended_long r.parts.scripts r.parts.input r.counts room.follows.each in omega (arith, left, many)
+pub few_arrived : {r : RoomModel} → IsRoom r → r.arrived ≤ length r.parts.scripts
+few_arrived {r = r} room = let left = room.phases.some_left in
+    omega (arith, left, ended_long r.parts.scripts r.parts.input r.counts room.follows.each)
 
--- what the user knows of the journal at the end of a phase
-pub deeds_known : (r : RoomModel) (input : List InputLine) (next : ℕ) → IsRoom r
-    → slice_get input next ≡ Some inputs.Phase → input ≡ r.parts.input → slice_index r.counts (length r.parts.scripts)
-    ≡ next
-    → user_actions_of (without_final r.scene.entries) ≡ user_actions_in (take (next + 1) input)
-deeds_known r input next room at same counted =
-    room.follows.deeds ∙ ap (λ (k : ℕ). user_actions_in (take k r.parts.input)) counted
-    ∙ ap (λ (ls : List InputLine). user_actions_in (take next ls)) (sym same)
-    ∙ sym (deeds_line input next inputs.Phase at ∙ nothing (user_actions_in (take next input)))
-  where
-    nothing : {X : Type 0} (xs : List X) → xs ++ [] ≡ xs
-    nothing [] = refl
-    nothing (x ∷ xs) = ap (λ ys. x ∷ ys) (nothing xs)
+-- what the user knows of the journal at its next line
+pub deeds_known : {r : RoomModel} {next : ℕ} (input : List InputLine) → IsRoom r → input ≡ r.parts.input
+    → slice_index r.counts (length r.parts.scripts) ≡ next
+    → user_actions_of (without_final r.scene.entries) ≡ user_actions_in (take next input)
+deeds_known input room same counted =
+    room.follows.deeds ∙ ap₂ (λ (k : ℕ) (ls : List InputLine). user_actions_in (take k ls)) counted (sym same)
+
+-- and behind the end of a phase
+pub deeds_still : (input : List InputLine) (next : ℕ) → slice_get input next ≡ Some inputs.Phase
+    → user_actions_in (take next input) ≡ user_actions_in (take (next + 1) input)
+deeds_still input next at = sym (deeds_line input next inputs.Phase at ∙ append-nil (user_actions_in (take next input)))

@@ -1,15 +1,16 @@
 -- The phase that is served, and the actors that have ended it.
 use Rattle.nit_hall.proofs.Basics.{Bool, InputLine, IsServedPhase, Line, List, [], after_arrival}
-use Rattle.nit_hall.proofs.Basics.{ap, arith, cases_Bool, cases_eq, cond, count_by}
+use Rattle.nit_hall.proofs.Basics.{ap, ap₂, arith, cases_Bool, cases_eq, cond, count_by}
 use Rattle.nit_hall.proofs.Basics.{count_by-le-length, eq-eqb, eqb-true, false, get_or-set_other}
 use Rattle.nit_hall.proofs.Basics.{get_or-set_same, inl, input_phases_before, inr, is_phase}
 use Rattle.nit_hall.proofs.Basics.{is_served, length, length-set, nat_tests, ne_eqb, phases_before}
 use Rattle.nit_hall.proofs.Basics.{phases_ended, raised, refl, script_in, served, set, set-get_or}
-use Rattle.nit_hall.proofs.Basics.{slice_get_within, slice_index, subst, suc, sum_by, sum_by-set}
+use Rattle.nit_hall.proofs.Basics.{slice_index, subst, suc, sum_by, sum_by-set}
 use Rattle.std.proofs.Common.{sym, take, true, zero, ℕ, ◌+◌, ◌<◌, ◌==◌, ◌∙◌, ◌∷◌, ◌≡◌, ◌≤◌, ◌⊎◌}
 use Rattle.nit_script.specs.declared.line.Line.TheVariants as line
-use Rattle.nit_hall.proofs.LineLemmas.{count_cons, front_filter, served_counted}
-use Rattle.nit_hall.proofs.ScriptsFollowed.{IsNext, script_there}
+use Rattle.nit_hall.proofs.LineLemmas.{count_cons, front_filter}
+use Rattle.nit_hall.proofs.ScriptsFollowed.{IsNext, IsUserNext, client_is, script_there}
+use Rattle.nit_hall.proofs.ScriptsFollowed.{served_then}
 
 -- ---- what each actor has ended
 
@@ -74,82 +75,47 @@ phases_front : (script : List Line) (k : ℕ) → count_by is_phase (take (lengt
     ≡ phases_before script k
 phases_front script k = ap (count_by is_phase) (front_filter is_served k script) ∙ phases_served (take k script)
 
-client_ended : (scripts : List (List Line)) (input : List InputLine) (counts : List ℕ) (sid next : ℕ)
-    (script : List Line) (l : Line) → length counts ≡ length scripts + 1 → IsNext scripts counts sid next script l
-    → slice_index (phases_ended scripts input counts) sid ≡ phases_before script next
-client_ended scripts input counts sid next script l long at =
-    ended_at scripts input counts sid long (slice_get_within scripts sid script at.script_is)
-    ∙ ap (λ (n : ℕ). count_by is_phase (take n (served (script_in scripts sid)))) at.counted
-    ∙ ap (λ (ls : List Line). count_by is_phase (take (length (served (take next script))) (served ls)))
-    (script_there scripts counts sid next script l at)
-    ∙ phases_front script next
+-- One of the actors had ended so many phases, and has ended so many then.
+pub record Ends (old now : List ℕ) (actor before after' : ℕ) : Type 0 where
+  pub inside : actor < length old
+  pub was : slice_index old actor ≡ before
+  pub is : now ≡ set old actor after'
 
-client_set : (scripts : List (List Line)) (input : List InputLine) (counts : List ℕ) (sid next : ℕ) (script : List Line)
-    (l : Line) → length counts ≡ length scripts + 1 → IsNext scripts counts sid next script l
-    → phases_ended scripts input (raised counts sid)
-    ≡ set (phases_ended scripts input counts) sid (phases_before script (next + 1))
-client_set scripts input counts sid next script l long at =
-    let up : slice_index counts sid + 1 ≡ length (served (take (next + 1) script)) = ap (λ (n : ℕ). n + 1) at.counted
-    ∙ sym (served_counted script next l at.line_is at.served_is) in
-    ended_set scripts input counts sid (slice_index counts sid + 1) long
-    (slice_get_within scripts sid script at.script_is)
-    ∙ ap (λ (n : ℕ). set (phases_ended scripts input counts) sid
-    (count_by is_phase (take n (served (script_in scripts sid))))) up
-    ∙ ap (λ (ls : List Line). set (phases_ended scripts input counts) sid
-    (count_by is_phase (take (length (served (take (next + 1) script))) (served ls))))
-    (script_there scripts counts sid next script l at)
-    ∙ ap (λ (n : ℕ). set (phases_ended scripts input counts) sid n) (phases_front script (next + 1))
+pub client_ends : {scripts : List (List Line)} {counts : List ℕ} {sid next : ℕ} {script : List Line} {l : Line}
+    (input : List InputLine) → length counts ≡ length scripts + 1 → IsNext scripts counts sid next script l
+    → Ends (phases_ended scripts input counts) (phases_ended scripts input (raised counts sid)) sid
+    (phases_before script next) (phases_before script (next + 1))
+client_ends {scripts = scripts} {counts = counts} {sid = sid} {next = next} {script = script} input long at = record {
+  inside = let h = client_is at in omega (arith, h, ended_long scripts input counts long);
+  was = ended_at scripts input counts sid long (client_is at)
+      ∙ ap₂ (λ (n : ℕ) (ls : List Line). count_by is_phase (take n (served ls))) at.counted (script_there at)
+      ∙ phases_front script next;
+  is = ended_set scripts input counts sid (slice_index counts sid + 1) long (client_is at)
+      ∙ ap (set (phases_ended scripts input counts) sid)
+      (ap₂ (λ (n : ℕ) (ls : List Line). count_by is_phase (take n (served ls))) (served_then at) (script_there at)
+      ∙ phases_front script (next + 1));
+}
+
+pub user_ends : {scripts : List (List Line)} {input : List InputLine} {counts : List ℕ} {next : ℕ} {l : InputLine}
+    → length counts ≡ length scripts + 1 → IsUserNext scripts input counts next l
+    → Ends (phases_ended scripts input counts) (phases_ended scripts input (raised counts (length scripts)))
+    (length scripts) (input_phases_before input next) (input_phases_before input (next + 1))
+user_ends {scripts = scripts} {input = input} {counts = counts} long at = record {
+  inside = omega (arith, ended_long scripts input counts long);
+  was = user_ended_at scripts input counts long ∙ ap (input_phases_before input) at.counted;
+  is = user_ended_set scripts input counts (slice_index counts (length scripts) + 1) long
+      ∙ ap (λ (n : ℕ). set (phases_ended scripts input counts) (length scripts) (input_phases_before input (n + 1)))
+      at.counted;
+}
 
 -- a line that ends no phase leaves what the actors have ended
-pub phases_same : (scripts : List (List Line)) (input : List InputLine) (counts : List ℕ) (phase arrived sid next : ℕ)
-    (script : List Line) (l : Line) → length counts ≡ length scripts + 1 → IsNext scripts counts sid next script l
-    → phases_before script (next + 1) ≡ phases_before script next
-    → IsServedPhase phase arrived (phases_ended scripts input counts)
-    → IsServedPhase phase arrived (phases_ended scripts input (raised counts sid))
-phases_same scripts input counts phase arrived sid next script l long at same is =
-    let here : phases_before script (next + 1) ≡ slice_index (phases_ended scripts input counts) sid = same
-    ∙ sym (client_ended scripts input counts sid next script l long at) in
-    let still : phases_ended scripts input (raised counts sid) ≡ phases_ended scripts input counts =
-    client_set scripts input counts sid next script l long at
-    ∙ ap (λ (n : ℕ). set (phases_ended scripts input counts) sid n) here
-    ∙ set-get_or (phases_ended scripts input counts) sid 0 in
-    subst (λ (xs : List ℕ). IsServedPhase phase arrived xs) (sym still) is
-
--- ---- the user's next line
-
-user_ended : (scripts : List (List Line)) (input : List InputLine) (counts : List ℕ) (next : ℕ)
-    → length counts ≡ length scripts + 1 → slice_index counts (length scripts) ≡ next
-    → slice_index (phases_ended scripts input counts) (length scripts) ≡ input_phases_before input next
-user_ended scripts input counts next long at = user_ended_at scripts input counts long
-    ∙ ap (λ (n : ℕ). input_phases_before input n) at
-
-user_set : (scripts : List (List Line)) (input : List InputLine) (counts : List ℕ) (next : ℕ)
-    → length counts ≡ length scripts + 1 → slice_index counts (length scripts) ≡ next
-    → phases_ended scripts input (raised counts (length scripts))
-    ≡ set (phases_ended scripts input counts) (length scripts) (input_phases_before input (next + 1))
-user_set scripts input counts next long at =
-    user_ended_set scripts input counts (slice_index counts (length scripts) + 1) long
-    ∙ ap (λ (n : ℕ). set (phases_ended scripts input counts) (length scripts) (input_phases_before input (n + 1)))
-    at
-
-pub user_phases_same : (scripts : List (List Line)) (input : List InputLine) (counts : List ℕ) (phase arrived next : ℕ)
-    → length counts ≡ length scripts + 1 → slice_index counts (length scripts) ≡ next
-    → input_phases_before input (next + 1) ≡ input_phases_before input next
-    → IsServedPhase phase arrived (phases_ended scripts input counts)
-    → IsServedPhase phase arrived (phases_ended scripts input (raised counts (length scripts)))
-user_phases_same scripts input counts phase arrived next long at same is =
-    let here : input_phases_before input (next + 1) ≡ slice_index (phases_ended scripts input counts) (length scripts) =
-    same ∙ sym (user_ended scripts input counts next long at) in
-    let still : phases_ended scripts input (raised counts (length scripts)) ≡ phases_ended scripts input counts =
-    user_set scripts input counts next long at
-    ∙ ap (λ (n : ℕ). set (phases_ended scripts input counts) (length scripts) n) here
-    ∙ set-get_or (phases_ended scripts input counts) (length scripts) 0 in
-    subst (λ (xs : List ℕ). IsServedPhase phase arrived xs) (sym still) is
+pub same_phase : {phase arrived actor before after' : ℕ} {old now : List ℕ} → Ends old now actor before after'
+    → after' ≡ before → IsServedPhase phase arrived old → IsServedPhase phase arrived now
+same_phase {phase = phase} {arrived = arrived} {actor = actor} {old = old} ends same is =
+    subst (λ (xs : List ℕ). IsServedPhase phase arrived xs)
+    (sym (ends.is ∙ ap (set old actor) (same ∙ sym ends.was) ∙ set-get_or old actor 0)) is
 
 -- ---- numbers that pass a test
-
-weight : (ℕ → Bool) → ℕ → ℕ
-weight p n = cond {A = ℕ} (p n) 1 0
 
 -- where all pass, each does
 pub all_pass : (p : ℕ → Bool) (xs : List ℕ) → count_by p xs ≡ length xs → (k : ℕ) → k < length xs
@@ -225,9 +191,7 @@ one_more_ended clients phase arrived xs i long inside at is =
           let full : count_by (λ n. n == phase + 1) ys ≡ length ys = omega (arith, more, counted, all, many, long) in
           let there : (k : ℕ) → k < length ys → slice_index ys k ≡ phase + 1 =
           λ k h. eqb-true (slice_index ys k) (phase + 1) (all_pass (λ n. n == phase + 1) ys full k h) in
-          subst (λ (b : Bool). let x = cond {A = ℕ × ℕ} b (phase + 1, 0) (phase, arrived + 1) in IsServedPhase x.0 x.1
-          ys) (sym last)
-          (record {
+          rw last (record {
             each = λ k h. inl (there k h);
             counted = sym (none_pass (λ n. n == phase + 1 + 1) ys
                 (λ k h. ne_eqb (slice_index ys k) (phase + 1 + 1) (λ e. let a = there k h in let b : slice_index ys k
@@ -235,9 +199,7 @@ one_more_ended clients phase arrived xs i long inside at is =
             some_left = omega (arith, many, inside);
           })
       | inr not_last ↦
-          subst (λ (b : Bool). let x = cond {A = ℕ × ℕ} b (phase + 1, 0) (phase, arrived + 1) in IsServedPhase x.0 x.1
-          ys) (sym not_last)
-          (record {
+          rw not_last (record {
             each = each_one_more phase xs i inside is.each;
             counted = omega (arith, more, counted);
             some_left = let below : arrived + 1 < clients + 1 =
@@ -248,36 +210,14 @@ one_more_ended clients phase arrived xs i long inside at is =
     fewer : (a c : ℕ) → (a == c) ≡ false → a ≤ c → a + 1 < c + 1
     fewer a c ne le = grind (arith, nat_tests)
 
-pub client_phase : (scripts : List (List Line)) (input : List InputLine) (counts : List ℕ) (phase arrived sid next : ℕ)
-    (script : List Line) → length counts ≡ length scripts + 1 → IsNext scripts counts sid next script line.Phase
-    → phase ≡ phases_before script next → phases_before script (next + 1) ≡ phase + 1
-    → IsServedPhase phase arrived (phases_ended scripts input counts)
-    → IsServedPhase (after_arrival (length scripts) phase arrived).0 (after_arrival (length scripts) phase arrived).1
-    (phases_ended scripts input (raised counts sid))
-client_phase scripts input counts phase arrived sid next script long at ready up is =
-    let many = ended_long scripts input counts long in
-    let h : sid < length scripts = slice_get_within scripts sid script at.script_is in
-    subst (λ (xs : List ℕ). IsServedPhase (after_arrival (length scripts) phase arrived).0
-    (after_arrival (length scripts) phase arrived).1 xs)
-    (sym (client_set scripts input counts sid next script line.Phase long at
-    ∙ ap (λ (n : ℕ). set (phases_ended scripts input counts) sid n) up))
-    (one_more_ended (length scripts) phase arrived (phases_ended scripts input counts) sid many (omega (arith, many, h))
-    (client_ended scripts input counts sid next script line.Phase long at ∙ sym ready) is)
-
-pub user_phase_served : (scripts : List (List Line)) (input : List InputLine) (counts : List ℕ) (phase arrived next : ℕ)
-    → length counts ≡ length scripts + 1 → slice_index counts (length scripts) ≡ next
-    → phase ≡ input_phases_before input next → input_phases_before input (next + 1) ≡ phase + 1
-    → IsServedPhase phase arrived (phases_ended scripts input counts)
-    → IsServedPhase (after_arrival (length scripts) phase arrived).0 (after_arrival (length scripts) phase arrived).1
-    (phases_ended scripts input (raised counts (length scripts)))
-user_phase_served scripts input counts phase arrived next long at ready up is =
-    let many = ended_long scripts input counts long in
-    subst (λ (xs : List ℕ). IsServedPhase (after_arrival (length scripts) phase arrived).0
-    (after_arrival (length scripts) phase arrived).1 xs)
-    (sym (user_set scripts input counts next long at
-    ∙ ap (λ (n : ℕ). set (phases_ended scripts input counts) (length scripts) n) up))
-    (one_more_ended (length scripts) phase arrived (phases_ended scripts input counts) (length scripts) many
-    (omega (arith, many)) (user_ended scripts input counts next long at ∙ sym ready) is)
+-- so does a line that ends the phase that is served
+pub phase_ended : {phase arrived actor before after' : ℕ} {old now : List ℕ} (clients : ℕ) → length old ≡ clients + 1
+    → Ends old now actor before after' → before ≡ phase → after' ≡ phase + 1 → IsServedPhase phase arrived old
+    → IsServedPhase (after_arrival clients phase arrived).0 (after_arrival clients phase arrived).1 now
+phase_ended {phase = phase} {arrived = arrived} {actor = actor} {old = old} clients long ends ready up is =
+    subst (λ (xs : List ℕ). IsServedPhase (after_arrival clients phase arrived).0
+    (after_arrival clients phase arrived).1 xs) (sym (ends.is ∙ ap (set old actor) up))
+    (one_more_ended clients phase arrived old actor long ends.inside (ends.was ∙ ready) is)
 
 -- ---- at the beginning
 

@@ -1,27 +1,25 @@
 -- Passes that are done, and the last picture.
-use Rattle.nit_hall.proofs.Basics.{AllServed, AreDone, AreNear, Bare, Black, Bool, Configuration}
-use Rattle.nit_hall.proofs.Basics.{End, Entry, Follows, HaveInks, IsDonePass, IsGlass, IsInked}
-use Rattle.nit_hall.proofs.Basics.{IsKnownPass, IsLegal, IsLoaded, IsOpen, IsPaintedTo, IsRoom}
-use Rattle.nit_hall.proofs.Basics.{IsTrue, IsWordOfSource, Line, List, OpeningParts, Option}
-use Rattle.nit_hall.proofs.Basics.{Painted, Painting, PassModel, PassRest, PixelSource, RoomModel}
-use Rattle.nit_hall.proofs.Basics.{SceneModel, Sight, Some, State, Word, [], ap, ap₂, arith, blank}
-use Rattle.nit_hall.proofs.Basics.{cases_eq, cases_lt, donation_of, drop, eqb-true, false, frame}
-use Rattle.nit_hall.proofs.Basics.{get_or, get_or-map-range_with_len, get_or_from_slice_get}
-use Rattle.nit_hall.proofs.Basics.{get_or_past, glass_in, ink, inl, inr, knowing, left_word, length}
-use Rattle.nit_hall.proofs.Basics.{length-append, length-map, map, map_over_more, no_sight}
-use Rattle.nit_hall.proofs.Basics.{option_map, painted_from, pixel_count, range_with_len, refl}
-use Rattle.nit_hall.proofs.Basics.{rest_of, same_frame, scenery_of, script_in, served, set}
-use Rattle.nit_hall.proofs.Basics.{slice_get, slice_get-get_or, slice_get-map, slice_get_read}
-use Rattle.nit_hall.proofs.Basics.{slice_index, source_at, state_now, subst, table_size, take_all}
-use Rattle.nit_hall.proofs.Basics.{without_final, words_after, words_left, words_left_in, zero_at}
-use Rattle.std.proofs.Common.{suc, sym, take, true, zero, zero-add, ℕ, ◌++◌, ◌+◌, ◌-◌, ◌<◌, ◌==◌}
-use Rattle.std.proofs.Common.{◌||◌, ◌∙◌, ◌∷◌, ◌≡◌, ◌≤◌}
-use mathlib.Core.List.{IsPrefix}
+use Rattle.nit_hall.proofs.Basics.{AllServed, AreDone, Bare, Black, Bool, Configuration, End, Entry}
+use Rattle.nit_hall.proofs.Basics.{EntryLaws, Follows, HasMet, HaveInks, IsDonePass, IsGlass}
+use Rattle.nit_hall.proofs.Basics.{IsInked, IsKnownPass, IsLoaded, IsOpen, IsRoom, IsTrue}
+use Rattle.nit_hall.proofs.Basics.{IsWordOfSource, Line, List, Painted, Painting, PassModel}
+use Rattle.nit_hall.proofs.Basics.{PassRest, PixelSource, RoomModel, SceneModel, Sight, Some, State}
+use Rattle.nit_hall.proofs.Basics.{Word, [], ap, append-nil, ap₂, arith, blank, cases_eq, cases_lt}
+use Rattle.nit_hall.proofs.Basics.{donation_of, drop, eqb-true, false, frame, get_or}
+use Rattle.nit_hall.proofs.Basics.{get_or-map-range_with_len, get_or_from_slice_get, get_or_past}
+use Rattle.nit_hall.proofs.Basics.{glass_in, ink, inl, inr, knowing, left_word, length, length-map}
+use Rattle.nit_hall.proofs.Basics.{map, map_over_more, no_sight, option_map, painted_from}
+use Rattle.nit_hall.proofs.Basics.{pixel_count, range_with_len, refl, rest_of, same_Some}
+use Rattle.nit_hall.proofs.Basics.{same_frame, scenery_of, script_in, served, set, slice_get}
+use Rattle.nit_hall.proofs.Basics.{slice_get-get_or, slice_get-map, slice_get_read, slice_index}
+use Rattle.nit_hall.proofs.Basics.{source_at, state_now, subst, table_size, take_all, without_final}
+use Rattle.nit_hall.proofs.Basics.{words_after, words_left, words_left_in, zero_at}
+use Rattle.std.proofs.Common.{suc, sym, take, true, zero, zero-add, ℕ, ◌++◌, ◌+◌, ◌<◌, ◌==◌, ◌||◌}
+use Rattle.std.proofs.Common.{◌∙◌, ◌∷◌, ◌≡◌, ◌≤◌}
 use Rattle.nit_events.specs.declared.entry.Entry.TheVariants as entry
 use Rattle.nit_hall.proofs.FinalEntries.{without-append}
-use Rattle.nit_hall.proofs.NearLemmas.{Laws, AreInks, told_word, near_painted}
-use Rattle.nit_hall.proofs.ServedCalls.{spare_left, state_later, room_then}
-use Rattle.nit_hall.proofs.ClipsStay.{ClipsStay, clips_then}
+use Rattle.nit_hall.proofs.NearLemmas.{AreInks, told_word}
+use Rattle.nit_hall.proofs.RoomSteps.{IsAdded, room_then, room_grown, near_then}
 
 -- ---- a list that is changed in place
 
@@ -45,58 +43,71 @@ still_there f xs ys i x inside is at =
 
 -- ---- a pass is met
 
-pub met_now : (r : RoomModel) (k : ℕ) (p : PassModel) → IsDonePass r.parts k p
-    → IsPrefix p.seen (without_final r.scene.entries)
-    → slice_index r.counts p.sid ≡ length (served (take p.next p.script)) → p.sight.owner ≡ p.sid
-    → IsPaintedTo p.script p.donation p.plan p.next p.sight
-    → p.sight.words ≡ Some (words_after p.script p.donation p.next) → IsKnownPass r k p
-met_now r k p is front counted owner painted told =
+pub met_now : {r r' : RoomModel} {p p' : PassModel} (k : ℕ) → IsDonePass r.parts k p → HasMet r p r' p'
+    → IsKnownPass r k p
+met_now {r = r} k is met =
     record {
-      front = front;
-      counted = ap (λ (n : ℕ). slice_index r.counts n) (sym is.number) ∙ counted;
+      front = met.before;
+      counted = ap (slice_index r.counts) (sym is.number) ∙ met.counted;
       glass = (
-        owner ∙ is.number,
-        painted.size
-            ∙ ap table_size (is.belongs.donation ∙ ap (λ (n : ℕ). donation_of r.parts.config n) is.number),
+        met.owner ∙ is.number,
+        met.painted.size
+            ∙ ap table_size (is.belongs.donation ∙ ap (donation_of r.parts.config) is.number),
       );
-      inked = painted.ink;
-      told = told;
+      inked = met.painted.ink;
+      told = met.told;
     }
 
-pub met_below : (r : RoomModel) (i : ℕ) (ps : List PassModel) (p : PassModel)
-    → ((k : ℕ) (q : PassModel) → k < i → slice_get ps k ≡ Some q → IsKnownPass r k q) → slice_get ps i ≡ Some p
-    → IsKnownPass r i p
-    → (k : ℕ) (q : PassModel) → k < i + 1 → slice_get ps k ≡ Some q → IsKnownPass r k q
-met_below r i ps p below at here k q h e = elim (cases_eq k i) [
-  | inl same ↦ subst (λ (x : ℕ). IsKnownPass r x q) (sym same)
-      (subst (λ (x : PassModel). IsKnownPass r i x) (let a : Some p ≡ Some q = sym at
-      ∙ ap (λ (x : ℕ). slice_get ps x) (sym same) ∙ e in cc) here)
-  | inr ne ↦ below k q (omega arith) e
+-- what holds of each element below a place, and of the one there, holds below the next place
+pub holds_below : {X : Type 0} (P : ℕ → X → Type 0) (i : ℕ) (xs : List X) (x : X)
+    → ((k : ℕ) (y : X) → k < i → slice_get xs k ≡ Some y → P k y) → slice_get xs i ≡ Some x → P i x
+    → (k : ℕ) (y : X) → k < i + 1 → slice_get xs k ≡ Some y → P k y
+holds_below P i xs x below at here k y h e = elim (cases_eq k i) [
+  | inl same ↦ let one : x ≡ y = same_Some x y (sym at ∙ ap (slice_get xs) (sym same) ∙ e) in
+      rw (same, ← one) here
+  | inr ne ↦ below k y (omega arith) e
 ]
 
 -- ---- all are
 
-pass_there : (parts : OpeningParts) (ps : List PassModel) (k : ℕ) → AreDone parts ps → k < length parts.scripts
-    → (p : PassModel) × (slice_get ps k ≡ Some p)
-pass_there parts [] k done h = absurd (let n = done.each in omega (arith, n))
-pass_there parts (p ∷ ps) k done h =
-    (get_or (p ∷ ps) k p, slice_get-get_or (p ∷ ps) k p (let n = done.each in omega (arith, n)))
+-- the passes are done, and the room knows them
+pub record AreKnown (r : RoomModel) (ps : List PassModel) : Type 0 where
+  pub done_all : AreDone r.parts ps
+  pub met : (k : ℕ) (p : PassModel) → slice_get ps k ≡ Some p → IsKnownPass r k p
 
-pub all_served : (r : RoomModel) (ps : List PassModel) → AreDone r.parts ps
-    → ((k : ℕ) (p : PassModel) → slice_get ps k ≡ Some p → IsKnownPass r k p)
+-- the pass of a client, and the glass of that number
+record IsThereDone (r : RoomModel) (ps : List PassModel) (t : ℕ) : Type 0 where
+  p : PassModel
+  is : IsDonePass r.parts t p
+  known : IsKnownPass r t p
+  script : script_in r.parts.scripts t ≡ p.script
+  sight : glass_in (map (λ (q : PassModel). q.sight) ps) t ≡ p.sight
+
+pass_there : {r : RoomModel} {ps : List PassModel} (t : ℕ) → AreKnown r ps → t < length r.parts.scripts
+    → IsThereDone r ps t
+pass_there {ps = []} t are h = absurd (let n = are.done_all.each in omega (arith, n, h))
+pass_there {r = r} {ps = q ∷ qs} t are h =
+    let at = slice_get-get_or (q ∷ qs) t q (let n = are.done_all.each in omega (arith, n, h)) in
+    let p = get_or (q ∷ qs) t q in
+    let is = are.done_all.done_all t p at in
+    record {
+      p = p;
+      is = is;
+      known = are.met t p at;
+      script = get_or_from_slice_get r.parts.scripts t p.script []
+          (ap (slice_get r.parts.scripts) (sym is.number) ∙ is.belongs.script);
+      sight = get_or_from_slice_get (map (λ (x : PassModel). x.sight) (q ∷ qs)) t p.sight no_sight
+          (slice_get-map (λ (x : PassModel). x.sight) (q ∷ qs) t ∙ ap (option_map (λ (x : PassModel). x.sight)) at);
+    }
+
+pub all_served : {r : RoomModel} {ps : List PassModel} → AreKnown r ps
     → slice_index r.counts (length r.parts.scripts) ≡ length r.parts.input
     → AllServed r.parts.scripts r.parts.input r.counts
-all_served r ps done met user = (
+all_served are user = (
   (λ t h.
-      let there = pass_there r.parts ps t done h in
-      let is = done.done_all t there.0 there.1 in
-      let script : script_in r.parts.scripts t ≡ there.0.script =
-      get_or_from_slice_get r.parts.scripts t there.0.script []
-      (ap (λ (n : ℕ). slice_get r.parts.scripts n) (sym is.number) ∙ is.belongs.script) in
-      (met t there.0 there.1).counted
-      ∙ ap (λ (ls : List Line). length (served ls))
-      (take_all there.0.next there.0.script (let e = is.ended in omega (arith, e)))
-      ∙ ap (λ (ls : List Line). length (served ls)) (sym script)),
+      let there = pass_there t are h in
+      there.known.counted ∙ ap (λ (ls : List Line). length (served ls))
+      (take_all there.p.next there.p.script (let e = there.is.ended in omega (arith, e)) ∙ sym there.script)),
   user,
 )
 
@@ -108,29 +119,20 @@ WholeScript = (p : Painting) (script : List Line) (k : ℕ) → length script �
     → painted_from p (take k script) ≡ painted_from p script
 
 -- the glass of a pass that is done tells what its whole script leaves
-pub tells_left : WholeScript → (r : RoomModel) (ps : List PassModel) → AreDone r.parts ps
-    → ((k : ℕ) (p : PassModel) → slice_get ps k ≡ Some p → IsKnownPass r k p)
+pub tells_left : WholeScript → {r : RoomModel} {ps : List PassModel} → AreKnown r ps
     → (t : ℕ) → t < length r.parts.scripts → (glass_in (map (λ (p : PassModel). p.sight) ps) t).words
     ≡ Some (words_left (script_in r.parts.scripts t) (donation_of r.parts.config t))
-tells_left all r ps done met t h =
-    let there = pass_there r.parts ps t done h in
-    let p = there.0 in
-    let is = done.done_all t p there.1 in
-    let script : script_in r.parts.scripts t ≡ p.script =
-    get_or_from_slice_get r.parts.scripts t p.script [] (ap (λ (n : ℕ). slice_get r.parts.scripts n) (sym is.number)
-    ∙ is.belongs.script) in
-    let donation : p.donation ≡ donation_of r.parts.config t = is.belongs.donation
-    ∙ ap (λ (n : ℕ). donation_of r.parts.config n) is.number in
-    let sight : glass_in (map (λ (q : PassModel). q.sight) ps) t ≡ p.sight =
-    get_or_from_slice_get (map (λ (q : PassModel). q.sight) ps) t p.sight no_sight
-    (slice_get-map (λ (q : PassModel). q.sight) ps t
-    ∙ ap (λ (o : Option PassModel). option_map (λ (q : PassModel). q.sight) o) there.1) in
+tells_left all {r = r} are t h =
+    let there = pass_there t are h in
+    let p = there.p in
+    let donation : p.donation ≡ donation_of r.parts.config t = there.is.belongs.donation
+    ∙ ap (donation_of r.parts.config) there.is.number in
     let whole : words_after p.script p.donation p.next ≡ words_left p.script p.donation =
     ap (λ (x : Painting). x.words)
-    (all (blank p.donation) p.script p.next (let e = is.ended in omega (arith, e))) in
-    ap (λ (g : Sight). g.words) sight ∙ (met t p there.1).told
+    (all (blank p.donation) p.script p.next (let e = there.is.ended in omega (arith, e))) in
+    ap (λ (g : Sight). g.words) there.sight ∙ there.known.told
     ∙ ap (λ (ws : List ℕ). Some ws)
-    (whole ∙ ap₂ (λ (ls : List Line) (d : ℕ). words_left ls d) (sym script) donation)
+    (whole ∙ ap₂ (λ (ls : List Line) (d : ℕ). words_left ls d) (sym there.script) donation)
 
 -- nothing but 0 is in no ink
 no_ink : (w : ℕ) → IsInked [] w → w ≡ 0
@@ -188,150 +190,71 @@ pub long_same : {X : Type 0} (f : X → X) (xs ys : List X) (i : ℕ) → ys ≡
     → length ys ≡ length xs
 long_same f xs ys i is = ap length is ∙ as_long f xs i
 
-pub step_far : (r₀ r : RoomModel) (xs ys : List PassModel) (i : ℕ) (p q : PassModel) → r ≡ r₀ → i < length xs
-    → ys ≡ map (knowing (without_final r₀.scene.entries)) (take i xs) ++ drop i xs → p ≡ get_or ys i p
-    → q ≡ knowing (without_final r.scene.entries) (get_or ys i p)
-    → set ys i q ≡ map (knowing (without_final r₀.scene.entries)) (take (i + 1) xs) ++ drop (i + 1) xs
-step_far r₀ r xs ys i p q er inside so_far at eq =
-    ap (set ys i) (eq ∙ ap₂ (λ (x : RoomModel) (y : PassModel). knowing (without_final x.scene.entries) y) er (sym at))
-    ∙ map_over_more (knowing (without_final r₀.scene.entries)) xs ys i p inside so_far at
-
--- what meeting tells of a pass
-pub record Tells (r : RoomModel) (p : PassModel) : Type 0 where
-  pub front : IsPrefix p.seen (without_final r.scene.entries)
-  pub counted : slice_index r.counts p.sid ≡ length (served (take p.next p.script))
-  pub owner : p.sight.owner ≡ p.sid
-  pub painted : IsPaintedTo p.script p.donation p.plan p.next p.sight
-  pub told : p.sight.words ≡ Some (words_after p.script p.donation p.next)
-
-pub step_met : (r₀ r : RoomModel) (i : ℕ) (p x : PassModel) → r ≡ r₀ → p ≡ x → Tells r x → IsDonePass r₀.parts i p
-    → IsKnownPass r₀ i p
-step_met r₀ r i p x er ep t is =
-    let u : Tells r₀ p = subst (λ (y : RoomModel). Tells y p) er (subst (λ (y : PassModel). Tells r y) (sym ep) t) in
-    met_now r₀ i p is u.front u.counted u.owner u.painted u.told
+pub step_far : {X : Type 0} (f : X → X) (xs ys : List X) (i : ℕ) (p q : X) → i < length xs
+    → ys ≡ map f (take i xs) ++ drop i xs → p ≡ get_or ys i p → q ≡ f (get_or ys i p)
+    → set ys i q ≡ map f (take (i + 1) xs) ++ drop (i + 1) xs
+step_far f xs ys i p q inside so_far at eq =
+    ap (set ys i) (eq ∙ ap f (sym at)) ∙ map_over_more f xs ys i p inside so_far at
 
 -- ---- the room after the last picture
 
-pub sights_knowing : (known : List Entry) (ps : List PassModel)
+sights_knowing : (known : List Entry) (ps : List PassModel)
     → map (λ (p : PassModel). p.sight) (map (knowing known) ps) ≡ map (λ (p : PassModel). p.sight) ps
 sights_knowing known [] = refl
 sights_knowing known (p ∷ ps) = ap (λ (gs : List Sight). p.sight ∷ gs) (sights_knowing known ps)
 
-sight_at : (r : RoomModel) (ps : List PassModel) → AreDone r.parts ps
-    → ((k : ℕ) (p : PassModel) → slice_get ps k ≡ Some p → IsKnownPass r k p) → (t : ℕ) → t < length r.parts.scripts
-    → (p : PassModel) × IsDonePass r.parts t p × IsKnownPass r t p
-    × (glass_in (map (λ (q : PassModel). q.sight) ps) t ≡ p.sight)
-sight_at r ps done met t h =
-    let there = pass_there r.parts ps t done h in (
-      there.0,
-      done.done_all t there.0 there.1,
-      met t there.0 there.1,
-      get_or_from_slice_get (map (λ (q : PassModel). q.sight) ps) t there.0.sight no_sight
-          (slice_get-map (λ (q : PassModel). q.sight) ps t
-          ∙ ap (λ (o : Option PassModel). option_map (λ (q : PassModel). q.sight) o) there.1),
-    )
-
-pub tables_of : (r : RoomModel) (ps : List PassModel) → AreDone r.parts ps
-    → ((k : ℕ) (p : PassModel) → slice_get ps k ≡ Some p → IsKnownPass r k p) → (t : ℕ) → t < length r.parts.scripts
-    → IsGlass r.parts.config t (glass_in (map (λ (q : PassModel). q.sight) ps) t)
-tables_of r ps done met t h = let at = sight_at r ps done met t h in subst (λ (g : Sight). IsGlass r.parts.config t g)
-    (sym at.3) at.2.glass
-
-inks_of : (r : RoomModel) (ps : List PassModel) → AreDone r.parts ps
-    → ((k : ℕ) (p : PassModel) → slice_get ps k ≡ Some p → IsKnownPass r k p)
+inks_of : {r : RoomModel} {ps : List PassModel} → AreKnown r ps
     → AreInks r.parts.scripts (glass_in (map (λ (q : PassModel). q.sight) ps))
-inks_of r ps done met t = elim (cases_lt t (length r.parts.scripts)) [
-  | inl inside ↦
-      let at = sight_at r ps done met t inside in
-      let script : script_in r.parts.scripts t ≡ at.0.script =
-      get_or_from_slice_get r.parts.scripts t at.0.script []
-      (ap (λ (n : ℕ). slice_get r.parts.scripts n) (sym at.1.number) ∙ at.1.belongs.script) in
-      ap (λ (g : Sight). g.ink) at.3 ∙ at.2.inked ∙ ap ink (sym script)
+inks_of {r = r} {ps = ps} are t = elim (cases_lt t (length r.parts.scripts)) [
+  | inl inside ↦ let there = pass_there t are inside in
+      ap (λ (g : Sight). g.ink) there.sight ∙ there.known.inked ∙ ap ink (sym there.script)
   | inr past ↦
-      let n = done.each in
-      let none : glass_in (map (λ (q : PassModel). q.sight) ps) t ≡ no_sight =
-      get_or_past (map (λ (q : PassModel). q.sight) ps) t no_sight (let m =
-      length-map ps (λ (q : PassModel). q.sight) in omega (arith, n, m, past)) in
-      ap (λ (g : Sight). g.ink) none ∙ ap ink (sym (get_or_past r.parts.scripts t [] past))
+      let n = are.done_all.each in
+      ap (λ (g : Sight). g.ink) (get_or_past (map (λ (q : PassModel). q.sight) ps) t no_sight
+      (omega (arith, n, length-map ps (λ (q : PassModel). q.sight), past)))
+      ∙ ap ink (sym (get_or_past r.parts.scripts t [] past))
 ]
 
 -- what the scene promises of the last picture
 pub record IsEnded (old new : SceneModel End) (glasses : List Sight) (glasses' : ℕ → Sight) : Type 0 where
-  pub config : new.config ≡ old.config
-  pub recorded : new.entries ≡ old.entries ++ entry.Final ∷ []
-  pub spare : new.spare ≡ old.spare - 1
-  pub legal : IsLegal new.config new.entries
+  pub added : IsAdded old new entry.Final
   pub same : new.glasses ≡ old.glasses
   pub painted : Painted (state_now old) entry.Final (state_now new) (glass_in glasses) glasses' old.raw new.raw
 
 -- the last picture does not stand in the book
 pub booked_still : (old new : SceneModel End) → new.entries ≡ old.entries ++ entry.Final ∷ []
     → without_final old.entries ≡ without_final new.entries
-booked_still old new recorded = nothing (without_final old.entries)
+booked_still old new recorded = sym (append-nil (without_final old.entries))
     ∙ sym (without-append old.entries (entry.Final ∷ [])) ∙ ap without_final (sym recorded)
-  where
-    nothing : {X : Type 0} (xs : List X) → xs ≡ xs ++ []
-    nothing [] = refl
-    nothing (x ∷ xs) = ap (λ ys. x ∷ ys) (nothing xs)
 
-pub room_ended : Laws → ClipsStay → (r : RoomModel) (new : SceneModel End) (ps : List PassModel) (glasses' : ℕ → Sight)
-    → IsRoom r → IsOpen r.scene.entries → AreDone r.parts ps
-    → ((k : ℕ) (p : PassModel) → slice_get ps k ≡ Some p → IsKnownPass r k p)
-    → AllServed r.parts.scripts r.parts.input r.counts
+pub room_ended : EntryLaws → {r : RoomModel} {new : SceneModel End} {ps : List PassModel} {glasses' : ℕ → Sight}
+    → IsRoom r → IsOpen r.scene.entries → AreKnown r ps → AllServed r.parts.scripts r.parts.input r.counts
     → IsEnded r.scene new (map (λ (q : PassModel). q.sight) ps) glasses'
     → IsRoom (room_then r new r.counts r.phase r.arrived)
-room_ended laws stay r new ps glasses' room o done met all ended =
-    let old = r.scene in
-    let left : 1 ≤ old.spare = spare_left r room o in
-    let legal_then : IsLegal old.config (old.entries ++ entry.Final ∷ []) =
-    subst (λ (c : Configuration). IsLegal c (old.entries ++ entry.Final ∷ [])) ended.config
-    (subst (λ (js : List Entry). IsLegal new.config js) ended.recorded ended.legal) in
-    let near_then : AreNear old.config r.parts.scripts (old.entries ++ entry.Final ∷ []) new.raw =
-    near_painted laws old.config r.parts.scripts old.entries entry.Final (state_now new)
-    (glass_in (map (λ (q : PassModel). q.sight) ps)) glasses' old.raw new.raw legal_then
-    (state_later laws.more old new entry.Final ended.config ended.recorded) (inks_of r ps done met)
-    (λ t call rep same. absurd cc) ended.painted
-    (subst (λ (c : Configuration). AreNear c r.parts.scripts old.entries old.raw) (sym room.config)
-    room.near) in
-    record {
-      config = refl;
-      legal = ended.legal;
-      sessions = room.sessions ∙ ap (λ (c : Configuration). length c.clients) (sym room.config ∙ sym ended.config);
-      clients = room.clients;
-      follows = subst (λ (js : List Entry). Follows r.parts.scripts r.parts.input r.counts r.phase js)
-          (booked_still old new ended.recorded) room.follows;
-      phases = room.phases;
-      inks = subst (λ (gs : List End). HaveInks r.parts.scripts gs) (sym ended.same) room.inks;
-      near = subst (λ (c : Configuration). AreNear c r.parts.scripts new.entries new.raw) (sym ended.config)
-          (subst (λ (js : List Entry). AreNear old.config r.parts.scripts js new.raw) (sym ended.recorded) near_then);
-      room = let sum = room.room in let rec_ = ap length ended.recorded in let sp =
-          ended.spare in omega (arith, sum, rec_, sp, left, length-append old.entries (entry.Final ∷ []));
-      ended = inr all;
-      clips_follow = clips_then stay r new entry.Final room ended.config ended.recorded;
-    }
-
--- what a room and its passes are when all have met
-pub record Settled (r₀ r : RoomModel) (ps₀ ps : List PassModel) : Type 0 where
-  pub room : r ≡ r₀
-  pub passes : ps ≡ map (knowing (without_final r₀.scene.entries)) ps₀
-  pub done_all : AreDone r₀.parts ps₀
-  pub met : (k : ℕ) (p : PassModel) → slice_get ps₀ k ≡ Some p → IsKnownPass r₀ k p
+room_ended laws {r = r} {new = new} room o are all ended =
+    room_grown laws room o ended.added r.counts
+    (near_then laws room o ended.added (inks_of are) (λ t call rep same. absurd cc) ended.painted)
+    (subst (λ (gs : List End). HaveInks r.parts.scripts gs) (sym ended.same) room.inks)
+    (subst (λ (js : List Entry). Follows r.parts.scripts r.parts.input r.counts r.phase js)
+    (booked_still r.scene new ended.added.recorded) room.follows) room.phases (inr all)
 
 -- the sights are those of before they met
-pub same_sights : (r₀ r : RoomModel) (ps₀ ps : List PassModel) → Settled r₀ r ps₀ ps
+pub same_sights : (known : List Entry) (ps₀ : List PassModel) {ps : List PassModel} → ps ≡ map (knowing known) ps₀
     → map (λ (p : PassModel). p.sight) ps ≡ map (λ (p : PassModel). p.sight) ps₀
-same_sights r₀ r ps₀ ps s = ap (λ (qs : List PassModel). map (λ (p : PassModel). p.sight) qs) s.passes
-    ∙ sights_knowing (without_final r₀.scene.entries) ps₀
+same_sights known ps₀ is = ap (λ (qs : List PassModel). map (λ (p : PassModel). p.sight) qs) is
+    ∙ sights_knowing known ps₀
 
-pub tables_settled : (r₀ r : RoomModel) (ps₀ ps : List PassModel) → Settled r₀ r ps₀ ps → (t : ℕ)
-    → t < length r₀.parts.scripts → IsGlass r₀.parts.config t (glass_in (map (λ (p : PassModel). p.sight) ps) t)
-tables_settled r₀ r ps₀ ps s t h =
-    subst (λ (gs : List Sight). IsGlass r₀.parts.config t (glass_in gs t)) (sym (same_sights r₀ r ps₀ ps s))
-    (tables_of r₀ ps₀ s.done_all s.met t h)
+pub tables_settled : {r : RoomModel} {ps₀ : List PassModel} (ps : List PassModel) → AreKnown r ps₀
+    → map (λ (p : PassModel). p.sight) ps ≡ map (λ (p : PassModel). p.sight) ps₀ → (t : ℕ)
+    → t < length r.parts.scripts → IsGlass r.parts.config t (glass_in (map (λ (p : PassModel). p.sight) ps) t)
+tables_settled {r = r} ps are same t h =
+    let there = pass_there t are h in
+    subst (λ (g : Sight). IsGlass r.parts.config t g)
+    (sym (ap (λ (gs : List Sight). glass_in gs t) same ∙ there.sight)) there.known.glass
 
--- the room of an equation
-abbrev pub room_of : {r r' : RoomModel} → r ≡ r' → RoomModel
-room_of {r = r} e = r
+-- the left side of an equation
+abbrev pub left_of : {X : Type 0} {x y : X} → x ≡ y → X
+left_of {x = x} e = x
 
 -- ---- what is kept of the passes
 

@@ -3,22 +3,22 @@ use Rattle.nit_hall.proofs.Basics.{AreBlank, AreNear, AreSplitOff, BookModel, Bo
 use Rattle.nit_hall.proofs.Basics.{ClipModel, ClipPassModel, Configuration, End, Entry, Follows}
 use Rattle.nit_hall.proofs.Basics.{FollowsClips, HaveInks, IfSome, InputLine, IsDonation, IsFirst}
 use Rattle.nit_hall.proofs.Basics.{IsGlass, IsLegalClips, IsNearBy, IsPass, IsPlanOf, IsRoom}
-use Rattle.nit_hall.proofs.Basics.{IsSetting, Line, List, Member, OpeningParts, Option, Painting}
-use Rattle.nit_hall.proofs.Basics.{PassModel, PixelSource, PlanModel, RoomModel, ShareModel, Sight}
-use Rattle.nit_hall.proofs.Basics.{Some, [], ap, arith, bare_everywhere, bare_word, calls_in}
+use Rattle.nit_hall.proofs.Basics.{IsSetting, Line, List, Member, OpeningParts, Option, PassModel}
+use Rattle.nit_hall.proofs.Basics.{PixelSource, PlanModel, RoomModel, ShareModel, Sight, Some, []}
+use Rattle.nit_hall.proofs.Basics.{ap, append_assoc, arith, bare_everywhere, bare_word, calls_in}
 use Rattle.nit_hall.proofs.Basics.{calls_of, cases_lt, clip_calls_in, clip_script_in, donation_of}
-use Rattle.nit_hall.proofs.Basics.{drop, false, first_pass, get_or, get_or-replicate}
+use Rattle.nit_hall.proofs.Basics.{drop, drop_at, false, first_pass, get_or, get_or-replicate}
 use Rattle.nit_hall.proofs.Basics.{get_or_default, get_or_from_slice_get, get_or_past, glass_in}
 use Rattle.nit_hall.proofs.Basics.{ink, inl, inr, length, length-map, length-replicate}
 use Rattle.nit_hall.proofs.Basics.{lines_of_all, lines_of_clips, map, new_sight, no_sight}
-use Rattle.nit_hall.proofs.Basics.{none-some, option_map, painted_from, parts_of, phases_before}
-use Rattle.nit_hall.proofs.Basics.{pixel, plan_in, reader_sight, refl, replicate}
-use Rattle.nit_hall.proofs.Basics.{replicate-append-replicate, same_Some, script_in, served}
-use Rattle.nit_hall.proofs.Basics.{slice_get, slice_get-get_or, slice_get-map, slice_index}
-use Rattle.nit_hall.proofs.Basics.{slice_index_or, subst, suc, sum, sum_by-cons, sym, table_size}
-use Rattle.nit_hall.proofs.Basics.{take, user_actions_in, with_clip_scripts, words_after}
+use Rattle.nit_hall.proofs.Basics.{none-some, option_map, parts_of, phases_before, pixel, plan_in}
+use Rattle.nit_hall.proofs.Basics.{reader_sight, refl, replicate, replicate_more, same_Some}
+use Rattle.nit_hall.proofs.Basics.{script_in, served, slice_get, slice_get-get_or, slice_get-map}
+use Rattle.nit_hall.proofs.Basics.{slice_index, slice_index_or, subst, suc, sum, sum_by-cons, sym}
+use Rattle.nit_hall.proofs.Basics.{table_size, take, take_all, take_at, user_actions_in}
+use Rattle.nit_hall.proofs.Basics.{with_clip_scripts, words_after}
 use Rattle.std.proofs.Common.{zero, ℕ, ⊎_elim, ◌*◌, ◌++◌, ◌+◌, ◌<◌, ◌∙◌, ◌∷◌, ◌≡◌, ◌≤◌, ◌⊎◌}
-use Rattle.nit_hall.proofs.CountParts.{front_before_more, front_whole, back_is_more}
+use Rattle.nit_hall.proofs.LineLemmas.{item_there}
 use Rattle.nit_hall.proofs.Phases.{phases_begun}
 
 pub near_begun : (config : Configuration) (scripts : List (List Line))
@@ -29,16 +29,12 @@ near_begun config scripts k inside =
     (sym (bare_everywhere config (pixel config.width k)))
     (get_or-replicate (config.width * config.height) k bare_word 0 inside)
 
-begun_calls : (counts : List ℕ) (scripts : List (List Line)) → ((k : ℕ) → slice_index counts k ≡ 0) → (t : ℕ)
-    → [] ≡ calls_in (take (slice_index counts t) (served (script_in scripts t)))
-begun_calls counts scripts none t = sym (ap (λ (n : ℕ). calls_in (take n (served (script_in scripts t)))) (none t))
-
 pub follows_begun : (scripts : List (List Line)) (input : List InputLine) (counts : List ℕ)
     → length counts ≡ length scripts + 1 → ((k : ℕ) → slice_index counts k ≡ 0) → Follows scripts input counts 0 []
 follows_begun scripts input counts long none =
     record {
       each = long;
-      calls = λ t within. begun_calls counts scripts none t;
+      calls = λ t within. sym (ap (λ (n : ℕ). calls_in (take n (served (script_in scripts t)))) (none t));
       deeds = sym (ap (λ (n : ℕ). user_actions_in (take n input)) (none (length scripts)));
       phases = one;
       few = λ t within. let z = none t in omega (arith, z);
@@ -116,10 +112,6 @@ room_begun r config each few empty spare raw inks counts first none no_clips non
 
 -- ---- a pass
 
--- what the law of lines says of the first
-abbrev pub NoLine : Type 0
-NoLine = (p : Painting) (script : List Line) → painted_from p (take 0 script) ≡ p
-
 pub pass_begun : (p : PassModel) (share : ShareModel) → IsDonation p.donation → IsPlanOf p.script p.donation p.plan
     → p.sight ≡ new_sight p.sid (table_size p.donation) p.plan.ink → p.next ≡ 0 → p.phase ≡ 0 → p.seen ≡ []
     → share.number ≡ p.sid → share.count ≡ 0 → IsPass p share
@@ -177,65 +169,42 @@ pub pass_at : (name name' : BookName) (config : Configuration) (clients : List M
     (share : ShareModel) (c : End) (p : PassModel)
     → k < length scripts → k < length plans → k < length clients → clients ≡ config.clients
     → share ≡ record { name = name'; number = k; count = 0; seen = [] } → name' ≡ name
-    → p ≡ record {
-      sid = k;
-      next = 0;
-      phase = 0;
-      met = 0;
+    → p ≡ record (first_pass (parts_of name config scripts plans input) k c) {
       name = share.name;
       script = get_or scripts k script;
-      plan =
-          get_or plans k plan;
+      plan = get_or plans k plan;
       donation = (get_or clients k m).donation;
       seen = share.seen;
-      sight = c.sight;
-      stand =
-          c.stand;
     } → p ≡ first_pass (parts_of name config scripts plans input) k c
 pass_at name name' config clients scripts plans input k script plan m share c p hs hp hm ec eh en is =
     let s : get_or scripts k script ≡ script_in scripts k = get_or_default scripts k script [] hs in
     let q : get_or plans k plan ≡ plan_in plans k = get_or_default plans k plan (record { steps = []; ink = [] }) hp in
-    let n : (get_or clients k m).donation ≡ donation_of config k =
-    ap (λ (x : Member). x.donation)
-    (get_or_default clients k m (record { label = []; donation = 0; script = []; layer = 0; clicks = false }) hm
-    ∙ ap (λ (ms : List Member). get_or ms k
-    (record { label = []; donation = 0; script = []; layer = 0; clicks = false })) ec) in
+    let nobody : Member = record { label = []; donation = 0; script = []; layer = 0; clicks = false } in
+    let n : (get_or clients k m).donation ≡ donation_of config k = ap (λ (x : Member). x.donation)
+    (get_or_default clients k m nobody hm ∙ ap (λ (ms : List Member). get_or ms k nobody) ec) in
     let named : share.name ≡ name = ap (λ (x : ShareModel). x.name) eh ∙ en in
     let known : share.seen ≡ [] = ap (λ (x : ShareModel). x.seen) eh in
-    is ∙ (λ i. record {
-      sid = k;
-      next = 0;
-      phase = 0;
-      met = 0;
+    is ∙ (λ i. record (first_pass (parts_of name config scripts plans input) k c) {
       name = named i;
       script = s i;
       plan = q i;
-      donation =
-          n i;
+      donation = n i;
       seen = known i;
-      sight = c.sight;
-      stand = c.stand;
     })
 
 -- one more count of 0
 pub zeros_push : (n m : ℕ) (cs ds : List ℕ) → ds ≡ cs ++ 0 ∷ [] → cs ≡ replicate n 0 → m ≡ n + 1 → ds ≡ replicate m 0
-zeros_push n m cs ds is all more = is ∙ ap (λ (xs : List ℕ). xs ++ 0 ∷ []) all ∙ replicate-append-replicate n 1 0
+zeros_push n m cs ds is all more = is ∙ ap (λ (xs : List ℕ). xs ++ 0 ∷ []) all ∙ replicate_more n 0
     ∙ ap (λ (k : ℕ). replicate k 0) (sym more)
 
 -- ---- the readers' ends
-
-canvas_at : (config : Configuration) (plans : List PlanModel) (canvases : List End) (t : ℕ)
-    → AreBlank config plans canvases → t < length config.clients → (c : End) × (slice_get canvases t ≡ Some c)
-canvas_at config plans [] t b h = absurd (let n = b.canvas_each in omega (arith, n, h))
-canvas_at config plans (c ∷ cs) t b h =
-    (get_or (c ∷ cs) t c, slice_get-get_or (c ∷ cs) t c (let n = b.canvas_each in omega (arith, n, h)))
 
 lens_at : (config : Configuration) (plans : List PlanModel) (canvases lenses : List End) (t : ℕ)
     → AreBlank config plans canvases → AreSplitOff canvases lenses → t < length config.clients
     → glass_in (map (λ (e : End). e.sight) lenses) t
     ≡ reader_sight (new_sight t (table_size (donation_of config t)) (plan_in plans t).ink)
 lens_at config plans canvases lenses t b are h =
-    let at = canvas_at config plans canvases t b h in
+    let at = item_there canvases t (let n = b.canvas_each in omega (arith, n, h)) in
     ap (λ (gs : List Sight). glass_in gs t) are.sights
     ∙ get_or_from_slice_get (map (λ (e : End). reader_sight e.sight) canvases) t (reader_sight at.0.sight) no_sight
     (slice_get-map (λ (e : End). reader_sight e.sight) canvases t
@@ -264,12 +233,6 @@ lens_inks config scripts plans canvases lenses set b are t = elim (cases_lt t (l
       ap (λ (g : Sight). g.ink) none
       ∙ ap ink (sym (get_or_past scripts t [] (let n = set.sessions in omega (arith, n, past))))
 ]
-
-pub lens_count : (config : Configuration) (plans : List PlanModel) (canvases lenses : List End)
-    → AreBlank config plans canvases → AreSplitOff canvases lenses → length lenses ≡ length config.clients
-lens_count config plans canvases lenses b are = sym (length-map lenses (λ (e : End). e.sight))
-    ∙ ap (λ (gs : List Sight). length gs) are.sights ∙ length-map canvases (λ (e : End). reader_sight e.sight)
-    ∙ b.canvas_each
 
 -- ---- clip passes
 
@@ -314,8 +277,7 @@ room_with_clips none r scripts room = record {
 }
 
 pub zeros_behind : (cs : List ℕ) (k : ℕ) → (cs ++ replicate k 0) ++ 0 ∷ [] ≡ cs ++ replicate (k + 1) 0
-zeros_behind [] k = zeros_push k (k + 1) (replicate k 0) (replicate k 0 ++ 0 ∷ []) refl refl refl
-zeros_behind (c ∷ cs) k = ap (λ (ds : List ℕ). c ∷ ds) (zeros_behind cs k)
+zeros_behind cs k = append_assoc cs (replicate k 0) (0 ∷ []) ∙ ap (λ (ds : List ℕ). cs ++ ds) (replicate_more k 0)
 
 -- the room with clip scripts, part by part
 pub opened_clips : (r r₀ : RoomModel) (book : BookModel) (counts : List ℕ) (list : ClipModel)
@@ -324,43 +286,21 @@ pub opened_clips : (r r₀ : RoomModel) (book : BookModel) (counts : List ℕ) (
     → r.counts ≡ take (length r.parts.scripts + 1) counts
     → book.counts ≡ counts ++ replicate (length scripts) 0
     → list ≡ record { entries = []; spare = lines_of_clips scripts }
-    → ◌≡◌ {A = RoomModel} (record {
-      parts = record {
-        name = book.name;
-        config = r.scene.config;
-        scripts = r.parts.scripts;
-        plans =
-            r.parts.plans;
-        input = r.parts.input;
-        clips = scripts;
-      };
-      scene = r.scene;
+    → ◌≡◌ {A = RoomModel} (record r {
+      parts = record r.parts { name = book.name; config = r.scene.config; clips = scripts };
       counts = take (length r.parts.scripts + 1) book.counts;
-      phase = r.phase;
-      arrived = r.arrived;
       clips = list;
       clip_counts = drop (length r.parts.scripts + 1) book.counts;
     }) (with_clip_scripts r₀ scripts)
 opened_clips r r₀ book counts list scripts er config name long are more list_is =
     let n = length r.parts.scripts + 1 in
     let front : take n book.counts ≡ r.counts = ap (take n) more
-    ∙ front_before_more n counts (replicate (length scripts) 0) long ∙ sym (front_whole n counts long) ∙ sym are in
+    ∙ take_at counts (replicate (length scripts) 0) n long ∙ sym (take_all n counts (omega (arith, long))) ∙ sym are in
     let back : drop n book.counts ≡ replicate (length scripts) 0 = ap (drop n) more
-    ∙ back_is_more n counts (replicate (length scripts) 0) long in
-    (λ i. record {
-      parts = record {
-        name = name i;
-        config = config i;
-        scripts = r.parts.scripts;
-        plans = r.parts.plans;
-        input =
-            r.parts.input;
-        clips = scripts;
-      };
-      scene = r.scene;
+    ∙ drop_at counts (replicate (length scripts) 0) n long in
+    (λ i. record r {
+      parts = record r.parts { name = name i; config = config i; clips = scripts };
       counts = front i;
-      phase = r.phase;
-      arrived = r.arrived;
       clips = list_is i;
       clip_counts = back i;
     })

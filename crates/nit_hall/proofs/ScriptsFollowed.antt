@@ -1,25 +1,24 @@
 -- What the journal has of each script, kept line by line; and whole where all lines are served.
 use Rattle.nit_hall.proofs.Basics.{AllServed, Call, Entry, Follows, InputLine, IsNonDecreasing}
 use Rattle.nit_hall.proofs.Basics.{IsUsers, IsWhole, Line, List, Reply, Some, UserAction, [], ap}
-use Rattle.nit_hall.proofs.Basics.{ap₂, arith, calls_done, calls_in, calls_of, calls_other}
-use Rattle.nit_hall.proofs.Basics.{calls_own, calls_same, calls_to_make, cases_eq, deeds_of-append}
-use Rattle.nit_hall.proofs.Basics.{deeds_same, done, drop, false, get_or-set_other, get_or-set_same}
-use Rattle.nit_hall.proofs.Basics.{get_or_from_slice_get, inl, input_phases_before, inr}
-use Rattle.nit_hall.proofs.Basics.{is_input_phase, is_served, length, length-append, length-set}
-use Rattle.nit_hall.proofs.Basics.{lines_of_all, map, next_phase, phases_along, phases_before}
-use Rattle.nit_hall.proofs.Basics.{phases_call, phases_deed, phases_final, raised, script_in}
-use Rattle.nit_hall.proofs.Basics.{served, slice_get_within, slice_index, sum, sum_by-cons}
-use Rattle.nit_hall.proofs.Basics.{sum_by-set, take-append-drop, take_all, to_do, user_actions_in}
-use Rattle.nit_hall.proofs.Basics.{user_actions_of, user_actions_to_do}
+use Rattle.nit_hall.proofs.Basics.{append-nil, ap₂, arith, calls_done, calls_in, calls_of}
+use Rattle.nit_hall.proofs.Basics.{calls_other, calls_own, calls_same, calls_to_make, cases_eq}
+use Rattle.nit_hall.proofs.Basics.{deeds_of-append, deeds_same, done, drop, false, get_or-set_other}
+use Rattle.nit_hall.proofs.Basics.{get_or-set_same, get_or_from_slice_get, inl, input_phases_before}
+use Rattle.nit_hall.proofs.Basics.{inr, is_input_phase, is_served, length, length-append}
+use Rattle.nit_hall.proofs.Basics.{length-map, length-set, lines_of_all, map, next_phase}
+use Rattle.nit_hall.proofs.Basics.{phases_along, phases_before, phases_call, phases_deed}
+use Rattle.nit_hall.proofs.Basics.{phases_final, raised, script_in, served, slice_get_within}
+use Rattle.nit_hall.proofs.Basics.{slice_index, sum, sum_by-cons, sum_by-set, take-append-drop}
+use Rattle.nit_hall.proofs.Basics.{take_all, to_do, user_actions_in, user_actions_of}
+use Rattle.nit_hall.proofs.Basics.{user_actions_to_do}
 use Rattle.std.proofs.Common.{refl, slice_get, subst, suc, sym, take, true, zero, ℕ, ◌++◌, ◌+◌, ◌<◌}
 use Rattle.std.proofs.Common.{◌∙◌, ◌∷◌, ◌≡◌, ◌≢◌, ◌≤◌}
 use Rattle.nit_events.specs.declared.entry.Entry.TheVariants as entry
 use Rattle.nit_script.specs.declared.line.Line.TheVariants as line
-use Rattle.nit_script.specs.declared.line.InputLine.TheVariants as inputs
 use Rattle.nit_hall.proofs.LineLemmas.{front_filter, front_short, served_counted, calls_front}
-use Rattle.nit_hall.proofs.LineLemmas.{calls_served, calls_line, no_calls_line, calls_append}
-use Rattle.nit_hall.proofs.LineLemmas.{phase_of_call, deeds_append, deeds_line, deeds_done}
-use Rattle.nit_hall.proofs.LineLemmas.{phase_of_deed}
+use Rattle.nit_hall.proofs.LineLemmas.{calls_served, calls_line, calls_append, phase_of_call}
+use Rattle.nit_hall.proofs.LineLemmas.{deeds_append, deeds_line, deeds_done, phase_of_deed}
 use Rattle.nit_hall.proofs.NonDecreasing.{rises, again, without_last}
 
 -- ---- counts
@@ -45,55 +44,40 @@ pub record IsNext (scripts : List (List Line)) (counts : List ℕ) (sid next : �
     pub served_is : is_served l ≡ true
     pub counted : slice_index counts sid ≡ length (served (take next script))
 
-pub script_there : (scripts : List (List Line)) (counts : List ℕ) (sid next : ℕ) (script : List Line) (l : Line)
-    → IsNext scripts counts sid next script l → script_in scripts sid ≡ script
-script_there scripts counts sid next script l at = get_or_from_slice_get scripts sid script [] at.script_is
+module _ {scripts : List (List Line)} {counts : List ℕ} {sid next : ℕ} {script : List Line} {l : Line}
+    (at : IsNext scripts counts sid next script l) where
+  pub script_there : script_in scripts sid ≡ script
+  script_there = get_or_from_slice_get scripts sid script [] at.script_is
 
--- the client has one more line that the room serves
-pub one_left : (scripts : List (List Line)) (counts : List ℕ) (sid next : ℕ) (script : List Line) (l : Line)
-    → IsNext scripts counts sid next script l → slice_index counts sid + 1 ≤ length (served (script_in scripts sid))
-one_left scripts counts sid next script l at =
-    let e : length (served (take (next + 1) script)) ≡ slice_index counts sid + 1 =
-    served_counted script next l at.line_is at.served_is ∙ ap (λ (n : ℕ). n + 1) (sym at.counted) in
-    let few : length (served (take (next + 1) script)) ≤ length (served script) =
-    front_short (length (served (take (next + 1) script))) (served script) (served (take (next + 1) script))
-    (front_filter is_served (next + 1) script) refl in
-    subst (λ (s : List Line). slice_index counts sid + 1 ≤ length (served s))
-    (sym (script_there scripts counts sid next script l at)) (subst (λ (n : ℕ). n ≤ length (served script)) e few)
+  pub client_is : sid < length scripts
+  client_is = slice_get_within scripts sid script at.script_is
 
-few_more : (scripts : List (List Line)) (input : List InputLine) (counts : List ℕ) (phase : ℕ) (entries : List Entry)
-    (sid next : ℕ) (script : List Line) (l : Line) → Follows scripts input counts phase entries
-    → IsNext scripts counts sid next script l
-    → (t : ℕ) → t < length scripts → slice_index (raised counts sid) t ≤ length (served (script_in scripts t))
-few_more scripts input counts phase entries sid next script l f at t inside =
-    let h : sid < length scripts = slice_get_within scripts sid script at.script_is in
-    elim (cases_eq t sid) [
-      | inl e ↦ subst (λ (x : ℕ). slice_index (raised counts sid) x ≤ length (served (script_in scripts x))) (sym e)
-          (let up = raised_at counts sid (let n = f.each in omega arith) in let most =
-          one_left scripts counts sid next script l at in omega (arith, up, most))
-      | inr ne ↦ let same = raised_other counts sid t ne in let most = f.few t inside in omega (arith, same, most)
-    ]
+  -- with it as many lines are served as are among the first then
+  pub served_then : slice_index counts sid + 1 ≡ length (served (take (next + 1) script))
+  served_then = ap (λ (n : ℕ). n + 1) at.counted ∙ sym (served_counted script next l at.line_is at.served_is)
 
-user_same : (scripts : List (List Line)) (counts : List ℕ) (sid : ℕ) → sid < length scripts
-    → slice_index (raised counts sid) (length scripts) ≡ slice_index counts (length scripts)
-user_same scripts counts sid h =
-    raised_other counts sid (length scripts) (λ e. let x : length scripts ≡ sid = e in omega arith)
+  -- the client has one more line that the room serves
+  pub one_left : slice_index counts sid + 1 ≤ length (served (script_in scripts sid))
+  one_left = let few = front_short (length (served (take (next + 1) script))) (served script)
+      (served (take (next + 1) script)) (front_filter is_served (next + 1) script) refl in
+      omega (arith, few, served_then, ap (λ (ls : List Line). length (served ls)) script_there)
 
--- the calls among the served lines with the next one
-calls_with : (scripts : List (List Line)) (counts : List ℕ) (sid next : ℕ) (script : List Line) (l : Line)
-    (more : List Call) → sid < length counts → IsNext scripts counts sid next script l
-    → calls_in (take (next + 1) script) ≡ calls_in (take next script) ++ more
-    → calls_in (take (slice_index (raised counts sid) sid) (served (script_in scripts sid)))
-    ≡ calls_in (take (slice_index counts sid) (served (script_in scripts sid))) ++ more
-calls_with scripts counts sid next script l more inside at e =
-    let there = script_there scripts counts sid next script l at in
-    let up : slice_index (raised counts sid) sid ≡ length (served (take (next + 1) script)) =
-    raised_at counts sid inside ∙ ap (λ (n : ℕ). n + 1) at.counted
-    ∙ sym (served_counted script next l at.line_is at.served_is) in
-    ap₂ (λ (n : ℕ) (s : List Line). calls_in (take n (served s))) up there
-    ∙ calls_front script (next + 1) ∙ e
-    ∙ ap (λ (cs : List Call). cs ++ more)
-    (sym (ap₂ (λ (n : ℕ) (s : List Line). calls_in (take n (served s))) at.counted there ∙ calls_front script next))
+  calls_so_far : calls_in (take (slice_index counts sid) (served (script_in scripts sid))) ≡ calls_in (take next script)
+  calls_so_far = ap₂ (λ (n : ℕ) (s : List Line). calls_in (take n (served s))) at.counted script_there
+      ∙ calls_front script next
+
+  -- the calls among the served lines with the next one
+  calls_with : sid < length counts
+      → calls_in (take (slice_index (raised counts sid) sid) (served (script_in scripts sid)))
+      ≡ calls_in (take (slice_index counts sid) (served (script_in scripts sid))) ++ calls_in (l ∷ [])
+  calls_with inside =
+      ap₂ (λ (n : ℕ) (s : List Line). calls_in (take n (served s))) (raised_at counts sid inside ∙ served_then)
+      script_there ∙ calls_front script (next + 1) ∙ calls_line script next l at.line_is
+      ∙ ap (λ (cs : List Call). cs ++ calls_in (l ∷ [])) (sym calls_so_far)
+
+  user_same : slice_index (raised counts sid) (length scripts) ≡ slice_index counts (length scripts)
+  user_same = raised_other counts sid (length scripts) (λ e. let x : length scripts ≡ sid = e in let h =
+      client_is in omega (arith, h))
 
 pub made_of : (scripts : List (List Line)) (s : ℕ) → to_do (map calls_to_make scripts) s
     ≡ calls_to_make (script_in scripts s)
@@ -101,161 +85,147 @@ made_of [] s = refl
 made_of (x ∷ scripts) zero = refl
 made_of (x ∷ scripts) (suc s) = made_of scripts s
 
+-- the phases along these entries never fall, up to this one
+abbrev NeverFall : List (List Line) → List InputLine → List Entry → ℕ → Type 0
+NeverFall scripts input entries phase =
+    IsNonDecreasing (phases_along (map calls_to_make scripts) (user_actions_to_do input) entries ++ phase ∷ [])
+
+-- what a client's line leaves of the entries
+record AddsLine (entries : List Entry) (sid : ℕ) (l : Line) (now : List Entry) : Type 0 where
+  own : calls_of sid now ≡ calls_of sid entries ++ calls_in (l ∷ [])
+  others : (t : ℕ) → t ≢ sid → calls_of t now ≡ calls_of t entries
+  deeds : user_actions_of now ≡ user_actions_of entries
+  one_more : length now ≤ length entries + 1
+
+module _ {scripts : List (List Line)} {input : List InputLine} {counts : List ℕ} {phase : ℕ} {entries : List Entry}
+    (f : Follows scripts input counts phase entries) {sid next : ℕ} {script : List Line} {l : Line}
+    (at : IsNext scripts counts sid next script l) where
+  inside : sid < length counts
+  inside = let n = f.each in let h = client_is at in omega (arith, n, h)
+
+  follows_line : (phase' : ℕ) (now : List Entry) → AddsLine entries sid l now → NeverFall scripts input now phase'
+      → Follows scripts input (raised counts sid) phase' now
+  follows_line phase' now adds phases = record {
+    each = length-set counts sid (slice_index counts sid + 1) ∙ f.each;
+    calls = λ t within. elim (cases_eq t sid) [
+      | inl e ↦ subst (λ (x : ℕ). calls_of x now
+          ≡ calls_in (take (slice_index (raised counts sid) x) (served (script_in scripts x)))) (sym e)
+          (adds.own ∙ ap (λ (cs : List Call). cs ++ calls_in (l ∷ [])) (f.calls sid (client_is at))
+          ∙ sym (calls_with at inside))
+      | inr ne ↦ adds.others t ne ∙ f.calls t within
+          ∙ ap (λ (n : ℕ). calls_in (take n (served (script_in scripts t)))) (sym (raised_other counts sid t ne))
+    ];
+    deeds = adds.deeds ∙ f.deeds ∙ ap (λ (n : ℕ). user_actions_in (take n input)) (sym (user_same at));
+    phases = phases;
+    few = λ t within. elim (cases_eq t sid) [
+      | inl e ↦ subst (λ (x : ℕ). slice_index (raised counts sid) x ≤ length (served (script_in scripts x))) (sym e)
+          (omega (arith, raised_at counts sid inside, one_left at))
+      | inr ne ↦ omega (arith, raised_other counts sid t ne, f.few t within)
+    ];
+    user_few = let most = f.user_few in omega (arith, user_same at, most);
+    small = let least = f.small in let more = adds.one_more in omega (arith, sum_raised counts sid inside, least, more);
+  }
+
+  -- the end of its phase was served, and the phase that is served rises or stays
+  pub follows_phase : (phase' : ℕ) → calls_in (l ∷ []) ≡ [] → phase ≤ phase'
+      → Follows scripts input (raised counts sid) phase' entries
+  follows_phase phase' none up = follows_line phase' entries
+      (record {
+        own = sym (ap (λ (cs : List Call). calls_of sid entries ++ cs) none ∙ append-nil _);
+        others = λ t ne. refl;
+        deeds = refl;
+        one_more = omega arith;
+      })
+      (rises (phases_along (map calls_to_make scripts) (user_actions_to_do input) entries) phase phase' up f.phases)
+
 -- a call was served
-pub follows_call : (scripts : List (List Line)) (input : List InputLine) (counts : List ℕ) (phase : ℕ)
-    (entries : List Entry) (sid next : ℕ) (script : List Line) (c : Call) (r : Reply)
+pub follows_call : {scripts : List (List Line)} {input : List InputLine} {counts : List ℕ} {phase : ℕ}
+    {entries : List Entry} {sid next : ℕ} {script : List Line} {c : Call} (r : Reply)
     → Follows scripts input counts phase entries → IsNext scripts counts sid next script (line.Call c)
     → phase ≡ phases_before script next
     → Follows scripts input (raised counts sid) phase (entries ++ entry.Call sid c r ∷ [])
-follows_call scripts input counts phase entries sid next script c r f at ready =
-    let h : sid < length scripts = slice_get_within scripts sid script at.script_is in
-    let inside : sid < length counts = let n = f.each in omega arith in
-    let more = calls_with scripts counts sid next script (line.Call c) (c ∷ []) inside at
-    (calls_line script next c at.line_is) in
-    let there = script_there scripts counts sid next script (line.Call c) at in
-    let made : calls_of sid entries ≡ calls_in (take next script) = f.calls sid h
-    ∙ ap₂ (λ (n : ℕ) (s : List Line). calls_in (take n (served s))) at.counted there ∙ calls_front script next in
+follows_call {scripts = scripts} {input = input} {phase = phase} {entries = entries} {sid = sid} {next = next}
+    {script = script} {c = c} r f at ready =
     let at_phase : next_phase (drop (length (calls_of sid entries)) (to_do (map calls_to_make scripts) sid)) ≡ phase =
-    ap₂ (λ (cs : List Call) (xs : List (ℕ × Call)). next_phase (drop (length cs) xs)) made (made_of scripts sid
-    ∙ ap calls_to_make there) ∙ phase_of_call script 0 next c at.line_is ∙ (let e = ready in omega arith) in
-    record {
-      each = length-set counts sid (slice_index counts sid + 1) ∙ f.each;
-      calls = λ t within. elim (cases_eq t sid) [
-        | inl e ↦ subst (λ (x : ℕ). calls_of x (entries ++ entry.Call sid c r ∷ [])
-            ≡ calls_in (take (slice_index (raised counts sid) x) (served (script_in scripts x)))) (sym e)
-            (calls_own sid entries c r ∙ ap (λ (cs : List Call). cs ++ c ∷ []) (f.calls sid h) ∙ sym more)
-        | inr ne ↦ calls_other t sid entries c r (λ e. ne (sym e)) ∙ f.calls t within
-            ∙ ap (λ (n : ℕ). calls_in (take n (served (script_in scripts t)))) (sym (raised_other counts sid t ne))
-      ];
-      deeds = deeds_same entries (entry.Call sid c r) refl ∙ f.deeds
-          ∙ ap (λ (n : ℕ). user_actions_in (take n input)) (sym (user_same scripts counts sid h));
-      phases = subst (λ (ps : List ℕ). IsNonDecreasing (ps ++ phase ∷ []))
-          (sym (phases_call (map calls_to_make scripts) (user_actions_to_do input) entries sid c r
-          ∙ ap (λ (p : ℕ). phases_along (map calls_to_make scripts) (user_actions_to_do input) entries ++ p ∷ [])
-          at_phase))
-          (again (phases_along (map calls_to_make scripts) (user_actions_to_do input) entries) phase f.phases);
-      few = few_more scripts input counts phase entries sid next script (line.Call c) f at;
-      user_few = let same = user_same scripts counts sid h in let most = f.user_few in omega (arith, same, most);
-      small = let up = sum_raised counts sid inside in let least =
-          f.small in omega (arith, up, least, length-append entries (entry.Call sid c r ∷ []));
-    }
-
--- the end of a client's phase was served, and the phase that is served rises or stays
-pub follows_phase : (scripts : List (List Line)) (input : List InputLine) (counts : List ℕ) (phase phase' : ℕ)
-    (entries : List Entry) (sid next : ℕ) (script : List Line)
-    → Follows scripts input counts phase entries → IsNext scripts counts sid next script line.Phase → phase ≤ phase'
-    → Follows scripts input (raised counts sid) phase' entries
-follows_phase scripts input counts phase phase' entries sid next script f at up =
-    let h : sid < length scripts = slice_get_within scripts sid script at.script_is in
-    let inside : sid < length counts = let n = f.each in omega arith in
-    let more = calls_with scripts counts sid next script line.Phase [] inside at (no_calls_line script next at.line_is
-    ∙ sym (nothing (calls_in (take next script)))) in
-    record {
-      each = length-set counts sid (slice_index counts sid + 1) ∙ f.each;
-      calls = λ t within. elim (cases_eq t sid) [
-        | inl e ↦ subst (λ (x : ℕ). calls_of x entries
-            ≡ calls_in (take (slice_index (raised counts sid) x) (served (script_in scripts x)))) (sym e) (f.calls sid h
-            ∙ sym (more ∙ nothing _))
-        | inr ne ↦ f.calls t within ∙ ap (λ (n : ℕ). calls_in (take n (served (script_in scripts t))))
-            (sym (raised_other counts sid t ne))
-      ];
-      deeds = f.deeds ∙ ap (λ (n : ℕ). user_actions_in (take n input)) (sym (user_same scripts counts sid h));
-      phases = rises (phases_along (map calls_to_make scripts) (user_actions_to_do input) entries) phase phase' up
-          f.phases;
-      few = few_more scripts input counts phase entries sid next script line.Phase f at;
-      user_few = let same = user_same scripts counts sid h in let most = f.user_few in omega (arith, same, most);
-      small = let rise = sum_raised counts sid inside in let least = f.small in omega (arith, rise, least);
-    }
-  where
-    nothing : {X : Type 0} (xs : List X) → xs ++ [] ≡ xs
-    nothing [] = refl
-    nothing (x ∷ xs) = ap (λ ys. x ∷ ys) (nothing xs)
+    ap₂ (λ (cs : List Call) (xs : List (ℕ × Call)). next_phase (drop (length cs) xs))
+    (f.calls sid (client_is at) ∙ calls_so_far at) (made_of scripts sid ∙ ap calls_to_make (script_there at))
+    ∙ phase_of_call script 0 next c at.line_is ∙ (let e = ready in omega arith) in
+    follows_line f at phase (entries ++ entry.Call sid c r ∷ [])
+    (record {
+      own = calls_own sid entries c r;
+      others = λ t ne. calls_other t sid entries c r (λ e. ne (sym e));
+      deeds = deeds_same entries (entry.Call sid c r) refl;
+      one_more = omega (arith, length-append entries (entry.Call sid c r ∷ []));
+    })
+    (subst (λ (ps : List ℕ). IsNonDecreasing (ps ++ phase ∷ []))
+    (sym (phases_call (map calls_to_make scripts) (user_actions_to_do input) entries sid c r
+    ∙ ap (λ (p : ℕ). phases_along (map calls_to_make scripts) (user_actions_to_do input) entries ++ p ∷ []) at_phase))
+    (again (phases_along (map calls_to_make scripts) (user_actions_to_do input) entries) phase f.phases))
 
 -- ---- the user's line
 
-user_up : (scripts : List (List Line)) (input : List InputLine) (counts : List ℕ) (phase : ℕ) (entries : List Entry)
-    → Follows scripts input counts phase entries → slice_index (raised counts (length scripts)) (length scripts)
-    ≡ slice_index counts (length scripts) + 1
-user_up scripts input counts phase entries f = raised_at counts (length scripts) (let n = f.each in omega arith)
-
-client_same : (scripts : List (List Line)) (counts : List ℕ) (t : ℕ) → t < length scripts
-    → slice_index (raised counts (length scripts)) t ≡ slice_index counts t
-client_same scripts counts t h =
-    raised_other counts (length scripts) t (λ e. let x : t ≡ length scripts = e in omega arith)
+-- the user's next line, as the room finds it
+pub record IsUserNext (scripts : List (List Line)) (input : List InputLine) (counts : List ℕ) (next : ℕ) (l : InputLine)
+    : Type 0 where
+  pub line_is : slice_get input next ≡ Some l
+  pub counted : slice_index counts (length scripts) ≡ next
 
 -- what a user's line adds: an entry of its own where it is no end of a phase
-pub record AddsDeed (input : List InputLine) (next : ℕ) (l : InputLine) (e : Entry) : Type 0 where
-  pub line_is : slice_get input next ≡ Some l
+pub record AddsDeed (l : InputLine) (e : Entry) : Type 0 where
   pub no_phase : is_input_phase l ≡ false
   pub deed_is : user_actions_of (e ∷ []) ≡ user_actions_in (l ∷ [])
   pub no_call : (t : ℕ) → calls_of t (e ∷ []) ≡ []
   pub is_users : IsUsers e
 
-pub follows_deed : (scripts : List (List Line)) (input : List InputLine) (counts : List ℕ) (phase : ℕ)
-    (entries : List Entry) (next : ℕ) (l : InputLine) (e : Entry)
-    → Follows scripts input counts phase entries → AddsDeed input next l e → slice_index counts (length scripts) ≡ next
-    → phase ≡ input_phases_before input next
-    → Follows scripts input (raised counts (length scripts)) phase (entries ++ e ∷ [])
-follows_deed scripts input counts phase entries next l e f adds at ready =
-    let n = length scripts in
-    let up : slice_index (raised counts n) n ≡ next + 1 = user_up scripts input counts phase entries f
-    ∙ ap (λ (k : ℕ). k + 1) at in
-    let made : user_actions_of entries ≡ user_actions_in (take next input) = f.deeds
-    ∙ ap (λ (k : ℕ). user_actions_in (take k input)) at in
-    let at_phase : next_phase (drop (length (user_actions_of entries)) (user_actions_to_do input)) ≡ phase =
-    ap (λ (ds : List UserAction). next_phase (drop (length ds) (user_actions_to_do input))) made
-    ∙ phase_of_deed input 0 next l adds.line_is adds.no_phase ∙ (let r = ready in omega arith) in
-    let more : next < length input = slice_get_within input next l adds.line_is in
-    record {
-      each = length-set counts n (slice_index counts n + 1) ∙ f.each;
-      calls = λ t within. calls_same t entries e (adds.no_call t) ∙ f.calls t within
-          ∙ ap (λ (k : ℕ). calls_in (take k (served (script_in scripts t))))
-          (sym (client_same scripts counts t within));
-      deeds = deeds_of-append entries (e ∷ []) ∙ ap₂ (λ (a b : List UserAction). a ++ b) made adds.deed_is
-          ∙ sym (deeds_line input next l adds.line_is) ∙ ap (λ (k : ℕ). user_actions_in (take k input)) (sym up);
-      phases = subst (λ (ps : List ℕ). IsNonDecreasing (ps ++ phase ∷ []))
-          (sym (phases_deed (map calls_to_make scripts) (user_actions_to_do input) entries e adds.is_users
-          ∙ ap (λ (p : ℕ). phases_along (map calls_to_make scripts) (user_actions_to_do input) entries ++ p ∷ [])
-          at_phase))
-          (again (phases_along (map calls_to_make scripts) (user_actions_to_do input) entries) phase f.phases);
-      few = λ t within. let same = client_same scripts counts t within in let most =
-          f.few t within in omega (arith, same, most);
-      user_few = omega (arith, up, more);
-      small = let rise = sum_raised counts n (let k = f.each in omega arith) in let least =
-          f.small in omega (arith, rise, least, length-append entries (e ∷ []));
-    }
+module _ {scripts : List (List Line)} {input : List InputLine} {counts : List ℕ} {phase : ℕ} {entries : List Entry}
+    (f : Follows scripts input counts phase entries) {next : ℕ} {l : InputLine}
+    (at : IsUserNext scripts input counts next l) where
+  user_up : slice_index (raised counts (length scripts)) (length scripts) ≡ next + 1
+  user_up = raised_at counts (length scripts) (let n = f.each in omega arith) ∙ ap (λ (k : ℕ). k + 1) at.counted
 
--- the end of a user's phase was served
-pub follows_user_phase : (scripts : List (List Line)) (input : List InputLine) (counts : List ℕ) (phase phase' : ℕ)
-    (entries : List Entry) (next : ℕ)
-    → Follows scripts input counts phase entries → slice_get input next ≡ Some inputs.Phase
-    → slice_index counts (length scripts) ≡ next → phase ≤ phase'
-    → Follows scripts input (raised counts (length scripts)) phase' entries
-follows_user_phase scripts input counts phase phase' entries next f line_is at rise =
-    let n = length scripts in
-    let up : slice_index (raised counts n) n ≡ next + 1 = user_up scripts input counts phase entries f
-    ∙ ap (λ (k : ℕ). k + 1) at in
-    let more : next < length input = slice_get_within input next inputs.Phase line_is in
-    record {
-      each = length-set counts n (slice_index counts n + 1) ∙ f.each;
-      calls = λ t within. f.calls t within
-          ∙ ap (λ (k : ℕ). calls_in (take k (served (script_in scripts t))))
-          (sym (client_same scripts counts t within));
-      deeds = f.deeds ∙ ap (λ (k : ℕ). user_actions_in (take k input)) at
-          ∙ sym (nothing (user_actions_in (take next input))) ∙ sym (deeds_line input next inputs.Phase line_is)
-          ∙ ap (λ (k : ℕ). user_actions_in (take k input)) (sym up);
-      phases = rises (phases_along (map calls_to_make scripts) (user_actions_to_do input) entries) phase phase' rise
-          f.phases;
-      few = λ t within. let same = client_same scripts counts t within in let most =
-          f.few t within in omega (arith, same, most);
-      user_few = omega (arith, up, more);
-      small = let rises_by = sum_raised counts n (let k = f.each in omega arith) in let least =
-          f.small in omega (arith, rises_by, least);
-    }
-  where
-    nothing : {X : Type 0} (xs : List X) → xs ++ [] ≡ xs
-    nothing [] = refl
-    nothing (x ∷ xs) = ap (λ ys. x ∷ ys) (nothing xs)
+  client_same : (t : ℕ) → t < length scripts → slice_index (raised counts (length scripts)) t ≡ slice_index counts t
+  client_same t h = raised_other counts (length scripts) t (λ e. let x : t ≡ length scripts = e in omega arith)
+
+  pub deeds_so_far : user_actions_of entries ≡ user_actions_in (take next input)
+  deeds_so_far = f.deeds ∙ ap (λ (k : ℕ). user_actions_in (take k input)) at.counted
+
+  follows_user_line : (phase' : ℕ) (now : List Entry) → ((t : ℕ) → calls_of t now ≡ calls_of t entries)
+      → user_actions_of now ≡ user_actions_of entries ++ user_actions_in (l ∷ []) → length now ≤ length entries + 1
+      → NeverFall scripts input now phase' → Follows scripts input (raised counts (length scripts)) phase' now
+  follows_user_line phase' now calls deeds more phases = record {
+    each = length-set counts (length scripts) (slice_index counts (length scripts) + 1) ∙ f.each;
+    calls = λ t within. calls t ∙ f.calls t within
+        ∙ ap (λ (k : ℕ). calls_in (take k (served (script_in scripts t)))) (sym (client_same t within));
+    deeds = deeds ∙ ap (λ (ds : List UserAction). ds ++ user_actions_in (l ∷ [])) deeds_so_far
+        ∙ sym (deeds_line input next l at.line_is) ∙ ap (λ (k : ℕ). user_actions_in (take k input)) (sym user_up);
+    phases = phases;
+    few = λ t within. omega (arith, client_same t within, f.few t within);
+    user_few = omega (arith, user_up, slice_get_within input next l at.line_is);
+    small = let least = f.small in
+        omega (arith, sum_raised counts (length scripts) (let k = f.each in omega arith), least, more);
+  }
+
+  pub follows_deed : (e : Entry) → AddsDeed l e → phase ≡ input_phases_before input next
+      → Follows scripts input (raised counts (length scripts)) phase (entries ++ e ∷ [])
+  follows_deed e adds ready =
+      let at_phase : next_phase (drop (length (user_actions_of entries)) (user_actions_to_do input)) ≡ phase =
+      ap (λ (ds : List UserAction). next_phase (drop (length ds) (user_actions_to_do input))) deeds_so_far
+      ∙ phase_of_deed input 0 next l at.line_is adds.no_phase ∙ (let r = ready in omega arith) in
+      follows_user_line phase (entries ++ e ∷ []) (λ t. calls_same t entries e (adds.no_call t))
+      (deeds_of-append entries (e ∷ []) ∙ ap (λ (ds : List UserAction). user_actions_of entries ++ ds) adds.deed_is)
+      (omega (arith, length-append entries (e ∷ [])))
+      (subst (λ (ps : List ℕ). IsNonDecreasing (ps ++ phase ∷ []))
+      (sym (phases_deed (map calls_to_make scripts) (user_actions_to_do input) entries e adds.is_users
+      ∙ ap (λ (p : ℕ). phases_along (map calls_to_make scripts) (user_actions_to_do input) entries ++ p ∷ [])
+      at_phase))
+      (again (phases_along (map calls_to_make scripts) (user_actions_to_do input) entries) phase f.phases))
+
+  -- the end of a user's phase was served
+  pub follows_user_phase : (phase' : ℕ) → user_actions_in (l ∷ []) ≡ [] → phase ≤ phase'
+      → Follows scripts input (raised counts (length scripts)) phase' entries
+  follows_user_phase phase' none up = follows_user_line phase' entries (λ t. refl)
+      (sym (ap (λ (ds : List UserAction). user_actions_of entries ++ ds) none ∙ append-nil _)) (omega arith)
+      (rises (phases_along (map calls_to_make scripts) (user_actions_to_do input) entries) phase phase' up f.phases)
 
 -- ---- room in the journal
 
@@ -281,46 +251,33 @@ counts_within (s ∷ scripts) most (c ∷ cs) long few last =
     let b = sum_by-cons (λ (x : ℕ). x) (length s) (map length scripts) in
     omega (arith, a, b, rest, here)
 
-pub all_within : (scripts : List (List Line)) (input : List InputLine) (counts : List ℕ) (phase : ℕ)
-    (entries : List Entry) → Follows scripts input counts phase entries → sum counts ≤ lines_of_all scripts input
-all_within scripts input counts phase entries f =
-    counts_within scripts (length input) counts f.each (λ t h. let a = f.few t h in let b =
-    served_short (script_in scripts t) in omega (arith, a, b)) f.user_few
+module _ {scripts : List (List Line)} {input : List InputLine} {counts : List ℕ} {phase : ℕ} {entries : List Entry}
+    (f : Follows scripts input counts phase entries) where
+  -- there is room for an entry of each line that is left
+  pub entries_within : length entries ≤ lines_of_all scripts input
+  entries_within =
+      let all : sum counts ≤ lines_of_all scripts input = counts_within scripts (length input) counts f.each
+      (λ t h. omega (arith, f.few t h, served_short (script_in scripts t))) f.user_few in
+      let least = f.small in
+      omega (arith, all, least)
 
--- there is room for an entry of each line that is left
-pub entries_within : (scripts : List (List Line)) (input : List InputLine) (counts : List ℕ) (phase : ℕ)
-    (entries : List Entry) → Follows scripts input counts phase entries → length entries ≤ lines_of_all scripts input
-entries_within scripts input counts phase entries f = let a = all_within scripts input counts phase entries f in let b =
-    f.small in omega (arith, a, b)
+  -- ---- all lines are served
 
--- ---- all lines are served
-
-calls_whole : (scripts : List (List Line)) (input : List InputLine) (counts : List ℕ) (phase : ℕ) (entries : List Entry)
-    → Follows scripts input counts phase entries → AllServed scripts input counts
-    → (t : ℕ) → t < length scripts → calls_of t entries ≡ done (to_do (map calls_to_make scripts) t)
-calls_whole scripts input counts phase entries f all t h =
-    f.calls t h ∙ ap (λ (ls : List Line). calls_in ls)
-    (take_all (slice_index counts t) (served (script_in scripts t)) (let e = all.0 t h in omega (arith, e)))
-    ∙ calls_served (script_in scripts t) ∙ calls_done 0 (script_in scripts t) ∙ ap done (sym (made_of scripts t))
-
-length-made : (scripts : List (List Line)) → length (map calls_to_make scripts) ≡ length scripts
-length-made [] = refl
-length-made (s ∷ scripts) = ap suc (length-made scripts)
-
-pub whole : (scripts : List (List Line)) (input : List InputLine) (counts : List ℕ) (phase : ℕ) (entries : List Entry)
-    → Follows scripts input counts phase entries → AllServed scripts input counts
-    → IsWhole (map calls_to_make scripts) (user_actions_to_do input) (entries ++ entry.Final ∷ [])
-whole scripts input counts phase entries f all =
-    record {
-      calls = λ t h. calls_same t entries entry.Final refl
-          ∙ calls_whole scripts input counts phase entries f all t (let n = length-made scripts in omega (arith, n, h));
-      deeds = deeds_same entries entry.Final refl ∙ f.deeds
-          ∙ ap user_actions_in (take_all (slice_index counts (length scripts)) input (let e =
-          all.1 in omega (arith, e))) ∙ deeds_done 0 input;
-      phases = subst IsNonDecreasing (sym (phases_final (map calls_to_make scripts) (user_actions_to_do input) entries))
-          (without_last (phases_along (map calls_to_make scripts) (user_actions_to_do input) entries) phase f.phases);
-      ends = (entries, refl);
-    }
+  pub whole : AllServed scripts input counts
+      → IsWhole (map calls_to_make scripts) (user_actions_to_do input) (entries ++ entry.Final ∷ [])
+  whole all = record {
+    calls = λ t h. let inside : t < length scripts = omega (arith, length-map scripts calls_to_make, h) in
+        calls_same t entries entry.Final refl ∙ f.calls t inside
+        ∙ ap calls_in (take_all (slice_index counts t) (served (script_in scripts t)) (let e = all.0 t inside in omega
+        (arith, e)))
+        ∙ calls_served (script_in scripts t) ∙ calls_done 0 (script_in scripts t) ∙ ap done (sym (made_of scripts t));
+    deeds = deeds_same entries entry.Final refl ∙ f.deeds
+        ∙ ap user_actions_in (take_all (slice_index counts (length scripts)) input (let e =
+        all.1 in omega (arith, e))) ∙ deeds_done 0 input;
+    phases = subst IsNonDecreasing (sym (phases_final (map calls_to_make scripts) (user_actions_to_do input) entries))
+        (without_last (phases_along (map calls_to_make scripts) (user_actions_to_do input) entries) phase f.phases);
+    ends = (entries, refl);
+  }
 
 -- ---- fronts of the scripts
 

@@ -1,24 +1,18 @@
 -- A room and a clip pass after a clip call, and clip passes that are done.
-use Rattle.nit_hall.proofs.Basics.{AllByRecursion, AreInPhases, AreTogether, Belongs}
-use Rattle.nit_hall.proofs.Basics.{Call, ClipBelongs, ClipCall, ClipEntry, ClipLine}
-use Rattle.nit_hall.proofs.Basics.{ClipPassModel, ClipReply, Configuration, Entry}
-use Rattle.nit_hall.proofs.Basics.{FollowsClips, IsAtClip, IsAtPhaseEnd}
-use Rattle.nit_hall.proofs.Basics.{IsInPhase, IsLegalClips, IsOpen, IsRoom}
-use Rattle.nit_hall.proofs.Basics.{List, PassModel, RoomModel}
-use Rattle.nit_hall.proofs.Basics.{Some, UserAction, [], ap, ap₂, arith, calls_in}
-use Rattle.nit_hall.proofs.Basics.{calls_of, calls_to_make, calls_up_to, cases_eq, clip_answer}
-use Rattle.nit_hall.proofs.Basics.{clip_calls_in, clip_calls_of, clip_entry, clip_phases_before}
-use Rattle.nit_hall.proofs.Basics.{clip_script_in, clipboard_of, clips_to_do, clips_to_make}
-use Rattle.nit_hall.proofs.Basics.{count_by, drop, get_or_from_slice_get, inl, inr}
-use Rattle.nit_hall.proofs.Basics.{is_clip_phase, left_after, length, length-append}
-use Rattle.nit_hall.proofs.Basics.{length-set, lines_of_clips, map}
+use Rattle.nit_hall.proofs.Basics.{AllByRecursion, AreTogether, Belongs, Call, CallLaws}
+use Rattle.nit_hall.proofs.Basics.{ClipBelongs, ClipCall, ClipLine, ClipPassModel, ClipReply}
+use Rattle.nit_hall.proofs.Basics.{Configuration, Entry, FollowsClips, IsAtClip, IsAtPhaseEnd}
+use Rattle.nit_hall.proofs.Basics.{IsInPhase, IsOpen, IsRoom, List, PassModel, RoomModel, [], ap}
+use Rattle.nit_hall.proofs.Basics.{ap₂, arith, calls_in, calls_of, calls_to_make, calls_up_to}
+use Rattle.nit_hall.proofs.Basics.{cases_eq, clip_answer, clip_calls_in, clip_calls_of, clip_entry}
+use Rattle.nit_hall.proofs.Basics.{clip_phases_before, clip_script_in, clipboard_of, clips_to_do}
+use Rattle.nit_hall.proofs.Basics.{clips_to_make, drop, get_or_from_slice_get, inl, inr, left_after}
+use Rattle.nit_hall.proofs.Basics.{length, length-append, length-set, lines_of_clips, map}
 use Rattle.nit_hall.proofs.Basics.{next_clip, next_phase, phases_along, phases_before, raised, refl}
-use Rattle.nit_hall.proofs.Basics.{replay, script_in, served, slice_get}
-use Rattle.nit_hall.proofs.Basics.{slice_get_within, slice_index, state_now, subst, sum}
-use Rattle.nit_hall.proofs.Basics.{sum_by-cons, take_all, to_do, user_actions_to_do, with_clip}
-use Rattle.nit_hall.proofs.Basics.{without_final}
-use Rattle.std.proofs.Common.{suc, sym, take, zero, ℕ, ◌++◌, ◌+◌, ◌-◌, ◌<◌, ◌∙◌, ◌∷◌, ◌≡◌, ◌≤◌}
-use Rattle.nit_clip.specs.declared.line.ClipLine.TheVariants as line
+use Rattle.nit_hall.proofs.Basics.{replay, script_in, served, slice_get_within, slice_index}
+use Rattle.nit_hall.proofs.Basics.{state_now, subst, sum, sum_by-cons, take_all, to_do}
+use Rattle.nit_hall.proofs.Basics.{user_actions_to_do, with_clip, without_final}
+use Rattle.std.proofs.Common.{suc, sym, take, ℕ, ◌++◌, ◌+◌, ◌<◌, ◌∙◌, ◌∷◌, ◌≡◌, ◌≤◌}
 use Rattle.nit_hall.proofs.LineLemmas.{front_short}
 use Rattle.nit_hall.proofs.FinalEntries.{open_whole}
 use Rattle.nit_hall.proofs.ScriptsFollowed.{raised_at, raised_other, sum_raised, made_of}
@@ -27,25 +21,6 @@ use Rattle.nit_hall.proofs.ClipLineLemmas.{clips_front, clips_short, made_by, ow
 use Rattle.nit_hall.proofs.ClipLineLemmas.{calls_of_phases, all_up_to}
 
 -- ---- before it
-
--- what the laws of clip scripts and of clip lists say of one more clip call
-pub record CallLaws : Type 0 where
-  pub call : (lines : List ClipLine) (k : ℕ) (c : ClipCall) → slice_get lines k ≡ Some (line.Call c)
-      → clip_calls_in (take (k + 1) lines) ≡ clip_calls_in (take k lines) ++ c ∷ []
-  pub phase : (lines : List ClipLine) (k : ℕ) (c : ClipCall) → slice_get lines k ≡ Some (line.Call c)
-      → next_phase (drop (length (clip_calls_in (take k lines))) (clips_to_make lines))
-      ≡ count_by is_clip_phase (take k lines)
-  pub left : (scripts : List (List (ℕ × ClipCall))) (clips : List ClipEntry) (sid : ℕ)
-      → clips_to_do (left_after scripts clips) sid ≡ drop (length (clip_calls_of sid clips)) (clips_to_do scripts sid)
-  pub legal : (config : Configuration) (journal : List Entry) (clips : List ClipEntry) (c : ClipEntry)
-      → IsLegalClips config journal clips → IsOpen journal → c.at ≡ length journal → c.sid < length config.clients
-      → c.focus ≡ (replay config journal).input.focus
-      → c.reply ≡ clip_answer (clipboard_of clips) c.focus c.sid c.call → IsLegalClips config journal (clips ++ c ∷ [])
-  pub placed : (clients : List (List (ℕ × Call))) (user : List (ℕ × UserAction)) (journal : List Entry)
-      (scripts : List (List (ℕ × ClipCall))) (clips : List ClipEntry) (c : ClipEntry)
-      → AreInPhases clients user journal scripts clips
-      → IsInPhase clients user journal (next_phase (clips_to_do (left_after scripts clips) c.sid)) c
-      → AreInPhases clients user journal scripts (clips ++ c ∷ [])
 
 -- the room and both passes at a clip call
 pub record FoundClip (r : RoomModel) (p : PassModel) (q : ClipPassModel) : Type 0 where
@@ -61,7 +36,19 @@ pub record FoundClip (r : RoomModel) (p : PassModel) (q : ClipPassModel) : Type 
   pub phase_is : p.phase ≡ phases_before p.script p.next
   pub clip_phase_is : q.phase ≡ clip_phases_before q.script q.next
 
-module _ (laws : CallLaws) (r : RoomModel) (p : PassModel) (q : ClipPassModel) (room : IsRoom r) (f : FoundClip r p q)
+counts_most : (scripts : List (List ClipLine)) (counts : List ℕ) → length counts ≡ length scripts
+    → ((t : ℕ) → slice_index counts t ≤ length (clip_script_in scripts t)) → sum counts ≤ lines_of_clips scripts
+counts_most [] [] long few = omega arith
+counts_most [] (c ∷ counts) long few = absurd (omega (arith, long))
+counts_most (s ∷ scripts) [] long few = absurd (omega (arith, long))
+counts_most (s ∷ scripts) (c ∷ counts) long few =
+    let rest = counts_most scripts counts (omega (arith, long)) (λ t. few (suc t)) in
+    let here : c ≤ length s = few 0 in
+    let a = sum_by-cons (λ (x : ℕ). x) c counts in
+    let b = sum_by-cons (λ (x : ℕ). x) (length s) (map length scripts) in
+    omega (arith, rest, here, a, b)
+
+module _ (laws : CallLaws) {r : RoomModel} {p : PassModel} {q : ClipPassModel} (room : IsRoom r) (f : FoundClip r p q)
   where
     -- the clip script of the client
     script_is : clip_script_in r.parts.clips q.sid ≡ q.script
@@ -135,63 +122,23 @@ module _ (laws : CallLaws) (r : RoomModel) (p : PassModel) (q : ClipPassModel) (
         → IsInPhase (map calls_to_make r.parts.scripts) (user_actions_to_do r.parts.input) r.scene.entries
         (next_phase (clips_to_do (left_after (map clips_to_make r.parts.clips) r.clips.entries) q.sid))
         (clip_entry r q reply)
-    in_phase reply =
-        subst (λ (n : ℕ). IsInPhase (map calls_to_make r.parts.scripts) (user_actions_to_do r.parts.input)
-        r.scene.entries
-        n (clip_entry r q reply)) (sym next_in)
-        (record { behind = let e = called in omega (arith, e); before = phases_so_far })
+    in_phase reply = rw next_in (record { behind = let e = called in omega (arith, e); before = phases_so_far })
+
+    few_then : (t : ℕ) → slice_index (raised r.clip_counts q.sid) t ≤ length
+        (clip_calls_in (clip_script_in r.parts.clips t))
+    few_then t = elim (cases_eq t q.sid) [
+      | inl e ↦ rw (e, script_is) one_left
+      | inr ne ↦ omega (arith, raised_other r.clip_counts q.sid t ne, room.clips_follow.few t)
+    ]
 
     -- there is room
     pub room_left : 1 ≤ r.clips.spare
     room_left =
-        let below = counts_below r.parts.clips r.clip_counts q.sid room.clips_follow.each (λ t. let a =
-        room.clips_follow.few t in let b = clips_short (clip_script_in r.parts.clips t) in omega (arith, a, b))
-        (let a = one_left in let b = clips_short q.script in let c = raised_at r.clip_counts q.sid inside in let d =
-        ap length script_is in omega (arith, a, b, c, d)) in
+        let most = counts_most r.parts.clips (raised r.clip_counts q.sid)
+        (length-set r.clip_counts q.sid (slice_index r.clip_counts q.sid + 1) ∙ room.clips_follow.each)
+        (λ t. omega (arith, few_then t, clips_short (clip_script_in r.parts.clips t))) in
         let sum = room.clips_follow.room in
-        omega (arith, below, sum)
-      where
-        counts_most : (scripts : List (List ClipLine)) (counts : List ℕ) → length counts ≡ length scripts
-            → ((t : ℕ) → slice_index counts t ≤ length (clip_script_in scripts t)) → sum counts ≤ lines_of_clips scripts
-        counts_most [] [] long few = omega arith
-        counts_most [] (c ∷ counts) long few = absurd (omega (arith, long))
-        counts_most (s ∷ scripts) [] long few = absurd (omega (arith, long))
-        counts_most (s ∷ scripts) (c ∷ counts) long few =
-            let rest = counts_most scripts counts (omega (arith, long)) (λ t. few (suc t)) in
-            let here : c ≤ length s = few 0 in
-            omega (
-              arith,
-              rest,
-              here,
-              sum_by-cons (λ (x : ℕ). x) c counts,
-              sum_by-cons (λ (x : ℕ). x) (length s) (map length scripts),
-            )
-
-        counts_below : (scripts : List (List ClipLine)) (counts : List ℕ) (t : ℕ) → length counts ≡ length scripts
-            → ((t : ℕ) → slice_index counts t ≤ length (clip_script_in scripts t))
-            → slice_index counts t + 1 ≤ length (clip_script_in scripts t) → sum counts + 1 ≤ lines_of_clips scripts
-        counts_below [] counts t long few one = absurd (omega (arith, one))
-        counts_below (s ∷ scripts) [] t long few one = absurd (omega (arith, long))
-        counts_below (s ∷ scripts) (c ∷ counts) zero long few one =
-            let rest = counts_most scripts counts (omega (arith, long)) (λ t. few (suc t)) in
-            let here : c + 1 ≤ length s = one in
-            omega (
-              arith,
-              rest,
-              here,
-              sum_by-cons (λ (x : ℕ). x) c counts,
-              sum_by-cons (λ (x : ℕ). x) (length s) (map length scripts),
-            )
-        counts_below (s ∷ scripts) (c ∷ counts) (suc t) long few one =
-            let rest = counts_below scripts counts t (omega (arith, long)) (λ t. few (suc t)) one in
-            let here : c ≤ length s = few 0 in
-            omega (
-              arith,
-              rest,
-              here,
-              sum_by-cons (λ (x : ℕ). x) c counts,
-              sum_by-cons (λ (x : ℕ). x) (length s) (map length scripts),
-            )
+        omega (arith, most, sum_raised r.clip_counts q.sid inside, sum)
 
     -- ---- after it
 
@@ -210,17 +157,6 @@ module _ (laws : CallLaws) (r : RoomModel) (p : PassModel) (q : ClipPassModel) (
         | inr ne ↦ other_clip t r.clips.entries (clip_entry r q reply) (λ e. ne (sym e)) ∙ room.clips_follow.calls t
             ∙ ap (λ (n : ℕ). take n (clip_calls_in (clip_script_in r.parts.clips t)))
             (sym (raised_other r.clip_counts q.sid t ne))
-      ]
-
-      few_then : (t : ℕ) → slice_index (raised r.clip_counts q.sid) t ≤ length
-          (clip_calls_in (clip_script_in r.parts.clips t))
-      few_then t = elim (cases_eq t q.sid) [
-        | inl e ↦ subst (λ (x : ℕ). slice_index (raised r.clip_counts q.sid) x ≤ length
-            (clip_calls_in (clip_script_in r.parts.clips x))) (sym e)
-            (subst (λ (s : List ClipLine). slice_index (raised r.clip_counts q.sid) q.sid ≤ length (clip_calls_in s))
-            (sym script_is) one_left)
-        | inr ne ↦ let same = raised_other r.clip_counts q.sid t ne in let most =
-            room.clips_follow.few t in omega (arith, same, most)
       ]
 
       session_is : q.sid < length r.parts.config.clients

@@ -1,7 +1,7 @@
 -- The words of the library and of the crates below that are used here, and the crate's plain types.
 pub use Rattle.nit_clip.specs.Clip.{ClipModel, most_clips}
 pub use Rattle.nit_clip.specs.ClipGrammar.{is_clip_phase}
-pub use Rattle.nit_clip.specs.Clipboard.{IsClipAnswer, clip_answer, clipboard_of}
+pub use Rattle.nit_clip.specs.Clipboard.{IsClipAnswer, clip_answer, clipboard_of, last_at}
 pub use Rattle.nit_clip.specs.LegalClips.{IsLegalClips, IsThere, before_final}
 pub use Rattle.nit_clip.specs.WholeClips.{AreInPhases, IsInPhase, IsWholeClips, calls_up_to}
 pub use Rattle.nit_clip.specs.WholeClips.{clip_calls_in, clip_calls_of, clips_to_do, clips_to_make}

@@ -1,40 +1,39 @@
 -- The words that clauses use: those that come from outside, and those of this crate.
-pub use Rattle.nit_hall.specs.Below.{Agrees, AllByRecursion, AreInPhases, Bare, Black, BookModel}
-pub use Rattle.nit_hall.specs.Below.{BookName, Call, ClipCall, ClipEntry, ClipLine, ClipModel}
-pub use Rattle.nit_hall.specs.Below.{ClipReply, Configuration, Device, Does, End, Entry, FitsDevice}
-pub use Rattle.nit_hall.specs.Below.{InputLine, IsConfiguration, IsDevice, IsDonation, IsGlass}
-pub use Rattle.nit_hall.specs.Below.{IsInPhase, IsInked, IsLegal, IsLegalClips, IsLoaded}
-pub use Rattle.nit_hall.specs.Below.{IsNonDecreasing, IsOpen, IsPaintedTo, IsPlanOf, IsThere}
-pub use Rattle.nit_hall.specs.Below.{IsTrue, IsWhole, IsWholeClips, IsWord, IsWordOfSource}
-pub use Rattle.nit_hall.specs.Below.{JournalModel, LegalFrom, Line, List, Member, Option, Painted}
-pub use Rattle.nit_hall.specs.Below.{Painting, PixelSource, PlanModel, Point, Reply, Routed}
-pub use Rattle.nit_hall.specs.Below.{SceneModel, ShareModel, Shoots, Sight, Some, State, Stroke}
-pub use Rattle.nit_hall.specs.Below.{UserAction, Word, after, after_line, bare_word, before_final}
-pub use Rattle.nit_hall.specs.Below.{blank, calls_from, calls_in, calls_of, calls_to_make}
-pub use Rattle.nit_hall.specs.Below.{calls_up_to, clip_answer, clip_calls_in, clip_calls_of}
-pub use Rattle.nit_hall.specs.Below.{clipboard_of, clips_to_do, clips_to_make, count_by}
-pub use Rattle.nit_hall.specs.Below.{deliveries_of, dirty, donation_of, done, first_state, frame}
+pub use Rattle.nit_hall.specs.Below.{AllByRecursion, AreInPhases, Bare, Black, BookModel, BookName}
+pub use Rattle.nit_hall.specs.Below.{Call, ClipCall, ClipEntry, ClipLine, ClipModel, ClipReply}
+pub use Rattle.nit_hall.specs.Below.{Configuration, Device, Does, End, Entry, FitsDevice, InputLine}
+pub use Rattle.nit_hall.specs.Below.{IsConfiguration, IsDevice, IsDonation, IsGlass, IsInPhase}
+pub use Rattle.nit_hall.specs.Below.{IsInked, IsLegal, IsLegalClips, IsLoaded, IsNonDecreasing}
+pub use Rattle.nit_hall.specs.Below.{IsOpen, IsPaintedTo, IsPlanOf, IsThere, IsTrue, IsWhole}
+pub use Rattle.nit_hall.specs.Below.{IsWholeClips, IsWord, IsWordOfSource, JournalModel, Line, List}
+pub use Rattle.nit_hall.specs.Below.{Member, Option, Painted, Painting, PixelSource, PlanModel}
+pub use Rattle.nit_hall.specs.Below.{Reply, Routed, SceneModel, ShareModel, Shoots, Sight, Some}
+pub use Rattle.nit_hall.specs.Below.{State, Stroke, UserAction, Word, after, after_line, bare_word}
+pub use Rattle.nit_hall.specs.Below.{before_final, blank, calls_from, calls_in, calls_of}
+pub use Rattle.nit_hall.specs.Below.{calls_to_make, calls_up_to, clip_answer, clip_calls_in}
+pub use Rattle.nit_hall.specs.Below.{clip_calls_of, clipboard_of, clips_to_do, clips_to_make}
+pub use Rattle.nit_hall.specs.Below.{count_by, deliveries_of, donation_of, done, first_state, frame}
 pub use Rattle.nit_hall.specs.Below.{glass_in, glasses_of_call, ink, into_iter_items, is_accepted}
 pub use Rattle.nit_hall.specs.Below.{is_clip_phase, is_input_phase, is_phase, kills, left_after}
 pub use Rattle.nit_hall.specs.Below.{length, map, most_clips, most_entries, most_height, most_lines}
 pub use Rattle.nit_hall.specs.Below.{most_sessions, most_shares, most_width, nat_le, new_sight}
 pub use Rattle.nit_hall.specs.Below.{next_phase, no_sight, option_map, painted_from, phases_along}
 pub use Rattle.nit_hall.specs.Below.{pixel, pixel_count, plan_in, raised, range_with_len}
-pub use Rattle.nit_hall.specs.Below.{reader_sight, replay, replay_from, replicate, route, routed_as}
-pub use Rattle.nit_hall.specs.Below.{scenery_of, script_in, seen, serve, session, shots, slice_get}
-pub use Rattle.nit_hall.specs.Below.{slice_index, slice_index_or, source_at, source_of, state_now}
-pub use Rattle.nit_hall.specs.Below.{sum, sum_by, table_size, take, to_do, user_actions_from}
-pub use Rattle.nit_hall.specs.Below.{user_actions_of, user_actions_to_do, with_words, words_after}
-pub use Rattle.nit_hall.specs.Below.{words_left}
+pub use Rattle.nit_hall.specs.Below.{reader_sight, replay, replicate, route, routed_as, scenery_of}
+pub use Rattle.nit_hall.specs.Below.{script_in, seen, serve, session, shots, slice_get, slice_index}
+pub use Rattle.nit_hall.specs.Below.{slice_index_or, source_at, source_of, state_now, sum, sum_by}
+pub use Rattle.nit_hall.specs.Below.{table_size, take, to_do, user_actions_from, user_actions_of}
+pub use Rattle.nit_hall.specs.Below.{user_actions_to_do, with_words, words_after, words_left}
 pub use Rattle.nit_hall.specs.ClipOpening.{AreFirstClipPasses, IsUnserved, with_clip_scripts}
 pub use Rattle.nit_hall.specs.ClipPass.{AreDoneClips, AreTogether, ClipBelongs, ClipPassModel}
 pub use Rattle.nit_hall.specs.ClipPass.{IsAtClip, IsAtClipPhase, IsAtPhaseEnd, IsClipPass}
 pub use Rattle.nit_hall.specs.ClipPass.{IsDoneClip, clip_phases_before, clip_script_in}
 pub use Rattle.nit_hall.specs.ClipPass.{knowing_clip, next_clip}
+pub use Rattle.nit_hall.specs.Meeting.{ClipHasMet, HasMet, UserHasMet}
 pub use Rattle.nit_hall.specs.NearWords.{AreNear, IsLastDirtied, IsNear, IsNearBy, IsNearFrame}
 pub use Rattle.nit_hall.specs.NearWords.{IsWordOfScripts, is_dirtied, words_at_call}
-pub use Rattle.nit_hall.specs.Opening.{AreBlank, AreSplitOff, IsFirst, IsOpening, IsSetting}
-pub use Rattle.nit_hall.specs.Opening.{first_pass, first_user, parts_of}
+pub use Rattle.nit_hall.specs.Opening.{AreBlank, AreSplitOff, CanOpen, IsFirst, IsOpening}
+pub use Rattle.nit_hall.specs.Opening.{IsSetting, first_pass, first_user, parts_of}
 pub use Rattle.nit_hall.specs.OpeningParts.{OpeningParts}
 pub use Rattle.nit_hall.specs.Pass.{AreDone, Belongs, HasLoaded, IsAtCall, IsAtDevice, IsAtPhase}
 pub use Rattle.nit_hall.specs.Pass.{IsAtShot, IsAtUserPhase, IsDonePass, IsDoneUser, IsPass}
@@ -46,6 +45,7 @@ pub use Rattle.nit_hall.specs.Room.{after_arrival, arrived_one, clip_entry, lens
 pub use Rattle.nit_hall.specs.Room.{stands, with_clip, with_entry, with_final, without_final}
 pub use Rattle.nit_hall.specs.RoomClips.{FollowsClips, lines_of_clips}
 pub use Rattle.nit_hall.specs.RoomEnd.{IsKnownPass, left_word, words_left_in}
+pub use Rattle.nit_hall.specs.RoomLaws.{CallLaws, EntryLaws}
 pub use Rattle.nit_hall.specs.ServedLines.{input_phases_before, is_served, lines_of_all}
 pub use Rattle.nit_hall.specs.ServedLines.{lines_to_call, phases_before, served, user_actions_in}
 pub use Rattle.nit_hall.specs.declared.pass.PassRest.{PassRest}

@@ -10,6 +10,9 @@ ghost use Rattle.nit_hall.specs.Pass.{Belongs, UserBelongs, IsAtCall, IsAtPhase,
 ghost use Rattle.nit_hall.specs.Pass.{HasLoaded, IsAtDevice, IsAtShot, call_entry, device_entry};
 ghost use Rattle.nit_hall.specs.Pass.{sight_after_line};
 ghost use Rattle.nit_hall.specs.Hall.{IsMeasured, Tells, TellsShot};
+ghost use Rattle.nit_hall.specs.Kept.{CanShootTo, DoneDevice, DoneShot, EndedPhase, IsReady};
+ghost use Rattle.nit_hall.specs.Kept.{IsReadyAt, IsReadyClip, ServedCall, ServedClip};
+ghost use Rattle.nit_hall.specs.Kept.{UserEndedPhase, UserIsReadyAt};
 
 use crate::clip_pass::ClipPass;
 use crate::pass::Pass;
@@ -75,102 +78,52 @@ impl<'a, N: Name> Kept<'a, N> {
     }
 
     fn admit(&self, pass: &mut Pass<'a>)
-        requires belongs { Belongs N.parts pass.old }
-        requires ready { pass.old.phase ≡ self.now.phase }
+        requires { IsReady N.parts self.now.phase pass.old }
         ensures { pass.new ≡ record pass.old { met = pass.old.phase } }
     {
         self.room.admit(pass);
     }
 
     fn serve(&mut self, pass: &mut Pass<'a>) -> Reply
-        requires belongs { Belongs N.parts pass.old }
-        requires ready { pass.old.phase ≡ self.old.phase }
-        requires next { IsAtCall pass.old }
-        ensures told { Tells pass.old.seen (call_entry pass.old result) pass.new.seen }
-        ensures legal { IsLegal N.parts.config pass.new.seen }
-        ensures pass { pass.new ≡ record pass.old {
-          next = pass.old.next + 1;
-          met = pass.old.phase;
-          seen = pass.new.seen;
-          sight = pass.new.sight;
-        } }
-        ensures sight { HasLoaded (sight_after_line pass.old) pass.new.sight }
+        requires { IsReadyAt N.parts self.old.phase IsAtCall pass.old }
+        ensures { ServedCall N.parts pass.old result pass.new }
     {
         self.room.serve(pass)
     }
 
     fn arrive(&mut self, pass: &mut Pass<'a>)
-        requires belongs { Belongs N.parts pass.old }
-        requires ready { pass.old.phase ≡ self.old.phase }
-        requires next { IsAtPhase pass.old }
-        ensures grows { IsPrefix pass.old.seen pass.new.seen }
-        ensures legal { IsLegal N.parts.config pass.new.seen }
-        ensures pass { pass.new ≡ record pass.old {
-          next = pass.old.next + 1;
-          phase = pass.old.phase + 1;
-          seen = pass.new.seen;
-        } }
+        requires { IsReadyAt N.parts self.old.phase IsAtPhase pass.old }
+        ensures { EndedPhase N.parts pass.old pass.new }
     {
         self.room.arrive(pass);
     }
 
     fn clip(&mut self, pass: &mut Pass<'a>, clip: &mut ClipPass<'a>) -> ClipReply
-        requires belongs { Belongs N.parts pass.old }
-        requires clip_belongs { ClipBelongs N.parts clip.old }
-        requires together { AreTogether pass.old clip.old }
-        requires ready { pass.old.phase ≡ self.old.phase }
-        requires phase_end { IsAtPhaseEnd pass.old }
-        requires next { IsAtClip clip.old }
-        ensures answer { IsClipAnswer (replay N.parts.config pass.new.seen).input.focus clip.old.sid
-            (next_clip clip.old) result }
-        ensures grows { IsPrefix pass.old.seen pass.new.seen }
-        ensures legal { IsLegal N.parts.config pass.new.seen }
-        ensures pass { pass.new
-            ≡ record pass.old { met = pass.old.phase; seen = pass.new.seen } }
-        ensures clip { clip.new
-            ≡ record clip.old { next = clip.old.next + 1; seen = pass.new.seen } }
+        requires pass { IsReadyAt N.parts self.old.phase IsAtPhaseEnd pass.old }
+        requires clip { IsReadyClip N.parts pass.old clip.old }
+        ensures { ServedClip N.parts pass.old clip.old result pass.new clip.new }
     {
         let _kept = self.room.scene();
         self.room.clip(pass, clip)
     }
 
     fn user(&mut self, user: &mut UserPass<'a>) -> Routed
-        requires belongs { UserBelongs N.parts user.old }
-        requires ready { user.old.phase ≡ self.old.phase }
-        requires next { IsAtDevice user.old }
-        ensures told { Tells user.old.seen (device_entry user.old result) user.new.seen }
-        ensures legal { IsLegal N.parts.config user.new.seen }
-        ensures user { user.new
-            ≡ record user.old { next = user.old.next + 1; seen = user.new.seen } }
+        requires { UserIsReadyAt N.parts self.old.phase IsAtDevice user.old }
+        ensures { DoneDevice N.parts user.old result user.new }
     {
         self.room.user(user)
     }
 
     fn arrive_user(&mut self, user: &mut UserPass<'a>)
-        requires belongs { UserBelongs N.parts user.old }
-        requires ready { user.old.phase ≡ self.old.phase }
-        requires next { IsAtUserPhase user.old }
-        ensures grows { IsPrefix user.old.seen user.new.seen }
-        ensures legal { IsLegal N.parts.config user.new.seen }
-        ensures user { user.new ≡ record user.old {
-          next = user.old.next + 1;
-          phase = user.old.phase + 1;
-          seen = user.new.seen;
-        } }
+        requires { UserIsReadyAt N.parts self.old.phase IsAtUserPhase user.old }
+        ensures { UserEndedPhase N.parts user.old user.new }
     {
         self.room.arrive_user(user);
     }
 
     fn shoot(&mut self, user: &mut UserPass<'a>, out: &mut [u32]) -> u32
-        requires belongs { UserBelongs N.parts user.old }
-        requires ready { user.old.phase ≡ self.old.phase }
-        requires next { IsAtShot user.old }
-        requires out { length out.old ≡ N.parts.config.width * N.parts.config.height }
-        ensures told { TellsShot N.parts user.old.seen result user.new.seen out.new }
-        ensures legal { IsLegal N.parts.config user.new.seen }
-        ensures words { All IsWord out.new }
-        ensures user { user.new
-            ≡ record user.old { next = user.old.next + 1; seen = user.new.seen } }
+        requires { CanShootTo N.parts self.old.phase user.old out.old }
+        ensures { DoneShot N.parts user.old result user.new out.new }
     {
         self.room.shoot(user, out)
     }

@@ -4,16 +4,15 @@ mod calls;
 mod clip_opening;
 mod clips;
 mod deeds;
+mod entry_laws;
 mod last;
 mod phases;
 mod served;
 
 ghost use Rattle.std.specs.Prelude.{◌≡◌, ◌+◌, ◌*◌, ◌≤◌, ◌==◌, [], length, replicate};
-ghost use Rattle.nit_hall.specs.Terms.{AreNear, Belongs, HaveInks, IsLegal, IsPaintedTo, IsRoom};
-ghost use Rattle.nit_hall.specs.Terms.{Some, UserBelongs, bare_word, lines_of_all, most_height};
-ghost use Rattle.nit_hall.specs.Terms.{most_sessions, most_width, served, slice_index, take};
-ghost use Rattle.nit_hall.specs.Terms.{without_final, words_after};
-ghost use mathlib.Core.List.{IsPrefix};
+ghost use Rattle.nit_hall.specs.Terms.{AreNear, Belongs, HasMet, HaveInks, IsLegal, IsRoom};
+ghost use Rattle.nit_hall.specs.Terms.{UserBelongs, UserHasMet, bare_word, lines_of_all};
+ghost use Rattle.nit_hall.specs.Terms.{most_height, most_sessions, most_width};
 
 use crate::parts::Parts;
 use crate::pass::Pass;
@@ -196,17 +195,7 @@ impl<'a> Room<'a> {
     /// Shows the pass what is in the book. Its share is the book's at its number.
     fn meet(&mut self, pass: &mut Pass<'a>)
         requires { Belongs self.old.parts pass.old }
-        ensures room { self.new ≡ self.old }
-        ensures pass { pass.new
-            ≡ record pass.old { seen = without_final self.old.scene.entries } }
-        ensures before { IsPrefix pass.old.seen (without_final self.old.scene.entries) }
-        ensures counted { slice_index self.old.counts pass.old.sid
-            ≡ length (served (take pass.old.next pass.old.script)) }
-        ensures owner { pass.old.sight.owner ≡ pass.old.sid }
-        ensures painted { IsPaintedTo pass.old.script pass.old.donation pass.old.plan pass.old.next
-            pass.old.sight }
-        ensures told { pass.old.sight.words
-            ≡ Some (words_after pass.old.script pass.old.donation pass.old.next) }
+        ensures { HasMet self.old pass.old self.new pass.new }
     {
         self.book.meet(&mut pass.share);
     }
@@ -214,12 +203,7 @@ impl<'a> Room<'a> {
     /// Shows the user's pass what is in the book. Its share is the book's at its number.
     fn meet_user(&mut self, user: &mut UserPass<'a>)
         requires { UserBelongs self.old.parts user.old }
-        ensures room { self.new ≡ self.old }
-        ensures user { user.new
-            ≡ record user.old { seen = without_final self.old.scene.entries } }
-        ensures before { IsPrefix user.old.seen (without_final self.old.scene.entries) }
-        ensures counted { slice_index self.old.counts (length self.old.parts.scripts)
-            ≡ user.old.next }
+        ensures { UserHasMet self.old user.old self.new user.new }
     {
         self.book.meet(&mut user.share);
     }

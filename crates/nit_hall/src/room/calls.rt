@@ -7,13 +7,11 @@ ghost use Rattle.nit_hall.specs.Terms.{call_entry, glass_in, glasses_of_call, is
 ghost use Rattle.nit_hall.specs.Terms.{next_call, serve, served, session, sight_after_line, stands};
 ghost use Rattle.nit_hall.specs.Terms.{state_now, with_entry};
 
-use crate::laws::clips_stay;
 use crate::pass::Pass;
 use crate::room::Room;
+use crate::room::entry_laws::one_more;
 use nit_events::{Entry, Reply};
-use nit_journal::laws::one_more_entry;
 use nit_plan::stroke;
-use nit_scene::laws::clean_pixels_keep_their_source;
 
 impl<'a> Room<'a> {
     /// Serves the next line of the pass, which is a call: it is the scene's call of that very line.
@@ -54,9 +52,7 @@ impl<'a> Room<'a> {
             × (self.new.scene.glasses ≡ self.old.scene.glasses)
             × (pass.new.sight ≡ sight_after_line pass.old) }
     {
-        clips_stay();
-        one_more_entry();
-        clean_pixels_keep_their_source();
+        one_more();
         self.meet(pass);
         let call = pass.next_call();
         stroke(&mut pass.canvas, pass.script, pass.plan, pass.next as usize);

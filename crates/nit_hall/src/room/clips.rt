@@ -2,8 +2,8 @@
 
 ghost use Rattle.std.specs.Prelude.{◌≡◌, ◌+◌, ℕ, length, map, slice_get, slice_index, Some, take};
 ghost use mathlib.Core.List.{IsPrefix};
-ghost use Rattle.nit_hall.specs.Terms.{AreDoneClips, AreTogether, Belongs, ClipBelongs};
-ghost use Rattle.nit_hall.specs.Terms.{ClipPassModel, IsAtClip, IsAtPhaseEnd, IsLegal};
+ghost use Rattle.nit_hall.specs.Terms.{AreDoneClips, AreTogether, Belongs, CallLaws, ClipBelongs};
+ghost use Rattle.nit_hall.specs.Terms.{ClipHasMet, ClipPassModel, IsAtClip, IsAtPhaseEnd, IsLegal};
 ghost use Rattle.nit_hall.specs.Terms.{IsLegalClips, IsOpen, IsWholeClips, calls_to_make};
 ghost use Rattle.nit_hall.specs.Terms.{clip_answer, clip_calls_in, clip_entry, clipboard_of};
 ghost use Rattle.nit_hall.specs.Terms.{clips_to_make, knowing_clip, next_clip, state_now};
@@ -43,10 +43,7 @@ impl<'a> Room<'a> {
         ensures legal_clips { IsLegalClips self.old.parts.config self.old.scene.entries
             self.new.clips.entries }
     {
-        calls_of_a_clip_script();
-        left_to_do();
-        one_more_clip();
-        one_more_placed();
+        one_more_call();
         let _ended = pass.phase();
         self.meet(pass);
         self.admit(pass);
@@ -107,13 +104,18 @@ impl<'a> Room<'a> {
     /// Shows the clip pass what is in the book. Its share is the book's at its number.
     fn meet_clip(&mut self, clip: &mut ClipPass<'a>)
         requires { ClipBelongs self.old.parts clip.old }
-        ensures room { self.new ≡ self.old }
-        ensures clip { clip.new
-            ≡ record clip.old { seen = without_final self.old.scene.entries } }
-        ensures before { IsPrefix clip.old.seen (without_final self.old.scene.entries) }
-        ensures counted { slice_index self.old.clip_counts clip.old.sid
-            ≡ length (clip_calls_in (take clip.old.next clip.old.script)) }
+        ensures { ClipHasMet self.old clip.old self.new clip.new }
     {
         self.book.meet(&mut clip.share);
     }
+}
+
+/// What the laws of clip scripts and of clip lists say of one more clip call.
+fn one_more_call()
+    ensures { CallLaws }
+{
+    calls_of_a_clip_script();
+    left_to_do();
+    one_more_clip();
+    one_more_placed();
 }

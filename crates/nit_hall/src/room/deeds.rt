@@ -8,12 +8,10 @@ ghost use Rattle.nit_hall.specs.Terms.{glass_in, kills, lenses, next_device, rou
 ghost use Rattle.nit_hall.specs.Terms.{scenery_of, shots, stands, state_now, with_entry};
 ghost use Rattle.nit_events.specs.declared.entry.Entry.TheVariants as entry;
 
-use crate::laws::clips_stay;
 use crate::room::Room;
+use crate::room::entry_laws::one_more;
 use crate::user::UserPass;
 use nit_events::{Entry, Routed};
-use nit_journal::laws::one_more_entry;
-use nit_scene::laws::clean_pixels_keep_their_source;
 
 impl<'a> Room<'a> {
     /// Does the user's next line, which is of a device: it is the scene's input of that very line.
@@ -43,9 +41,7 @@ impl<'a> Room<'a> {
             → (self.new.scene.raw ≡ self.old.scene.raw)
             × (self.new.scene.glasses ≡ self.old.scene.glasses) }
     {
-        clips_stay();
-        one_more_entry();
-        clean_pixels_keep_their_source();
+        one_more();
         self.meet_user(user);
         let dev = user.next_device();
         let routed = self.scene.input(dev);
@@ -78,9 +74,7 @@ impl<'a> Room<'a> {
         ensures legal { IsLegal self.old.parts.config self.new.scene.entries }
         ensures open { IsOpen self.new.scene.entries }
     {
-        clips_stay();
-        one_more_entry();
-        clean_pixels_keep_their_source();
+        one_more();
         self.meet_user(user);
         let _few = user.input.lines().len();
         let number = self.scene.shot(out);

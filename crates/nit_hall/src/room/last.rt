@@ -9,13 +9,11 @@ ghost use Rattle.nit_hall.specs.Terms.{user_actions_to_do, with_final, without_f
 ghost use Rattle.nit_hall.specs.Terms.{words_left_in};
 ghost use Rattle.nit_events.specs.declared.entry.Entry.TheVariants as entry;
 
-use crate::laws::clips_stay;
 use crate::pass::Pass;
 use crate::room::Room;
+use crate::room::entry_laws::one_more;
 use crate::user::UserPass;
-use nit_journal::laws::one_more_entry;
 use nit_plan::laws::one_more_line;
-use nit_scene::laws::clean_pixels_keep_their_source;
 
 impl<'a> Room<'a> {
     /// Takes the last picture: loads every pixel again through the passes, one for each client in
@@ -44,10 +42,8 @@ impl<'a> Room<'a> {
             (glass_in (map (λ (p : PassModel). p.sight) passes.new))
             self.old.scene.raw self.new.scene.raw }
     {
-        clips_stay();
-        one_more_entry();
+        one_more();
         one_more_line();
-        clean_pixels_keep_their_source();
         self.meet_all(passes);
         self.meet_user(user);
         self.scene.finish(passes, out);

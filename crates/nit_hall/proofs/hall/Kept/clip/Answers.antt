@@ -1,14 +1,21 @@
 use Rattle.nit_hall.proofs.Lemmas.{Configuration, Entry, List, OpeningParts, PassModel, ap, ap₂}
-use Rattle.nit_hall.proofs.Lemmas.{clip_answer, clipboard_of, next_clip, replay, sym, ◌∙◌}
+use Rattle.nit_hall.proofs.Lemmas.{clip_answer, clipboard_of, next_clip, replay, rules, sym, ◌∙◌}
 use Rattle.nit_hall.proofs.hall.Kept.clip.Goals as goal
 
-pub returns-clause-answer : goal.returns-clause-answer
-returns-clause-answer g c =
+pub returns : goal.returns
+returns g c =
     let clipboard = clipboard_of c.self.inside.room.clips.entries in
     let config = c.scene-kept.ensures.config ∙ ap (λ (q : OpeningParts). q.config) c.self.invariant.0 in
-    let entries = sym (ap (λ (p : PassModel). p.seen) c.clip.ensures.pass) in (
-      clipboard,
-      c.clip.ensures.reply
-          ∙ ap₂ (λ (k : Configuration) (js : List Entry). clip_answer clipboard (replay k js).input.focus
-          c.args.clip.now.sid (next_clip c.args.clip.now)) config entries,
-    )
+    let entries = sym (ap (λ (p : PassModel). p.seen) c.clip.ensures.pass) in
+    record {
+      answer = (
+        clipboard,
+        c.clip.ensures.reply
+            ∙ ap₂ (λ (k : Configuration) (js : List Entry). clip_answer clipboard (replay k js).input.focus
+            c.args.clip.now.sid (next_clip c.args.clip.now)) config entries,
+      );
+      grows = search rules;
+      legal = search rules;
+      pass = search rules;
+      clip = search rules;
+    }

@@ -1,106 +1,84 @@
-use Rattle.std.proofs.Common.{List, ap, drop, length, refl, subst, sym, take, ◌+◌, ◌∙◌, ◌≡◌, ◌≤◌}
-use Rattle.nit_hall.proofs.Lemmas.{BookModel, CallLaws, ClipPassModel, Entry, IsLegalClips, IsRoom}
-use Rattle.nit_hall.proofs.Lemmas.{JournalModel, PassModel, RoomModel, ShareModel, back_raised}
-use Rattle.nit_hall.proofs.Lemmas.{clip_answer, clip_counted, clip_pass_call, clipboard_of}
-use Rattle.nit_hall.proofs.Lemmas.{follows_then, found_clip, front_stays, next_clip, number_is}
-use Rattle.nit_hall.proofs.Lemmas.{open_whole, room_clip, room_left, served_clip, state_now}
-use Rattle.nit_hall.proofs.Lemmas.{without_final}
+use Rattle.std.proofs.Common.{ap, drop, length, refl, subst, sym, take, ◌+◌, ◌∙◌, ◌≡◌, ◌≤◌}
+use Rattle.nit_hall.proofs.Lemmas.{BookModel, ClipPassModel, Entry, FoundClip, IsLegalClips, IsRoom}
+use Rattle.nit_hall.proofs.Lemmas.{JournalModel, List, PassModel, RoomModel, ShareModel, arith}
+use Rattle.nit_hall.proofs.Lemmas.{back_raised, clip_answer, clip_counted, clip_pass_call}
+use Rattle.nit_hall.proofs.Lemmas.{clipboard_of, follows_then, next_clip, number_is, open_whole}
+use Rattle.nit_hall.proofs.Lemmas.{room_clip, room_left, served_clip, slice_index, state_now}
+use Rattle.nit_hall.proofs.Lemmas.{take-set-le, without_final}
 use mathlib.Core.List.{IsPrefix}
 use Rattle.nit_hall.proofs.room.Room.clip.Goals as goal
+use Rattle.nit_hall.proofs.room.Room.clip.Goals.{After-entries, After-serve-reply}
+
+-- the room and both passes before the line, as the call finds them
+found_at : (c : After-entries) → FoundClip c.args.self.now c.args.pass.now c.args.clip.now
+found_at c =
+    let r = c.requires in
+    record {
+      belongs = r.belongs;
+      clip_belongs = r.clip_belongs;
+      together = r.together;
+      ready = r.ready;
+      phase_end = r.phase_end;
+      next_is = r.next;
+      open_is = r.«open»;
+      counted = c.meet.ensures.counted;
+      clip_counted = clip_counted c.self.inside.book.counts (c.self.view_is ∙ c.meet.ensures.room) c.clip.view_is
+          c.clip.invariant r.clip_belongs refl c.count.ensures.before.counted;
+      phase_is = c.phase-ended.ensures.ended;
+      clip_phase_is = rw (← c.clip.view_is) c.clip.invariant.phase;
+    }
 
 pub serve-reply-requires-clause-room : goal.serve-reply-requires-clause-room
 serve-reply-requires-clause-room c =
     let er = c.self.view_is ∙ c.meet.ensures.room in
-    let room = subst IsRoom er c.self.invariant.0 in
-    let f = found_clip _ c.args.self.now c.args.pass.now _ c.args.clip.now c.clip.inside.share c.self.inside.book.counts
-    er c.clip.view_is c.clip.invariant refl c.count.ensures.before.counted
-    (record {
-      belongs = c.requires.belongs;
-      clip_belongs = c.requires.clip_belongs;
-      together = c.requires.together;
-      ready = c.requires.ready;
-      phase_end = c.requires.phase_end;
-      next_is = c.requires.next;
-      open_is =
-          c.requires.«open»;
-      counted = c.meet.ensures.counted;
-      phase_is = c.phase-ended.ensures.ended;
-    }) in
-    let laws : CallLaws = record {
-      call = c.calls_of_a_clip_script.ensures.call;
-      phase =
-          c.calls_of_a_clip_script.ensures.phase;
-      left = c.left_to_do.ensures;
-      legal = c.one_more_clip.ensures.legal;
-      placed = c.one_more_placed.ensures;
-    } in
     subst (λ (r : RoomModel). 1 ≤ r.clips.spare) (sym er)
-    (room_left laws c.args.self.now c.args.pass.now c.args.clip.now room f)
+    (room_left c.one_more_call.ensures (subst IsRoom er c.self.invariant.0)
+    (found_at (goal.at.serve-reply-requires-clause-room c).After-entries))
+
+room_at : (c : After-serve-reply) → IsRoom c.args.self.now
+room_at c = subst IsRoom (c.self.view_is ∙ c.meet.ensures.room) c.self.invariant.0
+
+answered_at : (c : After-serve-reply) → c.serve-reply.result ≡ clip_answer (clipboard_of c.args.self.now.clips.entries)
+    (state_now c.args.self.now.scene).input.focus c.args.clip.now.sid (next_clip c.args.clip.now)
+answered_at c =
+    let er = c.self.view_is ∙ c.meet.ensures.room in
+    c.serve-reply.ensures.reply ∙ (λ i. clip_answer (clipboard_of (er i).clips.entries)
+    ((c.focus.ensures ∙ ap (λ (r : RoomModel). (state_now r.scene).input.focus) er) i)
+    (ap (λ (q : ClipPassModel). q.sid) c.clip.view_is i) (c.next_clip-call.ensures.call i))
+
+booked_at : (c : After-serve-reply) → c.self.inside.book.entries ≡ c.args.self.now.scene.entries
+booked_at c = c.self.invariant.1
+    ∙ ap (λ (r : RoomModel). without_final r.scene.entries) (c.self.view_is ∙ c.meet.ensures.room)
+    ∙ open_whole _ c.requires.«open»
 
 pub returns-clause-room : goal.returns-clause-room
 returns-clause-room c =
     let er = c.self.view_is ∙ c.meet.ensures.room in
     let n = length c.self.inside.parts.scripts.now + 1 in
-    let number = number_is _ c.args.self.now _ c.args.clip.now c.clip.inside.share er c.clip.view_is c.clip.invariant
-    c.requires.clip_belongs in
+    let number = number_is er c.clip.view_is c.clip.invariant c.requires.clip_belongs in
     let call = c.next_clip-call.ensures.call ∙ ap next_clip (sym c.clip.view_is) in
     let at = ap length (c.entries.ensures ∙ ap (λ (j : JournalModel). j.entries) c.journal.ensures.entries) in
+    let counts = ap (λ (b : BookModel). b.counts) c.count.ensures.book in
     served_clip _ c.args.self.now _ c.args.clip.now c.count.new.self c.serve-reply.new.self n _ c.focus.result
     c.next_clip-call.result c.serve-reply.result er c.clip.view_is refl
     (ap (λ (b : BookModel). b.name) c.count.ensures.book)
-    (ap (λ (b : BookModel). take n b.counts) c.count.ensures.book
-    ∙ front_stays n c.clip.inside.sid c.clip.inside.share.number c.self.inside.book.counts number)
-    (ap (λ (b : BookModel). drop n b.counts) c.count.ensures.book
-    ∙ back_raised n c.clip.inside.sid c.clip.inside.share.number c.self.inside.book.counts number)
+    (ap (take n) counts ∙ take-set-le n c.self.inside.book.counts c.clip.inside.share.number
+    (slice_index c.self.inside.book.counts c.clip.inside.share.number + 1) (omega (arith, number)))
+    (ap (drop n) counts ∙ back_raised n c.clip.inside.sid c.clip.inside.share.number c.self.inside.book.counts number)
     at c.focus.ensures call c.serve-reply.ensures.recorded
 
 pub invariant_of-self : goal.invariant_of-self
 invariant_of-self c =
-    let er = c.self.view_is ∙ c.meet.ensures.room in
-    let room = subst IsRoom er c.self.invariant.0 in
-    let f = found_clip _ c.args.self.now c.args.pass.now _ c.args.clip.now c.clip.inside.share c.self.inside.book.counts
-    er c.clip.view_is c.clip.invariant refl c.count.ensures.before.counted
-    (record {
-      belongs = c.requires.belongs;
-      clip_belongs = c.requires.clip_belongs;
-      together = c.requires.together;
-      ready = c.requires.ready;
-      phase_end = c.requires.phase_end;
-      next_is = c.requires.next;
-      open_is =
-          c.requires.«open»;
-      counted = c.meet.ensures.counted;
-      phase_is = c.phase-ended.ensures.ended;
-    }) in
-    let laws : CallLaws = record {
-      call = c.calls_of_a_clip_script.ensures.call;
-      phase =
-          c.calls_of_a_clip_script.ensures.phase;
-      left = c.left_to_do.ensures;
-      legal = c.one_more_clip.ensures.legal;
-      placed = c.one_more_placed.ensures;
-    } in
-    let answered = c.serve-reply.ensures.reply
-    ∙ (λ i. clip_answer (clipboard_of (er i).clips.entries)
-    ((c.focus.ensures ∙ ap (λ (r : RoomModel). (state_now r.scene).input.focus) er) i)
-    (ap (λ (q : ClipPassModel). q.sid) c.clip.view_is i) (c.next_clip-call.ensures.call i)) in (
+    let d = (goal.at.invariant_of-self c).After-serve-reply in (
       subst IsRoom (sym (returns-clause-room c))
-          (room_clip laws c.args.self.now c.args.pass.now c.args.clip.now room f c.serve-reply.result answered),
+          (room_clip c.one_more_call.ensures (room_at d) (found_at (goal.at.invariant_of-self c).After-entries)
+          c.serve-reply.result (answered_at d)),
       ap (λ (b : BookModel). b.entries) c.count.ensures.book ∙ c.self.invariant.1,
     )
 
 pub invariant_of-clip : goal.invariant_of-clip
-invariant_of-clip c =
-    let laws : CallLaws = record {
-      call = c.calls_of_a_clip_script.ensures.call;
-      phase =
-          c.calls_of_a_clip_script.ensures.phase;
-      left = c.left_to_do.ensures;
-      legal = c.one_more_clip.ensures.legal;
-      placed = c.one_more_placed.ensures;
-    } in
-    clip_pass_call laws _ _ c.count.new.share c.clip.invariant (rw (← c.clip.view_is) at c.requires.next)
-    (ap (λ (s : ShareModel). s.count) c.count.ensures.share)
+invariant_of-clip c = clip_pass_call c.one_more_call.ensures _ _ c.count.new.share c.clip.invariant
+    (rw (← c.clip.view_is) at c.requires.next) (ap (λ (s : ShareModel). s.count) c.count.ensures.share)
 
 pub returns-clause-pass : goal.returns-clause-pass
 returns-clause-pass c =
@@ -110,19 +88,12 @@ returns-clause-pass c =
 
 pub returns-clause-clip : goal.returns-clause-clip
 returns-clause-clip c =
-    let booked : c.self.inside.book.entries ≡ c.args.self.now.scene.entries = c.self.invariant.1
-    ∙ ap (λ (r : RoomModel). without_final r.scene.entries) (c.self.view_is ∙ c.meet.ensures.room)
-    ∙ open_whole _ c.requires.«open» in
     let share = c.count.ensures.share in
-    λ i. record {
-      sid = ap (λ (q : ClipPassModel). q.sid) c.clip.view_is i;
-      next = ap (λ (q : ClipPassModel). q.next + 1) c.clip.view_is i;
-      phase = ap (λ (q : ClipPassModel). q.phase) c.clip.view_is i;
-      number = (ap (λ (s : ShareModel). s.number) share ∙ ap (λ (q : ClipPassModel). q.number) c.clip.view_is) i;
-      name = (ap (λ (s : ShareModel). s.name) share ∙ ap (λ (q : ClipPassModel). q.name) c.clip.view_is) i;
-      script = ap (λ (q : ClipPassModel). q.script) c.clip.view_is i;
-      seen = (ap (λ (s : ShareModel). s.seen) share ∙ booked) i;
-    }
+    let number = ap (λ (s : ShareModel). s.number) share ∙ ap (λ (q : ClipPassModel). q.number) c.clip.view_is in
+    let name = ap (λ (s : ShareModel). s.name) share ∙ ap (λ (q : ClipPassModel). q.name) c.clip.view_is in
+    let known = ap (λ (s : ShareModel). s.seen) share ∙ booked_at (goal.at.returns-clause-clip c).After-serve-reply in
+    λ i. let q : ClipPassModel = c.clip.view_is i in
+    record q { next = q.next + 1; number = number i; name = name i; seen = known i }
 
 pub returns-clause-before : goal.returns-clause-before
 returns-clause-before c = subst (λ (js : List Entry). IsPrefix c.args.pass.now.seen js) (open_whole _ c.requires.«open»)
@@ -130,47 +101,16 @@ returns-clause-before c = subst (λ (js : List Entry). IsPrefix c.args.pass.now.
 
 pub returns-clause-clip_before : goal.returns-clause-clip_before
 returns-clause-clip_before c =
-    let booked : c.self.inside.book.entries ≡ c.args.self.now.scene.entries = c.self.invariant.1
-    ∙ ap (λ (r : RoomModel). without_final r.scene.entries) (c.self.view_is ∙ c.meet.ensures.room)
-    ∙ open_whole _ c.requires.«open» in
-    rw (← booked, ← c.clip.view_is) c.count.ensures.before.front
+    rw (← booked_at (goal.at.returns-clause-clip_before c).After-serve-reply, ← c.clip.view_is)
+    c.count.ensures.before.front
 
 pub returns-clause-counted : goal.returns-clause-counted
-returns-clause-counted c = clip_counted _ c.args.self.now _ c.args.clip.now c.clip.inside.share
-    c.self.inside.book.counts (c.self.view_is ∙ c.meet.ensures.room) c.clip.view_is c.clip.invariant
-    c.requires.clip_belongs refl c.count.ensures.before.counted
+returns-clause-counted c = (found_at (goal.at.returns-clause-counted c).After-entries).clip_counted
 
 pub returns-clause-legal_clips : goal.returns-clause-legal_clips
 returns-clause-legal_clips c =
-    let er = c.self.view_is ∙ c.meet.ensures.room in
-    let room = subst IsRoom er c.self.invariant.0 in
-    let f = found_clip _ c.args.self.now c.args.pass.now _ c.args.clip.now c.clip.inside.share c.self.inside.book.counts
-    er c.clip.view_is c.clip.invariant refl c.count.ensures.before.counted
-    (record {
-      belongs = c.requires.belongs;
-      clip_belongs = c.requires.clip_belongs;
-      together = c.requires.together;
-      ready = c.requires.ready;
-      phase_end = c.requires.phase_end;
-      next_is = c.requires.next;
-      open_is =
-          c.requires.«open»;
-      counted = c.meet.ensures.counted;
-      phase_is = c.phase-ended.ensures.ended;
-    }) in
-    let laws : CallLaws = record {
-      call = c.calls_of_a_clip_script.ensures.call;
-      phase =
-          c.calls_of_a_clip_script.ensures.phase;
-      left = c.left_to_do.ensures;
-      legal = c.one_more_clip.ensures.legal;
-      placed = c.one_more_placed.ensures;
-    } in
-    let answered = c.serve-reply.ensures.reply
-    ∙ (λ i. clip_answer (clipboard_of (er i).clips.entries)
-    ((c.focus.ensures ∙ ap (λ (r : RoomModel). (state_now r.scene).input.focus) er) i)
-    (ap (λ (q : ClipPassModel). q.sid) c.clip.view_is i) (c.next_clip-call.ensures.call i)) in
+    let d = (goal.at.returns-clause-legal_clips c).After-serve-reply in
     subst (λ (r : RoomModel). IsLegalClips c.args.self.now.parts.config c.args.self.now.scene.entries r.clips.entries)
     (sym (returns-clause-room c))
-    (follows_then laws c.args.self.now c.args.pass.now c.args.clip.now room f c.serve-reply.result
-    answered).legal
+    (follows_then c.one_more_call.ensures (room_at d) (found_at (goal.at.returns-clause-legal_clips c).After-entries)
+    c.serve-reply.result (answered_at d)).legal

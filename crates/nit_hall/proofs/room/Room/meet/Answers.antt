@@ -1,5 +1,6 @@
-use Rattle.std.proofs.Common.{ap, arith, length, sym, ◌+◌, ◌<◌, ◌∙◌}
-use Rattle.nit_hall.proofs.Lemmas.{front_count, pass_met, slice_get_within, slice_index}
+use Rattle.nit_hall.proofs.Lemmas.{ShareModel, ap, arith, get_or-take, length, pass_counted}
+use Rattle.nit_hall.proofs.Lemmas.{pass_met, slice_get_within, slice_index, sym, without_final}
+use Rattle.std.proofs.Common.{rules, ◌+◌, ◌<◌, ◌∙◌}
 use Rattle.nit_hall.proofs.room.Room.meet.Goals as goal
 
 pub invariant_of-pass : goal.invariant_of-pass
@@ -9,16 +10,21 @@ invariant_of-pass c =
     let below : c.pass.inside.share.number < length c.self.inside.parts.scripts.now + 1 = let h =
     slice_get_within c.self.inside.parts.scripts.now c.pass.inside.sid c.pass.inside.script.now here.script in
     let n = c.pass.invariant.number in omega (arith, h, n) in
-    pass_met _ _ _ _ _ _ c.self.invariant.0 c.self.view_is of c.pass.invariant
-    (front_count _ _ c.self.inside.book.counts below ∙ c.meet.ensures.before.counted) c.self.invariant.1
+    pass_met _ c.self.invariant.0 c.self.view_is of c.pass.invariant
+    (get_or-take _ c.self.inside.book.counts _ 0 below ∙ c.meet.ensures.before.counted) c.self.invariant.1
     c.meet.ensures.share
 
-pub returns-clause-counted : goal.returns-clause-counted
-returns-clause-counted c =
+pub returns : goal.returns
+returns c =
     let of = rw (← c.pass.view_is, ← c.self.view_is) at c.requires in
-    let below : c.pass.inside.sid < length c.self.inside.parts.scripts.now + 1 = let h =
-    slice_get_within c.self.inside.parts.scripts.now c.pass.inside.sid c.pass.inside.script.now of.script in omega
-    (arith, h) in
-    rw (← c.self.view_is, ← c.pass.view_is) (front_count _ _ c.self.inside.book.counts below
-    ∙ ap (slice_index c.self.inside.book.counts) (sym c.pass.invariant.number) ∙ c.meet.ensures.before.counted
-    ∙ c.pass.invariant.counted)
+    let is = c.pass.invariant in
+    record {
+      room = search rules;
+      pass = search rules;
+      before = search rules;
+      counted = rw (← c.self.view_is, ← c.pass.view_is)
+          (pass_counted c.self.inside.book.counts is of c.meet.ensures.before.counted);
+      owner = rw (← c.pass.view_is) is.owner;
+      painted = rw (← c.pass.view_is) is.painted;
+      told = rw (← c.pass.view_is) is.told;
+    }

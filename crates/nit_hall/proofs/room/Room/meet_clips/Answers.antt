@@ -1,7 +1,7 @@
 use Rattle.std.proofs.Common.{Some, arith, length, slice_get, ℕ, ◌<◌, ◌∙◌, ◌≡◌}
-use Rattle.nit_hall.proofs.Lemmas.{ClipPassModel, IsKnownClip, clip_far, clip_met, clips_met_below}
-use Rattle.nit_hall.proofs.Lemmas.{clips_whole, knowing_clip, long_same, slice_get_within}
-use Rattle.nit_hall.proofs.Lemmas.{still_there, without_final}
+use Rattle.nit_hall.proofs.Lemmas.{ClipPassModel, IsKnownClip, clip_met, clips_whole, holds_below}
+use Rattle.nit_hall.proofs.Lemmas.{knowing_clip, long_same, slice_get_within, step_far, still_there}
+use Rattle.nit_hall.proofs.Lemmas.{without_final}
 use Rattle.nit_hall.proofs.room.Room.meet_clips.Goals as goal
 
 pub meet_clip-requires : goal.meet_clip-requires
@@ -17,11 +17,11 @@ clips-preserved c =
     let e = c.meet_clip.ensures in
     record {
       room = e.room ∙ i.room;
-      so_far = clip_far c.args.self.now c.clips.self _ _ _ c.clip-item.result c.meet_clip.new.clip i.room at.0 i.so_far
-          c.clip-item.is e.clip;
-      met = clips_met_below _ _ _ _ i.met at.1
-          (clip_met c.args.self.now c.clips.self _ c.clip-item.result _ i.room c.clip-item.is e.before e.counted
-          (c.requires.done_all _ _ at.1));
+      so_far = step_far (knowing_clip (without_final c.args.self.now.scene.entries)) _ _ _ c.clip-item.result
+          c.meet_clip.new.clip at.0 i.so_far c.clip-item.is
+          (rw i.room at e.clip);
+      met = holds_below (IsKnownClip c.args.self.now) _ _ _ i.met at.1
+          (clip_met _ (c.requires.done_all _ _ at.1) (rw (i.room, ← c.clip-item.is) at e));
     }
 
 pub returns-clause-legal : goal.returns-clause-legal

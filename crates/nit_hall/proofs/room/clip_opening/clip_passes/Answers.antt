@@ -18,14 +18,11 @@ scripts-preserved c =
     let script : c.script-item.result ≡ clip_script_in c.args.scripts.now k = c.script-item.is
     ∙ get_or_default c.args.scripts.now k c.script-item.result [] (omega arith) in
     let is : c.new.result ≡ new_clip_pass c.args.book.now c.args.scripts.now k = c.new.ensures
-    ∙ (λ j. record {
+    ∙ (λ j. record (new_clip_pass c.args.book.now c.args.scripts.now k) {
       sid = i.counted j;
-      next = 0;
-      phase = 0;
       number = number j;
       name = name j;
-      script =
-          script j;
+      script = script j;
       seen = seen j;
     }) in
     record {

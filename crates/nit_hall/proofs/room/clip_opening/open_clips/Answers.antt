@@ -40,18 +40,11 @@ returns-clause-clips c =
     let e = c.in_ok-clips.ensures in
     let seen = c.room.invariant.1 ∙ ap (λ (r : RoomModel). without_final r.scene.entries) c.room.view_is
     ∙ ap without_final c.requires.unserved.entries in
+    let name = sym (ap (λ (b : BookModel). b.name) e.book) in
+    let of = clip_script_in c.args.scripts.now in
     record {
       each = e.count;
       first = λ k q at. e.each k q at
-          ∙ (λ i. record {
-            sid = k;
-            next = 0;
-            phase = 0;
-            number = long i + k;
-            name =
-                sym (ap (λ (b : BookModel). b.name) e.book) i;
-            script = clip_script_in c.args.scripts.now k;
-            seen =
-                seen i;
-          });
+          ∙ (λ i.
+          record { sid = k; next = 0; phase = 0; number = long i + k; name = name i; script = of k; seen = seen i });
     }

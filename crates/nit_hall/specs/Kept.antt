@@ -1,0 +1,90 @@
+-- What a call over the lock needs of an actor's pass, and what it leaves of it.
+use Rattle.std.specs.Prelude.{◌≡◌, ℕ, ◌+◌, ◌*◌, All, List, length}
+use Rattle.nit_hall.specs.Below.{ClipReply, IsClipAnswer, IsLegal, IsWord, Reply, Routed, replay}
+use mathlib.Core.List.{IsPrefix}
+use Rattle.nit_hall.specs.OpeningParts.{OpeningParts}
+use Rattle.nit_hall.specs.Pass.{PassModel, UserPassModel, Belongs, UserBelongs, HasLoaded, IsAtShot}
+use Rattle.nit_hall.specs.Pass.{call_entry, device_entry, sight_after_line}
+use Rattle.nit_hall.specs.ClipPass.{ClipPassModel, ClipBelongs, AreTogether, IsAtClip, next_clip}
+use Rattle.nit_hall.specs.Hall.{Tells, TellsShot}
+
+-- ---- what a call needs
+
+-- the pass is of this opening and in the phase that is served, and it is where the call wants it
+pub record IsReadyAt (parts : OpeningParts) (phase : ℕ) (IsAt : PassModel → Type 0) (p : PassModel)
+    : Type 0 where
+  pub belongs : Belongs parts p
+  pub ready : p.phase ≡ phase
+  pub next : IsAt p
+
+-- the same of a pass that only waits
+pub record IsReady (parts : OpeningParts) (phase : ℕ) (p : PassModel) : Type 0 where
+  pub belongs : Belongs parts p
+  pub ready : p.phase ≡ phase
+
+-- so is the user's pass
+pub record UserIsReadyAt (parts : OpeningParts) (phase : ℕ) (IsAt : UserPassModel → Type 0)
+    (u : UserPassModel) : Type 0 where
+  pub belongs : UserBelongs parts u
+  pub ready : u.phase ≡ phase
+  pub next : IsAt u
+
+-- the user's pass is at a shot, and there is a word for each pixel
+pub record CanShootTo (parts : OpeningParts) (phase : ℕ) (u : UserPassModel) (words : List ℕ)
+    : Type 0 where
+  pub user_ready : UserIsReadyAt parts phase IsAtShot u
+  pub out : length words ≡ parts.config.width * parts.config.height
+
+-- the clip pass is of this opening and at a clip call, and beside its client's pass
+pub record IsReadyClip (parts : OpeningParts) (p : PassModel) (q : ClipPassModel) : Type 0 where
+  pub clip_belongs : ClipBelongs parts q
+  pub together : AreTogether p q
+  pub next_clip_is : IsAtClip q
+
+-- ---- what it leaves
+
+-- A client's call was served with this reply: the last entry that the pass knows is the call, all
+-- that it knows is legal, and it has loaded some of its words behind the line.
+pub record ServedCall (parts : OpeningParts) (p : PassModel) (reply : Reply) (p' : PassModel)
+    : Type 0 where
+  pub told : Tells p.seen (call_entry p reply) p'.seen
+  pub legal : IsLegal parts.config p'.seen
+  pub pass : p'
+      ≡ record p { next = p.next + 1; met = p.phase; seen = p'.seen; sight = p'.sight }
+  pub sight : HasLoaded (sight_after_line p) p'.sight
+
+-- the pass has ended its phase, and knows what it did and maybe more, all of it legal
+pub record EndedPhase (parts : OpeningParts) (p p' : PassModel) : Type 0 where
+  pub grows : IsPrefix p.seen p'.seen
+  pub legal : IsLegal parts.config p'.seen
+  pub pass : p' ≡ record p { next = p.next + 1; phase = p.phase + 1; seen = p'.seen }
+
+-- A clip call was answered by the focus that is there behind all that the passes know now.
+pub record ServedClip (parts : OpeningParts) (p : PassModel) (q : ClipPassModel) (reply : ClipReply)
+    (p' : PassModel) (q' : ClipPassModel) : Type 0 where
+  pub answer : IsClipAnswer (replay parts.config p'.seen).input.focus q.sid (next_clip q) reply
+  pub grows : IsPrefix p.seen p'.seen
+  pub legal : IsLegal parts.config p'.seen
+  pub pass : p' ≡ record p { met = p.phase; seen = p'.seen }
+  pub clip : q' ≡ record q { next = q.next + 1; seen = p'.seen }
+
+-- a device event of the user's was done and delivered so
+pub record DoneDevice (parts : OpeningParts) (u : UserPassModel) (routed : Routed)
+    (u' : UserPassModel) : Type 0 where
+  pub told : Tells u.seen (device_entry u routed) u'.seen
+  pub legal : IsLegal parts.config u'.seen
+  pub user : u' ≡ record u { next = u.next + 1; seen = u'.seen }
+
+-- the user's pass has ended its phase
+pub record UserEndedPhase (parts : OpeningParts) (u u' : UserPassModel) : Type 0 where
+  pub grows : IsPrefix u.seen u'.seen
+  pub legal : IsLegal parts.config u'.seen
+  pub user : u' ≡ record u { next = u.next + 1; phase = u.phase + 1; seen = u'.seen }
+
+-- a shot with this number was taken, and these words are its picture
+pub record DoneShot (parts : OpeningParts) (u : UserPassModel) (number : ℕ) (u' : UserPassModel)
+    (words : List ℕ) : Type 0 where
+  pub told : TellsShot parts u.seen number u'.seen words
+  pub legal : IsLegal parts.config u'.seen
+  pub coloured : All IsWord words
+  pub user : u' ≡ record u { next = u.next + 1; seen = u'.seen }
