@@ -39,8 +39,9 @@ pub use Rattle.nit_hall.specs.Terms.{user_actions_to_do, with_clip, with_clip_sc
 pub use Rattle.nit_hall.specs.Terms.{with_words, without_final, words_after, words_at_call}
 pub use Rattle.nit_hall.specs.Terms.{words_left, words_left_in}
 pub use Rattle.nit_journal.proofs.ForCallers.{IsUsers, bare_everywhere, calls_other, calls_own}
-pub use Rattle.nit_journal.proofs.ForCallers.{calls_same, deeds_of-append, deeds_same, phases_call}
-pub use Rattle.nit_journal.proofs.ForCallers.{phases_deed, phases_final, same_config}
+pub use Rattle.nit_journal.proofs.ForCallers.{calls_same, actions_of-append, actions_same}
+pub use Rattle.nit_journal.proofs.ForCallers.{phases_call}
+pub use Rattle.nit_journal.proofs.ForCallers.{phases_action, phases_final, same_config}
 pub use Rattle.nit_overlay.proofs.ForCallers.{same_frame}
 pub use Rattle.nit_plan.proofs.ForCallers.{calls_done}
 pub use Rattle.nit_word.proofs.ForCallers.{zero_at}

@@ -28,7 +28,7 @@ pub use Rattle.nit_hall.proofs.LineLemmas.{line_counted}
 pub use Rattle.nit_hall.proofs.NearLemmas.{near_word}
 pub use Rattle.nit_hall.proofs.PassCounts.{own_back, own_raised, pass_counted, user_back}
 pub use Rattle.nit_hall.proofs.PassCounts.{user_counted, user_raised}
-pub use Rattle.nit_hall.proofs.PhaseEnds.{deeds_known, deeds_still, few_arrived, pass_phase}
+pub use Rattle.nit_hall.proofs.PhaseEnds.{actions_known, actions_still, few_arrived, pass_phase}
 pub use Rattle.nit_hall.proofs.PhaseEnds.{pass_stroke, phase_small, room_phase, room_user_phase}
 pub use Rattle.nit_hall.proofs.PhaseEnds.{user_open, user_phase}
 pub use Rattle.nit_hall.proofs.RoomEndLemmas.{AreKnown, all_served, booked_still, holds_below}
@@ -41,10 +41,10 @@ pub use Rattle.nit_hall.proofs.RoomOpening.{lens_tables, new_clip_pass, opened_c
 pub use Rattle.nit_hall.proofs.RoomOpening.{pass_begun, room_begun, room_with_clips, zeros_behind}
 pub use Rattle.nit_hall.proofs.RoomOpening.{zeros_push}
 pub use Rattle.nit_hall.proofs.RoomSteps.{IsAdded, booked_more, spare_left, state_later}
-pub use Rattle.nit_hall.proofs.ScriptsFollowed.{calls_front_of, deeds_front_of, whole}
+pub use Rattle.nit_hall.proofs.ScriptsFollowed.{calls_front_of, actions_front_of, whole}
 pub use Rattle.nit_hall.proofs.ServedCalls.{Found, calls_made, calls_then, found, next_at, own_seen}
 pub use Rattle.nit_hall.proofs.ServedCalls.{pass_call, pass_met, room_call, sight_as, still_open}
 pub use Rattle.nit_hall.proofs.ServedCalls.{told_between}
 pub use Rattle.nit_hall.proofs.ServedClips.{FoundClip, follows_then, room_clip, room_left}
 pub use Rattle.nit_hall.proofs.UserActions.{FoundUser, adds_input, adds_shot, done_input, done_shot}
-pub use Rattle.nit_hall.proofs.UserActions.{found_user, room_deed, user_deed, user_met}
+pub use Rattle.nit_hall.proofs.UserActions.{found_user, room_action, user_action, user_met}

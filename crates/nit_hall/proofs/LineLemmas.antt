@@ -141,37 +141,37 @@ counted_same p xs k x at is = count_by_more_no p xs k x (slice_get_within xs k x
 
 -- ---- the user's lines
 
-pub deeds_append : (xs ys : List InputLine) → user_actions_in (xs ++ ys) ≡ user_actions_in xs ++ user_actions_in ys
-deeds_append [] ys = refl
-deeds_append (inputs.Device d ∷ xs) ys = ap (λ cs. Does d ∷ cs) (deeds_append xs ys)
-deeds_append (inputs.Shot ∷ xs) ys = ap (λ cs. Shoots ∷ cs) (deeds_append xs ys)
-deeds_append (inputs.Phase ∷ xs) ys = deeds_append xs ys
+pub actions_append : (xs ys : List InputLine) → user_actions_in (xs ++ ys) ≡ user_actions_in xs ++ user_actions_in ys
+actions_append [] ys = refl
+actions_append (inputs.Device d ∷ xs) ys = ap (λ cs. Does d ∷ cs) (actions_append xs ys)
+actions_append (inputs.Shot ∷ xs) ys = ap (λ cs. Shoots ∷ cs) (actions_append xs ys)
+actions_append (inputs.Phase ∷ xs) ys = actions_append xs ys
 
-pub deeds_line : (script : List InputLine) (k : ℕ) (l : InputLine) → slice_get script k ≡ Some l
+pub actions_line : (script : List InputLine) (k : ℕ) (l : InputLine) → slice_get script k ≡ Some l
     → user_actions_in (take (k + 1) script) ≡ user_actions_in (take k script) ++ user_actions_in (l ∷ [])
-deeds_line script k l at = ap user_actions_in (take_line script k l at) ∙ deeds_append (take k script) (l ∷ [])
+actions_line script k l at = ap user_actions_in (take_line script k l at) ∙ actions_append (take k script) (l ∷ [])
 
-pub deeds_done : (p : ℕ) (script : List InputLine) → user_actions_in script ≡ done (user_actions_from p script)
-deeds_done p [] = refl
-deeds_done p (inputs.Device d ∷ rest) = ap (λ cs. Does d ∷ cs) (deeds_done p rest)
-deeds_done p (inputs.Shot ∷ rest) = ap (λ cs. Shoots ∷ cs) (deeds_done p rest)
-deeds_done p (inputs.Phase ∷ rest) = deeds_done (suc p) rest
+pub actions_done : (p : ℕ) (script : List InputLine) → user_actions_in script ≡ done (user_actions_from p script)
+actions_done p [] = refl
+actions_done p (inputs.Device d ∷ rest) = ap (λ cs. Does d ∷ cs) (actions_done p rest)
+actions_done p (inputs.Shot ∷ rest) = ap (λ cs. Shoots ∷ cs) (actions_done p rest)
+actions_done p (inputs.Phase ∷ rest) = actions_done (suc p) rest
 
-pub phase_of_deed : (script : List InputLine) (p k : ℕ) (l : InputLine) → slice_get script k ≡ Some l
+pub phase_of_action : (script : List InputLine) (p k : ℕ) (l : InputLine) → slice_get script k ≡ Some l
     → is_input_phase l ≡ false → next_phase
     (drop (length (user_actions_in (take k script))) (user_actions_from p script))
     ≡ p + input_phases_before script k
-phase_of_deed [] p k l at deed = absurd cc
-phase_of_deed (inputs.Device d ∷ ls) p zero l at deed = omega arith
-phase_of_deed (inputs.Shot ∷ ls) p zero l at deed = omega arith
-phase_of_deed (inputs.Phase ∷ ls) p zero l at deed =
+phase_of_action [] p k l at action = absurd cc
+phase_of_action (inputs.Device d ∷ ls) p zero l at action = omega arith
+phase_of_action (inputs.Shot ∷ ls) p zero l at action = omega arith
+phase_of_action (inputs.Phase ∷ ls) p zero l at action =
     absurd (let same : inputs.Phase ≡ l = cc in let ends : is_input_phase l ≡ true = sym (ap is_input_phase same) in cc)
-phase_of_deed (inputs.Device d ∷ ls) p (suc k) l at deed =
-    omega (arith, phase_of_deed ls p k l at deed, count_cons is_input_phase (inputs.Device d) (take k ls))
-phase_of_deed (inputs.Shot ∷ ls) p (suc k) l at deed =
-    omega (arith, phase_of_deed ls p k l at deed, count_cons is_input_phase inputs.Shot (take k ls))
-phase_of_deed (inputs.Phase ∷ ls) p (suc k) l at deed =
-    omega (arith, phase_of_deed ls (suc p) k l at deed, count_cons is_input_phase inputs.Phase (take k ls))
+phase_of_action (inputs.Device d ∷ ls) p (suc k) l at action =
+    omega (arith, phase_of_action ls p k l at action, count_cons is_input_phase (inputs.Device d) (take k ls))
+phase_of_action (inputs.Shot ∷ ls) p (suc k) l at action =
+    omega (arith, phase_of_action ls p k l at action, count_cons is_input_phase inputs.Shot (take k ls))
+phase_of_action (inputs.Phase ∷ ls) p (suc k) l at action =
+    omega (arith, phase_of_action ls (suc p) k l at action, count_cons is_input_phase inputs.Phase (take k ls))
 
 pub device_fits : (dev : Device) → FitsDevice dev → IsDevice dev
 device_fits (device.Press k) h = h

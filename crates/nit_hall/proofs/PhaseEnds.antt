@@ -13,7 +13,7 @@ use Rattle.std.proofs.Common.{◌==◌, ◌∙◌, ◌≡◌, ◌≤◌}
 use Rattle.nit_script.specs.declared.line.Line.TheVariants as line
 use Rattle.nit_script.specs.declared.line.InputLine.TheVariants as inputs
 use Rattle.nit_hall.proofs.LineLemmas.{counted_more, counted_same, served_counted, unserved_line}
-use Rattle.nit_hall.proofs.LineLemmas.{deeds_line, no_more_calls}
+use Rattle.nit_hall.proofs.LineLemmas.{actions_line, no_more_calls}
 use Rattle.nit_hall.proofs.Phases.{client_ends, user_ends, phase_ended, ended_long}
 use Rattle.nit_hall.proofs.ScriptsFollowed.{IsNext, IsUserNext, follows_phase, follows_user_phase}
 use Rattle.nit_hall.proofs.RoomSteps.{room_then, room_turned}
@@ -114,13 +114,13 @@ pub user_phase : (u : UserPassModel) (share share' : ShareModel) (name : _) (kno
       name = name;
       seen = known';
     }) share'
-user_phase u share share' name known known' is at e deeds =
+user_phase u share share' name known known' is at e actions =
     record {
       number = refl;
       counted = ap (λ (s : ShareModel). s.count) e ∙ ap (λ (n : ℕ). n + 1) is.counted;
       within = let w = slice_get_within u.input u.next inputs.Phase at in omega (arith, w);
       phase = ap (λ (n : ℕ). n + 1) is.phase ∙ sym (counted_more is_input_phase u.input u.next inputs.Phase at refl);
-      known = deeds;
+      known = actions;
     }
 
 -- ---- the room
@@ -168,13 +168,14 @@ few_arrived {r = r} room = let left = room.phases.some_left in
     omega (arith, left, ended_long r.parts.scripts r.parts.input r.counts room.follows.each)
 
 -- what the user knows of the journal at its next line
-pub deeds_known : {r : RoomModel} {next : ℕ} (input : List InputLine) → IsRoom r → input ≡ r.parts.input
+pub actions_known : {r : RoomModel} {next : ℕ} (input : List InputLine) → IsRoom r → input ≡ r.parts.input
     → slice_index r.counts (length r.parts.scripts) ≡ next
     → user_actions_of (without_final r.scene.entries) ≡ user_actions_in (take next input)
-deeds_known input room same counted =
-    room.follows.deeds ∙ ap₂ (λ (k : ℕ) (ls : List InputLine). user_actions_in (take k ls)) counted (sym same)
+actions_known input room same counted =
+    room.follows.actions ∙ ap₂ (λ (k : ℕ) (ls : List InputLine). user_actions_in (take k ls)) counted (sym same)
 
 -- and behind the end of a phase
-pub deeds_still : (input : List InputLine) (next : ℕ) → slice_get input next ≡ Some inputs.Phase
+pub actions_still : (input : List InputLine) (next : ℕ) → slice_get input next ≡ Some inputs.Phase
     → user_actions_in (take next input) ≡ user_actions_in (take (next + 1) input)
-deeds_still input next at = sym (deeds_line input next inputs.Phase at ∙ append-nil (user_actions_in (take next input)))
+actions_still input next at = sym (actions_line input next inputs.Phase at ∙ append-nil
+    (user_actions_in (take next input)))

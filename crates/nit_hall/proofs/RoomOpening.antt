@@ -35,7 +35,7 @@ follows_begun scripts input counts long none =
     record {
       each = long;
       calls = λ t within. sym (ap (λ (n : ℕ). calls_in (take n (served (script_in scripts t)))) (none t));
-      deeds = sym (ap (λ (n : ℕ). user_actions_in (take n input)) (none (length scripts)));
+      actions = sym (ap (λ (n : ℕ). user_actions_in (take n input)) (none (length scripts)));
       phases = one;
       few = λ t within. let z = none t in omega (arith, z);
       user_few = let z = none (length scripts) in omega (arith, z);

@@ -3,11 +3,12 @@ use Rattle.nit_hall.proofs.Basics.{AllServed, Call, Entry, Follows, InputLine, I
 use Rattle.nit_hall.proofs.Basics.{IsUsers, IsWhole, Line, List, Reply, Some, UserAction, [], ap}
 use Rattle.nit_hall.proofs.Basics.{append-nil, ap₂, arith, calls_done, calls_in, calls_of}
 use Rattle.nit_hall.proofs.Basics.{calls_other, calls_own, calls_same, calls_to_make, cases_eq}
-use Rattle.nit_hall.proofs.Basics.{deeds_of-append, deeds_same, done, drop, false, get_or-set_other}
+use Rattle.nit_hall.proofs.Basics.{actions_of-append, actions_same, done, drop, false}
+use Rattle.nit_hall.proofs.Basics.{get_or-set_other}
 use Rattle.nit_hall.proofs.Basics.{get_or-set_same, get_or_from_slice_get, inl, input_phases_before}
 use Rattle.nit_hall.proofs.Basics.{inr, is_input_phase, is_served, length, length-append}
 use Rattle.nit_hall.proofs.Basics.{length-map, length-set, lines_of_all, map, next_phase}
-use Rattle.nit_hall.proofs.Basics.{phases_along, phases_before, phases_call, phases_deed}
+use Rattle.nit_hall.proofs.Basics.{phases_along, phases_before, phases_call, phases_action}
 use Rattle.nit_hall.proofs.Basics.{phases_final, raised, script_in, served, slice_get_within}
 use Rattle.nit_hall.proofs.Basics.{slice_index, sum, sum_by-cons, sum_by-set, take-append-drop}
 use Rattle.nit_hall.proofs.Basics.{take_all, to_do, user_actions_in, user_actions_of}
@@ -18,7 +19,7 @@ use Rattle.nit_events.specs.declared.entry.Entry.TheVariants as entry
 use Rattle.nit_script.specs.declared.line.Line.TheVariants as line
 use Rattle.nit_hall.proofs.LineLemmas.{front_filter, front_short, served_counted, calls_front}
 use Rattle.nit_hall.proofs.LineLemmas.{calls_served, calls_line, calls_append, phase_of_call}
-use Rattle.nit_hall.proofs.LineLemmas.{deeds_append, deeds_line, deeds_done, phase_of_deed}
+use Rattle.nit_hall.proofs.LineLemmas.{actions_append, actions_line, actions_done, phase_of_action}
 use Rattle.nit_hall.proofs.NonDecreasing.{rises, again, without_last}
 
 -- ---- counts
@@ -94,7 +95,7 @@ NeverFall scripts input entries phase =
 record AddsLine (entries : List Entry) (sid : ℕ) (l : Line) (now : List Entry) : Type 0 where
   own : calls_of sid now ≡ calls_of sid entries ++ calls_in (l ∷ [])
   others : (t : ℕ) → t ≢ sid → calls_of t now ≡ calls_of t entries
-  deeds : user_actions_of now ≡ user_actions_of entries
+  actions : user_actions_of now ≡ user_actions_of entries
   one_more : length now ≤ length entries + 1
 
 module _ {scripts : List (List Line)} {input : List InputLine} {counts : List ℕ} {phase : ℕ} {entries : List Entry}
@@ -115,7 +116,7 @@ module _ {scripts : List (List Line)} {input : List InputLine} {counts : List �
       | inr ne ↦ adds.others t ne ∙ f.calls t within
           ∙ ap (λ (n : ℕ). calls_in (take n (served (script_in scripts t)))) (sym (raised_other counts sid t ne))
     ];
-    deeds = adds.deeds ∙ f.deeds ∙ ap (λ (n : ℕ). user_actions_in (take n input)) (sym (user_same at));
+    actions = adds.actions ∙ f.actions ∙ ap (λ (n : ℕ). user_actions_in (take n input)) (sym (user_same at));
     phases = phases;
     few = λ t within. elim (cases_eq t sid) [
       | inl e ↦ subst (λ (x : ℕ). slice_index (raised counts sid) x ≤ length (served (script_in scripts x))) (sym e)
@@ -133,7 +134,7 @@ module _ {scripts : List (List Line)} {input : List InputLine} {counts : List �
       (record {
         own = sym (ap (λ (cs : List Call). calls_of sid entries ++ cs) none ∙ append-nil _);
         others = λ t ne. refl;
-        deeds = refl;
+        actions = refl;
         one_more = omega arith;
       })
       (rises (phases_along (map calls_to_make scripts) (user_actions_to_do input) entries) phase phase' up f.phases)
@@ -154,7 +155,7 @@ follows_call {scripts = scripts} {input = input} {phase = phase} {entries = entr
     (record {
       own = calls_own sid entries c r;
       others = λ t ne. calls_other t sid entries c r (λ e. ne (sym e));
-      deeds = deeds_same entries (entry.Call sid c r) refl;
+      actions = actions_same entries (entry.Call sid c r) refl;
       one_more = omega (arith, length-append entries (entry.Call sid c r ∷ []));
     })
     (subst (λ (ps : List ℕ). IsNonDecreasing (ps ++ phase ∷ []))
@@ -171,9 +172,9 @@ pub record IsUserNext (scripts : List (List Line)) (input : List InputLine) (cou
   pub counted : slice_index counts (length scripts) ≡ next
 
 -- what a user's line adds: an entry of its own where it is no end of a phase
-pub record AddsDeed (l : InputLine) (e : Entry) : Type 0 where
+pub record AddsAction (l : InputLine) (e : Entry) : Type 0 where
   pub no_phase : is_input_phase l ≡ false
-  pub deed_is : user_actions_of (e ∷ []) ≡ user_actions_in (l ∷ [])
+  pub action_is : user_actions_of (e ∷ []) ≡ user_actions_in (l ∷ [])
   pub no_call : (t : ℕ) → calls_of t (e ∷ []) ≡ []
   pub is_users : IsUsers e
 
@@ -186,18 +187,18 @@ module _ {scripts : List (List Line)} {input : List InputLine} {counts : List �
   client_same : (t : ℕ) → t < length scripts → slice_index (raised counts (length scripts)) t ≡ slice_index counts t
   client_same t h = raised_other counts (length scripts) t (λ e. let x : t ≡ length scripts = e in omega arith)
 
-  pub deeds_so_far : user_actions_of entries ≡ user_actions_in (take next input)
-  deeds_so_far = f.deeds ∙ ap (λ (k : ℕ). user_actions_in (take k input)) at.counted
+  pub actions_so_far : user_actions_of entries ≡ user_actions_in (take next input)
+  actions_so_far = f.actions ∙ ap (λ (k : ℕ). user_actions_in (take k input)) at.counted
 
   follows_user_line : (phase' : ℕ) (now : List Entry) → ((t : ℕ) → calls_of t now ≡ calls_of t entries)
       → user_actions_of now ≡ user_actions_of entries ++ user_actions_in (l ∷ []) → length now ≤ length entries + 1
       → NeverFall scripts input now phase' → Follows scripts input (raised counts (length scripts)) phase' now
-  follows_user_line phase' now calls deeds more phases = record {
+  follows_user_line phase' now calls actions more phases = record {
     each = length-set counts (length scripts) (slice_index counts (length scripts) + 1) ∙ f.each;
     calls = λ t within. calls t ∙ f.calls t within
         ∙ ap (λ (k : ℕ). calls_in (take k (served (script_in scripts t)))) (sym (client_same t within));
-    deeds = deeds ∙ ap (λ (ds : List UserAction). ds ++ user_actions_in (l ∷ [])) deeds_so_far
-        ∙ sym (deeds_line input next l at.line_is) ∙ ap (λ (k : ℕ). user_actions_in (take k input)) (sym user_up);
+    actions = actions ∙ ap (λ (ds : List UserAction). ds ++ user_actions_in (l ∷ [])) actions_so_far
+        ∙ sym (actions_line input next l at.line_is) ∙ ap (λ (k : ℕ). user_actions_in (take k input)) (sym user_up);
     phases = phases;
     few = λ t within. omega (arith, client_same t within, f.few t within);
     user_few = omega (arith, user_up, slice_get_within input next l at.line_is);
@@ -205,17 +206,17 @@ module _ {scripts : List (List Line)} {input : List InputLine} {counts : List �
         omega (arith, sum_raised counts (length scripts) (let k = f.each in omega arith), least, more);
   }
 
-  pub follows_deed : (e : Entry) → AddsDeed l e → phase ≡ input_phases_before input next
+  pub follows_action : (e : Entry) → AddsAction l e → phase ≡ input_phases_before input next
       → Follows scripts input (raised counts (length scripts)) phase (entries ++ e ∷ [])
-  follows_deed e adds ready =
+  follows_action e adds ready =
       let at_phase : next_phase (drop (length (user_actions_of entries)) (user_actions_to_do input)) ≡ phase =
-      ap (λ (ds : List UserAction). next_phase (drop (length ds) (user_actions_to_do input))) deeds_so_far
-      ∙ phase_of_deed input 0 next l at.line_is adds.no_phase ∙ (let r = ready in omega arith) in
+      ap (λ (ds : List UserAction). next_phase (drop (length ds) (user_actions_to_do input))) actions_so_far
+      ∙ phase_of_action input 0 next l at.line_is adds.no_phase ∙ (let r = ready in omega arith) in
       follows_user_line phase (entries ++ e ∷ []) (λ t. calls_same t entries e (adds.no_call t))
-      (deeds_of-append entries (e ∷ []) ∙ ap (λ (ds : List UserAction). user_actions_of entries ++ ds) adds.deed_is)
+      (actions_of-append entries (e ∷ []) ∙ ap (λ (ds : List UserAction). user_actions_of entries ++ ds) adds.action_is)
       (omega (arith, length-append entries (e ∷ [])))
       (subst (λ (ps : List ℕ). IsNonDecreasing (ps ++ phase ∷ []))
-      (sym (phases_deed (map calls_to_make scripts) (user_actions_to_do input) entries e adds.is_users
+      (sym (phases_action (map calls_to_make scripts) (user_actions_to_do input) entries e adds.is_users
       ∙ ap (λ (p : ℕ). phases_along (map calls_to_make scripts) (user_actions_to_do input) entries ++ p ∷ [])
       at_phase))
       (again (phases_along (map calls_to_make scripts) (user_actions_to_do input) entries) phase f.phases))
@@ -271,9 +272,9 @@ module _ {scripts : List (List Line)} {input : List InputLine} {counts : List �
         ∙ ap calls_in (take_all (slice_index counts t) (served (script_in scripts t)) (let e = all.0 t inside in omega
         (arith, e)))
         ∙ calls_served (script_in scripts t) ∙ calls_done 0 (script_in scripts t) ∙ ap done (sym (made_of scripts t));
-    deeds = deeds_same entries entry.Final refl ∙ f.deeds
+    actions = actions_same entries entry.Final refl ∙ f.actions
         ∙ ap user_actions_in (take_all (slice_index counts (length scripts)) input (let e =
-        all.1 in omega (arith, e))) ∙ deeds_done 0 input;
+        all.1 in omega (arith, e))) ∙ actions_done 0 input;
     phases = subst IsNonDecreasing (sym (phases_final (map calls_to_make scripts) (user_actions_to_do input) entries))
         (without_last (phases_along (map calls_to_make scripts) (user_actions_to_do input) entries) phase f.phases);
     ends = (entries, refl);
@@ -293,13 +294,13 @@ calls_front_of scripts input counts phase entries t f h =
           ∙ ap (λ (cs : List Call). cs ++ calls_in (drop n ls)) (sym (f.calls t h)),
     )
 
-pub deeds_front_of : (scripts : List (List Line)) (input : List InputLine) (counts : List ℕ) (phase : ℕ)
+pub actions_front_of : (scripts : List (List Line)) (input : List InputLine) (counts : List ℕ) (phase : ℕ)
     (entries : List Entry) → Follows scripts input counts phase entries → (rest : List UserAction)
     × (done (user_actions_to_do input) ≡ user_actions_of entries ++ rest)
-deeds_front_of scripts input counts phase entries f =
+actions_front_of scripts input counts phase entries f =
     let n = slice_index counts (length scripts) in (
       user_actions_in (drop n input),
-      sym (deeds_done 0 input) ∙ ap user_actions_in (sym (take-append-drop n input))
-          ∙ deeds_append (take n input) (drop n input)
-          ∙ ap (λ (ds : List UserAction). ds ++ user_actions_in (drop n input)) (sym f.deeds),
+      sym (actions_done 0 input) ∙ ap user_actions_in (sym (take-append-drop n input))
+          ∙ actions_append (take n input) (drop n input)
+          ∙ ap (λ (ds : List UserAction). ds ++ user_actions_in (drop n input)) (sym f.actions),
     )

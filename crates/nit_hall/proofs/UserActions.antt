@@ -3,27 +3,27 @@ use Rattle.nit_hall.proofs.Basics.{AreNear, Device, End, Entry, EntryLaws, Follo
 use Rattle.nit_hall.proofs.Basics.{InputLine, IsOpen, IsRoom, IsUserPass, Line, List, Painted}
 use Rattle.nit_hall.proofs.Basics.{RoomModel, Routed, SceneModel, ShareModel, Sight, Some}
 use Rattle.nit_hall.proofs.Basics.{UserAction, UserBelongs, UserHasMet, UserPassModel, [], ap, ap₂}
-use Rattle.nit_hall.proofs.Basics.{arith, deeds_of-append, glass_in, inl, input_phases_before}
+use Rattle.nit_hall.proofs.Basics.{arith, actions_of-append, glass_in, inl, input_phases_before}
 use Rattle.nit_hall.proofs.Basics.{is_input_phase, length, raised, refl, slice_get_within}
 use Rattle.nit_hall.proofs.Basics.{slice_index, state_now, user_actions_of, without_final}
 use Rattle.std.proofs.Common.{slice_get, subst, sym, ℕ, ◌++◌, ◌+◌, ◌-◌, ◌∙◌, ◌∷◌, ◌≡◌}
 use Rattle.nit_events.specs.declared.entry.Entry.TheVariants as entry
 use Rattle.nit_script.specs.declared.line.InputLine.TheVariants as inputs
-use Rattle.nit_hall.proofs.LineLemmas.{counted_same, deeds_line}
+use Rattle.nit_hall.proofs.LineLemmas.{counted_same, actions_line}
 use Rattle.nit_hall.proofs.NearLemmas.{near_more}
-use Rattle.nit_hall.proofs.ScriptsFollowed.{AddsDeed, IsUserNext, follows_deed}
+use Rattle.nit_hall.proofs.ScriptsFollowed.{AddsAction, IsUserNext, follows_action}
 use Rattle.nit_hall.proofs.Phases.{same_phase, user_ends}
 use Rattle.nit_hall.proofs.RoomSteps.{IsAdded, booked_more, legal_then, near_before, near_then}
 use Rattle.nit_hall.proofs.RoomSteps.{room_grown, room_then}
-use Rattle.nit_hall.proofs.PhaseEnds.{deeds_known, user_open}
+use Rattle.nit_hall.proofs.PhaseEnds.{actions_known, user_open}
 use Rattle.nit_hall.proofs.ServedCalls.{sights}
 
 -- a device event, and a shot, are the user's
-pub adds_input : {dev : Device} {routed : Routed} → AddsDeed (inputs.Device dev) (entry.Input dev routed)
-adds_input = record { no_phase = refl; deed_is = refl; no_call = λ t. refl; is_users = λ clients user. refl }
+pub adds_input : {dev : Device} {routed : Routed} → AddsAction (inputs.Device dev) (entry.Input dev routed)
+adds_input = record { no_phase = refl; action_is = refl; no_call = λ t. refl; is_users = λ clients user. refl }
 
-pub adds_shot : {number : ℕ} → AddsDeed inputs.Shot (entry.Shot number)
-adds_shot = record { no_phase = refl; deed_is = refl; no_call = λ t. refl; is_users = λ clients user. refl }
+pub adds_shot : {number : ℕ} → AddsAction inputs.Shot (entry.Shot number)
+adds_shot = record { no_phase = refl; action_is = refl; no_call = λ t. refl; is_users = λ clients user. refl }
 
 -- what the scene promises of an entry of the user's
 pub record IsDone (scripts : List (List Line)) (old new : SceneModel End) (e : Entry) : Type 0 where
@@ -32,16 +32,16 @@ pub record IsDone (scripts : List (List Line)) (old new : SceneModel End) (e : E
   pub inks : HaveInks scripts new.glasses
   pub near : AreNear old.config scripts (old.entries ++ e ∷ []) new.raw
 
-pub room_deed : EntryLaws → {r : RoomModel} {new : SceneModel End} {next : ℕ} {l : InputLine} {e : Entry} → IsRoom r
-    → IsUserNext r.parts.scripts r.parts.input r.counts next l → AddsDeed l e
+pub room_action : EntryLaws → {r : RoomModel} {new : SceneModel End} {next : ℕ} {l : InputLine} {e : Entry} → IsRoom r
+    → IsUserNext r.parts.scripts r.parts.input r.counts next l → AddsAction l e
     → r.phase ≡ input_phases_before r.parts.input next → IsDone r.parts.scripts r.scene new e
     → IsRoom (room_then r new (raised r.counts (length r.parts.scripts)) r.phase r.arrived)
-room_deed laws {r = r} {new = new} {next = next} {l = l} {e = e} room at adds ready did =
+room_action laws {r = r} {new = new} {next = next} {l = l} {e = e} room at adds ready did =
     let was_open : IsOpen r.scene.entries = user_open room at in
     let n = length r.parts.scripts in
     room_grown laws room was_open did.added (raised r.counts n) did.near did.inks
     (subst (λ (js : List Entry). Follows r.parts.scripts r.parts.input (raised r.counts n) r.phase js)
-    (booked_more was_open did.open_is did.added) (follows_deed room.follows at e adds ready))
+    (booked_more was_open did.open_is did.added) (follows_action room.follows at e adds ready))
     (same_phase (user_ends room.follows.each at)
     (counted_same is_input_phase r.parts.input next l at.line_is adds.no_phase) room.phases)
     (inl did.open_is)
@@ -75,23 +75,23 @@ done_shot laws {r = r} {new = new} {number = number} room was is added open_is =
 
 -- ---- the user's pass
 
-pub user_deed : {r : RoomModel} {l : InputLine} {e : Entry} {u : UserPassModel} {share share' : ShareModel} (name : _)
+pub user_action : {r : RoomModel} {l : InputLine} {e : Entry} {u : UserPassModel} {share share' : ShareModel} (name : _)
     (known : List Entry) → IsRoom r → IsUserPass u share → u.input ≡ r.parts.input → slice_get u.input u.next ≡ Some l
-    → AddsDeed l e → slice_index r.counts (length r.parts.scripts) ≡ u.next → share'.count ≡ share.count + 1
+    → AddsAction l e → slice_index r.counts (length r.parts.scripts) ≡ u.next → share'.count ≡ share.count + 1
     → known ≡ without_final r.scene.entries ++ e ∷ []
     → IsUserPass (record u { number = share'.number; next = u.next + 1; name = name; seen = known }) share'
-user_deed {r = r} {l = l} {e = e} {u = u} name known room is same at adds counted es ek =
+user_action {r = r} {l = l} {e = e} {u = u} name known room is same at adds counted es ek =
     record {
       number = refl;
       counted = es ∙ ap (λ (n : ℕ). n + 1) is.counted;
       within = let w = slice_get_within u.input u.next l at in omega (arith, w);
       phase = is.phase ∙ sym (counted_same is_input_phase u.input u.next l at adds.no_phase);
-      known = ap user_actions_of ek ∙ deeds_of-append (without_final r.scene.entries) (e ∷ [])
-          ∙ ap₂ (λ (xs ys : List UserAction). xs ++ ys) (deeds_known u.input room same counted) adds.deed_is
-          ∙ sym (deeds_line u.input u.next l at);
+      known = ap user_actions_of ek ∙ actions_of-append (without_final r.scene.entries) (e ∷ [])
+          ∙ ap₂ (λ (xs ys : List UserAction). xs ++ ys) (actions_known u.input room same counted) adds.action_is
+          ∙ sym (actions_line u.input u.next l at);
     }
 
--- ---- what a deed finds
+-- ---- what an action finds
 
 -- the room and the user's pass at a line
 pub record FoundUser (r : RoomModel) (u : UserPassModel) (l : InputLine) : Type 0 where
@@ -131,5 +131,5 @@ user_met {u = u} known room same counted is e all = record {
   within = is.within;
   phase = is.phase;
   known = ap (λ (s : ShareModel). user_actions_of s.seen) e ∙ ap user_actions_of all
-      ∙ deeds_known u.input room same counted;
+      ∙ actions_known u.input room same counted;
 }

@@ -110,7 +110,7 @@ pub record Follows (scripts : List (List Line)) (input : List InputLine) (counts
   pub each : length counts ≡ length scripts + 1
   pub calls : (t : ℕ) → t < length scripts
       → calls_of t entries ≡ calls_in (take (slice_index counts t) (served (script_in scripts t)))
-  pub deeds : user_actions_of entries
+  pub actions : user_actions_of entries
       ≡ user_actions_in (take (slice_index counts (length scripts)) input)
   pub phases : IsNonDecreasing
       (phases_along (map calls_to_make scripts) (user_actions_to_do input) entries ++ phase ∷ [])

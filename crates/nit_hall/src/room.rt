@@ -1,9 +1,9 @@
 //! The room: one event is one call of it.
 
+mod actions;
 mod calls;
 mod clip_opening;
 mod clips;
-mod deeds;
 mod entry_laws;
 mod last;
 mod phases;
