@@ -2,7 +2,8 @@
 pub use Rattle.nit_perform.proofs.Basics.{All, All-push, AllByRecursion, AreDone, AreDoneClips}
 pub use Rattle.nit_perform.proofs.Basics.{AreFirstClipPasses, AreKeysBlank, BufferName}
 pub use Rattle.nit_perform.proofs.Basics.{CaptureModel, ClipPassModel, Configuration, End, Entry}
-pub use Rattle.nit_perform.proofs.Basics.{Err, File, HasFilmed, HasRun, HasRunClips, HaveTables}
+pub use Rattle.nit_perform.proofs.Basics.{Err, File, HasEnded, HasFilmed, HasRun, HasRunClips}
+pub use Rattle.nit_perform.proofs.Basics.{HaveTables, put_state_at}
 pub use Rattle.nit_perform.proofs.Basics.{InputLine, IsClipListText, IsDoneUser, IsFilmOf, IsGlass}
 pub use Rattle.nit_perform.proofs.Basics.{IsJournal, IsLegal, IsUtf8, IsWhole, IsWord, JournalModel}
 pub use Rattle.nit_perform.proofs.Basics.{Line, List, Member, NestError, NestModel, NestState}
@@ -35,8 +36,8 @@ pub use Rattle.nit_perform.proofs.GeneratedPuts.{name_bytes, name_is_text, one_s
 pub use Rattle.nit_perform.proofs.InnerLemmas.{Took, all_taken, frame_refused, no_frames}
 pub use Rattle.nit_perform.proofs.InnerLemmas.{rounds_journal, script_made, script_refused}
 pub use Rattle.nit_perform.proofs.InnerLemmas.{taken_all, takes_more}
-pub use Rattle.nit_perform.proofs.PerClient.{AreLeft, at_member, blank_glass, glasses_long}
-pub use Rattle.nit_perform.proofs.PerClient.{left_glass, left_tables, one_made, plan_made}
+pub use Rattle.nit_perform.proofs.PerClient.{at_member, blank_glass, can_take_last, glasses_long}
+pub use Rattle.nit_perform.proofs.PerClient.{inked, left_tables, one_made, plan_made}
 pub use Rattle.nit_perform.proofs.PerClient.{plans_long, set_up}
 pub use Rattle.nit_perform.proofs.PutLemmas.{next_goes, next_stays, no_put, no_text, refused_as}
 pub use Rattle.nit_perform.proofs.RoomRunLemmas.{all_done, beside_leaves, is_ready, known_whole}

@@ -1,8 +1,12 @@
 -- What is made for each client, in order, of its session, its script and its donation.
 use Rattle.std.proofs.Common.{◌≡◌, ◌∙◌, ℕ, ◌+◌, ◌<◌, ◌≤◌, List, [], ◌∷◌, ◌++◌, map, length, get_or}
 use Rattle.std.proofs.Common.{take, sym, ap, subst, arith, zero-add}
-use Rattle.nit_perform.proofs.Basics.{Configuration, HaveTables, IsConfiguration, IsGlass, IsPlanOf}
-use Rattle.nit_perform.proofs.Basics.{IsSetUp, Line, Member, Painting, PlanModel, Sight, blank}
+use Rattle.nit_perform.proofs.Basics.{All, AreInkedPlans, AreScriptsOf, CanTakeLast, Configuration}
+use Rattle.nit_perform.proofs.Basics.{HaveTables, InputLine, IsConfiguration, IsGlass, IsPlanOf}
+use Rattle.nit_perform.proofs.Basics.{IsRoundsOpening, IsRoundsRun, IsSetUp, IsWord, Line, Member}
+use Rattle.nit_perform.proofs.Basics.{OpenedRounds, Painting, PlanModel, SceneModel, Sight}
+use Rattle.nit_perform.proofs.Basics.{action_of}
+use Rattle.nit_perform.proofs.Basics.{actions_of_turns, blank, length-map, rounds}
 use Rattle.nit_perform.proofs.Basics.{donation_of, get_or-map-range_with_len, get_or_default}
 use Rattle.nit_perform.proofs.Basics.{glass_after, glass_in, glasses_of, ink, inked_sight}
 use Rattle.nit_perform.proofs.Basics.{length-map-range_with_len, map-id, map-range_with_len_more}
@@ -54,6 +58,15 @@ pub plans_long : (config : Configuration) (scripts : List (List Line)) (plans : 
     → plans ≡ plans_of config scripts → length plans ≡ length scripts
 plans_long config scripts plans of = ap (λ (ps : List PlanModel). length ps) of
     ∙ length-map-range_with_len _ 0 (length scripts)
+
+pub inked : (config : Configuration) (scripts : List (List Line)) (plans plans' : List PlanModel) → plans' ≡ plans
+    → plans ≡ plans_of config scripts → AreScriptsOf config scripts → All (λ (p : PlanModel). All IsWord p.ink) plans
+    → AreInkedPlans config plans'
+inked config scripts plans plans' same are of words = record {
+  configured = of.configured;
+  each = plans_long config scripts plans' (same ∙ are) ∙ of.each;
+  words = subst (λ (ps : List PlanModel). All (λ (p : PlanModel). All IsWord p.ink) ps) (sym same) words;
+}
 
 -- ---- all of them
 
@@ -147,3 +160,30 @@ pub left_tables : (config : Configuration) (scripts : List (List Line)) (owns : 
     → length owns ≡ length scripts → AreLeft config scripts owns → HaveTables owns (tables_left config scripts)
 left_tables config scripts owns each are t inside =
     ap (λ (g : Sight). g.words) (are t (subst (λ (n : ℕ). t < n) each inside))
+
+-- the last picture may be taken of what a run by rounds leaves, by own glasses that are the same
+pub can_take_last : WordsLaw → DoneLaw → (config : Configuration) (scripts : List (List Line)) (input : List InputLine)
+    (o : OpenedRounds) (mid : SceneModel Sight) (owns owns' : List Sight) → IsRoundsOpening config scripts input o
+    → IsRoundsRun scripts input o.scene mid owns → owns' ≡ owns → CanTakeLast mid owns'
+can_take_last words all config scripts input o mid owns owns' opened run same =
+    subst (λ (gs : List Sight). CanTakeLast mid gs) (sym same)
+    (record {
+      spare =
+          let long : length mid.entries ≡ length (actions_of_turns (rounds scripts input)) =
+          sym (length-map mid.entries action_of) ∙ ap length run.entries in
+          let sum' = run.spare in
+          let room = opened.spare in
+          omega (arith, long, sum', room);
+      unended = run.unended;
+      each = run.owns_each ∙ of.each ∙ ap (λ (k : Configuration). length k.clients) (sym config_is);
+      tables = λ t inside. subst (λ (k : Configuration). IsGlass k t (glass_in owns t)) (sym config_is)
+          (left_glass words all config scripts owns t of.configured of.each
+          (subst (λ (k : Configuration). AreLeft k scripts owns) opened.configuration run.words)
+          (subst (λ (n : ℕ). t < n) run.owns_each inside));
+    })
+  where
+    of : AreScriptsOf config scripts
+    of = opened.scripts_each
+
+    config_is : mid.config ≡ config
+    config_is = run.config ∙ opened.configuration

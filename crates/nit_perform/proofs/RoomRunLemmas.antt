@@ -4,11 +4,12 @@ use Rattle.std.proofs.Common.{length, length-append, map, take, Some, refl, sym,
 use Rattle.std.proofs.Common.{append_assoc, zero-add}
 use Rattle.nit_perform.proofs.Basics.{All, AreBlank, AreBuffers, AreDone, AreKeysBlank}
 use Rattle.nit_perform.proofs.Basics.{AreNearShots, AreOutputs, Bare, Belongs, Black, BufferName}
-use Rattle.nit_perform.proofs.Basics.{Configuration, End, Entry, File, HasRun, InputLine}
-use Rattle.nit_perform.proofs.Basics.{IsDoneUser, IsJournal, IsKnownWhole, IsLegal, IsNearPicture}
+use Rattle.nit_perform.proofs.Basics.{Configuration, Desk, End, Entry, File, HasEnded, HasRun}
+use Rattle.nit_perform.proofs.Basics.{InputLine, SceneModel, put_state_at}
+use Rattle.nit_perform.proofs.Basics.{IsDoneUser, IsJournal, IsKnownWhole, IsNearPicture}
 use Rattle.nit_perform.proofs.Basics.{IsOpen, IsOpening, IsReady, IsSetting, IsWhole, Line}
-use Rattle.nit_perform.proofs.Basics.{OpeningParts, PassModel, PixelSource, PlanModel, PutState}
-use Rattle.nit_perform.proofs.Basics.{PutsAll, PutsNext, PutsShotsBehind, Ran, Role, RoomModel}
+use Rattle.nit_perform.proofs.Basics.{OpeningParts, PassModel, PixelSource, PlanModel}
+use Rattle.nit_perform.proofs.Basics.{PutsAll, PutsShotsBehind, Ran, Role, RoomModel}
 use Rattle.nit_perform.proofs.Basics.{Setup, ShotsBehind, State, StoreModel, UserAction}
 use Rattle.nit_perform.proofs.Basics.{UserBelongs, UserPassModel, UserRole, Word, append-nil}
 use Rattle.nit_perform.proofs.Basics.{calls_to_make, actions_done, actions_of-append, donation_of}
@@ -215,30 +216,36 @@ last_is more parts config entries journal size out text same sized ended shown b
 true_false : true ≡ false → ⊥
 true_false e = cc
 
-pub beside_leaves : (parts : OpeningParts) (known known' : List Entry) (first new : StoreModel) (at final : PutState)
-    (journal : List Entry) (ran : Ran)
-    → known ≡ [] → PutsShotsBehind parts known known' (unrefused first) at → IsKnownWhole known' journal
-    → IsLegal parts.config journal
-    → IsWhole (map calls_to_make parts.scripts) (user_actions_to_do parts.input) journal
-    → PutsNext (final_name, final_picture (setup_in parts) journal) at final
-    → PutsAll (events_files parts.config journal ++ journal_file journal ∷ []) final (put_state_of_run new ran.fault)
-    → ran.journal.items ≡ journal → ran.frames ≡ shots journal + 1 → HasRun first (setup_in parts) new ran
-beside_leaves parts known known' first new at final journal ran none puts (rest, front, quiet) legal whole last texts is
-    frames =
+pub beside_leaves : {S : Type 0} (shown : S → StoreModel) (parts : OpeningParts) (known known' : List Entry)
+    (first new : StoreModel) (scene : SceneModel End) (desk left : Desk S) (ran : Ran)
+    → known ≡ [] → PutsShotsBehind parts known known' (unrefused first) (put_state_at shown desk)
+    → HasEnded shown parts known' scene desk left
+    → PutsAll (events_files scene.config scene.entries ++ journal_file scene.entries ∷ []) (put_state_at shown left)
+    (put_state_of_run new ran.fault)
+    → ran.journal.items ≡ scene.entries → ran.frames ≡ shots scene.entries + 1 → HasRun first (setup_in parts) new ran
+beside_leaves shown parts known known' first new scene desk left ran none puts ended texts is frames =
     let s = setup_in parts in
+    let texts' = subst (λ (k : Configuration). PutsAll (events_files k journal ++ journal_file journal ∷ [])
+    (put_state_at shown left) (put_state_of_run new ran.fault)) ended.config texts in
     let outputs = puts.files ++ (final_name, final_picture s journal) ∷ text_files s journal in
     record {
       journal = subst (λ (es : List Entry). IsJournal s es) (sym is)
-          (record { legal = legal; whole = whole; rounds = λ alone. absurd (true_false alone) });
+          (record { legal = ended.legal; whole = ended.whole; rounds = λ alone. absurd (true_false alone) });
       frames = frames ∙ ap (λ (es : List Entry). shots es + 1) (sym is);
       outputs = outputs;
       are = subst (λ (es : List Entry). AreOutputs s es outputs) (sym is)
           (puts.files, record { by_rounds = λ alone. absurd (true_false alone); beside = λ together. near }, refl);
-      puts = puts_both puts.files ((final_name, final_picture s journal) ∷ text_files s journal) (unrefused first) at
-          (put_state_of_run new ran.fault) puts.put
-          (final, last, texts);
+      puts = puts_both puts.files ((final_name, final_picture s journal) ∷ text_files s journal) (unrefused first)
+          (put_state_at shown desk) (put_state_of_run new ran.fault) puts.put
+          (put_state_at shown left, ended.put, texts');
     }
   where
+    journal : List Entry
+    journal = scene.entries
+
+    rest : List Entry
+    rest = ended.known.0
+
     Pic : List Entry → List ℕ → Type 0
     Pic = IsNearPicture parts.config parts.scripts
 
@@ -248,6 +255,7 @@ beside_leaves parts known known' first new at final journal ran none puts (rest,
         (subst (λ (es : List Entry). ShotsBehind Pic es puts.more puts.files) none puts.are)
 
     near : AreNearShots parts.config parts.scripts journal puts.files
-    near = subst (λ (es : List Entry). ShotsBehind Pic [] es puts.files) (sym front)
+    near = subst (λ (es : List Entry). ShotsBehind Pic [] es puts.files) (sym ended.known.1)
         (subst (λ (fs : List File). ShotsBehind Pic [] (known' ++ rest) fs) (append-nil puts.files)
-        (files_both Pic [] known' rest puts.files [] shown_then (no_files Pic known' rest (no_shots rest quiet))))
+        (files_both Pic [] known' rest puts.files [] shown_then
+        (no_files Pic known' rest (no_shots rest ended.known.2))))

@@ -8,6 +8,7 @@ pub use Rattle.nit_actor.specs.Pictures.{AreNearShots, IsNearPicture, PutsShotsB
 pub use Rattle.nit_actor.specs.Role.{Role, UserRole, role_of, user_role_of}
 pub use Rattle.nit_rounds.specs.Rounds.{rounds}
 pub use Rattle.nit_rounds.specs.RoundsRun.{IsRoundsRun, IsSetUp, final_name, glass_after}
+pub use Rattle.nit_rounds.specs.declared.desk.Desk.{Desk}
 pub use Rattle.nit_rounds.specs.RoundsRun.{put_state_of_desk, shot_name}
 pub use Rattle.nit_rounds.specs.ShotFrames.{ShotFrame, ShowsEach, shot_file}
 pub use Rattle.nit_rounds.specs.Shots.{ShotsBehind}

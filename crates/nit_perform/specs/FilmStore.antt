@@ -1,8 +1,17 @@
 -- A film that is made of the pictures that a store is given.
-use Rattle.std.specs.Prelude.{◌≡◌, ℕ, Bool, true, List, [], ◌∷◌, ◌++◌, map, Option, Some}
-use Rattle.std.specs.Prelude.{if◌then◌else◌}
+use Rattle.std.specs.Prelude.{◌≡◌, ℕ, ◌*◌, ◌<◌, ◌≤◌, Bool, true, false, List, [], ◌∷◌, ◌++◌, length}
+use Rattle.std.specs.Prelude.{map, Option, Some, if◌then◌else◌}
 use Rattle.nit_perform.specs.Below.{CaptureModel, File, bytes_of, cropped_bytes, film_header}
-use Rattle.nit_perform.specs.Below.{final_name, range_with_len, records, shot_name}
+use Rattle.nit_perform.specs.Below.{final_name, most_lines, range_with_len, records, shot_name}
+
+-- these bytes can be the next picture of a film of so many shots: it is whole and not ended, and
+-- they are as many as a picture has
+pub record CanFilm (whole ended : Bool) (count : ℕ) (now : CaptureModel) (bytes : List ℕ) : Type 0
+  where
+    pub is_whole : whole ≡ true
+    pub going : ended ≡ false
+    pub few : count < most_lines
+    pub long : 3 * (now.width * now.height) ≤ length bytes
 
 -- the names of the pictures of so many shots, and of the last picture, if that was taken
 abbrev pub picture_names : ℕ → Bool → List (List ℕ)

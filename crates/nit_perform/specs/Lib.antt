@@ -35,6 +35,7 @@ pub mod ClipRoom
 pub mod ClipRun
 pub mod FilmStore
 pub mod InnerRun
+pub mod LastPicture
 pub mod RoomRun
 pub mod RoundsOpening
 pub mod Runs

@@ -3,7 +3,8 @@
 use Rattle.std.specs.Prelude.{◌∷◌, ◌≡◌, ◌++◌, ℕ, ◌*◌, ◌≤◌, List, [], All, length, map, slice_get}
 use Rattle.std.specs.Prelude.{Some, vec_len, vec_capacity}
 use Rattle.nit_perform.specs.Below.{Belongs, BufferName, Configuration, End, Entry, InputLine}
-use Rattle.nit_perform.specs.Below.{IsOpen, Line, Memory, OpeningParts, PassModel, PlanModel}
+use Rattle.nit_perform.specs.Below.{IsOpen, Line, Member, Memory, OpeningParts, PassModel}
+use Rattle.nit_perform.specs.Below.{PlanModel}
 use Rattle.nit_perform.specs.Below.{RoomModel, StepTogether, UserBelongs, UserPassModel}
 use Rattle.nit_perform.specs.Below.{donation_of, idle_user, new_sight, picture_length, plan_in}
 use Rattle.nit_perform.specs.Below.{table_size, user_actions_of}
@@ -30,6 +31,12 @@ pub record IsMemory {T : Type 0} (config : Configuration) (m : Memory T) : Type 
   pub room : length config.clients ≤ vec_capacity m.waiting
   pub frame : length m.frame.items ≡ config.width * config.height
   pub text : length m.text.items ≡ picture_length config.width config.height
+
+-- the same memory, beside the configuration's clients
+pub record IsSupplied {T : Type 0} (config : Configuration) (m : Memory T)
+    (clients : List Member) : Type 0 where
+  pub memory : IsMemory config m
+  pub clients_are : clients ≡ config.clients
 
 -- The run of this opening can begin: its journal is open; there is a pass for each client, in
 -- order, and the user's, who knows nothing yet.

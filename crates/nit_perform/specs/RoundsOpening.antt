@@ -1,10 +1,22 @@
 -- A run before its first round.
-use Rattle.std.specs.Prelude.{◌≡◌, ◌+◌, ◌≤◌, List, [], length, map}
-use Rattle.nit_perform.specs.Below.{Configuration, InputLine, IsSetUp, Line, OpenedRounds}
-use Rattle.nit_perform.specs.Below.{PlanModel}
-use Rattle.nit_perform.specs.Below.{Sight, actions_of_turns, donation_of, glass_after}
+use Rattle.std.specs.Prelude.{◌≡◌, ◌+◌, ◌≤◌, List, [], All, length, map}
+use Rattle.nit_perform.specs.Below.{Configuration, InputLine, IsConfiguration, IsSetUp, IsWord}
+use Rattle.nit_perform.specs.Below.{Line}
+use Rattle.nit_perform.specs.Below.{OpenedRounds, PlanModel, Sight, actions_of_turns, donation_of}
+use Rattle.nit_perform.specs.Below.{glass_after}
 use Rattle.nit_perform.specs.Below.{picture_length, plan_of_script, range_with_len, rounds}
 use Rattle.nit_perform.specs.Below.{script_in}
+
+-- there is a script for each client of the configuration
+pub record AreScriptsOf (config : Configuration) (scripts : List (List Line)) : Type 0 where
+  pub configured : IsConfiguration config
+  pub each : length scripts ≡ length config.clients
+
+-- there is a plan for each client of the configuration, and its ink is of words below 2^24
+pub record AreInkedPlans (config : Configuration) (plans : List PlanModel) : Type 0 where
+  pub configured : IsConfiguration config
+  pub each : length plans ≡ length config.clients
+  pub words : All (λ p. All IsWord p.ink) plans
 
 -- the plan of each client's script, in order
 abbrev pub plans_of : Configuration → List (List Line) → List PlanModel
@@ -23,6 +35,7 @@ glasses_of config scripts =
 -- picture has.
 pub record IsRoundsOpening (config : Configuration) (scripts : List (List Line))
     (input : List InputLine) (o : OpenedRounds) : Type 0 where
+  pub scripts_each : AreScriptsOf config scripts
   pub configuration : o.scene.config ≡ config
   pub entries : o.scene.entries ≡ []
   pub spare : length (actions_of_turns (rounds scripts input)) + 1 ≤ o.scene.spare

@@ -19,6 +19,17 @@ abbrev pub is_shot_entry : Entry → Bool
 is_shot_entry (entry.Shot number) = true
 is_shot_entry other = false
 
+-- what a run leaves that has this journal, where this put was refused, if one was
+pub record IsRunOf (journal : List Entry) (fault : Option PutFault) (ran : Ran) : Type 0 where
+  pub journal_is : ran.journal.items ≡ journal
+  pub frames : ran.frames ≡ shots journal + 1
+  pub fault_is : ran.fault ≡ fault
+
+-- a file was put behind those of a run: its journal and the number of its pictures stay
+pub record IsSameRun (before after' : Ran) : Type 0 where
+  pub journal : after'.journal.items ≡ before.journal.items
+  pub frames : after'.frames ≡ before.frames
+
 -- the run went to its end
 pub record HasRun (old : StoreModel) (s : Setup) (new : StoreModel) (ran : Ran) : Type 0 where
   pub journal : IsJournal s ran.journal.items

@@ -59,9 +59,14 @@ pub use Rattle.nit_perform.specs.CaptureRun.{HasFilmed, RunsFilmed, begun_of}
 pub use Rattle.nit_perform.specs.ClipRoom.{HasRoomBack, IsClipListText, IsReadyWithClips}
 pub use Rattle.nit_perform.specs.ClipRoom.{clips_setup, clips_setup_in}
 pub use Rattle.nit_perform.specs.ClipRun.{HasRunClips, RunsClips, clips_setup_of}
-pub use Rattle.nit_perform.specs.FilmStore.{HasTaken, IsFilmOf, bytes_under, last_of, picture_names}
+pub use Rattle.nit_perform.specs.FilmStore.{CanFilm, HasTaken, IsFilmOf, bytes_under, last_of}
+pub use Rattle.nit_perform.specs.FilmStore.{picture_names}
 pub use Rattle.nit_perform.specs.InnerRun.{NestState, NestsRun, TakesAll, TakesNext, TakesUnless}
+pub use Rattle.nit_perform.specs.LastPicture.{AreAllDone, CanTakeLast, HasEnded, HasPictureRoom}
+pub use Rattle.nit_perform.specs.LastPicture.{TakesLast, put_state_at}
 pub use Rattle.nit_perform.specs.RoomRun.{AreBuffers, AreKeysBlank, IsAlone, IsKnownWhole, IsMemory}
-pub use Rattle.nit_perform.specs.RoomRun.{IsReady, IsReadyAlone}
-pub use Rattle.nit_perform.specs.RoundsOpening.{IsRoundsOpening, glasses_of, plans_of}
-pub use Rattle.nit_perform.specs.Runs.{HasRun, Runs, is_shot_entry, put_state_of_run, refusal_of}
+pub use Rattle.nit_perform.specs.RoomRun.{IsReady, IsReadyAlone, IsSupplied}
+pub use Rattle.nit_perform.specs.RoundsOpening.{AreInkedPlans, AreScriptsOf, IsRoundsOpening}
+pub use Rattle.nit_perform.specs.RoundsOpening.{glasses_of, plans_of}
+pub use Rattle.nit_perform.specs.Runs.{HasRun, IsRunOf, IsSameRun, Runs, is_shot_entry}
+pub use Rattle.nit_perform.specs.Runs.{put_state_of_run, refusal_of}

@@ -1,8 +1,8 @@
 //! The files that a command adds behind those of its run: a clip list, a film, or an inner journal.
 
 ghost use Rattle.std.specs.Prelude.{◌≡◌, [], ℕ, List, IfOk, false, true, ◌++◌, ◌∷◌};
-ghost use Rattle.nit_perform.specs.Terms.{PutsNext, clips_name, film_name, inner_journal_name};
-ghost use Rattle.nit_perform.specs.Terms.{journal_text, put_state_of_run};
+ghost use Rattle.nit_perform.specs.Terms.{IsSameRun, PutsNext, clips_name, film_name};
+ghost use Rattle.nit_perform.specs.Terms.{inner_journal_name, journal_text, put_state_of_run};
 
 use crate::film::Film;
 use crate::puts::put_made;
@@ -17,8 +17,7 @@ use std::alloc::Global;
 /// Puts the clip list behind the files of a run, unless a put was refused before. Want of memory
 /// for its text counts as a put that is refused.
 pub fn put_clips<S: Store>(store: &mut S, ran: Ran, list: Result<Vec<u8>, NoMemory>) -> Ran
-    ensures journal { result.journal.items ≡ ran.journal.items }
-    ensures frames { result.frames ≡ ran.frames }
+    ensures same { IsSameRun ran result }
     ensures puts { (text : List ℕ) → IfOk list (λ v. v.items ≡ text)
         → PutsNext (clips_name, text) (put_state_of_run (S.shown store.old) ran.fault)
         (put_state_of_run (S.shown store.new) result.fault) }
@@ -30,8 +29,7 @@ pub fn put_clips<S: Store>(store: &mut S, ran: Ran, list: Result<Vec<u8>, NoMemo
 /// Puts a film behind the files of a run, unless a put was refused before. One that is not whole is
 /// not put, and counts as want of memory.
 pub fn end_film<S: Store>(store: &mut S, film: Film, whole: bool, ran: Ran) -> Ran
-    ensures journal { result.journal.items ≡ ran.journal.items }
-    ensures frames { result.frames ≡ ran.frames }
+    ensures same { IsSameRun ran result }
     ensures whole { whole ≡ true → PutsNext (film_name, film.bytes.items ++ 0 ∷ [])
         (put_state_of_run (S.shown store.old) ran.fault)
         (put_state_of_run (S.shown store.new) result.fault) }

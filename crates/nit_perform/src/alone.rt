@@ -7,7 +7,7 @@ ghost use Rattle.nit_perform.specs.Terms.{IsReadyAlone, IsRunnable, Runs, pictur
 use crate::last::last_picture;
 use crate::memory::{buffers_of, canvases_of};
 use crate::opening::{blank_frame, blank_text, plans_of};
-use crate::ran::{PutFault, Ran, leave_pictures};
+use crate::ran::{LeftDesk, Ran, leave_desk, leave_pictures};
 use nit_actor::laws::idle_user_does_nothing;
 use nit_actor::run_alone;
 use nit_config::Config;
@@ -81,14 +81,7 @@ fn play_alone<'a, S: Store>(
     };
     do_all(&mut room, &mut passes, &mut user);
     let scene = last_picture(room, passes, user, &mut desk);
-    let Desk {
-        store,
-        frame: _frame,
-        text: _text,
-        fault,
-        tried,
-    } = desk;
-    let fault = PutFault::of_picture(fault, tried);
+    let LeftDesk { store, fault } = leave_desk(desk);
     leave_pictures(store, scene.into_journal().into_entries(), fault)
 }
 

@@ -1,14 +1,14 @@
 //! A run with each client on a thread of its own, and the user on the calling one.
 
-ghost use Rattle.std.specs.Prelude.{true, ◌≡◌};
-ghost use Rattle.nit_perform.specs.Terms.{HasRun, IsMemory, IsReady, IsRunnable, Runs, frame};
+ghost use Rattle.std.specs.Prelude.{true};
+ghost use Rattle.nit_perform.specs.Terms.{HasRun, IsReady, IsRunnable, IsSupplied, Runs};
 ghost use Rattle.nit_perform.specs.Terms.{setup_of};
 
 use crate::host::ThreadHost;
 use crate::last::last_picture;
 use crate::memory::{Memory, buffers_of, canvases_of};
 use crate::opening::plans_of;
-use crate::ran::{PutFault, Ran};
+use crate::ran::{LeftDesk, Ran, leave_desk};
 use crate::texts::leave_texts;
 use nit_actor::{Gate, GatedHall, Unstarted, UserAndDesk};
 use nit_config::{Config, Member};
@@ -60,8 +60,7 @@ fn run_named<'a, N: Name + Send + Sync, R: Threads + Wait + Sync, S: Store, G: G
     store: &mut S,
 ) -> Ran
     requires ready { IsReady N.parts opened.room opened.passes.items opened.user }
-    requires memory { IsMemory N.parts.config memory }
-    requires clients { clients.now ≡ N.parts.config.clients }
+    requires supplied { IsSupplied N.parts.config memory clients.now }
     ensures { HasRun (S.shown store.old)
         (setup_of N.parts.config N.parts.scripts N.parts.input true true)
         (S.shown store.new) result }
@@ -97,13 +96,6 @@ fn run_named<'a, N: Name + Send + Sync, R: Threads + Wait + Sync, S: Store, G: G
     let mine = nit_actor::run_beside(host.rt, gated, unstarted, &mut passes, mine);
     let UserAndDesk { user, mut desk } = mine;
     let scene = last_picture(hall.into_room(), passes, user, &mut desk);
-    let Desk {
-        store,
-        frame: _frame,
-        text: _text,
-        fault,
-        tried,
-    } = desk;
-    let fault = PutFault::of_picture(fault, tried);
+    let LeftDesk { store, fault } = leave_desk(desk);
     leave_texts(host.alloc, store, fault, clients, scene)
 }

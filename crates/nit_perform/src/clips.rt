@@ -2,8 +2,9 @@
 //! calling thread.
 
 ghost use Rattle.std.specs.Prelude.{◌≡◌, length};
-ghost use Rattle.nit_perform.specs.Terms.{HasRoomBack, HasRunClips, IsMemory, IsReadyWithClips};
-ghost use Rattle.nit_perform.specs.Terms.{IsRunnable, RunsClips, clips_setup_in, clips_setup_of};
+ghost use Rattle.nit_perform.specs.Terms.{HasRoomBack, HasRunClips, IsReadyWithClips};
+ghost use Rattle.nit_perform.specs.Terms.{IsRunnable, IsSupplied, RunsClips, clips_setup_in};
+ghost use Rattle.nit_perform.specs.Terms.{clips_setup_of};
 
 use crate::added::put_clips;
 use crate::host::ThreadHost;
@@ -11,7 +12,7 @@ use crate::last::last_with_clips;
 use crate::memory::{Memory, buffers_of, canvases_of};
 use crate::opening::plans_of;
 use crate::pairs::{Paired, open_pairs, take_apart};
-use crate::ran::{PutFault, Ran};
+use crate::ran::{LeftDesk, Ran, leave_desk};
 use crate::texts::leave_texts;
 use nit_actor::{Gate, GatedHall, Pair, Unstarted, UserAndDesk, run_beside_clips};
 use nit_clip::ClipScript;
@@ -66,8 +67,7 @@ fn run_clips_named<'a, N: Name + Send + Sync, R: Threads + Wait + Sync, S: Store
 ) -> Ran
     requires ready { IsReadyWithClips N.parts actors.room actors.pairs.items actors.user }
     requires back { HasRoomBack actors }
-    requires memory { IsMemory N.parts.config memory }
-    requires clients { clients.now ≡ N.parts.config.clients }
+    requires supplied { IsSupplied N.parts.config memory clients.now }
     ensures { HasRunClips (S.shown store.old) (clips_setup_in N.parts) (S.shown store.new)
         result.journal.items result.frames result.fault }
 {
@@ -106,14 +106,7 @@ fn run_clips_named<'a, N: Name + Send + Sync, R: Threads + Wait + Sync, S: Store
     take_apart(&mut pairs, &mut passes, &mut clips);
     let room = hall.into_room();
     let (scene, list) = last_with_clips(host.alloc, room, passes, clips, user, &mut desk);
-    let Desk {
-        store,
-        frame: _frame,
-        text: _text,
-        fault,
-        tried,
-    } = desk;
-    let fault = PutFault::of_picture(fault, tried);
+    let LeftDesk { store, fault } = leave_desk(desk);
     let ran = leave_texts(host.alloc, store, fault, clients, scene);
     put_clips(store, ran, list)
 }

@@ -1,7 +1,7 @@
 //! A store that films the pictures that are put through it.
 
 ghost use Rattle.std.specs.Prelude.{◌≡◌};
-ghost use Rattle.nit_perform.specs.Below.{most_lines, with_last};
+ghost use Rattle.nit_perform.specs.Below.{with_last};
 ghost use Rattle.nit_perform.specs.FilmStore.{IsFilmOf, picture_names};
 
 use crate::film::Film;
@@ -66,18 +66,16 @@ pub struct FilmStore<'s, S: Store, F: Filming> {
 }
 
 impl<S: Store, F: Filming> FilmStore<'_, S, F> {
-    ghost use Rattle.std.specs.Prelude.{true, false, ◌≡◌, ◌+◌, ◌*◌, ◌<◌, ◌≤◌, length};
+    ghost use Rattle.std.specs.Prelude.{true, ◌≡◌, ◌+◌};
+    ghost use Rattle.nit_perform.specs.FilmStore.{CanFilm};
     ghost use Rattle.nit_store.specs.StoreAnswers.{AfterPut};
     ghost use Rattle.nit_rounds.specs.RoundsRun.{final_name, shot_name};
 
     /// Whether these bytes can be the film's next picture: it is whole and not ended, and they have
     /// enough bytes.
     fn takes(&self, bytes: &[u8]) -> bool
-        ensures whole { result ≡ true → self.now.whole ≡ true }
-        ensures going { result ≡ true → self.now.ended ≡ false }
-        ensures few { result ≡ true → self.now.count < most_lines }
-        ensures long { result ≡ true
-            → 3 * (self.now.film.capture.width * self.now.film.capture.height) ≤ length bytes.now }
+        ensures { result ≡ true → CanFilm self.now.whole self.now.ended self.now.count
+            self.now.film.capture bytes.now }
     {
         self.whole && !self.ended && self.count < MOST_SHOTS && self.film.fits(bytes)
     }
@@ -85,11 +83,8 @@ impl<S: Store, F: Filming> FilmStore<'_, S, F> {
     /// Puts the picture of the next shot, and adds it to the film.
     fn put_shot(&mut self, name: &str, bytes: &[u8]) -> Result<(), PutError>
         requires name { name.now ≡ shot_name (self.old.count + 1) }
-        requires whole { self.old.whole ≡ true }
-        requires going { self.old.ended ≡ false }
-        requires few { self.old.count < most_lines }
-        requires long { 3 * (self.old.film.capture.width * self.old.film.capture.height)
-            ≤ length bytes.now }
+        requires can { CanFilm self.old.whole self.old.ended self.old.count
+            self.old.film.capture bytes.now }
         ensures { AfterPut (S.shown self.old.store.now) name.now bytes.now
             (S.shown self.new.store.now) result }
     {
@@ -103,10 +98,8 @@ impl<S: Store, F: Filming> FilmStore<'_, S, F> {
     /// Puts the last picture, and adds it to the film.
     fn put_final(&mut self, name: &str, bytes: &[u8]) -> Result<(), PutError>
         requires name { name.now ≡ final_name }
-        requires whole { self.old.whole ≡ true }
-        requires going { self.old.ended ≡ false }
-        requires long { 3 * (self.old.film.capture.width * self.old.film.capture.height)
-            ≤ length bytes.now }
+        requires can { CanFilm self.old.whole self.old.ended self.old.count
+            self.old.film.capture bytes.now }
         ensures { AfterPut (S.shown self.old.store.now) name.now bytes.now
             (S.shown self.new.store.now) result }
     {

@@ -118,8 +118,7 @@ fn play(
     scripts: &[Client],
     input: &Input,
 ) -> AfterRounds
-    requires runnable { IsRunnable (by_turns (run_files config.now scripts.now input.now)) }
-    requires opened { IsRoundsOpening config.now scripts.now input.now opened }
+    requires { IsRoundsOpening config.now scripts.now input.now opened }
     ensures journal { IsJournal (by_turns (run_files config.now scripts.now input.now))
         result.journal.items }
     ensures frames { TakesAll (frames_of (run_files config.now scripts.now input.now))

@@ -1,13 +1,12 @@
 //! The last picture of a run.
 
-ghost use Rattle.std.specs.Prelude.{◌≡◌, ◌<◌, ◌≤◌, ◌++◌, ◌∷◌, [], List, ℕ, length, true, ◌*◌, map};
-ghost use Rattle.std.specs.Prelude.{All};
-ghost use Rattle.nit_perform.specs.Terms.{AreDone, AreDoneClips, HaveTables, IsClipListText};
-ghost use Rattle.nit_perform.specs.Terms.{IsDoneUser, IsGlass, IsKnownWhole, IsLegal, IsOpen};
-ghost use Rattle.nit_perform.specs.Terms.{IsWhole, IsWord, PutsNext, calls_to_make, clips_setup_in};
-ghost use Rattle.nit_perform.specs.Terms.{final_name, final_picture, frame, glass_in, picture_by};
+ghost use Rattle.std.specs.Prelude.{◌≡◌, ◌++◌, ◌∷◌, [], All, List, ℕ, length, ◌*◌, map};
+ghost use Rattle.nit_perform.specs.Terms.{AreAllDone, AreDoneClips, CanTakeLast, HasEnded};
+ghost use Rattle.nit_perform.specs.Terms.{HasPictureRoom, HaveTables, IsClipListText, IsLegal};
+ghost use Rattle.nit_perform.specs.Terms.{IsWhole, IsWord, PutsNext, TakesLast, calls_to_make};
+ghost use Rattle.nit_perform.specs.Terms.{clips_setup_in, final_name, frame, picture_by};
 ghost use Rattle.nit_perform.specs.Terms.{picture_length, put_state_of_desk, raw_words, scenery_of};
-ghost use Rattle.nit_perform.specs.Terms.{setup_of, state_now, user_actions_to_do, words_left_in};
+ghost use Rattle.nit_perform.specs.Terms.{state_now, user_actions_to_do, words_left_in};
 ghost use mathlib.Core.List.{IsPrefix};
 ghost use Rattle.nit_events.specs.declared.entry.Entry.TheVariants as entry;
 
@@ -25,16 +24,10 @@ use std::alloc::Global;
 /// Takes the last picture of the scene by the sessions' own glasses, and puts it unless a put was
 /// refused before.
 pub fn put_last<S: Store>(scene: &mut Scene<Inked>, owns: &mut [Inked], desk: &mut Desk<S>)
-    requires spare { 1 ≤ scene.old.spare }
-    requires open { IsOpen scene.old.entries }
-    requires owns { length owns.old ≡ length scene.old.config.clients }
-    requires tables { (t : ℕ) → t < length owns.old
-        → IsGlass scene.old.config t (glass_in owns.old t) }
+    requires can { CanTakeLast scene.old owns.old }
     requires text { length desk.old.text.items
         ≡ picture_length scene.old.config.width scene.old.config.height }
-    ensures recorded { scene.new.entries ≡ scene.old.entries ++ entry.Final ∷ [] }
-    ensures config { scene.new.config ≡ scene.old.config }
-    ensures legal { IsLegal scene.new.config scene.new.entries }
+    ensures taken { TakesLast scene.old scene.new }
     ensures put { (tables : ℕ → List ℕ) → HaveTables owns.old tables
         → PutsNext (final_name, picture_by (state_now scene.old) tables)
         (put_state_of_desk (S.shown desk.old.store.now) desk.old.fault desk.old.tried)
@@ -49,14 +42,8 @@ pub fn put_last<S: Store>(scene: &mut Scene<Inked>, owns: &mut [Inked], desk: &m
 /// Takes the last picture of the scene by the sessions' own glasses. It is the frame that the scene
 /// shows then.
 pub fn take_last(scene: &mut Scene<Inked>, owns: &mut [Inked])
-    requires spare { 1 ≤ scene.old.spare }
-    requires open { IsOpen scene.old.entries }
-    requires owns { length owns.old ≡ length scene.old.config.clients }
-    requires tables { (t : ℕ) → t < length owns.old
-        → IsGlass scene.old.config t (glass_in owns.old t) }
-    ensures recorded { scene.new.entries ≡ scene.old.entries ++ entry.Final ∷ [] }
-    ensures config { scene.new.config ≡ scene.old.config }
-    ensures legal { IsLegal scene.new.config scene.new.entries }
+    requires { CanTakeLast scene.old owns.old }
+    ensures taken { TakesLast scene.old scene.new }
     ensures frame { (tables : ℕ → List ℕ) → HaveTables owns.old tables
         → frame (scenery_of (state_now scene.new)) scene.new.raw
         ≡ frame (scenery_of (state_now scene.old))
@@ -74,27 +61,9 @@ pub fn last_picture<'a, S: Store>(
     user: UserPass<'a>,
     desk: &mut Desk<S>,
 ) -> Scene<Lens<'a>>
-    requires done { AreDone room.parts passes.items }
-    requires user { IsDoneUser room.parts user }
-    requires open { IsOpen room.scene.entries }
-    requires frame { length desk.old.frame.items
-        ≡ room.parts.config.width * room.parts.config.height }
-    requires text { length desk.old.text.items
-        ≡ picture_length room.parts.config.width room.parts.config.height }
-    ensures config { result.config ≡ room.entry.parts.config }
-    ensures legal { IsLegal room.entry.parts.config result.entries }
-    ensures whole { IsWhole (map calls_to_make room.entry.parts.scripts)
-        (user_actions_to_do room.entry.parts.input) result.entries }
-    ensures known { IsKnownWhole user.entry.seen result.entries }
-    ensures put { let parts = room.entry.parts in
-        PutsNext (
-          final_name,
-          final_picture
-              (setup_of parts.config parts.scripts parts.input true true) result.entries,
-        )
-        (put_state_of_desk (S.shown desk.old.store.now) desk.old.fault desk.old.tried)
-        (put_state_of_desk (S.shown desk.new.store.now) desk.new.fault desk.new.tried) }
-    ensures same_store { desk.new.store.ghost_name ≡ desk.old.store.ghost_name }
+    requires done { AreAllDone room passes.items user }
+    requires desk { HasPictureRoom room.parts.config desk.old }
+    ensures { HasEnded S.shown room.entry.parts user.entry.seen result desk.old desk.new }
 {
     let mut room = room;
     let mut passes = passes;
@@ -114,28 +83,10 @@ pub fn last_with_clips<'a, S: Store>(
     user: UserPass<'a>,
     desk: &mut Desk<S>,
 ) -> (Scene<Lens<'a>>, Result<Vec<u8>, NoMemory>)
-    requires done { AreDone room.parts passes.items }
+    requires done { AreAllDone room passes.items user }
     requires clips { AreDoneClips room.parts clips.items }
-    requires user { IsDoneUser room.parts user }
-    requires open { IsOpen room.scene.entries }
-    requires frame { length desk.old.frame.items
-        ≡ room.parts.config.width * room.parts.config.height }
-    requires text { length desk.old.text.items
-        ≡ picture_length room.parts.config.width room.parts.config.height }
-    ensures config { result.0.config ≡ room.entry.parts.config }
-    ensures legal { IsLegal room.entry.parts.config result.0.entries }
-    ensures whole { IsWhole (map calls_to_make room.entry.parts.scripts)
-        (user_actions_to_do room.entry.parts.input) result.0.entries }
-    ensures known { IsKnownWhole user.entry.seen result.0.entries }
-    ensures put { let parts = room.entry.parts in
-        PutsNext (
-          final_name,
-          final_picture
-              (setup_of parts.config parts.scripts parts.input true true) result.0.entries,
-        )
-        (put_state_of_desk (S.shown desk.old.store.now) desk.old.fault desk.old.tried)
-        (put_state_of_desk (S.shown desk.new.store.now) desk.new.fault desk.new.tried) }
-    ensures same_store { desk.new.store.ghost_name ≡ desk.old.store.ghost_name }
+    requires desk { HasPictureRoom room.parts.config desk.old }
+    ensures ended { HasEnded S.shown room.entry.parts user.entry.seen result.0 desk.old desk.new }
     ensures list { IsClipListText (clips_setup_in room.entry.parts) result.0.entries result.1 }
 {
     let mut room = room;
@@ -156,28 +107,10 @@ fn end_with_picture<'a, S: Store>(
     user: &mut UserPass<'a>,
     desk: &mut Desk<S>,
 )
-    requires done { AreDone room.old.parts passes.old.items }
-    requires user { IsDoneUser room.old.parts user.old }
-    requires open { IsOpen room.old.scene.entries }
-    requires frame { length desk.old.frame.items
-        ≡ room.old.parts.config.width * room.old.parts.config.height }
-    requires text { length desk.old.text.items
-        ≡ picture_length room.old.parts.config.width room.old.parts.config.height }
+    requires done { AreAllDone room.old passes.old.items user.old }
+    requires desk { HasPictureRoom room.old.parts.config desk.old }
     ensures parts { room.new.parts ≡ room.old.parts }
-    ensures config { room.new.scene.config ≡ room.old.parts.config }
-    ensures legal { IsLegal room.old.parts.config room.new.scene.entries }
-    ensures whole { IsWhole (map calls_to_make room.old.parts.scripts)
-        (user_actions_to_do room.old.parts.input) room.new.scene.entries }
-    ensures known { IsKnownWhole user.old.seen room.new.scene.entries }
-    ensures put { let parts = room.old.parts in
-        PutsNext (
-          final_name,
-          final_picture
-              (setup_of parts.config parts.scripts parts.input true true) room.new.scene.entries,
-        )
-        (put_state_of_desk (S.shown desk.old.store.now) desk.old.fault desk.old.tried)
-        (put_state_of_desk (S.shown desk.new.store.now) desk.new.fault desk.new.tried) }
-    ensures same_store { desk.new.store.ghost_name ≡ desk.old.store.ghost_name }
+    ensures ended { HasEnded S.shown room.old.parts user.old.seen room.new.scene desk.old desk.new }
 {
     one_more_entry();
     let (width, height) = room.scene().size();
@@ -193,9 +126,7 @@ fn end_room<'a>(
     user: &mut UserPass<'a>,
     out: &mut Vec<u32>,
 )
-    requires passes { AreDone room.old.parts passes.old.items }
-    requires user { IsDoneUser room.old.parts user.old }
-    requires open { IsOpen room.old.scene.entries }
+    requires done { AreAllDone room.old passes.old.items user.old }
     requires out { length out.old.items
         ≡ room.old.parts.config.width * room.old.parts.config.height }
     ensures parts { room.new.parts ≡ room.old.parts }

@@ -1,8 +1,8 @@
 //! The memory of a run whose clients are beside each other, all of which is taken before the first
 //! thread.
 
-ghost use Rattle.std.specs.Prelude.{IfOk, vec_len, ◌≡◌, All, length, map};
-ghost use Rattle.nit_perform.specs.Terms.{AreBuffers, IsConfiguration, IsMemory, IsWord};
+ghost use Rattle.std.specs.Prelude.{IfOk, vec_len, ◌≡◌, map};
+ghost use Rattle.nit_perform.specs.Terms.{AreBuffers, AreInkedPlans, IsConfiguration, IsMemory};
 
 use crate::opening::{blank_frame, blank_text, table_words};
 use nit_config::Config;
@@ -56,9 +56,7 @@ pub fn buffers_of(
     config: &Config,
     plans: &[Plan],
 ) -> Result<(Vec<PixelBuffer>, Vec<Key>), NoMemory>
-    requires configured { IsConfiguration config.now }
-    requires each { length plans.now ≡ length config.now.clients }
-    requires words { All (λ p. All IsWord p.ink) plans.now }
+    requires { AreInkedPlans config.now plans.now }
     ensures { IfOk result
         (λ made. AreBuffers config.now plans.now made.0.items made.1.items) }
 {

@@ -1,8 +1,9 @@
 //! The memory of a run, all of which is taken before its first round.
 
 ghost use Rattle.std.specs.Prelude.{◌≡◌, ◌+◌, IfOk, length, All, List, ◌≤◌, ◌*◌};
-ghost use Rattle.nit_perform.specs.Terms.{IsConfiguration, IsDonation, IsPlanOf, IsRoundsOpening};
-ghost use Rattle.nit_perform.specs.Terms.{IsWord, Line, glass_after, glasses_of, most_words};
+ghost use Rattle.nit_perform.specs.Terms.{AreInkedPlans, AreScriptsOf, IsConfiguration};
+ghost use Rattle.nit_perform.specs.Terms.{IsDonation, IsPlanOf, IsRoundsOpening, IsWord, Line};
+ghost use Rattle.nit_perform.specs.Terms.{glass_after, glasses_of, most_words};
 ghost use Rattle.nit_perform.specs.Terms.{picture_length, plans_of, table_size};
 
 use nit_config::Config;
@@ -39,8 +40,7 @@ pub fn open(
     scripts: &[Client],
     input: &Input,
 ) -> Result<OpenedRounds, NoMemory>
-    requires configured { IsConfiguration config.now }
-    requires each { length scripts.now ≡ length config.now.clients }
+    requires { AreScriptsOf config.now scripts.now }
     ensures { IfOk result (λ o. IsRoundsOpening config.now scripts.now input.now o) }
 {
     each_line_once();
@@ -61,8 +61,7 @@ pub fn open(
 
 /// The plan of each client's script. Its ink is of words below 2^24.
 pub fn plans_of(alloc: Global, config: &Config, scripts: &[Client]) -> Result<Vec<Plan>, NoMemory>
-    requires configured { IsConfiguration config.now }
-    requires each { length scripts.now ≡ length config.now.clients }
+    requires { AreScriptsOf config.now scripts.now }
     ensures plans { IfOk result (λ v. v.items ≡ plans_of config.now scripts.now) }
     ensures words { IfOk result (λ v. All (λ p. All IsWord p.ink) v.items) }
 {
@@ -81,11 +80,8 @@ fn glasses_of(
     scripts: &[Client],
     plans: &[Plan],
 ) -> Result<Vec<Inked>, NoMemory>
-    requires configured { IsConfiguration config.now }
-    requires each { length scripts.now ≡ length config.now.clients }
-    requires long { length plans.now ≡ length config.now.clients }
     requires plans { plans.now ≡ plans_of config.now scripts.now }
-    requires words { All (λ p. All IsWord p.ink) plans.now }
+    requires inked { AreInkedPlans config.now plans.now }
     ensures { IfOk result (λ v. v.items ≡ glasses_of config.now scripts.now) }
 {
     let clients = config.clients.as_slice();

@@ -1,11 +1,11 @@
 //! What a run leaves.
 
 ghost use Rattle.std.specs.Prelude.{◌≡◌, ◌+◌, ◌≤◌, length};
-ghost use Rattle.nit_perform.specs.Terms.{StoreModel, is_shot_entry, put_state_of_desk};
-ghost use Rattle.nit_perform.specs.Terms.{put_state_of_run, shots};
+ghost use Rattle.nit_perform.specs.Terms.{IsRunOf, StoreModel, is_shot_entry, put_state_of_desk};
+ghost use Rattle.nit_perform.specs.Terms.{put_state_at, put_state_of_run, shots};
 
 use nit_events::Entry;
-use nit_rounds::PictureName;
+use nit_rounds::{Desk, PictureName};
 use nit_run::Output;
 use nit_store::{PutError, Store};
 
@@ -28,6 +28,30 @@ impl PutFault {
             error,
         })
     }
+}
+
+/// What is left of a desk: its store, and the put that was refused, if there is one.
+#[derive(Drop)]
+pub struct LeftDesk<'a, S> {
+    pub store: &'a mut S,
+    pub fault: Option<PutFault>,
+}
+
+/// Takes a desk apart, which puts no more pictures.
+pub fn leave_desk<'a, S: Store>(desk: Desk<'a, S>) -> LeftDesk<'a, S>
+    ensures puts { put_state_of_run (S.shown result.store.now) result.fault
+        ≡ put_state_at S.shown desk.entry }
+    ensures same_store { result.store.ghost_name ≡ desk.entry.store.ghost_name }
+{
+    let Desk {
+        store,
+        frame: _frame,
+        text: _text,
+        fault,
+        tried,
+    } = desk;
+    let fault = PutFault::of_picture(fault, tried);
+    LeftDesk { store, fault }
 }
 
 /// What a run leaves.
@@ -59,9 +83,7 @@ impl Ran {
 
 /// What a run leaves that has this journal.
 pub fn left(journal: Vec<Entry>, fault: Option<PutFault>) -> Ran
-    ensures journal { result.journal.items ≡ journal.items }
-    ensures frames { result.frames ≡ shots journal.items + 1 }
-    ensures fault { result.fault ≡ fault }
+    ensures { IsRunOf journal.items fault result }
 {
     Ran {
         frames: shot_count(&journal) + 1,
@@ -73,9 +95,7 @@ pub fn left(journal: Vec<Entry>, fault: Option<PutFault>) -> Ran
 /// The same of a run that puts nothing behind its pictures: the store stays as it is.
 pub fn leave_pictures<S: Store>(_store: &mut S, journal: Vec<Entry>, fault: Option<PutFault>) -> Ran
     ensures stays { S.shown _store.new ≡ S.shown _store.old }
-    ensures journal { result.journal.items ≡ journal.items }
-    ensures frames { result.frames ≡ shots journal.items + 1 }
-    ensures fault { result.fault ≡ fault }
+    ensures ran { IsRunOf journal.items fault result }
 {
     left(journal, fault)
 }

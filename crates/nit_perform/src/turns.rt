@@ -5,7 +5,7 @@ ghost use Rattle.nit_perform.specs.Terms.{setup_of, true};
 
 use crate::last::put_last;
 use crate::opening::{OpenedRounds, open};
-use crate::ran::{PutFault, Ran};
+use crate::ran::{LeftDesk, Ran, leave_desk};
 use crate::texts::leave_texts;
 use nit_config::Config;
 use nit_hall::Parts;
@@ -47,8 +47,7 @@ fn play<S: Store>(
     input: &Input,
     store: &mut S,
 ) -> Ran
-    requires runnable { IsRunnable (setup_of config.now scripts.now input.now true false) }
-    requires opened { IsRoundsOpening config.now scripts.now input.now opened }
+    requires { IsRoundsOpening config.now scripts.now input.now opened }
     ensures { HasRun (S.shown store.old) (setup_of config.now scripts.now input.now true false)
         (S.shown store.new) result }
 {
@@ -76,13 +75,6 @@ fn play<S: Store>(
     };
     run_rounds(&mut scene, &mut owns, parts, &mut desk);
     put_last(&mut scene, &mut owns, &mut desk);
-    let Desk {
-        store,
-        frame: _frame,
-        text: _text,
-        fault,
-        tried,
-    } = desk;
-    let fault = PutFault::of_picture(fault, tried);
+    let LeftDesk { store, fault } = leave_desk(desk);
     leave_texts(alloc, store, fault, &config.clients, scene)
 }

@@ -1,11 +1,12 @@
 -- What answers use: all that lemmas use, and this crate's lemmas.
-pub use Rattle.nit_rounds.proofs.Basics.{AreBehind, ByClient, ByUser, Configuration, InputLine}
-pub use Rattle.nit_rounds.proofs.Basics.{IsBehind, IsMoved, IsOpen, IsPlanOf, IsShowing, IsUnderWay}
+pub use Rattle.nit_rounds.proofs.Basics.{AreBehind, ByClient, ByUser, CanDoUserLine, Configuration}
+pub use Rattle.nit_rounds.proofs.Basics.{DoesUserLine, FitsInputLine, InputLine}
+pub use Rattle.nit_rounds.proofs.Basics.{IsBehind, IsButFor, IsPlanOf, IsShowing}
 pub use Rattle.nit_rounds.proofs.Basics.{IsUtf8, Line, LineTurn, List, NoneHas, PlanModel}
 pub use Rattle.nit_rounds.proofs.Basics.{SceneModel, Sight, Some, ap, arith, donation_of, entry_of}
 pub use Rattle.nit_rounds.proofs.Basics.{few_digits, get_or_default, glass_after, glass_in}
 pub use Rattle.nit_rounds.proofs.Basics.{is_stale, length, line_here, no_sight, put_state_of_desk}
-pub use Rattle.nit_rounds.proofs.Basics.{refl, script_in, settled, state_now, subst, sym, told_at}
+pub use Rattle.nit_rounds.proofs.Basics.{refl, script_in, settled, subst, sym, told_at}
 pub use Rattle.nit_rounds.proofs.Basics.{with_words, ℕ, ◌∙◌}
 pub use Rattle.nit_rounds.proofs.Copies.{all_drawn, glass_there, row_drawn, rows_to}
 pub use Rattle.nit_rounds.proofs.Counts.{as_many_as_lines, few_acts}
@@ -13,9 +14,8 @@ pub use Rattle.nit_rounds.proofs.DrawnAsReplayed.{as_replayed}
 pub use Rattle.nit_rounds.proofs.EntryEffects.{input_moved, served_moved, shot_moved}
 pub use Rattle.nit_rounds.proofs.FirstPlaces.{kept_first, left_first_of}
 pub use Rattle.nit_rounds.proofs.LineOnGlass.{after_stroke, fits, painted_to, step_there}
-pub use Rattle.nit_rounds.proofs.LineRecords.{behind_still, call_counted, call_moved, call_recorded}
-pub use Rattle.nit_rounds.proofs.LineRecords.{glasses_still, is_glass, none_moved, none_recorded}
-pub use Rattle.nit_rounds.proofs.LineRecords.{quiet_others, room_there}
+pub use Rattle.nit_rounds.proofs.LineRecords.{as_found, behind_still, call_done, can_call}
+pub use Rattle.nit_rounds.proofs.LineRecords.{glasses_still, none_done, one_taken, shot_done}
 pub use Rattle.nit_rounds.proofs.LinesDone.{client_done, client_lines, user_done, user_lines}
 pub use Rattle.nit_rounds.proofs.Names.{name_is_text}
 pub use Rattle.nit_rounds.proofs.NextActor.{all_done, client_turn, step_ends, to_actor, to_phase}
@@ -31,6 +31,7 @@ pub use Rattle.nit_rounds.proofs.ShownFrames.{put_as_pictures, stays_throughout}
 pub use Rattle.nit_rounds.proofs.StaleLemmas.{all_own, as_but, behind_again, copied_first}
 pub use Rattle.nit_rounds.proofs.StaleLemmas.{drawn_but, nothing_drawn, settles}
 pub use Rattle.nit_rounds.proofs.TurnNumbers.{tells_client, tells_user}
-pub use Rattle.nit_rounds.proofs.TurnPremises.{as_many, found_here, front_move, moved_settled}
+pub use Rattle.nit_rounds.proofs.TurnPremises.{as_many, each_at, found_here, front_move}
+pub use Rattle.nit_rounds.proofs.TurnPremises.{moved_settled}
 pub use Rattle.nit_rounds.proofs.TurnPremises.{read_same, settled_turn, users_turn}
 pub use Rattle.nit_rounds.proofs.WholeRounds.{whole}

@@ -4,6 +4,7 @@ use Rattle.nit_rounds.proofs.Basics.{Line, LineTurn, List, LinePlace, Some, Stan
 use Rattle.nit_rounds.proofs.Basics.{add-one, and_parts, ap, ap₂, arith, cases_eq, cases_lt}
 use Rattle.nit_rounds.proofs.Basics.{clients_from, cond, drop, drop_all, drop_more, ends_phase}
 use Rattle.nit_rounds.proofs.Basics.{eq-eqb, eqb-true, false, false≢true, get_or, get_or_default}
+use Rattle.nit_rounds.proofs.Basics.{get_or_past}
 use Rattle.nit_rounds.proofs.Basics.{in_phase, inl, inr, is_active, is_input_phase, is_phase}
 use Rattle.nit_rounds.proofs.Basics.{left_at, lefts, length, length-append, length-map, lt-ltb}
 use Rattle.nit_rounds.proofs.Basics.{ltb-true, map, nat_lt, refl, same_Some, script_of, set}
@@ -47,10 +48,29 @@ pub client_inside : (scripts : List (List Line)) (input : List InputLine) (k n :
 client_inside scripts input k n x y inside is same h =
     subst (λ (m : ℕ). n < m) (sym (ap length same ∙ client_long scripts input k x inside is)) h
 
+clients_long : (sid : ℕ) (scripts : List (List Line)) → length (clients_from sid scripts) ≡ length scripts
+clients_long sid [] = refl
+clients_long sid (x ∷ scripts) = ap (λ (n : ℕ). suc n) (clients_long (suc sid) scripts)
+
+pub actors_long : (scripts : List (List Line)) (input : List InputLine)
+    → length (actors scripts input) ≡ length scripts + 1
+actors_long scripts input = length-append (clients_from 0 scripts) (map ByUser input ∷ [])
+    ∙ ap (λ (n : ℕ). n + 1) (clients_long 0 scripts)
+
+-- an actor that has a line is a client or the user
+has_script : (scripts : List (List Line)) (input : List InputLine) (k n : ℕ) → n < length (script_of scripts input k)
+    → k ≤ length scripts
+has_script scripts input k n h =
+    elim (cases_lt k (length (actors scripts input))) [
+      | inl inside ↦ omega (arith, actors_long scripts input)
+      | inr past ↦ absurd (let none : n < 0 = subst (λ (ds : List ActorLine). n < length ds)
+          (get_or_past (actors scripts input) k [] past) h in omega arith)
+    ]
+
 pub user_inside : (scripts : List (List Line)) (input : List InputLine) (k n : ℕ) (y : List InputLine)
-    → length scripts ≤ k → k ≤ length scripts → y ≡ input → n < length (script_of scripts input k) → n < length y
-user_inside scripts input k n y low high same h =
-    subst (λ (m : ℕ). n < m) (sym (ap length same ∙ user_long scripts input k low high)) h
+    → length scripts ≤ k → y ≡ input → n < length (script_of scripts input k) → n < length y
+user_inside scripts input k n y low same h =
+    subst (λ (m : ℕ). n < m) (sym (ap length same ∙ user_long scripts input k low (has_script scripts input k n h))) h
 
 pub client_end : (scripts : List (List Line)) (input : List InputLine) (k n : ℕ) (x y : List Line) (l : Line)
     (d : ActorLine) → k < length scripts → x ≡ get_or scripts k x → y ≡ x → n < length (script_of scripts input k)
@@ -62,23 +82,14 @@ client_end scripts input k n x y l d inside is same h at e =
     (subst (λ (ds : List ActorLine). slice_get ds n ≡ Some d) here e))
 
 pub user_end : (scripts : List (List Line)) (input : List InputLine) (k n : ℕ) (y : List InputLine) (other : InputLine)
-    (d : ActorLine) → length scripts ≤ k → k ≤ length scripts → y ≡ input → n < length (script_of scripts input k)
+    (d : ActorLine) → length scripts ≤ k → y ≡ input → n < length (script_of scripts input k)
     → slice_get (script_of scripts input k) n ≡ Some d → is_input_phase (get_or y n other) ≡ ends_phase d
-user_end scripts input k n y other d low high same h e =
-    let here : script_of scripts input k ≡ map ByUser y = script_user scripts input k low high
-    ∙ ap (map ByUser) (sym same) in
-    ap ends_phase (end_in ByUser y n (get_or y n other) d (user_inside scripts input k n y low high same h)
-    (get_or_default y n other (get_or y n other) (user_inside scripts input k n y low high same h))
+user_end scripts input k n y other d low same h e =
+    let here : script_of scripts input k ≡ map ByUser y =
+    script_user scripts input k low (has_script scripts input k n h) ∙ ap (map ByUser) (sym same) in
+    let inside = user_inside scripts input k n y low same h in
+    ap ends_phase (end_in ByUser y n (get_or y n other) d inside (get_or_default y n other (get_or y n other) inside)
     (subst (λ (ds : List ActorLine). slice_get ds n ≡ Some d) here e))
-
-clients_long : (sid : ℕ) (scripts : List (List Line)) → length (clients_from sid scripts) ≡ length scripts
-clients_long sid [] = refl
-clients_long sid (x ∷ scripts) = ap (λ (n : ℕ). suc n) (clients_long (suc sid) scripts)
-
-pub actors_long : (scripts : List (List Line)) (input : List InputLine)
-    → length (actors scripts input) ≡ length scripts + 1
-actors_long scripts input = length-append (clients_from 0 scripts) (map ByUser input ∷ [])
-    ∙ ap (λ (n : ℕ). n + 1) (clients_long 0 scripts)
 
 -- ---- what each actor has left
 

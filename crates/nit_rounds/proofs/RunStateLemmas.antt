@@ -1,6 +1,7 @@
 -- A run that is under way: how it begins, what one turn does, and what holds at its end.
 use Rattle.nit_rounds.proofs.Basics.{Action, ActorLine, AreRaw, Bare, Bool, ByClient, ByUser}
-use Rattle.nit_rounds.proofs.Basics.{Configuration, Drawing, Entry, InputLine, IsDrawn, IsLegal}
+use Rattle.nit_rounds.proofs.Basics.{Configuration, DoesUserLine, Drawing, Entry, InputLine}
+use Rattle.nit_rounds.proofs.Basics.{IsDrawn, IsLegal}
 use Rattle.nit_rounds.proofs.Basics.{IsMoved, IsOpen, IsRawOf, IsRecorded, IsRoundsRun, IsSetUp}
 use Rattle.nit_rounds.proofs.Basics.{IsShowing, IsUnderWay, IsUserRecorded, Line, LineTurn, List}
 use Rattle.nit_rounds.proofs.Basics.{None, Option, Painting, PixelSource, PlanModel, Point}
@@ -137,18 +138,19 @@ counts_on config scripts front m counts t =
     ∙ done_more m.doing (drawn config scripts front).done t
     ∙ ap (λ (n : ℕ). n + length (line_by t m.doing)) (counts t) ∙ sym (lines_more t front m)
 
-pub after_client : {V : Type 0} (Shows : ShotFrame → V → V → Type 0) (scripts : List (List Line))
-    (lines : List InputLine) (before now now' : SceneModel Sight) (owns owns' : List Sight) (m : LineTurn)
+pub after_client : {V : Type 0} (Fits : ℕ → ℕ → V → Type 0) (Shows : ShotFrame → V → V → Type 0)
+    (scripts : List (List Line)) (lines : List InputLine) (before now now' : SceneModel Sight) (owns owns' : List Sight)
+    (m : LineTurn)
     (left : List LineTurn) (sid number : ℕ) (own' : Sight) (first last : V)
-    (w : IsShowing Shows scripts lines before now owns (m ∷ left) first last)
+    (w : IsShowing Fits Shows scripts lines before now owns (m ∷ left) first last)
     → (move : IsClientsMove scripts w.way.front m sid number) → owns' ≡ set owns sid own'
     → own' ≡ glass_after sid (script_in scripts sid) (donation_of now.config sid) (number + 1)
     → now'.glasses ≡ set now.glasses sid own' → now'.config ≡ now.config → IsOpen now'.entries
     → length now'.entries + now'.spare ≡ length now.entries + now.spare → IsRecorded sid move.l now.entries now'.entries
     → IsMoved (entry_of (state_now now) (ByClient sid move.l)) now now'
-    → IsShowing Shows scripts lines before now' owns' left first last
-after_client Shows scripts lines before now now' owns owns' m left sid number own' first last p move put own glasses
-    config unended spare recorded moved =
+    → IsShowing Fits Shows scripts lines before now' owns' left first last
+after_client Fits Shows scripts lines before now now' owns owns' m left sid number own' first last p move put own
+    glasses config unended spare recorded moved =
     record {
       way = record {
         front = w.front ++ m ∷ [];
@@ -170,6 +172,7 @@ after_client Shows scripts lines before now now' owns owns' m left sid number ow
       };
       shown = subst (λ (fs : List ShotFrame). ShowsEach Shows fs first last)
           (sym (ap (λ (d : Drawing). d.shots) (drawn_more before.config scripts w.front m) ∙ no_shot)) p.shown;
+      fits = p.fits;
     }
   where
     w : IsUnderWay scripts lines before now owns (m ∷ left)
@@ -237,35 +240,33 @@ user_shots config d (input.Device dev) before after' recorded taken = taken
 user_shots config d input.Phase before after' recorded taken = taken ∙ sym (ap shots recorded)
 
 -- the same for the user
-pub after_user : {V : Type 0} (Shows : ShotFrame → V → V → Type 0) (scripts : List (List Line)) (lines : List InputLine)
-    (before now now' : SceneModel Sight) (owns : List Sight) (m : LineTurn) (left : List LineTurn) (l : InputLine)
-    (first old last : V) (p : IsShowing Shows scripts lines before now owns (m ∷ left) first old)
-    → m.doing ≡ ByUser l → now'.glasses ≡ now.glasses → now'.config ≡ now.config → IsOpen now'.entries
-    → length now'.entries + now'.spare ≡ length now.entries + now.spare → IsUserRecorded l now.entries now'.entries
-    → IsMoved (entry_of (state_now now) (ByUser l)) now now' → ShowsLine Shows l now old last
-    → IsShowing Shows scripts lines before now' owns left first last
-after_user Shows scripts lines before now now' owns m left l first old last p doing glasses config unended spare
-    recorded moved more =
+pub after_user : {V : Type 0} (Fits : ℕ → ℕ → V → Type 0) (Shows : ShotFrame → V → V → Type 0)
+    (scripts : List (List Line)) (lines : List InputLine) (before now now' : SceneModel Sight) (owns : List Sight)
+    (m : LineTurn) (left : List LineTurn) (l : InputLine) (first old last : V)
+    (p : IsShowing Fits Shows scripts lines before now owns (m ∷ left) first old) → m.doing ≡ ByUser l
+    → DoesUserLine l now now' → ShowsLine Shows l now old last → Fits now.config.width now.config.height last
+    → IsShowing Fits Shows scripts lines before now' owns left first last
+after_user Fits Shows scripts lines before now now' owns m left l first old last p doing does more fits =
     record {
       way = record {
         front = w.front ++ m ∷ [];
         parts = w.parts ∙ sym (append_assoc w.front (m ∷ []) left);
-        config = config ∙ w.config;
-        entries = user_acts l now.entries now'.entries recorded
+        config = does.config ∙ w.config;
+        entries = user_acts l now.entries now'.entries does.recorded
             ∙ ap (λ (xs : List Action). xs ++ actions_of_line (ByUser l)) w.entries
             ∙ ap (λ (d : ActorLine). actions_of_turns w.front ++ actions_of_line d) (sym doing)
             ∙ sym (acts_more w.front m);
-        unended = unended;
-        spare = spare ∙ w.spare;
-        same = glasses ∙ w.same;
+        unended = does.unended;
+        spare = does.spare ∙ w.spare;
+        same = does.glasses ∙ w.same;
         owns_each = w.owns_each;
         done = done;
         counts = counts_on before.config scripts w.front m w.counts;
-        is_drawn = drawn_on before.config scripts w.front m now now' owns (glasses ∙ w.same) w.owns_each done
+        is_drawn = drawn_on before.config scripts w.front m now now' owns (does.glasses ∙ w.same) w.owns_each done
             (counts_on before.config scripts w.front m w.counts) w.is_drawn
-            (subst (λ (d : ActorLine). IsMoved (entry_of (state_now now) d) now now') (sym doing) moved)
+            (subst (λ (d : ActorLine). IsMoved (entry_of (state_now now) d) now now') (sym doing) does.moved)
             (ap (λ (d : ActorLine). length (shots_after before.config d (drawn before.config scripts w.front))) doing
-            ∙ user_shots before.config (drawn before.config scripts w.front) l now.entries now'.entries recorded
+            ∙ user_shots before.config (drawn before.config scripts w.front) l now.entries now'.entries does.recorded
             w.is_drawn.taken);
       };
       shown = subst (λ (fs : List ShotFrame). ShowsEach Shows fs first last)
@@ -273,6 +274,7 @@ after_user Shows scripts lines before now now' owns m left l first old last p do
           ∙ ap (λ (d : ActorLine). shots_after before.config d (drawn before.config scripts w.front)) doing))
           (shows_drawn Shows before.config (drawn before.config scripts w.front) now l first old last w.config
           w.is_drawn p.shown more);
+      fits = subst (λ (c : Configuration). Fits c.width c.height last) w.config fits;
     }
   where
     w : IsUnderWay scripts lines before now owns (m ∷ left)
@@ -302,12 +304,13 @@ opening_bare config raw are k on_screen =
     (bare_under (buffer_size (first_state config).sessions) (pixel config.width k)
     (in_bar (bar_rows config) (pixel config.width k))) (are k on_screen)
 
-pub begun : {V : Type 0} (Shows : ShotFrame → V → V → Type 0) (scripts : List (List Line)) (lines : List InputLine)
-    (plans : List PlanModel) (before : SceneModel Sight) (owns : List Sight) (left : List LineTurn) (first : V)
-    → left ≡ rounds scripts lines
+pub begun : {V : Type 0} (Fits : ℕ → ℕ → V → Type 0) (Shows : ShotFrame → V → V → Type 0)
+    (scripts : List (List Line)) (lines : List InputLine) (plans : List PlanModel) (before : SceneModel Sight)
+    (owns : List Sight) (left : List LineTurn) (first : V) → left ≡ rounds scripts lines
     → IsSetUp before.config scripts plans before.glasses owns → before.entries ≡ []
-    → AreRaw (state_now before) before.raw → IsShowing Shows scripts lines before before owns left first first
-begun Shows scripts lines plans before owns left first all set_up none raw =
+    → AreRaw (state_now before) before.raw → Fits before.config.width before.config.height first
+    → IsShowing Fits Shows scripts lines before before owns left first first
+begun Fits Shows scripts lines plans before owns left first all set_up none raw fits =
     record {
       way = record {
         front = [];
@@ -328,6 +331,7 @@ begun Shows scripts lines plans before owns left first all set_up none raw =
       };
       shown = subst (λ (fs : List ShotFrame). ShowsEach Shows fs first first)
           (sym (ap (λ (d : Drawing). d.shots) (none_drawn before.config scripts))) refl;
+      fits = fits;
     }
   where
     opened : state_now before ≡ first_state before.config
@@ -349,11 +353,12 @@ pub all_done : (scripts : List (List Line)) (lines : List InputLine) (before now
 all_done scripts lines before now owns left w over =
     sym (w.parts ∙ ap (λ (ms : List LineTurn). w.front ++ ms) over ∙ append-nil w.front)
 
-pub all_shown : {V : Type 0} (Shows : ShotFrame → V → V → Type 0) (scripts : List (List Line)) (lines : List InputLine)
-    (before now : SceneModel Sight) (owns : List Sight) (left : List LineTurn) (first last : V)
-    → IsShowing Shows scripts lines before now owns left first last → left ≡ []
+pub all_shown : {V : Type 0} (Fits : ℕ → ℕ → V → Type 0) (Shows : ShotFrame → V → V → Type 0)
+    (scripts : List (List Line)) (lines : List InputLine) (before now : SceneModel Sight) (owns : List Sight)
+    (left : List LineTurn) (first last : V)
+    → IsShowing Fits Shows scripts lines before now owns left first last → left ≡ []
     → ShowsEach Shows (shot_frames_of before.config scripts lines) first last
-all_shown Shows scripts lines before now owns left first last p over =
+all_shown Fits Shows scripts lines before now owns left first last p over =
     subst (λ (ms : List LineTurn). ShowsEach Shows (drawn before.config scripts ms).shots first last)
     (all_done scripts lines before now owns left p.way over) p.shown
 

@@ -1,6 +1,7 @@
 -- What a turn finds: all that the line of its actor asks for.
 use Rattle.nit_rounds.proofs.Basics.{Action, ActorLine, Acts, All-get_or, AllByRecursion, ByClient}
-use Rattle.nit_rounds.proofs.Basics.{ByUser, Call, Calls, Configuration, Does, Entry, InputLine}
+use Rattle.nit_rounds.proofs.Basics.{ByUser, Call, Calls, CanDoUserLine, Configuration, Does, Entry}
+use Rattle.nit_rounds.proofs.Basics.{FitsInputLine, InputLine}
 use Rattle.nit_rounds.proofs.Basics.{IsConfiguration, IsDonation, IsMember, IsMoved, IsPlanOf}
 use Rattle.nit_rounds.proofs.Basics.{IsPlanned, IsUnderWay, Line, LineTurn, List, None, Option}
 use Rattle.nit_rounds.proofs.Basics.{PlanModel, SceneModel, Shoots, Sight, Some, State, Turn, []}
@@ -17,7 +18,7 @@ use Rattle.nit_rounds.specs.declared.turn.Turn.TheVariants as turn
 use Rattle.nit_rounds.proofs.RunStateLemmas.{ClientTells, ClientDone, UserTells, UserDone}
 use Rattle.nit_rounds.proofs.RunStateLemmas.{IsClientsMove, IsUsersMove, clients_move, users_move}
 use Rattle.nit_rounds.proofs.RunStateLemmas.{own_glass}
-use Rattle.nit_rounds.proofs.OneMove.{room_for}
+use Rattle.nit_rounds.proofs.OneMove.{quiet_now, room_for}
 
 -- ---- a client's turn
 
@@ -121,10 +122,10 @@ found_here xs k x y found got = sym (get_or_from_slice_get xs k x y found) ∙ s
 
 -- ---- the user's turn
 
--- all that the next line of the input script asks for
+-- all that the next line of the input script asks for, once what is stale was copied
 pub record MayDoUserLine (lines : List InputLine) (scene : SceneModel Sight) (number : ℕ) : Type 0 where
   pub here : number < length lines
-  pub spare : (l : InputLine) → l ≡ get_or lines number l → takes_place l ≡ true → 1 ≤ scene.spare
+  pub can : (l : InputLine) → l ≡ get_or lines number l → FitsInputLine l → CanDoUserLine l scene
 
 -- what holds of each element holds of the one at a place
 pub each_at : {X : Type 0} (P : X → Type 0) (xs : List X) (k : ℕ) (d : X) → k < length xs → AllByRecursion P xs
@@ -140,23 +141,31 @@ one_act input.Shot takes = (Acts Shoots, refl)
 one_act input.Phase takes = absurd (cc)
 
 pub users_turn : UserTells → UserDone
-    → (scripts : List (List Line)) (lines : List InputLine) (before now : SceneModel Sight) (owns : List Sight)
+    → (scripts : List (List Line)) (lines : List InputLine) (before s s' : SceneModel Sight) (owns : List Sight)
     (m : LineTurn) (left : List LineTurn) (number : ℕ)
-    → (w : IsUnderWay scripts lines before now owns (m ∷ left)) → turn_of m ≡ turn.User number
-    → length (actions_of_turns (rounds scripts lines)) ≤ before.spare
-    → MayDoUserLine lines now number
-users_turn tells done scripts lines before now owns m left number w is room =
+    → IsUnderWay scripts lines before (settled s owns) owns (m ∷ left) → s' ≡ settled s owns
+    → turn_of m ≡ turn.User number → length (actions_of_turns (rounds scripts lines)) ≤ before.spare
+    → MayDoUserLine lines s' number
+users_turn tells done scripts lines before s s' owns m left number way same is room =
     record {
       here = slice_get_within lines number move.l move.here;
-      spare = λ l got takes.
-          let (a, one) = one_act l takes in
-          room_for scripts lines before now owns m left a w
-          (ap (λ (d : ActorLine). actions_of_line d) (move.doing
-          ∙ ap ByUser (found_here lines number move.l l move.here got)) ∙ one) room;
+      can = λ l got fits. record {
+        fits = fits;
+        quiet = quiet_now scripts lines before s' owns (m ∷ left) w;
+        spare = λ takes.
+            let (a, one) = one_act l takes in
+            room_for scripts lines before s' owns m left a w
+            (ap (λ (d : ActorLine). actions_of_line d) (move.doing
+            ∙ ap ByUser (found_here lines number move.l l move.here got)) ∙ one) room;
+        unended = w.unended;
+      };
     }
   where
+    w : IsUnderWay scripts lines before s' owns (m ∷ left)
+    w = subst (λ (p : SceneModel Sight). IsUnderWay scripts lines before p owns (m ∷ left)) (sym same) way
+
     move : IsUsersMove lines m number
-    move = users_move tells done scripts lines before now owns m left number w is
+    move = users_move tells done scripts lines before s' owns m left number w is
 
 -- ---- the next turn
 

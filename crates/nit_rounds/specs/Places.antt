@@ -45,6 +45,11 @@ abbrev pub turns_left : List (List Line) → List InputLine → Places → List 
 turns_left scripts input at =
     left_from (phase_count scripts input) at.phase at.actor (lefts at.places (actors scripts input))
 
+-- an actor of at most 17: a client, or the user behind them
+pub record IsActorOf (scripts : List (List Line)) (actor : ℕ) : Type 0 where
+  pub few : length scripts ≤ most_sessions
+  pub among : actor ≤ length scripts
+
 -- the script of an actor
 abbrev pub script_of : List (List Line) → List InputLine → ℕ → List ActorLine
 script_of scripts input actor = slice_index_or (actors scripts input) actor []

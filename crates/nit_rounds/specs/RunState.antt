@@ -1,8 +1,9 @@
 -- A run by rounds that is under way: what one line leaves, and what holds between two turns.
 use Rattle.std.specs.Prelude.{◌≡◌, ◌≢◌, ℕ, ◌+◌, ◌/◌, ◌%◌, ◌<◌, Bool, true, false, List, [], ◌∷◌}
-use Rattle.std.specs.Prelude.{◌++◌, length, map, slice_index_or, Option, Some, None}
-use Rattle.nit_rounds.specs.Below.{BufferArea, Configuration, Entry, InputLine, IsConfiguration}
-use Rattle.nit_rounds.specs.Below.{IsOpen}
+use Rattle.std.specs.Prelude.{◌++◌, ◌≤◌, length, map, slice_index_or, slice_set, Option, Some}
+use Rattle.std.specs.Prelude.{None}
+use Rattle.nit_rounds.specs.Below.{BufferArea, Configuration, Entry, FitsInputLine, InputLine}
+use Rattle.nit_rounds.specs.Below.{IsConfiguration, IsOpen}
 use Rattle.nit_rounds.specs.Below.{IsPlanOf, IsWordOfSource, Line, PlanModel, Reply, Routed}
 use Rattle.nit_rounds.specs.Below.{SceneModel, Sight, State, action_of, after, dirty, donation_of}
 use Rattle.nit_rounds.specs.Below.{frame, glass_in, is_in_area, pixel, pixel_count, plan_in}
@@ -10,12 +11,12 @@ use Rattle.nit_rounds.specs.Below.{scenery_of, script_in, shots, source_at, stat
 use Rattle.nit_events.specs.declared.entry.Entry.TheVariants as entry
 use Rattle.nit_script.specs.declared.line.Line.TheVariants as line
 use Rattle.nit_script.specs.declared.line.InputLine.TheVariants as input
-use Rattle.nit_rounds.specs.Turn.{LineTurn}
+use Rattle.nit_rounds.specs.Turn.{ByClient, ByUser, LineTurn}
 use Rattle.nit_rounds.specs.Rounds.{rounds}
 use Rattle.nit_rounds.specs.TurnActions.{actions_of_turns, lines_of}
 use Rattle.nit_rounds.specs.RoundsRun.{glass_after}
 use Rattle.nit_rounds.specs.ShotFrames.{ShotFrame, ShowsEach}
-use Rattle.nit_rounds.specs.Drawing.{Drawing, drawn, state_after}
+use Rattle.nit_rounds.specs.Drawing.{Drawing, drawn, entry_of, state_after}
 
 -- no glass tells a log
 abbrev pub AreQuiet : List Sight → Type 0
@@ -72,6 +73,34 @@ pub record IsMoved (e : Option Entry) (s s' : SceneModel Sight) : Type 0 where
   pub state : state_now s' ≡ state_after (state_now s) e
   pub words : AreLoaded (state_now s) e (glass_in s'.glasses) s.raw s'.raw
 
+-- a client's line was done: the scene goes on with an open journal and the rest of its room, the
+-- line is recorded, and what its entry makes dirty is loaded by this own glass of the session
+pub record DoesClientLine (sid : ℕ) (l : Line) (s s' : SceneModel Sight) (own : Sight) : Type 0
+  where
+    pub config : s'.config ≡ s.config
+    pub unended : IsOpen s'.entries
+    pub spare : length s'.entries + s'.spare ≡ length s.entries + s.spare
+    pub recorded : IsRecorded sid l s.entries s'.entries
+    pub moved : IsMoved (entry_of (state_now s) (ByClient sid l)) s
+        (record s' { glasses = slice_set s'.glasses sid own })
+
+-- a user's line may be done: no glass tells a log, and the open journal has room for the line's
+-- entry
+pub record CanDoUserLine (l : InputLine) (s : SceneModel Sight) : Type 0 where
+  pub fits : FitsInputLine l
+  pub quiet : AreQuiet s.glasses
+  pub spare : takes_place l ≡ true → 1 ≤ s.spare
+  pub unended : IsOpen s.entries
+
+-- a user's line was done: the same as of a client's, and the glasses stay
+pub record DoesUserLine (l : InputLine) (s s' : SceneModel Sight) : Type 0 where
+  pub glasses : s'.glasses ≡ s.glasses
+  pub config : s'.config ≡ s.config
+  pub unended : IsOpen s'.entries
+  pub spare : length s'.entries + s'.spare ≡ length s.entries + s.spare
+  pub recorded : IsUserRecorded l s.entries s'.entries
+  pub moved : IsMoved (entry_of (state_now s) (ByUser l)) s s'
+
 -- the frame of what the scene shows now, by the number of the next shot
 abbrev pub next_shot : SceneModel Sight → ShotFrame
 next_shot s = record {
@@ -112,10 +141,12 @@ pub record IsUnderWay (scripts : List (List Line)) (lines : List InputLine)
   pub counts : (t : ℕ) → (drawn before.config scripts front).done t ≡ length (lines_of t front)
   pub is_drawn : IsDrawn (drawn before.config scripts front) now
 
--- the same, and the frames of the shots among the moves that are done were shown
-pub record IsShowing {V : Type 0} (Shows : ShotFrame → V → V → Type 0)
+-- the same, and the frames of the shots among the moves that are done were shown to what takes
+-- frames of the screen's width and height
+pub record IsShowing {V : Type 0} (Fits : ℕ → ℕ → V → Type 0) (Shows : ShotFrame → V → V → Type 0)
     (scripts : List (List Line)) (lines : List InputLine)
     (before now : SceneModel Sight) (owns : List Sight) (left : List LineTurn)
     (first last : V) : Type 0 where
   pub way : IsUnderWay scripts lines before now owns left
   pub shown : ShowsEach Shows (drawn before.config scripts way.front).shots first last
+  pub fits : Fits before.config.width before.config.height last

@@ -1,7 +1,8 @@
 //! Where each actor stands in its script, and how the rounds go on from there.
 
 ghost use Rattle.std.specs.Prelude.{◌≡◌, ◌≤◌, ◌<◌, ◌+◌, [], length, slice_index_or, slice_get};
-ghost use Rattle.nit_rounds.specs.Terms.{ActorLine, ArePlaces, IsAtTurn, IsFirstActive, IsNextTurn};
+ghost use Rattle.nit_rounds.specs.Terms.{ActorLine, ArePlaces, IsActorOf, IsAtTurn, IsFirstActive};
+ghost use Rattle.nit_rounds.specs.Terms.{IsNextTurn};
 ghost use Rattle.nit_rounds.specs.Terms.{IsTrue, MatchBool, LinePlace, Some, ends_phase, is_active};
 ghost use Rattle.nit_rounds.specs.Terms.{is_input_phase, is_phase, most_lines, most_sessions};
 ghost use Rattle.nit_rounds.specs.Terms.{rounds, script_of, stepped, turns_left};
@@ -57,8 +58,7 @@ fn is_input_end(line: &InputLine) -> bool
 
 /// Whether a line of an actor's script ends a phase.
 fn ends_at(scripts: &[Client], input: &Input, actor: usize, line: usize) -> bool
-    requires actor { actor ≤ length scripts.now }
-    requires line { line < length (script_of scripts.now input.now actor) }
+    requires { line < length (script_of scripts.now input.now actor) }
     ensures { (d : ActorLine) → slice_get (script_of scripts.now input.now actor) line ≡ Some d
         → result ≡ ends_phase d }
 {
@@ -100,8 +100,7 @@ impl Places {
 
     /// Whether an actor has a line to do in a phase.
     fn has_line(&self, scripts: &[Client], input: &Input, actor: usize, phase: usize) -> bool
-        requires actor { actor ≤ length scripts.now }
-        requires few { length scripts.now ≤ most_sessions }
+        requires { IsActorOf scripts.now actor }
         ensures small { (d : LinePlace) → IsTrue result
             → (slice_index_or self.now.places actor d).line < most_lines }
         ensures active { (d : LinePlace)

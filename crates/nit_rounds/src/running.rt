@@ -1,20 +1,15 @@
 //! A run by rounds, on one thread.
 
-ghost use Rattle.std.specs.Prelude.{true, ◌≡◌, ◌+◌, ◌-◌, ◌*◌, ◌<◌, ◌≤◌, ◌++◌, ◌∷◌, [], List, None};
-ghost use Rattle.nit_rounds.specs.Terms.{AreBehind, AreQuiet, AreQuietBut, ByClient, ByUser};
-ghost use Rattle.nit_rounds.specs.Terms.{CanDraw, FitsInputLine, HasDrawn, HasSession, IsDevice};
-ghost use Rattle.nit_rounds.specs.Terms.{IsGlass, IsMoved, IsOpen, IsPlanned, IsRecorded};
-ghost use Rattle.nit_rounds.specs.Terms.{IsRoundsRun, IsSameDesk, IsSetUp, IsShowing, IsUnderWay};
-ghost use Rattle.nit_rounds.specs.Terms.{IsUserRecorded, Line, LineTurn, Option, PutsShots};
-ghost use Rattle.nit_rounds.specs.Terms.{SceneModel, ShowsEach, ShowsLine, Sight, Some};
-ghost use Rattle.nit_rounds.specs.Terms.{actions_of_turns, entry_of, glass_in, length};
-ghost use Rattle.nit_rounds.specs.Terms.{picture_length, put_state_of_desk, rounds, settled};
-ghost use Rattle.nit_rounds.specs.Terms.{shot_frames_of, slice_get, slice_set, state_now};
-ghost use Rattle.nit_rounds.specs.Terms.{takes_place, turn_of};
+ghost use Rattle.std.specs.Prelude.{◌≡◌, ◌≤◌, ◌∷◌, [], List};
+ghost use Rattle.nit_rounds.specs.Terms.{AreBehind, AreQuietBut, CanCall, CanDoUserLine, CanDraw};
+ghost use Rattle.nit_rounds.specs.Terms.{DoesClientLine, DoesUserLine, HasDrawn};
+ghost use Rattle.nit_rounds.specs.Terms.{IsOpen, IsPlanned, IsRoundsRun, IsSameDesk};
+ghost use Rattle.nit_rounds.specs.Terms.{IsSetUp, IsShowing, Line, LineTurn, PutsShots, SceneModel};
+ghost use Rattle.nit_rounds.specs.Terms.{ShowsEach, ShowsLine, Sight, Some, actions_of_turns};
+ghost use Rattle.nit_rounds.specs.Terms.{glass_in, length, picture_length, put_state_of_desk};
+ghost use Rattle.nit_rounds.specs.Terms.{rounds, settled, shot_frames_of, slice_get, slice_set};
+ghost use Rattle.nit_rounds.specs.Terms.{turn_of};
 ghost use Rattle.nit_events.specs.declared.call.Call.{Call as CallOf};
-ghost use Rattle.nit_events.specs.declared.call.Reply.{Reply as ReplyOf};
-ghost use Rattle.nit_events.specs.declared.event.Routed.{Routed as RoutedOf};
-ghost use Rattle.nit_events.specs.declared.entry.Entry.TheVariants as entry;
 ghost use Rattle.nit_script.specs.declared.line.Line.TheVariants as lines;
 ghost use Rattle.nit_script.specs.declared.line.InputLine.TheVariants as inputs;
 
@@ -53,15 +48,8 @@ fn client_line(
     ensures drawn { HasDrawn scene.old scene.new part.entry line result own.new }
     ensures glasses { scene.new.glasses
         ≡ slice_set scene.old.glasses part.entry.sid (glass_in scene.new.glasses part.entry.sid) }
-    ensures config { scene.new.config ≡ scene.old.config }
-    ensures open { IsOpen scene.new.entries }
-    ensures spare { length scene.new.entries + scene.new.spare
-        ≡ length scene.old.entries + scene.old.spare }
-    ensures recorded { (l : Line) → slice_get part.entry.script.now line ≡ Some l
-        → IsRecorded part.entry.sid l scene.old.entries scene.new.entries }
-    ensures moved { (l : Line) → slice_get part.entry.script.now line ≡ Some l
-        → IsMoved (entry_of (state_now scene.old) (ByClient part.entry.sid l)) scene.old
-        (record scene.new { glasses = slice_set scene.new.glasses part.entry.sid own.new }) }
+    ensures done { (l : Line) → slice_get part.entry.script.now line ≡ Some l
+        → DoesClientLine part.entry.sid l scene.old scene.new own.new }
 {
     buffer_within_table();
     let stale = draw_line(scene, own, part, line, stale);
@@ -73,21 +61,10 @@ fn client_line(
 
 /// A session's call of the scene, by the session's own glass.
 fn call_scene(scene: &mut Scene<Inked>, own: &mut Inked, sid: u32, call: &Call)
-    requires session { HasSession scene.old sid }
-    requires own { IsGlass scene.old.config sid own.old }
-    requires quiet_own { own.old.log ≡ None }
-    requires quiet { AreQuietBut sid scene.old.glasses }
-    requires spare { 1 ≤ scene.old.spare }
-    requires open { IsOpen scene.old.entries }
+    requires { CanCall scene.old sid own.old }
     ensures own { own.new ≡ own.old }
     ensures glasses { scene.new.glasses ≡ scene.old.glasses }
-    ensures config { scene.new.config ≡ scene.old.config }
-    ensures open { IsOpen scene.new.entries }
-    ensures spare { scene.new.spare ≡ scene.old.spare - 1 }
-    ensures recorded { (r : ReplyOf)
-        × (scene.new.entries ≡ scene.old.entries ++ entry.Call sid call.now r ∷ []) }
-    ensures moved { IsMoved (entry_of (state_now scene.old) (ByClient sid (lines.Call call.now)))
-        scene.old (record scene.new { glasses = slice_set scene.new.glasses sid own.new }) }
+    ensures done { DoesClientLine sid (lines.Call call.now) scene.old scene.new own.new }
 {
     one_more_entry();
     let _ = scene.call(sid, call, own);
@@ -95,18 +72,9 @@ fn call_scene(scene: &mut Scene<Inked>, own: &mut Inked, sid: u32, call: &Call)
 
 /// Does a line of the input script: what a device did and a shot are events of the scene.
 fn user_line<V: Viewer>(scene: &mut Scene<Inked>, line: &InputLine, viewer: &mut V)
-    requires fits { FitsInputLine line.now }
-    requires quiet { AreQuiet scene.old.glasses }
-    requires spare { takes_place line.now ≡ true → 1 ≤ scene.old.spare }
-    requires open { IsOpen scene.old.entries }
+    requires can { CanDoUserLine line.now scene.old }
     requires viewer { V.fits scene.old.config.width scene.old.config.height viewer.old }
-    ensures glasses { scene.new.glasses ≡ scene.old.glasses }
-    ensures config { scene.new.config ≡ scene.old.config }
-    ensures open { IsOpen scene.new.entries }
-    ensures spare { length scene.new.entries + scene.new.spare
-        ≡ length scene.old.entries + scene.old.spare }
-    ensures recorded { IsUserRecorded line.now scene.old.entries scene.new.entries }
-    ensures moved { IsMoved (entry_of (state_now scene.old) (ByUser line.now)) scene.old scene.new }
+    ensures done { DoesUserLine line.now scene.old scene.new }
     ensures shown { ShowsLine V.shows line.now scene.old viewer.old viewer.new }
     ensures viewer { V.fits scene.old.config.width scene.old.config.height viewer.new }
 {
@@ -120,18 +88,8 @@ fn user_line<V: Viewer>(scene: &mut Scene<Inked>, line: &InputLine, viewer: &mut
 
 /// Serves what a device did. No glass of the scene tells a log, so the glasses stay as they are.
 fn serve_device(scene: &mut Scene<Inked>, dev: Device)
-    requires device { IsDevice dev }
-    requires quiet { AreQuiet scene.old.glasses }
-    requires spare { 1 ≤ scene.old.spare }
-    requires open { IsOpen scene.old.entries }
-    ensures glasses { scene.new.glasses ≡ scene.old.glasses }
-    ensures config { scene.new.config ≡ scene.old.config }
-    ensures open { IsOpen scene.new.entries }
-    ensures spare { scene.new.spare ≡ scene.old.spare - 1 }
-    ensures recorded { (routed : RoutedOf)
-        × (scene.new.entries ≡ scene.old.entries ++ entry.Input dev routed ∷ []) }
-    ensures moved { IsMoved
-        (entry_of (state_now scene.old) (ByUser (inputs.Device dev))) scene.old scene.new }
+    requires { CanDoUserLine (inputs.Device dev) scene.old }
+    ensures { DoesUserLine (inputs.Device dev) scene.old scene.new }
 {
     one_more_entry();
     let _ = scene.input(dev);
@@ -147,21 +105,20 @@ fn do_turn<V: Viewer>(
     turn: Turn,
 ) -> Option<Stale>
     requires planned { IsPlanned scene.old.config parts.scripts.now parts.plans.now }
-    requires viewer { V.fits scene.old.config.width scene.old.config.height viewer.old }
     requires behind { AreBehind stale scene.old.glasses owns.old }
     requires next { (before : SceneModel Sight) × (m : LineTurn) × (left : List LineTurn)
-        × IsUnderWay parts.scripts.now parts.input.now before (settled scene.old owns.old)
-        owns.old (m ∷ left)
+        × (first : V)
+        × IsShowing V.fits V.shows parts.scripts.now parts.input.now before
+        (settled scene.old owns.old) owns.old (m ∷ left) first viewer.old
         × (turn_of m ≡ turn)
         × (length (actions_of_turns (rounds parts.scripts.now parts.input.now)) ≤ before.spare) }
     ensures behind { AreBehind result scene.new.glasses owns.new }
     ensures way { (before : SceneModel Sight) (m : LineTurn) (left : List LineTurn) (first : V)
-        → IsShowing V.shows parts.entry.scripts.now parts.entry.input.now before
+        → IsShowing V.fits V.shows parts.entry.scripts.now parts.entry.input.now before
         (settled scene.old owns.old) owns.old (m ∷ left) first viewer.old
         → turn_of m ≡ turn
-        → IsShowing V.shows parts.entry.scripts.now parts.entry.input.now before
+        → IsShowing V.fits V.shows parts.entry.scripts.now parts.entry.input.now before
         (settled scene.new owns.new) owns.new left first viewer.new }
-    ensures viewer { V.fits scene.old.config.width scene.old.config.height viewer.new }
 {
     lines_done();
     turns_tell();

@@ -43,32 +43,8 @@ fn lies_in(inner: &Stale, outer: &Stale) -> bool
         && lies_among(inner.area.y, inner.area.h, outer.area.y, outer.area.h)
 }
 
-/// What is stale when two areas of the own glass are: the larger one where it has all words of the
-/// other. Else the words of the earlier one are copied first.
-fn merge(scene: &mut Scene<Inked>, own: &Inked, earlier: Stale, later: Stale) -> Stale
-    requires session { HasSession scene.old later.sid }
-    requires same { earlier.sid ≡ later.sid }
-    requires earlier { FitsInto own.now.size earlier }
-    requires later { FitsInto own.now.size later }
-    requires but { IsButFor (λ n. is_stale (Some earlier) n || is_stale (Some later) n)
-        (glass_in scene.old.glasses later.sid) own.now }
-    ensures scene { scene.new ≡ record scene.old {
-      glasses = slice_set scene.old.glasses later.sid (glass_in scene.new.glasses later.sid);
-    } }
-    ensures behind { IsBehind (Some result) later.sid (glass_in scene.new.glasses later.sid)
-        own.now }
-{
-    if lies_in(&later, &earlier) {
-        return earlier;
-    }
-    if lies_in(&earlier, &later) {
-        return later;
-    }
-    copy_area(scene, later.sid, own, earlier.w, earlier.area);
-    later
-}
-
-/// What is stale when an area of the own glass is too.
+/// What is stale when a later area of the own glass is too: of two the larger one where it has all
+/// words of the other. Else the words of the earlier one are copied first.
 pub(crate) fn add(
     scene: &mut Scene<Inked>,
     own: &Inked,
@@ -87,10 +63,17 @@ pub(crate) fn add(
     ensures behind { IsBehind (Some result) later.sid (glass_in scene.new.glasses later.sid)
         own.now }
 {
-    match stale {
-        Some(earlier) => merge(scene, own, earlier, later),
-        None => later,
+    let Some(earlier) = stale else {
+        return later;
+    };
+    if lies_in(&later, &earlier) {
+        return earlier;
     }
+    if lies_in(&earlier, &later) {
+        return later;
+    }
+    copy_area(scene, later.sid, own, earlier.w, earlier.area);
+    later
 }
 
 /// Copies what is stale, so that the scene's glasses are the own ones.

@@ -1,10 +1,20 @@
 use Rattle.std.proofs.Common.{rules, ◌≡◌, ◌∙◌, ◌+◌, List, ap, false, map, subst, sym, true}
-use Rattle.nit_perform.proofs.Lemmas.{Entry, HasRun, IsLegal, IsWhole, JournalModel, OpeningParts}
+use Rattle.nit_perform.proofs.Lemmas.{AreDone, Entry, HasRun, IsDoneUser, IsLegal, IsWhole}
+use Rattle.nit_perform.proofs.Lemmas.{JournalModel, OpeningParts}
 use Rattle.nit_perform.proofs.Lemmas.{PutState, PutsNext, StoreModel, alone_leaves, calls_to_make}
-use Rattle.nit_perform.proofs.Lemmas.{final_name, final_picture, put_state_of_desk}
+use Rattle.nit_perform.proofs.Lemmas.{final_name, final_picture, put_state_at}
 use Rattle.nit_perform.proofs.Lemmas.{put_state_of_run, setup_of, shots, unrefused}
 use Rattle.nit_perform.proofs.Lemmas.{user_actions_to_do}
 use Rattle.nit_perform.proofs.alone.play_alone.Goals as goal
+
+pub last_picture-scene-requires-clause-done : goal.last_picture-scene-requires-clause-done
+last_picture-scene-requires-clause-done g c =
+    let does = c.do_all.ensures in
+    record {
+      clients_done = subst (λ (q : OpeningParts). AreDone q c.do_all.new.passes.items) (sym does.parts) does.done;
+      user_done = subst (λ (q : OpeningParts). IsDoneUser q c.do_all.new.user) (sym does.parts) does.user;
+      unended = does.«open»;
+    }
 
 pub returns : goal.returns
 returns g c =
@@ -18,8 +28,8 @@ returns g c =
     subst (λ (q : OpeningParts). IsWhole (map calls_to_make q.scripts) (user_actions_to_do q.input) scene.entries)
     same ended.whole in
     let desk = c.last_picture-scene.new.desk in
-    let new = g.S.Store.shown desk.store.now in
-    let final = put_state_of_desk new desk.fault desk.tried in
+    let new = g.S.Store.shown c.leave_desk-store.result.store.now in
+    let final = put_state_at g.S.Store.shown desk in
     let old = unrefused (g.S.Store.shown c.args.store.now) in
     let put : PutsNext (
       final_name,
@@ -29,15 +39,15 @@ returns g c =
     subst (λ (q : OpeningParts). PutsNext
     (final_name, final_picture (setup_of q.config q.scripts q.input true true) scene.entries) old final) same
     ended.put in
-    let fault : final ≡ put_state_of_run new c.leave_pictures.result.fault = sym (c.of_picture-fault.ensures new)
-    ∙ ap (put_state_of_run new) (sym c.leave_pictures.ensures.fault) in
+    let fault : final ≡ put_state_of_run new c.leave_pictures.result.fault = sym c.leave_desk-store.ensures.puts
+    ∙ ap (put_state_of_run new) (sym c.leave_pictures.ensures.ran.fault_is) in
     let puts = subst (λ (n : PutState).
     PutsNext (final_name, final_picture (setup_of parts.config parts.scripts parts.input true true) scene.entries)
     old n) fault put in
     let first = g.S.Store.shown c.args.store.now in
-    let journal : c.leave_pictures.result.journal.items ≡ scene.entries = c.leave_pictures.ensures.journal
+    let journal : c.leave_pictures.result.journal.items ≡ scene.entries = c.leave_pictures.ensures.ran.journal_is
     ∙ c.into_entries.ensures ∙ ap (λ (k : JournalModel). k.entries) c.into_journal.ensures.entries in
-    let frames : c.leave_pictures.result.frames ≡ shots scene.entries + 1 = c.leave_pictures.ensures.frames
+    let frames : c.leave_pictures.result.frames ≡ shots scene.entries + 1 = c.leave_pictures.ensures.ran.frames
     ∙ ap (λ (es : List Entry). shots es + 1) (c.into_entries.ensures
     ∙ ap (λ (k : JournalModel). k.entries) c.into_journal.ensures.entries) in
     subst (λ (m : StoreModel). HasRun first (setup_of parts.config parts.scripts parts.input false false) m

@@ -1,12 +1,11 @@
-use Rattle.nit_perform.proofs.Lemmas.{List, PlanModel, ap, is_ready, length, plans_long, setting}
-use Rattle.nit_perform.proofs.Lemmas.{◌∙◌}
+use Rattle.nit_perform.proofs.Lemmas.{inked, is_ready, plans_long, setting, ◌∙◌}
 use Rattle.nit_perform.proofs.beside.run_beside.Goals as goal
 
-pub buffers_of-requires-clause-each : goal.buffers_of-requires-clause-each
-buffers_of-requires-clause-each g c =
-    ap (λ (ps : List PlanModel). length ps) c.deref.ensures.value
-    ∙ plans_long c.args.config.now c.args.scripts.now c.in_ok-plans.plans.items c.in_ok-plans.ensures.plans
-    ∙ c.requires.scripts
+pub buffers_of-requires : goal.buffers_of-requires
+buffers_of-requires g c =
+    inked c.args.config.now c.args.scripts.now c.in_ok-plans.plans.items c.deref.result.now c.deref.ensures.value
+    c.in_ok-plans.ensures.plans (record { configured = c.requires.configured; each = c.requires.scripts })
+    c.in_ok-plans.ensures.words
 
 pub open-requires-clause-setting : goal.open-requires-clause-setting
 open-requires-clause-setting g c = setting c.args.config.now c.args.scripts.now c.deref-3.result.now c.requires.scripts

@@ -40,6 +40,6 @@ returns g c = λ region same.
     subst (λ (new : StoreModel). HasFilmed region first s new end.result.journal.items end.result.frames
     end.result.fault) (search rules)
     (subst (λ (j : List Entry). HasFilmed region first s (shown end.new.store) j end.result.frames end.result.fault)
-    (sym end.ensures.journal)
+    (sym end.ensures.same.journal)
     (subst (λ (n : ℕ). HasFilmed region first s (shown end.new.store) ran.journal.items n end.result.fault)
-    (sym end.ensures.frames) filmed))
+    (sym end.ensures.same.frames) filmed))

@@ -1,12 +1,10 @@
 use Rattle.std.proofs.Common.{rules, ◌≡◌, ◌∙◌, ◌++◌, ◌∷◌, [], ℕ, List, length, map, ap, sym, subst}
-use Rattle.nit_perform.proofs.Lemmas.{AreDone, AreDoneClips, ClipPassModel, Configuration, Entry}
-use Rattle.nit_perform.proofs.Lemmas.{HasRun, HasRunClips, IsClipListText, IsLegal, IsWhole}
-use Rattle.nit_perform.proofs.Lemmas.{OpeningParts, Pair, PassModel, PutState, PutsAll, PutsNext}
-use Rattle.nit_perform.proofs.Lemmas.{StoreModel, arith, back_long, beside_leaves, calls_to_make}
-use Rattle.nit_perform.proofs.Lemmas.{clips_done, clips_leave, clips_setup_in, events_files}
-use Rattle.nit_perform.proofs.Lemmas.{final_name, final_picture, journal_file, passes_done}
-use Rattle.nit_perform.proofs.Lemmas.{put_state_of_desk, put_state_of_run, setup_in}
-use Rattle.nit_perform.proofs.Lemmas.{user_actions_to_do, vec_len}
+use Rattle.nit_perform.proofs.Lemmas.{AreDone, AreDoneClips, ClipPassModel, Entry, HasEnded}
+use Rattle.nit_perform.proofs.Lemmas.{HasRunClips, IsClipListText, IsDoneUser, OpeningParts, Pair}
+use Rattle.nit_perform.proofs.Lemmas.{PassModel, PutState, PutsAll, StoreModel, arith, back_long}
+use Rattle.nit_perform.proofs.Lemmas.{beside_leaves, clips_done, clips_leave, clips_setup_in}
+use Rattle.nit_perform.proofs.Lemmas.{events_files, journal_file, passes_done, put_state_of_run}
+use Rattle.nit_perform.proofs.Lemmas.{user_done, vec_len}
 use Rattle.nit_perform.proofs.clips.run_clips_named.Goals as goal
 
 pub take_apart-requires-clause-room : goal.take_apart-requires-clause-room
@@ -36,13 +34,21 @@ take_apart-requires-clause-clips_room g c =
 pub last_with_clips-scene-requires-clause-done : goal.last_with_clips-scene-requires-clause-done
 last_with_clips-scene-requires-clause-done g c =
     let a = c.args.actors in
-    let back = c.run_beside_clips-mine.new.pairs.items in
+    let mine = c.run_beside_clips-mine in
+    let back = mine.new.pairs.items in
+    let is = sym c.into_room-room.ensures.parts in
     let are : c.take_apart.new.passes.items ≡ map (λ (b : Pair). b.pass) back = c.take_apart.ensures.passes
     ∙ ap (λ (ps : List PassModel). ps ++ map (λ (b : Pair). b.pass) back) c.requires.back.passes in
-    subst (λ (q : OpeningParts). AreDone q c.take_apart.new.passes.items) (sym c.into_room-room.ensures.parts)
-    (subst (λ (ps : List PassModel). AreDone g.N.Name.parts ps) (sym are)
-    (passes_done g.N.Name.parts a.room a.pairs.items back a.user c.requires.ready
-    c.run_beside_clips-mine.ensures.same c.run_beside_clips-mine.ensures.done))
+    record {
+      clients_done = subst (λ (q : OpeningParts). AreDone q c.take_apart.new.passes.items) is
+          (subst (λ (ps : List PassModel). AreDone g.N.Name.parts ps) (sym are)
+          (passes_done g.N.Name.parts a.room a.pairs.items back a.user c.requires.ready mine.ensures.same
+          mine.ensures.done));
+      user_done = subst (λ (q : OpeningParts). IsDoneUser q mine.result.user) is
+          (user_done g.N.Name.parts a.user mine.result.user c.requires.ready.ready.user_belongs
+          mine.ensures.user.shots.same mine.ensures.user.done);
+      unended = c.into_room-room.ensures.«open»;
+    }
 
 pub last_with_clips-scene-requires-clause-clips : goal.last_with_clips-scene-requires-clause-clips
 last_with_clips-scene-requires-clause-clips g c =
@@ -59,48 +65,33 @@ pub returns : goal.returns
 returns g c =
     let parts = g.N.Name.parts in
     let shown = g.S.Store.shown in
-    let mine = c.run_beside_clips-mine in
-    let desk = mine.result.desk in
-    let ended = c.last_with_clips-scene.ensures in
+    let user = c.run_beside_clips-mine.result.user in
+    let desk = c.run_beside_clips-mine.result.desk in
+    let left = c.last_with_clips-scene.new.desk in
     let scene = c.last_with_clips-scene.result.0 in
     let list = c.last_with_clips-scene.result.1 in
-    let journal = scene.entries in
     let is = c.into_room-room.ensures.parts in
     let first = shown c.args.store.now in
-    let held = c.last_with_clips-scene.new.desk in
-    let at = put_state_of_desk (shown desk.store.now) desk.fault desk.tried in
-    let final = put_state_of_desk (shown held.store.now) held.fault held.tried in
     let mid = shown c.leave_texts-ran.new.store in
     let ran = c.leave_texts-ran.result in
     let s = clips_setup_in parts in
-    let config : scene.config ≡ parts.config = ended.config ∙ ap (λ (q : OpeningParts). q.config) is in
-    let behind : PutsAll (events_files scene.config journal ++ journal_file journal ∷ []) final
-    (put_state_of_run mid ran.fault) =
-    subst (λ (o : PutState). PutsAll (events_files scene.config journal ++ journal_file journal ∷ []) o
-    (put_state_of_run mid ran.fault)) (c.of_picture-fault.ensures (shown held.store.now))
-    c.leave_texts-ran.ensures.puts in
-    let texts : PutsAll (events_files parts.config journal ++ journal_file journal ∷ []) final
-    (put_state_of_run mid ran.fault) =
-    subst (λ (k : Configuration). PutsAll (events_files k journal ++ journal_file journal ∷ []) final
-    (put_state_of_run mid ran.fault)) config behind in
-    let has : HasRun first (setup_in parts) mid ran =
-    beside_leaves parts c.args.actors.user.seen mine.result.user.seen first mid at final journal ran
-    c.requires.ready.ready.fresh mine.ensures.user.shots.put ended.known
-    (subst (λ (q : OpeningParts). IsLegal q.config journal) is ended.legal)
-    (subst (λ (q : OpeningParts). IsWhole (map calls_to_make q.scripts) (user_actions_to_do q.input) journal) is
-    ended.whole)
-    (subst (λ (q : OpeningParts). PutsNext (final_name, final_picture (setup_in q) journal) at final) is ended.put)
-    texts c.leave_texts-ran.ensures.journal c.leave_texts-ran.ensures.frames in
+    let ended = subst (λ (q : OpeningParts). HasEnded shown q user.seen scene desk left) is
+    c.last_with_clips-scene.ensures.ended in
+    let texts = subst (λ (o : PutState).
+    PutsAll (events_files scene.config scene.entries ++ journal_file scene.entries ∷ []) o
+    (put_state_of_run mid ran.fault)) c.leave_desk-store.ensures.puts c.leave_texts-ran.ensures.puts in
+    let has = beside_leaves shown parts c.args.actors.user.seen user.seen first mid scene desk left ran
+    c.requires.ready.ready.fresh c.run_beside_clips-mine.ensures.user.shots.put ended texts
+    c.leave_texts-ran.ensures.journal c.leave_texts-ran.ensures.frames in
     let told : IsClipListText s ran.journal.items list =
     subst (λ (es : List Entry). IsClipListText s es list) (sym c.leave_texts-ran.ensures.journal)
-    (subst (λ (q : OpeningParts). IsClipListText (clips_setup_in q) journal list) is ended.list) in
+    (subst (λ (q : OpeningParts). IsClipListText (clips_setup_in q) scene.entries list) is
+    c.last_with_clips-scene.ensures.list) in
     let new = shown c.put_clips.new.store in
     let fault = c.put_clips.result.fault in
-    let left : HasRunClips first s new ran.journal.items ran.frames fault =
-    clips_leave parts first mid new ran fault list has told c.put_clips.ensures.puts in
+    let same = c.put_clips.ensures.same in
     subst (λ (last : StoreModel). HasRunClips first s last c.put_clips.result.journal.items c.put_clips.result.frames
     fault) (search rules)
-    (subst (λ (es : List Entry). HasRunClips first s new es c.put_clips.result.frames fault)
-    (sym c.put_clips.ensures.journal)
-    (subst (λ (n : ℕ). HasRunClips first s new ran.journal.items n fault) (sym c.put_clips.ensures.frames)
-    left))
+    (subst (λ (es : List Entry). HasRunClips first s new es c.put_clips.result.frames fault) (sym same.journal)
+    (subst (λ (n : ℕ). HasRunClips first s new ran.journal.items n fault) (sym same.frames)
+    (clips_leave parts first mid new ran fault list has told c.put_clips.ensures.puts)))

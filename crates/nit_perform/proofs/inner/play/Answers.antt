@@ -1,30 +1,20 @@
-use Rattle.std.proofs.Common.{◌≡◌, ◌∙◌, ◌<◌, List, [], length, map, ℕ, ap, sym, subst, None}
-use Rattle.nit_perform.proofs.Lemmas.{AreLeft, Configuration, Entry, HaveTables, IsGlass, IsJournal}
-use Rattle.nit_perform.proofs.Lemmas.{JournalModel, NestModel, NestState, ShotFrame, Sight}
-use Rattle.nit_perform.proofs.Lemmas.{TakesAll, TakesNext, by_turns, glass_in, last_frame}
-use Rattle.nit_perform.proofs.Lemmas.{left_glass, left_tables, no_frames, rounds_journal, run_files}
-use Rattle.nit_perform.proofs.Lemmas.{shot_frames_of, tables_left, taken_all, takes_more}
-use Rattle.nit_perform.proofs.Lemmas.{written_whole}
+use Rattle.std.proofs.Common.{◌≡◌, ◌∙◌, List, [], map, ℕ, ap, sym, subst, None}
+use Rattle.nit_perform.proofs.Lemmas.{Configuration, Entry, HaveTables, IsJournal, JournalModel}
+use Rattle.nit_perform.proofs.Lemmas.{NestModel, NestState, ShotFrame, Sight, TakesAll, TakesNext}
+use Rattle.nit_perform.proofs.Lemmas.{by_turns, can_take_last, last_frame, left_tables, no_frames}
+use Rattle.nit_perform.proofs.Lemmas.{rounds_journal, run_files, shot_frames_of, tables_left}
+use Rattle.nit_perform.proofs.Lemmas.{taken_all, takes_more, written_whole}
 use Rattle.nit_perform.proofs.InnerLemmas.{last_is}
 use Rattle.nit_perform.proofs.inner.play.Goals as goal
 
-pub take_last-requires-clause-tables : goal.take_last-requires-clause-tables
-take_last-requires-clause-tables c = λ t inside.
+pub take_last-requires : goal.take_last-requires
+take_last-requires c =
     let opened = c.args.opened in
-    let run = c.run_viewed.ensures.run in
-    let owns : c.deref_mut-2.result.now ≡ c.run_viewed.new.owns = c.deref_mut-2.ensures.value
-    ∙ written_whole opened.owns.len c.run_viewed.new.owns opened.owns.items (c.run_viewed.auto.owns
-    ∙ c.deref_mut.ensures.len) in
-    let there : t < length c.args.scripts.now =
-    subst (λ (n : ℕ). t < n) (ap (λ (gs : List Sight). length gs) owns ∙ run.owns_each) inside in
-    let are : AreLeft c.args.config.now c.args.scripts.now c.run_viewed.new.owns =
-    subst (λ (k : Configuration). AreLeft k c.args.scripts.now c.run_viewed.new.owns)
-    c.requires.opened.configuration run.words in
-    subst (λ (k : Configuration). IsGlass k t (glass_in c.deref_mut-2.result.now t))
-    (sym (run.config ∙ c.requires.opened.configuration))
-    (subst (λ (gs : List Sight). IsGlass c.args.config.now t (glass_in gs t)) (sym owns)
-    (left_glass c.buffer_within_table.ensures.words c.one_more_line.ensures.done c.args.config.now c.args.scripts.now
-    c.run_viewed.new.owns t c.requires.runnable.configured c.requires.runnable.scripts are there))
+    can_take_last c.buffer_within_table.ensures.words c.one_more_line.ensures.done c.args.config.now c.args.scripts.now
+    c.args.input.now opened c.run_viewed.new.scene c.run_viewed.new.owns c.deref_mut-2.result.now c.requires
+    c.run_viewed.ensures.run
+    (c.deref_mut-2.ensures.value ∙ written_whole opened.owns.len c.run_viewed.new.owns opened.owns.items
+    (c.run_viewed.auto.owns ∙ c.deref_mut.ensures.len))
 
 pub returns-clause-journal : goal.returns-clause-journal
 returns-clause-journal c =
@@ -34,8 +24,8 @@ returns-clause-journal c =
     subst (λ (es : List Entry). IsJournal (by_turns i) es)
     (sym (c.into_entries.ensures ∙ ap (λ (j : JournalModel). j.entries) c.into_journal.ensures.entries))
     (rounds_journal c.rounds_are_whole.ensures i c.run_viewed.new.scene last (run.config
-    ∙ c.requires.opened.configuration) run.entries c.take_last.ensures.recorded c.take_last.ensures.config
-    c.take_last.ensures.legal)
+    ∙ c.requires.configuration) run.entries c.take_last.ensures.taken.recorded c.take_last.ensures.taken.config
+    c.take_last.ensures.taken.legal)
 
 pub returns-clause-frames : goal.returns-clause-frames
 returns-clause-frames c =
@@ -48,7 +38,7 @@ returns-clause-frames c =
     let viewer = c.run_viewed.new.viewer in
     let at : NestState = record { nest = viewer.nest; fault = viewer.fault } in
     let now : NestState = record { nest = c.take.new.self.nest; fault = c.take.new.self.fault } in
-    let begun : opened.scene.config ≡ config = c.requires.opened.configuration in
+    let begun : opened.scene.config ≡ config = c.requires.configuration in
     let owns : c.deref_mut-2.result.now ≡ c.run_viewed.new.owns = c.deref_mut-2.ensures.value
     ∙ written_whole opened.owns.len c.run_viewed.new.owns opened.owns.items (c.run_viewed.auto.owns
     ∙ c.deref_mut.ensures.len) in

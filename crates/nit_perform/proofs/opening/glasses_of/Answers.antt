@@ -9,21 +9,23 @@ loop-sid-preserved c =
     let sid = c.loop-sid.sid in
     let script = script_in scripts sid in
     let clients = c.as_slice-clients.ensures.value ∙ ap (λ (k : Configuration). k.clients) c.config.view_is in
-    let inside = subst (λ (n : ℕ). sid < n) (plans_long c.args.config.now scripts c.args.plans.now c.requires.plans)
-    c.loop-sid-test.true in
+    let long = plans_long c.args.config.now scripts c.args.plans.now c.requires.plans in
+    let each = sym long ∙ c.requires.inked.each in
+    let inside = subst (λ (n : ℕ). sid < n) long c.loop-sid-test.true in
     let plan = plan_made c.args.config.now c.as_slice-clients.result.now scripts c.args.plans.now sid
-    c.index-plans-sid.result c.index-clients-sid.result clients c.requires.each c.requires.plans inside
+    c.index-plans-sid.result c.index-clients-sid.result clients each c.requires.plans inside
     c.index-plans-sid.is in
     one_made (λ t script donation. glass_after t script donation 0) c.args.config.now c.as_slice-clients.result.now
     scripts sid script c.index-clients-sid.result c.in_ok-glass.field-0 c.loop-sid.glasses.items
     c.push.new.self.items
-    clients c.requires.each inside (sym (get_or_default scripts sid script [] inside)) c.loop-sid.invariant
+    clients each inside (sym (get_or_default scripts sid script [] inside)) c.loop-sid.invariant
     (c.in_ok-glass.ensures script plan) c.in_ok-push.ensures.items
 
 pub returns : goal.returns
 returns c =
     let scripts = c.args.scripts.now in
     let all : c.loop-sid.sid ≡ length scripts =
-    omega (arith, c.loop-sid.auto.sid-end, c.loop-sid-test.false, c.requires.long, c.requires.each) in
+    let long = plans_long c.args.config.now scripts c.args.plans.now c.requires.plans in
+    omega (arith, c.loop-sid.auto.sid-end, c.loop-sid-test.false, long) in
     c.loop-sid.invariant ∙ ap (λ (n : ℕ).
     map (λ t. glass_after t (script_in scripts t) (donation_of c.args.config.now t) 0) (range_with_len 0 n)) all

@@ -1,17 +1,17 @@
 use Rattle.std.proofs.Common.{◌≡◌, ◌+◌, ◌≤◌, ◌∙◌, length, ap, sym, arith}
 use Rattle.nit_perform.proofs.Lemmas.{SceneModel, Sight, actions_of_turns, blank_glass}
-use Rattle.nit_perform.proofs.Lemmas.{glasses_long, plans_long, rounds, set_up}
+use Rattle.nit_perform.proofs.Lemmas.{glasses_long, inked, rounds, set_up}
 use Rattle.nit_perform.proofs.opening.open.Goals as goal
 
-pub glasses_of-requires-clause-long : goal.glasses_of-requires-clause-long
-glasses_of-requires-clause-long c =
-    plans_long c.args.config.now c.args.scripts.now c.deref.result.now (c.deref.ensures.value
-    ∙ c.in_ok-plans.ensures.plans) ∙ c.requires.each
+pub glasses_of-requires-clause-inked : goal.glasses_of-requires-clause-inked
+glasses_of-requires-clause-inked c =
+    inked c.args.config.now c.args.scripts.now c.in_ok-plans.plans.items c.deref.result.now c.deref.ensures.value
+    c.in_ok-plans.ensures.plans c.requires c.in_ok-plans.ensures.words
 
-pub glasses_of-requires-2-clause-long : goal.glasses_of-requires-2-clause-long
-glasses_of-requires-2-clause-long c =
-    plans_long c.args.config.now c.args.scripts.now c.deref-2.result.now (c.deref-2.ensures.value
-    ∙ c.in_ok-plans.ensures.plans) ∙ c.requires.each
+pub glasses_of-requires-2-clause-inked : goal.glasses_of-requires-2-clause-inked
+glasses_of-requires-2-clause-inked c =
+    inked c.args.config.now c.args.scripts.now c.in_ok-plans.plans.items c.deref-2.result.now c.deref-2.ensures.value
+    c.in_ok-plans.ensures.plans c.requires c.in_ok-plans.ensures.words
 
 pub new-requires-clause-glasses : goal.new-requires-clause-glasses
 new-requires-clause-glasses c = glasses_long c.args.config.now c.args.scripts.now c.in_ok-glasses.glasses.items
@@ -33,6 +33,7 @@ returns c =
     let lines : length moves ≡ c.line_count-lines.result = c.each_line_once.ensures.count scripts c.args.input.now
     ∙ sym c.line_count-lines.ensures.count in
     record {
+      scripts_each = c.requires;
       configuration = ap (λ (p : SceneModel Sight). p.config) made;
       entries = ap (λ (p : SceneModel Sight). p.entries) made;
       spare = omega (arith, spare, few, lines);

@@ -1,4 +1,4 @@
-use Rattle.nit_rounds.proofs.Lemmas.{same_glasses, same_own, served_moved}
+use Rattle.nit_rounds.proofs.Lemmas.{one_taken, same_glasses, same_own, served_moved}
 use Rattle.nit_rounds.proofs.running.call_scene.Goals as goal
 
 pub returns-clause-own : goal.returns-clause-own
@@ -13,9 +13,15 @@ returns-clause-glasses c =
     same_glasses (λ _. tt) c.args.scene.now.glasses c.call.new.self.glasses c.args.sid c.args.own.now c.call.new.own
     c.requires.quiet (λ t. (p.loads t, p.sights t)) c.call.ensures.idle c.call.ensures.rests
 
-pub returns-clause-moved : goal.returns-clause-moved
-returns-clause-moved c =
-    served_moved c.one_more_entry.ensures.replayed c.args.scene.now c.call.new.self c.args.sid c.args.call.now
-    c.call.result _ c.args.own.now c.call.new.own
-    c.call.ensures.config c.call.ensures.recorded (returns-clause-glasses c) (returns-clause-own c) c.call.ensures.reply
-    c.requires.session.glasses c.call.ensures.painted
+pub returns-clause-done : goal.returns-clause-done
+returns-clause-done c =
+    record {
+      config = c.call.ensures.config;
+      unended = c.call.ensures.«open»;
+      spare = one_taken c.args.scene.now.entries _ _ _ _ c.call.ensures.recorded c.call.ensures.spare c.requires.spare;
+      recorded = (c.call.result, c.call.ensures.recorded);
+      moved = served_moved c.one_more_entry.ensures.replayed c.args.scene.now c.call.new.self c.args.sid
+          c.args.call.now c.call.result _ c.args.own.now c.call.new.own c.call.ensures.config c.call.ensures.recorded
+          (returns-clause-glasses c) (returns-clause-own c) c.call.ensures.reply c.requires.there.glasses
+          c.call.ensures.painted;
+    }

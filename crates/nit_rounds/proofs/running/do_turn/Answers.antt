@@ -1,9 +1,10 @@
 use Rattle.std.proofs.Common.{List, [], ap, arith, length, refl, set, subst, sym, ◌+◌, ◌<◌, ◌∙◌}
 use Rattle.std.proofs.Common.{◌∷◌, slice_get, slice_index_or}
-use Rattle.nit_rounds.proofs.Lemmas.{ByClient, ByUser, InputLine, IsBehind, IsPlanOf, IsShowing}
-use Rattle.nit_rounds.proofs.Lemmas.{IsUnderWay, Line, PlanModel, SceneModel, Sight, after_client}
-use Rattle.nit_rounds.proofs.Lemmas.{after_user, all_own, as_many, behind_again, clients_move}
-use Rattle.nit_rounds.proofs.Lemmas.{donation_of, entry_of, found_here, get_or_default, glass_after}
+use Rattle.nit_rounds.proofs.Lemmas.{ByClient, ByUser, FitsInputLine, InputLine}
+use Rattle.nit_rounds.proofs.Lemmas.{IsBehind, IsPlanOf, IsShowing, Line, LineTurn, PlanModel}
+use Rattle.nit_rounds.proofs.Lemmas.{SceneModel, Sight, after_client, after_user, all_own, as_many}
+use Rattle.nit_rounds.proofs.Lemmas.{behind_again, clients_move, donation_of, each_at, entry_of}
+use Rattle.nit_rounds.proofs.Lemmas.{found_here, get_or_default, glass_after}
 use Rattle.nit_rounds.proofs.Lemmas.{glass_in, moved_settled, no_sight, read_same, script_in}
 use Rattle.nit_rounds.proofs.Lemmas.{settled, settled_turn, users_move, users_turn}
 use Rattle.nit_rounds.proofs.running.do_turn.Goals as goal
@@ -12,35 +13,35 @@ use Rattle.nit_rounds.proofs.running.do_turn.Goals as goal
 
 pub bounds-owns-sid : goal.bounds-owns-sid
 bounds-owns-sid g c =
-    let (before, m, left, w, is, room) = c.requires.next in
+    let (before, m, left, first, p, is, room) = c.requires.next in
     let t = settled_turn c.turns_tell.ensures.client c.lines_done.ensures.client _ _ _ before c.args.scene.now
-    c.settle_others-stale.new.scene _ m left _ _ c.requires.planned w c.settle_others-stale.ensures.scene
+    c.settle_others-stale.new.scene _ m left _ _ c.requires.planned p.way c.settle_others-stale.ensures.scene
     (is ∙ c.in-Client.is) room in
     t.in_owns
 
 pub bounds-parts-sid : goal.bounds-parts-sid
 bounds-parts-sid g c =
-    let (before, m, left, w, is, room) = c.requires.next in
+    let (before, m, left, first, p, is, room) = c.requires.next in
     let t = settled_turn c.turns_tell.ensures.client c.lines_done.ensures.client _ _ _ before c.args.scene.now
-    c.settle_others-stale.new.scene _ m left _ _ c.requires.planned w c.settle_others-stale.ensures.scene
+    c.settle_others-stale.new.scene _ m left _ _ c.requires.planned p.way c.settle_others-stale.ensures.scene
     (is ∙ c.in-Client.is) room in
     t.in_scripts
 
 pub bounds-parts-sid-in-Client : goal.bounds-parts-sid-in-Client
 bounds-parts-sid-in-Client g c =
-    let (before, m, left, w, is, room) = c.requires.next in
+    let (before, m, left, first, p, is, room) = c.requires.next in
     let t = settled_turn c.turns_tell.ensures.client c.lines_done.ensures.client _ _ _ before c.args.scene.now
-    c.settle_others-stale.new.scene _ m left _ _ c.requires.planned w c.settle_others-stale.ensures.scene
+    c.settle_others-stale.new.scene _ m left _ _ c.requires.planned p.way c.settle_others-stale.ensures.scene
     (is ∙ c.in-Client.is) room in
     t.in_plans
 
 pub client_line-requires-clause-draw : goal.client_line-requires-clause-draw
 client_line-requires-clause-draw g c =
-    let (before, m, left, w, is, room) = c.requires.next in
+    let (before, m, left, first, p, is, room) = c.requires.next in
     let s = c.settle_others-stale.new.scene in
     let sid = c.in-Client.sid in
     let t = settled_turn c.turns_tell.ensures.client c.lines_done.ensures.client _ _ _ before c.args.scene.now s _ m
-    left _ _ c.requires.planned w c.settle_others-stale.ensures.scene (is ∙ c.in-Client.is) room in
+    left _ _ c.requires.planned p.way c.settle_others-stale.ensures.scene (is ∙ c.in-Client.is) room in
     let donation = donation_of s.config sid in
     let script = get_or_default c.args.parts.scripts.now sid [] c.index-parts-sid.result t.in_scripts in
     record {
@@ -62,18 +63,18 @@ client_line-requires-clause-draw g c =
 
 pub client_line-requires-clause-spare : goal.client_line-requires-clause-spare
 client_line-requires-clause-spare g c =
-    let (before, m, left, w, is, room) = c.requires.next in
+    let (before, m, left, first, p, is, room) = c.requires.next in
     let t = settled_turn c.turns_tell.ensures.client c.lines_done.ensures.client _ _ _ before c.args.scene.now
-    c.settle_others-stale.new.scene _ m left _ _ c.requires.planned w c.settle_others-stale.ensures.scene
+    c.settle_others-stale.new.scene _ m left _ _ c.requires.planned p.way c.settle_others-stale.ensures.scene
     (is ∙ c.in-Client.is) room in
     λ call found. t.spare call (ap (λ (ls : List Line). slice_get ls c.in-Client.line)
     (get_or_default c.args.parts.scripts.now c.in-Client.sid [] c.index-parts-sid.result t.in_scripts) ∙ found)
 
 pub returns-in-Client-clause-behind : goal.returns-in-Client-clause-behind
 returns-in-Client-clause-behind g c =
-    let (before, m, left, w, is, room) = c.requires.next in
+    let (before, m, left, first, p, is, room) = c.requires.next in
     let t = settled_turn c.turns_tell.ensures.client c.lines_done.ensures.client _ _ _ before c.args.scene.now
-    c.settle_others-stale.new.scene _ m left _ _ c.requires.planned w c.settle_others-stale.ensures.scene
+    c.settle_others-stale.new.scene _ m left _ _ c.requires.planned p.way c.settle_others-stale.ensures.scene
     (is ∙ c.in-Client.is) room in
     behind_again c.client_line.result c.settle_others-stale.new.scene.glasses c.client_line.new.scene.glasses
     c.args.owns.now _ c.in-Client.sid _ c.client_line.new.own t.in_owns
@@ -89,30 +90,30 @@ returns-in-Client-clause-way g c before m left first p is =
     let all = all_own mid.glasses new.glasses owns (set owns sid own') sid _ own' c.settle_others-stale.ensures.others
     c.client_line.ensures.glasses refl in
     let there = ap (λ (s : SceneModel Sight). settled s owns) c.settle_others-stale.ensures.scene in
-    let p' = subst (λ (s : SceneModel Sight). IsShowing g.V.Viewer.shows c.args.parts.scripts.now c.args.parts.input.now
+    let p' = subst (λ (s : SceneModel Sight). IsShowing g.V.Viewer.fits g.V.Viewer.shows c.args.parts.scripts.now
+    c.args.parts.input.now
     before s owns (m ∷ left) first c.args.viewer.now) (sym there) p in
     let move = clients_move c.turns_tell.ensures.client c.lines_done.ensures.client _ _ before _ _ m left _ _ p'.way
     (is ∙ c.in-Client.is) in
     let script = get_or_default c.args.parts.scripts.now sid c.index-parts-sid.result [] move.inside in
     let here = ap (λ (ls : List Line). slice_get ls c.in-Client.line) script ∙ move.here in
-    after_client g.V.Viewer.shows _ _ before (settled mid owns) (settled new (set owns sid own')) owns _ m left sid
+    let does = c.client_line.ensures.done move.l here in
+    after_client g.V.Viewer.fits g.V.Viewer.shows _ _ before (settled mid owns) (settled new (set owns sid own')) owns _
+    m left sid
     c.in-Client.line own' first _ p' move refl
     (c.client_line.ensures.drawn.own ∙ ap
     (λ (ls : List Line). glass_after sid ls (donation_of mid.config sid) (c.in-Client.line + 1)) script)
-    refl c.client_line.ensures.config c.client_line.ensures.«open» c.client_line.ensures.spare
-    (c.client_line.ensures.recorded move.l here)
+    refl does.config does.unended does.spare does.recorded
     (moved_settled (λ s. entry_of s (ByClient sid move.l)) mid new owns (set new.glasses sid own')
-    (set owns sid own') all (c.client_line.ensures.moved move.l here))
+    (set owns sid own') all does.moved)
 
 -- ---- the user's turn
 
 pub bounds-lines-line : goal.bounds-lines-line
 bounds-lines-line g c =
-    let (before, m, left, w, is, room) = c.requires.next in
-    let w' = subst (λ (s : SceneModel Sight). IsUnderWay c.args.parts.scripts.now c.args.parts.input.now before s
-    c.args.owns.now (m ∷ left)) (sym c.settle.ensures) w in
-    let t = users_turn c.turns_tell.ensures.user c.lines_done.ensures.user _ _ before _ _ m left _ w'
-    (is ∙ c.in-User.is) room in
+    let (before, m, left, first, p, is, room) = c.requires.next in
+    let t = users_turn c.turns_tell.ensures.user c.lines_done.ensures.user _ _ before c.args.scene.now _ _ m left _
+    p.way c.settle.ensures (is ∙ c.in-User.is) room in
     subst (λ (ls : List InputLine). c.in-User.line < length ls) (sym c.lines.ensures.value) t.here
 
 pub offset_bounds-lines-line : goal.offset_bounds-lines-line
@@ -120,34 +121,32 @@ offset_bounds-lines-line g c =
     let here = bounds-lines-line g c in
     omega (arith, here, c.lines.ensures.length)
 
-pub user_line-requires-clause-spare : goal.user_line-requires-clause-spare
-user_line-requires-clause-spare g c takes =
-    let (before, m, left, w, is, room) = c.requires.next in
-    let w' = subst (λ (s : SceneModel Sight). IsUnderWay c.args.parts.scripts.now c.args.parts.input.now before s
-    c.args.owns.now (m ∷ left)) (sym c.settle.ensures) w in
-    let t = users_turn c.turns_tell.ensures.user c.lines_done.ensures.user _ _ before _ _ m left _ w'
-    (is ∙ c.in-User.is) room in
-    t.spare _ (read_same c.args.parts.input.now c.lines.result.now c.in-User.line _ c.lines.ensures.value t.here) takes
+pub user_line-requires-clause-can : goal.user_line-requires-clause-can
+user_line-requires-clause-can g c =
+    let (before, m, left, first, p, is, room) = c.requires.next in
+    let t = users_turn c.turns_tell.ensures.user c.lines_done.ensures.user _ _ before c.args.scene.now _ _ m left _
+    p.way c.settle.ensures (is ∙ c.in-User.is) room in
+    let inside = subst (λ (ls : List InputLine). c.in-User.line < length ls) (sym c.lines.ensures.value) t.here in
+    t.can _ (read_same c.args.parts.input.now c.lines.result.now c.in-User.line _ c.lines.ensures.value t.here)
+    (each_at FitsInputLine c.lines.result.now c.in-User.line _ inside c.lines.ensures.fits)
 
 pub returns-in-User-clause-way : goal.returns-in-User-clause-way
 returns-in-User-clause-way g c before m left first p is =
     let owns = c.args.owns.now in
     let new = c.user_line.new.scene in
     let last = c.user_line.new.viewer in
-    let p' = subst (λ (s : SceneModel Sight). IsShowing g.V.Viewer.shows c.args.parts.scripts.now c.args.parts.input.now
-    before s owns (m ∷ left) first c.args.viewer.now) (sym c.settle.ensures) p in
-    let (before', m', left', w', is', room) = c.requires.next in
-    let w'' = subst (λ (s : SceneModel Sight). IsUnderWay c.args.parts.scripts.now c.args.parts.input.now before' s owns
-    (m' ∷ left')) (sym c.settle.ensures) w' in
-    let t = users_turn c.turns_tell.ensures.user c.lines_done.ensures.user _ _ before' _ _ m' left' _ w''
-    (is' ∙ c.in-User.is) room in
+    let Way = λ (s : SceneModel Sight) (ms : List LineTurn). IsShowing g.V.Viewer.fits g.V.Viewer.shows
+    c.args.parts.scripts.now c.args.parts.input.now before s owns ms first in
+    let p' = subst (λ (s : SceneModel Sight). Way s (m ∷ left) c.args.viewer.now) (sym c.settle.ensures) p in
+    let (before', m', left', first', q, is', room) = c.requires.next in
+    let t = users_turn c.turns_tell.ensures.user c.lines_done.ensures.user _ _ before' c.args.scene.now _ _ m' left' _
+    q.way c.settle.ensures (is' ∙ c.in-User.is) room in
     let same = read_same c.args.parts.input.now c.lines.result.now c.in-User.line _ c.lines.ensures.value t.here in
     let move = users_move c.turns_tell.ensures.user c.lines_done.ensures.user _ _ before _ _ m left _ p'.way
     (is ∙ c.in-User.is) in
     let does = c.user_line.ensures in
-    let glasses = does.glasses ∙ ap (λ (s : SceneModel Sight). s.glasses) c.settle.ensures in
-    subst (λ (s : SceneModel Sight). IsShowing g.V.Viewer.shows c.args.parts.scripts.now c.args.parts.input.now before s
-    owns left first last) (ap (λ (gs : List Sight). record new { glasses = gs }) glasses)
-    (after_user g.V.Viewer.shows _ _ before c.settle.new.scene new owns m left _ first _ _ p' (move.doing
-    ∙ ap ByUser (found_here c.args.parts.input.now c.in-User.line move.l _ move.here same))
-    does.glasses does.config does.«open» does.spare does.recorded does.moved does.shown)
+    let glasses = does.done.glasses ∙ ap (λ (s : SceneModel Sight). s.glasses) c.settle.ensures in
+    subst (λ (s : SceneModel Sight). Way s left last) (ap (λ (gs : List Sight). record new { glasses = gs }) glasses)
+    (after_user g.V.Viewer.fits g.V.Viewer.shows _ _ before c.settle.new.scene new owns m left _ first _ _ p'
+    (move.doing ∙ ap ByUser (found_here c.args.parts.input.now c.in-User.line move.l _ move.here same))
+    does.done does.shown does.viewer)

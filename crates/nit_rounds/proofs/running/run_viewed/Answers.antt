@@ -1,39 +1,29 @@
-use Rattle.nit_rounds.proofs.Lemmas.{Configuration, IsShowing, LineTurn, List, SceneModel, Sight}
-use Rattle.nit_rounds.proofs.Lemmas.{ap, begun, front_move, settled, subst, sym}
+use Rattle.nit_rounds.proofs.Lemmas.{IsShowing, LineTurn, List, SceneModel, Sight, ap, begun}
+use Rattle.nit_rounds.proofs.Lemmas.{front_move, settled, subst}
 use Rattle.nit_rounds.proofs.running.run_viewed.Goals as goal
 
 pub lines-init : goal.lines-init
 lines-init g c =
-    let Shows = g.V.Viewer.shows in
     let same = c.requires.set_up.same in
     record {
       behind = same;
-      way = subst (λ (s : SceneModel Sight). IsShowing Shows c.args.parts.scripts.now c.args.parts.input.now
-          c.args.scene.now s c.args.owns.now c.new-turns.result c.args.viewer.now c.args.viewer.now)
+      way = subst (λ (s : SceneModel Sight). IsShowing g.V.Viewer.fits g.V.Viewer.shows c.args.parts.scripts.now
+          c.args.parts.input.now c.args.scene.now s c.args.owns.now c.new-turns.result c.args.viewer.now
+          c.args.viewer.now)
           (ap (λ (gs : List Sight). record c.args.scene.now { glasses = gs }) same)
-          (begun Shows c.args.parts.scripts.now c.args.parts.input.now c.args.parts.plans.now c.args.scene.now
-          c.args.owns.now c.new-turns.result c.args.viewer.now c.new-turns.ensures c.requires.set_up
-          c.requires.entries c.journal.ensures.raw);
-      viewer = c.requires.viewer;
+          (begun g.V.Viewer.fits g.V.Viewer.shows c.args.parts.scripts.now c.args.parts.input.now
+          c.args.parts.plans.now c.args.scene.now c.args.owns.now c.new-turns.result c.args.viewer.now
+          c.new-turns.ensures c.requires.set_up c.requires.entries c.journal.ensures.raw c.requires.viewer);
     }
 
 pub lines-preserved : goal.lines-preserved
 lines-preserved g c =
-    let Shows = g.V.Viewer.shows in
     let front = front_move c.lines.turns c.next.new.self c.next.result c.in-Some.turn c.next.ensures.turn
     c.next.ensures.left c.in-Some.is in
-    let way = c.do_turn-stale.ensures.way c.args.scene.now front.0 c.next.new.self c.args.viewer.now
-    (subst (λ (ms : List LineTurn). IsShowing Shows c.args.parts.scripts.now c.args.parts.input.now c.args.scene.now
-    (settled c.lines.scene c.lines.owns) c.lines.owns ms c.args.viewer.now c.lines.viewer) front.1
-    c.lines.invariant.way) front.2 in
     record {
       behind = c.do_turn-stale.ensures.behind;
-      way = way;
-      viewer = subst (λ (k : Configuration). g.V.Viewer.fits k.width k.height c.do_turn-stale.new.viewer)
-          c.lines.invariant.way.way.config c.do_turn-stale.ensures.viewer;
+      way = c.do_turn-stale.ensures.way c.args.scene.now front.0 c.next.new.self c.args.viewer.now
+          (subst (λ (ms : List LineTurn). IsShowing g.V.Viewer.fits g.V.Viewer.shows c.args.parts.scripts.now
+          c.args.parts.input.now c.args.scene.now (settled c.lines.scene c.lines.owns) c.lines.owns ms
+          c.args.viewer.now c.lines.viewer) front.1 c.lines.invariant.way) front.2;
     }
-
-pub do_turn-stale-requires-clause-viewer : goal.do_turn-stale-requires-clause-viewer
-do_turn-stale-requires-clause-viewer g c =
-    subst (λ (k : Configuration). g.V.Viewer.fits k.width k.height c.lines.viewer)
-    (sym c.lines.invariant.way.way.config) c.lines.invariant.viewer

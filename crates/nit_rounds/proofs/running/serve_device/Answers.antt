@@ -1,14 +1,21 @@
-use Rattle.nit_rounds.proofs.Lemmas.{input_moved, same_seen}
+use Rattle.nit_rounds.proofs.Lemmas.{input_moved, one_taken, same_seen}
+use Rattle.std.proofs.Common.{refl, ◌≡◌}
 use Rattle.nit_rounds.proofs.running.serve_device.Goals as goal
 
-pub returns-clause-glasses : goal.returns-clause-glasses
-returns-clause-glasses c =
+pub returns : goal.returns
+returns c =
     let p = c.input.ensures.painted in
+    let glasses : c.input.new.self.glasses ≡ c.args.scene.now.glasses =
     same_seen (λ _. tt) c.args.scene.now.glasses c.input.new.self.glasses c.requires.quiet
-    (λ t. (p.loads t, p.sights t)) c.input.ensures.rests
-
-pub returns-clause-moved : goal.returns-clause-moved
-returns-clause-moved c =
-    input_moved c.one_more_entry.ensures.replayed c.args.scene.now c.input.new.self c.args.dev c.input.result _
-    c.input.ensures.config c.input.ensures.recorded (returns-clause-glasses c) c.input.ensures.routed
-    c.input.ensures.painted
+    (λ t. (p.loads t, p.sights t)) c.input.ensures.rests in
+    record {
+      glasses = glasses;
+      config = c.input.ensures.config;
+      unended = c.input.ensures.«open»;
+      spare = one_taken c.args.scene.now.entries _ _ _ _ c.input.ensures.recorded c.input.ensures.spare
+          (c.requires.spare refl);
+      recorded = (c.input.result, c.input.ensures.recorded);
+      moved = input_moved c.one_more_entry.ensures.replayed c.args.scene.now c.input.new.self c.args.dev
+          c.input.result _ c.input.ensures.config c.input.ensures.recorded glasses c.input.ensures.routed
+          c.input.ensures.painted;
+    }

@@ -14,9 +14,9 @@ invariant_of-self-2 g c =
     let names = picture_names self.count false in
     let start : IsFilmOf true begun self.film.capture names old.files self.film.bytes.items =
     subst (λ (b : Bool). IsFilmOf true begun self.film.capture (picture_names self.count b) old.files
-    self.film.bytes.items) c.requires.going
+    self.film.bytes.items) c.requires.can.going
     (subst (λ (b : Bool). IsFilmOf b begun self.film.capture (picture_names self.count self.ended) old.files
-    self.film.bytes.items) c.requires.whole self.tie) in
+    self.film.bytes.items) c.requires.can.is_whole self.tie) in
     let grown : IsFilmOf true begun now.capture (names ++ c.args.name.now ∷ []) new.files now.bytes.items =
     film_grows begun self.film.capture now.capture names self.film.bytes.items now.bytes.items old new c.args.name.now
     c.args.bytes.now c.in_ok-put_filmed.field-0
