@@ -16,7 +16,8 @@
 //! - [`nest_run`] goes by rounds and puts nothing: it makes the script that shows the frames.
 //!
 //! [`put_files`] puts the files of a generated run before it, and [`put_inner_journal`] a journal
-//! behind the files of another run. [`ThreadHost`] is what a run with threads is given of the machine.
+//! behind the files of another run. [`ThreadHost`] is what a run with threads is given of the
+//! machine.
 //!
 //! The tests are those of whole commands, in `nit_top_tests`.
 #![tactic(auto)]

@@ -1,22 +1,22 @@
 -- A run that is under way: how it begins, what one turn does, and what holds at its end.
 use Rattle.nit_rounds.proofs.Basics.{Action, ActorLine, AreRaw, Bare, Bool, ByClient, ByUser}
 use Rattle.nit_rounds.proofs.Basics.{Configuration, DoesUserLine, Drawing, Entry, InputLine}
-use Rattle.nit_rounds.proofs.Basics.{IsDrawn, IsLegal}
-use Rattle.nit_rounds.proofs.Basics.{IsMoved, IsOpen, IsRawOf, IsRecorded, IsRoundsRun, IsSetUp}
-use Rattle.nit_rounds.proofs.Basics.{IsShowing, IsUnderWay, IsUserRecorded, Line, LineTurn, List}
-use Rattle.nit_rounds.proofs.Basics.{None, Option, Painting, PixelSource, PlanModel, Point}
-use Rattle.nit_rounds.proofs.Basics.{SceneModel, ShotFrame, ShowsEach, ShowsLine, Sight, Size, Some}
-use Rattle.nit_rounds.proofs.Basics.{State, View, [], action_of, actions_of_line, actions_of_turns}
-use Rattle.nit_rounds.proofs.Basics.{after_turn, ap, append-nil, append_assoc, arith, bar_rows}
-use Rattle.nit_rounds.proofs.Basics.{bare_word, blank, buffer_size, cases_eq, cond, donation_of}
-use Rattle.nit_rounds.proofs.Basics.{done_after, drawn, drawn_shot, entry_of, false, first_state}
-use Rattle.nit_rounds.proofs.Basics.{get_or-set_other, get_or-set_same, glass_after, glass_in}
-use Rattle.nit_rounds.proofs.Basics.{in_bar, ink, inl, input_lines_of, inr, length, length-append}
-use Rattle.nit_rounds.proofs.Basics.{length-set, length-take-le, line_by, lines_of, map, map-append}
-use Rattle.nit_rounds.proofs.Basics.{no_sight, painted_from, pixel, pixel_count, refl, replay}
-use Rattle.nit_rounds.proofs.Basics.{rounds, script_in, set, shot_frames_of, shots, shots_after}
-use Rattle.nit_rounds.proofs.Basics.{slice_get, slice_get_within, source_at, source_under}
-use Rattle.nit_rounds.proofs.Basics.{state_now, tables_after, turn_of, words_after, words_left}
+use Rattle.nit_rounds.proofs.Basics.{IsDrawn, IsLegal, IsMoved, IsOpen, IsRawOf, IsRecorded}
+use Rattle.nit_rounds.proofs.Basics.{IsRoundsRun, IsSetUp, IsShowing, IsUnderWay, IsUserRecorded}
+use Rattle.nit_rounds.proofs.Basics.{Line, LineTurn, List, None, Option, Painting, PixelSource}
+use Rattle.nit_rounds.proofs.Basics.{PlanModel, Point, SceneModel, ShotFrame, ShowsEach, ShowsLine}
+use Rattle.nit_rounds.proofs.Basics.{Sight, Size, Some, State, View, [], action_of, actions_of_line}
+use Rattle.nit_rounds.proofs.Basics.{actions_of_turns, after_turn, ap, append-nil, append_assoc}
+use Rattle.nit_rounds.proofs.Basics.{arith, bar_rows, bare_word, blank, buffer_size, cases_eq, cond}
+use Rattle.nit_rounds.proofs.Basics.{donation_of, done_after, drawn, drawn_shot, entry_of, false}
+use Rattle.nit_rounds.proofs.Basics.{first_state, get_or-set_other, get_or-set_same, glass_after}
+use Rattle.nit_rounds.proofs.Basics.{glass_in, in_bar, ink, inked_sight, inl, input_lines_of, inr}
+use Rattle.nit_rounds.proofs.Basics.{length, length-append, length-set, length-take-le, line_by}
+use Rattle.nit_rounds.proofs.Basics.{lines_of, map, map-append, no_sight, painted_from, pixel}
+use Rattle.nit_rounds.proofs.Basics.{pixel_count, refl, replay, rounds, script_in, set}
+use Rattle.nit_rounds.proofs.Basics.{shot_frames_of, shots, shots_after, slice_get}
+use Rattle.nit_rounds.proofs.Basics.{slice_get_within, source_at, source_under, state_now}
+use Rattle.nit_rounds.proofs.Basics.{tables_after, turn_of, words_after, words_left}
 use Rattle.std.proofs.Common.{slice_index_or, subst, sym, take, true, zero-add, ℕ, ◌++◌, ◌+◌, ◌<◌}
 use Rattle.std.proofs.Common.{◌∙◌, ◌∷◌, ◌≡◌, ◌≢◌, ◌≤◌}
 use Rattle.nit_events.specs.declared.entry.Entry.TheVariants as entry
@@ -388,14 +388,7 @@ ended once all scripts lines before now owns left w over legal =
         ∙ ap (λ (ls : List Line). length ls) (once scripts lines t)
 
     glass_of : ℕ → List ℕ → Sight
-    glass_of t words = record {
-      owner = t;
-      size = length words;
-      ink = ink (script_in scripts t);
-      words =
-          Some words;
-      log = None;
-    }
+    glass_of t words = inked_sight t words (ink (script_in scripts t))
 
     left_all : (t : ℕ) → glass_of t
         (words_after (script_in scripts t) (donation_of before.config t) (length (script_in scripts t)))
