@@ -1,18 +1,18 @@
 -- A call was served, the pixels that it makes dirty were loaded again, and all is shown.
 use Rattle.nit_screen.proofs.Basics.{ArePixels, Bool, Call, CanPaint, CanServe, CanShowBy, Close}
-use Rattle.nit_screen.proofs.Basics.{Configuration, Entry, Flat, HoldBuffers, IsCallShown}
-use Rattle.nit_screen.proofs.Basics.{IsFrameOf, IsGlassOf, IsNamedBy, IsOn, IsPartOf, IsPartShown}
-use Rattle.nit_screen.proofs.Basics.{IsRepaint, IsScreen, IsServed, IsServer, IsShown, IsTrue}
-use Rattle.nit_screen.proofs.Basics.{IsViewChange, List, Option, Painted, Painter, PixelSource}
-use Rattle.nit_screen.proofs.Basics.{Pixels, Rectangle, Repainted, Reply, ScreenModel, ServerModel}
-use Rattle.nit_screen.proofs.Basics.{Sight, SlotView, Some, StackModel, ViewRef, ap, arith, closed}
-use Rattle.nit_screen.proofs.Basics.{cond, dirty, draws_labels, false, false≢true, frame, glass_in}
+use Rattle.nit_screen.proofs.Basics.{Entry, Flat, HoldBuffers, IsCallShown, IsFrameOf, IsGlassOf}
+use Rattle.nit_screen.proofs.Basics.{IsNamedBy, IsOn, IsPartOf, IsPartShown, IsRepaint, IsScreen}
+use Rattle.nit_screen.proofs.Basics.{IsServed, IsServer, IsShown, IsTrue, IsViewChange, List}
+use Rattle.nit_screen.proofs.Basics.{Option, Painted, Painter, PixelSource, Pixels, Rectangle}
+use Rattle.nit_screen.proofs.Basics.{Repainted, Reply, ScreenModel, ServerModel, Sight, SlotView}
+use Rattle.nit_screen.proofs.Basics.{Some, StackModel, ViewRef, ap, arith, closed, cond, dirty}
+use Rattle.nit_screen.proofs.Basics.{draws_labels, false, false≢true, frame, glass_in}
 use Rattle.nit_screen.proofs.Basics.{glasses_of_call, is_of_session, length, length-frame}
 use Rattle.nit_screen.proofs.Basics.{length-map, owner_passes, pixel, pixel_count, place_of, raw_in}
 use Rattle.nit_screen.proofs.Basics.{raw_of, repainted_same, repainted_words, scenery_of}
 use Rattle.nit_screen.proofs.Basics.{slot_owns_either, slot_view_in, source_at, state_of, wanted}
 use Rattle.nit_screen.proofs.Basics.{with_ended, without_session, without_views}
-use Rattle.std.proofs.Common.{map, refl, subst, sym, true, ℕ, ◌*◌, ◌<◌, ◌∙◌, ◌≡◌}
+use Rattle.std.proofs.Common.{map, refl, subst, sym, true, ℕ, ◌<◌, ◌∙◌, ◌≡◌}
 use Rattle.nit_events.specs.declared.call.Reply.TheVariants as reply
 use Rattle.nit_events.specs.declared.entry.Entry.TheVariants as entry
 use Rattle.nit_events.specs.declared.event.Status.TheVariants as status
@@ -43,8 +43,7 @@ pub can_paint_by : {G : Type 0} (s s' : ServerModel) (p : Pixels G) (glasses : �
     → HoldBuffers s'.stack (length p.painter.glasses.items) glasses → CanPaint glasses s'.stack p.painter
 can_paint_by s s' p glasses ha config most can held = record {
   room = let few = few_views s'.stack ha.standing in let cut = can.cuts in omega (arith, few, most, cut);
-  pixels = can.pixels ∙ ap (λ (k : Configuration). k.width * k.height) (sym config)
-      ∙ (λ i. sym ha.screen.0 i * sym ha.screen.1 i);
+  pixels = rw (ha.screen.0, ha.screen.1, config) can.pixels;
   held = held;
 }
 
@@ -122,8 +121,8 @@ module _ {G C R S : Type 0} {sight : G → Sight} {rest : G → R} {own_sight : 
       let same_ = same_config sid call reply s s' served in
       record {
         shown = shown.pixels;
-        glasses = length-map gs' sight ∙ as_many_as rest gs gs' e.rests ∙ sym (length-map gs sight) ∙ screen.glasses
-            ∙ ap (λ (k : Configuration). length k.clients) (sym same_);
+        glasses = rw same_ (length-map gs' sight ∙ as_many_as rest gs gs' e.rests ∙ sym (length-map gs sight)
+            ∙ screen.glasses);
         tables = tables_kept s s' (map sight gs) (map sight gs') sid (own_sight own) (own_sight own') e.painted.loads
             same_ e.painted.sights e.idle screen.tables;
       }
@@ -197,8 +196,8 @@ module _ {G C R S : Type 0} {sight : G → Sight} {rest : G → R} {own_sight : 
           (glasses_of_call (map sight one.painter.glasses.items) sid (own_sight own))
           (glasses_of_call (map sight painter.glasses.items) sid (own_sight own')) one.painter.raw.items
           now.painter.raw.items one.frame.items now.frame.items chosen can.unrefused.accepted served on
-          (rw e.raw dirty_painted)
-          (ap (λ w. length w.items) e.raw ∙ loads.count ∙ made.pixels.0.pixels) is_dirty e.shown (frame_before m)),
+          (rw e.raw dirty_painted) (ap (λ w. length w.items) e.raw ∙ loads.count ∙ made.pixels.0.pixels) is_dirty
+          e.shown (frame_before m)),
       λ d. e.kept.0 ∙ labelled_before m,
     );
     raw = rw (e.kept.0, e.kept.1, e.raw) refl;
@@ -287,8 +286,7 @@ module _ {G C R S : Type 0} (sight : G → Sight) (rest : G → R) (own_sight : 
         apart_before s s' p one painter hb ha can served other screen made single is_dirty loaded,
         λ now flat labelled. loaded_shown s s' p one painter hb ha can served other screen made single is_dirty loaded
             now flat (λ m. part_is_shown s s' p one painter hb ha can served other screen made single is_dirty loaded
-            now
-            part on m (labelled m)),
+            now part on m (labelled m)),
       )
 
 -- ---- a session closes
@@ -300,8 +298,8 @@ pub close_call : {G C R S : Type 0} {sight : G → Sight} {rest : G → R} {own_
     → sid < length mid.sessions → without_views sid mid ≡ without_views sid s → s' ≡ with_ended sid status.Closed mid
     → IsRepaint sight rest own_sight own_rest (pieces.source_of_number (without_session sid s.stack))
     (λ k. owner_passes (is_of_session sid) s.stack (pixel s.stack.width k)) sid own own' p.painter painter
-    → CanShowBy s' (record p { painter = painter }) × ((now : Pixels G) → IsShown s' (record p { painter = painter })
-    now
+    → CanShowBy s' (record p { painter = painter })
+    × ((now : Pixels G) → IsShown s' (record p { painter = painter }) now
     → IsScreen s' (map sight now.painter.glasses.items) now
     × IsCallShown sight rest own_sight own_rest sid Close reply.Done own own' (screen_of s p) (screen_of s' now))
 close_call {sid = sid} {s = s} {s' = s'} {p = p} {painter = painter} mid hb ha can screen within left now loaded =

@@ -1,23 +1,23 @@
 -- A kept frame stays the frame of the state and of the raw words.
 use Rattle.nit_screen.proofs.Basics.{Above, Agrees, All, All-replicate, AreSet, Back, Bare, Black}
-use Rattle.nit_screen.proofs.Basics.{Bool, Buffer, Call, CanShowBy, Close, Configuration, Delivery}
-use Rattle.nit_screen.proofs.Basics.{Destroy, Device, Flat, Front, InputState, IsCopied, IsPartOf}
-use Rattle.nit_screen.proofs.Basics.{IsQuiet, IsServed, IsTrue, IsWord, IsWordOfSource, Kill, List}
-use Rattle.nit_screen.proofs.Basics.{Mode, None, Offset, Option, Painted, Painter, PixelSource}
-use Rattle.nit_screen.proofs.Basics.{Pixels, Place, Point, Rectangle, Refresh, Reply, Scenery}
-use Rattle.nit_screen.proofs.Basics.{ServerModel, Sight, Size, Some, StackModel, State, Take, Title}
-use Rattle.nit_screen.proofs.Basics.{Upgrade, View, Word, Xray, after, ap, arith, bar_rows}
-use Rattle.nit_screen.proofs.Basics.{bar_word, bare_word, black_or_word, buffer_size, cond}
-use Rattle.nit_screen.proofs.Basics.{covering, dirty, dirty_by_call, draws_labels, false, flat_same}
-use Rattle.nit_screen.proofs.Basics.{flat_shown, frame, in_bar, is_accepted, is_owned_by}
-use Rattle.nit_screen.proofs.Basics.{is_session, is_some, is_view, is_word_in, layer, length-frame}
-use Rattle.nit_screen.proofs.Basics.{option_map_or, or_from, owner, owner_word, pixel, pixel_count}
-use Rattle.nit_screen.proofs.Basics.{rectangle, refusal, renewed, scenery_of, session, set_same}
-use Rattle.nit_screen.proofs.Basics.{shown, shown_by, shown_index, shows_part, slice_index}
-use Rattle.nit_screen.proofs.Basics.{source_of, source_under, state_of, view_owns, wanted}
-use Rattle.nit_screen.proofs.Basics.{with_delivered, with_routed}
-use Rattle.std.proofs.Common.{length, map, refl, replicate, subst, sym, true, ℕ, ◌&&◌, ◌*◌, ◌<◌}
-use Rattle.std.proofs.Common.{◌||◌, ◌∙◌, ◌≡◌}
+use Rattle.nit_screen.proofs.Basics.{Bool, Buffer, Call, CanShowBy, Close, Delivery, Destroy}
+use Rattle.nit_screen.proofs.Basics.{Device, Flat, Front, InputState, IsCopied, IsPartOf, IsQuiet}
+use Rattle.nit_screen.proofs.Basics.{IsServed, IsTrue, IsWord, IsWordOfSource, Kill, List, Mode}
+use Rattle.nit_screen.proofs.Basics.{None, Offset, Option, Painted, Painter, PixelSource, Pixels}
+use Rattle.nit_screen.proofs.Basics.{Place, Point, Rectangle, Refresh, Reply, Scenery, ServerModel}
+use Rattle.nit_screen.proofs.Basics.{Sight, Size, Some, StackModel, State, Take, Title, Upgrade}
+use Rattle.nit_screen.proofs.Basics.{View, Word, Xray, after, ap, arith, bar_rows, bar_word}
+use Rattle.nit_screen.proofs.Basics.{bare_word, black_or_word, buffer_size, cond, covering, dirty}
+use Rattle.nit_screen.proofs.Basics.{dirty_by_call, draws_labels, false, flat_same, flat_shown}
+use Rattle.nit_screen.proofs.Basics.{frame, in_bar, is_accepted, is_owned_by, is_session, is_some}
+use Rattle.nit_screen.proofs.Basics.{is_view, is_word_in, layer, length-frame, option_map_or}
+use Rattle.nit_screen.proofs.Basics.{or_from, owner, owner_word, pixel, pixel_count, rectangle}
+use Rattle.nit_screen.proofs.Basics.{refusal, renewed, scenery_of, session, set_same, shown}
+use Rattle.nit_screen.proofs.Basics.{shown_by, shown_index, shows_part, slice_index, source_of}
+use Rattle.nit_screen.proofs.Basics.{source_under, state_of, view_owns, wanted, with_delivered}
+use Rattle.nit_screen.proofs.Basics.{with_routed}
+use Rattle.std.proofs.Common.{length, refl, replicate, subst, sym, true, ℕ, ◌&&◌, ◌*◌, ◌<◌, ◌||◌}
+use Rattle.std.proofs.Common.{◌∙◌, ◌≡◌}
 use Rattle.nit_events.specs.declared.entry.Entry.TheVariants as entry
 use Rattle.nit_stack.specs.declared.view.View.{View as ViewOf}
 use Rattle.nit_screen.proofs.CleanCalls.{call_is_clean, stack_accepted}
@@ -293,18 +293,15 @@ pub can_still : {G : Type 0} (s s' : ServerModel) (p : Pixels G) (painter : Pain
     → CanShowBy s' (record p { painter = painter })
 can_still s s' p painter config most long words room_ h = record {
   words = words;
-  pixels = long ∙ h.pixels ∙ area;
-  few = let m = h.few in omega (arith, m, area);
-  spare = let m = h.spare in omega (arith, m, area);
+  pixels = rw config (long ∙ h.pixels);
+  few = rw config h.few;
+  spare = rw config h.spare;
   cuts = let m = h.cuts in omega (arith, m, most, room_);
-  named = h.named ∙ ap (λ (c : Configuration). map (λ m. m.label) c.clients) (sym config);
+  named = rw config h.named;
   placed = let m = h.placed in omega (arith, m, most);
-  bar = h.bar ∙ ap (λ (c : Configuration). c.width * bar_rows c) (sym config);
+  bar = rw config h.bar;
   fits = let m = h.fits in omega (arith, m, long);
 }
-  where
-    area : s.config.width * s.config.height ≡ s'.config.width * s'.config.height
-    area = ap (λ (c : Configuration). c.width * c.height) (sym config)
 
 -- and where nothing was loaded
 pub can_stay : {G : Type 0} (s s' : ServerModel) (p : Pixels G) → s'.config ≡ s.config

@@ -303,8 +303,7 @@ pub flat_kept : {G : Type 0} (before after' : ServerModel) (sid : ℕ) (call : C
     → (before.input.mode ≡ Flat → p.is_apart ≡ false) → after'.input.mode ≡ Flat → IsFrameOf before p
     → IsFrameOf after' (record p { painter = painter })
 flat_kept before after' sid call r glasses glasses' p painter chosen within other served some h long painted same one
-    flat
-    was =
+    flat was =
     subst (λ (b : Bool). cond b p.frame.items raw' ≡ frame (scenery_of (state_of after')) (raw_in b bar raw')) (sym is)
     (kept_served before after' sid call r glasses glasses' (unbarred bar raw) (unbarred bar raw') raw raw' chosen within
     other served

@@ -1,22 +1,20 @@
 -- An accepted call on a view changes that view alone in the stack.
-use Rattle.nit_screen.proofs.Basics.{Above, AllByRecursion, Back, Bool, Call}
-use Rattle.nit_screen.proofs.Basics.{Destroy, Front, IsNamedBy, IsOn, IsServed, IsServer}
-use Rattle.nit_screen.proofs.Basics.{IsViewChange, List, MeanSame, None, Offset, Option, Place, Put}
-use Rattle.nit_screen.proofs.Basics.{Put-above, Put-back, Put-front, Rectangle, Reply}
-use Rattle.nit_screen.proofs.Basics.{ServerModel, SlotView, Some, State}
-use Rattle.nit_screen.proofs.Basics.{ViewRef, [], after_accepted, agree_by, any_found, ap, bar_rows}
-use Rattle.nit_screen.proofs.Basics.{cond, dirty, dirty_by_call, false, find, find-map, find_moved}
-use Rattle.nit_screen.proofs.Basics.{found_passes, has_slot, inl, inr, is_accepted, is_named}
-use Rattle.nit_screen.proofs.Basics.{is_slot, is_view, layer, length-set, list_any, map-without}
-use Rattle.nit_screen.proofs.Basics.{moved, name_of, none_left, or_parts, pixel, place_changed}
-use Rattle.nit_screen.proofs.Basics.{place_of, position_or_len, put_above, put_back, put_front}
-use Rattle.nit_screen.proofs.Basics.{rectangle, refusal, same_Some, session, slot_owns_either}
-use Rattle.nit_screen.proofs.Basics.{slot_view_in, state_of, views_of, without, without_changed}
+use Rattle.nit_screen.proofs.Basics.{Above, AllByRecursion, Back, Bool, Call, Destroy, Front}
+use Rattle.nit_screen.proofs.Basics.{IsNamedBy, IsOn, IsServed, IsServer, IsViewChange, List}
+use Rattle.nit_screen.proofs.Basics.{MeanSame, None, Offset, Option, Place, Point, Put, Put-above}
+use Rattle.nit_screen.proofs.Basics.{Put-back, Put-front, Rectangle, Reply, ServerModel, SlotView}
+use Rattle.nit_screen.proofs.Basics.{Some, State, ViewRef, [], after_accepted, agree_by, any_found}
+use Rattle.nit_screen.proofs.Basics.{ap, bar_rows, cond, dirty, dirty_by_call, false, find}
+use Rattle.nit_screen.proofs.Basics.{find-map, find_moved, found_passes, has_slot, inl, inr}
+use Rattle.nit_screen.proofs.Basics.{is_accepted, is_named, is_slot, is_view, layer, length-set}
+use Rattle.nit_screen.proofs.Basics.{list_any, map-without, moved, name_of, none_left, or_parts}
+use Rattle.nit_screen.proofs.Basics.{owner_passes, owns_either, pixel, place_changed, place_of}
+use Rattle.nit_screen.proofs.Basics.{position_or_len, put_above, put_back, put_front, rectangle}
+use Rattle.nit_screen.proofs.Basics.{refusal, same_Some, session, slot_owns_either, slot_view_in}
+use Rattle.nit_screen.proofs.Basics.{state_of, view_owns, views_of, without, without_changed}
 use Rattle.nit_screen.proofs.Basics.{without_moved, without_none, without_same, without_view}
-use Rattle.nit_screen.proofs.Basics.{Point, owner_passes, owns_either, view_owns}
-use Rattle.std.proofs.Common.{length, not, option_map, refl, subst, sym, true, ℕ, ◌&&◌, ◌||◌, ◌+◌}
-use Rattle.std.proofs.Common.{◌<◌}
-use Rattle.std.proofs.Common.{◌==◌, ◌∙◌, ◌∷◌, ◌≡◌, ◌⊎◌}
+use Rattle.std.proofs.Common.{length, option_map, refl, subst, sym, true, ℕ, ◌&&◌, ◌||◌, ◌<◌, ◌==◌}
+use Rattle.std.proofs.Common.{◌∙◌, ◌∷◌, ◌≡◌, ◌⊎◌}
 use Rattle.nit_events.specs.declared.entry.Entry.TheVariants as entry
 use Rattle.nit_screen.proofs.StackPixels.{view_meant}
 use Rattle.nit_stack.specs.declared.view.View.{View as ViewOf}
@@ -28,19 +26,16 @@ use Rattle.nit_screen.proofs.CallAnswers.{unrefused_reply}
 same_place : (p q : SlotView → Bool) (xs : List SlotView) → AllByRecursion (λ x. p x ≡ q x) xs
     → position_or_len p xs ≡ position_or_len q xs
 same_place p q [] h = refl
-same_place p q (x ∷ xs) h =
-    ap (λ (b : Bool). cond (not b) (1 + position_or_len p xs) 0) h.0
-    ∙ ap (λ (n : ℕ). cond (not (q x)) (1 + n) 0) (same_place p q xs h.1)
+same_place p q (x ∷ xs) h = rw (h.0, same_place p q xs h.1)
 
 same_found : (p q : SlotView → Bool) (xs : List SlotView) → AllByRecursion (λ x. p x ≡ q x) xs → find p xs ≡ find q xs
 same_found p q [] h = refl
-same_found p q (x ∷ xs) h = ap (λ (b : Bool). cond b (Some x) (find p xs)) h.0
-    ∙ ap (λ (o : Option SlotView). cond (q x) (Some x) o) (same_found p q xs h.1)
+same_found p q (x ∷ xs) h = rw (h.0, same_found p q xs h.1)
 
 map_place : (p : ViewOf → Bool) (xs : List SlotView) → position_or_len (λ (s : SlotView). p s.view) xs
     ≡ position_or_len p (views_of xs)
 map_place p [] = refl
-map_place p (x ∷ xs) = ap (λ (n : ℕ). cond (not (p x.view)) (1 + n) 0) (map_place p xs)
+map_place p (x ∷ xs) = rw (map_place p xs)
 
 module _ (k sid handle : ℕ) (xs : List SlotView) (same : MeanSame k sid handle xs) where
   left_by_name : views_of (without (is_slot k) xs) ≡ without (is_view sid handle) (views_of xs)
@@ -65,9 +60,7 @@ pub record Changes (sid handle : ℕ) (before now : List ViewOf) : Type 0 where
 
 nothing : {A : Type 0} (is : A → Bool) (xs : List A) → list_any is xs ≡ false → find is xs ≡ None
 nothing is [] h = refl
-nothing is (x ∷ xs) h = let parts =
-    or_parts (is x) (list_any is xs) h in ap (λ (b : Bool). cond b (Some x) (find is xs)) parts.0
-    ∙ nothing is xs parts.1
+nothing is (x ∷ xs) h = let parts = or_parts (is x) (list_any is xs) h in rw (parts.0, nothing is xs parts.1)
 
 module _ (layers : ℕ → ℕ) (sid : ℕ) (stack : List ViewOf) (r : Reply) where
   moves : (v : ℕ) (put : ViewOf → List ViewOf → List ViewOf) → ((a : ViewOf) (xs : List ViewOf) → Put a xs (put a xs))
@@ -80,29 +73,29 @@ module _ (layers : ℕ → ℕ) (sid : ℕ) (stack : List ViewOf) (r : Reply) wh
 
   pub changes : (v : ℕ) (call : Call) → IsOn v call → Changes sid v stack (after_accepted layers sid call r stack)
   changes v (Place u x y w h) on =
-      subst (λ (n : ℕ). Changes sid n stack (after_accepted layers sid (Place u x y w h) r stack)) on record {
+      rw (← on) record {
         left = without_changed (is_view sid u) (λ view. record view { rect = rectangle x y w h }) (λ a. refl) stack;
         kept = inr (inl (place_changed (is_view sid u) (λ view. record view { rect = rectangle x y w h }) (λ a. refl)
             stack));
       }
   changes v (Offset u ox oy) on =
-      subst (λ (n : ℕ). Changes sid n stack (after_accepted layers sid (Offset u ox oy) r stack)) on record {
+      rw (← on) record {
         left = without_changed (is_view sid u) (λ view. record view { ox = ox; oy = oy }) (λ a. refl) stack;
         kept = inr (inl (place_changed (is_view sid u) (λ view. record view { ox = ox; oy = oy }) (λ a. refl) stack));
       }
-  changes v (Front u) on = subst (λ (n : ℕ). Changes sid n stack (after_accepted layers sid (Front u) r stack)) on
+  changes v (Front u) on = rw (← on)
       (moves u (put_front (λ view. layers view.sid) (layers sid))
       (λ a xs. Put-front (λ (view : ViewOf). layers view.sid) (layers sid) a xs))
-  changes v (Back u) on = subst (λ (n : ℕ). Changes sid n stack (after_accepted layers sid (Back u) r stack)) on
+  changes v (Back u) on = rw (← on)
       (moves u (put_back (λ view. layers view.sid) (layers sid))
       (λ a xs. Put-back (λ (view : ViewOf). layers view.sid) (layers sid) a xs))
-  changes v (Above u n) on = subst (λ (m : ℕ). Changes sid m stack (after_accepted layers sid (Above u n) r stack)) on
+  changes v (Above u n) on = rw (← on)
       (go (u == n))
     where
       go : (b : Bool) → Changes sid u stack (cond b stack (moved (is_view sid u) (put_above (is_view sid n)) stack))
       go true = record { left = refl; kept = inl refl }
       go false = moves u (put_above (is_view sid n)) (λ a xs. Put-above (is_view sid n) a xs)
-  changes v (Destroy u) on = subst (λ (n : ℕ). Changes sid n stack (after_accepted layers sid (Destroy u) r stack)) on
+  changes v (Destroy u) on = rw (← on)
       record {
         left = without_none (is_view sid u) (without (is_view sid u) stack) (none_left (is_view sid u) stack);
         kept = inr (inr (nothing (is_view sid u) (without (is_view sid u) stack) (none_left (is_view sid u) stack)));
@@ -167,12 +160,12 @@ change_of_call before after' sid handle k call r seat hb ha none s on by there =
 -- a call on a view makes dirty what the view owned before or owns after it
 made_dirty : (sid handle : ℕ) (before after' : State) (p : Point) (call : Call) → IsOn handle call
     → owns_either sid handle before after' p ≡ dirty_by_call sid call before after' p
-made_dirty sid handle before after' p (Place v x y w h) on = ap (λ (n : ℕ). owns_either sid n before after' p) (sym on)
-made_dirty sid handle before after' p (Offset v ox oy) on = ap (λ (n : ℕ). owns_either sid n before after' p) (sym on)
-made_dirty sid handle before after' p (Front v) on = ap (λ (n : ℕ). owns_either sid n before after' p) (sym on)
-made_dirty sid handle before after' p (Back v) on = ap (λ (n : ℕ). owns_either sid n before after' p) (sym on)
-made_dirty sid handle before after' p (Above v n) on = ap (λ (m : ℕ). owns_either sid m before after' p) (sym on)
-made_dirty sid handle before after' p (Destroy v) on = ap (λ (n : ℕ). owns_either sid n before after' p) (sym on)
+made_dirty sid handle before after' p (Place v x y w h) on = rw on
+made_dirty sid handle before after' p (Offset v ox oy) on = rw on
+made_dirty sid handle before after' p (Front v) on = rw on
+made_dirty sid handle before after' p (Back v) on = rw on
+made_dirty sid handle before after' p (Above v n) on = rw on
+made_dirty sid handle before after' p (Destroy v) on = rw on
 made_dirty sid handle before after' p other on = absurd on
 
 -- the pixels of a change are those that the entry makes dirty

@@ -1,9 +1,7 @@
 -- Calls that make nothing dirty paint nothing.
 use Rattle.std.proofs.Common.{List, false, refl, ℕ, ◌≡◌}
-use Rattle.nit_screen.proofs.Basics.{Call, IsClean}
-use Rattle.nit_screen.proofs.Basics.{IsQuiet, Painted, Point, Reply, Sight}
-use Rattle.nit_screen.proofs.Basics.{State, Take, Title, Upgrade, View, dirty, dirty_by_call}
-use Rattle.nit_screen.proofs.Basics.{is_accepted}
+use Rattle.nit_screen.proofs.Basics.{Call, IsClean, IsQuiet, Painted, Point, Reply, Sight, State}
+use Rattle.nit_screen.proofs.Basics.{Take, Title, Upgrade, View, dirty, dirty_by_call, is_accepted}
 use Rattle.nit_events.specs.declared.entry.Entry.TheVariants as entry
 use Rattle.nit_screen.proofs.CleanCalls.{right_fails}
 use Rattle.nit_screen.proofs.ScreenLemmas.{unpainted}

@@ -1,13 +1,13 @@
 -- The raw words of a list that has the bar in its first words.
-use Rattle.nit_screen.proofs.Basics.{All, All-append, All-drop, All-replicate, Bare, Bool}
-use Rattle.nit_screen.proofs.Basics.{Configuration, IsWord, List, None, ServerModel, State, ap}
-use Rattle.nit_screen.proofs.Basics.{arith, bar_rows, bare_word, buffer_size, cond, covering, drop}
-use Rattle.nit_screen.proofs.Basics.{ext_get_or, false, false≢true, get_or, get_or-append_right}
-use Rattle.nit_screen.proofs.Basics.{get_or-drop, get_or-replicate, get_or_append_left, in_bar}
-use Rattle.nit_screen.proofs.Basics.{ints, length, length-append, length-drop, length-replicate}
-use Rattle.nit_screen.proofs.Basics.{mul-le-mul_right, nat_lt, nat_tests, pixel, raw_in, refl}
-use Rattle.nit_screen.proofs.Basics.{replicate, rows, slice_index, source_at, source_under, subst}
-use Rattle.nit_screen.proofs.Basics.{suc, sym, true, unbarred}
+use Rattle.nit_screen.proofs.Basics.{All, All-append, All-drop, All-replicate, Bare, Bool, IsWord}
+use Rattle.nit_screen.proofs.Basics.{List, None, ServerModel, State, ap, arith, bar_rows, bare_word}
+use Rattle.nit_screen.proofs.Basics.{buffer_size, cond, covering, drop, ext_get_or, false}
+use Rattle.nit_screen.proofs.Basics.{false≢true, get_or, get_or-append_right, get_or-drop}
+use Rattle.nit_screen.proofs.Basics.{get_or-replicate, get_or_append_left, in_bar, ints, length}
+use Rattle.nit_screen.proofs.Basics.{length-append, length-drop, length-replicate, mul-le-mul_right}
+use Rattle.nit_screen.proofs.Basics.{nat_lt, nat_tests, pixel, raw_in, refl, replicate, rows}
+use Rattle.nit_screen.proofs.Basics.{slice_index, source_at, source_under, subst, suc, sym, true}
+use Rattle.nit_screen.proofs.Basics.{unbarred}
 use Rattle.std.proofs.Common.{ℕ, ◌%◌, ◌*◌, ◌+◌, ◌-◌, ◌/◌, ◌<◌, ◌∙◌, ◌≡◌, ◌≤◌}
 use Rattle.nit_stack.specs.declared.view.View.{View as ViewOf}
 
@@ -90,4 +90,4 @@ bar_is_bare s k l =
 -- as many pixels, where the configuration stays
 pub bar_kept : (s s' : ServerModel) (bar : ℕ) → s'.config ≡ s.config → bar ≡ s.config.width * bar_rows s.config
     → bar ≡ s'.config.width * bar_rows s'.config
-bar_kept s s' bar same is = is ∙ ap (λ (c : Configuration). c.width * bar_rows c) (sym same)
+bar_kept s s' bar same is = rw same is

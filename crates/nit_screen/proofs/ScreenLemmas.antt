@@ -1,13 +1,12 @@
 -- What a call does to a screen.
-use Rattle.nit_screen.proofs.Basics.{Bool, Call, Configuration, Entry, HoldBuffers, IsGlassOf}
-use Rattle.nit_screen.proofs.Basics.{IsServed, IsServer, List, Painted, Point, Repainted, Reply}
-use Rattle.nit_screen.proofs.Basics.{ServerModel, Sight, State, ap, cond, dirty, dirty_by_call}
-use Rattle.nit_screen.proofs.Basics.{eqb-true, false, glass_in, glasses_of_call, is_accepted}
-use Rattle.nit_screen.proofs.Basics.{length, length-map, member, no_sight, pixel, pixel_count, refl}
-use Rattle.nit_screen.proofs.Basics.{repainted_none, repainted_same, seen, session_in}
-use Rattle.nit_screen.proofs.Basics.{size_of_buffer, slice_index_or, source_at, state_of}
-use Rattle.nit_screen.proofs.Basics.{table_size, word_count}
-use Rattle.std.proofs.Common.{subst, sym, true, ℕ, ◌&&◌, ◌*◌, ◌<◌, ◌==◌, ◌∙◌, ◌≡◌, ◌≤◌}
+use Rattle.nit_screen.proofs.Basics.{Bool, Call, Entry, HoldBuffers, IsGlassOf, IsServed, IsServer}
+use Rattle.nit_screen.proofs.Basics.{List, Painted, Point, Repainted, Reply, ServerModel, Sight}
+use Rattle.nit_screen.proofs.Basics.{State, ap, cond, dirty, dirty_by_call, eqb-true, false}
+use Rattle.nit_screen.proofs.Basics.{glass_in, glasses_of_call, is_accepted, length, length-map}
+use Rattle.nit_screen.proofs.Basics.{member, no_sight, pixel, pixel_count, refl, repainted_none}
+use Rattle.nit_screen.proofs.Basics.{repainted_same, seen, size_of_buffer, slice_index_or}
+use Rattle.nit_screen.proofs.Basics.{source_at, state_of, table_size, word_count}
+use Rattle.std.proofs.Common.{subst, true, ℕ, ◌&&◌, ◌<◌, ◌==◌, ◌∙◌, ◌≡◌}
 use Rattle.nit_events.specs.declared.entry.Entry.TheVariants as entry
 use Rattle.nit_paint.specs.Pieces as pieces
 use Rattle.nit_screen.proofs.StackPixels.{size_at, source_of_number}
@@ -34,15 +33,10 @@ pub holds : (s : ServerModel) (glasses : ℕ → Sight) (count : ℕ) → IsServ
     → ((t : ℕ) → t < length s.config.clients → (glasses t).size ≡ table_size (member s.config t).donation)
     → HoldBuffers s.stack count glasses
 holds s glasses count h count_ sizes_ = λ t l.
-    let sessions_ : t < length s.sessions =
-    subst (λ (n : ℕ). t < n) (ap length h.sizes ∙ length-map s.sessions size_of_buffer) l in
-    let clients_ : t < length s.config.clients = subst (λ (n : ℕ). t < n) h.each sessions_ in
-    let words = ap word_count (size_at s h t) in (
-      subst (λ (n : ℕ). t < n) (sym count_) clients_,
-      subst (λ (n : ℕ). n ≤ (glasses t).size) (sym words)
-          (subst (λ (n : ℕ). (session_in s.sessions t).bw * (session_in s.sessions t).bh ≤ n) (sym (sizes_ t clients_))
-          (h.within t sessions_)),
-    )
+    let sessions_ = rw (ap length h.sizes ∙ length-map s.sessions size_of_buffer) at l in
+    let clients_ = rw h.each at sessions_ in
+    let words = ap word_count (size_at s h t) in
+    (rw count_ clients_, rw (words, sizes_ t clients_) (h.within t sessions_))
 
 pub held_by_glasses : (before after' : ServerModel) (sights : List Sight) (count sid : ℕ) (own : Sight)
     → IsServer after' → after'.config ≡ before.config
@@ -50,10 +44,8 @@ pub held_by_glasses : (before after' : ServerModel) (sights : List Sight) (count
     → ((t : ℕ) → t < length before.config.clients → IsGlassOf before t (glass_in sights t)) → IsGlassOf before sid own
     → HoldBuffers after'.stack count (glasses_of_call sights sid own)
 held_by_glasses before after' sights count sid own h config_ count_ tables own_ =
-    holds after' (glasses_of_call sights sid own) count h
-    (count_ ∙ ap (λ (c : Configuration). length c.clients) (sym config_))
-    (λ t l. glass_size t (subst (λ (c : Configuration). t < length c.clients) config_ l)
-    ∙ ap (λ (c : Configuration). table_size (member c t).donation) (sym config_))
+    holds after' (glasses_of_call sights sid own) count h (rw config_ count_)
+    (λ t l. rw config_ (glass_size t (rw config_ at l)))
   where
     glass_size : (t : ℕ) → t < length before.config.clients → (glasses_of_call sights sid own t).size
         ≡ table_size (member before.config t).donation
@@ -61,7 +53,7 @@ held_by_glasses before after' sights count sid own h config_ count_ tables own_ 
       where
         go : (b : Bool) → (t == sid) ≡ b → (cond b own (slice_index_or sights t no_sight)).size
             ≡ table_size (member before.config t).donation
-        go true e = own_.1 ∙ ap (λ (n : ℕ). table_size (member before.config n).donation) (sym (eqb-true t sid e))
+        go true e = rw (eqb-true t sid e) own_.1
         go false e = (tables t l).1
 
 -- all pixels loaded again are those of the last picture
@@ -82,16 +74,14 @@ pub tables_kept : (before after' : ServerModel) (sights sights' : List Sight) (s
     → ((t : ℕ) → t < length before.config.clients → IsGlassOf before t (glass_in sights t)) → (t : ℕ)
     → t < length after'.config.clients → IsGlassOf after' t (glass_in sights' t)
 tables_kept before after' sights sights' sid own own' loads config_ seen_ idle_ tables t l =
-    let l' = subst (λ (c : Configuration). t < length c.clients) config_ l in
-    let old = tables t l' in
-    let to = ap (λ (c : Configuration). table_size (member c t).donation) (sym config_) in
-    go (t == sid) refl old.0 (old.1 ∙ to)
+    let old = tables t (rw config_ at l) in
+    go (t == sid) refl old.0 (rw config_ old.1)
   where
     go : (b : Bool) → (t == sid) ≡ b → (glass_in sights t).owner ≡ t
         → (glass_in sights t).size ≡ table_size (member after'.config t).donation
         → IsGlassOf after' t (glass_in sights' t)
-    go true e o z = let is = eqb-true t sid e in let kept = ap (glass_in sights') is ∙ idle_
-        ∙ sym (ap (glass_in sights) is) in (ap (λ (x : Sight). x.owner) kept ∙ o, ap (λ (x : Sight). x.size) kept ∙ z)
+    go true e o z =
+        let kept : glass_in sights' t ≡ glass_in sights t = rw (eqb-true t sid e) idle_ in (rw kept o, rw kept z)
     go false e o z =
         let kept = subst (λ (b : Bool). cond b own' (slice_index_or sights' t no_sight)
         ≡ seen (cond b own (slice_index_or sights t no_sight)) (loads t)) e (seen_ t) in

@@ -1,10 +1,8 @@
 -- A call that draws the views of a session makes their pixels dirty, and paints them.
-use Rattle.nit_screen.proofs.Basics.{Buffer, Call, IsPartOf}
-use Rattle.nit_screen.proofs.Basics.{IsServed, IsServer, Point, Rectangle, Refresh}
-use Rattle.nit_screen.proofs.Basics.{Reply, ServerModel, State}
-use Rattle.nit_screen.proofs.Basics.{all_of_session, dirty, dirty_by_call, is_accepted}
-use Rattle.nit_screen.proofs.Basics.{part_of_session, pixel, rectangle, refusal, session, state_of}
-use Rattle.nit_screen.proofs.Basics.{wanted}
+use Rattle.nit_screen.proofs.Basics.{Buffer, Call, IsPartOf, IsServed, IsServer, Point, Rectangle}
+use Rattle.nit_screen.proofs.Basics.{Refresh, Reply, ServerModel, State, all_of_session, dirty}
+use Rattle.nit_screen.proofs.Basics.{dirty_by_call, is_accepted, part_of_session, pixel, rectangle}
+use Rattle.nit_screen.proofs.Basics.{refusal, session, state_of, wanted}
 use Rattle.std.proofs.Common.{Bool, None, Option, ap, sym, ℕ, ◌&&◌, ◌∙◌, ◌≡◌}
 use Rattle.nit_events.specs.declared.entry.Entry.TheVariants as entry
 use Rattle.nit_screen.proofs.StackPixels.{part_meant, session_meant}

@@ -10,45 +10,36 @@ paint_session-requires g c =
     c.accept-reply.ensures c.self.invariant c.make_one.ensures.shown can in
     record { room = rw is paint.room; pixels = rw is paint.pixels; held = rw is paint.held }
 
-pub show_part-requires-clause-can : goal.show_part-requires-clause-can
-show_part-requires-clause-can g c =
+pub show_part-requires : goal.show_part-requires
+show_part-requires g c =
     let can = rw (← c.self.view_is) at c.requires.can in
     let made = c.make_one.ensures in
     let e = c.paint_session.ensures in
-    (part_call g.G.Glass.sight g.G.Glass.rest g.C.Glass.sight g.C.Glass.rest c.args.own.now c.paint_session.new.own
-    c.paint_session.new.self c.facts.ensures c.stack-stack.ensures.facts can c.accept-reply.ensures c.self.invariant
-    made.shown made.one c.stack-stack.ensures.stack e.room e.count e.idle e.rest e.rests c.args.part.now c.requires.on
-    e.painted).0
-
-pub show_part-requires-clause-apart : goal.show_part-requires-clause-apart
-show_part-requires-clause-apart g c =
-    let can = rw (← c.self.view_is) at c.requires.can in
-    let made = c.make_one.ensures in
-    let e = c.paint_session.ensures in
-    (part_call g.G.Glass.sight g.G.Glass.rest g.C.Glass.sight g.C.Glass.rest c.args.own.now c.paint_session.new.own
-    c.paint_session.new.self c.facts.ensures c.stack-stack.ensures.facts can c.accept-reply.ensures c.self.invariant
-    made.shown made.one c.stack-stack.ensures.stack e.room e.count e.idle e.rest e.rests c.args.part.now c.requires.on
-    e.painted).1
+    let done = part_call g.G.Glass.sight g.G.Glass.rest g.C.Glass.sight g.C.Glass.rest c.args.own.now
+    c.paint_session.new.own c.paint_session.new.self c.facts.ensures c.stack-stack.ensures.facts can
+    c.accept-reply.ensures c.self.invariant made.shown made.one c.stack-stack.ensures.stack e.room e.count e.idle e.rest
+    e.rests c.args.part.now c.requires.on e.painted in
+    record { can = done.0; apart = done.1 }
 
 pub invariant_of-self : goal.invariant_of-self
 invariant_of-self g c =
     let can = rw (← c.self.view_is) at c.requires.can in
     let made = c.make_one.ensures in
     let e = c.paint_session.ensures in
-    (((part_call g.G.Glass.sight g.G.Glass.rest g.C.Glass.sight g.C.Glass.rest c.args.own.now c.paint_session.new.own
+    ((part_call g.G.Glass.sight g.G.Glass.rest g.C.Glass.sight g.C.Glass.rest c.args.own.now c.paint_session.new.own
     c.paint_session.new.self c.facts.ensures c.stack-stack.ensures.facts can c.accept-reply.ensures c.self.invariant
     made.shown made.one c.stack-stack.ensures.stack e.room e.count e.idle e.rest e.rests c.args.part.now c.requires.on
     e.painted).2
-    c.show_part.new.self c.show_part.ensures.flat c.show_part.ensures.labelled)).0
+    c.show_part.new.self c.show_part.ensures.flat c.show_part.ensures.labelled).0
 
 pub returns : goal.returns
 returns g c =
     let can = rw (← c.self.view_is) at c.requires.can in
     let made = c.make_one.ensures in
     let e = c.paint_session.ensures in
-    rw (← c.self.view_is) (((part_call g.G.Glass.sight g.G.Glass.rest g.C.Glass.sight g.C.Glass.rest c.args.own.now
-    c.paint_session.new.own
-    c.paint_session.new.self c.facts.ensures c.stack-stack.ensures.facts can c.accept-reply.ensures c.self.invariant
+    rw (← c.self.view_is) ((part_call g.G.Glass.sight g.G.Glass.rest g.C.Glass.sight g.C.Glass.rest c.args.own.now
+    c.paint_session.new.own c.paint_session.new.self c.facts.ensures c.stack-stack.ensures.facts can
+    c.accept-reply.ensures c.self.invariant
     made.shown made.one c.stack-stack.ensures.stack e.room e.count e.idle e.rest e.rests c.args.part.now c.requires.on
     e.painted).2
-    c.show_part.new.self c.show_part.ensures.flat c.show_part.ensures.labelled)).1
+    c.show_part.new.self c.show_part.ensures.flat c.show_part.ensures.labelled).1

@@ -29,13 +29,13 @@ invariant_of-self g c =
     let made = c.make_one.ensures in
     let view_before = c.view_before-was.ensures in
     let e = c.paint_changed.ensures in
-    (((view_call g.G.Glass.sight g.G.Glass.rest g.C.Glass.sight g.C.Glass.rest c.args.own.now c.paint_changed.new.own
+    ((view_call g.G.Glass.sight g.G.Glass.rest g.C.Glass.sight g.C.Glass.rest c.args.own.now c.paint_changed.new.own
     c.paint_changed.new.self c.facts.ensures c.stack-stack.ensures.facts can c.accept-reply.ensures c.self.invariant
     made.shown made.one c.stack-stack.ensures.stack e.room e.count e.idle e.rest e.rests c.args.handle
     c.view_before-was.result.view c.view_before-was.result.place c.view_before-was.result.rect c.requires.on
     view_before.named view_before.place
     view_before.seat e.painted).1
-    c.show_views.new.self c.show_views.ensures.flat c.show_views.ensures.labelled)).0
+    c.show_views.new.self c.show_views.ensures.flat c.show_views.ensures.labelled).0
 
 pub returns : goal.returns
 returns g c =
@@ -43,11 +43,11 @@ returns g c =
     let made = c.make_one.ensures in
     let view_before = c.view_before-was.ensures in
     let e = c.paint_changed.ensures in
-    rw (← c.self.view_is) (((view_call g.G.Glass.sight g.G.Glass.rest g.C.Glass.sight g.C.Glass.rest c.args.own.now
-    c.paint_changed.new.own
-    c.paint_changed.new.self c.facts.ensures c.stack-stack.ensures.facts can c.accept-reply.ensures c.self.invariant
+    rw (← c.self.view_is) ((view_call g.G.Glass.sight g.G.Glass.rest g.C.Glass.sight g.C.Glass.rest c.args.own.now
+    c.paint_changed.new.own c.paint_changed.new.self c.facts.ensures c.stack-stack.ensures.facts can
+    c.accept-reply.ensures c.self.invariant
     made.shown made.one c.stack-stack.ensures.stack e.room e.count e.idle e.rest e.rests c.args.handle
     c.view_before-was.result.view c.view_before-was.result.place c.view_before-was.result.rect c.requires.on
     view_before.named view_before.place
     view_before.seat e.painted).1
-    c.show_views.new.self c.show_views.ensures.flat c.show_views.ensures.labelled)).1
+    c.show_views.new.self c.show_views.ensures.flat c.show_views.ensures.labelled).1

@@ -29,6 +29,5 @@ returns g c =
     let e = c.take_views_away.ensures in
     let can = rw (← c.self.view_is) at c.requires in
     rw (← c.self.view_is) ((close_call _ c.facts.ensures c.facts-2.ensures can c.self.invariant e.session e.left
-    c.end_session.ensures
-    e.painted).1
+    c.end_session.ensures e.painted).1
     c.redraw.new.self c.redraw.ensures).1

@@ -39,27 +39,18 @@ views-preserved-then-view-of g c =
       painted = i.painted;
     }
 
-pub paint_changed-requires-clause-room : goal.paint_changed-requires-clause-room
-paint_changed-requires-clause-room g c =
+pub paint_changed-requires : goal.paint_changed-requires
+paint_changed-requires g c =
     let i = c.views.invariant in
     let mid = c.views.server in
+    let next = c.remove_view.new.self in
     let by = rw c.if-view-of.false at c.seated-view.ensures.named in
     let can = can_paint_rest _ _ _ _ c.args.of c.views.i c.args.sid c.args.server.now.stack mid.stack _ _ _ _ _ _
-    i.taken
-    i.painted c.requires.can in
-    rw c.stack.ensures.stack (can_paint_gone _ mid.stack c.remove_view.new.self.stack c.seated-view.result.0.0 _
-    (gone_by_slot mid c.remove_view.new.self c.args.of _ _ by c.remove_view.ensures) can).room
-
-pub paint_changed-requires-clause-held : goal.paint_changed-requires-clause-held
-paint_changed-requires-clause-held g c =
-    let i = c.views.invariant in
-    let mid = c.views.server in
-    let by = rw c.if-view-of.false at c.seated-view.ensures.named in
-    let can = can_paint_rest _ _ _ _ c.args.of c.views.i c.args.sid c.args.server.now.stack mid.stack _ _ _ _ _ _
-    i.taken
-    i.painted c.requires.can in
-    rw c.stack.ensures.stack (can_paint_gone _ mid.stack c.remove_view.new.self.stack c.seated-view.result.0.0 _
-    (gone_by_slot mid c.remove_view.new.self c.args.of _ _ by c.remove_view.ensures) can).held
+    i.taken i.painted c.requires.can in
+    let gone = can_paint_gone _ mid.stack next.stack c.seated-view.result.0.0 _
+    (gone_by_slot mid next c.args.of _ _ by c.remove_view.ensures) can in
+    let is = c.stack.ensures.stack in
+    record { room = rw is gone.room; pixels = rw is gone.pixels; held = rw is gone.held }
 
 -- the view at the place goes
 pub views-preserved : goal.views-preserved
@@ -78,8 +69,8 @@ views-preserved g c =
     now (within _ _ c.views-test.true i.taken.within) in
     let change : IsViewChange k (c.views.i - 1) view.rect mid.stack next.stack =
     gone_change mid.stack next.stack k (c.views.i - 1) view by.slots
-    (seat_here mid.stack.views (c.views.i - 1) _ by.slots
-    at) (sym (place_is mid.stack.views (c.views.i - 1) _ by.slots at)) now in
+    (seat_here mid.stack.views (c.views.i - 1) _ by.slots at)
+    (sym (place_is mid.stack.views (c.views.i - 1) _ by.slots at)) now in
     record {
       taken = taken_more c.args.of (c.views.i - 1) c.args.server.now.stack mid.stack next.stack first gone;
       left = ap (without_views c.args.of) c.remove_view.ensures ∙ one_less c.args.of view.handle mid i.session ∙ i.left;

@@ -18,8 +18,8 @@ returns g c =
     let is = c.stack-2.ensures.stack in
     let screen = c.facts.ensures.screen in
     let e = c.show_session.ensures in
-    let back = written p.frame.len c.show_session.new.frame p.frame.items (e.shown.count ∙ c.as_mut_slice.ensures.len)
-    in
+    let back = written p.frame.len c.show_session.new.frame p.frame.items
+    (e.shown.count ∙ c.as_mut_slice.ensures.len) in
     let shown = part_shown c.args.server.now c.stack-2.result.now _ c.args.of c.args.part.now p.painter.raw.items
     c.as_mut_slice.result.now c.show_session.new.frame is
     (λ i. record {
