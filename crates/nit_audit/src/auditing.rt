@@ -1,13 +1,12 @@
 //! The audit.
 
 ghost use Rattle.std.specs.Prelude.{◌≡◌, ◌≢◌, ℕ, ◌<◌, ◌≤◌, ◌↔◌, ◌⊎◌, ◌+◌, [], length, map};
-ghost use Rattle.nit_audit.specs.Terms.{CanAudit, CanReplay, Does, IfOk, IsConfiguration};
-ghost use Rattle.nit_audit.specs.Terms.{IsDevice, IsFollowing, IsGone, IsGood, IsLegal, IsNext};
-ghost use Rattle.nit_audit.specs.Terms.{IsNothingLeft, IsReplay, IsTrue};
-ghost use Rattle.nit_audit.specs.Terms.{IsVerdict, IsWhole, Ok, Shoots, alone, audited};
-ghost use Rattle.nit_audit.specs.Terms.{calls_to_make, donation_of, first_audited, left, most_read};
-ghost use Rattle.nit_audit.specs.Terms.{next_phase, projection, replies_to, slice_set, to_do};
-ghost use Rattle.nit_audit.specs.Terms.{user_actions_to_do};
+ghost use Rattle.nit_audit.specs.Terms.{CanAudit, CanReplay, Does, IfOk, IsConfiguration, IsDevice};
+ghost use Rattle.nit_audit.specs.Terms.{IsFollowing, IsGone, IsGood, IsLegal, IsNext};
+ghost use Rattle.nit_audit.specs.Terms.{IsNothingLeft, IsReplay, IsTrue, IsVerdict, IsWhole, Ok};
+ghost use Rattle.nit_audit.specs.Terms.{Shoots, alone, audited, calls_to_make, donation_of};
+ghost use Rattle.nit_audit.specs.Terms.{first_audited, left, most_read, next_phase, projection};
+ghost use Rattle.nit_audit.specs.Terms.{replies_to, slice_set, to_do, user_actions_to_do};
 ghost use Rattle.nit_events.specs.declared.entry.Entry.TheVariants as entry;
 
 use crate::client_course::ClientCourse;

@@ -62,9 +62,10 @@ pub use Rattle.std.proofs.lemmas.List.{take_more}
 pub use Rattle.std.proofs.lemmas.List.Edits.{map_over_more}
 pub use Rattle.std.proofs.lemmas.List.Elements.{filter-append}
 pub use Rattle.std.proofs.lemmas.List.FromFn.{get_or-map-range_with_len}
-pub use Rattle.std.proofs.lemmas.List.Sorted.{IsNonDecreasingBy-push, IsNonDecreasingBy-take}
+pub use Rattle.std.proofs.lemmas.List.Sorted.{IsNonDecreasingBy-push, IsNonDecreasingBy-short}
+pub use Rattle.std.proofs.lemmas.List.Sorted.{IsNonDecreasingBy-take}
 pub use Rattle.std.proofs.lemmas.List.Sums.{count_by-le-length, count_by_more_no, count_by_more_yes}
-pub use Rattle.std.proofs.lemmas.List.Sums.{sum_by-cons, sum_by-set}
+pub use Rattle.std.proofs.lemmas.List.Sums.{length-filter, sum_by-cons, sum_by-set}
 pub use Rattle.std.proofs.lemmas.Option.{get_or_from_slice_get, none-some, same_Some}
 pub use Rattle.std.proofs.lemmas.Option.{slice_get-get_or, slice_get-map, slice_get_read}
 pub use Rattle.std.proofs.lemmas.Option.{slice_get_within}

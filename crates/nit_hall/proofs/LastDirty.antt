@@ -47,37 +47,52 @@ none_behind (x ∷ xs) e rest h = cc
 pub not_both : (b : Bool) → b ≡ true → b ≡ false → ⊥
 not_both b is not = cc
 
--- where an entry makes the pixel dirty it is the last one behind which nothing stands
-pub last_is_last : (config : Configuration) (journal : List Entry) (e : Entry) (k : ℕ) (front : List Entry) (f : Entry)
-    (rest : List Entry) → is_dirtied config journal e k ≡ true
-    → IsLastDirtied config (journal ++ e ∷ []) k front f rest → (front ≡ journal) × (f ≡ e) × (rest ≡ [])
-last_is_last config journal e k front f rest is last = elim (places front f rest journal e [] (sym last.split)) [
-  | same a b c ↦ (a, b, c)
-  | behind less a b ↦ absurd (not_both (is_dirtied config journal e k) is
-      (subst (λ (js : List Entry). is_dirtied config js e k ≡ false) (sym b) (last.clean_behind less e [] a)))
-  | before less a b ↦ absurd (none_behind less f rest a)
-]
+module _ (config : Configuration) (journal : List Entry) (e : Entry) (k : ℕ) (front : List Entry) (f : Entry)
+    (rest : List Entry) where
+  -- where an entry makes the pixel dirty it is the last one behind which nothing stands
+  pub last_is_last : is_dirtied config journal e k ≡ true
+      → IsLastDirtied config (journal ++ e ∷ []) k front f rest → (front ≡ journal) × (f ≡ e) × (rest ≡ [])
+  last_is_last is last = elim (places front f rest journal e [] (sym last.split)) [
+    | same a b c ↦ (a, b, c)
+    | behind less a b ↦ absurd (not_both (is_dirtied config journal e k) is
+        (subst (λ (js : List Entry). is_dirtied config js e k ≡ false) (sym b) (last.clean_behind less e [] a)))
+    | before less a b ↦ absurd (none_behind less f rest a)
+  ]
 
--- where an entry leaves the pixel clean, the last one that made it dirty stands in front of it
-pub last_before : (config : Configuration) (journal : List Entry) (e : Entry) (k : ℕ) (front : List Entry) (f : Entry)
-    (rest : List Entry) → is_dirtied config journal e k ≡ false
-    → IsLastDirtied config (journal ++ e ∷ []) k front f rest → (less : List Entry)
-    × IsLastDirtied config journal k front f less
-last_before config journal e k front f rest clean last = elim (places front f rest journal e [] (sym last.split)) [
-  | same a b c ↦ absurd (not_both (is_dirtied config front f k) last.dirty_here
-      (ap₂ (λ (js : List Entry) (x : Entry). is_dirtied config js x k) a b ∙ clean))
-  | behind less a b ↦ (
-    less,
-    record {
-      split = b;
-      dirty_here = last.dirty_here;
-      clean_behind = λ between g more at.
-          last.clean_behind between g (more ++ e ∷ []) (a ∙ ap (λ (xs : List Entry). xs ++ e ∷ []) at
-          ∙ append_assoc between (g ∷ more) (e ∷ []));
-    },
-  )
-  | before less a b ↦ absurd (none_behind less f rest a)
-]
+  -- where an entry leaves the pixel clean, the last one that made it dirty stands in front of it
+  pub last_before : is_dirtied config journal e k ≡ false
+      → IsLastDirtied config (journal ++ e ∷ []) k front f rest → (less : List Entry)
+      × IsLastDirtied config journal k front f less
+  last_before clean last = elim (places front f rest journal e [] (sym last.split)) [
+    | same a b c ↦ absurd (not_both (is_dirtied config front f k) last.dirty_here
+        (ap₂ (λ (js : List Entry) (x : Entry). is_dirtied config js x k) a b ∙ clean))
+    | behind less a b ↦ (
+      less,
+      record {
+        split = b;
+        dirty_here = last.dirty_here;
+        clean_behind = λ between g more at.
+            last.clean_behind between g (more ++ e ∷ []) (a ∙ ap (λ (xs : List Entry). xs ++ e ∷ []) at
+            ∙ append_assoc between (g ∷ more) (e ∷ []));
+      },
+    )
+    | before less a b ↦ absurd (none_behind less f rest a)
+  ]
+
+  -- and stays the last one then
+  last_more : is_dirtied config journal e k ≡ false → IsLastDirtied config journal k front f rest
+      → IsLastDirtied config (journal ++ e ∷ []) k front f (rest ++ e ∷ [])
+  last_more clean last =
+      record {
+        split = ap (λ (js : List Entry). js ++ e ∷ []) last.split ∙ append_assoc front (f ∷ rest) (e ∷ []);
+        dirty_here = last.dirty_here;
+        clean_behind = λ between g more at. elim (places between g more rest e [] (sym at)) [
+          | same a b c ↦ ap₂ (λ (js : List Entry) (x : Entry). is_dirtied config (front ++ f ∷ js) x k) a b
+              ∙ ap (λ (js : List Entry). is_dirtied config js e k) (sym last.split) ∙ clean
+          | behind less a b ↦ last.clean_behind between g less b
+          | before less a b ↦ absurd (none_behind less g more a)
+        ];
+      }
 
 -- ---- there is one
 
@@ -98,21 +113,6 @@ none_more config journal e k clean none front f rest at = elim (places front f r
   | behind less a b ↦ none front f less b
   | before less a b ↦ absurd (none_behind less f rest a)
 ]
-
-last_more : (config : Configuration) (journal : List Entry) (e : Entry) (k : ℕ) (front : List Entry) (f : Entry)
-    (rest : List Entry) → is_dirtied config journal e k ≡ false → IsLastDirtied config journal k front f rest
-    → IsLastDirtied config (journal ++ e ∷ []) k front f (rest ++ e ∷ [])
-last_more config journal e k front f rest clean last =
-    record {
-      split = ap (λ (js : List Entry). js ++ e ∷ []) last.split ∙ append_assoc front (f ∷ rest) (e ∷ []);
-      dirty_here = last.dirty_here;
-      clean_behind = λ between g more at. elim (places between g more rest e [] (sym at)) [
-        | same a b c ↦ ap₂ (λ (js : List Entry) (x : Entry). is_dirtied config (front ++ f ∷ js) x k) a b
-            ∙ ap (λ (js : List Entry). is_dirtied config js e k) (sym last.split) ∙ clean
-        | behind less a b ↦ last.clean_behind between g less b
-        | before less a b ↦ absurd (none_behind less g more a)
-      ];
-    }
 
 found_more : (config : Configuration) (journal : List Entry) (e : Entry) (k : ℕ) → NoneDirties config journal k
     ⊎ OneIsLast config journal k → NoneDirties config (journal ++ e ∷ []) k ⊎ OneIsLast config (journal ++ e ∷ []) k

@@ -3,21 +3,21 @@ pub use Rattle.nit_hall.proofs.Basics.{AllServed, AreBlank, AreDone, AreSplitOff
 pub use Rattle.nit_hall.proofs.Basics.{ClipPassModel, Configuration, Device, End, Entry, HaveInks}
 pub use Rattle.nit_hall.proofs.Basics.{InputLine, IsDoneUser, IsFirst, IsGlass, IsKnownPass}
 pub use Rattle.nit_hall.proofs.Basics.{IsLegalClips, IsOpen, IsRoom, IsWhole, JournalModel, Line}
-pub use Rattle.nit_hall.proofs.Basics.{List, OpeningParts, Painted, PassModel, RoomModel}
-pub use Rattle.nit_hall.proofs.Basics.{SceneModel, ShareModel, Sight, Some, UserHasMet}
-pub use Rattle.nit_hall.proofs.Basics.{UserPassModel, [], ap, ap₂, arith, call_entry, calls_of}
-pub use Rattle.nit_hall.proofs.Basics.{calls_to_make, clip_answer, clip_script_in, clipboard_of}
-pub use Rattle.nit_hall.proofs.Basics.{common_steps, device_entry, drop, drop_all, first_user}
-pub use Rattle.nit_hall.proofs.Basics.{frame, get_or-take, get_or_default, glass_in}
-pub use Rattle.nit_hall.proofs.Basics.{input_phases_before, into_iter_items, is_input_phase}
-pub use Rattle.nit_hall.proofs.Basics.{is_phase, knowing, knowing_clip, length, length-append}
-pub use Rattle.nit_hall.proofs.Basics.{length-map, length-replicate, map, next_call, next_clip}
-pub use Rattle.nit_hall.proofs.Basics.{next_device, parts_of, raised, reader_sight, refl, replay}
-pub use Rattle.nit_hall.proofs.Basics.{rest_of, rules, scenery_of, sight_after_line, slice_get}
-pub use Rattle.nit_hall.proofs.Basics.{slice_get_within, slice_index, source_at, state_now, subst}
-pub use Rattle.nit_hall.proofs.Basics.{sum, sym, take, take-set-le, take_all, user_actions_of}
-pub use Rattle.nit_hall.proofs.Basics.{user_actions_to_do, with_entry, without_final, words_after}
-pub use Rattle.nit_hall.proofs.Basics.{words_left_in, ℕ, ◌∙◌}
+pub use Rattle.nit_hall.proofs.Basics.{List, OpeningParts, PassModel, RoomModel, SceneModel}
+pub use Rattle.nit_hall.proofs.Basics.{ShareModel, Sight, Some, UserHasMet, UserPassModel, [], ap}
+pub use Rattle.nit_hall.proofs.Basics.{ap₂, arith, call_entry, calls_of, calls_to_make, clip_answer}
+pub use Rattle.nit_hall.proofs.Basics.{clip_script_in, clipboard_of, common_steps, device_entry}
+pub use Rattle.nit_hall.proofs.Basics.{drop, drop_all, first_user, frame, get_or-take}
+pub use Rattle.nit_hall.proofs.Basics.{get_or_default, glass_in, input_phases_before}
+pub use Rattle.nit_hall.proofs.Basics.{into_iter_items, is_input_phase, is_phase, knowing}
+pub use Rattle.nit_hall.proofs.Basics.{knowing_clip, length, length-append, length-map}
+pub use Rattle.nit_hall.proofs.Basics.{length-replicate, map, next_call, next_clip, next_device}
+pub use Rattle.nit_hall.proofs.Basics.{parts_of, raised, reader_sight, refl, replay, rest_of, rules}
+pub use Rattle.nit_hall.proofs.Basics.{scenery_of, sight_after_line, slice_get, slice_get_within}
+pub use Rattle.nit_hall.proofs.Basics.{slice_index, source_at, state_now, subst, sum, sym, take}
+pub use Rattle.nit_hall.proofs.Basics.{take-set-le, take_all, user_actions_of, user_actions_to_do}
+pub use Rattle.nit_hall.proofs.Basics.{with_entry, without_final, words_after, words_left_in, ℕ}
+pub use Rattle.nit_hall.proofs.Basics.{◌∙◌}
 pub use Rattle.nit_hall.proofs.ClipAlong.{IsKnownClip, clip_counted, clip_met, clip_pass_call}
 pub use Rattle.nit_hall.proofs.ClipAlong.{clip_pass_phase, clips_whole, number_is, served_clip}
 pub use Rattle.nit_hall.proofs.ClipsStay.{follow_on}
@@ -40,7 +40,8 @@ pub use Rattle.nit_hall.proofs.RoomOpening.{clip_pass_more, each_more, get_seam,
 pub use Rattle.nit_hall.proofs.RoomOpening.{lens_tables, new_clip_pass, opened_clips, pass_at}
 pub use Rattle.nit_hall.proofs.RoomOpening.{pass_begun, room_begun, room_with_clips, zeros_behind}
 pub use Rattle.nit_hall.proofs.RoomOpening.{zeros_push}
-pub use Rattle.nit_hall.proofs.RoomSteps.{IsAdded, booked_more, spare_left, state_later}
+pub use Rattle.nit_hall.proofs.RoomSteps.{IsAdded, before_open, booked_more, spare_left}
+pub use Rattle.nit_hall.proofs.RoomSteps.{state_later}
 pub use Rattle.nit_hall.proofs.ScriptsFollowed.{calls_front_of, actions_front_of, whole}
 pub use Rattle.nit_hall.proofs.ServedCalls.{Found, calls_made, calls_then, found, next_at, own_seen}
 pub use Rattle.nit_hall.proofs.ServedCalls.{pass_call, pass_met, room_call, sight_as, still_open}

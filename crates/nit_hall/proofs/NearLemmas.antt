@@ -98,8 +98,7 @@ pub near_painted : EntryLaws → (config : Configuration) (scripts : List (List 
     → AreNear config scripts (journal ++ e ∷ []) raw'
 near_painted laws config scripts journal e s' glasses glasses' raw raw' legal now inks tells painted near =
     let s : State = replay config journal in
-    let p : Painted s e (after s e) glasses glasses' raw raw' =
-    subst (λ (x : State). Painted s e x glasses glasses' raw raw') now painted in
+    let p : Painted s e (after s e) glasses glasses' raw raw' = rw now at painted in
     near_more laws config scripts journal e raw raw' legal
     (λ k inside is. held_near config scripts journal e glasses k (source_at (after s e) k) (slice_index_or raw' k 0) is
     inks tells (p.marked k inside is).0)

@@ -2,18 +2,18 @@
 use Rattle.nit_hall.proofs.Basics.{AreBlank, AreNear, AreSplitOff, BookModel, BookName, ClipLine}
 use Rattle.nit_hall.proofs.Basics.{ClipModel, ClipPassModel, Configuration, End, Entry, Follows}
 use Rattle.nit_hall.proofs.Basics.{FollowsClips, HaveInks, IfSome, InputLine, IsDonation, IsFirst}
-use Rattle.nit_hall.proofs.Basics.{IsGlass, IsLegalClips, IsNearBy, IsPass, IsPlanOf, IsRoom}
-use Rattle.nit_hall.proofs.Basics.{IsSetting, Line, List, Member, OpeningParts, Option, PassModel}
-use Rattle.nit_hall.proofs.Basics.{PixelSource, PlanModel, RoomModel, ShareModel, Sight, Some, []}
-use Rattle.nit_hall.proofs.Basics.{ap, append_assoc, arith, bare_everywhere, bare_word, calls_in}
-use Rattle.nit_hall.proofs.Basics.{calls_of, cases_lt, clip_calls_in, clip_script_in, donation_of}
-use Rattle.nit_hall.proofs.Basics.{drop, drop_at, false, first_pass, get_or, get_or-replicate}
-use Rattle.nit_hall.proofs.Basics.{get_or_default, get_or_from_slice_get, get_or_past, glass_in}
-use Rattle.nit_hall.proofs.Basics.{ink, inl, inr, length, length-map, length-replicate}
-use Rattle.nit_hall.proofs.Basics.{lines_of_all, lines_of_clips, map, new_sight, no_sight}
-use Rattle.nit_hall.proofs.Basics.{none-some, option_map, parts_of, phases_before, pixel, plan_in}
-use Rattle.nit_hall.proofs.Basics.{reader_sight, refl, replicate, replicate_more, same_Some}
-use Rattle.nit_hall.proofs.Basics.{script_in, served, slice_get, slice_get-get_or, slice_get-map}
+use Rattle.nit_hall.proofs.Basics.{IsGlass, IsLegalClips, IsNearBy, IsNonDecreasingBy-short, IsPass}
+use Rattle.nit_hall.proofs.Basics.{IsPlanOf, IsRoom, IsSetting, Line, List, Member, OpeningParts}
+use Rattle.nit_hall.proofs.Basics.{Option, PassModel, PixelSource, PlanModel, RoomModel, ShareModel}
+use Rattle.nit_hall.proofs.Basics.{Sight, Some, [], ap, append_assoc, arith, bare_everywhere}
+use Rattle.nit_hall.proofs.Basics.{bare_word, calls_in, calls_of, cases_lt, clip_calls_in}
+use Rattle.nit_hall.proofs.Basics.{clip_script_in, donation_of, drop, drop_at, false, first_pass}
+use Rattle.nit_hall.proofs.Basics.{get_or, get_or-replicate, get_or_default, get_or_from_slice_get}
+use Rattle.nit_hall.proofs.Basics.{get_or_past, glass_in, ink, inl, inr, length, length-map}
+use Rattle.nit_hall.proofs.Basics.{length-replicate, lines_of_all, lines_of_clips, map, new_sight}
+use Rattle.nit_hall.proofs.Basics.{no_sight, none-some, option_map, parts_of, phases_before, pixel}
+use Rattle.nit_hall.proofs.Basics.{plan_in, reader_sight, refl, replicate, replicate_more}
+use Rattle.nit_hall.proofs.Basics.{same_Some, script_in, served, slice_get, slice_get-map}
 use Rattle.nit_hall.proofs.Basics.{slice_index, slice_index_or, subst, suc, sum, sum_by-cons, sym}
 use Rattle.nit_hall.proofs.Basics.{table_size, take, take_all, take_at, user_actions_in}
 use Rattle.nit_hall.proofs.Basics.{with_clip_scripts, words_after}
@@ -36,16 +36,11 @@ follows_begun scripts input counts long none =
       each = long;
       calls = λ t within. sym (ap (λ (n : ℕ). calls_in (take n (served (script_in scripts t)))) (none t));
       actions = sym (ap (λ (n : ℕ). user_actions_in (take n input)) (none (length scripts)));
-      phases = one;
+      phases = IsNonDecreasingBy-short (λ (x : ℕ). x) (0 ∷ []) (omega arith);
       few = λ t within. let z = none t in omega (arith, z);
       user_few = let z = none (length scripts) in omega (arith, z);
       small = omega arith;
     }
-  where
-    one : (i j d : ℕ) → i ≤ j → j < 1 → slice_index_or (0 ∷ []) i d ≤ slice_index_or (0 ∷ []) j d
-    one zero zero d le h = omega arith
-    one zero (suc j) d le h = absurd (omega arith)
-    one (suc i) j d le h = absurd (omega arith)
 
 -- all counts are 0
 pub zero_counts : (n : ℕ) (counts : List ℕ) → counts ≡ replicate n 0 → (k : ℕ) → slice_index counts k ≡ 0

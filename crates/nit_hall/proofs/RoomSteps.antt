@@ -3,12 +3,13 @@ use Rattle.nit_hall.proofs.Basics.{AllServed, AreNear, Configuration, End, Entry
 use Rattle.nit_hall.proofs.Basics.{Follows, HaveInks, IsLegal, IsOpen, IsRoom, IsServedPhase, List}
 use Rattle.nit_hall.proofs.Basics.{Painted, RoomModel, SceneModel, Sight, [], after, ap, arith}
 use Rattle.nit_hall.proofs.Basics.{first_state, inl, length, length-append, phases_ended, refl}
-use Rattle.nit_hall.proofs.Basics.{replay, state_now, sym, without_final, ℕ, ◌∙◌}
+use Rattle.nit_hall.proofs.Basics.{replay, state_now, subst, sym, without_final, ℕ, ◌∙◌}
 use Rattle.std.proofs.Common.{◌++◌, ◌-◌, ◌∷◌, ◌≡◌, ◌≤◌, ◌⊎◌}
 use Rattle.nit_hall.proofs.ClipsStay.{clips_same, clips_then}
 use Rattle.nit_hall.proofs.FinalEntries.{open_whole}
 use Rattle.nit_hall.proofs.NearLemmas.{AreInks, TellsWords, near_painted}
 use Rattle.nit_hall.proofs.ScriptsFollowed.{entries_within}
+use mathlib.Core.List.{IsPrefix}
 
 -- the room with this scene and these counts, in this phase
 abbrev pub room_then : RoomModel → SceneModel End → List ℕ → ℕ → ℕ → RoomModel
@@ -26,6 +27,13 @@ pub spare_left : {r : RoomModel} → IsRoom r → IsOpen r.scene.entries → 1 �
 spare_left {r = r} room o =
     let sum = room.room in
     omega (arith, entries_within room.follows, ap length (open_whole r.scene.entries o), sum)
+
+-- what a pass knew of the book is a front of an open journal
+pub before_open : {r r₀ : RoomModel} (known : List Entry) → r ≡ r₀ → IsOpen r.scene.entries
+    → IsPrefix known (without_final r₀.scene.entries) → IsPrefix known r₀.scene.entries
+before_open known er o before = subst (λ (r : RoomModel). IsPrefix known r.scene.entries) er
+    (subst (IsPrefix known) (open_whole _ o)
+    (subst (λ (r : RoomModel). IsPrefix known (without_final r.scene.entries)) (sym er) before))
 
 -- what the scene promises of one more entry
 pub record IsAdded (old new : SceneModel End) (e : Entry) : Type 0 where

@@ -3,16 +3,15 @@ use Rattle.nit_hall.proofs.Basics.{AllServed, Call, Entry, Follows, InputLine, I
 use Rattle.nit_hall.proofs.Basics.{IsUsers, IsWhole, Line, List, Reply, Some, UserAction, [], ap}
 use Rattle.nit_hall.proofs.Basics.{append-nil, ap₂, arith, calls_done, calls_in, calls_of}
 use Rattle.nit_hall.proofs.Basics.{calls_other, calls_own, calls_same, calls_to_make, cases_eq}
-use Rattle.nit_hall.proofs.Basics.{actions_of-append, actions_same, done, drop, false}
-use Rattle.nit_hall.proofs.Basics.{get_or-set_other}
-use Rattle.nit_hall.proofs.Basics.{get_or-set_same, get_or_from_slice_get, inl, input_phases_before}
-use Rattle.nit_hall.proofs.Basics.{inr, is_input_phase, is_served, length, length-append}
-use Rattle.nit_hall.proofs.Basics.{length-map, length-set, lines_of_all, map, next_phase}
-use Rattle.nit_hall.proofs.Basics.{phases_along, phases_before, phases_call, phases_action}
-use Rattle.nit_hall.proofs.Basics.{phases_final, raised, script_in, served, slice_get_within}
-use Rattle.nit_hall.proofs.Basics.{slice_index, sum, sum_by-cons, sum_by-set, take-append-drop}
-use Rattle.nit_hall.proofs.Basics.{take_all, to_do, user_actions_in, user_actions_of}
-use Rattle.nit_hall.proofs.Basics.{user_actions_to_do}
+use Rattle.nit_hall.proofs.Basics.{count_by-le-length, actions_of-append, actions_same, done, drop}
+use Rattle.nit_hall.proofs.Basics.{false, get_or-set_other, get_or-set_same, get_or_from_slice_get}
+use Rattle.nit_hall.proofs.Basics.{inl, input_phases_before, inr, is_input_phase, is_served, length}
+use Rattle.nit_hall.proofs.Basics.{length-append, length-filter, length-map, length-set}
+use Rattle.nit_hall.proofs.Basics.{lines_of_all, map, next_phase, phases_along, phases_before}
+use Rattle.nit_hall.proofs.Basics.{phases_call, phases_action, phases_final, raised, script_in}
+use Rattle.nit_hall.proofs.Basics.{served, slice_get_within, slice_index, sum, sum_by-cons}
+use Rattle.nit_hall.proofs.Basics.{sum_by-set, take-append-drop, take_all, to_do, user_actions_in}
+use Rattle.nit_hall.proofs.Basics.{user_actions_of, user_actions_to_do}
 use Rattle.std.proofs.Common.{refl, slice_get, subst, suc, sym, take, true, zero, ℕ, ◌++◌, ◌+◌, ◌<◌}
 use Rattle.std.proofs.Common.{◌∙◌, ◌∷◌, ◌≡◌, ◌≢◌, ◌≤◌}
 use Rattle.nit_events.specs.declared.entry.Entry.TheVariants as entry
@@ -231,10 +230,7 @@ module _ {scripts : List (List Line)} {input : List InputLine} {counts : List �
 -- ---- room in the journal
 
 served_short : (script : List Line) → length (served script) ≤ length script
-served_short [] = omega arith
-served_short (line.Call c ∷ ls) = let n = served_short ls in omega arith
-served_short (line.Stroke s ∷ ls) = let n = served_short ls in omega arith
-served_short (line.Phase ∷ ls) = let n = served_short ls in omega arith
+served_short script = omega (arith, length-filter is_served script, count_by-le-length is_served script)
 
 -- counts that are at most the numbers of lines add up to at most their sum
 counts_within : (scripts : List (List Line)) (most : ℕ) (counts : List ℕ) → length counts ≡ length scripts + 1
@@ -282,25 +278,25 @@ module _ {scripts : List (List Line)} {input : List InputLine} {counts : List �
 
 -- ---- fronts of the scripts
 
-pub calls_front_of : (scripts : List (List Line)) (input : List InputLine) (counts : List ℕ) (phase : ℕ)
-    (entries : List Entry) (t : ℕ) → Follows scripts input counts phase entries → t < length scripts
-    → (rest : List Call) × (done (calls_to_make (script_in scripts t)) ≡ calls_of t entries ++ rest)
-calls_front_of scripts input counts phase entries t f h =
-    let n = slice_index counts t in
-    let ls : List Line = served (script_in scripts t) in (
-      calls_in (drop n ls),
-      sym (calls_done 0 (script_in scripts t)) ∙ sym (calls_served (script_in scripts t))
-          ∙ ap calls_in (sym (take-append-drop n ls)) ∙ calls_append (take n ls) (drop n ls)
-          ∙ ap (λ (cs : List Call). cs ++ calls_in (drop n ls)) (sym (f.calls t h)),
-    )
+module _ (scripts : List (List Line)) (input : List InputLine) (counts : List ℕ) (phase : ℕ) (entries : List Entry)
+  where
+    pub calls_front_of : (t : ℕ) → Follows scripts input counts phase entries → t < length scripts
+        → (rest : List Call) × (done (calls_to_make (script_in scripts t)) ≡ calls_of t entries ++ rest)
+    calls_front_of t f h =
+        let n = slice_index counts t in
+        let ls : List Line = served (script_in scripts t) in (
+          calls_in (drop n ls),
+          sym (calls_done 0 (script_in scripts t)) ∙ sym (calls_served (script_in scripts t))
+              ∙ ap calls_in (sym (take-append-drop n ls)) ∙ calls_append (take n ls) (drop n ls)
+              ∙ ap (λ (cs : List Call). cs ++ calls_in (drop n ls)) (sym (f.calls t h)),
+        )
 
-pub actions_front_of : (scripts : List (List Line)) (input : List InputLine) (counts : List ℕ) (phase : ℕ)
-    (entries : List Entry) → Follows scripts input counts phase entries → (rest : List UserAction)
-    × (done (user_actions_to_do input) ≡ user_actions_of entries ++ rest)
-actions_front_of scripts input counts phase entries f =
-    let n = slice_index counts (length scripts) in (
-      user_actions_in (drop n input),
-      sym (actions_done 0 input) ∙ ap user_actions_in (sym (take-append-drop n input))
-          ∙ actions_append (take n input) (drop n input)
-          ∙ ap (λ (ds : List UserAction). ds ++ user_actions_in (drop n input)) (sym f.actions),
-    )
+    pub actions_front_of : Follows scripts input counts phase entries
+        → (rest : List UserAction) × (done (user_actions_to_do input) ≡ user_actions_of entries ++ rest)
+    actions_front_of f =
+        let n = slice_index counts (length scripts) in (
+          user_actions_in (drop n input),
+          sym (actions_done 0 input) ∙ ap user_actions_in (sym (take-append-drop n input))
+              ∙ actions_append (take n input) (drop n input)
+              ∙ ap (λ (ds : List UserAction). ds ++ user_actions_in (drop n input)) (sym f.actions),
+        )

@@ -17,12 +17,12 @@ pub record IsReadyAt (parts : OpeningParts) (phase : ℕ) (IsAt : PassModel → 
   pub ready : p.phase ≡ phase
   pub next : IsAt p
 
--- the same of a pass that only waits
-pub record IsReady (parts : OpeningParts) (phase : ℕ) (p : PassModel) : Type 0 where
+-- the pass is of this opening and in the phase that is served
+pub record IsReadyPass (parts : OpeningParts) (phase : ℕ) (p : PassModel) : Type 0 where
   pub belongs : Belongs parts p
   pub ready : p.phase ≡ phase
 
--- so is the user's pass
+-- the user's pass is of this opening and in the phase that is served, and where the call wants it
 pub record UserIsReadyAt (parts : OpeningParts) (phase : ℕ) (IsAt : UserPassModel → Type 0)
     (u : UserPassModel) : Type 0 where
   pub belongs : UserBelongs parts u

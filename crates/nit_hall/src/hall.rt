@@ -10,7 +10,7 @@ ghost use Rattle.nit_hall.specs.Pass.{Belongs, UserBelongs, IsAtCall, IsAtPhase,
 ghost use Rattle.nit_hall.specs.Pass.{HasLoaded, IsAtDevice, IsAtShot, call_entry, device_entry};
 ghost use Rattle.nit_hall.specs.Pass.{sight_after_line};
 ghost use Rattle.nit_hall.specs.Hall.{IsMeasured, Tells, TellsShot};
-ghost use Rattle.nit_hall.specs.Kept.{CanShootTo, DoneDevice, DoneShot, EndedPhase, IsReady};
+ghost use Rattle.nit_hall.specs.Kept.{CanShootTo, DoneDevice, DoneShot, EndedPhase, IsReadyPass};
 ghost use Rattle.nit_hall.specs.Kept.{IsReadyAt, IsReadyClip, ServedCall, ServedClip};
 ghost use Rattle.nit_hall.specs.Kept.{UserEndedPhase, UserIsReadyAt};
 
@@ -78,7 +78,7 @@ impl<'a, N: Name> Kept<'a, N> {
     }
 
     fn admit(&self, pass: &mut Pass<'a>)
-        requires { IsReady N.parts self.now.phase pass.old }
+        requires { IsReadyPass N.parts self.now.phase pass.old }
         ensures { pass.new ≡ record pass.old { met = pass.old.phase } }
     {
         self.room.admit(pass);

@@ -40,6 +40,16 @@ pub those_before : (sheets : List SheetModel) (sheet : SheetModel) (t : ℕ) →
     → sheet_at (sheets ++ sheet ∷ []) t ≡ sheet_at sheets t
 those_before sheets sheet t inside = get_or_append_left sheets (sheet ∷ []) no_sheet t inside
 
+-- what holds of the sheet that is put behind them, and of those, holds of each
+pub each_added : (P : ℕ → SheetModel → Type 0) (sheets : List SheetModel) (n t : ℕ) (sheet : SheetModel)
+    → length sheets ≡ n → t < n + 1 → P n sheet → (t < n → P t (sheet_at sheets t))
+    → P t (sheet_at (sheets ++ sheet ∷ []) t)
+each_added P sheets n t sheet long below here before = dite (dec_lt t n)
+    (λ inside. rw (those_before sheets sheet t (omega (arith, inside, long))) (before inside))
+    (λ past.
+    let at : t ≡ n = omega arith in
+    rw (at, last_of sheets sheet n long) here)
+
 -- the sheets of the seats before n
 pub record AreBlankTo (config : Configuration) (n : ℕ) (sheets : List SheetModel) : Type 0 where
   pub count : length sheets ≡ n
@@ -50,14 +60,8 @@ pub one_blank : (config : Configuration) (n size : ℕ) (sheets : List SheetMode
     → AreBlankTo config (n + 1) (sheets ++ sheet ∷ [])
 one_blank config n size sheets sheet are is sized = record {
   count = length-append sheets (sheet ∷ []) ∙ ap (λ k. k + 1) are.count;
-  blank = λ t below. dite (dec_lt t n)
-      (λ before. ap (λ (g : SheetModel). g.sight) (those_before sheets sheet t (omega (arith, before, are.count)))
-      ∙ are.blank t before)
-      (λ past.
-      let here : t ≡ n = omega arith in
-      ap (λ (k : ℕ). (sheet_at (sheets ++ sheet ∷ []) k).sight) here
-      ∙ ap (λ (g : SheetModel). g.sight) (last_of sheets sheet n are.count) ∙ is
-      ∙ ap (blank_sheet n) sized ∙ ap (λ (k : ℕ). blank_sheet k (size_at config k)) (sym here));
+  blank = λ t below. each_added (λ k g. g.sight ≡ blank_sheet k (size_at config k)) sheets n t sheet are.count below
+      (rw (← sized) is) (are.blank t);
 }
 
 -- with room
@@ -70,14 +74,8 @@ pub one_room : (config : Configuration) (n size : ℕ) (sheets : List SheetModel
     → HaveRoomTo config (n + 1) (sheets ++ sheet ∷ [])
 one_room config n size sheets sheet have is fits sized = record {
   blank = one_blank config n size sheets sheet have.blank is sized;
-  room = λ t below. dite (dec_lt t n)
-      (λ before. subst (λ (g : SheetModel). size_at config t ≤ g.room)
-      (sym (those_before sheets sheet t (omega (arith, before, have.blank.count)))) (have.room t before))
-      (λ past.
-      let here : t ≡ n = omega arith in
-      subst (λ (k : ℕ). size_at config k ≤ (sheet_at (sheets ++ sheet ∷ []) k).room) (sym here)
-      (subst (λ (g : SheetModel). size_at config n ≤ g.room) (sym (last_of sheets sheet n have.blank.count))
-      (subst (λ (k : ℕ). k ≤ sheet.room) sized fits)));
+  room = λ t below. each_added (λ k g. size_at config k ≤ g.room) sheets n t sheet have.blank.count below
+      (rw (← sized) fits) (have.room t);
 }
 
 -- without room
@@ -90,13 +88,7 @@ pub one_hollow : (config : Configuration) (n size : ℕ) (sheets : List SheetMod
     → AreHollowTo config (n + 1) (sheets ++ sheet ∷ [])
 one_hollow config n size sheets sheet have is none sized = record {
   blank = one_blank config n size sheets sheet have.blank is sized;
-  room = λ t below. dite (dec_lt t n)
-      (λ before. ap (λ (g : SheetModel). g.room)
-      (those_before sheets sheet t (omega (arith, before, have.blank.count))) ∙ have.room t before)
-      (λ past.
-      let here : t ≡ n = omega arith in
-      ap (λ (k : ℕ). (sheet_at (sheets ++ sheet ∷ []) k).room) here
-      ∙ ap (λ (g : SheetModel). g.room) (last_of sheets sheet n have.blank.count) ∙ none);
+  room = λ t below. each_added (λ k g. g.room ≡ 0) sheets n t sheet have.blank.count below none (have.room t);
 }
 
 -- the size of a seat's table

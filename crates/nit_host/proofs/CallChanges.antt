@@ -17,7 +17,7 @@ use Rattle.nit_host.specs.Below.{in_bar, is_accepted, pixel, pixel_count, refusa
 use Rattle.nit_host.specs.Below.{scenery_of, serve, session, source_at, word_from}
 use Rattle.nit_journal.proofs.ForCallers.{refused_reply, serve_refused}
 use Rattle.nit_journal.specs.Session.{Answered}
-use Rattle.nit_host.specs.Area.{StaysOutside, has_place, is_inside}
+use Rattle.nit_host.specs.Area.{HoldsBoth, IsAreaOf, StaysOutside, is_inside}
 use Rattle.nit_host.specs.Host.{frame_by, sheet_in}
 use Rattle.nit_host.specs.Looked.{IsSeenBut}
 use Rattle.nit_host.specs.Touch.{HoldsTouched, touch_of, touched_by, touched_in}
@@ -212,27 +212,29 @@ module _ (s : State) (seat : ℕ) (r : Reply) (sheets sheets' : List (List ℕ))
           (touched_unless o s.input.mode c) a) is holds')
       go (Some why) is = refused_stays c why is replied words
 
--- what a call left of what was seen
+-- what a call left of what was seen, and the area of what has changed since
 pub seen_called : (s s' : State) (seat : ℕ) (c : Call) (r : Reply) (sheets sheets' : List (List ℕ)) (t : Touch)
     (a0 before now a1 a2 : Area) (seen : Option (List ℕ)) → seat < length s.sessions → KeepSources
     → s' ≡ after s (entry.Call seat c r) → r ≡ (serve (session s seat) c).reply
-    → Words s seat r sheets sheets' c
-    → t ≡ touch_of s seat c → HoldsTouched s seat t before → HoldsTouched s' seat t now
-    → ((x y : ℕ) → has_place a0 x y ≡ true → has_place a1 x y ≡ true)
-    → ((x y : ℕ) → has_place before x y ≡ true → has_place a1 x y ≡ true)
-    → ((x y : ℕ) → has_place a1 x y ≡ true → has_place a2 x y ≡ true)
-    → ((x y : ℕ) → has_place now x y ≡ true → has_place a2 x y ≡ true) → IsSeenBut s sheets a0 seen
-    → IsSeenBut s' sheets' a2 seen
-seen_called s s' seat c r sheets sheets' t a0 before now a1 a2 seen inside keep is replied words touch_is holds holds'
-    own others own' others' known =
-    subst (λ (x : State). IsSeenBut x sheets' a2 seen) (sym is)
-    (seen_after s (after s (entry.Call seat c r)) sheets sheets' a2 refl refl refl a0 seen known
-    (λ x y in_. own' x y (own x y in_))
-    (call_stays s seat r sheets sheets' a2 inside keep c replied words
-    (subst (λ (u : Touch). HoldsTouched s seat u a2) touch_is
-    (touched_more s seat t before a2 holds (λ x y in_. own' x y (others x y in_))))
-    (subst (λ (u : Touch). HoldsTouched (after s (entry.Call seat c r)) seat u a2) touch_is
-    (subst (λ (x : State). HoldsTouched x seat t a2) is (touched_more s' seat t now a2 holds' others')))))
+    → Words s seat r sheets sheets' c → t ≡ touch_of s seat c
+    → HoldsTouched s seat t before × IsAreaOf s.config.width s.config.height before
+    → HoldsTouched s' seat t now × IsAreaOf s'.config.width s'.config.height now
+    → HoldsBoth a0 before a1 → HoldsBoth a1 now a2 → IsSeenBut s sheets a0 seen
+    → IsAreaOf s.config.width s.config.height a0
+    → IsSeenBut s' sheets' a2 seen × IsAreaOf s'.config.width s'.config.height a2
+seen_called s s' seat c r sheets sheets' t a0 before now a1 a2 seen inside keep is replied words touch_is old new one
+    two known on =
+    let new_ = subst (λ (x : State). HoldsTouched x seat t now × IsAreaOf x.config.width x.config.height now) is new in
+    subst (λ (x : State). IsSeenBut x sheets' a2 seen × IsAreaOf x.config.width x.config.height a2) (sym is) (
+      seen_after s (after s (entry.Call seat c r)) sheets sheets' a2 refl refl refl a0 seen known
+          (λ x y in_. two.own x y (one.own x y in_))
+          (call_stays s seat r sheets sheets' a2 inside keep c replied words
+          (subst (λ (u : Touch). HoldsTouched s seat u a2) touch_is
+          (touched_more s seat t before a2 old.0 (λ x y in_. two.own x y (one.others x y in_))))
+          (subst (λ (u : Touch). HoldsTouched (after s (entry.Call seat c r)) seat u a2) touch_is
+          (touched_more (after s (entry.Call seat c r)) seat t now a2 new_.0 two.others))),
+      two.area s.config.width s.config.height (one.area s.config.width s.config.height on old.1) new_.1,
+    )
 
 -- the same words are shown where the sheets are the same
 pub words_stay : (s : State) (seat : ℕ) (r : Reply) (c : Call) (sheets sheets' : List (List ℕ)) → sheets' ≡ sheets

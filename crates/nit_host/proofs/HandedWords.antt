@@ -103,6 +103,12 @@ word_elsewhere sheets seat t n now same =
       | inr other ↦ ap (λ (ws : List ℕ). slice_index ws n) (get_or-set_other sheets seat t now [] other)
     ]
 
+-- what is not served hands in no words
+same_sheets_for : {A : Type 0} (o : Option A) (served h : HostModel) → served.sheets ≡ h.sheets
+    → (unless_for o served h).sheets ≡ h.sheets
+same_sheets_for None served h same = same
+same_sheets_for (Some why) served h same = refl
+
 -- ---- a refresh
 
 module _ (h : HostModel) (seat : ℕ) (x y : ℤ) (w height : ℕ) (words : List ℕ) where
@@ -158,18 +164,10 @@ module _ (h : HostModel) (seat : ℕ) (x y : ℤ) (w height : ℕ) (words : List
 
   pub refused_words : is_accepted (reply_to h seat asked) ≡ false
       → (after_act h (Refreshes seat x y w height words)).sheets ≡ h.sheets
-  refused_words refused = served (unserved_refresh h seat words)
-    where
-      served : (o : Option Unserved) → (unless_for o (refreshed seat x y w height words h) h).sheets ≡ h.sheets
-      served None = ap (λ (b : Bool). (refreshed_if b).sheets) refused
-      served (Some why) = refl
+  refused_words refused = same_sheets_for (unserved_refresh h seat words) (refreshed seat x y w height words h) h
+      (ap (λ (b : Bool). (refreshed_if b).sheets) refused)
 
 -- ---- what is no refresh
-
-same_sheets_for : {A : Type 0} (o : Option A) (served h : HostModel) → served.sheets ≡ h.sheets
-    → (unless_for o served h).sheets ≡ h.sheets
-same_sheets_for None served h same = same
-same_sheets_for (Some why) served h same = refl
 
 pub called_words : (h : HostModel) (seat : ℕ) (c : Call) → (after_act h (Calls seat c)).sheets ≡ h.sheets
 called_words h seat c = same_sheets_for (unserved_call h seat c) (called seat c h) h refl

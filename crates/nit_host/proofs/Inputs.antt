@@ -1,28 +1,21 @@
 -- What a device event leaves.
-use Rattle.std.proofs.Common.{List, Option, Some, ap, refl, subst, sym, ℕ, ◌-◌, ◌∙◌, ◌≡◌}
+use Rattle.std.proofs.Common.{List, Option, Some, ap, refl, subst, ℕ, ◌-◌, ◌∙◌, ◌≡◌}
 use Rattle.nit_events.specs.declared.entry.Entry.TheVariants as entry
-use Rattle.nit_host.specs.Below.{Configuration, DesktopModel, Device, Entry, Painted, Routed, State}
+use Rattle.nit_host.specs.Below.{DesktopModel, Device, Entry, Painted, Routed, State}
 use Rattle.nit_host.specs.Below.{after, glass_in, pixel, route, routed_as}
-use Rattle.nit_host.specs.Fresh.{AreHollow, AreSheets, IsFresh, IsHost, sheets_of}
+use Rattle.nit_host.specs.Fresh.{IsFresh, IsHost, sheets_of}
 use Rattle.nit_host.specs.Host.{HostModel, routed_of, sheet_in, told}
 use Rattle.nit_host.specs.Sheet.{SheetModel}
 use Rattle.nit_host.proofs.Freshness.{fresh_after}
 use Rattle.nit_host.proofs.SheetLists.{quiet_sheets, rooms, seen_sheets, sights}
-use Rattle.nit_host.proofs.Steps.{KeepSources}
+use Rattle.nit_host.proofs.Steps.{KeepSources, host_model}
 
 -- what a device event left of a host
-pub record WasTold (dev : Device) (routed : Routed) (h : HostModel) (d : DesktopModel SheetModel)
-    (hollows : List SheetModel) : Type 0 where
+pub record WasTold (dev : Device) (routed : Routed) (h : HostModel) (seen : Option (List ℕ))
+    (d : DesktopModel SheetModel) (hollows : List SheetModel) : Type 0 where
   pub host : IsHost d hollows
   pub routed_now : routed ≡ routed_of h dev
-  pub now : record {
-    state = d.state;
-    sheets = sheets_of d.glasses;
-    left = d.left;
-    last =
-        Some (entry.Input dev routed);
-    seen = h.seen;
-  } ≡ told dev h
+  pub now : host_model d (Some (entry.Input dev routed)) seen ≡ told dev h
 
 module _ (d d2 : DesktopModel SheetModel) (hollows : List SheetModel) (dev : Device) (routed : Routed)
     (kept : Option Entry) (seen : Option (List ℕ)) (host : IsHost d hollows)
@@ -40,12 +33,7 @@ module _ (d d2 : DesktopModel SheetModel) (hollows : List SheetModel) (dev : Dev
 
     painted_all : Painted d.state (entry.Input dev routed) (after d.state (entry.Input dev routed))
         (glass_in (sights d.glasses)) (glass_in (sights d.glasses)) d.raw d2.raw
-    painted_all =
-        subst (λ (gs : List SheetModel). Painted d.state (entry.Input dev routed)
-        (after d.state (entry.Input dev routed))
-        (glass_in (sights d.glasses)) (glass_in (sights gs)) d.raw d2.raw) stay
-        (subst (λ (s : State). Painted d.state (entry.Input dev routed) s (glass_in (sights d.glasses))
-        (glass_in (sights d2.glasses)) d.raw d2.raw) state painted)
+    painted_all = rw (state, stay) at painted
 
     fresh_now : IsFresh (after d.state (entry.Input dev routed)) (sheet_in (sheets_of d.glasses)) d2.raw
     fresh_now =
@@ -55,19 +43,14 @@ module _ (d d2 : DesktopModel SheetModel) (hollows : List SheetModel) (dev : Dev
 
     is_host : IsHost d2 hollows
     is_host = record {
-      sheets = subst (λ (config : Configuration). AreSheets config d2.glasses) (sym config_stays)
-          (subst (AreSheets d.state.config) (sym stay) host.sheets);
-      hollow = subst (λ (config : Configuration). AreHollow config hollows) (sym config_stays) host.hollow;
-      fresh = subst (λ (s : State). IsFresh s (sheet_in (sheets_of d2.glasses)) d2.raw) (sym state)
-          (subst (λ (gs : List SheetModel). IsFresh (after d.state (entry.Input dev routed)) (sheet_in (sheets_of gs))
-          d2.raw) (sym stay) fresh_now);
+      sheets = rw (config_stays, stay) host.sheets;
+      hollow = rw config_stays host.hollow;
+      fresh = rw (state, stay) fresh_now;
     }
 
-    pub was_told : (h : HostModel)
-        → record { state = d.state; sheets = sheets_of d.glasses; left = d.left; last = kept; seen = seen }
-        ≡ h → WasTold dev routed h d2 hollows
+    pub was_told : (h : HostModel) → host_model d kept seen ≡ h → WasTold dev routed h seen d2 hollows
     was_told h view =
-        subst (λ (x : HostModel). WasTold dev routed x d2 hollows) view
+        subst (λ (x : HostModel). WasTold dev routed x seen d2 hollows) view
         (record {
           host = is_host;
           routed_now = is;

@@ -3,9 +3,8 @@ use Rattle.std.proofs.Common.{List, None, Option, Some, ap, arith, false, inl, i
 use Rattle.std.proofs.Common.{slice_index, subst, sym, true, pos, ℕ, ◌%◌, ◌&&◌, ◌+◌, ◌-◌, ◌/◌, ◌<◌}
 use Rattle.std.proofs.Common.{◌∙◌, ◌≡◌, ◌≤◌}
 use Rattle.std.proofs.lemmas.Bool.{cases_lt, false≢true}
-use Rattle.std.proofs.lemmas.Int.{ints}
 use Rattle.std.proofs.lemmas.List.{get_or_past}
-use Rattle.nit_look.specs.Look.{AgreeOutside, LiesOn, place_at}
+use Rattle.nit_look.specs.Look.{AgreeOutside, place_at}
 use Rattle.nit_overlay.proofs.ForCallers.{length-frame}
 use Rattle.nit_word.proofs.ForCallers.{column_and_row}
 use Rattle.nit_host.specs.Below.{Configuration, State, covers, is_between, pixel_count, scenery_of}
@@ -26,20 +25,6 @@ pub covers_inside : (width height k : ℕ) (a : Area) → IsAreaOf width height 
 covers_inside width height k a on =
     λ i. spans_between a.left a.right (k % width) on.across i && spans_between a.top a.bottom (k / width) on.down i
 
-pub lies_on : (width height : ℕ) (a : Area) → IsAreaOf width height a → LiesOn width height (rectangle_over a)
-lies_on width height a on =
-    let across = on.across in
-    let down = on.down in
-    let wide = on.wide in
-    let high = on.high in
-    record {
-      left = omega (arith, ints);
-      top = omega (arith, ints);
-      right = omega (arith, ints);
-      bottom = omega (arith, ints);
-    }
-
--- words that are as the last look left them are the frame but for the area
 pub agree_outside : (s : State) (sheets : List (List ℕ)) (a : Area) (seen : Option (List ℕ)) (out : List ℕ)
     → IsAreaOf s.config.width s.config.height a → IsSeenBut s sheets a seen → IsOneOf seen out
     → length out ≡ pixel_count s → AgreeOutside s.config.width out (frame_by s sheets) (rectangle_over a)

@@ -19,10 +19,10 @@ use Rattle.nit_host.specs.Below.{View}
 use Rattle.nit_journal.specs.StackAfter.{after_deliveries, after_delivery}
 use Rattle.nit_overlay.specs.Frame.{Scenery, shown}
 use Rattle.std.proofs.lemmas.Bool.{or_parts}
-use Rattle.nit_host.specs.Area.{StaysOutside, has_place}
+use Rattle.nit_host.specs.Area.{HoldsBoth, HoldsUnless, IsAreaOf, StaysOutside, has_place}
 use Rattle.nit_host.specs.Host.{frame_by, sheet_in}
 use Rattle.nit_host.specs.Looked.{IsSeenBut}
-use Rattle.nit_host.specs.Touch.{HoldsBar, HoldsBarIn}
+use Rattle.nit_host.specs.Touch.{HoldsBar, HoldsBarIn, IsBarArea, IsToldArea}
 use Rattle.nit_host.specs.declared.host.area.Area.{Area}
 use Rattle.nit_host.proofs.Steps.{KeepSources}
 use Rattle.nit_host.proofs.Frames.{flat_stays, frame_pixel, seen_after, whole_stays}
@@ -86,48 +86,43 @@ none_killed s p (d ∷ ds) none = go d.item (none_killed s p ds) none
     go (item.Event e) further rest = further rest
     go item.Kill further rest = cc
 
+-- where nobody is locked out, each pixel shows the word that it showed
+words_told : (s : State) (dev : Device) (routed : Routed) (sheets sheets' : List (List ℕ))
+    → routed ≡ routed_as (route s.config s.input s.stack dev).deliveries → KeepSources → sheets' ≡ sheets
+    → kills (deliveries_of routed) ≡ false → (k : ℕ) → word_from (sheet_in sheets) (source_at s k)
+    ≡ word_from (sheet_in sheets') (source_at (after s (entry.Input dev routed)) k)
+words_told s dev routed sheets sheets' agrees keep same none k =
+    ap (word_from (sheet_in sheets)) (sym (keep s 0 (entry.Input dev routed) (pixel s.config.width k) agrees
+    (none_killed s (pixel s.config.width k) (deliveries_of routed) none)))
+    ∙ ap (λ (ss : List (List ℕ)). word_from (sheet_in ss) (source_at (after s (entry.Input dev routed)) k))
+    (sym same)
+
 seen_told : (s s' : State) (dev : Device) (routed : Routed) (sheets sheets' : List (List ℕ))
-    (a0 before now a1 a2 : Area) (seen : Option (List ℕ))
+    (a0 before now a1 : Area) (seen : Option (List ℕ))
     → routed ≡ routed_as (route s.config s.input s.stack dev).deliveries → KeepSources
-    → s' ≡ after s (entry.Input dev routed) → sheets' ≡ sheets → HoldsBar s before → HoldsBar s' now
-    → (kills (deliveries_of routed) ≡ true → (x y : ℕ) → x < s'.config.width → y < s'.config.height
-    → has_place now x y ≡ true)
-    → ((x y : ℕ) → has_place a0 x y ≡ true → has_place a1 x y ≡ true)
-    → ((x y : ℕ) → has_place before x y ≡ true → has_place a1 x y ≡ true)
-    → ((x y : ℕ) → has_place a1 x y ≡ true → has_place a2 x y ≡ true)
-    → ((x y : ℕ) → has_place now x y ≡ true → has_place a2 x y ≡ true) → IsSeenBut s sheets a0 seen
-    → IsSeenBut s' sheets' a2 seen
-seen_told s s' dev routed sheets sheets' a0 before now a1 a2 seen agrees keep is same holds holds' killed own others
-    own' others' known =
-    subst (λ (x : State). IsSeenBut x sheets' a2 seen) (sym is)
-    (seen_after s (after s (entry.Input dev routed)) sheets sheets' a2 refl refl refl a0 seen known
-    (λ x y in_. own' x y (own x y in_))
+    → s' ≡ after s (entry.Input dev routed) → sheets' ≡ sheets → HoldsBar s before
+    → IsToldArea s' (deliveries_of routed) now → HoldsUnless false a0 before now a1 → IsSeenBut s sheets a0 seen
+    → IsSeenBut s' sheets' a1 seen
+seen_told s s' dev routed sheets sheets' a0 before now a1 seen agrees keep is same holds told joined known =
+    subst (λ (x : State). IsSeenBut x sheets' a1 seen) (sym is)
+    (seen_after s (after s (entry.Input dev routed)) sheets sheets' a1 refl refl refl a0 seen known joined.own
     (go (kills (deliveries_of routed)) refl))
   where
-    holds'' : HoldsBar (after s (entry.Input dev routed)) a2
-    holds'' = subst (λ (x : State). HoldsBar x a2) is (bar_more s' now a2 holds' others')
-
-    words : kills (deliveries_of routed) ≡ false → (k : ℕ) → k < pixel_count s
-        → word_from (sheet_in sheets) (source_at s k)
-        ≡ word_from (sheet_in sheets') (source_at (after s (entry.Input dev routed)) k)
-    words none k less =
-        ap (word_from (sheet_in sheets)) (sym (keep s 0 (entry.Input dev routed) (pixel s.config.width k) agrees
-        (none_killed s (pixel s.config.width k) (deliveries_of routed) none)))
-        ∙ ap (λ (ss : List (List ℕ)). word_from (sheet_in ss) (source_at (after s (entry.Input dev routed)) k))
-        (sym same)
+    now_is : IsToldArea (after s (entry.Input dev routed)) (deliveries_of routed) now
+    now_is = subst (λ (x : State). IsToldArea x (deliveries_of routed) now) is told
 
     go : (b : Bool) → kills (deliveries_of routed) ≡ b
-        → StaysOutside s.config.width (pixel_count s) a2 (frame_by s sheets)
+        → StaysOutside s.config.width (pixel_count s) a1 (frame_by s sheets)
         (frame_by (after s (entry.Input dev routed)) sheets')
     go true there =
-        let all = subst (λ (x : State). (u v : ℕ) → u < x.config.width → v < x.config.height → has_place now u v ≡ true)
-        is
-        (killed there) in
-        whole_stays s.config.width s.config.height a2 (frame_by s sheets)
-        (frame_by (after s (entry.Input dev routed)) sheets') (λ x y wide high. others' x y (all x y wide high))
+        whole_stays s.config.width s.config.height a1 (frame_by s sheets)
+        (frame_by (after s (entry.Input dev routed)) sheets')
+        (λ x y wide high. joined.new refl x y (now_is.screen there x y wide high))
     go false none =
-        bar_changes s (after s (entry.Input dev routed)) sheets sheets' a2 refl refl refl (words none)
-        (bar_more s before a2 holds (λ x y in_. own' x y (others x y in_))) holds''
+        bar_changes s (after s (entry.Input dev routed)) sheets sheets' a1 refl refl refl
+        (λ k less. words_told s dev routed sheets sheets' agrees keep same none k)
+        (bar_more s before a1 holds (joined.old refl))
+        (bar_more (after s (entry.Input dev routed)) now a1 now_is.bar (joined.new refl))
 
 -- ---- a step of the user that changes nothing of what is shown
 
@@ -142,16 +137,6 @@ kept_views (d ∷ ds) stack e = kept_views ds (after_delivery d stack) parts.1 �
     one sid (item.Event x) f = refl
     one sid item.Kill f = cc
 
-told_words : (s : State) (dev : Device) (routed : Routed) (sheets sheets' : List (List ℕ))
-    → routed ≡ routed_as (route s.config s.input s.stack dev).deliveries → KeepSources → sheets' ≡ sheets
-    → kills (deliveries_of routed) ≡ false → (k : ℕ) → word_from (sheet_in sheets) (source_at s k)
-    ≡ word_from (sheet_in sheets') (source_at (after s (entry.Input dev routed)) k)
-told_words s dev routed sheets sheets' agrees keep same none k =
-    ap (word_from (sheet_in sheets)) (sym (keep s 0 (entry.Input dev routed) (pixel s.config.width k) agrees
-    (none_killed s (pixel s.config.width k) (deliveries_of routed) none)))
-    ∙ ap (λ (ss : List (List ℕ)). word_from (sheet_in ss) (source_at (after s (entry.Input dev routed)) k))
-    (sym same)
-
 seen_quiet : (s s' : State) (dev : Device) (routed : Routed) (sheets sheets' : List (List ℕ)) (a0 a1 : Area)
     (seen : Option (List ℕ)) → routed ≡ routed_as (route s.config s.input s.stack dev).deliveries
     → deliveries_of routed ≡ (route s.config s.input s.stack dev).deliveries → KeepSources
@@ -165,7 +150,7 @@ seen_quiet s s' dev routed sheets sheets' a0 a1 seen agrees told keep is same no
     (λ k less off.
     frame_pixel s sheets k less
     ∙ ap (shown (scenery_of s) (pixel s.config.width k))
-    (told_words s dev routed sheets sheets' agrees keep same none k)
+    (words_told s dev routed sheets sheets' agrees keep same none k)
     ∙ ap (λ (c : Scenery). shown c (pixel s.config.width k)
     (word_from (sheet_in sheets') (source_at (after s (entry.Input dev routed)) k))) shows
     ∙ sym (frame_pixel (after s (entry.Input dev routed)) sheets' k less)))
@@ -190,41 +175,45 @@ seen_quiet s s' dev routed sheets sheets' a0 a1 seen agrees told keep is same no
       focus = focuses i;
     }
 
--- what the user does, by whether the screen shows the same
+-- what the user does, by whether the screen shows the same, and the area of what has changed since
 pub seen_input : (is_same : Bool) (s s' : State) (dev : Device) (routed : Routed) (sheets sheets' : List (List ℕ))
     (a0 before now a1 : Area) (seen : Option (List ℕ))
     → routed ≡ routed_as (route s.config s.input s.stack dev).deliveries
     → deliveries_of routed ≡ (route s.config s.input s.stack dev).deliveries → KeepSources
-    → s' ≡ after s (entry.Input dev routed) → sheets' ≡ sheets → HoldsBar s before → HoldsBar s' now
-    → (kills (deliveries_of routed) ≡ true → (x y : ℕ) → x < s'.config.width → y < s'.config.height
-    → has_place now x y ≡ true)
-    → (is_same ≡ true → kills (deliveries_of routed) ≡ false) → (is_same ≡ true → s.input.mode ≡ s'.input.mode)
-    → (is_same ≡ true → s.input.focus ≡ s'.input.focus)
-    → ((x y : ℕ) → has_place a0 x y ≡ true → has_place a1 x y ≡ true)
-    → (is_same ≡ false → (x y : ℕ) → has_place before x y ≡ true → has_place a1 x y ≡ true)
-    → (is_same ≡ false → (x y : ℕ) → has_place now x y ≡ true → has_place a1 x y ≡ true)
-    → IsSeenBut s sheets a0 seen → IsSeenBut s' sheets' a1 seen
-seen_input true s s' dev routed sheets sheets' a0 before now a1 seen agrees told keep is same holds holds' killed none
-    modes focuses own others others' known =
-    seen_quiet s s' dev routed sheets sheets' a0 a1 seen agrees told keep is same (none refl) (modes refl)
-    (focuses refl) own known
-seen_input false s s' dev routed sheets sheets' a0 before now a1 seen agrees told keep is same holds holds' killed none
-    modes focuses own others others' known =
-    seen_told s s' dev routed sheets sheets' a0 before now a1 a1 seen agrees keep is same holds holds' killed own
-    (others refl) (λ x y in_. in_) (others' refl) known
+    → s' ≡ after s (entry.Input dev routed) → sheets' ≡ sheets → IsBarArea s before
+    → IsToldArea s' (deliveries_of routed) now → (is_same ≡ true → kills (deliveries_of routed) ≡ false)
+    → (is_same ≡ true → s.input.mode ≡ s'.input.mode) → (is_same ≡ true → s.input.focus ≡ s'.input.focus)
+    → HoldsUnless is_same a0 before now a1 → IsSeenBut s sheets a0 seen → IsAreaOf s.config.width s.config.height a0
+    → IsSeenBut s' sheets' a1 seen × IsAreaOf s'.config.width s'.config.height a1
+seen_input is_same s s' dev routed sheets sheets' a0 before now a1 seen agrees told keep is same old new none modes
+    focuses joined known on = (
+      go is_same none modes focuses joined,
+      subst (λ (x : State). IsAreaOf x.config.width x.config.height a1) (sym is)
+          (joined.area s.config.width s.config.height on old.area
+          (subst (λ (x : State). IsToldArea x (deliveries_of routed) now) is new).area),
+    )
+  where
+    go : (b : Bool) → (b ≡ true → kills (deliveries_of routed) ≡ false) → (b ≡ true → s.input.mode ≡ s'.input.mode)
+        → (b ≡ true → s.input.focus ≡ s'.input.focus) → HoldsUnless b a0 before now a1 → IsSeenBut s' sheets' a1 seen
+    go true none modes focuses joined =
+        seen_quiet s s' dev routed sheets sheets' a0 a1 seen agrees told keep is same (none refl) (modes refl)
+        (focuses refl) joined.own known
+    go false none modes focuses joined =
+        seen_told s s' dev routed sheets sheets' a0 before now a1 seen agrees keep is same old.bar new joined known
 
 -- ---- a client that comes
 
 pub seen_seated : (s s' : State) (seat : ℕ) (label : List ℕ) (sheets sheets' : List (List ℕ)) (a0 part a1 : Area)
     (seen : Option (List ℕ)) → s' ≡ opened seat label s
-    → ((k : ℕ) → k < pixel_count s → word_from (sheet_in sheets) (source_at s k)
+    → ((k : ℕ) → word_from (sheet_in sheets) (source_at s k)
     ≡ word_from (sheet_in sheets') (source_at (opened seat label s) k))
-    → HoldsBar s part
-    → ((x y : ℕ) → has_place a0 x y ≡ true → has_place a1 x y ≡ true)
-    → ((x y : ℕ) → has_place part x y ≡ true → has_place a1 x y ≡ true) → IsSeenBut s sheets a0 seen
-    → IsSeenBut s' sheets' a1 seen
-seen_seated s s' seat label sheets sheets' a0 part a1 seen is words holds own others known =
-    let all = bar_more s part a1 holds others in
-    subst (λ (x : State). IsSeenBut x sheets' a1 seen) (sym is)
-    (seen_after s (opened seat label s) sheets sheets' a1 refl refl refl a0 seen known own
-    (bar_changes s (opened seat label s) sheets sheets' a1 refl refl refl words all all))
+    → IsBarArea s part → HoldsBoth a0 part a1 → IsSeenBut s sheets a0 seen
+    → IsAreaOf s.config.width s.config.height a0
+    → IsSeenBut s' sheets' a1 seen × IsAreaOf s'.config.width s'.config.height a1
+seen_seated s s' seat label sheets sheets' a0 part a1 seen is words holds both known on =
+    let all = bar_more s part a1 holds.bar both.others in
+    subst (λ (x : State). IsSeenBut x sheets' a1 seen × IsAreaOf x.config.width x.config.height a1) (sym is) (
+      seen_after s (opened seat label s) sheets sheets' a1 refl refl refl a0 seen known both.own
+          (bar_changes s (opened seat label s) sheets sheets' a1 refl refl refl (λ k less. words k) all all),
+      both.area s.config.width s.config.height on holds.area,
+    )

@@ -68,10 +68,6 @@ is_plan width height bar seats none =
 within : (first last n : ℕ) → is_within first last n ≡ true → (first ≤ n) × (n ≤ last)
 within first last n is = (grind (arith, nat_tests), grind (arith, nat_tests))
 
-pub few_seats : (width height : ℕ) (bar : Bool) (seats : List SeatPlan) → refused_plan width height bar seats ≡ None
-    → length seats ≤ 16
-few_seats width height bar seats none = (within 1 16 (length seats) (is_plan width height bar seats none).count).1
-
 -- ---- the labels
 
 -- a digit that is one

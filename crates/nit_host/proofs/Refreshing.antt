@@ -1,8 +1,8 @@
 -- What a refresh leaves, by whether it is refused.
-use Rattle.std.proofs.Common.{Bool, List, None, Option, Some, ap, arith, cond, false, inl, inr}
+use Rattle.std.proofs.Common.{Bool, List, None, Option, Some, ap, arith, cond, false, get_or}
+use Rattle.std.proofs.Common.{inl, inr}
 use Rattle.std.proofs.Common.{length, nat_lt, refl, set, slice_get, slice_index, subst, sym, true}
 use Rattle.std.proofs.Common.{ℕ, ℤ, ◌&&◌, ◌*◌, ◌<◌, ◌==◌, ◌∙◌, ◌≡◌, ◌≢◌, ◌≤◌}
-use Rattle.std.proofs.Math.ListN.{get_or-eq_default}
 use Rattle.std.proofs.lemmas.Bool.{cases_eq, eq-eqb}
 use Rattle.std.proofs.lemmas.List.{get_or-set_same}
 use Rattle.nit_events.specs.declared.call.Call.TheVariants as call
@@ -13,7 +13,7 @@ use Rattle.nit_journal.proofs.ForCallers.{refused_reply, serve_accepted, serve_r
 use Rattle.nit_repaint.specs.PixelOwners.{is_word_in}
 use Rattle.nit_screen.specs.DirtyPixels.{dirty}
 use Rattle.nit_stack.specs.Sources.{Bare, Black, PixelSource, Word}
-use Rattle.nit_word.proofs.ForCallers.{set_long, word_at}
+use Rattle.nit_word.proofs.ForCallers.{set_long}
 use Rattle.nit_host.specs.Below.{Call, DesktopModel, Entry, Rectangle, Reply, Session, Sight, State}
 use Rattle.nit_host.specs.Below.{after, covers, is_accepted, pixel, plain_sight, rectangle, refusal}
 use Rattle.nit_host.specs.Below.{serve, session, set_where, source_at, told_words, word_from}
@@ -22,27 +22,16 @@ use Rattle.nit_host.specs.Handing.{after_handing}
 use Rattle.nit_host.specs.Host.{HostModel, called, handed, is_handed, refreshed, reply_to, sheet_in}
 use Rattle.nit_host.specs.Host.{with_handed}
 use Rattle.nit_host.specs.Sheet.{SheetModel, low_bytes}
-use Rattle.nit_host.proofs.SheetLists.{own_plain, own_room, own_words, put_elsewhere, put_there}
-use Rattle.nit_host.proofs.SheetLists.{words_at}
+use Rattle.nit_host.proofs.SheetLists.{hollow_there, own_plain, own_room, own_words, put_elsewhere}
+use Rattle.nit_host.proofs.SheetLists.{put_there, words_at}
 use Rattle.nit_host.proofs.CallChanges.{Words, words_stay}
+use Rattle.nit_host.proofs.HandedWords.{not_here}
 use Rattle.nit_host.proofs.Steps.{KeepSources, Serves, WasCalled, called_now, glasses_now}
-use Rattle.nit_host.proofs.Steps.{same_words}
-use Rattle.nit_host.proofs.Steps.{with_sheet, words_with}
-use mathlib.Core.Logic.{dite}
-use native.Mathlib.Decide.{dec_lt}
+use Rattle.nit_host.proofs.Steps.{host_model, same_words, with_sheet, words_with}
 
 second_off : (a b : Bool) → a ≡ true → (a && b) ≡ false → b ≡ false
 second_off true b is both = both
 second_off false b is both = cc
-
--- a word that was not handed in
-off_part : (p : ℕ → Bool) (c : ℕ → ℕ) (words : List ℕ) (i : ℕ) → p i ≡ false
-    → slice_index words i ≡ slice_index (set_where p c words) i
-off_part p c words i off =
-    sym (dite (dec_lt i (length words))
-    (λ inside. word_at p c words i inside ∙ ap (λ (b : Bool). cond b (c i) (slice_index words i)) off)
-    (λ behind. get_or-eq_default (set_where p c words) 0 (let long = set_long p c words in omega (arith, long, behind))
-    ∙ sym (get_or-eq_default words 0 (omega arith))))
 
 -- the words of a pixel that does not show the part
 clean_word : (seat columns rows : ℕ) (part : Rectangle) (colour : ℕ → ℕ) (tables tables' : ℕ → List ℕ) (x : PixelSource)
@@ -57,8 +46,8 @@ clean_word seat columns rows part colour tables tables' (Word t i) others own of
           let outside : covers part (pixel columns i) ≡ false =
           second_off (t == seat) (covers part (pixel columns i)) (eq-eqb t seat e) off in
           ap (λ (n : ℕ). slice_index (tables n) i) e
-          ∙ off_part (is_handed columns rows part) colour (tables seat) i
-          (ap (λ (b : Bool). nat_lt i (columns * rows) && b) outside ∙ never (nat_lt i (columns * rows)))
+          ∙ sym (not_here (is_handed columns rows part) colour (tables seat) i
+          (ap (λ (b : Bool). nat_lt i (columns * rows) && b) outside ∙ never (nat_lt i (columns * rows))))
           ∙ ap (λ (ws : List ℕ). slice_index ws i) (sym own) ∙ ap (λ (n : ℕ). slice_index (tables' n) i) (sym e)
       | inr other ↦ ap (λ (ws : List ℕ). slice_index ws i) (others t other)
     ]
@@ -69,26 +58,19 @@ clean_word seat columns rows part colour tables tables' (Word t i) others own of
 
 -- what a refresh left of a host
 pub record WasRefreshed (seat : ℕ) (x y : ℤ) (w h : ℕ) (words : List ℕ) (r : Reply) (host : HostModel)
-    (d : DesktopModel SheetModel) (hollows : List SheetModel) : Type 0 where
+    (seen : Option (List ℕ)) (d : DesktopModel SheetModel) (hollows : List SheetModel) : Type 0 where
   pub is_host : IsHost d hollows
   pub replied : r ≡ reply_to host seat (call.Refresh x y w h)
-  pub now : record {
-    state = d.state;
-    sheets = sheets_of d.glasses;
-    left = d.left;
-    last =
-        Some (entry.Call seat (call.Refresh x y w h) r);
-    seen = host.seen;
-  } ≡ refreshed seat x y w h words host
+  pub now : host_model d (Some (entry.Call seat (call.Refresh x y w h) r)) seen ≡ refreshed seat x y w h words host
 
-module _ (seat : ℕ) (x y : ℤ) (w h : ℕ) (words : List ℕ) (r : Reply) (host : HostModel) (d : DesktopModel SheetModel)
-    (hollows : List SheetModel) where
+module _ (seat : ℕ) (x y : ℤ) (w h : ℕ) (words : List ℕ) (r : Reply) (host : HostModel) (seen : Option (List ℕ))
+    (d : DesktopModel SheetModel) (hollows : List SheetModel) where
   refresh : Call
   refresh = call.Refresh x y w h
 
   by_answer : (b : Bool) → is_accepted (reply_to host seat (call.Refresh x y w h)) ≡ b
-      → WasCalled seat (call.Refresh x y w h) r (cond b (with_handed seat (rectangle x y w h) words host) host) d
-      hollows → WasRefreshed seat x y w h words r host d hollows
+      → WasCalled seat (call.Refresh x y w h) r (cond b (with_handed seat (rectangle x y w h) words host) host) seen
+      d hollows → WasRefreshed seat x y w h words r host seen d hollows
   by_answer true is called_ = record {
     is_host = called_.host;
     replied = called_.reply;
@@ -125,8 +107,8 @@ module _ (d d1 d2 : DesktopModel SheetModel) (hollows : List SheetModel) (seat :
     (found : Option Rectangle) (r : Reply) (hollow own own' last : SheetModel) (kept : Option Entry)
     (seen : Option (List ℕ))
     (host : IsHost d hollows) (inside : seat < length d.state.sessions) (long : length d.state.sessions
-    ≡ length d.state.config.clients) (swapped : d1 ≡ with_sheet d seat hollow) (there : sheet_at hollows seat
-    ≡ hollow)
+    ≡ length d.state.config.clients) (swapped : d1 ≡ with_sheet d seat hollow) (at : hollow
+    ≡ get_or hollows seat hollow)
     (out : slice_get d.glasses seat ≡ Some own)
     (in_ : own'.sight ≡ plain_sight own.sight.owner
     (after_handing (session d.state seat).bw (session d.state seat).bh found words
@@ -138,7 +120,10 @@ module _ (d d1 d2 : DesktopModel SheetModel) (hollows : List SheetModel) (seat :
   s = session d.state seat
 
   client : seat < length d.state.config.clients
-  client = subst (λ (n : ℕ). seat < n) long inside
+  client = rw (← long) inside
+
+  there : sheet_at hollows seat ≡ hollow
+  there = hollow_there d.state.config hollows seat hollow host.hollow client at
 
   plain : IsPlainOf d.state.config seat own'.sight
   plain = handed_plain d.state.config seat (session d.state seat).bw (session d.state seat).bh found words own own'
@@ -165,40 +150,7 @@ module _ (d d1 d2 : DesktopModel SheetModel) (hollows : List SheetModel) (seat :
       ∙ ap (λ (g : SheetModel). told_words g.sight.words)
       (put_there d.glasses seat own' (subst (λ (n : ℕ). seat < n) (sym host.sheets.count) client))
 
-  -- a refused one
-  refused : (h0 : HostModel) → record {
-    state = d.state;
-    sheets = sheets_of d.glasses;
-    left = d.left;
-    last =
-        kept;
-    seen = seen;
-  } ≡ h0
-      → (why : Reply) → refusal (session d.state seat) (call.Refresh x y w h) ≡ Some why
-      → WasCalled seat (call.Refresh x y w h) r h0 d2 (set hollows seat last)
-  refused h0 view why is =
-      let same : told_words own'.sight.words ≡ sheet_in (sheets_of d.glasses) seat =
-      new_words ∙ ap (λ (o : Option Rectangle). after_handing (session d.state seat).bw (session d.state seat).bh o
-      words (sheet_in (sheets_of d.glasses) seat)) (refuses why is) in
-      let sheets : sheets_of (set d.glasses seat own') ≡ sheets_of d.glasses =
-      words_with d.state.config d.glasses seat own'
-      ∙ same_words (sheets_of d.glasses) seat (told_words own'.sight.words) same in
-      let done = called_now d d1 d2 hollows seat (call.Refresh x y w h) r hollow own own' last kept seen host inside
-      swapped
-      there out served plain enough keep
-      (λ k clean. ap (λ (ss : List (List ℕ)). word_from (sheet_in ss)
-      (source_at (after d.state (entry.Call seat (call.Refresh x y w h) r)) k)) (sym sheets)) in
-      subst (λ (m : HostModel). WasCalled seat (call.Refresh x y w h) r m d2 (set hollows seat last))
-      ((λ i. record {
-        state = d.state;
-        sheets = same_words (sheets_of d.glasses) seat (told_words own'.sight.words) same
-            i;
-        left = d.left;
-        last = kept;
-        seen = seen;
-      }) ∙ view) done
-
-  -- an accepted one
+  -- what an accepted one answers
   answer : refusal (session d.state seat) (call.Refresh x y w h) ≡ None
       → serve (session d.state seat) (call.Refresh x y w h) ≡ answered reply.Done (session d.state seat)
   answer none = serve_accepted (session d.state seat) (call.Refresh x y w h) none
@@ -225,67 +177,72 @@ module _ (d d1 d2 : DesktopModel SheetModel) (hollows : List SheetModel) (seat :
       (source_at (after d.state (entry.Call seat (call.Refresh x y w h) r)) k)) (sym (columns_stay none))
       ∙ second_off (is_accepted r) _ yes_ clean
 
-  accepted_ : (h0 : HostModel) → record {
-    state = d.state;
-    sheets = sheets_of d.glasses;
-    left = d.left;
-    last =
-        kept;
-    seen = seen;
-  }
-      ≡ h0 → refusal (session d.state seat) (call.Refresh x y w h) ≡ None
-      → WasCalled seat (call.Refresh x y w h) r (with_handed seat (rectangle x y w h) words h0) d2
-      (set hollows seat last)
-  accepted_ h0 view none =
-      let part : told_words own'.sight.words ≡ handed (session d.state seat) (rectangle x y w h) words
-      (sheet_in (sheets_of d.glasses) seat) =
-      new_words ∙ ap (λ (o : Option Rectangle). after_handing (session d.state seat).bw (session d.state seat).bh o
-      words (sheet_in (sheets_of d.glasses) seat)) (accepts none) in
+  -- the seat's words where it is accepted, and where it is not
+  part : refusal (session d.state seat) (call.Refresh x y w h) ≡ None → told_words own'.sight.words
+      ≡ handed (session d.state seat) (rectangle x y w h) words (sheet_in (sheets_of d.glasses) seat)
+  part none = new_words ∙ ap (λ (o : Option Rectangle). after_handing (session d.state seat).bw
+      (session d.state seat).bh o words (sheet_in (sheets_of d.glasses) seat)) (accepts none)
+
+  same : (why : Reply) → refusal (session d.state seat) (call.Refresh x y w h) ≡ Some why
+      → told_words own'.sight.words ≡ sheet_in (sheets_of d.glasses) seat
+  same why is = new_words ∙ ap (λ (o : Option Rectangle). after_handing (session d.state seat).bw
+      (session d.state seat).bh o words (sheet_in (sheets_of d.glasses) seat)) (refuses why is)
+
+  -- what pixels show that the refresh does not make dirty stands where it stood
+  words_now : (o : Option Reply) → refusal (session d.state seat) (call.Refresh x y w h) ≡ o
+      → Words d.state seat r (sheets_of d.glasses) (sheets_of (set d.glasses seat own')) (call.Refresh x y w h)
+  words_now None is = λ k clean. clean_word seat (session d.state seat).bw (session d.state seat).bh
+      (rectangle x y w h) (low_bytes words) (sheet_in (sheets_of d.glasses))
+      (sheet_in (sheets_of (set d.glasses seat own')))
+      (source_at (after d.state (entry.Call seat (call.Refresh x y w h) r)) k) others (own_now ∙ part is)
+      (off_now is k clean)
+  words_now (Some why) is =
+      words_stay d.state seat r (call.Refresh x y w h) (sheets_of d.glasses) (sheets_of (set d.glasses seat own'))
+      (words_with d.state.config d.glasses seat own'
+      ∙ same_words (sheets_of d.glasses) seat (told_words own'.sight.words) (same why is))
+
+  -- a refused one
+  refused : (h0 : HostModel) → host_model d kept seen ≡ h0 → (why : Reply)
+      → refusal (session d.state seat) (call.Refresh x y w h) ≡ Some why
+      → WasCalled seat (call.Refresh x y w h) r h0 seen d2 (set hollows seat last)
+  refused h0 view why is =
       let done = called_now d d1 d2 hollows seat (call.Refresh x y w h) r hollow own own' last kept seen host inside
-      swapped
-      there out served plain enough keep
-      (λ k clean. clean_word seat (session d.state seat).bw (session d.state seat).bh (rectangle x y w h)
-      (low_bytes words) (sheet_in (sheets_of d.glasses)) (sheet_in (sheets_of (set d.glasses seat own')))
-      (source_at (after d.state (entry.Call seat (call.Refresh x y w h) r)) k) others (own_now ∙ part)
-      (off_now none k clean)) in
-      subst (λ (m : HostModel). WasCalled seat (call.Refresh x y w h) r m d2 (set hollows seat last))
+      swapped there out served plain enough keep (words_now (Some why) is) in
+      subst (λ (m : HostModel). WasCalled seat (call.Refresh x y w h) r m seen d2 (set hollows seat last))
       ((λ i. record {
         state = d.state;
-        sheets = set (sheets_of d.glasses) seat (part i);
+        sheets = same_words (sheets_of d.glasses) seat (told_words own'.sight.words) (same why is) i;
         left = d.left;
-        last =
-            kept;
+        last = kept;
+        seen = seen;
+      }) ∙ view) done
+
+  -- an accepted one
+  accepted_ : (h0 : HostModel) → host_model d kept seen ≡ h0
+      → refusal (session d.state seat) (call.Refresh x y w h) ≡ None
+      → WasCalled seat (call.Refresh x y w h) r (with_handed seat (rectangle x y w h) words h0) seen d2
+      (set hollows seat last)
+  accepted_ h0 view none =
+      let done = called_now d d1 d2 hollows seat (call.Refresh x y w h) r hollow own own' last kept seen host inside
+      swapped there out served plain enough keep (words_now None none) in
+      subst (λ (m : HostModel). WasCalled seat (call.Refresh x y w h) r m seen d2 (set hollows seat last))
+      ((λ i. record {
+        state = d.state;
+        sheets = set (sheets_of d.glasses) seat (part none i);
+        left = d.left;
+        last = kept;
         seen = seen;
       })
       ∙ ap (with_handed seat (rectangle x y w h) words) view) done
 
-  -- what pixels show that the refresh does not make dirty stands where it stood
   words_handed : Words d.state seat r (sheets_of d.glasses) (sheets_of d2.glasses) (call.Refresh x y w h)
   words_handed = subst (λ (gs : List SheetModel). Words d.state seat r (sheets_of d.glasses) (sheets_of gs)
       (call.Refresh x y w h))
       (sym (glasses_now d d1 d2 hollows seat (call.Refresh x y w h) r hollow own own' last kept seen host inside swapped
-      there out served plain enough keep)) (by (refusal (session d.state seat) (call.Refresh x y w h)) refl)
-    where
-      by : (o : Option Reply) → refusal (session d.state seat) (call.Refresh x y w h) ≡ o
-          → Words d.state seat r (sheets_of d.glasses) (sheets_of (set d.glasses seat own')) (call.Refresh x y w h)
-      by None is =
-          let part = new_words
-          ∙ ap (λ (o : Option Rectangle). after_handing (session d.state seat).bw (session d.state seat).bh o words
-          (sheet_in (sheets_of d.glasses) seat)) (accepts is) in
-          λ k clean. clean_word seat (session d.state seat).bw (session d.state seat).bh (rectangle x y w h)
-          (low_bytes words) (sheet_in (sheets_of d.glasses)) (sheet_in (sheets_of (set d.glasses seat own')))
-          (source_at (after d.state (entry.Call seat (call.Refresh x y w h) r)) k) others (own_now ∙ part)
-          (off_now is k clean)
-      by (Some why) is =
-          let same = new_words ∙ ap (λ (o : Option Rectangle). after_handing (session d.state seat).bw
-          (session d.state seat).bh o words (sheet_in (sheets_of d.glasses) seat)) (refuses why is) in
-          words_stay d.state seat r (call.Refresh x y w h) (sheets_of d.glasses) (sheets_of (set d.glasses seat own'))
-          (words_with d.state.config d.glasses seat own'
-          ∙ same_words (sheets_of d.glasses) seat (told_words own'.sight.words) same)
+      there out served plain enough keep)) (words_now (refusal (session d.state seat) (call.Refresh x y w h)) refl)
 
-  pub was_refreshed : (h0 : HostModel)
-      → record { state = d.state; sheets = sheets_of d.glasses; left = d.left; last = kept; seen = seen } ≡ h0
-      → WasRefreshed seat x y w h words r h0 d2 (set hollows seat last)
+  pub was_refreshed : (h0 : HostModel) → host_model d kept seen ≡ h0
+      → WasRefreshed seat x y w h words r h0 seen d2 (set hollows seat last)
       × Words d.state seat r (sheets_of d.glasses) (sheets_of d2.glasses) (call.Refresh x y w h)
   was_refreshed h0 view = (by (refusal (session d.state seat) (call.Refresh x y w h)) refl, words_handed)
     where
@@ -295,11 +252,11 @@ module _ (d d1 d2 : DesktopModel SheetModel) (hollows : List SheetModel) (seat :
           ∙ ap (λ (b : Answered). b.reply) is
 
       by : (o : Option Reply) → refusal (session d.state seat) (call.Refresh x y w h) ≡ o
-          → WasRefreshed seat x y w h words r h0 d2 (set hollows seat last)
-      by None is = by_answer seat x y w h words r h0 d2 (set hollows seat last) true
+          → WasRefreshed seat x y w h words r h0 seen d2 (set hollows seat last)
+      by None is = by_answer seat x y w h words r h0 seen d2 (set hollows seat last) true
           (ap is_accepted (replied _ (answer is))) (accepted_ h0 view is)
       by (Some why) is =
-          by_answer seat x y w h words r h0 d2 (set hollows seat last) false
+          by_answer seat x y w h words r h0 seen d2 (set hollows seat last) false
           (ap is_accepted (replied _ (serve_refused (session d.state seat) (call.Refresh x y w h) why is))
           ∙ refused_reply (session d.state seat) (call.Refresh x y w h) why is)
           (refused h0 view why is)

@@ -1,5 +1,5 @@
 -- What is left where a client was given a seat.
-use Rattle.std.proofs.Common.{List, None, Option, Some, ap, arith, false, get_or-set_other}
+use Rattle.std.proofs.Common.{List, None, Option, Some, ap, arith, false, get_or, get_or-set_other}
 use Rattle.std.proofs.Common.{get_or-set_same, inl, inr, length, refl, set, slice_get, slice_index}
 use Rattle.std.proofs.Common.{subst, sym, ℕ, ◌<◌, ◌∙◌, ◌≡◌, ◌≢◌, ◌≤◌, nat_lt}
 use Rattle.std.proofs.Math.ListN.{length-set}
@@ -25,9 +25,9 @@ use Rattle.nit_host.specs.Seats.{is_label_taken, is_taken, seated, unseated}
 use Rattle.nit_host.specs.Sheet.{SheetModel, blank_sheet}
 use Rattle.nit_host.proofs.Beginnings.{blank_plain, no_client}
 use Rattle.nit_host.proofs.Served.{not_met, passed}
-use Rattle.nit_host.proofs.SheetLists.{own_plain, own_room, put_elsewhere, put_there, rooms}
-use Rattle.nit_host.proofs.SheetLists.{same_sheets, sight_at, sights, words_at}
-use Rattle.nit_host.proofs.Steps.{sheets_with, with_sheet, words_with}
+use Rattle.nit_host.proofs.SheetLists.{each_put, hollow_there, own_plain, own_room, put_elsewhere}
+use Rattle.nit_host.proofs.SheetLists.{put_there, rooms, same_sheets, sight_at, sights, words_at}
+use Rattle.nit_host.proofs.Steps.{host_model, sheets_with, with_sheet, words_with}
 use Rattle.nit_word.proofs.ForCallers.{length-zeros}
 use mathlib.Core.Logic.{dite}
 use native.Mathlib.Decide.{dec_lt}
@@ -42,8 +42,10 @@ pub record MaySit (h : HostModel) (seat : ℕ) (label : List ℕ) : Type 0 where
 not_live : (s : State) (seat : ℕ) → is_taken s seat ≡ false → (session s seat).status ≢ status.Live
 not_live s seat off live = false≢true (sym off ∙ ap Rattle.nit_host.specs.Seats.is_live live)
 
-pub may_sit : (h : HostModel) (seat : ℕ) (label : List ℕ) → unseated h seat label ≡ None → MaySit h seat label
-may_sit h seat label none =
+pub may_sit : (h h' : HostModel) (seat : ℕ) (label : List ℕ) → h ≡ h' → None ≡ unseated h' seat label
+    → MaySit h seat label
+may_sit h h' seat label view is =
+    let none : unseated h seat label ≡ None = rw view (sym is) in
     let a = passed (nat_lt seat (length h.state.sessions)) _ _ none in
     let b = not_met (is_taken h.state seat) _ _ a.1 in
     let c = not_met (is_label_taken h.state seat label) _ _ b.1 in
@@ -105,23 +107,10 @@ pub hollow_with : (config : Configuration) (hollows : List SheetModel) (seat : �
     → AreHollow config (set hollows seat sheet)
 hollow_with config hollows seat sheet are is none = record {
   count = length-set hollows seat sheet ∙ are.count;
-  blank = λ t inside.
-      elim (cases_eq t seat) [
-        | inl e ↦
-            let here = put_there hollows seat sheet
-            (subst (λ (n : ℕ). seat < n) (sym are.count) (subst (λ (n : ℕ). n < length config.clients) e inside)) in
-            ap (λ (n : ℕ). (sheet_at (set hollows seat sheet) n).sight) e ∙ ap (λ (g : SheetModel). g.sight) here ∙ is
-            ∙ ap (λ (n : ℕ). blank_sheet n (size_at config n)) (sym e)
-        | inr other ↦ ap (λ (g : SheetModel). g.sight) (put_elsewhere hollows seat t sheet other) ∙ are.blank t inside
-      ];
-  room = λ t inside.
-      elim (cases_eq t seat) [
-        | inl e ↦
-            let here = put_there hollows seat sheet
-            (subst (λ (n : ℕ). seat < n) (sym are.count) (subst (λ (n : ℕ). n < length config.clients) e inside)) in
-            ap (λ (n : ℕ). (sheet_at (set hollows seat sheet) n).room) e ∙ ap (λ (g : SheetModel). g.room) here ∙ none
-        | inr other ↦ ap (λ (g : SheetModel). g.room) (put_elsewhere hollows seat t sheet other) ∙ are.room t inside
-      ];
+  blank = λ t inside. each_put (λ n g. g.sight ≡ blank_sheet n (size_at config n)) hollows seat t sheet
+      (λ e. omega (arith, e, inside, are.count)) is (are.blank t inside);
+  room = λ t inside. each_put (λ n g. g.room ≡ 0) hollows seat t sheet (λ e. omega (arith, e, inside, are.count)) none
+      (are.room t inside);
 }
 
 -- ---- pixels that are not of a session
@@ -160,23 +149,25 @@ pub record Opens (seat : ℕ) (label : List ℕ) (blank back : SheetModel) (d d'
   pub rooms_now : rooms d'.glasses ≡ set (rooms d.glasses) seat blank.room
   pub out : back.sight ≡ glass_in (sights d.glasses) seat
 
-pub record WasSeated (seat : ℕ) (label : List ℕ) (h : HostModel) (d : DesktopModel SheetModel)
-    (hollows : List SheetModel) : Type 0 where
+pub record WasSeated (seat : ℕ) (label : List ℕ) (h : HostModel) (seen : Option (List ℕ))
+    (d : DesktopModel SheetModel) (hollows : List SheetModel) : Type 0 where
   pub host : IsHost d hollows
-  pub now : record { state = d.state; sheets = sheets_of d.glasses; left = d.left; last = None; seen = h.seen }
-      ≡ seated seat label h
+  pub now : host_model d None seen ≡ seated seat label h
 
 module _ (d d1 d2 : DesktopModel SheetModel) (hollows : List SheetModel) (seat : ℕ) (label : List ℕ)
     (hollow own blank back gone : SheetModel) (kept : Option Entry) (seen : Option (List ℕ))
     (host : IsHost d hollows) (inside : seat < length d.state.config.clients) (live : AreLive d.state)
     (over : (session d.state seat).status ≢ status.Live) (swapped : d1 ≡ with_sheet d seat hollow)
-    (there : sheet_at hollows seat ≡ hollow) (out : slice_get d.glasses seat ≡ Some own)
+    (at : hollow ≡ get_or hollows seat hollow) (out : slice_get d.glasses seat ≡ Some own)
     (wiped : blank.sight ≡ blank_sheet own.sight.owner own.sight.size) (room : own.room ≤ blank.room)
     (opens : Opens seat label blank back d1 d2)
     (emptied : gone.sight ≡ blank_sheet back.sight.owner back.sight.size) (nothing : gone.room ≡ 0)
     (keep : OpeningsKeep) where
   config : Configuration
   config = d.state.config
+
+  there : sheet_at hollows seat ≡ hollow
+  there = hollow_there d.state.config hollows seat hollow host.hollow inside at
 
   o0 : Opens seat label blank back (with_sheet d seat hollow) d2
   o0 = subst (λ (x : DesktopModel SheetModel). Opens seat label blank back x d2) swapped opens
@@ -240,35 +231,26 @@ module _ (d d1 d2 : DesktopModel SheetModel) (hollows : List SheetModel) (seat :
       others (owns_none d.state seat over live p)
       ∙ ap (word_from (sheet_in (sheets_of (set d.glasses seat blank)))) (sym (keep d.state seat label p live over)))
 
-  pub was_seated : (h : HostModel)
-      → record { state = d.state; sheets = sheets_of d.glasses; left = d.left; last = kept; seen = seen } ≡ h
-      → WasSeated seat label h d2 (set hollows seat gone)
+  pub was_seated : (h : HostModel) → host_model d kept seen ≡ h
+      → WasSeated seat label h seen d2 (set hollows seat gone)
       × ((k : ℕ) → word_from (sheet_in (sheets_of d.glasses)) (source_of d.state (pixel d.state.config.width k))
       ≡ word_from (sheet_in (sheets_of d2.glasses))
       (source_of (opened seat label d.state) (pixel d.state.config.width k)))
   was_seated h view = (seated_now h view, words_now)
     where
-      seated_now : (h : HostModel)
-          → record { state = d.state; sheets = sheets_of d.glasses; left = d.left; last = kept; seen = seen } ≡ h
-          → WasSeated seat label h d2 (set hollows seat gone)
+      seated_now : (h : HostModel) → host_model d kept seen ≡ h
+          → WasSeated seat label h seen d2 (set hollows seat gone)
       seated_now h view =
           let config_now : d2.state.config ≡ relabelled seat label d.state.config =
           ap (λ (s : State). s.config) o0.state in
-          subst (λ (x : HostModel). WasSeated seat label x d2 (set hollows seat gone)) view
+          subst (λ (x : HostModel). WasSeated seat label x seen d2 (set hollows seat gone)) view
           (record {
             host = record {
-              sheets = subst (λ (k : Configuration). AreSheets k d2.glasses) (sym config_now)
-                  (subst (AreSheets (relabelled seat label d.state.config)) (sym glasses_now)
-                  (sheets_relabelled d.state.config seat label (set d.glasses seat blank) all));
-              hollow = subst (λ (k : Configuration). AreHollow k (set hollows seat gone)) (sym config_now)
-                  (hollow_relabelled d.state.config seat label (set hollows seat gone)
+              sheets = rw (config_now, glasses_now)
+                  (sheets_relabelled d.state.config seat label (set d.glasses seat blank) all);
+              hollow = rw config_now (hollow_relabelled d.state.config seat label (set hollows seat gone)
                   (hollow_with d.state.config hollows seat gone host.hollow gone_is nothing));
-              fresh = subst (λ (s : State). IsFresh s (sheet_in (sheets_of d2.glasses)) d2.raw) (sym o0.state)
-                  (subst (λ (gs : List SheetModel). IsFresh (opened seat label d.state) (sheet_in (sheets_of gs))
-                  d2.raw)
-                  (sym glasses_now)
-                  (subst (IsFresh (opened seat label d.state) (sheet_in (sheets_of (set d.glasses seat blank))))
-                  (sym o0.raw) fresh_now));
+              fresh = rw (o0.state, glasses_now, o0.raw) fresh_now;
             };
             now = λ i. record {
               state = o0.state i;

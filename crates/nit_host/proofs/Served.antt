@@ -1,6 +1,6 @@
 -- What it means that nothing is against a call, a refresh or a device event.
 use Rattle.std.proofs.Common.{Bool, List, None, Option, Some, arith, false, length, nat_lt, not}
-use Rattle.std.proofs.Common.{refl, true, ℕ, ◌-◌, ◌*◌, ◌<◌, ◌==◌, ◌^◌, ◌≡◌, ◌≤◌, ◌&&◌}
+use Rattle.std.proofs.Common.{refl, sym, true, ℕ, ◌-◌, ◌*◌, ◌<◌, ◌==◌, ◌^◌, ◌≡◌, ◌≤◌}
 use Rattle.std.proofs.Common.{if◌then◌else◌}
 use Rattle.std.proofs.lemmas.Bool.Decides.{nat_tests}
 use Rattle.nit_host.specs.Below.{Call, asks_view, session}
@@ -17,25 +17,23 @@ pub not_met : {A : Type 0} (b : Bool) (why : A) (rest : Option A) → (if b then
 not_met true why rest is = cc
 not_met false why rest is = (refl, is)
 
-both : (a b : Bool) → (a && not b) ≡ false → a ≡ true → b ≡ true
-both true true none e = refl
-both true false none e = cc
-both false b none e = cc
-
 pub record MayCall (h : HostModel) (seat : ℕ) (call : Call) : Type 0 where
   pub inside : seat < length h.state.sessions
   pub handles : asks_view call ≡ true → (session h.state seat).next < 2 ^ 32 - 2
   pub left : 1 ≤ h.left
 
-pub may_call : (h : HostModel) (seat : ℕ) (call : Call) → unserved_call h seat call ≡ None → MayCall h seat call
-may_call h seat call none =
+pub may_call : (h h' : HostModel) (seat : ℕ) (call : Call) → h ≡ h' → None ≡ unserved_call h' seat call
+    → MayCall h seat call
+may_call h h' seat call view is =
+    let none : unserved_call h seat call ≡ None = rw view (sym is) in
     let a = passed (nat_lt seat (length h.state.sessions)) _ _ none in
     let b = not_met (lacks_handles (session h.state seat) call) _ _ a.1 in
     let c = not_met (h.left == 0) _ _ b.1 in
     record {
       inside = grind (arith, nat_tests);
-      handles = λ e. let room = both (asks_view call) (nat_lt (session h.state seat).next (2 ^ 32 - 2)) b.0 e in grind
-          (arith, nat_tests);
+      handles = λ e.
+          let room : not (nat_lt (session h.state seat).next (2 ^ 32 - 2)) ≡ false = rw e at b.0 in
+          grind (arith, nat_tests);
       left = grind (arith, nat_tests);
     }
 
@@ -43,9 +41,10 @@ pub record MayRefresh (h : HostModel) (seat : ℕ) (words : List ℕ) : Type 0 w
   pub inside : seat < length h.state.sessions
   pub enough : (session h.state seat).bw * (session h.state seat).bh ≤ length words
 
-pub may_refresh : (h : HostModel) (seat : ℕ) (words : List ℕ) → unserved_refresh h seat words ≡ None
+pub may_refresh : (h h' : HostModel) (seat : ℕ) (words : List ℕ) → h ≡ h' → None ≡ unserved_refresh h' seat words
     → MayRefresh h seat words
-may_refresh h seat words none =
+may_refresh h h' seat words view is =
+    let none : unserved_refresh h seat words ≡ None = rw view (sym is) in
     let a = passed (nat_lt seat (length h.state.sessions)) _ _ none in
     let b = not_met (nat_lt (length words) ((session h.state seat).bw * (session h.state seat).bh)) _ _ a.1 in
     record { inside = grind (arith, nat_tests); enough = grind (arith, nat_tests) }

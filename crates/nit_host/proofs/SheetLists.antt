@@ -5,7 +5,6 @@ use Rattle.std.proofs.Common.{sym, ℕ, ◌++◌, ◌<◌, ◌∙◌, ◌≡◌,
 use Rattle.std.proofs.Math.ListN.{get_or-map, length-set}
 use Rattle.std.proofs.lemmas.Bool.{cases_eq, eq-eqb, ne_eqb}
 use Rattle.std.proofs.lemmas.List.{ext_get_or, get_or_default, get_or_past, length-map, set-get_or}
-use Rattle.std.proofs.lemmas.List.{set-set}
 use Rattle.std.proofs.lemmas.Option.{get_or_from_slice_get, slice_get_within}
 use Rattle.std.specs.Option.{option_map}
 use Rattle.nit_paint.specs.Repaint.{no_sight}
@@ -59,16 +58,22 @@ pub put_elsewhere : (sheets : List SheetModel) (seat t : ℕ) (sheet : SheetMode
     → sheet_at (set sheets seat sheet) t ≡ sheet_at sheets t
 put_elsewhere sheets seat t sheet other = get_or-set_other sheets seat t sheet no_sheet other
 
--- a sheet that was put in the place of another comes out again, and the other one goes back
+-- what holds of the sheet that is put in, and of the others, holds of each
+pub each_put : (P : ℕ → SheetModel → Type 0) (sheets : List SheetModel) (seat t : ℕ) (sheet : SheetModel)
+    → (t ≡ seat → seat < length sheets) → P seat sheet → P t (sheet_at sheets t)
+    → P t (sheet_at (set sheets seat sheet) t)
+each_put P sheets seat t sheet inside here there =
+    elim (cases_eq t seat) [
+      | inl e ↦ subst (λ (n : ℕ). P n (sheet_at (set sheets seat sheet) n)) (sym e)
+          (rw (put_there sheets seat sheet (inside e)) here)
+      | inr other ↦ rw (put_elsewhere sheets seat t sheet other) there
+    ]
+
+-- a sheet that was put in the place of another comes out again
 pub comes_out : (sheets : List SheetModel) (seat : ℕ) (own other out : SheetModel) → slice_get sheets seat ≡ Some own
     → slice_get (set sheets seat other) seat ≡ Some out → out ≡ other
 comes_out sheets seat own other out was is = sym (taken_out (set sheets seat other) seat out is)
     ∙ put_there sheets seat other (slice_get_within sheets seat own was)
-
-pub goes_back : (sheets : List SheetModel) (seat : ℕ) (own other : SheetModel) → slice_get sheets seat ≡ Some own
-    → set (set sheets seat other) seat own ≡ sheets
-goes_back sheets seat own other is = set-set sheets seat other own
-    ∙ put_same sheets seat own (taken_out sheets seat own is)
 
 -- ---- sheets that tell no loads
 
@@ -168,18 +173,26 @@ with_own sheets seat own inside = λ i t. each t i
 
 -- ---- the sheets of a host
 
+-- the hollow sheet of a seat, as a Vec gives it
+pub hollow_there : (config : Configuration) (hollows : List SheetModel) (seat : ℕ) (hollow : SheetModel)
+    → AreHollow config hollows → seat < length config.clients → hollow ≡ get_or hollows seat hollow
+    → sheet_at hollows seat ≡ hollow
+hollow_there config hollows seat hollow are inside is =
+    there_at hollows seat hollow is (omega (arith, inside, are.count))
+
 pub hollow_glass : (config : Configuration) (hollows : List SheetModel) (seat : ℕ) (hollow : SheetModel)
-    → AreHollow config hollows → seat < length config.clients → sheet_at hollows seat ≡ hollow
+    → AreHollow config hollows → seat < length config.clients → hollow ≡ get_or hollows seat hollow
     → (hollow.sight.owner ≡ seat) × (hollow.sight.size ≡ size_at config seat)
 hollow_glass config hollows seat hollow are inside is =
-    let blank : hollow.sight ≡ blank_sheet seat (size_at config seat) = ap (λ (g : SheetModel). g.sight) (sym is)
-    ∙ are.blank seat inside in
+    let blank : hollow.sight ≡ blank_sheet seat (size_at config seat) =
+    rw (← hollow_there config hollows seat hollow are inside is) (are.blank seat inside) in
     (ap (λ (s : Sight). s.owner) blank, ap (λ (s : Sight). s.size) blank ∙ length-zeros (size_at config seat))
 
 pub hollow_quiet : (config : Configuration) (hollows : List SheetModel) (seat : ℕ) (hollow : SheetModel)
-    → AreHollow config hollows → seat < length config.clients → sheet_at hollows seat ≡ hollow → hollow.sight.log ≡ None
-hollow_quiet config hollows seat hollow are inside is = ap (λ (g : SheetModel). g.sight.log) (sym is)
-    ∙ ap (λ (s : Sight). s.log) (are.blank seat inside)
+    → AreHollow config hollows → seat < length config.clients → hollow ≡ get_or hollows seat hollow
+    → hollow.sight.log ≡ None
+hollow_quiet config hollows seat hollow are inside is =
+    rw (← hollow_there config hollows seat hollow are inside is, are.blank seat inside) refl
 
 pub own_plain : (config : Configuration) (sheets : List SheetModel) (seat : ℕ) (own : SheetModel)
     → AreSheets config sheets → seat < length config.clients → slice_get sheets seat ≡ Some own

@@ -1,8 +1,7 @@
 -- What a call of a seat's client leaves, whose sheet was taken out of the desktop and is put back.
-use Rattle.std.proofs.Common.{List, Option, Some, [], ap, false, inl, inr, length, refl, set}
-use Rattle.std.proofs.Common.{slice_get, subst, sym, ℕ, ◌-◌, ◌<◌, ◌∙◌, ◌≡◌, ◌≤◌}
+use Rattle.std.proofs.Common.{List, Option, Some, [], ap, arith, false, get_or, length}
+use Rattle.std.proofs.Common.{refl, set, slice_get, subst, sym, ℕ, ◌-◌, ◌<◌, ◌∙◌, ◌≡◌, ◌≤◌}
 use Rattle.std.proofs.Math.ListN.{length-set}
-use Rattle.std.proofs.lemmas.Bool.{cases_eq}
 use Rattle.std.proofs.lemmas.List.{map-set, set-get_or, set-set}
 use Rattle.nit_events.specs.declared.entry.Entry.TheVariants as entry
 use Rattle.nit_repaint.specs.Glasses.{glass_in, glasses_of_call}
@@ -12,13 +11,14 @@ use Rattle.nit_host.specs.Below.{Sight, State, after, pixel, serve, session, sou
 use Rattle.nit_host.specs.Below.{word_from}
 use Rattle.nit_journal.specs.State.{source_of}
 use Rattle.nit_rect.specs.declared.point.Point.{Point}
-use Rattle.nit_host.specs.Fresh.{AreHollow, AreSheets, IsFresh, IsHost, IsPlainOf, sheet_at}
+use Rattle.nit_host.specs.Fresh.{AreSheets, IsHost, IsPlainOf, sheet_at}
 use Rattle.nit_host.specs.Fresh.{sheets_of, size_at}
 use Rattle.nit_host.specs.Host.{HostModel, called, sheet_in}
 use Rattle.nit_host.specs.Sheet.{SheetModel}
 use Rattle.nit_host.proofs.Freshness.{fresh_after}
-use Rattle.nit_host.proofs.SheetLists.{comes_out, own_plain, own_room, own_words, put_elsewhere}
-use Rattle.nit_host.proofs.SheetLists.{put_same, put_there, sights, taken_out, with_own}
+use Rattle.nit_host.proofs.SheetLists.{comes_out, each_put, hollow_there, own_plain, own_room}
+use Rattle.nit_host.proofs.SheetLists.{own_words, put_same, sights}
+use Rattle.nit_host.proofs.SheetLists.{taken_out, with_own}
 
 -- what a law says of pixels that are not dirty
 abbrev pub KeepSources : Type 0
@@ -28,6 +28,11 @@ KeepSources = (s : State) (taken : ℕ) (e : Entry) (p : Point) → Agrees s tak
 -- the desktop with another sheet for a seat
 abbrev pub with_sheet : DesktopModel SheetModel → ℕ → SheetModel → DesktopModel SheetModel
 with_sheet d seat sheet = record d { glasses = set d.glasses seat sheet }
+
+-- the host of a desktop, with this last entry, that was last seen so
+abbrev pub host_model : DesktopModel SheetModel → Option Entry → Option (List ℕ) → HostModel
+host_model d last seen =
+    record { state = d.state; sheets = sheets_of d.glasses; left = d.left; last = last; seen = seen }
 
 -- what the desktop that had the sheet `own` of a seat taken out was left by a call
 pub record Serves (seat : ℕ) (call : Call) (own last : SheetModel) (d d' : DesktopModel SheetModel) (r : Reply) : Type 0
@@ -41,18 +46,11 @@ pub record Serves (seat : ℕ) (call : Call) (own last : SheetModel) (d d' : Des
         (glass_in (sights d'.glasses)) d.raw d'.raw
 
 -- what a call left of a host
-pub record WasCalled (seat : ℕ) (call : Call) (r : Reply) (h : HostModel) (d : DesktopModel SheetModel)
-    (hollows : List SheetModel) : Type 0 where
+pub record WasCalled (seat : ℕ) (call : Call) (r : Reply) (h : HostModel) (seen : Option (List ℕ))
+    (d : DesktopModel SheetModel) (hollows : List SheetModel) : Type 0 where
   pub host : IsHost d hollows
   pub reply : r ≡ (serve (session h.state seat) call).reply
-  pub now : record {
-    state = d.state;
-    sheets = sheets_of d.glasses;
-    left = d.left;
-    last =
-        Some (entry.Call seat call r);
-    seen = h.seen;
-  } ≡ called seat call h
+  pub now : host_model d (Some (entry.Call seat call r)) seen ≡ called seat call h
 
 -- ---- sheets, one of which is another
 
@@ -61,28 +59,10 @@ module _ (config : Configuration) (sheets : List SheetModel) (seat : ℕ) (sheet
       → AreSheets config (set sheets seat sheet)
   sheets_with are plain room = record {
     count = length-set sheets seat sheet ∙ are.count;
-    plain = λ t inside.
-        elim (cases_eq t seat) [
-          | inl e ↦
-              let here = put_there sheets seat sheet
-              (subst (λ (n : ℕ). seat < n) (sym are.count)
-              (subst (λ (n : ℕ). n < length config.clients) e inside)) in
-              subst (λ (n : ℕ). IsPlainOf config n (sheet_at (set sheets seat sheet) n).sight) (sym e)
-              (subst (λ (g : SheetModel). IsPlainOf config seat g.sight) (sym here) plain)
-          | inr other ↦ subst (λ (g : SheetModel). IsPlainOf config t g.sight)
-              (sym (put_elsewhere sheets seat t sheet other)) (are.plain t inside)
-        ];
-    room = λ t inside.
-        elim (cases_eq t seat) [
-          | inl e ↦
-              let here = put_there sheets seat sheet
-              (subst (λ (n : ℕ). seat < n) (sym are.count)
-              (subst (λ (n : ℕ). n < length config.clients) e inside)) in
-              subst (λ (n : ℕ). size_at config n ≤ (sheet_at (set sheets seat sheet) n).room) (sym e)
-              (subst (λ (g : SheetModel). size_at config seat ≤ g.room) (sym here) room)
-          | inr other ↦ subst (λ (g : SheetModel). size_at config t ≤ g.room)
-              (sym (put_elsewhere sheets seat t sheet other)) (are.room t inside)
-        ];
+    plain = λ t inside. each_put (λ n g. IsPlainOf config n g.sight) sheets seat t sheet
+        (λ e. omega (arith, e, inside, are.count)) plain (are.plain t inside);
+    room = λ t inside. each_put (λ n g. size_at config n ≤ g.room) sheets seat t sheet
+        (λ e. omega (arith, e, inside, are.count)) room (are.room t inside);
   }
 
   -- its words stand in its place
@@ -128,11 +108,7 @@ module _ (d d1 d2 : DesktopModel SheetModel) (hollows : List SheetModel) (seat :
 
   painted : Painted d.state (entry.Call seat call r) (after d.state (entry.Call seat call r))
       (glass_in (sights (set d.glasses seat own'))) (glass_in (sights (set d.glasses seat own'))) d.raw d2.raw
-  painted =
-      subst (λ (gs : List SheetModel). Painted d.state (entry.Call seat call r) (after d.state (entry.Call seat call r))
-      (glass_in (sights gs)) (glass_in (sights gs)) d.raw d2.raw) glasses_now
-      (subst (λ (s : State). Painted d.state (entry.Call seat call r) s (glass_in (sights d2.glasses))
-      (glass_in (sights d2.glasses)) d.raw d2.raw) s0.state s0.painted)
+  painted = rw (s0.state, glasses_now) at s0.painted
 
   goes_on : ((k : ℕ) → dirty d.state (entry.Call seat call r) (after d.state (entry.Call seat call r))
       (pixel d.state.config.width k) ≡ false
@@ -145,13 +121,9 @@ module _ (d d1 d2 : DesktopModel SheetModel) (hollows : List SheetModel) (seat :
       (set d.glasses seat own') (sheet_in (sheets_of d.glasses)) d.raw d2.raw all painted host.fresh refl
       (λ k clean. keep d.state 0 (entry.Call seat call r) (pixel d.state.config.width k) agrees clean) stays in
       record {
-        sheets = subst (λ (config : Configuration). AreSheets config d2.glasses) (sym config_stays)
-            (subst (AreSheets d.state.config) (sym glasses_now) all);
-        hollow = subst (λ (config : Configuration). AreHollow config (set hollows seat last)) (sym config_stays)
-            (subst (AreHollow d.state.config) (sym hollows_stay) host.hollow);
-        fresh = subst (λ (s : State). IsFresh s (sheet_in (sheets_of d2.glasses)) d2.raw) (sym s0.state)
-            (subst (λ (gs : List SheetModel). IsFresh (after d.state (entry.Call seat call r)) (sheet_in (sheets_of gs))
-            d2.raw) (sym glasses_now) fresh);
+        sheets = rw (config_stays, glasses_now) all;
+        hollow = rw (config_stays, hollows_stay) host.hollow;
+        fresh = rw (s0.state, glasses_now) fresh;
       }
 
   pub called_now : ((k : ℕ) → dirty d.state (entry.Call seat call r) (after d.state (entry.Call seat call r))
@@ -166,7 +138,7 @@ module _ (d d1 d2 : DesktopModel SheetModel) (hollows : List SheetModel) (seat :
         left = d.left;
         last = kept;
         seen = seen;
-      }) d2
+      }) seen d2
       (set hollows seat last)
   called_now stays =
       let replied = s0.reply in
@@ -207,14 +179,14 @@ painted_by_all s e d d2 d3 seat own own' stay own_stay inside put painted =
 module _ (d d1 d2 : DesktopModel SheetModel) (hollows : List SheetModel) (seat : ℕ) (call : Call) (r : Reply)
     (hollow own last : SheetModel) (kept : Option Entry) (seen : Option (List ℕ))
     (host : IsHost d hollows) (inside : seat < length d.state.sessions) (long : length d.state.sessions
-    ≡ length d.state.config.clients) (swapped : d1 ≡ with_sheet d seat hollow) (there : sheet_at hollows seat
-    ≡ hollow)
+    ≡ length d.state.config.clients) (swapped : d1 ≡ with_sheet d seat hollow) (at : hollow
+    ≡ get_or hollows seat hollow)
     (out : slice_get d.glasses seat ≡ Some own) (served : Serves seat call own last d1 d2 r) (keep : KeepSources) where
-  pub only_called : (h : HostModel)
-      → record { state = d.state; sheets = sheets_of d.glasses; left = d.left; last = kept; seen = seen } ≡ h
-      → WasCalled seat call r h d2 (set hollows seat last)
+  pub only_called : (h : HostModel) → host_model d kept seen ≡ h
+      → WasCalled seat call r h seen d2 (set hollows seat last)
   only_called h view =
-      let client : seat < length d.state.config.clients = subst (λ (n : ℕ). seat < n) long inside in
+      let client : seat < length d.state.config.clients = rw (← long) inside in
+      let there = hollow_there d.state.config hollows seat hollow host.hollow client at in
       let done = called_now d d1 d2 hollows seat call r hollow own own last kept seen host inside swapped there out
       served
       (own_plain d.state.config d.glasses seat own host.sheets client out)
@@ -222,7 +194,7 @@ module _ (d d1 d2 : DesktopModel SheetModel) (hollows : List SheetModel) (seat :
       (λ k clean. ap (λ (gs : List SheetModel). word_from (sheet_in (sheets_of gs))
       (source_at (after d.state (entry.Call seat call r)) k))
       (sym (put_same d.glasses seat own (taken_out d.glasses seat own out)))) in
-      subst (λ (x : HostModel). WasCalled seat call r x d2 (set hollows seat last))
+      subst (λ (x : HostModel). WasCalled seat call r x seen d2 (set hollows seat last))
       ((λ i. record {
         state = d.state;
         sheets =

@@ -1,6 +1,6 @@
 -- A part of the screen, as columns and rows.
 use Rattle.std.specs.Prelude.{◌≡◌, ◌≤◌, ◌<◌, ◌-◌, ◌&&◌, ◌%◌, ◌/◌, ℕ, Bool, List, false, pos}
-use Rattle.std.specs.Prelude.{ℤ, negsuc, slice_index, ◌≤ℤ◌}
+use Rattle.std.specs.Prelude.{ℤ, negsuc, slice_index, true, ◌≤ℤ◌}
 use Rattle.nit_host.specs.Below.{Rectangle, is_between, rectangle}
 use Rattle.nit_host.specs.declared.host.area.Area.{Area}
 
@@ -32,3 +32,24 @@ StaysOutside width count a before after =
 -- a column or row that is not further off than three places together
 abbrev pub IsInReach : ℤ → Type 0
 IsInReach z = (negsuc 98303 ≤ℤ z) × (z ≤ℤ pos 98303)
+
+-- the area lies on the screen of this size, and has all its pixels at which this holds
+pub record HoldsWhere (width height : ℕ) (test : ℕ → ℕ → Bool) (a : Area) : Type 0 where
+  pub area : IsAreaOf width height a
+  pub there : (x y : ℕ) → x < width → y < height → test x y ≡ true → has_place a x y ≡ true
+
+-- an area with all pixels of two others, which lies on each screen on which they lie
+pub record HoldsBoth (one other both : Area) : Type 0 where
+  pub area : (width height : ℕ) → IsAreaOf width height one → IsAreaOf width height other
+      → IsAreaOf width height both
+  pub own : (x y : ℕ) → has_place one x y ≡ true → has_place both x y ≡ true
+  pub others : (x y : ℕ) → has_place other x y ≡ true → has_place both x y ≡ true
+
+-- an area with all pixels of another one, and with those of two more unless nothing changed
+pub record HoldsUnless (is_same : Bool) (one before after all : Area) : Type 0 where
+  pub area : (width height : ℕ) → IsAreaOf width height one → IsAreaOf width height before
+      → IsAreaOf width height after → IsAreaOf width height all
+  pub same : is_same ≡ true → all ≡ one
+  pub own : (x y : ℕ) → has_place one x y ≡ true → has_place all x y ≡ true
+  pub old : is_same ≡ false → (x y : ℕ) → has_place before x y ≡ true → has_place all x y ≡ true
+  pub new : is_same ≡ false → (x y : ℕ) → has_place after x y ≡ true → has_place all x y ≡ true

@@ -16,7 +16,7 @@ pub use Rattle.nit_host.specs.Below.{words_of, zeros}
 pub use Rattle.nit_host.specs.Fresh.{AreBlank, AreHollow, AreQuiet, AreSheets, IsFresh, IsHost}
 pub use Rattle.nit_host.specs.Fresh.{IsPlainOf, sheet_at, sheets_of, size_at}
 pub use Rattle.nit_host.specs.Area.{StaysOutside}
-pub use Rattle.nit_host.specs.Handing.{after_handing, is_in_rows}
+pub use Rattle.nit_host.specs.Handing.{CanTakeWords, IsHandedIn, after_handing, is_in_rows}
 pub use Rattle.nit_host.specs.Host.{HostModel, behind, blank_sheets, called, first_host, handed}
 pub use Rattle.nit_host.specs.Host.{is_device, is_handed, lacks_handles, last_text, picture}
 pub use Rattle.nit_host.specs.Host.{refreshed, reply_to, routed_of, sheet_in, told, unserved_call}
@@ -29,10 +29,12 @@ pub use Rattle.nit_host.specs.Sheet.{SheetModel, blank_sheet, handed_over, low_b
 pub use Rattle.nit_host.specs.declared.refusal.PlanError.{PlanError}
 pub use Rattle.nit_host.specs.declared.refusal.Unseated.{Unseated}
 pub use Rattle.nit_host.specs.declared.refusal.Unserved.{Unserved}
-pub use Rattle.nit_host.specs.Area.{IsAreaOf, IsInReach, has_place, is_inside, rectangle_over}
+pub use Rattle.nit_host.specs.Area.{HoldsBoth, HoldsUnless, HoldsWhere, IsAreaOf, IsInReach}
+pub use Rattle.nit_host.specs.Area.{has_place, is_inside, rectangle_over}
 pub use Rattle.nit_host.specs.Below.{AgreeIn, Delivery, Point, View, deliveries_of, is_kill, kills}
 pub use Rattle.nit_host.specs.Below.{in_bar, option_map_or, point}
 pub use Rattle.nit_host.specs.Host.{IsAsSeen, frame_by, frame_shown, looked}
 pub use Rattle.nit_host.specs.Looked.{IsSeenBut, frame_at}
-pub use Rattle.nit_host.specs.Touch.{HoldsBar, HoldsTouched, is_touched, part_touched, shows_place}
+pub use Rattle.nit_host.specs.Touch.{HoldsBar, HoldsTouched, IsBarArea, IsToldArea, is_touched}
+pub use Rattle.nit_host.specs.Touch.{part_touched, shows_place}
 pub use Rattle.nit_host.specs.Touch.{touch_of, touched_by, touched_in, touched_over}

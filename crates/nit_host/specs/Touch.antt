@@ -1,13 +1,12 @@
 -- What of the frame a call of a seat's client can change.
 use Rattle.std.specs.Prelude.{ℕ, ℤ, Bool, true, false, ◌&&◌, ◌≡◌, ◌<◌, Option, Some, None}
-use Rattle.std.specs.Prelude.{slice_get, if◌then◌else◌}
+use Rattle.std.specs.Prelude.{List, slice_get, if◌then◌else◌}
 use Rattle.nit_host.specs.Below.{Call, Mode, Point, Rectangle, Reply, State, View, bar_rows}
-use Rattle.nit_host.specs.Below.{buffer_place}
-use Rattle.nit_host.specs.Below.{covers, in_bar, is_rectangle, is_session, is_view}
-use Rattle.nit_host.specs.Below.{point, rectangle, refusal, session, spans}
+use Rattle.nit_host.specs.Below.{Delivery, buffer_place, covers, in_bar, is_rectangle, is_session}
+use Rattle.nit_host.specs.Below.{is_view, kills, point, rectangle, refusal, session, spans}
 use Rattle.nit_events.specs.declared.call.Call.TheVariants as call
 use Rattle.nit_events.specs.declared.device.Mode.TheVariants as mode
-use Rattle.nit_host.specs.Area.{has_place}
+use Rattle.nit_host.specs.Area.{IsAreaOf, has_place}
 use Rattle.nit_host.specs.declared.host.area.Area.{Area}
 use Rattle.nit_host.specs.declared.host.touch.Touch.{Touch}
 use Rattle.nit_host.specs.declared.host.touch.Touch.TheVariants as touch
@@ -89,3 +88,15 @@ HoldsBarIn other width height rows a =
 
 abbrev pub HoldsBar : State → Area → Type 0
 HoldsBar s a = HoldsBarIn s.input.mode s.config.width s.config.height (bar_rows s.config) a
+
+-- an area of the screen with all that the bar and the mode draw
+pub record IsBarArea (s : State) (a : Area) : Type 0 where
+  pub area : IsAreaOf s.config.width s.config.height a
+  pub bar : HoldsBar s a
+
+-- such an area, which is the whole screen where one of these deliveries locks a client out
+pub record IsToldArea (s : State) (told : List Delivery) (a : Area) : Type 0 where
+  pub area : IsAreaOf s.config.width s.config.height a
+  pub bar : HoldsBar s a
+  pub screen : kills told ≡ true → (x y : ℕ) → x < s.config.width → y < s.config.height
+      → has_place a x y ≡ true

@@ -6,9 +6,10 @@ pub use Rattle.nit_journal.proofs.ForCallers.{as_many_as_clients, actions_of-app
 pub use Rattle.nit_journal.proofs.ForCallers.{same_throughout}
 pub use Rattle.nit_overlay.proofs.ForCallers.{same_frame}
 pub use Rattle.nit_perform.specs.Below.{Desk, OpenedRounds}
+pub use Rattle.nit_perform.specs.LastPicture.{TakesLast}
 pub use Rattle.nit_perform.specs.Terms.{ActorLine, AfterPut, All, AllByRecursion, AreAllDone}
 pub use Rattle.nit_perform.specs.Terms.{AreBlank, AreInkedPlans, AreScriptsOf, CanTakeLast}
-pub use Rattle.nit_perform.specs.Terms.{HasEnded, IsRoundsOpening, put_state_at}
+pub use Rattle.nit_perform.specs.Terms.{HasEnded, IsRoundsOpening, IsRunOf, put_state_at}
 pub use Rattle.nit_perform.specs.Terms.{AreBuffers, AreClipsOf, AreDone, AreDoneClips}
 pub use Rattle.nit_perform.specs.Terms.{AreFirstClipPasses, AreKeysBlank, AreNearShots, AreOutputs}
 pub use Rattle.nit_perform.specs.Terms.{AreRoundsOf, AskedAtMost, Bad, Bare, Belongs, Black}

@@ -3,6 +3,7 @@ use Rattle.std.proofs.Common.{◌≡◌, ◌∙◌, ℕ, ◌+◌, ◌<◌, Bool,
 use Rattle.std.proofs.Common.{map, length, fold, Option, Some, None, Result, Ok, Err, refl, sym, ap}
 use Rattle.std.proofs.Common.{subst, inl, inr, arith, nat_lt, add-zero, zero-add, append_assoc}
 use Rattle.std.proofs.Common.{append-nil, length-append}
+use Rattle.nit_perform.proofs.Basics.{TakesLast}
 use Rattle.nit_perform.proofs.Basics.{ActorLine, AreRoundsOf, Bad, ByClient, ByUser, Configuration}
 use Rattle.nit_perform.proofs.Basics.{Drawing, Entry, InputLine, IsJournal, IsLegal, IsWhole, Line}
 use Rattle.nit_perform.proofs.Basics.{LineTurn, NestError, NestModel, NestState, NestsRun, Phases}
@@ -20,7 +21,6 @@ use Rattle.nit_perform.proofs.Basics.{sum_by-cons, tables_left, user_actions_to_
 use Rattle.nit_nested.specs.declared.error.NestError.TheVariants.{NoMemory}
 use Rattle.nit_rounds.specs.Drawing.{drawn}
 use Rattle.nit_perform.proofs.RunLemmas.{WholeLaw}
-use Rattle.nit_events.specs.declared.entry.Entry.TheVariants as entry
 use Rattle.nit_script.specs.declared.line.InputLine.TheVariants as input
 
 -- ---- how many frames there are
@@ -198,14 +198,12 @@ answer_by_length counted n own may same =
 
 -- the journal is one of the run by turns
 pub rounds_journal : WholeLaw → (i : RunFiles) (mid last : SceneModel Sight) → mid.config ≡ i.config
-    → AreRoundsOf mid.entries i.scripts i.input → last.entries ≡ mid.entries ++ entry.Final ∷ []
-    → last.config ≡ mid.config → IsLegal last.config last.entries
-    → IsJournal (by_turns i) last.entries
-rounds_journal whole i mid last config rounds_are ended same legal = record {
-  legal = subst (λ (c : Configuration). IsLegal c last.entries) (same ∙ config) legal;
-  whole = subst (λ (j : List Entry). IsWhole (map calls_to_make i.scripts) (user_actions_to_do i.input) j) (sym ended)
-      (whole i.scripts i.input mid.entries rounds_are);
-  rounds = λ is. (mid.entries, rounds_are, ended);
+    → AreRoundsOf mid.entries i.scripts i.input → TakesLast mid last → IsJournal (by_turns i) last.entries
+rounds_journal whole i mid last config rounds_are taken = record {
+  legal = subst (λ (c : Configuration). IsLegal c last.entries) (taken.config ∙ config) taken.legal;
+  whole = subst (λ (j : List Entry). IsWhole (map calls_to_make i.scripts) (user_actions_to_do i.input) j)
+      (sym taken.recorded) (whole i.scripts i.input mid.entries rounds_are);
+  rounds = λ is. (mid.entries, rounds_are, taken.recorded);
 }
 
 -- what the law of drawing says

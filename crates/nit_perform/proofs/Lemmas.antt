@@ -3,7 +3,7 @@ pub use Rattle.nit_perform.proofs.Basics.{All, All-push, AllByRecursion, AreDone
 pub use Rattle.nit_perform.proofs.Basics.{AreFirstClipPasses, AreKeysBlank, BufferName}
 pub use Rattle.nit_perform.proofs.Basics.{CaptureModel, ClipPassModel, Configuration, End, Entry}
 pub use Rattle.nit_perform.proofs.Basics.{Err, File, HasEnded, HasFilmed, HasRun, HasRunClips}
-pub use Rattle.nit_perform.proofs.Basics.{HaveTables, put_state_at}
+pub use Rattle.nit_perform.proofs.Basics.{HaveTables, IsRunOf, put_state_at}
 pub use Rattle.nit_perform.proofs.Basics.{InputLine, IsClipListText, IsDoneUser, IsFilmOf, IsGlass}
 pub use Rattle.nit_perform.proofs.Basics.{IsJournal, IsLegal, IsUtf8, IsWhole, IsWord, JournalModel}
 pub use Rattle.nit_perform.proofs.Basics.{Line, List, Member, NestError, NestModel, NestState}
@@ -43,4 +43,4 @@ pub use Rattle.nit_perform.proofs.PutLemmas.{next_goes, next_stays, no_put, no_t
 pub use Rattle.nit_perform.proofs.RoomRunLemmas.{all_done, beside_leaves, is_ready, known_whole}
 pub use Rattle.nit_perform.proofs.RoomRunLemmas.{last_is, one_key, setting, setup_in, user_done}
 pub use Rattle.nit_perform.proofs.RunLemmas.{PutsLast, run_leaves}
-pub use Rattle.nit_perform.proofs.StillRun.{alone_leaves, is_ready_alone}
+pub use Rattle.nit_perform.proofs.StillRun.{alone_leaves, ended_as, is_ready_alone}

@@ -217,13 +217,13 @@ true_false : true ≡ false → ⊥
 true_false e = cc
 
 pub beside_leaves : {S : Type 0} (shown : S → StoreModel) (parts : OpeningParts) (known known' : List Entry)
-    (first new : StoreModel) (scene : SceneModel End) (desk left : Desk S) (ran : Ran)
+    (first new : StoreModel) (scene : SceneModel End) {desk left : Desk S} (ran : Ran)
     → known ≡ [] → PutsShotsBehind parts known known' (unrefused first) (put_state_at shown desk)
     → HasEnded shown parts known' scene desk left
     → PutsAll (events_files scene.config scene.entries ++ journal_file scene.entries ∷ []) (put_state_at shown left)
     (put_state_of_run new ran.fault)
     → ran.journal.items ≡ scene.entries → ran.frames ≡ shots scene.entries + 1 → HasRun first (setup_in parts) new ran
-beside_leaves shown parts known known' first new scene desk left ran none puts ended texts is frames =
+beside_leaves shown parts known known' first new scene {desk = desk} {left = left} ran none puts ended texts is frames =
     let s = setup_in parts in
     let texts' = subst (λ (k : Configuration). PutsAll (events_files k journal ++ journal_file journal ∷ [])
     (put_state_at shown left) (put_state_of_run new ran.fault)) ended.config texts in

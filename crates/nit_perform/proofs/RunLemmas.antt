@@ -3,6 +3,7 @@ use Rattle.std.proofs.Common.{◌≡◌, ◌∙◌, ℕ, ◌+◌, true, false, L
 use Rattle.std.proofs.Common.{ap, subst, arith}
 use Rattle.nit_perform.proofs.Basics.{AreOutputs, AreRoundsOf, Configuration, Entry, File, HasRun}
 use Rattle.nit_perform.proofs.Basics.{HaveTables, InputLine, IsJournal, IsLegal, IsRoundsRun}
+use Rattle.nit_perform.proofs.Basics.{TakesLast}
 use Rattle.nit_perform.proofs.Basics.{IsWhole, Line, PutState, PutsAll, PutsNext, PutsShots, Ran}
 use Rattle.nit_perform.proofs.Basics.{SceneModel, Setup, Sight, State, StoreModel, calls_to_make}
 use Rattle.nit_perform.proofs.Basics.{count_by, final_name, final_picture, first_state}
@@ -42,14 +43,13 @@ PutsLast s owns at new = (tables : ℕ → List ℕ) → HaveTables owns tables
 pub run_leaves : (s : Setup) (start mid last : SceneModel Sight) (owns : List Sight) (first new : StoreModel)
     (at final : PutState) (ran : Ran)
     → WholeLaw → OneMore → s.beside ≡ false → s.made ≡ [] → start.config ≡ s.config
-    → IsRoundsRun s.scripts s.input start mid owns → last.entries ≡ mid.entries ++ entry.Final ∷ []
-    → last.config ≡ mid.config → IsLegal last.config last.entries
+    → IsRoundsRun s.scripts s.input start mid owns → TakesLast mid last
     → PutsShots start.config s.scripts (rounds s.scripts s.input) (unrefused first) at
     → PutsLast (state_now mid) owns at final
     → PutsAll (text_files s last.entries) final (put_state_of_run new ran.fault)
     → ran.journal.items ≡ last.entries → ran.frames ≡ shots last.entries + 1 → HasRun first s new ran
-run_leaves s start mid last owns first new at final ran whole more alone none begun run ended same legal shots_
-    puts_last puts_texts journal frames = record {
+run_leaves s start mid last owns first new at final ran whole more alone none begun run taken shots_ puts_last
+    puts_texts journal frames = record {
       journal = subst (λ (j : List Entry). IsJournal s j) (sym journal) is_journal;
       frames = frames ∙ ap (λ (j : List Entry). shots j + 1) (sym journal);
       outputs = outputs;
@@ -78,10 +78,10 @@ run_leaves s start mid last owns first new at final ran whole more alone none be
 
     is_journal : IsJournal s last.entries
     is_journal = record {
-      legal = subst (λ (c : Configuration). IsLegal c last.entries) (same ∙ config) legal;
+      legal = subst (λ (c : Configuration). IsLegal c last.entries) (taken.config ∙ config) taken.legal;
       whole = subst (λ (j : List Entry). IsWhole (map calls_to_make s.scripts) (user_actions_to_do s.input) j)
-          (sym ended) (whole s.scripts s.input mid.entries run.entries);
-      rounds = λ is. (mid.entries, run.entries, ended);
+          (sym taken.recorded) (whole s.scripts s.input mid.entries run.entries);
+      rounds = λ is. (mid.entries, run.entries, taken.recorded);
     }
 
     tables : HaveTables owns (tables_left s.config s.scripts)
@@ -90,7 +90,8 @@ run_leaves s start mid last owns first new at final ran whole more alone none be
 
     state_is : state_now mid ≡ replay s.config last.entries
     state_is = ap (λ (c : Configuration). replay c mid.entries) config
-        ∙ sym (ap (λ (j : List Entry). replay s.config j) ended ∙ more (first_state s.config) mid.entries entry.Final)
+        ∙ sym (ap (λ (j : List Entry). replay s.config j) taken.recorded
+        ∙ more (first_state s.config) mid.entries entry.Final)
 
     picture_is : picture_by (state_now mid) (tables_left s.config s.scripts) ≡ final_picture s last.entries
     picture_is = ap (λ (t : State). picture_by t (tables_left s.config s.scripts)) state_is

@@ -1,14 +1,16 @@
 -- A run of one client whose user does nothing: its beginning, and what it leaves.
 use Rattle.std.proofs.Common.{◌≡◌, ◌∙◌, true, false, ◌+◌, ◌<◌, List, [], ◌∷◌, ◌++◌, length, map}
-use Rattle.std.proofs.Common.{Some, refl, sym, ap, subst, arith}
-use Rattle.nit_perform.proofs.Basics.{AreOutputs, AreRoundsOf, Belongs, Configuration, End, Entry}
-use Rattle.nit_perform.proofs.Basics.{File, HasRun, InputLine, IsAlone, IsJournal, IsLegal}
-use Rattle.nit_perform.proofs.Basics.{IsOpening, IsReady, IsReadyAlone, IsWhole, Line, OpeningParts}
-use Rattle.nit_perform.proofs.Basics.{PassModel, PlanModel, PutsNext, Ran, RoomModel, Setup}
+use Rattle.std.proofs.Common.{Option, Some, refl, sym, ap, subst, arith}
+use Rattle.nit_perform.proofs.Basics.{AreOutputs, AreRoundsOf, Belongs, Configuration, Desk, End}
+use Rattle.nit_perform.proofs.Basics.{Entry, File, HasEnded, HasRun, InputLine, IsAlone, IsJournal}
+use Rattle.nit_perform.proofs.Basics.{IsLegal, IsOpening, IsReady, IsReadyAlone, IsRunOf, IsWhole}
+use Rattle.nit_perform.proofs.Basics.{Line, OpeningParts, PassModel, PlanModel, PutFault}
+use Rattle.nit_perform.proofs.Basics.{PutState, PutsNext, Ran, RoomModel, SceneModel, Setup}
 use Rattle.nit_perform.proofs.Basics.{StepTogether, StoreModel, UserOnce, UserPassModel}
 use Rattle.nit_perform.proofs.Basics.{calls_to_make, count_by, drawn, drop, final_name}
 use Rattle.nit_perform.proofs.Basics.{final_picture, idle_user, is_phase, no_picture}
-use Rattle.nit_perform.proofs.Basics.{put_state_of_run, rounds, setup_of, shot_file, shots}
+use Rattle.nit_perform.proofs.Basics.{put_state_at, put_state_of_run, rounds, setup_of, shot_file}
+use Rattle.nit_perform.proofs.Basics.{shots}
 use Rattle.nit_perform.proofs.Basics.{slice_get, slice_index_or, unrefused, user_actions_to_do}
 use Rattle.nit_perform.proofs.RoomRunLemmas.{get_at, is_ready}
 use Rattle.nit_events.specs.declared.entry.Entry.TheVariants as entry
@@ -84,21 +86,28 @@ OneClient = (config : Configuration) (script : List Line) (lines : List InputLin
 abbrev pub IdleDoes : Type 0
 IdleDoes = (lines : List Line) → user_actions_to_do (idle_user lines) ≡ []
 
+-- what holds of an opening holds of one that is equal
+pub ended_as : {S : Type 0} {shown : S → StoreModel} {parts parts' : OpeningParts} {seen : List Entry}
+    {s : SceneModel End} {old new : Desk S} → parts ≡ parts' → HasEnded shown parts seen s old new
+    → HasEnded shown parts' seen s old new
+ended_as {shown = shown} {seen = seen} {s = s} {old = old} {new = new} same ended =
+    subst (λ (q : OpeningParts). HasEnded shown q seen s old new) same ended
+
 pub alone_leaves : OneClient → IdleDoes → UserOnce
-    → (config : Configuration) (scripts : List (List Line)) (lines : List InputLine) (first new : StoreModel)
-    (journal : List Entry) (ran : Ran) → IsAlone scripts lines → length config.clients ≡ 1 → IsLegal config journal
-    → IsWhole (map calls_to_make scripts) (user_actions_to_do lines) journal
-    → PutsNext (final_name, final_picture (setup_of config scripts lines false false) journal) (unrefused first)
-    (put_state_of_run new ran.fault) → ran.journal.items ≡ journal → ran.frames ≡ shots journal + 1
-    → HasRun first (setup_of config scripts lines false false) new ran
-alone_leaves one_client idle once config scripts lines first new journal ran (script, are, quiet) one legal whole puts
-    is frames =
+    → {S : Type 0} (shown : S → StoreModel) (parts : OpeningParts) (seen : List Entry) (first new : StoreModel)
+    (scene : SceneModel End) {desk left : Desk S} (fault : Option PutFault) (ran : Ran)
+    → IsAlone parts.scripts parts.input → length parts.config.clients ≡ 1 → HasEnded shown parts seen scene desk left
+    → put_state_at shown desk ≡ unrefused first → put_state_of_run new fault ≡ put_state_at shown left
+    → IsRunOf scene.entries fault ran
+    → HasRun first (setup_of parts.config parts.scripts parts.input false false) new ran
+alone_leaves one_client idle once shown parts seen first new scene {desk = desk} fault ran (script, are, quiet) one
+    ended begun put left_is =
     record {
-      journal = subst (λ (es : List Entry). IsJournal s es) (sym is)
-          (record { legal = legal; whole = whole; rounds = λ together. by_rounds });
-      frames = frames ∙ ap (λ (es : List Entry). shots es + 1) (sym is);
+      journal = subst (λ (es : List Entry). IsJournal s es) (sym left_is.journal_is)
+          (record { legal = ended.legal; whole = ended.whole; rounds = λ together. by_rounds });
+      frames = left_is.frames ∙ ap (λ (es : List Entry). shots es + 1) (sym left_is.journal_is);
       outputs = outputs;
-      are = subst (λ (es : List Entry). AreOutputs s es outputs) (sym is) (
+      are = subst (λ (es : List Entry). AreOutputs s es outputs) (sym left_is.journal_is) (
         [],
         record {
           by_rounds = λ together. sym (ap (map shot_file) no_shots);
@@ -113,8 +122,25 @@ alone_leaves one_client idle once config scripts lines first new journal ran (sc
     false_true : false ≡ true → ⊥
     false_true e = cc
 
+    config : Configuration
+    config = parts.config
+
+    scripts : List (List Line)
+    scripts = parts.scripts
+
+    lines : List InputLine
+    lines = parts.input
+
+    journal : List Entry
+    journal = scene.entries
+
     s : Setup
     s = setup_of config scripts lines false false
+
+    puts : PutsNext (final_name, final_picture s journal) (unrefused first) (put_state_of_run new ran.fault)
+    puts = subst (λ (o : PutState). PutsNext (final_name, final_picture s journal) o (put_state_of_run new ran.fault))
+        begun (subst (λ (o : PutState). PutsNext (final_name, final_picture s journal) (put_state_at shown desk) o)
+        (sym put ∙ ap (put_state_of_run new) (sym left_is.fault_is)) ended.put)
 
     outputs : List File
     outputs = (final_name, final_picture s journal) ∷ []
@@ -125,9 +151,9 @@ alone_leaves one_client idle once config scripts lines first new journal ran (sc
     by_rounds : (entries : List Entry) × AreRoundsOf entries scripts lines × (journal ≡ entries ++ entry.Final ∷ [])
     by_rounds = subst (λ (ss : List (List Line)). (entries : List Entry) × AreRoundsOf entries ss lines
         × (journal ≡ entries ++ entry.Final ∷ [])) (sym are)
-        (one_client config script lines journal one no_actions legal
+        (one_client config script lines journal one no_actions ended.legal
         (subst (λ (ss : List (List Line)). IsWhole (map calls_to_make ss) (user_actions_to_do lines) journal) are
-        whole))
+        ended.whole))
 
     no_shots : (drawn config scripts (rounds scripts lines)).shots ≡ []
     no_shots = no_picture config scripts (rounds scripts lines) (count_by is_phase script) (once scripts lines ∙ quiet)

@@ -1,8 +1,8 @@
 //! A part of the screen, as columns and rows.
 
 ghost use Rattle.std.specs.Prelude.{◌≡◌, ◌+◌, ◌-◌, ◌≤◌, ◌<◌, ℕ, pos, false, true};
-ghost use Rattle.nit_host.specs.Terms.{IsAreaOf, covers, has_place, most_height, most_width, point};
-ghost use Rattle.nit_host.specs.Terms.{rectangle_over};
+ghost use Rattle.nit_host.specs.Terms.{HoldsBoth, HoldsUnless, HoldsWhere, IsAreaOf, covers};
+ghost use Rattle.nit_host.specs.Terms.{has_place, most_height, most_width, point, rectangle_over};
 
 use crate::host::handing::clip;
 use nit_rect::Rect;
@@ -42,9 +42,7 @@ impl Area {
 
     /// What the rectangle covers of a screen of this size.
     pub(crate) fn of_rect(rect: &Rect, size: (u32, u32)) -> Area
-        ensures area { IsAreaOf size.0 size.1 result }
-        ensures covered { (x y : ℕ) → x < size.0 → y < size.1
-            → covers rect.now (point x y) ≡ true → has_place result x y ≡ true }
+        ensures { HoldsWhere size.0 size.1 (λ x y. covers rect.now (point x y)) result }
     {
         let (left, right) = clip(rect.x(), rect.w(), size.0);
         let (top, bottom) = clip(rect.y(), rect.h(), size.1);
@@ -58,10 +56,7 @@ impl Area {
 
     /// An area that has all pixels of both, the least one.
     pub(crate) fn join(&self, other: &Area) -> Area
-        ensures area { (width height : ℕ) → IsAreaOf width height self.now
-            → IsAreaOf width height other.now → IsAreaOf width height result }
-        ensures own { (x y : ℕ) → has_place self.now x y ≡ true → has_place result x y ≡ true }
-        ensures others { (x y : ℕ) → has_place other.now x y ≡ true → has_place result x y ≡ true }
+        ensures { HoldsBoth self.now other.now result }
     {
         if self.is_empty() {
             *other
@@ -74,15 +69,7 @@ impl Area {
 
     /// An area that has all pixels of it, and those of both others unless nothing changed.
     pub(crate) fn join_unless(&self, is_same: bool, before: &Area, after: &Area) -> Area
-        ensures area { (width height : ℕ) → IsAreaOf width height self.now
-            → IsAreaOf width height before.now → IsAreaOf width height after.now
-            → IsAreaOf width height result }
-        ensures same { is_same ≡ true → result ≡ self.now }
-        ensures own { (x y : ℕ) → has_place self.now x y ≡ true → has_place result x y ≡ true }
-        ensures before { is_same ≡ false → (x y : ℕ) → has_place before.now x y ≡ true
-            → has_place result x y ≡ true }
-        ensures after { is_same ≡ false → (x y : ℕ) → has_place after.now x y ≡ true
-            → has_place result x y ≡ true }
+        ensures { HoldsUnless is_same self.now before.now after.now result }
     {
         if is_same {
             *self
@@ -93,10 +80,7 @@ impl Area {
 
     /// The area that is bounded by the outermost edges of both.
     fn around(&self, other: &Area) -> Area
-        ensures area { (width height : ℕ) → IsAreaOf width height self.now
-            → IsAreaOf width height other.now → IsAreaOf width height result }
-        ensures own { (x y : ℕ) → has_place self.now x y ≡ true → has_place result x y ≡ true }
-        ensures others { (x y : ℕ) → has_place other.now x y ≡ true → has_place result x y ≡ true }
+        ensures { HoldsBoth self.now other.now result }
     {
         Area {
             left: self.left.min(other.left),

@@ -1,7 +1,7 @@
 //! Calls of the clients at their seats.
 
 ghost use Rattle.std.specs.Prelude.{◌≡◌, ◌-◌, ◌*◌, ◌^◌, ◌<◌, ◌≤◌, None, Some, Ok, Err, length, map};
-ghost use Rattle.std.specs.Prelude.{nat_lt, slice_get, slice_set, true};
+ghost use Rattle.std.specs.Prelude.{slice_get, slice_set, true};
 ghost use Rattle.nit_host.specs.Acts.{Calls, Refreshes, after_act};
 ghost use Rattle.nit_host.specs.Terms.{AreQuiet, IsPlainOf, Painted, Reply, Unserved, after};
 ghost use Rattle.nit_host.specs.Terms.{asks_view, called, glass_in, refreshed, refusal, rectangle};
@@ -138,22 +138,14 @@ impl Host {
         ensures { result ≡ unserved_refresh self.now seat words.now }
     {
         if self.seats() <= seat {
-            Some(Unserved::NoSeat)
-        } else if self.lacks_words(seat, words) {
+            return Some(Unserved::NoSeat);
+        }
+        let (width, height) = self.buffer(seat);
+        if words.len() < width as usize * height as usize {
             Some(Unserved::ShortWords)
         } else {
             self.worn_out()
         }
-    }
-
-    /// Whether there are fewer words than the buffer of a seat's client has.
-    fn lacks_words(&self, seat: u32, words: &[u32]) -> bool
-        requires { seat < length self.now.state.sessions }
-        ensures { result ≡ nat_lt (length words.now)
-            ((session self.now.state seat).bw * (session self.now.state seat).bh) }
-    {
-        let (width, height) = self.buffer(seat);
-        words.len() < width as usize * height as usize
     }
 
     /// The part that a refresh names. `None` where it is refused.

@@ -1,8 +1,9 @@
 //! Words that a client hands in.
 
 ghost use Rattle.std.specs.Prelude.{◌≡◌, ◌*◌, ◌<◌, ◌≤◌, ℕ, int_le, length, nat_le, pos};
-ghost use Rattle.nit_host.specs.Terms.{IsInReach, after_handing, is_between, is_in_rows, low_bytes};
-ghost use Rattle.nit_host.specs.Terms.{most_length, plain_sight, set_where, spans, told_words};
+ghost use Rattle.nit_host.specs.Terms.{CanTakeWords, IsHandedIn, IsInReach, after_handing};
+ghost use Rattle.nit_host.specs.Terms.{is_between, is_in_rows, low_bytes, most_length, set_where};
+ghost use Rattle.nit_host.specs.Terms.{spans};
 
 use crate::sheet::Sheet;
 use nit_rect::Rect;
@@ -12,12 +13,8 @@ use nit_rect::Rect;
 pub(crate) fn hand_in(sheet: &mut Sheet, buffer: (u32, u32), part: &Option<Rect>, words: &[u32])
     requires words { buffer.0 * buffer.1 ≤ length words.now }
     requires places { buffer.0 * buffer.1 ≤ sheet.old.sight.size }
-    requires room { sheet.old.sight.size ≤ sheet.old.room }
-    requires plain { sheet.old.sight
-        ≡ plain_sight sheet.old.sight.owner (told_words sheet.old.sight.words) }
-    ensures sight { sheet.new.sight ≡ plain_sight sheet.old.sight.owner
-        (after_handing buffer.0 buffer.1 part.now words.now (told_words sheet.old.sight.words)) }
-    ensures room { sheet.old.room ≤ sheet.new.room }
+    requires sheet { CanTakeWords sheet.old }
+    ensures { IsHandedIn (after_handing buffer.0 buffer.1 part.now words.now) sheet.old sheet.new }
 {
     if let Some(part) = part {
         let columns = clip(part.x(), part.w(), buffer.0);
@@ -32,13 +29,9 @@ fn hand_in_rows(sheet: &mut Sheet, width: u32, columns: (u32, u32), rows: (u32, 
     requires rows { rows.0 ≤ rows.1 }
     requires words { width * rows.1 ≤ length words.now }
     requires places { width * rows.1 ≤ sheet.old.sight.size }
-    requires room { sheet.old.sight.size ≤ sheet.old.room }
-    requires plain { sheet.old.sight
-        ≡ plain_sight sheet.old.sight.owner (told_words sheet.old.sight.words) }
-    ensures sight { sheet.new.sight ≡ plain_sight sheet.old.sight.owner
-        (set_where (is_in_rows width columns.0 columns.1 rows.0 rows.1) (low_bytes words.now)
-        (told_words sheet.old.sight.words)) }
-    ensures room { sheet.old.room ≤ sheet.new.room }
+    requires sheet { CanTakeWords sheet.old }
+    ensures { IsHandedIn (set_where (is_in_rows width columns.0 columns.1 rows.0 rows.1)
+        (low_bytes words.now)) sheet.old sheet.new }
 {
     'rows: for row in rows.0..rows.1 {
         let start = row as usize * width as usize;

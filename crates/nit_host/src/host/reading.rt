@@ -1,7 +1,7 @@
 //! What can be read of a host.
 
 ghost use Rattle.std.specs.Prelude.{◌≡◌, ◌<◌, ◌≤◌, ◌*◌, false, find, length, IfSome, IsTrue};
-ghost use Rattle.std.specs.Prelude.{not, None, Some, if◌then◌else◌};
+ghost use Rattle.std.specs.Prelude.{not, None, Some};
 ghost use Rattle.nit_host.specs.Terms.{IsFreeLabel, has_label, is_taken, member, seat_for};
 ghost use Rattle.nit_host.specs.Terms.{seats_of, session, sheet_in};
 
@@ -121,20 +121,9 @@ impl Host {
         ensures { result ≡ seat_for self.now.state label.now }
     {
         match self.labelled(label) {
-            Some(seat) => self.unless_taken(seat),
+            Some(seat) if self.is_taken(seat) => None,
+            Some(seat) => Some(seat),
             None => self.first_free(),
-        }
-    }
-
-    /// The seat, where it is free.
-    fn unless_taken(&self, seat: u32) -> Option<u32>
-        requires { seat < length self.now.state.sessions }
-        ensures { result ≡ (if is_taken self.now.state seat then None else Some seat) }
-    {
-        if self.is_taken(seat) {
-            None
-        } else {
-            Some(seat)
         }
     }
 

@@ -1,7 +1,8 @@
 //! What of the frame a step can change.
 
-ghost use Rattle.std.specs.Prelude.{◌≡◌, ◌<◌, ◌≤◌, ℕ, Some, false, length, slice_get, true};
-ghost use Rattle.nit_host.specs.Terms.{HoldsBar, HoldsTouched, IsAreaOf, IsPlace, has_place};
+ghost use Rattle.std.specs.Prelude.{◌≡◌, ◌<◌, ◌≤◌, ◌&&◌, ℕ, Some, false, length, slice_get, true};
+ghost use Rattle.nit_host.specs.Terms.{HoldsTouched, HoldsWhere, IsAreaOf, IsBarArea, IsPlace};
+ghost use Rattle.nit_host.specs.Terms.{IsToldArea, has_place};
 ghost use Rattle.nit_host.specs.Terms.{is_kill, is_touched, kills, part_touched, point, touch_of};
 ghost use Rattle.nit_host.specs.Terms.{View, covers, deliveries_of, option_map_or, shows_place};
 ghost use Rattle.nit_host.specs.Terms.{touched_by, touched_in, touched_over};
@@ -135,9 +136,8 @@ fn views_touched(desktop: &Desktop<Sheet>, seat: u32, touch: &Touch, bare: &Area
 /// An area with all pixels of the screen at which a view is touched.
 fn view_touched(touch: &Touch, seat: u32, view: &View, size: (u32, u32)) -> Area
     requires { IsPlace view.now.ox × IsPlace view.now.oy }
-    ensures area { IsAreaOf size.0 size.1 result }
-    ensures touched { (x y : ℕ) → x < size.0 → y < size.1
-        → is_touched touch.now seat view.now (point x y) ≡ true → has_place result x y ≡ true }
+    ensures { HoldsWhere size.0 size.1 (λ x y. is_touched touch.now seat view.now (point x y))
+        result }
 {
     match touch {
         Touch::Nothing => Area::none(),
@@ -150,9 +150,8 @@ fn view_touched(touch: &Touch, seat: u32, view: &View, size: (u32, u32)) -> Area
 
 /// The pixels of a view, where it is meant.
 fn where_named(is_meant: bool, view: &View, size: (u32, u32)) -> Area
-    ensures area { IsAreaOf size.0 size.1 result }
-    ensures covered { (x y : ℕ) → x < size.0 → y < size.1 → is_meant ≡ true
-        → covers view.now.rect (point x y) ≡ true → has_place result x y ≡ true }
+    ensures { HoldsWhere size.0 size.1 (λ x y. is_meant && covers view.now.rect (point x y))
+        result }
 {
     if is_meant {
         Area::of_rect(&view.rect, size)
@@ -164,10 +163,8 @@ fn where_named(is_meant: bool, view: &View, size: (u32, u32)) -> Area
 /// The pixels of a view that show this part of its session's buffer, where the view is meant.
 fn part_shown(is_meant: bool, part: &Rect, view: &View, size: (u32, u32)) -> Area
     requires { IsPlace view.now.ox × IsPlace view.now.oy }
-    ensures area { IsAreaOf size.0 size.1 result }
-    ensures shown { (x y : ℕ) → x < size.0 → y < size.1 → is_meant ≡ true
-        → covers view.now.rect (point x y) ≡ true
-        → shows_place part.now view.now (point x y) ≡ true → has_place result x y ≡ true }
+    ensures { HoldsWhere size.0 size.1 (λ x y. is_meant && (covers view.now.rect (point x y)
+        && shows_place part.now view.now (point x y))) result }
 {
     let column = view.rect.x() + view.ox + part.x();
     let row = view.rect.y() + view.oy + part.y();
@@ -191,8 +188,7 @@ fn bar(size: (u32, u32)) -> Area
 
 /// An area with the status bar, and in the modes that draw over the whole screen with all of it.
 pub(crate) fn bar_or_screen(desktop: &Desktop<Sheet>) -> Area
-    ensures area { IsAreaOf desktop.now.state.config.width desktop.now.state.config.height result }
-    ensures bar { HoldsBar desktop.now.state result }
+    ensures { IsBarArea desktop.now.state result }
 {
     let size = desktop.size();
     match desktop.mode() {
@@ -203,11 +199,7 @@ pub(crate) fn bar_or_screen(desktop: &Desktop<Sheet>) -> Area
 
 /// The same, and all of the screen where a client is locked out.
 pub(crate) fn told(desktop: &Desktop<Sheet>, routed: &Routed) -> Area
-    ensures area { IsAreaOf desktop.now.state.config.width desktop.now.state.config.height result }
-    ensures bar { HoldsBar desktop.now.state result }
-    ensures screen { kills (deliveries_of routed.now) ≡ true → (x y : ℕ)
-        → x < desktop.now.state.config.width → y < desktop.now.state.config.height
-        → has_place result x y ≡ true }
+    ensures { IsToldArea desktop.now.state (deliveries_of routed.now) result }
 {
     if locks_out(routed) {
         let size = desktop.size();

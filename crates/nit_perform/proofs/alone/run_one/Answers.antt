@@ -1,12 +1,5 @@
-use Rattle.nit_perform.proofs.Lemmas.{inked, is_ready_alone, plans_long, ◌∙◌}
+use Rattle.nit_perform.proofs.Lemmas.{is_ready_alone, plans_long, ◌∙◌}
 use Rattle.nit_perform.proofs.alone.run_one.Goals as goal
-
-pub buffers_of-requires : goal.buffers_of-requires
-buffers_of-requires g c =
-    inked c.args.config.now c.args.scripts.now c.in_ok-plans.plans.items c.deref.result.now c.deref.ensures.value
-    c.in_ok-plans.ensures.plans
-    (record { configured = c.requires.runnable.configured; each = c.requires.runnable.scripts })
-    c.in_ok-plans.ensures.words
 
 pub play_alone-requires-clause-ready : goal.play_alone-requires-clause-ready
 play_alone-requires-clause-ready g c =

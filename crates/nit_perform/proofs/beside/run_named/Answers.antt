@@ -1,6 +1,7 @@
 use Rattle.std.proofs.Common.{rules, ◌++◌, ◌∷◌, [], sym, subst}
-use Rattle.nit_perform.proofs.Lemmas.{AreDone, HasEnded, HasRun, IsDoneUser, OpeningParts, PutState}
-use Rattle.nit_perform.proofs.Lemmas.{PutsAll, StoreModel, all_done, beside_leaves, events_files}
+use Rattle.nit_perform.proofs.Lemmas.{AreDone, HasRun, IsDoneUser, OpeningParts, PutState}
+use Rattle.nit_perform.proofs.Lemmas.{PutsAll, StoreModel, all_done, beside_leaves, ended_as}
+use Rattle.nit_perform.proofs.Lemmas.{events_files}
 use Rattle.nit_perform.proofs.Lemmas.{journal_file, put_state_of_run, setup_in, user_done}
 use Rattle.nit_perform.proofs.beside.run_named.Goals as goal
 
@@ -23,17 +24,14 @@ returns g c =
     let parts = g.N.Name.parts in
     let shown = g.S.Store.shown in
     let user = c.run_beside-mine.result.user in
-    let desk = c.run_beside-mine.result.desk in
-    let left = c.last_picture-scene.new.desk in
     let scene = c.last_picture-scene.result in
     let new = shown c.leave_texts.new.store in
     let ran = c.leave_texts.result in
-    let ended = subst (λ (q : OpeningParts). HasEnded shown q user.seen scene desk left) c.into_room.ensures.parts
-    c.last_picture-scene.ensures in
+    let ended = ended_as c.into_room.ensures.parts c.last_picture-scene.ensures in
     let texts = subst (λ (o : PutState).
     PutsAll (events_files scene.config scene.entries ++ journal_file scene.entries ∷ []) o
     (put_state_of_run new ran.fault)) c.leave_desk-store.ensures.puts c.leave_texts.ensures.puts in
     subst (λ (last : StoreModel). HasRun (shown c.args.store.now) (setup_in parts) last ran) (search rules)
-    (beside_leaves shown parts c.args.opened.user.seen user.seen (shown c.args.store.now) new scene desk left ran
+    (beside_leaves shown parts c.args.opened.user.seen user.seen (shown c.args.store.now) new scene ran
     c.requires.ready.fresh c.run_beside-mine.ensures.user.shots.put ended texts c.leave_texts.ensures.journal
     c.leave_texts.ensures.frames)

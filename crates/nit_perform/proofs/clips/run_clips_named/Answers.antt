@@ -1,5 +1,5 @@
 use Rattle.std.proofs.Common.{rules, ◌≡◌, ◌∙◌, ◌++◌, ◌∷◌, [], ℕ, List, length, map, ap, sym, subst}
-use Rattle.nit_perform.proofs.Lemmas.{AreDone, AreDoneClips, ClipPassModel, Entry, HasEnded}
+use Rattle.nit_perform.proofs.Lemmas.{AreDone, AreDoneClips, ClipPassModel, Entry, ended_as}
 use Rattle.nit_perform.proofs.Lemmas.{HasRunClips, IsClipListText, IsDoneUser, OpeningParts, Pair}
 use Rattle.nit_perform.proofs.Lemmas.{PassModel, PutState, PutsAll, StoreModel, arith, back_long}
 use Rattle.nit_perform.proofs.Lemmas.{beside_leaves, clips_done, clips_leave, clips_setup_in}
@@ -66,8 +66,6 @@ returns g c =
     let parts = g.N.Name.parts in
     let shown = g.S.Store.shown in
     let user = c.run_beside_clips-mine.result.user in
-    let desk = c.run_beside_clips-mine.result.desk in
-    let left = c.last_with_clips-scene.new.desk in
     let scene = c.last_with_clips-scene.result.0 in
     let list = c.last_with_clips-scene.result.1 in
     let is = c.into_room-room.ensures.parts in
@@ -75,12 +73,11 @@ returns g c =
     let mid = shown c.leave_texts-ran.new.store in
     let ran = c.leave_texts-ran.result in
     let s = clips_setup_in parts in
-    let ended = subst (λ (q : OpeningParts). HasEnded shown q user.seen scene desk left) is
-    c.last_with_clips-scene.ensures.ended in
+    let ended = ended_as is c.last_with_clips-scene.ensures.ended in
     let texts = subst (λ (o : PutState).
     PutsAll (events_files scene.config scene.entries ++ journal_file scene.entries ∷ []) o
     (put_state_of_run mid ran.fault)) c.leave_desk-store.ensures.puts c.leave_texts-ran.ensures.puts in
-    let has = beside_leaves shown parts c.args.actors.user.seen user.seen first mid scene desk left ran
+    let has = beside_leaves shown parts c.args.actors.user.seen user.seen first mid scene ran
     c.requires.ready.ready.fresh c.run_beside_clips-mine.ensures.user.shots.put ended texts
     c.leave_texts-ran.ensures.journal c.leave_texts-ran.ensures.frames in
     let told : IsClipListText s ran.journal.items list =

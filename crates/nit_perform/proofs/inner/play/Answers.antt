@@ -24,8 +24,7 @@ returns-clause-journal c =
     subst (λ (es : List Entry). IsJournal (by_turns i) es)
     (sym (c.into_entries.ensures ∙ ap (λ (j : JournalModel). j.entries) c.into_journal.ensures.entries))
     (rounds_journal c.rounds_are_whole.ensures i c.run_viewed.new.scene last (run.config
-    ∙ c.requires.configuration) run.entries c.take_last.ensures.taken.recorded c.take_last.ensures.taken.config
-    c.take_last.ensures.taken.legal)
+    ∙ c.requires.configuration) run.entries c.take_last.ensures.taken)
 
 pub returns-clause-frames : goal.returns-clause-frames
 returns-clause-frames c =

@@ -46,6 +46,5 @@ returns g c =
     (run_leaves s opened.scene mid ended c.run_rounds.new.owns first (shown c.leave_texts.new.store) at final
     c.leave_texts.result
     c.rounds_are_whole.ensures c.one_more_entry.ensures.replayed refl refl c.requires.configuration
-    c.run_rounds.ensures.run c.put_last.ensures.taken.recorded c.put_last.ensures.taken.config
-    c.put_last.ensures.taken.legal
+    c.run_rounds.ensures.run c.put_last.ensures.taken
     c.run_rounds.ensures.shots puts texts c.leave_texts.ensures.journal c.leave_texts.ensures.frames)

@@ -1,5 +1,5 @@
-use Rattle.nit_hall.proofs.Lemmas.{ShareModel, ap, arith, get_or-take, length, pass_counted}
-use Rattle.nit_hall.proofs.Lemmas.{pass_met, slice_get_within, slice_index, sym, without_final}
+use Rattle.nit_hall.proofs.Lemmas.{arith, get_or-take, length, pass_counted, pass_met}
+use Rattle.nit_hall.proofs.Lemmas.{slice_get_within}
 use Rattle.std.proofs.Common.{rules, ◌+◌, ◌<◌, ◌∙◌}
 use Rattle.nit_hall.proofs.room.Room.meet.Goals as goal
 

@@ -1,6 +1,6 @@
-use Rattle.std.proofs.Common.{List, Some, ap, subst, sym, ℕ, ◌*◌, ◌∙◌, ◌≡◌}
+use Rattle.std.proofs.Common.{Some, ap, subst, sym, ℕ, ◌*◌, ◌∙◌, ◌≡◌}
 use Rattle.nit_look.specs.Look.{AgreeOutside}
-use Rattle.nit_host.specs.Below.{DesktopModel, Rectangle}
+use Rattle.nit_host.specs.Below.{DesktopModel}
 use Rattle.nit_host.specs.Fresh.{sheets_of}
 use Rattle.nit_host.specs.Host.{HostModel, IsAsSeen, frame_by, frame_shown}
 use Rattle.nit_host.specs.Looked.{IsSeenBut, frame_at}
@@ -28,8 +28,5 @@ returns-clause-frame c = λ as_seen.
     (c.requires ∙ ap (λ (h : HostModel). h.state.config.width * h.state.config.height) (sym c.self.view_is)) in
     c.look-found.ensures.frame
     (subst (λ (size : ℕ × ℕ). AgreeOutside size.0 c.args.out.now c.frame.result.now c.rect-part.result)
-    (sym c.size-width.ensures)
-    (subst (λ (words : List ℕ). AgreeOutside d.state.config.width c.args.out.now words c.rect-part.result) (sym framed)
-    (subst (λ (r : Rectangle). AgreeOutside d.state.config.width c.args.out.now
-    (frame_by d.state (sheets_of d.glasses)) r) (sym c.rect-part.ensures) agree)))
+    (sym c.size-width.ensures) (rw (framed, c.rect-part.ensures) agree))
     ∙ c.frame.ensures.frame

@@ -1,5 +1,5 @@
 use Rattle.std.proofs.Common.{ap, arith, subst, sym, ℕ, ◌*◌, ◌+◌, ◌∙◌, ◌≡◌, ◌≤◌}
-use Rattle.nit_host.specs.Terms.{is_in_rows, low_bytes, plain_sight, set_where, told_words}
+use Rattle.nit_host.specs.Terms.{told_words}
 use Rattle.nit_host.specs.Below.{Sight}
 use Rattle.nit_host.proofs.Rows.{row_fits, row_more, rows_begun, rows_sized}
 use Rattle.nit_host.proofs.host.handing.hand_in_rows.Goals as goal
@@ -9,7 +9,7 @@ abbrev as_many : (c : goal.After-struct_known-in-rows-1) → c.rows.sheet.sight.
 as_many c =
     rows_sized c.args.width c.args.columns.0 c.args.columns.1 c.args.rows.0 c.rows.row c.args.sheet.now.sight.owner
     c.args.words.now (told_words c.args.sheet.now.sight.words) c.rows.sheet.sight c.rows.invariant.sight
-    ∙ sym (ap (λ (s : Sight). s.size) c.requires.plain)
+    ∙ sym (ap (λ (s : Sight). s.size) c.requires.sheet.plain)
 
 pub hand_in-requires-clause-places : goal.hand_in-requires-clause-places
 hand_in-requires-clause-places c =
@@ -18,12 +18,12 @@ hand_in-requires-clause-places c =
     c.requires.columns.1 c.rows-test.true c.requires.places)
 
 pub hand_in-requires-clause-room : goal.hand_in-requires-clause-room
-hand_in-requires-clause-room c = omega (arith, as_many c, c.requires.room, c.rows.invariant.room)
+hand_in-requires-clause-room c = omega (arith, as_many c, c.requires.sheet.room, c.rows.invariant.room)
 
 pub rows-init : goal.rows-init
 rows-init c = record {
   sight = rows_begun c.args.width c.args.columns.0 c.args.columns.1 c.args.rows.0 c.args.words.now
-      c.args.sheet.now.sight c.requires.plain;
+      c.args.sheet.now.sight c.requires.sheet.plain;
   room = omega arith;
 }
 
@@ -35,10 +35,7 @@ rows-preserved c = record {
   room = omega (arith, c.rows.invariant.room, c.hand_in.ensures.room);
 }
 
-pub returns-clause-sight : goal.returns-clause-sight
-returns-clause-sight c =
+pub returns : goal.returns
+returns c =
     let last : c.rows.row ≡ c.args.rows.1 = omega (arith, c.rows-test.false, c.rows.auto.row-end c.requires.rows) in
-    c.rows.invariant.sight
-    ∙ ap (λ (n : ℕ). plain_sight c.args.sheet.now.sight.owner
-    (set_where (is_in_rows c.args.width c.args.columns.0 c.args.columns.1 c.args.rows.0 n)
-    (low_bytes c.args.words.now) (told_words c.args.sheet.now.sight.words))) last
+    rw last at c.rows.invariant

@@ -1,7 +1,6 @@
-use Rattle.std.proofs.Common.{arith, inl, inr, subst, ℕ, ◌≡◌}
+use Rattle.std.proofs.Common.{arith, inl, inr, ◌≡◌}
 use Rattle.std.proofs.lemmas.Bool.{cases_lt}
 use Rattle.std.proofs.lemmas.Option.{slice_get_within}
-use Rattle.nit_host.specs.Terms.{View}
 use Rattle.nit_host.proofs.Areas.{same_view}
 use Rattle.nit_host.proofs.host.touch.views_touched.Goals as goal
 
@@ -12,8 +11,7 @@ views-preserved c =
     let height = c.args.desktop.now.state.config.height in
     record {
       area = c.join-area.ensures.area width height known.area
-          (subst (λ (size : ℕ × ℕ). Rattle.nit_host.specs.Terms.IsAreaOf size.0 size.1 c.view_touched.result)
-          c.size-size.ensures c.view_touched.ensures.area);
+          (rw c.size-size.ensures at c.view_touched.ensures.area);
       bare = λ x y is. c.join-area.ensures.own x y (known.bare x y is);
       views = λ i x y v less there wide high is. elim (cases_lt i c.views.i) [
         | inl before ↦ c.join-area.ensures.own x y (known.views i x y v before there wide high is)
@@ -21,7 +19,7 @@ views-preserved c =
             let at : i ≡ c.views.i = omega arith in
             c.join-area.ensures.others x y (same_view c.args.desktop.now.state.stack i c.views.i v c.view-view.result
             c.args.touch.now c.args.seat c.size-size.result width height c.view_touched.result x y at there
-            c.view-view.ensures.view c.size-size.ensures c.view_touched.ensures.touched wide high is)
+            c.view-view.ensures.view c.size-size.ensures c.view_touched.ensures.there wide high is)
       ];
     }
 
