@@ -1,6 +1,6 @@
 -- What follows of a run that was begun, and that an audit begins none and puts nothing.
 use Rattle.std.proofs.Common.{◌≡◌, List, [], ◌∷◌, ◌++◌, Option, Some, None, refl, ap, subst, ◌∙◌}
-use Rattle.std.proofs.Common.{inl, inr, ◌⊎◌}
+use Rattle.std.proofs.Common.{inl, inr, true, ◌⊎◌}
 use Rattle.nit_top.proofs.Basics.{Audit, AuditOr, Begun, Capture, Clip, Command, Course, Entry}
 use Rattle.nit_top.proofs.Basics.{File, Gen, IsAudit, IsCommandRun, IsSetupOf, IsSomeAnd}
 use Rattle.nit_top.proofs.Basics.{IsValidSo, Nested, NoCommand}
