@@ -16,6 +16,7 @@ pub use Rattle.nit_stack.specs.declared.view.View.{View}
 pub use Rattle.nit_stack.specs.declared.view.ViewRef.{ViewRef}
 pub use Rattle.nit_word.specs.Channels.{bare_word}
 pub use Rattle.nit_word.specs.Inks.{IsWord}
+pub use Rattle.nit_word.specs.Inks.{Colours}
 pub use Rattle.nit_word.specs.Sight.{IsLoaded, IsLoadedRow, Sight, seen}
 pub use Rattle.std.specs.List.{enumerate_from}
 pub use Rattle.std.specs.Option.{option_map, option_map_or}

@@ -3,11 +3,11 @@
 -- from the top.
 use Rattle.std.specs.Prelude.{◌≡◌, ℕ, zero, suc, ◌+◌, ◌<◌, ◌==◌, Bool, true, false, ◌&&◌, List, []}
 use Rattle.std.specs.Prelude.{◌∷◌, count_by, Contains, slice_index_or, None, if◌then◌else◌}
-use Rattle.nit_paint.specs.Below.{Bare, Black, IsLoaded, PixelSource, Sight, Word, bare_word, seen}
+use Rattle.nit_paint.specs.Below.{Bare, Black, Colours, IsLoaded, PixelSource, Sight, Word, bare_word, seen}
 
 -- the sight where there is no glass
 abbrev pub no_sight : Sight
-no_sight = record { owner = 0; size = 0; ink = []; words = None; log = None }
+no_sight = record { owner = 0; size = 0; ink = Colours []; words = None; log = None }
 
 -- the glasses of all sessions, with this one for one of them
 abbrev pub with_glass : (ℕ → Sight) → ℕ → Sight → ℕ → Sight

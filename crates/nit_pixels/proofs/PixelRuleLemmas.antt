@@ -1,7 +1,8 @@
 -- Each kind of step keeps the rule of the pixel words.
-use Rattle.nit_pixels.proofs.Basics.{Allows, Identity, IsInked, IsPixelRule, IsViewOf, IsWord}
+use Rattle.nit_pixels.proofs.Basics.{AllByRecursion, Allows, FitsLine, Identity, IsInked, IsPixelRule}
+use Rattle.nit_pixels.proofs.Basics.{IsViewOf, Stages, script_of, stage_fits, stages_of, table_size}
 use Rattle.nit_pixels.proofs.Basics.{LoadStep, PixelView, SeatState, Splits, StoreStep, at_set}
-use Rattle.nit_pixels.proofs.Basics.{at_snoc, inked_fits, keeps, opening, option_map, owner_view}
+use Rattle.nit_pixels.proofs.Basics.{at_snoc, keeps, opening, option_map, owner_view}
 use Rattle.nit_pixels.proofs.Basics.{reader_view, set_again, step, view_loaded, view_stored}
 use Rattle.nit_pixels.proofs.Basics.{zero_inked, zeros}
 use Rattle.std.proofs.Common.{All, IfSome, IsSome, List, None, Option, Some, [], ap, get_or, length}
@@ -21,12 +22,12 @@ only a v zero e = (refl, some-injective a v e)
 only a v (suc j) e = absurd (some-ne-none v (sym e))
 
 -- making the table
-pub opens : (identity : Identity) → All IsWord identity.ink.items
-    → IsPixelRule identity (opening (zeros identity.words) [] (owner_view identity))
+pub opens : (identity : Identity) → AllByRecursion FitsLine (script_of identity)
+    → IsPixelRule identity (opening (zeros (table_size identity.donation)) [] (owner_view identity))
 opens identity fits = record {
-  ink_fits = fits;
-  inked = zero_inked identity.ink.items identity.words;
-  views = λ j v at. subst (IsViewOf identity (zeros identity.words)) (only (owner_view identity) v j at).1
+  fits = fits;
+  inked = λ i. zero_inked (Stages (stages_of identity)) i (table_size identity.donation) i;
+  views = λ j v at. subst (IsViewOf identity (zeros (table_size identity.donation))) (only (owner_view identity) v j at).1
       (refl, refl, refl);
   one_owner = λ j k v w p q _ _. (only (owner_view identity) v j p).0 ∙ sym (only (owner_view identity) w k q).0;
 }
@@ -71,12 +72,17 @@ loads_keep identity slots id me i s r _ at _ =
       tt,
       subst (λ (ws : List ℕ). IsPixelRule identity record { words = ws; homes = s.homes; views = set s.views id w })
           (sym (set-get_or s.words i 0)) record {
-            ink_fits = r.ink_fits;
+            fits = r.fits;
             inked = r.inked;
             views = views_set (IsViewOf identity s.words) s.views id w mine (λ j v _. r.views j v);
             one_owner = owner_set s.views id me.0 w at (λ x. x) r.one_owner;
           },
-      (refl, inked_fits identity.ink.items n r.ink_fits inked, subst (λ ink. IsInked ink n) (sym mine.1) inked, told),
+      (
+        refl,
+        stage_fits (script_of identity) identity.donation i n r.fits inked,
+        subst (λ stages. IsInked (Stages stages) i n) (sym mine.1) inked,
+        told,
+      ),
     )
   where
     told_at : (o : Option (List ℕ)) (words : List ℕ) (i : ℕ) → IfSome o (λ ws. ws ≡ words)
@@ -84,17 +90,17 @@ loads_keep identity slots id me i s r _ at _ =
     told_at None words i e = tt
     told_at (Some ws) words i e = ap (λ (z : List ℕ). slice_index z i) (sym e)
 
-set_all : (P : ℕ → Type 0) (ws : List ℕ) (i new : ℕ) → P new → ((j : ℕ) → P (get_or ws j 0)) → (j : ℕ)
-    → P (get_or (set ws i new) j 0)
+set_all : (P : ℕ → ℕ → Type 0) (ws : List ℕ) (i new : ℕ) → P i new → ((j : ℕ) → P j (get_or ws j 0)) → (j : ℕ)
+    → P j (get_or (set ws i new) j 0)
 set_all P [] i new p all j = all j
 set_all P (x ∷ ws) zero new p all zero = p
 set_all P (x ∷ ws) zero new p all (suc j) = all (suc j)
 set_all P (x ∷ ws) (suc i) new p all zero = all zero
-set_all P (x ∷ ws) (suc i) new p all (suc j) = set_all P ws i new p (λ k. all (suc k)) j
+set_all P (x ∷ ws) (suc i) new p all (suc j) = set_all (λ k. P (suc k)) ws i new p (λ k. all (suc k)) j
 
 -- a store by the owner's end
 pub stores_keep : (identity : Identity) (slots id : ℕ) (me : SeatState) (i new : ℕ) → IsSome me.0.words
-    → IsInked me.0.ink new
+    → IsInked (Stages me.0.stages) i new
     → Allows (IsPixelRule identity) slots id me i (λ _. new) (λ _. StoreStep (step slots i new 0 none) me new)
 stores_keep identity slots id me i new owns inked s r _ at _ =
     let w : PixelView = view_stored me.0 i new in
@@ -104,9 +110,9 @@ stores_keep identity slots id me i new owns inked s r _ at _ =
       keeps,
       tt,
       record {
-        ink_fits = r.ink_fits;
-        inked = set_all (IsInked identity.ink.items) s.words i new (subst (λ ink. IsInked ink new) mine.1 inked)
-            r.inked;
+        fits = r.fits;
+        inked = set_all (IsInked (Stages (stages_of identity))) s.words i new
+            (subst (λ stages. IsInked (Stages stages) i new) mine.1 inked) r.inked;
         views = views_set (IsViewOf identity words) s.views id w
             (mine.0, mine.1, written me.0.words s.words i new mine.2)
             (λ j v other there. let u = r.views j v there in
@@ -138,7 +144,7 @@ splits_keep identity id v s r at =
       views =
           vs ++ reader_view v ∷ [];
     }) (sym (set_again s.views id v at)) record {
-      ink_fits = r.ink_fits;
+      fits = r.fits;
       inked = r.inked;
       views = λ j x e. ⊎_elim (r.views j x) (λ (t : reader_view v ≡ x). let mine =
           r.views id v at in subst (IsViewOf identity s.words) t (mine.0, mine.1, tt))

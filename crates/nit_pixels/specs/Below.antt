@@ -4,9 +4,13 @@ pub use Rattle.atomic_table.specs.Table.{Allows, Me, Splits, State, Step, keeps,
 pub use Rattle.atomic_table.specs.declared.shared.Seat.{Seat}
 pub use Rattle.nit_pixels.specs.declared.steps.Identity.{Identity}
 pub use Rattle.nit_pixels.specs.declared.steps.PixelView.{PixelView}
-pub use Rattle.nit_rect.specs.Limits.{most_words}
-pub use Rattle.nit_word.specs.Inks.{IsInked, IsWord}
+pub use Rattle.nit_plan.specs.ScriptWords.{blank, script_ink, stages_from, table_size}
+pub use Rattle.nit_script.specs.Spelling.{FitsLine}
+pub use Rattle.nit_script.specs.declared.line.Line.{Line}
+pub use Rattle.nit_slots.specs.Account.{IsDonation}
+pub use Rattle.nit_word.specs.Inks.{Ink, IsInked, IsWord, Stages}
 pub use Rattle.nit_word.specs.Sight.{Sight, stored}
 pub use Rattle.nit_word.specs.Zeros.{zeros}
+pub use Rattle.std.specs.List.{AllByRecursion}
 pub use Rattle.std.specs.Option.{option_map}
 pub use Rattle.std.specs.Prelude.{List, None, Some, [], ℕ}

@@ -1,5 +1,6 @@
 -- What contracts see of a buffer, of its key and of its ends.
-use Rattle.nit_pixels.specs.Below.{List, None, Sight, Some, TableId, [], zeros, ℕ}
+use Rattle.nit_pixels.specs.Below.{Line, List, None, Sight, Some, TableId, [], script_ink}
+use Rattle.nit_pixels.specs.Below.{table_size, zeros, ℕ}
 use Rattle.nit_pixels.specs.declared.standing.Standing.{Standing}
 
 -- which buffer it is
@@ -12,10 +13,17 @@ pub record End : Type 0 where
   pub sight : Sight
   pub stand : Standing
 
--- the owner's sight of a new buffer: all words are 0, and nothing was loaded
-abbrev pub new_sight : ℕ → ℕ → List ℕ → Sight
-new_sight owner size ink =
-    record { owner = owner; size = size; ink = ink; words = Some (zeros size); log = Some [] }
+-- the owner's sight of a new buffer: a word for each place of the session's table, each of which is
+-- 0, the ink of the owner's script, and nothing was loaded
+abbrev pub new_sight : ℕ → List Line → ℕ → Sight
+new_sight owner script donation =
+    record {
+      owner = owner;
+      size = table_size donation;
+      ink = script_ink script donation;
+      words = Some (zeros (table_size donation));
+      log = Some [];
+    }
 
 -- a new reader's sight of an owner's buffer: no words are told, and nothing was loaded
 abbrev pub reader_sight : Sight → Sight

@@ -1,3 +1,5 @@
+pub use Rattle.nit_plan.specs.ScriptWords
+pub use Rattle.nit_slots.specs.Account
 pub use Rattle.nit_word.specs.Inks
 pub use Rattle.nit_word.specs.Sight
 pub use Rattle.nit_word.specs.Zeros

@@ -1,56 +1,72 @@
 -- The rule of the pixel words, and what each kind of step does to the view of the seat that makes
 -- it.
-use Rattle.std.specs.Prelude.{◌≡◌, ℕ, List, [], ◌∷◌, ◌++◌, All, Some, None, IfSome, IsSome}
+use Rattle.std.specs.Prelude.{◌≡◌, ℕ, List, [], ◌∷◌, ◌++◌, Some, None, IfSome, IsSome}
 use Rattle.std.specs.Prelude.{slice_index, slice_set}
-use Rattle.nit_pixels.specs.Below.{Identity, IsInked, IsWord, Me, PixelView, State, Step}
-use Rattle.nit_pixels.specs.Below.{option_map, zeros}
+use Rattle.nit_pixels.specs.Below.{AllByRecursion, FitsLine, Identity, Ink, IsInked, IsWord, Line}
+use Rattle.nit_pixels.specs.Below.{Me, PixelView, Stages, State, Step, blank, option_map}
+use Rattle.nit_pixels.specs.Below.{stages_from, table_size, zeros}
 use mathlib.Core.Option.{some}
 use lib.ListN.{get_elem?}
+
+-- the script of the owner
+abbrev pub script_of : Identity → List Line
+script_of identity = identity.script.value
+
+-- the words before the owner's script, and after each of its lines
+abbrev pub stages_of : Identity → List (List ℕ)
+stages_of identity = stages_from (blank identity.donation) (script_of identity)
 
 -- the owner's view of words that are all 0
 abbrev pub owner_view : Identity → PixelView
 owner_view identity =
     record {
       owner = identity.owner;
-      ink = identity.ink.items;
-      words = Some (zeros identity.words);
+      stages = stages_of identity;
+      words = Some (zeros (table_size identity.donation));
       log = [];
     }
 
 -- a reader's view beside this one: it tells no words, and nothing was loaded
 abbrev pub reader_view : PixelView → PixelView
-reader_view view = record { owner = view.owner; ink = view.ink; words = None; log = [] }
+reader_view view = record { owner = view.owner; stages = view.stages; words = None; log = [] }
 
 -- the view after w was loaded at place i
 abbrev pub view_loaded : PixelView → ℕ → ℕ → PixelView
 view_loaded view i w =
-    record { owner = view.owner; ink = view.ink; words = view.words; log = view.log ++ (i, w) ∷ [] }
+    record {
+      owner = view.owner;
+      stages = view.stages;
+      words = view.words;
+      log = view.log ++ (i, w) ∷ [];
+    }
 
 -- the view after w was stored at place i
 abbrev pub view_stored : PixelView → ℕ → ℕ → PixelView
 view_stored view i w =
     record {
       owner = view.owner;
-      ink = view.ink;
+      stages = view.stages;
       words = option_map (λ words. slice_set words i w) view.words;
       log = view.log;
     }
 
--- the view has the owner and the ink, and where it tells words they are these
+-- the view has the owner and the words of the owner's script, and where it tells words they are
+-- these
 abbrev pub IsViewOf : Identity → List ℕ → PixelView → Type 0
 IsViewOf identity words view =
-    (view.owner ≡ identity.owner) × (view.ink ≡ identity.ink.items)
+    (view.owner ≡ identity.owner) × (view.stages ≡ stages_of identity)
     × IfSome view.words (λ told. told ≡ words)
 
 -- a state of the words, and of the views of all ends
 abbrev pub PixelState : Type 0
 PixelState = State (Unit {0}) PixelView
 
--- The rule: each word is 0 or in the ink, which has words alone, all views have the one owner and
--- the one ink, and at most one view tells words, which are those of the table.
+-- The rule: each word is 0 or one that the owner's script leaves at its place after some of its
+-- lines, which fit. All views have the one owner and the words of the one script, and at most one
+-- view tells words, which are those of the table.
 pub record IsPixelRule (identity : Identity) (s : PixelState) : Type 0 where
-  pub ink_fits : All IsWord identity.ink.items
-  pub inked : (i : ℕ) → IsInked identity.ink.items (slice_index s.words i)
+  pub fits : AllByRecursion FitsLine (script_of identity)
+  pub inked : (i : ℕ) → IsInked (Stages (stages_of identity)) i (slice_index s.words i)
   pub views : (j : ℕ) (view : PixelView) → get_elem? s.views j ≡ some view
       → IsViewOf identity s.words view
   pub one_owner : (j k : ℕ) (v w : PixelView) → get_elem? s.views j ≡ some v
@@ -60,12 +76,12 @@ pub record IsPixelRule (identity : Identity) (s : PixelState) : Type 0 where
 abbrev pub SeatState : Type 0
 SeatState = Me (Unit {0}) PixelView
 
--- a load found n at the step's word: it is logged, n is a word that is 0 or in the ink, and where
--- words are told it is the one there
+-- a load found n at the step's word: it is logged, n is a word that is 0 or one of those that the
+-- script leaves there, and where words are told it is the one there
 abbrev pub LoadStep : Step (Unit {0}) → SeatState → ℕ → SeatState → Type 0
 LoadStep step before n after =
     (after ≡ (view_loaded before.0 step.word n, before.1))
-    × IsWord n × IsInked before.0.ink n
+    × IsWord n × IsInked (Stages before.0.stages) step.word n
     × IfSome before.0.words (λ words. n ≡ slice_index words step.word)
 
 -- a store of the step's first operand at the step's word: told words have it there

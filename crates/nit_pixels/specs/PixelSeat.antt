@@ -1,6 +1,6 @@
 -- What is seen of a seat of the words.
 use Rattle.std.specs.Prelude.{◌≡◌, ◌<◌, [], length, Some, None}
-use Rattle.nit_pixels.specs.Below.{PixelView, Seat, Sight, option_map}
+use Rattle.nit_pixels.specs.Below.{PixelView, Seat, Sight, Stages, option_map}
 use Rattle.nit_pixels.specs.End.{End}
 
 -- a seat of the words
@@ -13,7 +13,7 @@ sight_of s =
     record {
       owner = s.me.0.owner;
       size = s.table_id.words;
-      ink = s.me.0.ink;
+      ink = Stages s.me.0.stages;
       words = s.me.0.words;
       log = Some s.me.0.log;
     }

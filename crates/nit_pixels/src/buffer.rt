@@ -1,13 +1,15 @@
 //! A buffer of pixel words, and the right to be its owner.
-ghost use Rattle.std.specs.Prelude.{◌≡◌, ◌≤◌, All, IfOk};
-ghost use Rattle.nit_pixels.specs.Terms.{IsWord, most_words, new_sight, zeros};
+ghost use Rattle.std.specs.Prelude.{◌≡◌, IfOk};
+ghost use Rattle.nit_pixels.specs.Terms.{IsDonation, new_sight, table_size, zeros};
 
 use crate::canvas::Canvas;
 use crate::steps::{Identity, PixelRule, PixelView};
 use atomic_table::{Seat, Table};
 use nit_rect::NoMemory;
+use nit_script::Client;
 use std::alloc::Global;
 use std::marker::Model;
+use std::snapshot::Snapshot;
 
 /// The words of one owner, seen as the name that tells this buffer from every other.
 #[derive(Drop)]
@@ -45,26 +47,33 @@ impl Model for Key {
 }
 
 impl PixelBuffer {
-    /// A buffer of this owner with so many words, 1 to 1,048,576, all 0, and its one key. Words of
-    /// the ink are below 2^24. Only this call takes memory.
+    /// A buffer of this owner, whose session opens with this donation and has this script, and its
+    /// one key. It has as many words as the session's table, which are those that are lent here,
+    /// all 0. At each place of it may stand what the lines of the script leave there. Only this
+    /// call takes memory.
+    ///
+    /// # Errors
+    ///
+    /// `NoMemory` where memory runs out.
     pub fn new(
         alloc: Global,
         owner: u32,
-        words: u32,
-        ink: &[u32],
+        script: &Client,
+        donation: u32,
+        words: &[u64],
     ) -> Result<(PixelBuffer, Key), NoMemory>
-        requires words { (1 ≤ words) × (words ≤ most_words) }
-        requires ink { All IsWord ink.now }
-        ensures sight { IfOk result (λ made. made.1.sight ≡ new_sight owner words ink.now) }
+        requires donation { IsDonation donation }
+        requires words { words.now ≡ zeros (table_size donation) }
+        ensures sight { IfOk result (λ made. made.1.sight ≡ new_sight owner script.now donation) }
         ensures key { IfOk result (λ made. made.1.stand.buffer ≡ made.0) }
     {
-        let zeros = zero_words(alloc, words as usize)?;
+        let lines = script.lines();
         let identity = Identity {
             owner,
-            words: words as usize,
-            ink: ink.to_vec(alloc)?,
+            script: Snapshot::of(script),
+            donation,
         };
-        let (table, seat) = Table::of_words(alloc, zeros.as_slice(), &identity)?;
+        let (table, seat) = Table::of_words(alloc, words, &identity)?;
         Ok((PixelBuffer { table }, Key { seat }))
     }
 
@@ -78,13 +87,4 @@ impl PixelBuffer {
             seat: key.seat,
         }
     }
-}
-
-/// So many words that are 0.
-#[tactic(auto, unfolding(nit_word::specs::Zeros::zeros))]
-fn zero_words(alloc: Global, count: usize) -> Result<Vec<u64>, NoMemory>
-    requires { count ≤ most_words }
-    ensures { IfOk result (λ v. v.items ≡ zeros count) }
-{
-    Ok(vec![in alloc; 0u64; count]?)
 }

@@ -6,6 +6,7 @@ use crate::lens::Lens;
 use crate::standing::Standing;
 use crate::steps::{Loads, PixelView, SplitsOff, Stores, Words};
 use atomic_table::Seat;
+use nit_plan::Surface;
 use nit_word::Glass;
 use std::marker::Model;
 
@@ -44,11 +45,11 @@ impl<'a> Canvas<'a> {
         }
     }
 
-    /// Sets the word at place `i`, which is below the size, to `w`, which is 0 or in the ink.
-    /// Nothing else about the canvas changes.
+    /// Sets the word at place `i`, which is below the size, to `w`, which is 0 or what the ink has
+    /// there. Nothing else about the canvas changes.
     pub fn store(&mut self, i: usize, w: u32)
         requires place { i < self.old.sight.size }
-        requires word { IsInked self.old.sight.ink w }
+        requires word { IsInked self.old.sight.ink i w }
         ensures { self.new ≡ record self.old { sight = stored self.old.sight i w } }
     {
         self.words.store::<Stores>(&mut self.seat, i, w as u64);
@@ -64,5 +65,11 @@ impl<'a> Glass for Canvas<'a> {
 
     fn load(&mut self, i: usize) -> u32 {
         self.words.load::<Loads>(&mut self.seat, i) as u32
+    }
+}
+
+impl<'a> Surface for Canvas<'a> {
+    fn store(&mut self, i: usize, w: u32) {
+        Canvas::store(self, i, w);
     }
 }

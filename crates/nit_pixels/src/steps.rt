@@ -1,6 +1,8 @@
 //! The rule of the words, and each kind of step on them.
 use atomic_table::{Play, Shared, Split, TableRule};
+use nit_script::Client;
 use std::collections::LinkedList;
+use std::snapshot::Snapshot;
 
 /// The words as threads see them.
 pub(crate) type Words = Shared<(), PixelView, Identity, PixelRule>;
@@ -9,8 +11,8 @@ pub(crate) type Words = Shared<(), PixelView, Identity, PixelRule>;
 pub struct PixelView {
     /// The number of the owner.
     pub owner: u32,
-    /// The words that may be stored besides 0.
-    pub ink: LinkedList<u32>,
+    /// The words before the owner's script, and after each of its lines.
+    pub stages: LinkedList<LinkedList<u32>>,
     /// The words, in the owner's view alone.
     pub words: Option<LinkedList<u32>>,
     /// The place and the word of each load, oldest first.
@@ -22,14 +24,15 @@ pub struct PixelView {
 pub struct Identity {
     /// The number of the owner.
     pub owner: u32,
-    /// How many words there are.
-    pub words: usize,
-    /// The words that may be stored besides 0.
-    pub ink: Vec<u32>,
+    /// The owner's script. Contracts alone know it.
+    pub script: Snapshot<Client>,
+    /// What the owner's session opens with.
+    pub donation: u32,
 }
 
-/// Each word is 0 or in the ink, all views have one owner and one ink, and the one view that tells
-/// words tells those of the table. The first view is the owner's.
+/// Each word is 0 or one that the owner's script leaves at its place after some of its lines, all
+/// views have one owner and one script's words, and the one view that tells words tells those of
+/// the table. The first view is the owner's.
 pub struct PixelRule;
 
 impl TableRule<(), PixelView, Identity> for PixelRule {

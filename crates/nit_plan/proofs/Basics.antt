@@ -2,7 +2,9 @@
 pub use Rattle.nit_journal.proofs.ForCallers.{as_its_calls_have_it, first_none, holds_of}
 pub use Rattle.nit_journal.proofs.ForCallers.{second_none, within_quota, within_reserve}
 pub use Rattle.nit_plan.specs.Terms.{AllByRecursion, Buffer, Call, Check, Close, Configuration}
-pub use Rattle.nit_plan.specs.Terms.{Destroy, Entry, Event, Expect, Fill, FitsLine, IsInked}
+pub use Rattle.nit_plan.specs.Terms.{AreInkedBetween, Colours, Destroy, Entry, Event, Expect, Fill}
+pub use Rattle.nit_plan.specs.Terms.{FitsLine, HasStages, Ink, IsInked, IsLineInked, IsOfColours}
+pub use Rattle.nit_plan.specs.Terms.{IsStrokeInked, Stages, script_ink, stages_from}
 pub use Rattle.nit_plan.specs.Terms.{IsPaintedTo, IsWord, Line, List, Nothing, Painting, PlanModel}
 pub use Rattle.nit_plan.specs.Terms.{Reply, Session, Sight, Size, Status, Step, Stroke, Take, Taken}
 pub use Rattle.nit_plan.specs.Terms.{TellsAll, Upgrade, View, [], accepted, accepts, after_calls}
@@ -21,14 +23,14 @@ pub use Rattle.nit_plan.specs.Terms.{words_after_call, words_by_step, words_left
 pub use Rattle.nit_plan.specs.Terms.{◌orelse◌}
 pub use Rattle.nit_word.proofs.ForCallers.{are_set, before_row, both_set, column_and_row}
 pub use Rattle.nit_word.proofs.ForCallers.{length-zeros, next_between, none_between, none_set}
-pub use Rattle.nit_word.proofs.ForCallers.{one_of, same_colours, same_set, set_long, turn_there}
+pub use Rattle.nit_word.proofs.ForCallers.{inked_fits, same_colours, same_set, set_long, turn_there}
 pub use Rattle.nit_word.proofs.ForCallers.{word_at, zero_at}
 pub use Rattle.std.proofs.Common.{All, Bool, IfSome, None, Option, Some, ap, append-nil, ap₂, arith}
 pub use Rattle.std.proofs.Common.{cond, drop, false, filter, fold, get_or, length, length-append}
-pub use Rattle.std.proofs.Common.{map, min, nat_le, nat_lt, not, refl, suc, sym, true, ◌∙◌}
+pub use Rattle.std.proofs.Common.{map, min, nat_le, nat_lt, not, refl, subst, suc, sym, true, ◌∙◌}
 pub use Rattle.std.proofs.Math.ListN.{get_or-eq_default}
 pub use Rattle.std.proofs.Math.Nat.{mul-le-mul_right}
-pub use Rattle.std.proofs.lemmas.Bool.{eq-eqb, ltb-true, ne_eqb}
+pub use Rattle.std.proofs.lemmas.Bool.{eq-eqb, eqb-true, ltb-true, ne_eqb}
 pub use Rattle.std.proofs.lemmas.Bool.Decides.{nat_tests}
 pub use Rattle.std.proofs.lemmas.Grind.{flat_map-append}
 pub use Rattle.std.proofs.lemmas.List.{get_or-append_right, get_or-drop, get_or_append_left}

@@ -1,8 +1,8 @@
--- The words that a script leaves are in its ink.
-use Rattle.nit_plan.proofs.Basics.{AllByRecursion, Bool, Buffer, IsInked, Line, List, Painting}
+-- The words that a script leaves are 0 or of its colours.
+use Rattle.nit_plan.proofs.Basics.{AllByRecursion, Bool, Buffer, IsOfColours, Line, List, Painting}
 use Rattle.nit_plan.proofs.Basics.{Size, Some, Stroke, [], after_line, arith, blank, colours, cond}
 use Rattle.nit_plan.proofs.Basics.{drop, enumerate_from, false, ink, is_accepted, length, map}
-use Rattle.nit_plan.proofs.Basics.{one_of, painted_from, refl, serve, session_size, slice_get}
+use Rattle.nit_plan.proofs.Basics.{painted_from, refl, serve, session_size, slice_get}
 use Rattle.nit_plan.proofs.Basics.{slice_index, stroke_colour, table_size, take_all}
 use Rattle.nit_plan.proofs.Basics.{word_after_stroke, words_after, words_left}
 use Rattle.std.proofs.Common.{subst, suc, take, true, zero, ℕ, ◌%◌, ◌*◌, ◌++◌, ◌+◌, ◌/◌, ◌∷◌, ◌≡◌}
@@ -10,11 +10,11 @@ use Rattle.nit_plan.specs.Strokes.{cleared, stroked}
 use Rattle.nit_word.specs.Zeros.{zeros}
 use Rattle.nit_script.specs.declared.line.Line.TheVariants as line
 use Rattle.nit_plan.proofs.LineColours.{colours_inked}
-use Rattle.nit_plan.proofs.Places.{colour_inked}
+use Rattle.nit_plan.proofs.Places.{colour_inked, one_of}
 
 -- each of the words is 0 or in the ink
 abbrev AreInked : List ℕ → List ℕ → Type 0
-AreInked ink words = AllByRecursion (IsInked ink) words
+AreInked ink words = AllByRecursion (IsOfColours ink) words
 
 zeros_inked : (ink : List ℕ) (n : ℕ) → AreInked ink (zeros n)
 unfolding zeros
@@ -38,7 +38,7 @@ cleared_inked ink w h words inked = both_inked ink (zeros (w * h)) (drop (w * h)
     (back_inked ink (w * h) words inked)
 
 stroked_from : (ink : List ℕ) (size : Size) (s : Stroke) (n : ℕ) (words : List ℕ)
-    → AllByRecursion (IsInked ink) (colours (line.Stroke s)) → AreInked ink words
+    → AllByRecursion (IsOfColours ink) (colours (line.Stroke s)) → AreInked ink words
     → AreInked ink (map (λ p. word_after_stroke size s p.0 p.1) (enumerate_from n words))
 stroked_from ink size s n [] named inked = tt
 stroked_from ink size s n (w ∷ words) named inked = (
@@ -48,7 +48,7 @@ stroked_from ink size s n (w ∷ words) named inked = (
 )
 
 stroked_inked : (ink : List ℕ) (size : Size) (s : Stroke) (words : List ℕ)
-    → AllByRecursion (IsInked ink) (colours (line.Stroke s)) → AreInked ink words → AreInked ink (stroked size s words)
+    → AllByRecursion (IsOfColours ink) (colours (line.Stroke s)) → AreInked ink words → AreInked ink (stroked size s words)
 unfolding stroked
 stroked_inked ink size s words named inked = stroked_from ink size s 0 words named inked
 
@@ -57,7 +57,7 @@ buffer_inked : (ink : List ℕ) (took : Bool) (w h : ℕ) (words : List ℕ) →
 buffer_inked ink true w h words inked = cleared_inked ink w h words inked
 buffer_inked ink false w h words inked = inked
 
-line_inked : (ink : List ℕ) (p : Painting) (l : Line) → AllByRecursion (IsInked ink) (colours l) → AreInked ink p.words
+line_inked : (ink : List ℕ) (p : Painting) (l : Line) → AllByRecursion (IsOfColours ink) (colours l) → AreInked ink p.words
     → AreInked ink (after_line p l).words
 line_inked ink p (line.Call (Buffer w h)) named inked =
     buffer_inked ink (is_accepted (serve p.session (Buffer w h)).reply) w h p.words inked
@@ -69,7 +69,7 @@ line_inked ink p line.Phase named inked = inked
 
 -- each line names colours of the ink alone
 abbrev AllNamed : List ℕ → List Line → Type 0
-AllNamed ink lines = (k : ℕ) (l : Line) → slice_get lines k ≡ Some l → AllByRecursion (IsInked ink) (colours l)
+AllNamed ink lines = (k : ℕ) (l : Line) → slice_get lines k ≡ Some l → AllByRecursion (IsOfColours ink) (colours l)
 
 lines_inked : (ink : List ℕ) (k : ℕ) (p : Painting) (lines : List Line) → AllNamed ink lines → AreInked ink p.words
     → AreInked ink (painted_from p (take k lines)).words
@@ -79,22 +79,22 @@ lines_inked ink (suc k) p (l ∷ lines) named inked =
     lines_inked ink k (after_line p l) lines (λ j m here. named (suc j) m here)
     (line_inked ink p l (named zero l refl) inked)
 
-at_place : (ink words : List ℕ) (i : ℕ) → AreInked ink words → IsInked ink (slice_index words i)
+at_place : (ink words : List ℕ) (i : ℕ) → AreInked ink words → IsOfColours ink (slice_index words i)
 at_place ink [] i inked = refl
 at_place ink (w ∷ words) zero inked = inked.0
 at_place ink (w ∷ words) (suc i) inked = at_place ink words i inked.1
 
 pub word_inked : (script : List Line) (donation k i : ℕ)
-    → IsInked (ink script) (slice_index (words_after script donation k) i)
+    → IsOfColours (ink script) (slice_index (words_after script donation k) i)
 word_inked script donation k i =
     at_place (ink script) (words_after script donation k) i
     (lines_inked (ink script) k (blank donation) script (colours_inked script)
     (zeros_inked (ink script) (table_size donation)))
 
 pub left_inked : (script : List Line) (donation i : ℕ)
-    → IsInked (ink script) (slice_index (words_left script donation) i)
+    → IsOfColours (ink script) (slice_index (words_left script donation) i)
 left_inked script donation i =
-    subst (λ (lines : List Line). IsInked (ink script) (slice_index (painted_from (blank donation) lines).words i))
+    subst (λ (lines : List Line). IsOfColours (ink script) (slice_index (painted_from (blank donation) lines).words i))
     (take_whole script) (word_inked script donation (length script) i)
   where
     take_whole : (lines : List Line) → take (length lines) lines ≡ lines

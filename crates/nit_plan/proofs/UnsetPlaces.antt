@@ -1,17 +1,18 @@
--- The words of places that a line does not set.
+-- The words of places that a line sets, and of those that it does not set.
 use Rattle.nit_plan.proofs.Basics.{Bool, Buffer, Line, List, Some, Step, Stroke, accepts, ap, arith}
 use Rattle.nit_plan.proofs.Basics.{column_and_row, cond, drop, false, get_or, get_or-append_right}
 use Rattle.nit_plan.proofs.Basics.{get_or-drop, get_or-eq_default, is_set_by, is_stroked, length}
 use Rattle.nit_plan.proofs.Basics.{length-zeros, nat_tests, place_colour, slice_get, slice_index}
 use Rattle.nit_plan.proofs.Basics.{static, step_of, stroked, word_at, words_after, words_by_step}
-use Rattle.nit_plan.proofs.Basics.{zeros}
+use Rattle.nit_plan.proofs.Basics.{HasStages, Ink, IsInked, IsLineInked, subst, zeros}
 use Rattle.std.proofs.Common.{nat_lt, refl, sym, true, ℕ, ◌%◌, ◌&&◌, ◌*◌, ◌+◌, ◌-◌, ◌/◌, ◌∙◌, ◌≡◌}
-use Rattle.std.proofs.Common.{◌≤◌}
+use Rattle.std.proofs.Common.{◌<◌, ◌≤◌}
 use Rattle.nit_plan.specs.Strokes.{cleared}
 use mathlib.Core.Logic.{dite}
 use native.Mathlib.Decide.{dec_lt}
 use Rattle.nit_script.specs.declared.line.Line.TheVariants as line
-use Rattle.nit_plan.proofs.Lines.{words_next}
+use Rattle.nit_plan.proofs.Lines.{IsAt, words_next}
+use Rattle.nit_plan.proofs.LineWords.{in_table}
 use Rattle.nit_plan.proofs.Places.{stroke_set, stroked_long, whole}
 
 none_stroked : (w h : ℕ) (s : Stroke) (n : ℕ) → (nat_lt (n % w) w && nat_lt (n / w) h && is_stroked s (n % w) (n / w))
@@ -63,3 +64,26 @@ line_stays script donation k n l here outside =
     let step : Step = step_of (static script donation k) (static script donation (k + 1)) l in
     ap (λ (ws : List ℕ). slice_index ws n) (sym (words_next script donation k l step here refl))
     ∙ step_stays l step (words_after script donation k) n outside
+
+-- ---- a line whose words the ink has
+
+-- a word that a stroke sets has the stroke's colour
+stroke_sets : (w h : ℕ) (s : Stroke) (words : List ℕ) (n : ℕ) → whole w h s n ≡ true → w * h ≤ length words
+    → slice_index (stroked (record { w = w; h = h }) s words) n ≡ place_colour w s n
+stroke_sets w h s words n inside room =
+    let told : n < length words = grind (arith, nat_tests) in
+    ap (λ (ws : List ℕ). get_or ws n 0) (stroke_set w h s words) ∙ word_at (whole w h s) (place_colour w s) words n told
+    ∙ ap (λ b. cond b (place_colour w s n) (get_or words n 0)) inside
+
+pub line_inked : (ink : Ink) (script : List Line) (donation k : ℕ) (l : Line) (step : Step) → donation ≤ 8388608
+    → HasStages script donation ink → IsAt script donation k l step → IsLineInked ink step l
+line_inked ink script donation k (line.Call c) step most has at = tt
+line_inked ink script donation k line.Phase step most has at = tt
+line_inked ink script donation k (line.Stroke s) step most has at = λ n inside.
+    let words : List ℕ = words_after script donation k in
+    let room : step.w * step.h ≤ length words =
+    omega (arith, at.sized.inside, (in_table script donation k most).long) in
+    subst (IsInked ink n)
+    (ap (λ (ws : List ℕ). slice_index ws n) (sym (words_next script donation k (line.Stroke s) step at.here at.is))
+    ∙ stroke_sets step.w step.h s words n inside room)
+    (has (k + 1) n)

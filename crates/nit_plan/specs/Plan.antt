@@ -1,12 +1,13 @@
 -- What a script alone says of each of its lines: the size of the buffer after it, and what is
 -- answered to it while the session is live.
 use Rattle.std.specs.Prelude.{◌≡◌, ℕ, nat_lt, Bool, ◌&&◌, false, List, [], ◌∷◌, if◌then◌else◌}
-use Rattle.nit_plan.specs.Below.{Buffer, Call, Expect, Line, Reply, Session, Status, Step, Take}
+use Rattle.nit_plan.specs.Below.{Buffer, Call, Expect, Ink, Line, Reply, Session, Status, Step}
+use Rattle.nit_plan.specs.Below.{Take}
 use Rattle.nit_plan.specs.Below.{first_session, is_accepted, serve}
 use Rattle.nit_events.specs.declared.event.Status.TheVariants as status
 use Rattle.nit_script.specs.declared.line.Line.TheVariants as line
 use Rattle.nit_plan.specs.declared.plan.Expect.TheVariants as expect
-use Rattle.nit_plan.specs.Strokes.{is_stroked, stroked, cleared}
+use Rattle.nit_plan.specs.Strokes.{IsStrokeInked, is_stroked, stroked, cleared}
 use Rattle.nit_plan.specs.ScriptWords.{ink}
 
 -- the session after a line, getting no item
@@ -62,6 +63,11 @@ words_by_step (line.Call (Buffer w h)) step words =
     if accepts step.expect then cleared step.w step.h words else words
 words_by_step (line.Stroke s) step words = stroked (record { w = step.w; h = step.h }) s words
 words_by_step other step words = words
+
+-- each word that the line sets to a colour may have it
+abbrev pub IsLineInked : Ink → Step → Line → Type 0
+IsLineInked ink step (line.Stroke s) = IsStrokeInked ink (record { w = step.w; h = step.h }) s
+IsLineInked ink step other = Unit {0}
 
 -- the line sets the word of the place in column i and row j of the buffer: an accepted `buffer`
 -- line sets all places of the new buffer, a stroke those that the buffer and its rectangle have,

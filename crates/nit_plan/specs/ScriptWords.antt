@@ -1,8 +1,9 @@
 -- What a script alone says: its session, its colours, and the words that it leaves. The words do
 -- not depend on what happens to the session in a run.
 use Rattle.std.specs.Prelude.{ℕ, List, [], ◌∷◌, fold, take, if◌then◌else◌}
-use Rattle.nit_plan.specs.Below.{Buffer, Call, Check, Fill, Line, Reply, Session, Size}
-use Rattle.nit_plan.specs.Below.{first_session, flat_map, is_accepted, serve, zeros}
+use Rattle.nit_plan.specs.Below.{Buffer, Call, Check, Fill, Ink, IsInked, Line, Reply, Session, Size}
+use Rattle.nit_plan.specs.Below.{Stages, first_session, flat_map, is_accepted, serve, slice_index}
+use Rattle.nit_plan.specs.Below.{zeros}
 use Rattle.nit_script.specs.declared.line.Line.TheVariants as line
 use Rattle.nit_plan.specs.Strokes.{stroked, cleared}
 pub use Rattle.nit_slots.specs.Account.{table_size}
@@ -55,12 +56,27 @@ session_of_script s = record s { queue = []; lost = 0 }
 abbrev pub words_left : List Line → ℕ → List ℕ
 words_left script donation = (painted_from (blank donation) script).words
 
+-- the words of the table before the lines, and after each of them
+abbrev pub stages_from : Painting → List Line → List (List ℕ)
+stages_from p [] = p.words ∷ []
+stages_from p (l ∷ rest) = p.words ∷ stages_from (after_line p l) rest
+
+-- the ink of a script whose session opens with this donation: each place may have what one of the
+-- lines leaves there
+abbrev pub script_ink : List Line → ℕ → Ink
+script_ink script donation = Stages (stages_from (blank donation) script)
+
+-- at each place the ink has all that the lines of the script leave there
+abbrev pub HasStages : List Line → ℕ → Ink → Type 0
+HasStages script donation ink =
+    (k i : ℕ) → IsInked ink i (slice_index (words_after script donation k) i)
+
 -- the colours that a line names
 abbrev pub colours : Line → List ℕ
 colours (line.Stroke (Fill x y w h c)) = c ∷ []
 colours (line.Stroke (Check x y w h c d)) = c ∷ d ∷ []
 colours other = []
 
--- the ink of a script: the colours that its strokes name
+-- the colours of a script: those that its strokes name
 abbrev pub ink : List Line → List ℕ
 ink script = flat_map colours script

@@ -1,5 +1,6 @@
 -- What lemmas use: the words of clauses, the library's lemmas, and those of the crates below.
-pub use Rattle.nit_word.specs.Terms.{IsInked, IsLoaded, IsLoadedRow, IsWord, Sight, dim}
+pub use Rattle.nit_word.specs.Terms.{AreInkedBetween, Colours, Ink, IsInked, IsLoaded, IsLoadedRow}
+pub use Rattle.nit_word.specs.Terms.{IsOfColours, IsWord, Sight, Stages, dim}
 pub use Rattle.nit_word.specs.Terms.{enumerate_from, filled_up, in_turn, inked_sight, is_between}
 pub use Rattle.nit_word.specs.Terms.{list_any, option_map, seen, set_where, slice_index, tint}
 pub use Rattle.nit_word.specs.Terms.{told_at, with_words, zeros}

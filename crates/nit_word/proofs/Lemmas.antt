@@ -1,10 +1,11 @@
 -- What answers use: all that lemmas use, and this crate's lemmas.
-pub use Rattle.nit_word.proofs.Basics.{All, All-take, IsInked, IsWord, List, Sight, ap, arith}
+pub use Rattle.nit_word.proofs.Basics.{All, All-take, AreInkedBetween, Ink, IsOfColours, IsWord, List}
+pub use Rattle.nit_word.proofs.Basics.{Sight, ap, arith}
 pub use Rattle.nit_word.proofs.Basics.{filled_up, get_or-eq_default, in_turn, is_between, length}
 pub use Rattle.nit_word.proofs.Basics.{length-set, min, set, set_where, slice_index, subst, sym}
 pub use Rattle.nit_word.proofs.Basics.{told_at, with_words, ℕ, ◌∙◌}
 pub use Rattle.nit_word.proofs.Bits.{dim_bits, dim_lanes, tint_lanes}
-pub use Rattle.nit_word.proofs.InkUpdates.{alternated_inked, copied_inked, filled_inked}
+pub use Rattle.nit_word.proofs.InkUpdates.{at_any, between_inked, colours_in, copied_inked}
 pub use Rattle.nit_word.proofs.InkUpdates.{reached_inked, sight_changed, zeros_inked}
 pub use Rattle.nit_word.proofs.Loads.{IsLoadedTo, one_loaded}
 pub use Rattle.nit_word.proofs.PixelRows.{MappedTo, all_mapped, block_mapped, more_mapped, rest_all}

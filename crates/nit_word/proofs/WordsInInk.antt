@@ -1,7 +1,7 @@
--- Words that are 0 or in an ink of words.
+-- Words that are 0 or of some colours.
 use Rattle.std.proofs.Common.{All, Bool, List, arith, false, get_or, length, refl, true, ℕ, ◌+◌}
 use Rattle.std.proofs.Common.{◌<◌, ◌==◌, ◌≡◌, ◌≤◌}
-use Rattle.nit_word.proofs.Basics.{Any-from_list_any, IsInked, IsLoaded, IsLoadedRow, IsWord}
+use Rattle.nit_word.proofs.Basics.{Any-from_list_any, IsOfColours, IsLoaded, IsLoadedRow, IsWord}
 use Rattle.nit_word.proofs.Basics.{inked_sight, list_any, nat_tests, slice_index}
 
 among_fits : (ink : List ℕ) (w : ℕ) → All IsWord ink → list_any (λ y. y == w) ink ≡ true → IsWord w
@@ -10,30 +10,30 @@ among_fits ink w fit found =
     let here : IsWord (get_or ink some.0 some.1) = fit some.0 some.1 some.2 in
     grind (arith, nat_tests, here, some.3, some.4)
 
--- 0 is a word, and so is each word of the ink
-pub inked_fits : (ink : List ℕ) (w : ℕ) → All IsWord ink → IsInked ink w → IsWord w
+-- 0 is a word, and so is each of the colours
+pub inked_fits : (ink : List ℕ) (w : ℕ) → All IsWord ink → IsOfColours ink w → IsWord w
 inked_fits ink w fit inked = by_zero (w == 0) refl
   where
     by_zero : (b : Bool) → (w == 0) ≡ b → IsWord w
     by_zero true is = grind (arith, nat_tests)
     by_zero false is = among_fits ink w fit (rw is at inked)
 
-pub all_fit : (ink words : List ℕ) → All IsWord ink → All (IsInked ink) words → All IsWord words
+pub all_fit : (ink words : List ℕ) → All IsWord ink → All (IsOfColours ink) words → All IsWord words
 all_fit ink words fit inked i d lt = inked_fits ink (get_or words i d) fit (inked i d lt)
 
 -- what stands at a place of an inked glass may be loaded there
-pub place_loaded : (owner : ℕ) (words ink : List ℕ) (i w : ℕ) → All IsWord ink → All (IsInked ink) words
+pub place_loaded : (owner : ℕ) (words ink : List ℕ) (i w : ℕ) → All IsWord ink → All (IsOfColours ink) words
     → i < length words → w ≡ slice_index words i
     → IsLoaded (inked_sight owner words ink) i w
 place_loaded owner words ink i w fit inked room is =
-    let here : IsInked ink w = rw is (inked i 0 room) in record {
+    let here : IsOfColours ink w = rw is (inked i 0 room) in record {
       fits = inked_fits ink w fit here;
       inked = here;
       told = is;
     }
 
 -- what stands side by side there may be loaded as a row
-pub row_loaded : (owner : ℕ) (words ink row : List ℕ) (from : ℕ) → All IsWord ink → All (IsInked ink) words
+pub row_loaded : (owner : ℕ) (words ink row : List ℕ) (from : ℕ) → All IsWord ink → All (IsOfColours ink) words
     → from + length row ≤ length words
     → ((j : ℕ) → j < length row → slice_index row j ≡ slice_index words (from + j))
     → IsLoadedRow (inked_sight owner words ink) from row

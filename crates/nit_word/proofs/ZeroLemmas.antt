@@ -1,7 +1,7 @@
 -- Words that are all 0.
 use Rattle.std.proofs.Common.{List, ap, arith, length, refl, replicate, subst, suc, sym, zero}
 use Rattle.std.proofs.Common.{zero-add, ℕ, ◌++◌, ◌+◌, ◌∙◌, ◌∷◌, ◌≡◌}
-use Rattle.nit_word.proofs.Basics.{IsInked, length-replicate, slice_index}
+use Rattle.nit_word.proofs.Basics.{Ink, IsInked, length-replicate, slice_index}
 use Rattle.nit_word.specs.Zeros.{zeros}
 
 pub length-zeros : (n : ℕ) → length (zeros n) ≡ n
@@ -19,8 +19,8 @@ unfolding zeros
 zero_at n i = all_zero n i
 
 -- so it is in every ink
-pub zero_inked : (ink : List ℕ) (n i : ℕ) → IsInked ink (slice_index (zeros n) i)
-zero_inked ink n i = subst (IsInked ink) (sym (zero_at n i)) refl
+pub zero_inked : (ink : Ink) (at n i : ℕ) → IsInked ink at (slice_index (zeros n) i)
+zero_inked ink at n i = subst (IsInked ink at) (sym (zero_at n i)) refl
 
 -- more of them
 pub zeros_joined : (m n : ℕ) → zeros m ++ zeros n ≡ zeros (m + n)

@@ -1,22 +1,22 @@
 -- What contracts see of a glass.
-use Rattle.std.specs.Prelude.{◌≡◌, ℕ, List, [], ◌+◌, ◌<◌, ◌++◌, length, slice_index, slice_set}
+use Rattle.std.specs.Prelude.{◌≡◌, ℕ, List, [], ◌∷◌, ◌+◌, ◌<◌, ◌++◌, length, slice_index, slice_set}
 use Rattle.std.specs.Prelude.{Option, None, Some, IfSome}
 use Rattle.nit_word.specs.Below.{option_map}
-use Rattle.nit_word.specs.Inks.{IsInked, IsWord}
+use Rattle.nit_word.specs.Inks.{Colours, Ink, IsInked, IsWord, Stages}
 
 -- the number of the owner, how many words there are, the ink, the words where the glass tells them,
 -- and each load's place and word, oldest first, where the glass tells them
 pub record Sight : Type 0 where
   pub owner : ℕ
   pub size : ℕ
-  pub ink : List ℕ
+  pub ink : Ink
   pub words : Option (List ℕ)
   pub log : Option (List (ℕ × ℕ))
 
--- what was loaded at place i is a word, is 0 or in the ink, and is the told word at i
+-- what was loaded at place i is a word, is 0 or what the ink has there, and is the told word at i
 pub record IsLoaded (sight : Sight) (i w : ℕ) : Type 0 where
   pub fits : IsWord w
-  pub inked : IsInked sight.ink w
+  pub inked : IsInked sight.ink i w
   pub told : IfSome sight.words (λ words. w ≡ slice_index words i)
 
 -- what was loaded of a row of places, the first of which is `from`
@@ -41,20 +41,33 @@ told_at sight i = slice_index (told_words sight.words) i
 abbrev pub seen : Sight → List (ℕ × ℕ) → Sight
 seen sight loads = record sight { log = option_map (λ log. log ++ loads) sight.log }
 
--- the sight of a glass that tells its words, which are its ink, and tells no log
+-- the sight of a glass that tells its words, which are all that its ink has, and tells no log
 abbrev pub plain_sight : ℕ → List ℕ → Sight
 plain_sight owner words =
-    record { owner = owner; size = length words; ink = words; words = Some words; log = None }
+    record {
+      owner = owner;
+      size = length words;
+      ink = Stages (words ∷ []);
+      words = Some words;
+      log = None;
+    }
 
--- the sight of a glass of fixed ink that tells its words and tells no log
+-- the sight of a glass of fixed colours that tells its words and tells no log
 abbrev pub inked_sight : ℕ → List ℕ → List ℕ → Sight
-inked_sight owner words ink =
-    record { owner = owner; size = length words; ink = ink; words = Some words; log = None }
+inked_sight owner words colours =
+    record {
+      owner = owner;
+      size = length words;
+      ink = Colours colours;
+      words = Some words;
+      log = None;
+    }
 
 -- the sight after w was stored at place i: told words have it there, and all else is as before
 abbrev pub stored : Sight → ℕ → ℕ → Sight
 stored sight i w = record sight { words = option_map (λ words. slice_set words i w) sight.words }
 
--- the sight after w was stored at place i of words that are the ink too
+-- the sight after w was stored at place i of words that are all that the ink has
 abbrev pub plain_stored : Sight → ℕ → ℕ → Sight
-plain_stored sight i w = record (stored sight i w) { ink = slice_set sight.ink i w }
+plain_stored sight i w =
+    let after = stored sight i w in record after { ink = Stages (told_words after.words ∷ []) }

@@ -1,7 +1,8 @@
 -- The words that clauses use: those that come from outside, and those of this crate.
 pub use Rattle.nit_word.specs.Below.{enumerate_from, list_any, option_map, slice_index}
 pub use Rattle.nit_word.specs.Channels.{dim, tint}
-pub use Rattle.nit_word.specs.Inks.{IsInked, IsWord}
+pub use Rattle.nit_word.specs.Inks.{AreInkedBetween, Colours, Ink, IsInked, IsOfColours, IsWord}
+pub use Rattle.nit_word.specs.Inks.{Stages}
 pub use Rattle.nit_word.specs.Sight.{IsLoaded, IsLoadedRow, Sight, TellsAll, inked_sight}
 pub use Rattle.nit_word.specs.Sight.{plain_sight, plain_stored, seen, stored, told_at}
 pub use Rattle.nit_word.specs.Updates.{in_turn, is_between, set_where, with_words}

@@ -13,9 +13,9 @@ pub trait Glass {
     ghost rest: { Self → Self.Rest };
 
     /// The word at place `i`, which is below the glass's size. The word is below 2^24 and is 0 or
-    /// in the ink, and where the glass tells its words it is the told word at `i`. Where the glass
-    /// keeps a log,
-    /// `i` and the word are added at its end. All else about the glass stays.
+    /// what the ink has there, and where the glass tells its words it is the told word at `i`.
+    /// Where the glass keeps a log, `i` and the word are added at its end. All else about the glass
+    /// stays.
     fn load(&mut self, i: usize) -> u32
         requires { i < (sight self.old).size }
         ensures loaded { IsLoaded (sight self.old) i result }

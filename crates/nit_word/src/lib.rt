@@ -1,9 +1,9 @@
 //! Pixel words, and the glasses through which they are seen.
 //!
 //! A word is a number below 2^24, read as `0x00RRGGBB`. A [`Glass`] shows the words of one owner.
-//! Each word that is loaded through it is 0 or in its ink, and it may keep a log of what was
-//! loaded. [`Plain`] is a glass over words of its own whose ink is those words, and [`Inked`] is
-//! one whose ink is fixed.
+//! Each word that is loaded through it is 0 or one that its ink has at that place, and it may keep
+//! a log of what was loaded. [`Plain`] is a glass over words of its own, which are all that its ink
+//! has, and [`Inked`] is one whose ink is some fixed colours.
 //!
 //! [`dim`] darkens a word, as X-ray mode shows what is not in focus, and [`tint`] reddens it, as
 //! kill mode shows every view. [`dim_row`] and [`tint_row`] do the same to each word of a row.

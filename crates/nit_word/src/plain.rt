@@ -5,7 +5,7 @@ ghost use Rattle.nit_word.specs.Terms.{IsWord, Sight, plain_sight, plain_stored}
 use crate::glass::Glass;
 use std::marker::Model;
 
-/// Words of one owner that the glass tells. Its ink is its words, and it keeps no log.
+/// Words of one owner that the glass tells. They are all that its ink has, and it keeps no log.
 #[derive(Drop)]
 pub struct Plain {
     owner: u32,

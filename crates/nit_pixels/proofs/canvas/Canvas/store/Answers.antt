@@ -6,5 +6,5 @@ store-requires c = (
   search rules,
   search rules,
   stores_keep _ _ _ _ _ _ (tells_words _ _ c.self.invariant.0.1)
-      (subst (λ (e : End). IsInked e.sight.ink c.args.w) (sym c.self.view_is) c.requires.word),
+      (subst (λ (e : End). IsInked e.sight.ink c.args.i c.args.w) (sym c.self.view_is) c.requires.word),
 )

@@ -1,13 +1,12 @@
-use Rattle.nit_word.proofs.Lemmas.{alternated_inked, ap, in_turn, is_between, length, set_long}
+use Rattle.nit_word.proofs.Lemmas.{ap, between_inked, in_turn, is_between, length, set_long}
 use Rattle.nit_word.proofs.Lemmas.{set_where, sight_changed, ◌∙◌}
 use Rattle.nit_word.proofs.inked.Inked.alternate.Goals as goal
 
 pub invariant_of-self : goal.invariant_of-self
 invariant_of-self c = (
   c.self.invariant.0,
-  alternated_inked _ c.args.from c.args.to c.args.c c.args.d _ _
-      (rw (← c.self.view_is) at c.requires.first) (rw (← c.self.view_is) at c.requires.second) c.self.invariant.1
-      c.alternate.ensures,
+  between_inked _ c.args.from c.args.to (in_turn c.args.from c.args.c c.args.d) _ _
+      (rw (← c.self.view_is) at c.requires.words) c.self.invariant.1 c.alternate.ensures,
 )
 
 pub returns : goal.returns

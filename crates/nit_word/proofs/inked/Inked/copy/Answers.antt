@@ -1,15 +1,15 @@
-use Rattle.nit_word.proofs.Lemmas.{All, IsInked, List, Sight, ap, copied_inked, is_between, length}
-use Rattle.nit_word.proofs.Lemmas.{set_long, set_where, sight_changed, slice_index, subst, sym}
+use Rattle.nit_word.proofs.Lemmas.{All, IsOfColours, List, Sight, ap, colours_in, copied_inked}
+use Rattle.nit_word.proofs.Lemmas.{is_between, length, set_long, set_where, sight_changed, slice_index, subst, sym}
 use Rattle.nit_word.proofs.Lemmas.{told_at, with_words, ℕ, ◌∙◌}
 use Rattle.nit_word.proofs.inked.Inked.copy.Goals as goal
 
 pub invariant_of-self : goal.invariant_of-self
 invariant_of-self c =
-    let same = ap (λ (g : Sight). g.ink) c.other.view_is ∙ c.requires.ink
-    ∙ sym (ap (λ (g : Sight). g.ink) c.self.view_is) in (
+    let same = ap (λ (g : Sight). colours_in g.ink) c.other.view_is ∙ ap colours_in c.requires.ink
+    ∙ sym (ap (λ (g : Sight). colours_in g.ink) c.self.view_is) in (
       c.self.invariant.0,
       copied_inked _ c.args.from c.args.to _ _ _
-          (subst (λ (ink : List ℕ). All (IsInked ink) c.other.inside.words) same c.other.invariant.1) c.self.invariant.1
+          (subst (λ (ink : List ℕ). All (IsOfColours ink) c.other.inside.words) same c.other.invariant.1) c.self.invariant.1
           c.copy.ensures,
     )
 
