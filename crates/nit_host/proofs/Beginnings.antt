@@ -133,11 +133,15 @@ all_sheets config n sheets have far = record {
 }
 
 -- and they are glasses of the seats
-pub blank_glasses : (config : Configuration) (sheets : List SheetModel) → AreBlank config sheets → (t : ℕ)
-    → t < length config.clients → IsGlass config t (glass_in (sights sheets) t)
-blank_glasses config sheets are t inside =
-    let is : glass_in (sights sheets) t ≡ blank_sheet t (size_at config t) = sight_at sheets t ∙ are.blank t inside in
-    (ap (λ (s : Sight). s.owner) is, ap (λ (s : Sight). s.size) is ∙ length-zeros (size_at config t))
+pub blank_glasses : (config : Configuration) (sheets : List SheetModel) → AreBlank config sheets
+    → AreGlasses (λ s. s.sight) config sheets
+blank_glasses config sheets are = record {
+  each = are.count;
+  tables = λ t inside.
+      let is : glass_in (sights sheets) t ≡ blank_sheet t (size_at config t) = sight_at sheets t
+      ∙ are.blank t inside in
+      (ap (λ (s : Sight). s.owner) is, ap (λ (s : Sight). s.size) is ∙ length-zeros (size_at config t));
+}
 
 -- their words are 0
 pub words_blank : (config : Configuration) (sheets : List SheetModel) → AreBlank config sheets

@@ -18,9 +18,9 @@ paint_whole-requires-clause-pixels g c =
 
 pub paint_whole-requires-clause-held : goal.paint_whole-requires-clause-held
 paint_whole-requires-clause-held g c =
-    let tables = rw (← c.self.view_is) at c.requires.tables in
+    let owns = rw (← c.self.view_is) at c.requires.owns in
     rw c.stack.ensures.stack (holds c.self.inside.server (glass_in (map g.C.Glass.sight c.args.owns.now))
-    (length c.args.owns.now) c.facts.ensures (rw (← c.self.view_is) at c.requires.owns) (λ t l. (tables t l).1))
+    (length c.args.owns.now) c.facts.ensures owns.each (λ t l. (owns.tables t l).1))
 
 pub show_again-requires-clause-can : goal.show_again-requires-clause-can
 show_again-requires-clause-can g c =
