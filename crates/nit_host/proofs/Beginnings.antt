@@ -15,7 +15,7 @@ use Rattle.nit_word.specs.Channels.{bare_word}
 use Rattle.nit_word.specs.Sight.{Sight, plain_sight, told_words}
 use Rattle.nit_word.specs.Zeros.{zeros}
 use Rattle.nit_word.proofs.ForCallers.{length-zeros}
-use Rattle.nit_host.specs.Below.{Configuration, DesktopModel, IsGlass, State, glass_in, table_size}
+use Rattle.nit_host.specs.Below.{AreGlasses, Configuration, DesktopModel, State, glass_in, table_size}
 use Rattle.nit_host.specs.Fresh.{AreBlank, AreHollow, AreSheets, IsFresh, IsHost, sheet_at}
 use Rattle.nit_host.specs.Fresh.{sheets_of, size_at}
 use Rattle.nit_host.specs.Host.{blank_sheets, first_host, sheet_in}
