@@ -18,10 +18,10 @@ pub use Rattle.nit_journal.specs.Steps.{IsFreeLabel, opened, relabelled, vacant_
 pub use Rattle.nit_overlay.specs.Frame.{Scenery, frame}
 pub use Rattle.nit_rect.specs.Rectangle.{IsPlace}
 pub use Rattle.nit_repaint.specs.Glasses.{glass_in, glasses_of_call}
-pub use Rattle.nit_screen.specs.FrameLabels.{ShowsLabels}
+pub use Rattle.nit_screen.specs.FrameLabels.{IsFrameShown, ShowsLabels}
 pub use Rattle.nit_screen.specs.RawWords.{AreInked, AreRaw, IsRawOf, Painted, pixel_count}
 pub use Rattle.nit_screen.specs.RawWords.{source_at}
-pub use Rattle.nit_screen.specs.Screen.{IsGlass}
+pub use Rattle.nit_screen.specs.Screen.{AreGlasses, IsGlass}
 pub use Rattle.nit_screen.specs.StateScenery.{scenery_of}
 pub use Rattle.nit_screen.specs.ViewNames.{AreBelowNext, HaveOwnNames}
 pub use Rattle.nit_server.specs.Server.{ServerModel, state_of}

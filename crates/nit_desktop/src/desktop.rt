@@ -1,9 +1,9 @@
 //! All sessions on one screen, and no journal.
 
-ghost use Rattle.std.specs.Prelude.{◌≡◌, ◌-◌, ◌^◌, ◌<◌, ◌≤◌, ◌*◌, All, false, length, map, true, ℕ};
-ghost use Rattle.nit_desktop.specs.Terms.{AreInked, AreRaw, IsDevice, IsGlass, IsLive, IsWord};
-ghost use Rattle.nit_desktop.specs.Terms.{Painted, ShowsLabels, after, asks_view, deliveries_of};
-ghost use Rattle.nit_desktop.specs.Terms.{frame, glass_in, glasses_of_call, is_accepted, kills};
+ghost use Rattle.std.specs.Prelude.{◌≡◌, ◌-◌, ◌^◌, ◌<◌, ◌≤◌, ◌*◌, All, false, length, map, true};
+ghost use Rattle.nit_desktop.specs.Terms.{AreInked, IsDevice, IsFrameShown, IsGlass, IsLive};
+ghost use Rattle.nit_desktop.specs.Terms.{IsServedEntry, Painted, asks_view, deliveries_of};
+ghost use Rattle.nit_desktop.specs.Terms.{glass_in, glasses_of_call, is_accepted, kills};
 ghost use Rattle.nit_desktop.specs.Terms.{route, routed_as, scenery_of, serve, session};
 ghost use Rattle.nit_events.specs.declared.entry.Entry.TheVariants as entry;
 
@@ -54,8 +54,7 @@ impl<G: Glass + Drop> Desktop<G> {
             → (session self.old.state sid).next < 2 ^ 32 - 2 }
         requires own { IsGlass self.old.state.config sid (C.sight own.old) }
         ensures reply { result ≡ (serve (session self.old.state sid) call.now).reply }
-        ensures state { self.new.state ≡ after self.old.state (entry.Call sid call.now result) }
-        ensures left { self.new.left ≡ self.old.left - 1 }
+        ensures served { IsServedEntry G.rest self.old self.new (entry.Call sid call.now result) }
         ensures painted { Painted self.old.state (entry.Call sid call.now result) self.new.state
             (glasses_of_call (map G.sight self.old.glasses) sid (C.sight own.old))
             (glasses_of_call (map G.sight self.new.glasses) sid (C.sight own.new))
@@ -63,8 +62,6 @@ impl<G: Glass + Drop> Desktop<G> {
         ensures idle { glass_in (map G.sight self.new.glasses) sid ≡ glass_in
             (map G.sight self.old.glasses) sid }
         ensures rest { C.rest own.new ≡ C.rest own.old }
-        ensures rests { map G.rest self.new.glasses ≡ map G.rest self.old.glasses }
-        ensures raw { AreRaw self.new.state self.new.raw }
         ensures inked { AreInked self.old.state
             (glasses_of_call (map G.sight self.old.glasses) sid (C.sight own.old)) self.old.raw
             → AreInked self.new.state
@@ -91,13 +88,10 @@ impl<G: Glass + Drop> Desktop<G> {
             (route s.config s.input s.stack dev).deliveries }
         ensures delivered { let s = self.old.state in deliveries_of result ≡
             (route s.config s.input s.stack dev).deliveries }
-        ensures state { self.new.state ≡ after self.old.state (entry.Input dev result) }
-        ensures left { self.new.left ≡ self.old.left - 1 }
+        ensures served { IsServedEntry G.rest self.old self.new (entry.Input dev result) }
         ensures painted { Painted self.old.state (entry.Input dev result) self.new.state
             (glass_in (map G.sight self.old.glasses)) (glass_in (map G.sight self.new.glasses))
             self.old.raw self.new.raw }
-        ensures rests { map G.rest self.new.glasses ≡ map G.rest self.old.glasses }
-        ensures raw { AreRaw self.new.state self.new.raw }
         ensures inked { AreInked self.old.state (glass_in (map G.sight self.old.glasses))
             self.old.raw
             → AreInked self.new.state (glass_in (map G.sight self.new.glasses)) self.new.raw }
@@ -116,9 +110,7 @@ impl<G: Glass + Drop> Desktop<G> {
     /// The frame that the screen shows now: a word for each pixel, row by row from the top, each
     /// below 2^24. It is kept, so that nothing is worked out here.
     pub fn frame(&self) -> &[u32]
-        ensures frame { result.now ≡ frame (scenery_of self.now.state) self.now.raw }
-        ensures labels { ShowsLabels (scenery_of self.now.state) result.now }
-        ensures words { All IsWord result.now }
+        ensures shown { IsFrameShown (scenery_of self.now.state) self.now.raw result.now }
         ensures pixels { length result.now
             ≡ self.now.state.config.width * self.now.state.config.height }
     {

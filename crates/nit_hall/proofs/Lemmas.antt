@@ -34,13 +34,14 @@ pub use Rattle.nit_hall.proofs.PhaseEnds.{user_open, user_phase}
 pub use Rattle.nit_hall.proofs.RoomEndLemmas.{AreKnown, all_served, booked_still, holds_below}
 pub use Rattle.nit_hall.proofs.RoomEndLemmas.{last_frame, left_of, long_same, met_now, rests_again}
 pub use Rattle.nit_hall.proofs.RoomEndLemmas.{rests_knowing, room_ended, same_sights, step_far}
-pub use Rattle.nit_hall.proofs.RoomEndLemmas.{still_there, tables_settled, tells_left}
+pub use Rattle.nit_hall.proofs.RoomEndLemmas.{still_there, glasses_settled, tells_left}
 pub use Rattle.nit_hall.proofs.RoomEntered.{entered}
 pub use Rattle.nit_hall.proofs.RoomOpening.{clip_pass_more, each_more, get_seam, lens_inks}
-pub use Rattle.nit_hall.proofs.RoomOpening.{lens_tables, new_clip_pass, opened_clips, pass_at}
+pub use Rattle.nit_hall.proofs.RoomOpening.{lens_glasses, new_clip_pass, opened_clips, pass_at}
 pub use Rattle.nit_hall.proofs.RoomOpening.{pass_begun, room_begun, room_with_clips, zeros_behind}
 pub use Rattle.nit_hall.proofs.RoomOpening.{zeros_push}
-pub use Rattle.nit_hall.proofs.RoomSteps.{IsAdded, before_open, booked_more, spare_left}
+pub use Rattle.nit_hall.proofs.RoomSteps.{before_open, booked_more, can_add}
+pub use Rattle.nit_scene.specs.Scene.{IsAdded}
 pub use Rattle.nit_hall.proofs.RoomSteps.{state_later}
 pub use Rattle.nit_hall.proofs.ScriptsFollowed.{calls_front_of, actions_front_of, whole}
 pub use Rattle.nit_hall.proofs.ServedCalls.{Found, calls_made, calls_then, found, next_at, own_seen}

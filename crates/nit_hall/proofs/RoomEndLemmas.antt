@@ -1,4 +1,5 @@
 -- Passes that are done, and the last picture.
+use Rattle.nit_scene.specs.Screen.{AreGlasses}
 use Rattle.nit_hall.proofs.Basics.{AllServed, AreDone, Bare, Black, Bool, Configuration, End, Entry}
 use Rattle.nit_hall.proofs.Basics.{EntryLaws, Follows, HasMet, HaveInks, IsDonePass, IsGlass}
 use Rattle.nit_hall.proofs.Basics.{IsInked, IsKnownPass, IsLoaded, IsOpen, IsRoom, IsTrue}
@@ -19,7 +20,8 @@ use Rattle.std.proofs.Common.{◌∙◌, ◌∷◌, ◌≡◌, ◌≤◌}
 use Rattle.nit_events.specs.declared.entry.Entry.TheVariants as entry
 use Rattle.nit_hall.proofs.FinalEntries.{without-append}
 use Rattle.nit_hall.proofs.NearLemmas.{AreInks, told_word}
-use Rattle.nit_hall.proofs.RoomSteps.{IsAdded, room_then, room_grown, near_then}
+use Rattle.nit_hall.proofs.RoomSteps.{room_then, room_grown, near_then}
+use Rattle.nit_scene.specs.Scene.{IsAdded}
 
 -- ---- a list that is changed in place
 
@@ -244,13 +246,18 @@ pub same_sights : (known : List Entry) (ps₀ : List PassModel) {ps : List PassM
 same_sights known ps₀ is = ap (λ (qs : List PassModel). map (λ (p : PassModel). p.sight) qs) is
     ∙ sights_knowing known ps₀
 
-pub tables_settled : {r : RoomModel} {ps₀ : List PassModel} (ps : List PassModel) → AreKnown r ps₀
-    → map (λ (p : PassModel). p.sight) ps ≡ map (λ (p : PassModel). p.sight) ps₀ → (t : ℕ)
-    → t < length r.parts.scripts → IsGlass r.parts.config t (glass_in (map (λ (p : PassModel). p.sight) ps) t)
-tables_settled {r = r} ps are same t h =
-    let there = pass_there t are h in
-    subst (λ (g : Sight). IsGlass r.parts.config t g)
-    (sym (ap (λ (gs : List Sight). glass_in gs t) same ∙ there.sight)) there.known.glass
+pub glasses_settled : {r : RoomModel} {ps₀ : List PassModel} (ps : List PassModel) → AreKnown r ps₀
+    → map (λ (p : PassModel). p.sight) ps ≡ map (λ (p : PassModel). p.sight) ps₀
+    → length r.parts.scripts ≡ length r.parts.config.clients
+    → AreGlasses (λ (p : PassModel). p.sight) r.parts.config ps
+glasses_settled {r = r} {ps₀ = ps₀} ps are same sessions = record {
+  each = sym (length-map ps (λ (p : PassModel). p.sight)) ∙ ap (λ (gs : List Sight). length gs) same
+      ∙ length-map ps₀ (λ (p : PassModel). p.sight) ∙ are.done_all.each ∙ sessions;
+  tables = λ t h.
+      let there = pass_there t are (omega (arith, h, sessions)) in
+      subst (λ (g : Sight). IsGlass r.parts.config t g)
+      (sym (ap (λ (gs : List Sight). glass_in gs t) same ∙ there.sight)) there.known.glass;
+}
 
 -- the left side of an equation
 abbrev pub left_of : {X : Type 0} {x y : X} → x ≡ y → X

@@ -1,6 +1,6 @@
 -- The room after a line that put an entry into the journal, part by part.
 use Rattle.std.proofs.Common.{drop, take, ℕ, ◌∙◌, ◌≡◌}
-use Rattle.nit_hall.proofs.RoomSteps.{IsAdded}
+use Rattle.nit_scene.specs.Scene.{IsAdded}
 use Rattle.nit_hall.proofs.Basics.{BookModel, End, Entry, RoomModel, SceneModel, raised, with_entry}
 
 pub entered : (r r₀ : RoomModel) (new : SceneModel End) (book : BookModel) (n actor actor₀ : ℕ) (e e₀ : Entry)

@@ -1,4 +1,5 @@
 -- A room and its passes before the first line.
+use Rattle.nit_scene.specs.Screen.{AreGlasses}
 use Rattle.nit_hall.proofs.Basics.{AreBlank, AreNear, AreSplitOff, BookModel, BookName, ClipLine}
 use Rattle.nit_hall.proofs.Basics.{ClipModel, ClipPassModel, Configuration, End, Entry, Follows}
 use Rattle.nit_hall.proofs.Basics.{FollowsClips, HaveInks, IfSome, InputLine, IsDonation, IsFirst}
@@ -206,11 +207,20 @@ lens_at config plans canvases lenses t b are h =
     ∙ ap (λ (o : Option End). option_map (λ (e : End). reader_sight e.sight) o) at.1)
     ∙ ap reader_sight (b.blank t at.0 at.1)
 
-pub lens_tables : (config : Configuration) (plans : List PlanModel) (canvases lenses : List End)
-    → AreBlank config plans canvases → AreSplitOff canvases lenses → (t : ℕ) → t < length config.clients
-    → IsGlass config t (glass_in (map (λ (e : End). e.sight) lenses) t)
-lens_tables config plans canvases lenses b are t h =
-    subst (λ (g : Sight). IsGlass config t g) (sym (lens_at config plans canvases lenses t b are h)) (refl, refl)
+lens_each : (config : Configuration) (plans : List PlanModel) (canvases lenses : List End)
+    → AreBlank config plans canvases → AreSplitOff canvases lenses → length lenses ≡ length config.clients
+lens_each config plans canvases lenses b are = sym (length-map lenses (λ (e : End). e.sight))
+    ∙ ap (λ (gs : List Sight). length gs) are.sights ∙ length-map canvases (λ (e : End). reader_sight e.sight)
+    ∙ b.canvas_each
+
+pub lens_glasses : (config : Configuration) (plans : List PlanModel) (canvases lenses : List End)
+    → AreBlank config plans canvases → AreSplitOff canvases lenses
+    → AreGlasses (λ (e : End). e.sight) config lenses
+lens_glasses config plans canvases lenses b are = record {
+  each = lens_each config plans canvases lenses b are;
+  tables = λ t h. subst (λ (g : Sight). IsGlass config t g)
+      (sym (lens_at config plans canvases lenses t b are h)) (refl, refl);
+}
 
 pub lens_inks : (config : Configuration) (scripts : List (List Line)) (plans : List PlanModel)
     (canvases lenses : List End) → IsSetting config scripts plans → AreBlank config plans canvases
@@ -219,9 +229,7 @@ lens_inks config scripts plans canvases lenses set b are t = elim (cases_lt t (l
   | inl inside ↦ ap (λ (g : Sight). g.ink) (lens_at config plans canvases lenses t b are inside)
       ∙ ap (λ (p : PlanModel). p.ink) (set.planned t (let n = set.sessions in omega (arith, n, inside)))
   | inr past ↦
-      let many : length lenses ≡ length config.clients = sym (length-map lenses (λ (e : End). e.sight))
-      ∙ ap (λ (gs : List Sight). length gs) are.sights ∙ length-map canvases (λ (e : End). reader_sight e.sight)
-      ∙ b.canvas_each in
+      let many = lens_each config plans canvases lenses b are in
       let none : glass_in (map (λ (e : End). e.sight) lenses) t ≡ no_sight =
       get_or_past (map (λ (e : End). e.sight) lenses) t no_sight (let m =
       length-map lenses (λ (e : End). e.sight) in omega (arith, m, many, past)) in

@@ -9,6 +9,7 @@ use Rattle.nit_hall.proofs.ClipsStay.{clips_same, clips_then}
 use Rattle.nit_hall.proofs.FinalEntries.{open_whole}
 use Rattle.nit_hall.proofs.NearLemmas.{AreInks, TellsWords, near_painted}
 use Rattle.nit_hall.proofs.ScriptsFollowed.{entries_within}
+use Rattle.nit_scene.specs.Scene.{CanAdd, IsAdded}
 use mathlib.Core.List.{IsPrefix}
 
 -- the room with this scene and these counts, in this phase
@@ -23,10 +24,13 @@ room_then r scene counts phase arrived =
     }
 
 -- an open room has room for one entry more
-pub spare_left : {r : RoomModel} → IsRoom r → IsOpen r.scene.entries → 1 ≤ r.scene.spare
-spare_left {r = r} room o =
-    let sum = room.room in
-    omega (arith, entries_within room.follows, ap length (open_whole r.scene.entries o), sum)
+pub can_add : {r : RoomModel} → IsRoom r → IsOpen r.scene.entries → CanAdd r.scene
+can_add {r = r} room o = record {
+  spare =
+      let sum = room.room in
+      omega (arith, entries_within room.follows, ap length (open_whole r.scene.entries o), sum);
+  «open» = o;
+}
 
 -- what a pass knew of the book is a front of an open journal
 pub before_open : {r r₀ : RoomModel} (known : List Entry) → r ≡ r₀ → IsOpen r.scene.entries
@@ -34,13 +38,6 @@ pub before_open : {r r₀ : RoomModel} (known : List Entry) → r ≡ r₀ → I
 before_open known er o before = subst (λ (r : RoomModel). IsPrefix known r.scene.entries) er
     (subst (IsPrefix known) (open_whole _ o)
     (subst (λ (r : RoomModel). IsPrefix known (without_final r.scene.entries)) (sym er) before))
-
--- what the scene promises of one more entry
-pub record IsAdded (old new : SceneModel End) (e : Entry) : Type 0 where
-  pub config : new.config ≡ old.config
-  pub recorded : new.entries ≡ old.entries ++ e ∷ []
-  pub spare : new.spare ≡ old.spare - 1
-  pub legal : IsLegal new.config new.entries
 
 -- the book has one entry more, and so has an open journal
 pub booked_more : {old new : SceneModel End} {e : Entry} → IsOpen old.entries → IsOpen new.entries
@@ -89,7 +86,7 @@ module _ (laws : EntryLaws) {r : RoomModel} {new : SceneModel End} {e : Entry} (
     inks = inks;
     near = rw (added.config, added.recorded) near;
     room = let sum = room.room in let rec_ = ap length added.recorded in let sp = added.spare in let left =
-        spare_left room o in omega (arith, sum, rec_, sp, left, length-append r.scene.entries (e ∷ []));
+        (can_add room o).spare in omega (arith, sum, rec_, sp, left, length-append r.scene.entries (e ∷ []));
     ended = ended;
     clips_follow = clips_then laws.stay r new e room added.config added.recorded;
   }

@@ -17,7 +17,8 @@ use Rattle.nit_hall.proofs.LineLemmas.{counted_same, served_counted, calls_front
 use Rattle.nit_hall.proofs.LineLemmas.{line_counted}
 use Rattle.nit_hall.proofs.FinalEntries.{open_whole}
 use Rattle.nit_hall.proofs.NearLemmas.{AreInks, TellsWords}
-use Rattle.nit_hall.proofs.RoomSteps.{IsAdded, room_then, room_grown, near_then, booked_more}
+use Rattle.nit_hall.proofs.RoomSteps.{room_then, room_grown, near_then, booked_more}
+use Rattle.nit_scene.specs.Scene.{IsAdded}
 use Rattle.nit_hall.proofs.ScriptsFollowed.{IsNext, one_left, client_is, script_there, follows_call}
 use Rattle.nit_hall.proofs.Phases.{client_ends, same_phase}
 

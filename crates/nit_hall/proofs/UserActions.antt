@@ -13,7 +13,8 @@ use Rattle.nit_hall.proofs.LineLemmas.{counted_same, actions_line}
 use Rattle.nit_hall.proofs.NearLemmas.{near_more}
 use Rattle.nit_hall.proofs.ScriptsFollowed.{AddsAction, IsUserNext, follows_action}
 use Rattle.nit_hall.proofs.Phases.{same_phase, user_ends}
-use Rattle.nit_hall.proofs.RoomSteps.{IsAdded, booked_more, legal_then, near_before, near_then}
+use Rattle.nit_hall.proofs.RoomSteps.{booked_more, legal_then, near_before, near_then}
+use Rattle.nit_scene.specs.Scene.{IsAdded}
 use Rattle.nit_hall.proofs.RoomSteps.{room_grown, room_then}
 use Rattle.nit_hall.proofs.PhaseEnds.{actions_known, user_open}
 use Rattle.nit_hall.proofs.ServedCalls.{sights}

@@ -15,7 +15,7 @@ use Rattle.nit_word.specs.Channels.{bare_word}
 use Rattle.nit_word.specs.Sight.{Sight, plain_sight, told_words}
 use Rattle.nit_word.specs.Zeros.{zeros}
 use Rattle.nit_word.proofs.ForCallers.{length-zeros}
-use Rattle.nit_host.specs.Below.{Configuration, DesktopModel, IsGlass, State, glass_in, table_size}
+use Rattle.nit_host.specs.Below.{AreGlasses, Configuration, DesktopModel, State, glass_in, table_size}
 use Rattle.nit_host.specs.Fresh.{AreBlank, AreHollow, AreSheets, IsFresh, IsHost, sheet_at}
 use Rattle.nit_host.specs.Fresh.{sheets_of, size_at}
 use Rattle.nit_host.specs.Host.{blank_sheets, first_host, sheet_in}
@@ -133,11 +133,15 @@ all_sheets config n sheets have far = record {
 }
 
 -- and they are glasses of the seats
-pub blank_glasses : (config : Configuration) (sheets : List SheetModel) → AreBlank config sheets → (t : ℕ)
-    → t < length config.clients → IsGlass config t (glass_in (sights sheets) t)
-blank_glasses config sheets are t inside =
-    let is : glass_in (sights sheets) t ≡ blank_sheet t (size_at config t) = sight_at sheets t ∙ are.blank t inside in
-    (ap (λ (s : Sight). s.owner) is, ap (λ (s : Sight). s.size) is ∙ length-zeros (size_at config t))
+pub blank_glasses : (config : Configuration) (sheets : List SheetModel) → AreBlank config sheets
+    → AreGlasses (λ s. s.sight) config sheets
+blank_glasses config sheets are = record {
+  each = are.count;
+  tables = λ t inside.
+      let is : glass_in (sights sheets) t ≡ blank_sheet t (size_at config t) = sight_at sheets t
+      ∙ are.blank t inside in
+      (ap (λ (s : Sight). s.owner) is, ap (λ (s : Sight). s.size) is ∙ length-zeros (size_at config t));
+}
 
 -- their words are 0
 pub words_blank : (config : Configuration) (sheets : List SheetModel) → AreBlank config sheets

@@ -30,9 +30,9 @@ pub use Rattle.nit_rect.specs.Rectangle.{spans}
 pub use Rattle.nit_rect.specs.declared.point.Point.{Point}
 pub use Rattle.nit_repaint.specs.Glasses.{glass_in}
 pub use Rattle.nit_report.specs.JournalText.{journal_text}
-pub use Rattle.nit_screen.specs.FrameLabels.{ShowsLabels}
+pub use Rattle.nit_screen.specs.FrameLabels.{IsFrameShown, ShowsLabels}
 pub use Rattle.nit_screen.specs.RawWords.{Painted, pixel_count, source_at, word_from, words_of}
-pub use Rattle.nit_screen.specs.Screen.{IsGlass}
+pub use Rattle.nit_screen.specs.Screen.{AreGlasses, IsGlass}
 pub use Rattle.nit_screen.specs.StateScenery.{scenery_of}
 pub use Rattle.nit_slots.specs.Account.{IsDonation, table_size}
 pub use Rattle.nit_stack.specs.LabelPlaces.{is_view}

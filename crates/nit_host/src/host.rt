@@ -1,8 +1,8 @@
 //! The server with the words of its clients.
 
-ghost use Rattle.std.specs.Prelude.{◌≡◌, ◌*◌, ◌<◌, All, length, ℕ};
-ghost use Rattle.nit_host.specs.Terms.{IsConfiguration, IsWord, ShowsLabels, frame, picture};
-ghost use Rattle.nit_host.specs.Terms.{scenery_of, sheet_in, size_at};
+ghost use Rattle.std.specs.Prelude.{◌≡◌, ◌*◌, ◌<◌, length, ℕ};
+ghost use Rattle.nit_host.specs.Terms.{IsConfiguration, IsFrameShown, picture, scenery_of};
+ghost use Rattle.nit_host.specs.Terms.{sheet_in, size_at};
 
 mod area;
 mod calls;
@@ -64,9 +64,7 @@ impl Host {
     /// below 2^24. Each pixel shows, as the mode has it, the word that its session handed in last
     /// for the place. It is kept, so that nothing is worked out here.
     pub fn frame(&self) -> &[u32]
-        ensures frame { result.now ≡ frame (scenery_of self.now.state) (picture self.now) }
-        ensures labels { ShowsLabels (scenery_of self.now.state) result.now }
-        ensures words { All IsWord result.now }
+        ensures shown { IsFrameShown (scenery_of self.now.state) (picture self.now) result.now }
         ensures pixels { length result.now
             ≡ self.now.state.config.width * self.now.state.config.height }
     {

@@ -1,7 +1,7 @@
 -- Parts of a screen.
 use Rattle.std.specs.Prelude.{◌≡◌, ℕ, ◌%◌, ◌/◌, ◌*◌, ◌<◌, ◌≤◌, Bool, ◌&&◌, nat_le, nat_lt, List}
-use Rattle.std.specs.Prelude.{slice_index, if◌then◌else◌}
-use Rattle.nit_overlay.specs.Below.{Area, Look, pixel}
+use Rattle.std.specs.Prelude.{length, slice_index, if◌then◌else◌}
+use Rattle.nit_overlay.specs.Below.{Area, Look, Rectangle, covers, pixel}
 use Rattle.nit_overlay.specs.Look.{scenery}
 use Rattle.nit_overlay.specs.Frame.{shown}
 
@@ -37,3 +37,12 @@ IsShownIn a look raw old now =
     IsOverlaid (λ k w. shown (scenery look) (pixel look.stack.now.width k) w)
     (λ k. in_area a (k % look.stack.now.width) (k / look.stack.now.width)) raw old now
     (look.stack.now.width * look.stack.now.height)
+
+-- the pixels of the screen that lie in the rectangle are as shown, and all others as before
+pub record IsRectShown (r : Rectangle) (look : Look) (raw old now : List ℕ) : Type 0 where
+  pub pixels : (k : ℕ) → k < look.stack.now.width * look.stack.now.height
+      → slice_index now k
+      ≡ (if covers r (pixel look.stack.now.width k)
+      then shown (scenery look) (pixel look.stack.now.width k) (slice_index raw k)
+      else slice_index old k)
+  pub count : length now ≡ length old

@@ -1,5 +1,6 @@
 -- The words that clauses use: those that come from outside, and those of this crate.
-pub use Rattle.nit_overlay.specs.Area.{IsArea, IsAreaBy, IsOverlaid, IsShownIn, in_area}
+pub use Rattle.nit_overlay.specs.Area.{IsArea, IsAreaBy, IsOverlaid, IsRectShown, IsShownIn}
+pub use Rattle.nit_overlay.specs.Area.{in_area}
 pub use Rattle.nit_overlay.specs.Below.{Area, Flat, IsPlace, IsSlotView, IsStack, IsTrue, IsWord}
 pub use Rattle.nit_overlay.specs.Below.{Kill, Look, Mode, NoPair, Point, Rectangle, Rule, SlotView}
 pub use Rattle.nit_overlay.specs.Below.{Text, View, ViewRef, Xray, bar_text_of, bare_word, between}
@@ -23,5 +24,5 @@ pub use Rattle.nit_overlay.specs.Span.{has_at_end, moved_of, span_has}
 pub use Rattle.nit_overlay.specs.Stripe.{IsRowOfTag, mode_rule, stripe_rule, tag_rule}
 pub use Rattle.nit_overlay.specs.Stretch.{AreBelowBar, AreColumns, AreOnRow, AreRows, AreRowsOf}
 pub use Rattle.nit_overlay.specs.Stretch.{HoldsUpTo}
-pub use Rattle.nit_overlay.specs.ToPaint.{IsAreaToPaint, IsAreaToShow, IsBarToShow, IsRowToPaint}
-pub use Rattle.nit_overlay.specs.ToPaint.{IsRowToShow, IsRunToPaint}
+pub use Rattle.nit_overlay.specs.ToPaint.{AreScreenWords, IsAreaToPaint, IsAreaToShow, IsBarToShow}
+pub use Rattle.nit_overlay.specs.ToPaint.{IsRowToPaint, IsRowToShow, IsRunToPaint}

@@ -32,6 +32,13 @@ pub record IsAreaToPaint (wide : ℕ) (a : Area) (raw out : List ℕ) : Type 0 w
 
 -- ---- as a look shows it
 
+-- there is a raw word for each pixel of the look's screen, below 2^24, and a word to be set
+pub record AreScreenWords (l : Look) (raws outs : List ℕ) : Type 0 where
+  pub look : IsLook l
+  pub raw : length raws ≡ l.stack.now.width * l.stack.now.height
+  pub out : length outs ≡ l.stack.now.width * l.stack.now.height
+  pub words : All IsWord raws
+
 -- such a part of a row of the look's screen
 pub record IsRowToShow (l : Look) (p : RowPart) (raw out : List ℕ) : Type 0 where
   pub look : IsLook l

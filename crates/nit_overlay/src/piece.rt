@@ -1,11 +1,10 @@
 //! Pieces of the screen, each of which has one owner or none.
 
-ghost use Rattle.std.specs.Prelude.{◌≡◌, ℕ, ◌*◌, ◌<◌, ◌≤◌, length, slice_index, All, IfSome};
-ghost use Rattle.std.specs.Prelude.{IsTrue, None, true, if◌then◌else◌};
-ghost use Rattle.nit_overlay.specs.Terms.{IsAreaBy, IsAreaToPaint, IsAreaToShow, IsLook, IsOwner};
-ghost use Rattle.nit_overlay.specs.Terms.{IsPainted, IsRowOfTag, IsRowToShow, IsShownIn, IsTagged};
-ghost use Rattle.nit_overlay.specs.Terms.{IsWord, Point, covers, has_slot, in_area, option_map};
-ghost use Rattle.nit_overlay.specs.Terms.{pixel, point, scenery, seat_owner, shown, stripe_rule};
+ghost use Rattle.std.specs.Prelude.{◌≡◌, ℕ, ◌<◌, ◌≤◌, length, IfSome, IsTrue, None, true};
+ghost use Rattle.nit_overlay.specs.Terms.{AreScreenWords, IsAreaBy, IsAreaToPaint, IsAreaToShow};
+ghost use Rattle.nit_overlay.specs.Terms.{IsOwner, IsPainted, IsRectShown, IsRowOfTag, IsRowToShow};
+ghost use Rattle.nit_overlay.specs.Terms.{IsShownIn, IsTagged, Point, covers, has_slot, in_area};
+ghost use Rattle.nit_overlay.specs.Terms.{option_map, point, scenery, seat_owner, stripe_rule};
 ghost use Rattle.nit_overlay.specs.Terms.{unowned_word, view_ref, view_word, word_by};
 
 use crate::area::{Area, area_of};
@@ -23,20 +22,13 @@ use nit_word::BARE;
 /// at. `raw` and `out` have a word for each pixel of the screen, row by row from the top, and each
 /// of `raw` is below 2^24. No memory is taken.
 pub fn overlay_piece(look: &Look, raw: &[u32], piece: &Piece, out: &mut [u32])
-    requires look { IsLook look.now }
-    requires raw { length raw.now ≡ look.now.stack.now.width * look.now.stack.now.height }
-    requires out { length out.old ≡ look.now.stack.now.width * look.now.stack.now.height }
-    requires words { All IsWord raw.now }
+    requires words { AreScreenWords look.now raw.now out.old }
     requires owner { (p : Point) → IsTrue (covers piece.now.rect p) → piece.now.owner
         ≡ option_map view_ref
         (seat_owner look.now.stack.now.bar look.now.stack.now.views p) }
     requires stands { IfSome piece.now.owner
         (λ v. has_slot v.0 look.now.stack.now.views ≡ true) }
-    ensures pixels { (k : ℕ) → k < look.now.stack.now.width * look.now.stack.now.height
-        → slice_index out.new k ≡ (if covers piece.now.rect (pixel look.now.stack.now.width k)
-        then shown (scenery look.now) (pixel look.now.stack.now.width k) (slice_index raw.now k)
-        else slice_index out.old k) }
-    ensures length { length out.new ≡ length out.old }
+    ensures { IsRectShown piece.now.rect look.now raw.now out.old out.new }
 {
     let (width, height) = look.stack.size();
     let area = area_of(&piece.rect, width, height);

@@ -17,7 +17,10 @@ module _ {G C R Q : Type 0} (sight : G → Sight) (own_sight : C → Sight) (res
   pub nothing_painted : (is_marked : ℕ → Bool) (p : Painter G) (own : C) → IsBy is_marked p p own own
       → PaintsMarked sight own_sight rest own_rest s sid is_marked p p own own
   nothing_painted is_marked p own painted =
-      record { painted = painted; count = refl; room = refl; idle = refl; rest_of_own = refl; rests = refl }
+      record {
+        painted = painted;
+        kept = record { count = refl; room = refl; idle = refl; rest_of_own = refl; rests = refl };
+      }
 
   -- the cutter is set up for more
   pub cutter_painted : (first all : ℕ → Bool) (a b : Painter G) (k : CutterModel) (own own' : C)
@@ -26,11 +29,13 @@ module _ {G C R Q : Type 0} (sight : G → Sight) (own_sight : C → Sight) (res
       → PaintsMarked sight own_sight rest own_rest s sid all a (record b { cutter = k }) own own'
   cutter_painted first all a b k own own' was room painted = record {
     painted = painted;
-    count = was.count;
-    room = room ∙ was.room;
-    idle = was.idle;
-    rest_of_own = was.rest_of_own;
-    rests = was.rests;
+    kept = record {
+      count = was.kept.count;
+      room = room ∙ was.kept.room;
+      idle = was.kept.idle;
+      rest_of_own = was.kept.rest_of_own;
+      rests = was.kept.rests;
+    };
   }
 
   -- and more is painted
@@ -41,9 +46,11 @@ module _ {G C R Q : Type 0} (sight : G → Sight) (own_sight : C → Sight) (res
       → PaintsMarked sight own_sight rest own_rest s sid all a c own own''
   more_painted first second all a b c k own own' own'' was room new painted = record {
     painted = painted;
-    count = new.count ∙ was.count;
-    room = new.room ∙ room ∙ was.room;
-    idle = new.idle ∙ was.idle;
-    rest_of_own = new.rest_of_own ∙ was.rest_of_own;
-    rests = new.rests ∙ was.rests;
+    kept = record {
+      count = new.kept.count ∙ was.kept.count;
+      room = new.kept.room ∙ room ∙ was.kept.room;
+      idle = new.kept.idle ∙ was.kept.idle;
+      rest_of_own = new.kept.rest_of_own ∙ was.kept.rest_of_own;
+      rests = new.kept.rests ∙ was.kept.rests;
+    };
   }

@@ -1,5 +1,5 @@
 -- What painting pixels needs, and what it leaves.
-use Rattle.std.specs.Prelude.{◌≡◌, ◌*◌, ℕ, Bool, true, List, length, map, All, IfSome, IsSomeAnd}
+use Rattle.std.specs.Prelude.{◌≡◌, ◌≤◌, ◌*◌, ℕ, Bool, true, List, length, map, All, IfSome, IsSomeAnd}
 use Rattle.nit_repaint.specs.declared.painter.Painter.{Painter}
 use Rattle.nit_repaint.specs.Below.{IsLook, IsPiece, IsWord, Look, Piece, Repainted, Sight}
 use Rattle.nit_repaint.specs.Below.{StackModel, has_pixel, has_slot, source_of_number}
@@ -28,9 +28,27 @@ pub record CanPaint {G C : Type 0} (sight : G → Sight) (own_sight : C → Sigh
   pub held : HoldBuffers s (length p.glasses.items)
       (glasses_of_call (map sight p.glasses.items) sid (own_sight own))
 
--- Exactly the marked pixels were loaded again, each once. No raw word came or went, the cutter has
--- as much room, the scene's glass of the caller's session was not used, and what a load leaves of
--- the glasses is as before.
+-- A painter can load what the stack shows through these glasses: there is room to cut out every
+-- view, a raw word for each pixel, and a glass of each session with a word for each of its
+-- buffer's.
+pub record CanRepaint {G : Type 0} (glasses : ℕ → Sight) (s : StackModel)
+    (p : Painter G) : Type 0 where
+  pub room : length s.views ≤ p.cutter.room
+  pub pixels : length p.raw.items ≡ s.width * s.height
+  pub held : HoldBuffers s (length p.glasses.items) glasses
+
+-- No raw word came or went, the cutter has as much room, the scene's glass of the caller's session
+-- was not used, and what a load leaves of the glasses is as before.
+pub record KeepsPainter {G C R Q : Type 0} (sight : G → Sight) (rest : G → R) (own_rest : C → Q)
+    (sid : ℕ) (before after' : Painter G) (own own' : C) : Type 0 where
+  pub count : length after'.raw.items ≡ length before.raw.items
+  pub room : after'.cutter.room ≡ before.cutter.room
+  pub idle : glass_in (map sight after'.glasses.items) sid
+      ≡ glass_in (map sight before.glasses.items) sid
+  pub rest_of_own : own_rest own' ≡ own_rest own
+  pub rests : map rest after'.glasses.items ≡ map rest before.glasses.items
+
+-- exactly the marked pixels were loaded again, each once
 pub record PaintsMarked {G C R Q : Type 0} (sight : G → Sight) (own_sight : C → Sight)
     (rest : G → R) (own_rest : C → Q) (s : StackModel) (sid : ℕ) (is_marked : ℕ → Bool)
     (before after' : Painter G) (own own' : C) : Type 0 where
@@ -38,12 +56,7 @@ pub record PaintsMarked {G C R Q : Type 0} (sight : G → Sight) (own_sight : C 
       (glasses_of_call (map sight before.glasses.items) sid (own_sight own))
       (glasses_of_call (map sight after'.glasses.items) sid (own_sight own'))
       before.raw.items after'.raw.items
-  pub count : length after'.raw.items ≡ length before.raw.items
-  pub room : after'.cutter.room ≡ before.cutter.room
-  pub idle : glass_in (map sight after'.glasses.items) sid
-      ≡ glass_in (map sight before.glasses.items) sid
-  pub rest_of_own : own_rest own' ≡ own_rest own
-  pub rests : map rest after'.glasses.items ≡ map rest before.glasses.items
+  pub kept : KeepsPainter sight rest own_rest sid before after' own own'
 
 -- exactly the pixels of a piece were loaded again, and the cutter is as before
 pub record PaintsPiece {G C R Q : Type 0} (sight : G → Sight) (own_sight : C → Sight) (rest : G → R)
@@ -79,3 +92,9 @@ pub record IsFrameToShow (l : Look) (raw out : List ℕ) : Type 0 where
   pub pixels : length raw ≡ l.stack.now.width * l.stack.now.height
   pub frame : length out ≡ length raw
   pub words : All IsWord raw
+
+-- all stays but the cutter, which has as much room
+pub record IsOnlyCut {G : Type 0} (before now : Painter G) : Type 0 where
+  pub room : now.cutter.room ≡ before.cutter.room
+  pub raw : now.raw ≡ before.raw
+  pub glasses : now.glasses ≡ before.glasses

@@ -18,8 +18,9 @@ pub use Rattle.nit_repaint.specs.Below.{source_of_number, source_under, spans, t
 pub use Rattle.nit_repaint.specs.Below.{views_of, with_glass, with_offset, with_rect, without}
 pub use Rattle.nit_repaint.specs.Below.{word_count, words_shown, ℤ}
 pub use Rattle.nit_repaint.specs.Glasses.{HoldBuffers, glass_in, glasses_of_call}
-pub use Rattle.nit_repaint.specs.Painting.{CanPaint, CanPaintByList, IsFrameToShow, IsPieceOfStack}
-pub use Rattle.nit_repaint.specs.Painting.{IsViewPiece, PaintsByList, PaintsMarked, PaintsPiece}
+pub use Rattle.nit_repaint.specs.Painting.{CanPaint, CanPaintByList, CanRepaint, IsFrameToShow}
+pub use Rattle.nit_repaint.specs.Painting.{IsOnlyCut, IsPieceOfStack, IsViewPiece, KeepsPainter}
+pub use Rattle.nit_repaint.specs.Painting.{PaintsByList, PaintsMarked, PaintsPiece}
 pub use Rattle.nit_repaint.specs.PixelOwners.{is_word_in, owner_passes, source_in}
 pub use Rattle.nit_repaint.specs.PixelsToCome.{has_come, is_to_come}
 pub use Rattle.nit_repaint.specs.ShownPixels.{shown_at}

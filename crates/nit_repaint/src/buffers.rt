@@ -1,11 +1,11 @@
 //! Loading again what views of one session show.
 
-ghost use Rattle.std.specs.Prelude.{false, ◌≡◌, ◌*◌, ◌<◌, ◌≤◌, ◌&&◌, Some, length, map, slice_get};
+ghost use Rattle.std.specs.Prelude.{false, ◌≡◌, ◌<◌, ◌≤◌, ◌&&◌, Some, length, map, slice_get};
 ghost use Rattle.std.specs.Prelude.{true};
-ghost use Rattle.nit_repaint.specs.Terms.{FitsStack, HoldBuffers, IsOnScreen, IsPlace, Point};
-ghost use Rattle.nit_repaint.specs.Terms.{Repainted, SlotView, covers, glass_in, glasses_of_call};
-ghost use Rattle.nit_repaint.specs.Terms.{is_slot, is_wanted, once, owner_passes, pixel, size_of};
-ghost use Rattle.nit_repaint.specs.Terms.{source_of_number, to_come, wanted, wants};
+ghost use Rattle.nit_repaint.specs.Terms.{CanRepaint, FitsStack, IsOnScreen, IsPlace, PaintsMarked};
+ghost use Rattle.nit_repaint.specs.Terms.{Point, SlotView, covers, glasses_of_call, is_slot};
+ghost use Rattle.nit_repaint.specs.Terms.{is_wanted, once, owner_passes, pixel, size_of, to_come};
+ghost use Rattle.nit_repaint.specs.Terms.{wanted, wants};
 
 use crate::painter::Painter;
 use crate::part::shown_part;
@@ -76,22 +76,12 @@ impl<G: Glass + Drop> Painter<G> {
         sid: u32,
         own: &mut C,
     )
-        requires room { length stack.now.views ≤ self.old.cutter.room }
-        requires pixels { length self.old.raw.items ≡ stack.now.width * stack.now.height }
-        requires held { HoldBuffers stack.now (length self.old.glasses.items)
-            (glasses_of_call (map G.sight self.old.glasses.items) sid (C.sight own.old)) }
-        ensures room { self.new.cutter.room ≡ self.old.cutter.room }
-        ensures painted { Repainted (source_of_number stack.now)
-            (λ k. wanted of part.now stack.now (pixel stack.now.width k))
-            (length self.old.raw.items)
+        requires { CanRepaint
             (glasses_of_call (map G.sight self.old.glasses.items) sid (C.sight own.old))
-            (glasses_of_call (map G.sight self.new.glasses.items) sid (C.sight own.new))
-            self.old.raw.items self.new.raw.items }
-        ensures count { length self.new.raw.items ≡ length self.old.raw.items }
-        ensures idle { glass_in (map G.sight self.new.glasses.items) sid
-            ≡ glass_in (map G.sight self.old.glasses.items) sid }
-        ensures rest { C.rest own.new ≡ C.rest own.old }
-        ensures rests { map G.rest self.new.glasses.items ≡ map G.rest self.old.glasses.items }
+            stack.now self.old }
+        ensures { PaintsMarked G.sight C.sight G.rest C.rest stack.now sid
+            (λ k. wanted of part.now stack.now (pixel stack.now.width k))
+            self.old self.new own.old own.new }
     {
         let views = stack.len();
         'views: for i in 0..views {

@@ -1,9 +1,10 @@
 //! Loading again what one view owned before a change of it, or owns after it.
 
-ghost use Rattle.std.specs.Prelude.{◌≡◌, ◌*◌, ◌≤◌, length, map};
-ghost use Rattle.nit_repaint.specs.Terms.{FitsStack, HoldBuffers, IsOnScreen, IsViewChange, Point};
-ghost use Rattle.nit_repaint.specs.Terms.{Repainted, StackModel, glass_in, glasses_of_call, once};
-ghost use Rattle.nit_repaint.specs.Terms.{pixel, slot_owns_either, source_of_number, to_come};
+ghost use Rattle.std.specs.Prelude.{◌≡◌, ◌≤◌, length, map};
+ghost use Rattle.nit_repaint.specs.Terms.{CanRepaint, FitsStack, IsOnScreen, IsViewChange};
+ghost use Rattle.nit_repaint.specs.Terms.{KeepsPainter, Point, Repainted, StackModel};
+ghost use Rattle.nit_repaint.specs.Terms.{glasses_of_call, once, pixel, slot_owns_either};
+ghost use Rattle.nit_repaint.specs.Terms.{source_of_number, to_come};
 
 use crate::painter::Painter;
 use nit_damage::Cutter;
@@ -54,11 +55,9 @@ impl<G: Glass + Drop> Painter<G> {
         sid: u32,
         own: &mut C,
     )
-        requires room { length stack.now.views ≤ self.old.cutter.room }
-        requires pixels { length self.old.raw.items ≡ stack.now.width * stack.now.height }
-        requires held { HoldBuffers stack.now (length self.old.glasses.items)
-            (glasses_of_call (map G.sight self.old.glasses.items) sid (C.sight own.old)) }
-        ensures room { self.new.cutter.room ≡ self.old.cutter.room }
+        requires { CanRepaint
+            (glasses_of_call (map G.sight self.old.glasses.items) sid (C.sight own.old))
+            stack.now self.old }
         ensures painted { (before : StackModel)
             → IsViewChange was.now.view.0 was.now.place was.now.rect before stack.now
             → Repainted (source_of_number stack.now)
@@ -67,11 +66,7 @@ impl<G: Glass + Drop> Painter<G> {
             (glasses_of_call (map G.sight self.old.glasses.items) sid (C.sight own.old))
             (glasses_of_call (map G.sight self.new.glasses.items) sid (C.sight own.new))
             self.old.raw.items self.new.raw.items }
-        ensures count { length self.new.raw.items ≡ length self.old.raw.items }
-        ensures idle { glass_in (map G.sight self.new.glasses.items) sid
-            ≡ glass_in (map G.sight self.old.glasses.items) sid }
-        ensures rest { C.rest own.new ≡ C.rest own.old }
-        ensures rests { map G.rest self.new.glasses.items ≡ map G.rest self.old.glasses.items }
+        ensures kept { KeepsPainter G.sight G.rest C.rest sid self.old self.new own.old own.new }
     {
         begin_changed(&mut self.cutter, stack, was);
         self.paint_to_come(stack, sid, own);

@@ -1,7 +1,7 @@
 //! Showing again, where more is shown than raw words, what views of one session show.
 
-ghost use Rattle.std.specs.Prelude.{◌≡◌, ◌*◌, ◌<◌, ◌≤◌, All, Some, length};
-ghost use Rattle.nit_repaint.specs.Terms.{AreSet, FitsStack, IsFrameToShow, IsLook, IsWord, frame};
+ghost use Rattle.std.specs.Prelude.{◌≡◌, ◌<◌, ◌≤◌, Some, length};
+ghost use Rattle.nit_repaint.specs.Terms.{AreSet, FitsStack, IsFrameToShow, IsOnlyCut, frame};
 ghost use Rattle.nit_repaint.specs.Terms.{is_to_come, pixel, scenery, shown_at, wanted};
 
 use crate::buffers::begin_seat;
@@ -28,14 +28,9 @@ impl<G: Drop> Painter<G> {
     /// shows `part` of its buffer, or at all that they own where no part is given, as
     /// [`Painter::paint_session`] loads them. Each raw word is below 2^24.
     pub fn show_session(&mut self, look: &Look, of: u32, part: &Option<Rect>, frame: &mut [u32])
-        requires look { IsLook look.now }
+        requires look { IsFrameToShow look.now self.old.raw.items frame.old }
         requires room { length look.now.stack.now.views ≤ self.old.cutter.room }
-        requires pixels { length self.old.raw.items
-            ≡ look.now.stack.now.width * look.now.stack.now.height }
-        requires frame { length frame.old ≡ length self.old.raw.items }
-        requires words { All IsWord self.old.raw.items }
-        ensures room { self.new.cutter.room ≡ self.old.cutter.room }
-        ensures kept { (self.new.raw ≡ self.old.raw) × (self.new.glasses ≡ self.old.glasses) }
+        ensures kept { IsOnlyCut self.old self.new }
         ensures shown { AreSet
             (λ k. wanted of part.now look.now.stack.now (pixel look.now.stack.now.width k))
             (length self.old.raw.items) (shown_at look.now self.old.raw.items) frame.old frame.new }
@@ -53,14 +48,9 @@ impl<G: Drop> Painter<G> {
     /// Sets `out` to the frame: what the screen shows at each pixel.
     /// Each raw word is below 2^24.
     pub fn show_whole(&mut self, look: &Look, out: &mut [u32])
-        requires look { IsLook look.now }
+        requires look { IsFrameToShow look.now self.old.raw.items out.old }
         requires room { length look.now.stack.now.views ≤ self.old.cutter.room }
-        requires pixels { length self.old.raw.items
-            ≡ look.now.stack.now.width * look.now.stack.now.height }
-        requires out { length out.old ≡ length self.old.raw.items }
-        requires words { All IsWord self.old.raw.items }
-        ensures room { self.new.cutter.room ≡ self.old.cutter.room }
-        ensures kept { (self.new.raw ≡ self.old.raw) × (self.new.glasses ≡ self.old.glasses) }
+        ensures kept { IsOnlyCut self.old self.new }
         ensures shown { out.new ≡ frame (scenery look.now) self.old.raw.items }
     {
         self.cutter.begin_all(look.stack);

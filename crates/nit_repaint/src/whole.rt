@@ -1,9 +1,7 @@
 //! Loading by one list of glasses alone, where no session calls.
 
-ghost use Rattle.std.specs.Prelude.{◌≡◌, ◌*◌, ◌≤◌, length, map, true};
-ghost use Rattle.nit_repaint.specs.Terms.{CanPaintByList, HoldBuffers, IsPieceOfStack};
-ghost use Rattle.nit_repaint.specs.Terms.{PaintsByList, Repainted, glass_in, has_pixel};
-ghost use Rattle.nit_repaint.specs.Terms.{source_of_number};
+ghost use Rattle.std.specs.Prelude.{◌≡◌, ◌≤◌, length, true};
+ghost use Rattle.nit_repaint.specs.Terms.{CanPaintByList, IsPieceOfStack, PaintsByList, has_pixel};
 
 use crate::painter::Painter;
 use crate::pieces::{load_bare, load_view, session_of};
@@ -36,15 +34,10 @@ impl<G: Glass + Drop> Painter<G> {
     /// none through the scene's. The list has a glass for each session.
     pub fn paint_whole<C: Glass>(&mut self, stack: &Stack, owns: &mut [C])
         requires room { length stack.now.views ≤ self.old.cutter.room }
-        requires pixels { length self.old.raw.items ≡ stack.now.width * stack.now.height }
-        requires held { HoldBuffers stack.now (length owns.old) (glass_in (map C.sight owns.old)) }
+        requires owns { CanPaintByList C.sight stack.now self.old.raw.items owns.old }
         ensures room { self.new.cutter.room ≡ self.old.cutter.room }
-        ensures painted { Repainted (source_of_number stack.now) (λ k. true)
-            (length self.old.raw.items)
-            (glass_in (map C.sight owns.old)) (glass_in (map C.sight owns.new))
+        ensures painted { PaintsByList C.sight C.rest stack.now (λ k. true) owns.old owns.new
             self.old.raw.items self.new.raw.items }
-        ensures count { length self.new.raw.items ≡ length self.old.raw.items }
-        ensures rests { map C.rest owns.new ≡ map C.rest owns.old }
         ensures glasses { self.new.glasses ≡ self.old.glasses }
     {
         self.cutter.begin_all(stack);

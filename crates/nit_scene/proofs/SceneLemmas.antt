@@ -9,6 +9,9 @@ use Rattle.std.proofs.Common.{All, List, [], ap, arith, length, slice_index_or, 
 use Rattle.std.proofs.Common.{zero-add, ℕ, ◌++◌, ◌+◌, ◌-◌, ◌<◌, ◌∙◌, ◌∷◌, ◌≡◌, ◌≤◌}
 use Rattle.nit_events.specs.declared.entry.Entry.TheVariants as entry
 use Rattle.nit_scene.proofs.HandleCounts.{entry_adds}
+use Rattle.nit_scene.specs.Below.{IsFrameShown, JournalModel, alone, member, projection, replies_to}
+use Rattle.nit_scene.specs.Scene.{IsAdded, SceneModel}
+use Rattle.std.proofs.Common.{refl}
 
 -- raw words are words
 held_word : (source : PixelSource) (w : ℕ) → IsRawOf source w → IsWord w
@@ -28,6 +31,11 @@ shots_more (entry.Call sid call r ∷ rest) e = shots_more rest e
 shots_more (entry.Input dev routed ∷ rest) e = shots_more rest e
 shots_more (entry.Shot n ∷ rest) e = let r = shots_more rest e in omega arith
 shots_more (entry.Final ∷ rest) e = shots_more rest e
+
+-- what is seen of a scene
+abbrev pub scene_of : {G : Type 0} → ServerModel → JournalModel → List ℕ → List G → SceneModel G
+scene_of s j raw glasses =
+    record { config = s.config; entries = j.entries; spare = j.spare; raw = raw; glasses = glasses }
 
 module _ (s s' : ServerModel) (entries : List Entry) (spare taken : ℕ) (raw : List ℕ)
     (h : IsScene s entries spare raw taken) (e : Entry) (state_ : state_of s' ≡ after (state_of s) e) where
@@ -63,6 +71,29 @@ module _ (s s' : ServerModel) (entries : List Entry) (spare taken : ℕ) (raw : 
 
   pub raws_now : (raw' : List ℕ) → AreRaw (state_of s') raw' → AreRaw (replay s'.config (entries ++ e ∷ [])) raw'
   raws_now raw' raws = subst (λ (t : State). AreRaw t raw') replays raws
+
+  -- what the law on sessions alone says
+  abbrev pub StandsAlone : Type 0
+  StandsAlone = (config : Configuration) (journal : List Entry) (t : ℕ) → IsLegal config journal
+      → t < length config.clients → replies_to t journal ≡ alone (member config t).donation (projection t journal)
+
+  -- so an entry is added to what is seen of a scene
+  pub adds : {G : Type 0} (raw' : List ℕ) (glasses glasses' : List G) (j' : JournalModel)
+      → j' ≡ record { entries = entries ++ e ∷ []; spare = spare - 1 } → IsOpen entries
+      → Agrees (state_of s) taken e → AreRaw (state_of s') raw' → StandsAlone
+      → IsAdded (scene_of s (record { entries = entries; spare = spare }) raw glasses)
+      (scene_of s' j' raw' glasses') e
+  adds raw' glasses glasses' j' is open_ agrees raws law =
+      let legal_ = stays_legal open_ agrees in
+      subst (λ (k : JournalModel). IsAdded (scene_of s (record { entries = entries; spare = spare }) raw glasses)
+      (scene_of s' k raw' glasses') e) (sym is) (record {
+        recorded = refl;
+        spare = refl;
+        config = config_;
+        legal = legal_;
+        alone = λ t l. law s'.config (entries ++ e ∷ []) t legal_ l;
+        raw = raws_now raw' raws;
+      })
 
   -- what the law on inks says
   abbrev pub StaysInked : Type 0
@@ -123,12 +154,16 @@ open_more (entry.Final ∷ rest) e h k = absurd h
 
 -- ---- labels
 
--- at a scene that is in such a state
-pub still_shows : (s s' : ServerModel) (entries : List Entry) (spare taken : ℕ) (raw raw' words : List ℕ)
-    → IsScene s entries spare raw taken → s' ≡ s
-    → words ≡ frame (scenery_of (state_of s')) raw' → ShowsLabels (scenery_of (replay s.config entries)) words
-still_shows s s' entries spare taken raw raw' words i same is =
-    let now : state_of s' ≡ replay s.config entries = ap state_of same ∙ i.replayed in
-    subst (ShowsLabels (scenery_of (replay s.config entries)))
-    (sym (is ∙ ap (λ (t : State). frame (scenery_of t) raw') now))
-    (labels_stand s.config entries raw' i.legal)
+-- what is shown at a scene that is in such a state
+pub shows : (s : ServerModel) (entries : List Entry) (spare taken : ℕ) (raw words : List ℕ)
+    → IsScene s entries spare raw taken
+    → words ≡ frame (scenery_of (state_of s)) raw → All IsWord words
+    → IsFrameShown (scenery_of (replay s.config entries)) raw words
+shows s entries spare taken raw words i is are =
+    let now = is ∙ ap (λ (t : State). frame (scenery_of t) raw) i.replayed in
+    record {
+      frame = now;
+      labels = subst (ShowsLabels (scenery_of (replay s.config entries))) (sym now)
+          (labels_stand s.config entries raw i.legal);
+      words = are;
+    }

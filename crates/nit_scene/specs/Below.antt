@@ -22,10 +22,10 @@ pub use Rattle.nit_journal.specs.State.{State, after, first_state, route, sessio
 pub use Rattle.nit_overlay.specs.Frame.{Scenery, frame}
 pub use Rattle.nit_paint.specs.Repaint.{no_sight}
 pub use Rattle.nit_repaint.specs.Glasses.{glasses_of_call}
-pub use Rattle.nit_screen.specs.FrameLabels.{ShowsLabels}
+pub use Rattle.nit_screen.specs.FrameLabels.{IsFrameShown, ShowsLabels}
 pub use Rattle.nit_screen.specs.RawWords.{AreInked, AreRaw, IsRawOf, Painted, glass_in, pixel_count}
 pub use Rattle.nit_screen.specs.RawWords.{source_at}
-pub use Rattle.nit_screen.specs.Screen.{IsGlass}
+pub use Rattle.nit_screen.specs.Screen.{AreGlasses, IsGlass}
 pub use Rattle.nit_screen.specs.StateScenery.{scenery_of}
 pub use Rattle.nit_server.specs.Server.{ServerModel, state_of}
 pub use Rattle.nit_slots.specs.Slots.{spare}

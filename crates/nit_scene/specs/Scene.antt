@@ -1,7 +1,10 @@
 -- What contracts see of a scene, and what holds of it.
-use Rattle.std.specs.Prelude.{◌≡◌, ℕ, ◌+◌, ◌*◌, ◌≤◌, List, length}
-use Rattle.nit_scene.specs.Below.{AreRaw, Configuration, Entry, IsLegal, ServerModel, State, replay}
-use Rattle.nit_scene.specs.Below.{session_in, shots, state_of}
+use Rattle.std.specs.Prelude.{◌≡◌, ℕ, ◌+◌, ◌-◌, ◌*◌, ◌≤◌, ◌++◌, ◌∷◌, [], List, length, map}
+use Rattle.nit_scene.specs.Below.{AreRaw, Configuration, Entry, IsLegal, IsOpen, Painted}
+use Rattle.nit_scene.specs.Below.{ServerModel, Sight, State, glass_in, replay, session_in, shots}
+use Rattle.nit_scene.specs.Below.{state_of}
+use Rattle.nit_events.specs.declared.entry.Entry.TheVariants as entry
+use Rattle.nit_scene.specs.SessionsAlone.{AreAlone}
 
 -- the configuration, the entries of the journal and for how many more there is room, the raw words
 -- of the screen's pixels, and the glasses through which the sessions' words are loaded
@@ -15,6 +18,43 @@ pub record SceneModel (G : Type 0) : Type 0 where
 -- the state that a scene is in is the one that its journal leads to
 abbrev pub state_now : {G : Type 0} → SceneModel G → State
 state_now p = replay p.config p.entries
+
+-- the journal has room for one entry more, and is not ended
+pub record CanAdd {G : Type 0} (s : SceneModel G) : Type 0 where
+  pub spare : 1 ≤ s.spare
+  pub «open» : IsOpen s.entries
+
+-- The journal has this entry more, and is legal. Each session got the replies of a machine that
+-- serves it alone, and the raw words are as the pixels' sources want them.
+pub record IsAdded {G : Type 0} (before now : SceneModel G) (e : Entry) : Type 0 where
+  pub recorded : now.entries ≡ before.entries ++ e ∷ []
+  pub spare : now.spare ≡ before.spare - 1
+  pub config : now.config ≡ before.config
+  pub legal : IsLegal now.config now.entries
+  pub alone : AreAlone now.config now.entries
+  pub raw : AreRaw (state_now now) now.raw
+
+-- a shot was recorded under the next number, the journal is not ended, and nothing else changed
+pub record IsShot {G : Type 0} (before now : SceneModel G) (number : ℕ) : Type 0 where
+  pub next : number ≡ shots before.entries + 1
+  pub added : IsAdded before now (entry.Shot number)
+  pub scene : now ≡ record before {
+    entries = before.entries ++ entry.Shot number ∷ [];
+    spare = before.spare - 1;
+  }
+  pub same : state_now now ≡ state_now before
+  pub «open» : IsOpen now.entries
+
+-- The journal is ended by the last picture, for which every pixel was loaded again through the
+-- sessions' own glasses. The scene's glasses and the state are as they were.
+pub record IsEnded {G C R : Type 0} (sight : C → Sight) (rest : C → R) (owns owns' : List C)
+    (before now : SceneModel G) : Type 0 where
+  pub added : IsAdded before now entry.Final
+  pub same : state_now now ≡ state_now before
+  pub glasses : now.glasses ≡ before.glasses
+  pub painted : Painted (state_now before) entry.Final (state_now now)
+      (glass_in (map sight owns)) (glass_in (map sight owns')) before.raw now.raw
+  pub rests : map rest owns' ≡ map rest owns
 
 -- The server is in the state that a legal journal leads to, and the raw words are as the pixels'
 -- sources want them. No session has made more views than there are entries, or lost more than three

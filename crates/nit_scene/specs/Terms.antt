@@ -1,5 +1,6 @@
 -- The words that clauses use: those that come from outside, and those of this crate.
-pub use Rattle.nit_scene.specs.Below.{Agrees, AreInked, AreRaw, Bare, Black, Call, Configuration}
+pub use Rattle.nit_scene.specs.Below.{Agrees, AreGlasses, AreInked, AreRaw, Bare, Black, Call}
+pub use Rattle.nit_scene.specs.Below.{Configuration, IsFrameShown}
 pub use Rattle.nit_scene.specs.Below.{Delivery, Entry, IsConfiguration, IsDevice, IsGlass, IsInked}
 pub use Rattle.nit_scene.specs.Below.{IsLegal, IsLive, IsOpen, IsRawOf, IsWord, JournalModel, List}
 pub use Rattle.nit_scene.specs.Below.{Member, Painted, PixelSource, Reply, Scenery, ServerModel}
@@ -11,5 +12,5 @@ pub use Rattle.nit_scene.specs.Below.{pixel_count, refusal, replay, reserved, ro
 pub use Rattle.nit_scene.specs.Below.{scenery_of, serve, session, session_in, set_where, shots}
 pub use Rattle.nit_scene.specs.Below.{source_at, spare, state_of, stored, told_at, views_in_use}
 pub use Rattle.nit_scene.specs.Below.{with_words}
-pub use Rattle.nit_scene.specs.Scene.{IsScene, state_now}
+pub use Rattle.nit_scene.specs.Scene.{CanAdd, IsAdded, IsEnded, IsScene, IsShot, state_now}
 pub use Rattle.nit_scene.specs.SessionsAlone.{AreAlone, FollowPresses}

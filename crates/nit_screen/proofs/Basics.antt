@@ -15,7 +15,7 @@ pub use Rattle.nit_repaint.proofs.ForCallers.{taken_held, taken_more, taken_none
 pub use Rattle.nit_repaint.proofs.ForCallers.{without_moved, without_none}
 pub use Rattle.nit_screen.specs.Terms.{Above, Agrees, AllByRecursion, AreBelowNext, AreInked}
 pub use Rattle.nit_screen.specs.Terms.{AreLabelled, AreLabelsApart, AreLive, ArePixels, AreRaw}
-pub use Rattle.nit_screen.specs.Terms.{AreSet, Back, Bare, Black, Buffer, Call, CanAccept, CanPaint}
+pub use Rattle.nit_screen.specs.Terms.{AreSet, Back, Bare, Black, Buffer, Call, CanAccept, CanRepaint}
 pub use Rattle.nit_screen.specs.Terms.{CanServe, CanShow, CanShowBy, Close, Configuration, Delivery}
 pub use Rattle.nit_screen.specs.Terms.{Destroy, Device, Entry, Event, Flat, Front, HaveOwnNames}
 pub use Rattle.nit_screen.specs.Terms.{HoldBuffers, IfSome, InputState, IsAmongLoads, IsCallShown}

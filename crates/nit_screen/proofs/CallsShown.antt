@@ -1,5 +1,5 @@
 -- A call was served, the pixels that it makes dirty were loaded again, and all is shown.
-use Rattle.nit_screen.proofs.Basics.{ArePixels, Bool, Call, CanPaint, CanServe, CanShowBy, Close}
+use Rattle.nit_screen.proofs.Basics.{ArePixels, Bool, Call, CanRepaint, CanServe, CanShowBy, Close}
 use Rattle.nit_screen.proofs.Basics.{Entry, Flat, HoldBuffers, IsCallShown, IsFrameOf, IsGlassOf}
 use Rattle.nit_screen.proofs.Basics.{IsNamedBy, IsOn, IsPartOf, IsPartShown, IsRepaint, IsScreen}
 use Rattle.nit_screen.proofs.Basics.{IsServed, IsServer, IsShown, IsTrue, IsViewChange, List}
@@ -40,7 +40,7 @@ still_shown s p h = record { pixels = h; raw = refl; glasses = refl }
 -- the painter can load what the server's stack has now
 pub can_paint_by : {G : Type 0} (s s' : ServerModel) (p : Pixels G) (glasses : ℕ → Sight) → IsServer s'
     → s'.config ≡ s.config → s'.stack.most ≡ s.stack.most → CanShowBy s p
-    → HoldBuffers s'.stack (length p.painter.glasses.items) glasses → CanPaint glasses s'.stack p.painter
+    → HoldBuffers s'.stack (length p.painter.glasses.items) glasses → CanRepaint glasses s'.stack p.painter
 can_paint_by s s' p glasses ha config most can held = record {
   room = let few = few_views s'.stack ha.standing in let cut = can.cuts in omega (arith, few, most, cut);
   pixels = rw (ha.screen.0, ha.screen.1, config) can.pixels;
@@ -51,7 +51,7 @@ can_paint_by s s' p glasses ha config most can held = record {
 pub can_paint_call : {G : Type 0} (sight : G → Sight) (s s' : ServerModel) (sid : ℕ) (own : Sight) (p one : Pixels G)
     → IsServer s' → s'.config ≡ s.config → s'.stack.most ≡ s.stack.most
     → IsScreen s (map sight p.painter.glasses.items) p → IsShown s p one → IsGlassOf s sid own
-    → CanPaint (glasses_of_call (map sight one.painter.glasses.items) sid own) s'.stack one.painter
+    → CanRepaint (glasses_of_call (map sight one.painter.glasses.items) sid own) s'.stack one.painter
 can_paint_call sight s s' sid own p one ha config most screen made table =
     let gs = p.painter.glasses.items in
     can_paint_by s s' one _ ha config most made.pixels.0 (rw made.glasses
@@ -61,7 +61,7 @@ can_paint_call sight s s' sid own p one ha config most screen made table =
 pub can_paint_served : {G : Type 0} (sight : G → Sight) (s s' : ServerModel) (sid : ℕ) (call : Call) (reply : Reply)
     (own : Sight) (p one : Pixels G) → IsServer s → IsServer s' → IsServed sid call reply s s'
     → IsScreen s (map sight p.painter.glasses.items) p → IsShown s p one → CanServe (screen_of s p) sid call own
-    → CanPaint (glasses_of_call (map sight one.painter.glasses.items) sid own) s'.stack one.painter
+    → CanRepaint (glasses_of_call (map sight one.painter.glasses.items) sid own) s'.stack one.painter
 can_paint_served sight s s' sid call reply own p one hb ha served screen made can =
     can_paint_call sight s s' sid own p one ha (same_config sid call reply s s' served)
     (same_most s s' sid call reply hb ha served) screen made can.table

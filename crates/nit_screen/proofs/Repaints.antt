@@ -1,5 +1,5 @@
 -- What a painter loads again, told by one record.
-use Rattle.nit_screen.proofs.Basics.{CanPaint, IsRemovedFrom, IsRepaint, Painter, PixelSource}
+use Rattle.nit_screen.proofs.Basics.{CanRepaint, IsRemovedFrom, IsRepaint, Painter, PixelSource}
 use Rattle.nit_screen.proofs.Basics.{Sight, StackModel, glasses_of_call, gone_room, is_slot}
 use Rattle.nit_screen.proofs.Basics.{length-map, map, other_count, painted_more, pixel}
 use Rattle.nit_screen.proofs.Basics.{repainted_none, source_of_number, taken_held, uncovered}
@@ -13,7 +13,7 @@ as_many_as rest gs gs' same = sym (length-map gs' rest) ∙ ap length same ∙ l
 
 -- a painter can still load where one more view is gone
 pub can_paint_gone : {G : Type 0} (glasses : ℕ → Sight) (s s' : StackModel) (k : ℕ) (p : Painter G)
-    → s' ≡ record s { views = without (is_slot k) s.views } → CanPaint glasses s p → CanPaint glasses s' p
+    → s' ≡ record s { views = without (is_slot k) s.views } → CanRepaint glasses s p → CanRepaint glasses s' p
 can_paint_gone glasses s s' k p now can =
     let few = gone_room s s' k p.cutter.room now can.room in
     rw now (record { room = rw now at few; pixels = can.pixels; held = can.held })
@@ -54,8 +54,8 @@ module _ {G C R S : Type 0} (sight : G → Sight) (rest : G → R) (own_sight : 
   pub can_paint_rest : (of i sid : ℕ) (before now : StackModel) (source : ℕ → PixelSource) (chosen : ℕ → Bool)
       (a b : C) (p q : Painter G) → IsRemovedFrom of i before now
       → IsRepaint sight rest own_sight own_rest source chosen sid a b p q
-      → CanPaint (glasses_of_call (map sight p.glasses.items) sid (own_sight a)) before p
-      → CanPaint (glasses_of_call (map sight q.glasses.items) sid (own_sight b)) now q
+      → CanRepaint (glasses_of_call (map sight p.glasses.items) sid (own_sight a)) before p
+      → CanRepaint (glasses_of_call (map sight q.glasses.items) sid (own_sight b)) now q
   can_paint_rest of i sid before now source chosen a b p q taken one can = record {
     room = let m = one.room in let n = taken.fewer in let l = can.room in omega (arith, m, n, l);
     pixels = one.count ∙ can.pixels ∙ ap (λ (t : StackModel). t.width * t.height) (sym taken.rest);

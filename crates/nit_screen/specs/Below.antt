@@ -46,6 +46,7 @@ pub use Rattle.nit_rect.specs.Limits.{most_slots}
 pub use Rattle.nit_rect.specs.Rectangle.{Rectangle, covers, is_rectangle, rectangle, spans}
 pub use Rattle.nit_rect.specs.declared.point.Point.{Point}
 pub use Rattle.nit_repaint.specs.Glasses.{HoldBuffers, glasses_of_call}
+pub use Rattle.nit_repaint.specs.Painting.{CanRepaint, IsOnlyCut}
 pub use Rattle.nit_repaint.specs.PixelOwners.{is_word_in, owner_passes, source_in}
 pub use Rattle.nit_repaint.specs.ViewChange.{IsViewChange, slot_owns_either}
 pub use Rattle.nit_repaint.specs.ViewRemoval.{IsRemovedFrom, uncovered, without_session}

@@ -1,8 +1,8 @@
 -- What a frame shows of the labels of views.
 use Rattle.std.specs.Prelude.{◌≡◌, ℕ, ◌+◌, ◌*◌, ◌<◌, ◌≤◌, pos, List, length, slice_index, All}
 use Rattle.nit_screen.specs.Below.{AllPairs, IfSome, IsApart, IsTrue, Rectangle, Scenery, dot}
-use Rattle.nit_screen.specs.Below.{draws_labels, ink_of, label_place_of, picture_height}
-use Rattle.nit_screen.specs.Below.{picture_width, rectangle, view_text}
+use Rattle.nit_screen.specs.Below.{IsWord, draws_labels, frame, ink_of, label_place_of}
+use Rattle.nit_screen.specs.Below.{picture_height, picture_width, rectangle, view_text}
 use Rattle.nit_stack.specs.declared.view.View.{View}
 
 -- how many columns the label of a view has
@@ -35,3 +35,10 @@ pub record AreLabelsShown (s : Scenery) (words : List ℕ) : Type 0 where
 -- a frame shows the labels, if its mode draws them
 abbrev pub ShowsLabels : Scenery → List ℕ → Type 0
 ShowsLabels s words = IsTrue (draws_labels s.mode) → AreLabelsShown s words
+
+-- these words are the frame of a scenery and of raw words, each is below 2^24, and they show the
+-- labels
+pub record IsFrameShown (s : Scenery) (raw out : List ℕ) : Type 0 where
+  pub frame : out ≡ frame s raw
+  pub labels : ShowsLabels s out
+  pub words : All IsWord out

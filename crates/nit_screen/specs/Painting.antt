@@ -1,15 +1,7 @@
--- What a painter loads again, and what it needs to do so.
-use Rattle.std.specs.Prelude.{◌≡◌, ℕ, ◌*◌, ◌≤◌, Bool, length, map}
-use Rattle.nit_screen.specs.Below.{HoldBuffers, Painter, PixelSource, Repainted, Sight, StackModel}
+-- What a painter loads again.
+use Rattle.std.specs.Prelude.{◌≡◌, ℕ, Bool, length, map}
+use Rattle.nit_screen.specs.Below.{Painter, PixelSource, Repainted, Sight}
 use Rattle.nit_screen.specs.RawWords.{glass_in, glasses_of_call}
-
--- The pixels of a stack can be loaded again: there is room to cut out every view, a raw word for
--- each pixel, and a glass of each session with a word for each of its buffer's.
-pub record CanPaint {G : Type 0} (glasses : ℕ → Sight) (stack : StackModel)
-    (painter : Painter G) : Type 0 where
-  pub room : length stack.views ≤ painter.cutter.room
-  pub pixels : length painter.raw.items ≡ stack.width * stack.height
-  pub held : HoldBuffers stack (length painter.glasses.items) glasses
 
 -- The chosen pixels were loaded again by their sources, those of the session that calls through its
 -- own glass and not through the screen's. Else the painter and all glasses are as they were.

@@ -8,6 +8,7 @@ pub use Rattle.nit_screen.specs.Below.{IsKillAlone, IsLegal, IsLive, IsNamedBy, 
 pub use Rattle.nit_screen.specs.Below.{IsServed, IsServer, IsSlotView, IsStack, IsTrue}
 pub use Rattle.nit_screen.specs.Below.{IsViewChange, IsWord, IsWordOfSource, Item, Kill, LegalFrom}
 pub use Rattle.nit_screen.specs.Below.{MayLose, MeanSame, Member, Mode, NoPair, Offset, Painter}
+pub use Rattle.nit_screen.specs.Below.{CanRepaint, IsOnlyCut}
 pub use Rattle.nit_screen.specs.Below.{PixelSource, Pixels, Place, Point, Rectangle, Refresh}
 pub use Rattle.nit_screen.specs.Below.{Repainted, Reply, Routed, Routing, Scenery, ServerModel}
 pub use Rattle.nit_screen.specs.Below.{Session, Sight, Size, SlotView, Some, StackModel, State}
@@ -44,15 +45,16 @@ pub use Rattle.nit_screen.specs.Below.{◌orelse◌}
 pub use Rattle.nit_screen.specs.CallKinds.{IsClean, IsOn, IsPartOf, IsQuiet}
 pub use Rattle.nit_screen.specs.DirtyPixels.{dirty, dirty_by_call, is_killed, is_owned_by}
 pub use Rattle.nit_screen.specs.DirtyPixels.{owns_either, session_owns, shows_part, view_owns}
-pub use Rattle.nit_screen.specs.FrameLabels.{AreLabelsApart, IsLabelShown, ShowsLabels, label_width}
+pub use Rattle.nit_screen.specs.FrameLabels.{AreLabelsApart, IsFrameShown, IsLabelShown}
+pub use Rattle.nit_screen.specs.FrameLabels.{ShowsLabels, label_width}
 pub use Rattle.nit_screen.specs.LabelSlots.{AreLabelled, IsLabelled, label_scenery}
-pub use Rattle.nit_screen.specs.Painting.{CanPaint, IsRepaint}
+pub use Rattle.nit_screen.specs.Painting.{IsRepaint}
 pub use Rattle.nit_screen.specs.Pixels.{ArePixels, CanShow, CanShowBy, IsFrameOf, IsPartShown}
 pub use Rattle.nit_screen.specs.Pixels.{IsShown, ShowsBelow, kept_frame, raw_in, raw_of, shown_by}
 pub use Rattle.nit_screen.specs.Pixels.{unbarred}
 pub use Rattle.nit_screen.specs.RawWords.{AreInked, AreRaw, IsInkedBy, IsRawOf, Painted, glass_in}
 pub use Rattle.nit_screen.specs.RawWords.{pixel_count, source_at}
-pub use Rattle.nit_screen.specs.Screen.{IsGlass, IsGlassOf, IsScreen, ScreenModel}
+pub use Rattle.nit_screen.specs.Screen.{AreGlasses, IsGlass, IsGlassOf, IsScreen, ScreenModel}
 pub use Rattle.nit_screen.specs.ServedCalls.{CanAccept, CanServe, IsCallShown, LoadsNothing}
 pub use Rattle.nit_screen.specs.StateScenery.{scenery_of}
 pub use Rattle.nit_screen.specs.ViewNames.{AreBelowNext, HaveOwnNames, IsNewlyNamed}

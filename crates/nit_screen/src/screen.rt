@@ -1,7 +1,7 @@
 //! The screen with all that it shows.
 
-ghost use Rattle.std.specs.Prelude.{◌≡◌, ◌<◌, All, length, ℕ, ◌*◌, map};
-ghost use Rattle.nit_screen.specs.Terms.{IsGlassOf, IsServer, IsWord, glass_in};
+ghost use Rattle.std.specs.Prelude.{◌≡◌, ◌*◌, All, length, map};
+ghost use Rattle.nit_screen.specs.Terms.{AreGlasses, IsServer, IsWord};
 
 mod calls;
 mod drawing;
@@ -61,9 +61,7 @@ impl<G: Glass + Drop> Screen<G> {
         ensures words { All IsWord self.now.raw }
         ensures pixels { length self.now.raw
             ≡ self.now.serving.config.width * self.now.serving.config.height }
-        ensures glasses { length self.now.glasses ≡ length self.now.serving.config.clients }
-        ensures tables { (t : ℕ) → t < length self.now.serving.config.clients
-            → IsGlassOf self.now.serving t (glass_in (map G.sight self.now.glasses) t) }
+        ensures glasses { AreGlasses G.sight self.now.serving.config self.now.glasses }
     {
         let _ = &self.pixels;
         self.server.facts();

@@ -1,10 +1,10 @@
 //! A desktop before its first step.
 
 ghost use Rattle.std.specs.Prelude.{◌≡◌, ◌-◌, ◌<◌, ◌≤◌, ◌*◌, IfOk, [], length, map, replicate};
-ghost use Rattle.std.specs.Prelude.{slice_set, ℕ};
-ghost use Rattle.nit_desktop.specs.Terms.{IsConfiguration, IsDonation, IsGlass, bare_word, ended};
-ghost use Rattle.nit_desktop.specs.Terms.{first_input, first_session, first_state, glass_in};
-ghost use Rattle.nit_desktop.specs.Terms.{member, session, vacant_state};
+ghost use Rattle.std.specs.Prelude.{slice_set};
+ghost use Rattle.nit_desktop.specs.Terms.{AreGlasses, IsConfiguration, IsDonation, KeepsWords};
+ghost use Rattle.nit_desktop.specs.Terms.{bare_word, ended, first_input, first_session};
+ghost use Rattle.nit_desktop.specs.Terms.{first_state, member, session, vacant_state};
 ghost use Rattle.nit_events.specs.declared.event.Status.TheVariants as status;
 
 use crate::blank::Blank;
@@ -31,9 +31,7 @@ impl<G: Glass + Drop> Desktop<G> {
     /// taken here.
     pub fn new(alloc: Global, config: &Config, glasses: Vec<G>) -> Result<Desktop<G>, NoMemory>
         requires config { IsConfiguration config.now }
-        requires glasses { length glasses.items ≡ length config.now.clients }
-        requires tables { (t : ℕ) → t < length config.now.clients → IsGlass config.now t
-            (glass_in (map G.sight glasses.items) t) }
+        requires glasses { AreGlasses G.sight config.now glasses.items }
         ensures { IfOk result (λ d. d ≡ record {
           state = first_state config.now;
           left = 4611686018427387904;
@@ -53,9 +51,7 @@ impl<G: Glass + Drop> Desktop<G> {
     /// when a client comes.
     pub fn vacant(alloc: Global, config: &Config, glasses: Vec<G>) -> Result<Desktop<G>, NoMemory>
         requires config { IsConfiguration config.now }
-        requires glasses { length glasses.items ≡ length config.now.clients }
-        requires tables { (t : ℕ) → t < length config.now.clients → IsGlass config.now t
-            (glass_in (map G.sight glasses.items) t) }
+        requires glasses { AreGlasses G.sight config.now glasses.items }
         ensures state { IfOk result (λ d. d.state ≡ vacant_state config.now) }
         ensures left { IfOk result (λ d. d.left ≡ 4611686018427387904) }
         ensures raw { IfOk result (λ d. d.raw ≡ replicate
@@ -76,9 +72,7 @@ fn close_all<G: Glass + Drop>(desktop: &mut Desktop<G>, config: &Config)
     requires first { desktop.old.state ≡ first_state config.now }
     requires left { desktop.old.left ≡ 4611686018427387904 }
     ensures state { desktop.new.state ≡ vacant_state config.now }
-    ensures raw { desktop.new.raw ≡ desktop.old.raw }
-    ensures sights { map G.sight desktop.new.glasses ≡ map G.sight desktop.old.glasses }
-    ensures rests { map G.rest desktop.new.glasses ≡ map G.rest desktop.old.glasses }
+    ensures words { KeepsWords G.sight G.rest desktop.old desktop.new }
 {
     'sessions: for sid in 0..config.clients.len() as u32 {
         close(desktop, sid, config.clients[sid as usize].donation);
@@ -99,9 +93,7 @@ fn close<G: Glass + Drop>(desktop: &mut Desktop<G>, sid: u32, donation: u32)
           (ended status.Closed (first_session donation));
     } }
     ensures left { desktop.new.left ≡ desktop.old.left - 1 }
-    ensures raw { desktop.new.raw ≡ desktop.old.raw }
-    ensures sights { map G.sight desktop.new.glasses ≡ map G.sight desktop.old.glasses }
-    ensures rests { map G.rest desktop.new.glasses ≡ map G.rest desktop.old.glasses }
+    ensures words { KeepsWords G.sight G.rest desktop.old desktop.new }
 {
     let mut blank = Blank {
         owner: sid,

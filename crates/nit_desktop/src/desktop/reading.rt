@@ -1,9 +1,9 @@
 //! What can be read of a desktop.
 
-ghost use Rattle.std.specs.Prelude.{◌≡◌, ◌<◌, ◌≤◌, ◌*◌, IfSome, IsTrue, false, length, map, ℕ};
+ghost use Rattle.std.specs.Prelude.{◌≡◌, ◌<◌, ◌≤◌, ◌*◌, IfSome, IsTrue, false, length};
 ghost use Rattle.std.specs.Prelude.{Some, slice_get};
-ghost use Rattle.nit_desktop.specs.Terms.{AreLive, IsConfiguration, IsFreeLabel, IsGlass, IsPlace};
-ghost use Rattle.nit_desktop.specs.Terms.{glass_in, member, refusal, session, table_size};
+ghost use Rattle.nit_desktop.specs.Terms.{AreGlasses, AreLive, IsConfiguration, IsFreeLabel};
+ghost use Rattle.nit_desktop.specs.Terms.{IsPlace, member, refusal, session, table_size};
 
 use crate::desktop::Desktop;
 use nit_events::{Call, Mode, Reply, Status};
@@ -24,9 +24,7 @@ impl<G: Glass + Drop> Desktop<G> {
         ensures config { IsConfiguration self.now.state.config }
         ensures sessions { length self.now.state.sessions ≡ length self.now.state.config.clients }
         ensures live { AreLive self.now.state }
-        ensures glasses { length self.now.glasses ≡ length self.now.state.config.clients }
-        ensures tables { (t : ℕ) → t < length self.now.state.config.clients → IsGlass
-            self.now.state.config t (glass_in (map G.sight self.now.glasses) t) }
+        ensures glasses { AreGlasses G.sight self.now.state.config self.now.glasses }
         ensures pixels { length self.now.raw
             ≡ self.now.state.config.width * self.now.state.config.height }
     {

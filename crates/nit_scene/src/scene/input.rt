@@ -1,9 +1,9 @@
 //! What the user does.
 
-ghost use Rattle.std.specs.Prelude.{◌≡◌, ◌-◌, ◌≤◌, All, false, map, [], ◌++◌, ◌∷◌};
-ghost use Rattle.nit_scene.specs.Terms.{AreAlone, AreInked, AreRaw, FollowPresses, IsDevice};
-ghost use Rattle.nit_scene.specs.Terms.{IsLegal, IsLive, IsOpen, Painted, deliveries_of, glass_in};
-ghost use Rattle.nit_scene.specs.Terms.{kills, route, routed_as, state_now};
+ghost use Rattle.std.specs.Prelude.{◌≡◌, All, false, map};
+ghost use Rattle.nit_scene.specs.Terms.{AreInked, CanAdd, FollowPresses, IsAdded, IsDevice, IsLive};
+ghost use Rattle.nit_scene.specs.Terms.{IsOpen, Painted, deliveries_of, glass_in, kills, route};
+ghost use Rattle.nit_scene.specs.Terms.{routed_as, state_now};
 ghost use Rattle.nit_events.specs.declared.entry.Entry.TheVariants as entry;
 
 use crate::scene::Scene;
@@ -19,28 +19,22 @@ impl<G: Glass + Drop> Scene<G> {
     /// -127..=127. The journal has room for one entry more and is not ended.
     pub fn input(&mut self, dev: Device) -> Routed
         requires device { IsDevice dev }
-        requires spare { 1 ≤ self.old.spare }
-        requires open { IsOpen self.old.entries }
+        requires journal { CanAdd self.old }
         ensures routed { let s = state_now self.old in result ≡ routed_as
             (route s.config s.input s.stack dev).deliveries }
         ensures delivered { let s = state_now self.old in deliveries_of result ≡
             (route s.config s.input s.stack dev).deliveries }
-        ensures recorded { self.new.entries ≡ self.old.entries ++ entry.Input dev result ∷ [] }
-        ensures spare { self.new.spare ≡ self.old.spare - 1 }
-        ensures config { self.new.config ≡ self.old.config }
+        ensures added { IsAdded self.old self.new (entry.Input dev result) }
         ensures open { IsOpen self.new.entries }
-        ensures legal { IsLegal self.new.config self.new.entries }
         ensures painted { Painted (state_now self.old) (entry.Input dev result) (state_now self.new)
             (glass_in (map G.sight self.old.glasses)) (glass_in (map G.sight self.new.glasses))
             self.old.raw self.new.raw }
         ensures rests { map G.rest self.new.glasses ≡ map G.rest self.old.glasses }
-        ensures raw { AreRaw (state_now self.new) self.new.raw }
         ensures inked { AreInked (state_now self.old) (glass_in (map G.sight self.old.glasses))
             self.old.raw
             → AreInked (state_now self.new) (glass_in (map G.sight self.new.glasses)) self.new.raw }
         ensures live { All (λ d. IsLive (state_now self.old) d.sid) (deliveries_of result) }
         ensures pressed { FollowPresses self.new.entries }
-        ensures alone { AreAlone self.new.config self.new.entries }
         ensures quiet { kills (deliveries_of result) ≡ false → (self.new.raw ≡ self.old.raw) ×
             (self.new.glasses ≡ self.old.glasses) }
     {

@@ -1,9 +1,7 @@
 //! A scene before its first entry.
 
-ghost use Rattle.std.specs.Prelude.{◌≡◌, ◌+◌, ◌-◌, ◌<◌, ◌≤◌, IfOk, length, ℕ, ◌*◌, map, []};
-ghost use Rattle.std.specs.Prelude.{replicate};
-ghost use Rattle.nit_scene.specs.Terms.{IsConfiguration, IsGlass, bare_word, glass_in, shots};
-ghost use Rattle.nit_scene.specs.Terms.{spare};
+ghost use Rattle.std.specs.Prelude.{◌≡◌, ◌+◌, ◌≤◌, IfOk, ◌*◌, [], replicate};
+ghost use Rattle.nit_scene.specs.Terms.{AreGlasses, IsConfiguration, bare_word, shots, spare};
 
 use crate::scene::Scene;
 use nit_config::Config;
@@ -26,9 +24,7 @@ impl<G: Glass + Drop> Scene<G> {
     ) -> Result<Scene<G>, NoMemory>
         requires config { IsConfiguration config.now }
         requires room { room ≤ 1114113 }
-        requires glasses { length glasses.items ≡ length config.now.clients }
-        requires tables { (t : ℕ) → t < length config.now.clients → IsGlass config.now t
-            (glass_in (map G.sight glasses.items) t) }
+        requires glasses { AreGlasses G.sight config.now glasses.items }
         ensures { IfOk result (λ s. s ≡ record {
           config = config.now;
           entries = [];

@@ -1,7 +1,7 @@
 //! The whole screen, for the last picture.
 
-ghost use Rattle.std.specs.Prelude.{◌≡◌, ◌<◌, length, ℕ, map};
-ghost use Rattle.nit_screen.specs.Terms.{IsGlassOf, Painted, glass_in, state_of};
+ghost use Rattle.std.specs.Prelude.{◌≡◌, map};
+ghost use Rattle.nit_screen.specs.Terms.{AreGlasses, Painted, glass_in, state_of};
 ghost use Rattle.nit_events.specs.declared.entry.Entry.TheVariants as entry;
 
 use crate::screen::Screen;
@@ -10,9 +10,7 @@ use nit_word::Glass;
 impl<G: Glass + Drop> Screen<G> {
     /// Loads every pixel again by these glasses, one for each session.
     pub fn load_all<C: Glass>(&mut self, owns: &mut [C])
-        requires owns { length owns.old ≡ length self.old.serving.config.clients }
-        requires tables { (t : ℕ) → t < length self.old.serving.config.clients
-            → IsGlassOf self.old.serving t (glass_in (map C.sight owns.old) t) }
+        requires owns { AreGlasses C.sight self.old.serving.config owns.old }
         ensures serving { self.new.serving ≡ self.old.serving }
         ensures glasses { self.new.glasses ≡ self.old.glasses }
         ensures painted { Painted (state_of self.old.serving) entry.Final

@@ -1,8 +1,8 @@
 //! A screen before its first entry.
 
-ghost use Rattle.std.specs.Prelude.{◌≡◌, ◌+◌, ◌-◌, ◌<◌, ◌≤◌, None, IfOk, length, ℕ, ◌*◌, map};
-ghost use Rattle.nit_screen.specs.Terms.{IsConfiguration, IsGlass, Point, bar_rows, bare_word};
-ghost use Rattle.nit_screen.specs.Terms.{false, first_state, glass_in, most_slots, replicate};
+ghost use Rattle.std.specs.Prelude.{◌≡◌, ◌+◌, ◌-◌, ◌<◌, ◌≤◌, None, IfOk, length, ◌*◌, map};
+ghost use Rattle.nit_screen.specs.Terms.{AreGlasses, IsConfiguration, Point, bar_rows, bare_word};
+ghost use Rattle.nit_screen.specs.Terms.{false, first_state, most_slots, replicate};
 ghost use Rattle.nit_screen.specs.Terms.{state_of, vec_capacity};
 
 use crate::screen::Screen;
@@ -24,9 +24,7 @@ impl<G: Glass + Drop> Screen<G> {
     /// A screen of this configuration without any view.
     pub fn new(alloc: Global, config: &Config, glasses: Vec<G>) -> Result<Screen<G>, NoMemory>
         requires config { IsConfiguration config.now }
-        requires glasses { length glasses.items ≡ length config.now.clients }
-        requires tables { (t : ℕ) → t < length config.now.clients → IsGlass config.now t
-            (glass_in (map G.sight glasses.items) t) }
+        requires glasses { AreGlasses G.sight config.now glasses.items }
         ensures state { IfOk result (λ s. state_of s.serving ≡ first_state config.now) }
         ensures raw { IfOk result (λ s. s.raw ≡ replicate
             (config.now.width * config.now.height) bare_word) }

@@ -2,7 +2,7 @@
 
 ghost use Rattle.std.specs.Prelude.{◌≡◌, ℕ, ◌*◌, ◌<◌, ◌≤◌, All, IsTrue, Option, false, length, map};
 ghost use Rattle.std.specs.Prelude.{nat_lt, slice_index, true, if◌then◌else◌};
-ghost use Rattle.nit_screen.specs.Terms.{CanShowBy, Flat, IsPartShown, IsServer, IsShown, IsWord};
+ghost use Rattle.nit_screen.specs.Terms.{CanShowBy, Flat, IsOnlyCut, IsPartShown, IsServer, IsShown, IsWord};
 ghost use Rattle.nit_screen.specs.Terms.{ShowsBelow, bar_rows, bar_word, draws_labels, frame};
 ghost use Rattle.nit_screen.specs.Terms.{kept_frame, pixel, raw_of, scenery_of, state_of, wanted};
 
@@ -169,9 +169,7 @@ fn frame_of<G: Drop>(
         ≡ server.now.config.width * server.now.config.height }
     requires out { length out.old ≡ server.now.config.width * server.now.config.height }
     requires words { All IsWord painter.old.raw.items }
-    ensures room { painter.new.cutter.room ≡ painter.old.cutter.room }
-    ensures kept { (painter.new.raw ≡ painter.old.raw) ×
-        (painter.new.glasses ≡ painter.old.glasses) }
+    ensures kept { IsOnlyCut painter.old painter.new }
     ensures shown { out.new ≡ frame (scenery_of (state_of server.now)) painter.old.raw.items }
     ensures places { length labels.new.places.items ≡ length labels.old.places.items }
     ensures texts { labels.new.texts ≡ labels.old.texts }

@@ -1,10 +1,10 @@
 //! Calls on a whole session, its end, and exactly the pixels that they make dirty.
 
-ghost use Rattle.std.specs.Prelude.{◌≡◌, ◌<◌, length, ℕ, map};
+ghost use Rattle.std.specs.Prelude.{◌≡◌, ◌<◌, length, map};
 ghost use Rattle.nit_events.specs.declared.call.Call.TheVariants as call;
 ghost use Rattle.nit_events.specs.declared.entry.Entry.TheVariants as entry;
 ghost use Rattle.nit_events.specs.declared.event.Status.TheVariants as status;
-ghost use Rattle.nit_screen.specs.Terms.{ArePixels, CanServe, CanShowBy, IsCallShown, IsGlassOf};
+ghost use Rattle.nit_screen.specs.Terms.{AreGlasses, ArePixels, CanServe, CanShowBy, IsCallShown};
 ghost use Rattle.nit_screen.specs.Terms.{IsPartOf, Repainted, glass_in, pixel, pixel_count, raw_of};
 ghost use Rattle.nit_screen.specs.Terms.{session_owns, state_of, with_ended};
 ghost use Rattle.nit_screen.specs.RawWords.{source_at as scene_source_at};
@@ -64,9 +64,7 @@ impl<G: Glass + Drop> Screen<G> {
 pub(crate) fn kill_session<G: Glass + Drop>(server: &mut Server, of: u32, pixels: &mut Pixels<G>)
     requires session { of < length server.old.sessions }
     requires can { CanShowBy server.old pixels.old }
-    requires glasses { length pixels.old.painter.glasses.items ≡ length server.old.config.clients }
-    requires tables { (t : ℕ) → t < length server.old.config.clients → IsGlassOf server.old t
-        (glass_in (map G.sight pixels.old.painter.glasses.items) t) }
+    requires glasses { AreGlasses G.sight server.old.config pixels.old.painter.glasses.items }
     ensures server { server.new ≡ with_ended of status.Killed server.old }
     ensures pixels { ArePixels server.new pixels.new }
     ensures painted { Repainted (scene_source_at (state_of server.new))

@@ -1,6 +1,6 @@
 //! Calls on one view, and exactly the pixels that they make dirty.
 
-ghost use Rattle.nit_screen.specs.Terms.{CanPaint, CanServe, IsCallShown, IsNamedBy, IsOn};
+ghost use Rattle.nit_screen.specs.Terms.{CanRepaint, CanServe, IsCallShown, IsNamedBy, IsOn};
 ghost use Rattle.nit_screen.specs.Terms.{IsRepaint, SlotView, Some, glasses_of_call, has_view};
 ghost use Rattle.nit_screen.specs.Terms.{is_of_session, map, owner_passes, pixel, place_of};
 ghost use Rattle.nit_screen.specs.Terms.{session_in, slot_view_in, source_of_number};
@@ -74,7 +74,7 @@ pub(crate) fn take_views_away<G: Glass + Drop, C: Glass>(
     own: &mut C,
 )
     requires session { of < length server.old.sessions }
-    requires can { CanPaint
+    requires can { CanRepaint
         (glasses_of_call (map G.sight painter.old.glasses.items) sid (C.sight own.old))
         server.old.stack painter.old }
     ensures left { without_views of server.new ≡ without_views of server.old }

@@ -45,7 +45,7 @@ returns-clause-frames c =
     subst (λ (k : Configuration). HaveTables c.run_viewed.new.owns (tables_left k scripts)) begun
     (left_tables opened.scene.config scripts c.run_viewed.new.owns run.owns_each run.words) in
     let out : c.frame.result.now ≡ last_frame i =
-    c.frame.ensures.frame ∙ c.take_last.ensures.frame (tables_left config scripts)
+    c.frame.ensures.shown.frame ∙ c.take_last.ensures.frame (tables_left config scripts)
     (subst (λ (gs : List Sight). HaveTables gs (tables_left config scripts)) (sym owns) tables)
     ∙ last_is c.drawn_as_replayed.ensures i mid (run.config ∙ begun) run.legal run.entries in
     let next : TakesNext (last_frame i) at now =

@@ -9,5 +9,5 @@ returns-clause-put g c = λ tables have.
     (put_state_of_desk (g.S.Store.shown c.put_lent.new.self.store.now) c.put_lent.new.self.fault
     c.put_lent.new.self.tried))
     (last_picture c.args.scene.now tables c.size-width.result c.frame.result.now c.size-width.ensures.size
-    (c.frame.ensures.frame ∙ c.take_last.ensures.frame tables have))
+    (c.frame.ensures.shown.frame ∙ c.take_last.ensures.frame tables have))
     c.put_lent.ensures.put

@@ -14,13 +14,13 @@ glasses_of-requires-2-clause-inked c =
     c.in_ok-plans.ensures.plans c.requires c.in_ok-plans.ensures.words
 
 pub new-requires-clause-glasses : goal.new-requires-clause-glasses
-new-requires-clause-glasses c = glasses_long c.args.config.now c.args.scripts.now c.in_ok-glasses.glasses.items
-    c.requires.each c.in_ok-glasses.ensures
-
-pub new-requires-clause-tables : goal.new-requires-clause-tables
-new-requires-clause-tables c = λ t inside.
-    blank_glass c.buffer_within_table.ensures.words c.args.config.now c.args.scripts.now c.in_ok-glasses.glasses.items t
-    c.requires.configured c.requires.each c.in_ok-glasses.ensures inside
+new-requires-clause-glasses c = record {
+  each = glasses_long c.args.config.now c.args.scripts.now c.in_ok-glasses.glasses.items c.requires.each
+      c.in_ok-glasses.ensures;
+  tables = λ t inside.
+      blank_glass c.buffer_within_table.ensures.words c.args.config.now c.args.scripts.now
+      c.in_ok-glasses.glasses.items t c.requires.configured c.requires.each c.in_ok-glasses.ensures inside;
+}
 
 pub returns : goal.returns
 returns c =

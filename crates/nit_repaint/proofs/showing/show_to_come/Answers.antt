@@ -11,8 +11,15 @@ pieces-init c = record {
       (shown_at c.args.look.now c.args.raw.now) c.args.frame.now;
 }
 
-pub overlay_piece-requires-clause-out : goal.overlay_piece-requires-clause-out
-overlay_piece-requires-clause-out c = c.pieces.invariant.shown.count ∙ c.requires.look.frame ∙ c.requires.look.pixels
+pub overlay_piece-requires-clause-words : goal.overlay_piece-requires-clause-words
+overlay_piece-requires-clause-words c =
+    let l = c.requires.look in
+    record {
+      look = l.look;
+      raw = l.pixels;
+      out = c.pieces.invariant.shown.count ∙ l.frame ∙ l.pixels;
+      words = l.words;
+    }
 
 pub pieces-preserved : goal.pieces-preserved
 pieces-preserved c =
@@ -29,7 +36,7 @@ pieces-preserved c =
           c.pieces.frame c.overlay_piece.new.out
           i.less e.count e.came (λ k out. refl) i.shown
           (piece_shown s n c.in-Some.piece.rect (shown_at c.args.look.now c.args.raw.now) c.pieces.frame
-          c.overlay_piece.new.out c.requires.look.pixels c.overlay_piece.ensures.pixels c.overlay_piece.ensures.length);
+          c.overlay_piece.new.out c.requires.look.pixels c.overlay_piece.ensures.pixels c.overlay_piece.ensures.count);
     }
 
 pub returns-clause-shown : goal.returns-clause-shown

@@ -10,12 +10,12 @@ returns c =
     (λ t. (p.loads t, p.sights t)) c.input.ensures.rests in
     record {
       glasses = glasses;
-      config = c.input.ensures.config;
+      config = c.input.ensures.added.config;
       unended = c.input.ensures.«open»;
-      spare = one_taken c.args.scene.now.entries _ _ _ _ c.input.ensures.recorded c.input.ensures.spare
+      spare = one_taken c.args.scene.now.entries _ _ _ _ c.input.ensures.added.recorded c.input.ensures.added.spare
           (c.requires.spare refl);
-      recorded = (c.input.result, c.input.ensures.recorded);
+      recorded = (c.input.result, c.input.ensures.added.recorded);
       moved = input_moved c.one_more_entry.ensures.replayed c.args.scene.now c.input.new.self c.args.dev
-          c.input.result _ c.input.ensures.config c.input.ensures.recorded glasses c.input.ensures.routed
+          c.input.result _ c.input.ensures.added.config c.input.ensures.added.recorded glasses c.input.ensures.routed
           c.input.ensures.painted;
     }

@@ -1,4 +1,4 @@
-use Rattle.std.proofs.Common.{subst, sym, ◌-◌, ◌^◌, ◌<◌, ◌∙◌}
+use Rattle.std.proofs.Common.{refl, subst, sym, ◌-◌, ◌^◌, ◌<◌, ◌∙◌}
 use Rattle.nit_desktop.proofs.Basics.{Agrees, State, session, state_of, unaccepted_state}
 use Rattle.nit_events.specs.declared.entry.Entry.TheVariants as entry
 use Rattle.nit_desktop.proofs.DesktopLemmas.{goes_on, inks_again, raw_again}
@@ -24,14 +24,19 @@ invariant_of-self g c =
     c.self.invariant.handles (rw (← c.self.view_is) at c.requires.handles)))
     (rw (← c.self.view_is) at c.requires.left)
 
-pub returns-clause-raw : goal.returns-clause-raw
-returns-clause-raw g c =
+pub returns-clause-served : goal.returns-clause-served
+returns-clause-served g c =
     let s = state_of c.self.inside.screen.serving in
     let e = entry.Call c.args.sid c.args.call.now c.call.result in
     let agrees : Agrees s 0 e = (rw (← c.self.view_is) at c.requires.session, c.call.ensures.reply) in
-    raw_again s (state_of c.call.new.self.serving) e c.self.inside.left c.self.inside.screen.raw c.call.new.self.raw
-    c.self.invariant c.call.ensures.state agrees _ _ c.call.ensures.painted
-    c.raw_stays_raw.ensures
+    rw (← c.self.view_is) (record {
+      state = c.call.ensures.state;
+      left = refl;
+      raw = raw_again s (state_of c.call.new.self.serving) e c.self.inside.left c.self.inside.screen.raw
+          c.call.new.self.raw c.self.invariant c.call.ensures.state agrees _ _ c.call.ensures.painted
+          c.raw_stays_raw.ensures;
+      rests = c.call.ensures.rests;
+    })
 
 pub returns-clause-inked : goal.returns-clause-inked
 returns-clause-inked g c = λ inks.

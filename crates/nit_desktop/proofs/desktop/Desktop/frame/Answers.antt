@@ -2,8 +2,12 @@ use Rattle.std.proofs.Common.{List, subst, sym, ℕ}
 use Rattle.nit_desktop.proofs.Basics.{ShowsLabels, scenery_of, state_of}
 use Rattle.nit_desktop.proofs.desktop.Desktop.frame.Goals as goal
 
-pub returns-clause-labels : goal.returns-clause-labels
-returns-clause-labels g c =
+pub returns-clause-shown : goal.returns-clause-shown
+returns-clause-shown g c =
     let s = state_of c.self.inside.screen.serving in
-    rw (← c.self.view_is) (subst (λ (words : List ℕ). ShowsLabels (scenery_of s) words) (sym c.frame.ensures.frame)
-    (c.own_names_show_labels.ensures (scenery_of s) c.self.inside.screen.raw c.self.invariant.named.0))
+    rw (← c.self.view_is) (record {
+      frame = c.frame.ensures.frame;
+      labels = subst (λ (words : List ℕ). ShowsLabels (scenery_of s) words) (sym c.frame.ensures.frame)
+          (c.own_names_show_labels.ensures (scenery_of s) c.self.inside.screen.raw c.self.invariant.named.0);
+      words = c.frame.ensures.words;
+    })

@@ -1,4 +1,4 @@
-use Rattle.std.proofs.Common.{All, List, subst, sym, ◌-◌, ◌^◌, ◌<◌}
+use Rattle.std.proofs.Common.{All, List, refl, subst, sym, ◌-◌, ◌^◌, ◌<◌}
 use Rattle.nit_desktop.proofs.Basics.{Agrees, Delivery, IsLive, State, session, state_of}
 use Rattle.nit_events.specs.declared.entry.Entry.TheVariants as entry
 use Rattle.nit_desktop.proofs.DesktopLemmas.{goes_on, inks_again, raw_again}
@@ -23,14 +23,19 @@ invariant_of-self g c =
     (input_keeps_handles s c.args.dev c.input.result t c.self.invariant.handles))
     (rw (← c.self.view_is) at c.requires.left)
 
-pub returns-clause-raw : goal.returns-clause-raw
-returns-clause-raw g c =
+pub returns-clause-served : goal.returns-clause-served
+returns-clause-served g c =
     let s = state_of c.self.inside.screen.serving in
     let e = entry.Input c.args.dev c.input.result in
     let agrees : Agrees s 0 e = c.input.ensures.routed in
-    raw_again s (state_of c.input.new.self.serving) e c.self.inside.left c.self.inside.screen.raw c.input.new.self.raw
-    c.self.invariant c.input.ensures.state agrees _ _ c.input.ensures.painted
-    c.raw_stays_raw.ensures
+    rw (← c.self.view_is) (record {
+      state = c.input.ensures.state;
+      left = refl;
+      raw = raw_again s (state_of c.input.new.self.serving) e c.self.inside.left c.self.inside.screen.raw
+          c.input.new.self.raw c.self.invariant c.input.ensures.state agrees _ _ c.input.ensures.painted
+          c.raw_stays_raw.ensures;
+      rests = c.input.ensures.rests;
+    })
 
 pub input-requires-clause-live : goal.input-requires-clause-live
 input-requires-clause-live g c = c.live_sessions_stay.ensures.told (state_of c.self.inside.screen.serving) c.args.dev

@@ -1,12 +1,19 @@
-use Rattle.std.proofs.Common.{ap, ◌∙◌}
+use Rattle.std.proofs.Common.{List, ap, subst, ℕ, ◌∙◌, ◌≡◌}
+use Rattle.nit_host.specs.Below.{State}
 use Rattle.nit_host.specs.Fresh.{sheets_of}
 use Rattle.nit_host.specs.Host.{HostModel, picture, sheet_in}
-use Rattle.nit_host.specs.Terms.{frame, scenery_of}
+use Rattle.nit_host.specs.Terms.{ShowsLabels, frame, scenery_of}
 use Rattle.nit_host.proofs.Freshness.{shown_fresh}
 use Rattle.nit_host.proofs.host.Host.frame.Goals as goal
 
-pub returns-clause-frame : goal.returns-clause-frame
-returns-clause-frame c =
+pub returns-clause-shown : goal.returns-clause-shown
+returns-clause-shown c =
     let d = c.self.inside.desktop in
-    c.frame.ensures.frame ∙ shown_fresh d.state (sheet_in (sheets_of d.glasses)) d.raw c.self.invariant.0.fresh
-    ∙ ap (λ (h : HostModel). frame (scenery_of h.state) (picture h)) c.self.view_is
+    let state_ : d.state ≡ c.args.self.now.state = ap (λ (h : HostModel). h.state) c.self.view_is in
+    let e = c.frame.ensures.shown in
+    record {
+      frame = e.frame ∙ shown_fresh d.state (sheet_in (sheets_of d.glasses)) d.raw c.self.invariant.0.fresh
+          ∙ ap (λ (h : HostModel). frame (scenery_of h.state) (picture h)) c.self.view_is;
+      labels = subst (λ (s : State). ShowsLabels (scenery_of s) c.frame.result.now) state_ e.labels;
+      words = e.words;
+    }

@@ -7,8 +7,8 @@ use Rattle.nit_host.proofs.Beginnings.{begun, blank_glasses, first_now}
 use Rattle.nit_host.proofs.Looking.{nothing_seen}
 use Rattle.nit_host.proofs.host.Host.seated.Goals as goal
 
-pub new-requires-clause-tables : goal.new-requires-clause-tables
-new-requires-clause-tables c = blank_glasses c.args.config.now c.in_ok-sheets.sheets.items c.in_ok-sheets.ensures.blank
+pub new-requires-clause-glasses : goal.new-requires-clause-glasses
+new-requires-clause-glasses c = blank_glasses c.args.config.now c.in_ok-sheets.sheets.items c.in_ok-sheets.ensures.blank
 
 pub invariant_of-result : goal.invariant_of-result
 invariant_of-result c =

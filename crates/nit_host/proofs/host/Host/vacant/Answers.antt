@@ -7,8 +7,8 @@ use Rattle.nit_host.proofs.Looking.{nothing_seen}
 use Rattle.nit_host.proofs.SheetLists.{same_sheets}
 use Rattle.nit_host.proofs.host.Host.vacant.Goals as goal
 
-pub vacant-requires-clause-tables : goal.vacant-requires-clause-tables
-vacant-requires-clause-tables c =
+pub vacant-requires-clause-glasses : goal.vacant-requires-clause-glasses
+vacant-requires-clause-glasses c =
     blank_glasses c.args.config.now c.in_ok-sheets.sheets.items c.in_ok-sheets.ensures.blank
 
 pub invariant_of-result : goal.invariant_of-result

@@ -11,14 +11,14 @@ stay c =
     let e = c.call-reply.ensures in
     sheets_stay c.args.desktop.now.glasses c.call-reply.new.self.glasses c.args.seat c.args.own.now c.call-reply.new.own
     c.requires.quiet (plain_quiet c.args.seat c.args.own.now.sight c.requires.own.0)
-    (λ t. (e.painted.loads t, e.painted.sights t)) e.idle e.rest e.rests
+    (λ t. (e.painted.loads t, e.painted.sights t)) e.idle e.rest e.served.rests
 
 abbrev own_stay : (c : goal.After-exchange) → c.call-reply.new.own ≡ c.args.own.now
 own_stay c =
     let e = c.call-reply.ensures in
     own_stays c.args.desktop.now.glasses c.call-reply.new.self.glasses c.args.seat c.args.own.now c.call-reply.new.own
     c.requires.quiet (plain_quiet c.args.seat c.args.own.now.sight c.requires.own.0)
-    (λ t. (e.painted.loads t, e.painted.sights t)) e.idle e.rest e.rests
+    (λ t. (e.painted.loads t, e.painted.sights t)) e.idle e.rest e.served.rests
 
 pub returns-clause-glasses : goal.returns-clause-glasses
 returns-clause-glasses c = ap (λ (d : DesktopModel SheetModel). d.glasses) c.exchange.ensures.desktop
@@ -31,5 +31,5 @@ pub returns-clause-painted : goal.returns-clause-painted
 returns-clause-painted c =
     painted_by_all c.args.desktop.now.state (entry.Call c.args.seat c.args.call.now c.call-reply.result)
     c.args.desktop.now c.call-reply.new.self c.exchange.new.self c.args.seat c.args.own.now c.call-reply.new.own
-    (stay c) (own_stay c) (omega (arith, c.requires.session, c.facts.ensures.sessions, c.facts.ensures.glasses))
+    (stay c) (own_stay c) (omega (arith, c.requires.session, c.facts.ensures.sessions, c.facts.ensures.glasses.each))
     c.exchange.ensures.desktop c.call-reply.ensures.painted

@@ -6,3 +6,14 @@ returns-clause-painted g c before change =
     comes_as _ c.args.stack.now c.begin_changed.new.cutter
     (λ (p : Point). slot_owns_either c.args.was.now.view.0 before c.args.stack.now p) _ _ _ _ _ c.requires.pixels
     (c.begin_changed.ensures.to_come before change) c.paint_to_come.ensures.painted
+
+pub returns-clause-kept : goal.returns-clause-kept
+returns-clause-kept g c =
+    let e = c.paint_to_come.ensures.kept in
+    record {
+      count = e.count;
+      room = e.room ∙ c.begin_changed.ensures.room;
+      idle = e.idle;
+      rest_of_own = e.rest_of_own;
+      rests = e.rests;
+    }

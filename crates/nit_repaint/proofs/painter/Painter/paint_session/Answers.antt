@@ -14,9 +14,9 @@ pub paint_to_come-requires-clause-painter : goal.paint_to_come-requires-clause-p
 paint_to_come-requires-clause-painter g c =
     let v = c.views.invariant in
     record {
-      pixels = v.count ∙ c.requires.pixels;
+      pixels = v.kept.count ∙ c.requires.pixels;
       held = still_held c.args.stack.now _ _ _ _ v.painted.loads
-          (as_many g.G.Glass.rest c.views.self.glasses.items c.args.self.now.glasses.items v.rests)
+          (as_many g.G.Glass.rest c.views.self.glasses.items c.args.self.now.glasses.items v.kept.rests)
           v.painted.sights c.requires.held;
     }
 
@@ -30,10 +30,10 @@ views-preserved g c =
     (one_wanted (source_of_number s) s _ c.args.of c.args.part.now c.views.i x.0 _ _ _ _ _ _
     c.len-views.ensures.standing.slots (seat_here s.views c.views.i x.0 c.len-views.ensures.standing.slots x.1)
     x.1 v.painted
-    (other_count _ _ _ _ _ _ _ _ v.count
+    (other_count _ _ _ _ _ _ _ _ v.kept.count
     (comes_as _ s c.begin_seat-is_of_session.new.cutter
     (λ (p : Point). owner_passes (is_slot x.0.slot) s p && is_wanted c.args.of c.args.part.now s p x.0) _ _ _
-    _ _ (v.count ∙ c.requires.pixels)
+    _ _ (v.kept.count ∙ c.requires.pixels)
     (c.begin_seat-is_of_session.ensures.to_come c.if-not-is_of_session.false x.0 x.1) e.painted)))
 
 pub views-preserved-then-not-is_of_session : goal.views-preserved-then-not-is_of_session
@@ -48,7 +48,9 @@ views-preserved-then-not-is_of_session g c =
     (repainted_none _ _ _ _ _ (λ k l. c.begin_seat-is_of_session.ensures.none c.if-not-is_of_session.true x.0 x.1
     (pixel s.width k))))
 
-pub returns-clause-painted : goal.returns-clause-painted
-returns-clause-painted g c =
-    all_wanted (source_of_number c.args.stack.now) c.args.stack.now _ c.args.of c.args.part.now c.views.i _ _ _ _
-    (omega (arith, c.views-test.false, c.len-views.ensures.count)) c.views.invariant.painted
+pub returns : goal.returns
+returns g c = record {
+  painted = all_wanted (source_of_number c.args.stack.now) c.args.stack.now _ c.args.of c.args.part.now c.views.i _ _ _ _
+      (omega (arith, c.views-test.false, c.len-views.ensures.count)) c.views.invariant.painted;
+  kept = c.views.invariant.kept;
+}

@@ -8,15 +8,17 @@ returns-else-session-sid g c = record {
         c.load_view-else-session-sid.new.glass c.args.session c.index_mut-glass.ensures.value c.requires.glass
         c.args.sid c.if-session-sid.false
         _ _ _ _ (g.C.Glass.sight c.args.own.now) _ _ c.requires.session c.load_view-else-session-sid.ensures.painted;
-    count = c.load_view-else-session-sid.ensures.count;
-    room = refl;
-    idle = idle_at g.G.Glass.sight c.args.self.now.glasses.items c.index_mut-glass.result.now
-        c.load_view-else-session-sid.new.glass c.args.session c.index_mut-glass.ensures.value c.requires.glass
-        c.args.sid c.if-session-sid.false;
-    rest_of_own = refl;
-    rests = left_at g.G.Glass.rest c.args.self.now.glasses.items c.index_mut-glass.result.now
-        c.load_view-else-session-sid.new.glass c.args.session c.index_mut-glass.ensures.value c.requires.glass
-        c.load_view-else-session-sid.ensures.rest;
+    kept = record {
+      count = c.load_view-else-session-sid.ensures.count;
+      room = refl;
+      idle = idle_at g.G.Glass.sight c.args.self.now.glasses.items c.index_mut-glass.result.now
+          c.load_view-else-session-sid.new.glass c.args.session c.index_mut-glass.ensures.value c.requires.glass
+          c.args.sid c.if-session-sid.false;
+      rest_of_own = refl;
+      rests = left_at g.G.Glass.rest c.args.self.now.glasses.items c.index_mut-glass.result.now
+          c.load_view-else-session-sid.new.glass c.args.session c.index_mut-glass.ensures.value c.requires.glass
+          c.load_view-else-session-sid.ensures.rest;
+    };
   };
   cutter = refl;
 }

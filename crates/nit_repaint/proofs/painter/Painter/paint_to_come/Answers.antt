@@ -15,9 +15,9 @@ pub paint_piece-requires-clause-painter : goal.paint_piece-requires-clause-paint
 paint_piece-requires-clause-painter g c =
     let i = c.pieces.invariant.marked in
     record {
-      pixels = i.count ∙ c.requires.painter.pixels;
+      pixels = i.kept.count ∙ c.requires.painter.pixels;
       held = still_held c.args.stack.now _ _ _ _ i.painted.loads
-          (as_many g.G.Glass.rest c.pieces.self.glasses.items c.args.self.now.glasses.items i.rests)
+          (as_many g.G.Glass.rest c.pieces.self.glasses.items c.args.self.now.glasses.items i.kept.rests)
           i.painted.sights c.requires.painter.held;
     }
 
@@ -43,7 +43,7 @@ pieces-preserved g c =
           (rw p'.cutter (one_came (source_of_number c.args.stack.now) c.args.stack.now _ c.args.self.now.cutter
           c.pieces.self.cutter c.next.new.self c.in-Some.piece.rect _ _ _ _ _ _
           c.requires.fits.once i.less e.count e.came i.marked.painted
-          (other_count _ _ _ _ _ _ _ _ i.marked.count p'.marked.painted)));
+          (other_count _ _ _ _ _ _ _ _ i.marked.kept.count p'.marked.painted)));
     }
 
 pub returns : goal.returns
@@ -52,9 +52,11 @@ returns g c =
     record {
       painted = all_came (source_of_number c.args.stack.now) c.args.stack.now _ c.args.self.now.cutter
           c.pieces.self.cutter _ _ _ _ c.in_default.ensures.came i.painted;
-      count = i.count;
-      room = c.in_default.ensures.room ∙ i.room;
-      idle = i.idle;
-      rest_of_own = i.rest_of_own;
-      rests = i.rests;
+      kept = record {
+        count = i.kept.count;
+        room = c.in_default.ensures.room ∙ i.kept.room;
+        idle = i.kept.idle;
+        rest_of_own = i.kept.rest_of_own;
+        rests = i.kept.rests;
+      };
     }

@@ -21,8 +21,8 @@ pub paint_piece_by-requires-clause-glasses : goal.paint_piece_by-requires-clause
 paint_piece_by-requires-clause-glasses g c =
     let i = c.pieces.invariant.marked in
     record {
-      pixels = i.count ∙ c.requires.pixels;
-      held = still_held c.args.stack.now _ _ _ _ i.painted.loads c.pieces.auto.owns i.painted.sights c.requires.held;
+      pixels = i.count ∙ c.requires.owns.pixels;
+      held = still_held c.args.stack.now _ _ _ _ i.painted.loads c.pieces.auto.owns i.painted.sights c.requires.owns.held;
     }
 
 pub paint_piece_by-requires-clause-piece : goal.paint_piece_by-requires-clause-piece
@@ -57,7 +57,12 @@ pieces-preserved g c =
 
 pub returns-clause-painted : goal.returns-clause-painted
 returns-clause-painted g c =
-    all_painted (source_of_number c.args.stack.now) c.args.stack.now c.begin_all.new.self _ _ _ _ _ c.requires.pixels
-    c.begin_all.ensures.to_come
-    (all_came (source_of_number c.args.stack.now) c.args.stack.now _ c.begin_all.new.self c.pieces.self.cutter _ _ _ _
-    c.in_default.ensures.came c.pieces.invariant.marked.painted)
+    let i = c.pieces.invariant.marked in
+    record {
+      painted = all_painted (source_of_number c.args.stack.now) c.args.stack.now c.begin_all.new.self _ _ _ _ _
+          c.requires.owns.pixels c.begin_all.ensures.to_come
+          (all_came (source_of_number c.args.stack.now) c.args.stack.now _ c.begin_all.new.self c.pieces.self.cutter
+          _ _ _ _ c.in_default.ensures.came i.painted);
+      count = i.count;
+      rests = i.rests;
+    }

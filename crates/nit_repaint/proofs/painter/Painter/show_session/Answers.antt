@@ -31,7 +31,7 @@ views-preserved g c =
           x.1 (λ k out. refl) v.shown
           (shown_as s c.begin_seat-is_of_session.new.cutter
           (λ (p : Point). owner_passes (is_slot x.0.slot) s p && is_wanted c.args.of c.args.part.now s p x.0) _ _ _
-          _ c.requires.pixels (c.begin_seat-is_of_session.ensures.to_come c.if-not-is_of_session.false x.0 x.1)
+          _ c.requires.look.pixels (c.begin_seat-is_of_session.ensures.to_come c.if-not-is_of_session.false x.0 x.1)
           (rw v.raw at (rw c.as_slice.ensures.value at e.shown)));
     }
 

@@ -11,25 +11,24 @@ paint_whole-requires-clause-room g c =
     let cut = c.self.invariant.shown.0.cuts in
     rw c.stack.ensures.stack (omega (arith, few, cut))
 
-pub paint_whole-requires-clause-pixels : goal.paint_whole-requires-clause-pixels
-paint_whole-requires-clause-pixels g c =
+pub paint_whole-requires-clause-owns : goal.paint_whole-requires-clause-owns
+paint_whole-requires-clause-owns g c =
     let screen = c.facts.ensures.screen in
-    rw c.stack.ensures.stack (c.self.invariant.shown.0.pixels ∙ (λ i. sym screen.0 i * sym screen.1 i))
-
-pub paint_whole-requires-clause-held : goal.paint_whole-requires-clause-held
-paint_whole-requires-clause-held g c =
-    let tables = rw (← c.self.view_is) at c.requires.tables in
-    rw c.stack.ensures.stack (holds c.self.inside.server (glass_in (map g.C.Glass.sight c.args.owns.now))
-    (length c.args.owns.now) c.facts.ensures (rw (← c.self.view_is) at c.requires.owns) (λ t l. (tables t l).1))
+    let owns = rw (← c.self.view_is) at c.requires.owns in
+    rw c.stack.ensures.stack (record {
+      pixels = c.self.invariant.shown.0.pixels ∙ (λ i. sym screen.0 i * sym screen.1 i);
+      held = holds c.self.inside.server (glass_in (map g.C.Glass.sight c.args.owns.now))
+          (length c.args.owns.now) c.facts.ensures owns.each (λ t l. (owns.tables t l).1);
+    })
 
 pub show_again-requires-clause-can : goal.show_again-requires-clause-can
 show_again-requires-clause-can g c =
     let s = c.self.inside.server in
     let p = c.self.inside.pixels in
     let painter = c.paint_whole.new.self in
-    let e = c.paint_whole.ensures in
+    let e = c.paint_whole.ensures.painted in
     can_still s s p painter refl refl e.count (repainted_words _ _ _ _ _ p.painter.raw.items painter.raw.items e.count
-    e.painted c.self.invariant.shown.0.words) e.room c.self.invariant.shown.0
+    e.painted c.self.invariant.shown.0.words) c.paint_whole.ensures.room c.self.invariant.shown.0
 
 -- each pixel was loaded, so a bare one has the bare word
 pub show_again-requires-clause-below : goal.show_again-requires-clause-below
@@ -38,7 +37,7 @@ show_again-requires-clause-below g c = λ flat one.
     let p = c.self.inside.pixels in
     let raw' = c.paint_whole.new.self.raw.items in
     let all = painted_whole s (length p.painter.raw.items) _ _ p.painter.raw.items raw' c.facts.ensures
-    c.self.invariant.shown.0.pixels (rw c.stack.ensures.stack at c.paint_whole.ensures.painted) in
+    c.self.invariant.shown.0.pixels (rw c.stack.ensures.stack at c.paint_whole.ensures.painted.painted) in
     flat_below (state_of s) raw' flat
     (λ k l below bare. painted_bare _ _ _ _ _ p.painter.raw.items raw' k all l refl bare)
 
@@ -51,4 +50,4 @@ returns-clause-painted g c =
     (entry_painted_in p.is_apart p.bar (state_of s) entry.Final (state_of s) _ _ p.painter.raw.items raw'
     c.self.invariant.shown.0.bar
     (painted_whole s (length p.painter.raw.items) _ _ p.painter.raw.items raw' c.facts.ensures
-    c.self.invariant.shown.0.pixels (rw c.stack.ensures.stack at c.paint_whole.ensures.painted))))
+    c.self.invariant.shown.0.pixels (rw c.stack.ensures.stack at c.paint_whole.ensures.painted.painted))))

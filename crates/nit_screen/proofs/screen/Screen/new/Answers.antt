@@ -55,8 +55,8 @@ invariant_of-result g c =
     let back = sym same in
     rw c.show_again.ensures.glasses (rw c.in_ok-pixels.ensures.glasses (record {
       shown = c.show_again.ensures.pixels;
-      glasses = length-map c.args.glasses.items g.G.Glass.sight ∙ c.requires.glasses
+      glasses = length-map c.args.glasses.items g.G.Glass.sight ∙ c.requires.glasses.each
           ∙ ap (λ (k : Configuration). length k.clients) back;
       tables = λ t l. subst (λ (k : Configuration). IsGlass k t (glass_in (map g.G.Glass.sight c.args.glasses.items) t))
-          back (c.requires.tables t (subst (λ (k : Configuration). t < length k.clients) same l));
+          back (c.requires.glasses.tables t (subst (λ (k : Configuration). t < length k.clients) same l));
     }))

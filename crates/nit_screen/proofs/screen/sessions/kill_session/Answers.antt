@@ -13,8 +13,8 @@ take_views_away-requires-clause-can g c =
     omega (arith, c.len-nobody.ensures, c.args.pixels.now.painter.glasses.ok.0) in
     can_paint_by s s c.args.pixels.now _ c.facts.ensures refl refl c.requires.can
     (held_by_all g.G.Glass.sight s.stack gs c.len-nobody.result many
-    (holds s (glass_in (map g.G.Glass.sight gs)) (length gs) c.facts.ensures c.requires.glasses
-    (λ t l. (c.requires.tables t l).1)))
+    (holds s (glass_in (map g.G.Glass.sight gs)) (length gs) c.facts.ensures c.requires.glasses.each
+    (λ t l. (c.requires.glasses.tables t l).1)))
 
 pub redraw-requires : goal.redraw-requires
 redraw-requires g c =

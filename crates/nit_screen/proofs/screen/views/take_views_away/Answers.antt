@@ -77,15 +77,15 @@ views-preserved g c =
       session = still_there mid next c.args.of view.handle c.remove_view.ensures i.session;
       painted = repaint_more _ _ _ _ c.args.of (c.views.i - 1) c.args.sid c.args.server.now.stack mid.stack next.stack
           _ _ _ _ _ _ first gone i.painted (record {
-            room = e.room;
+            room = e.kept.room;
             painted = goes_painted c.args.of (c.views.i - 1) k mid.stack next.stack _ by.slots at refl
                 c.if-view-of.false first.behind now _ _ _ _ _
                 (gone_painted mid.stack next.stack k _ _ _ _ _ now
                 ((rw c.stack.ensures.stack at e.painted) mid.stack change));
-            count = e.count;
-            idle = e.idle;
-            own_stays = e.rest;
-            rests = e.rests;
+            count = e.kept.count;
+            idle = e.kept.idle;
+            own_stays = e.kept.rest_of_own;
+            rests = e.kept.rests;
           });
     }
 

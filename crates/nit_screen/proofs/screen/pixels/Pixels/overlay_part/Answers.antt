@@ -33,8 +33,8 @@ returns g c =
     }) e.shown in
     record {
       can = rw back (search rules);
-      raw = e.kept.0;
-      glasses = e.kept.1;
+      raw = e.kept.raw;
+      glasses = e.kept.glasses;
       kept = (refl, refl);
-      shown = rw (back, e.kept.0, ← c.as_mut_slice.ensures.value) shown;
+      shown = rw (back, e.kept.raw, ← c.as_mut_slice.ensures.value) shown;
     }
