@@ -29,6 +29,8 @@ pub use Rattle.nit_hall.specs.ClipPass.{AreDoneClips, AreTogether, ClipBelongs, 
 pub use Rattle.nit_hall.specs.ClipPass.{IsAtClip, IsAtClipPhase, IsAtPhaseEnd, IsClipPass}
 pub use Rattle.nit_hall.specs.ClipPass.{IsDoneClip, clip_phases_before, clip_script_in}
 pub use Rattle.nit_hall.specs.ClipPass.{knowing_clip, next_clip}
+pub use Rattle.nit_hall.specs.HallCalls.{BelongsAt, CanClip, DoneDevice, DoneShot, EndedPhase}
+pub use Rattle.nit_hall.specs.HallCalls.{ServedCall, ServedClip, UserBelongsAt, UserEndedPhase}
 pub use Rattle.nit_hall.specs.Meeting.{ClipHasMet, HasMet, UserHasMet}
 pub use Rattle.nit_hall.specs.NearWords.{AreNear, IsLastDirtied, IsNear, IsNearBy, IsNearFrame}
 pub use Rattle.nit_hall.specs.NearWords.{IsWordOfScripts, is_dirtied, words_at_call}
@@ -43,6 +45,8 @@ pub use Rattle.nit_hall.specs.Pass.{sight_after_line}
 pub use Rattle.nit_hall.specs.Room.{AllServed, Follows, HaveInks, IsRoom, IsServedPhase, RoomModel}
 pub use Rattle.nit_hall.specs.Room.{after_arrival, arrived_one, clip_entry, lenses, phases_ended}
 pub use Rattle.nit_hall.specs.Room.{stands, with_clip, with_entry, with_final, without_final}
+pub use Rattle.nit_hall.specs.RoomCalls.{HasActed, HasArrived, HasServed, HaveMet, IsReadyAt}
+pub use Rattle.nit_hall.specs.RoomCalls.{UserHasArrived, UserIsReadyAt}
 pub use Rattle.nit_hall.specs.RoomClips.{FollowsClips, lines_of_clips}
 pub use Rattle.nit_hall.specs.RoomEnd.{IsKnownPass, left_word, words_left_in}
 pub use Rattle.nit_hall.specs.RoomLaws.{CallLaws, EntryLaws}

@@ -1,18 +1,12 @@
 //! The room behind a lock.
 
-ghost use Rattle.std.specs.Prelude.{◌≡◌, ◌==◌, ◌+◌, ◌*◌, ◌≤◌, All, length};
-ghost use mathlib.Core.List.{IsPrefix};
-ghost use Rattle.nit_hall.specs.Below.{IsClipAnswer, IsLegal, IsOpen, IsWord, most_height};
-ghost use Rattle.nit_hall.specs.Below.{most_width, replay};
-ghost use Rattle.nit_hall.specs.ClipPass.{AreTogether, ClipBelongs, IsAtClip, IsAtPhaseEnd};
-ghost use Rattle.nit_hall.specs.ClipPass.{next_clip};
-ghost use Rattle.nit_hall.specs.Pass.{Belongs, UserBelongs, IsAtCall, IsAtPhase, IsAtUserPhase};
-ghost use Rattle.nit_hall.specs.Pass.{HasLoaded, IsAtDevice, IsAtShot, call_entry, device_entry};
-ghost use Rattle.nit_hall.specs.Pass.{sight_after_line};
-ghost use Rattle.nit_hall.specs.Hall.{IsMeasured, Tells, TellsShot};
-ghost use Rattle.nit_hall.specs.Kept.{CanShootTo, DoneDevice, DoneShot, EndedPhase, IsReadyPass};
-ghost use Rattle.nit_hall.specs.Kept.{IsReadyAt, IsReadyClip, ServedCall, ServedClip};
-ghost use Rattle.nit_hall.specs.Kept.{UserEndedPhase, UserIsReadyAt};
+ghost use Rattle.std.specs.Prelude.{◌≡◌, ◌*◌, ◌≤◌, length};
+ghost use Rattle.nit_hall.specs.Below.{IsOpen, most_height, most_width};
+ghost use Rattle.nit_hall.specs.Pass.{Belongs, IsAtCall, IsAtDevice, IsAtPhase, IsAtShot};
+ghost use Rattle.nit_hall.specs.Pass.{IsAtUserPhase};
+ghost use Rattle.nit_hall.specs.Hall.{IsMeasured};
+ghost use Rattle.nit_hall.specs.HallCalls.{BelongsAt, CanClip, DoneDevice, DoneShot, EndedPhase};
+ghost use Rattle.nit_hall.specs.HallCalls.{ServedCall, ServedClip, UserBelongsAt, UserEndedPhase};
 
 use crate::clip_pass::ClipPass;
 use crate::pass::Pass;
@@ -62,71 +56,6 @@ impl<'a, N: Name> Model for Kept<'a, N> {
     ghost view = { λ k. k.room };
 
     ghost invariant = { λ k. (k.room.parts ≡ N.parts) × IsOpen k.room.scene.entries };
-}
-
-impl<'a, N: Name> Kept<'a, N> {
-    fn ready(&self, pass: &Pass<'a>) -> bool
-        ensures { result ≡ (pass.now.phase == self.now.phase) }
-    {
-        self.room.ready(pass)
-    }
-
-    fn ready_user(&self, user: &UserPass<'a>) -> bool
-        ensures { result ≡ (user.now.phase == self.now.phase) }
-    {
-        self.room.ready_user(user)
-    }
-
-    fn admit(&self, pass: &mut Pass<'a>)
-        requires { IsReadyPass N.parts self.now.phase pass.old }
-        ensures { pass.new ≡ record pass.old { met = pass.old.phase } }
-    {
-        self.room.admit(pass);
-    }
-
-    fn serve(&mut self, pass: &mut Pass<'a>) -> Reply
-        requires { IsReadyAt N.parts self.old.phase IsAtCall pass.old }
-        ensures { ServedCall N.parts pass.old result pass.new }
-    {
-        self.room.serve(pass)
-    }
-
-    fn arrive(&mut self, pass: &mut Pass<'a>)
-        requires { IsReadyAt N.parts self.old.phase IsAtPhase pass.old }
-        ensures { EndedPhase N.parts pass.old pass.new }
-    {
-        self.room.arrive(pass);
-    }
-
-    fn clip(&mut self, pass: &mut Pass<'a>, clip: &mut ClipPass<'a>) -> ClipReply
-        requires pass { IsReadyAt N.parts self.old.phase IsAtPhaseEnd pass.old }
-        requires clip { IsReadyClip N.parts pass.old clip.old }
-        ensures { ServedClip N.parts pass.old clip.old result pass.new clip.new }
-    {
-        let _kept = self.room.scene();
-        self.room.clip(pass, clip)
-    }
-
-    fn user(&mut self, user: &mut UserPass<'a>) -> Routed
-        requires { UserIsReadyAt N.parts self.old.phase IsAtDevice user.old }
-        ensures { DoneDevice N.parts user.old result user.new }
-    {
-        self.room.user(user)
-    }
-
-    fn arrive_user(&mut self, user: &mut UserPass<'a>)
-        requires { UserIsReadyAt N.parts self.old.phase IsAtUserPhase user.old }
-        ensures { UserEndedPhase N.parts user.old user.new }
-    {
-        self.room.arrive_user(user);
-    }
-
-    fn shoot(&mut self, user: &mut UserPass<'a>, out: &mut [u32]) -> u32
-        requires { CanShootTo N.parts self.old.phase user.old out.old }
-        ensures { DoneShot N.parts user.old result user.new out.new }
-    {
-        self.room.shoot(user, out)
-    }
 }
 
 /// A room that threads share. It stands behind a lock, and each call of it but
@@ -183,41 +112,25 @@ impl<'a, N: Name> Hall<'a, N> {
     /// legal: so the reply is the one that the entries before it lead to. The pass is of this
     /// opening.
     pub fn serve_next<R: Wait>(&self, rt: &R, pass: &mut Pass<'a>) -> Reply
-        requires belongs { Belongs N.parts pass.old }
-        requires next { IsAtCall pass.old }
-        ensures told { Tells pass.old.seen (call_entry pass.old result) pass.new.seen }
-        ensures legal { IsLegal N.parts.config pass.new.seen }
-        ensures pass { pass.new ≡ record pass.old {
-          next = pass.old.next + 1;
-          met = pass.old.phase;
-          seen = pass.new.seen;
-          sight = pass.new.sight;
-        } }
-        ensures sight { HasLoaded (sight_after_line pass.old) pass.new.sight }
+        requires { BelongsAt N.parts IsAtCall pass.old }
+        ensures { ServedCall N.parts pass.old result pass.new }
     {
         let mut kept = self
             .moved
-            .wait_while(rt, self.room.lock(rt), |kept| !kept.ready(pass));
-        kept.serve(pass)
+            .wait_while(rt, self.room.lock(rt), |kept| !kept.room.ready(pass));
+        kept.room.serve(pass)
     }
 
     /// Waits until the pass is ready, and ends its phase ([`Room::arrive`]). Its next line ends a
     /// phase, and it is of this opening.
     pub fn arrive<R: Wait>(&self, rt: &R, pass: &mut Pass<'a>)
-        requires belongs { Belongs N.parts pass.old }
-        requires next { IsAtPhase pass.old }
-        ensures grows { IsPrefix pass.old.seen pass.new.seen }
-        ensures legal { IsLegal N.parts.config pass.new.seen }
-        ensures pass { pass.new ≡ record pass.old {
-          next = pass.old.next + 1;
-          phase = pass.old.phase + 1;
-          seen = pass.new.seen;
-        } }
+        requires { BelongsAt N.parts IsAtPhase pass.old }
+        ensures { EndedPhase N.parts pass.old pass.new }
     {
         let mut kept = self
             .moved
-            .wait_while(rt, self.room.lock(rt), |kept| !kept.ready(pass));
-        kept.arrive(pass);
+            .wait_while(rt, self.room.lock(rt), |kept| !kept.room.ready(pass));
+        kept.room.arrive(pass);
         self.moved.notify_all();
     }
 
@@ -232,60 +145,40 @@ impl<'a, N: Name> Hall<'a, N> {
         pass: &mut Pass<'a>,
         clip: &mut ClipPass<'a>,
     ) -> ClipReply
-        requires belongs { Belongs N.parts pass.old }
-        requires clip_belongs { ClipBelongs N.parts clip.old }
-        requires together { AreTogether pass.old clip.old }
-        requires phase_end { IsAtPhaseEnd pass.old }
-        requires next { IsAtClip clip.old }
-        ensures answer { IsClipAnswer (replay N.parts.config pass.new.seen).input.focus clip.old.sid
-            (next_clip clip.old) result }
-        ensures grows { IsPrefix pass.old.seen pass.new.seen }
-        ensures legal { IsLegal N.parts.config pass.new.seen }
-        ensures pass { pass.new
-            ≡ record pass.old { met = pass.old.phase; seen = pass.new.seen } }
-        ensures clip { clip.new
-            ≡ record clip.old { next = clip.old.next + 1; seen = pass.new.seen } }
+        requires { CanClip N.parts pass.old clip.old }
+        ensures { ServedClip N.parts pass.old clip.old result pass.new clip.new }
     {
         let mut kept = self
             .moved
-            .wait_while(rt, self.room.lock(rt), |kept| !kept.ready(pass));
-        kept.clip(pass, clip)
+            .wait_while(rt, self.room.lock(rt), |kept| !kept.room.ready(pass));
+        let room = &mut kept.room;
+        let _legal = room.scene();
+        room.clip(pass, clip)
     }
 
     /// Waits until the user is ready, and does its next line, which is of a device
     /// ([`Room::user`]). The last entry that the user's pass then knows is this event with what it
     /// delivered. The pass is of this opening.
     pub fn user_next<R: Wait>(&self, rt: &R, user: &mut UserPass<'a>) -> Routed
-        requires belongs { UserBelongs N.parts user.old }
-        requires next { IsAtDevice user.old }
-        ensures told { Tells user.old.seen (device_entry user.old result) user.new.seen }
-        ensures legal { IsLegal N.parts.config user.new.seen }
-        ensures user { user.new
-            ≡ record user.old { next = user.old.next + 1; seen = user.new.seen } }
+        requires { UserBelongsAt N.parts IsAtDevice user.old }
+        ensures { DoneDevice N.parts user.old result user.new }
     {
         let mut kept = self
             .moved
-            .wait_while(rt, self.room.lock(rt), |kept| !kept.ready_user(user));
-        kept.user(user)
+            .wait_while(rt, self.room.lock(rt), |kept| !kept.room.ready_user(user));
+        kept.room.user(user)
     }
 
     /// Waits until the user is ready, and ends its phase ([`Room::arrive_user`]). Its next line
     /// ends a phase, and its pass is of this opening.
     pub fn arrive_user<R: Wait>(&self, rt: &R, user: &mut UserPass<'a>)
-        requires belongs { UserBelongs N.parts user.old }
-        requires next { IsAtUserPhase user.old }
-        ensures grows { IsPrefix user.old.seen user.new.seen }
-        ensures legal { IsLegal N.parts.config user.new.seen }
-        ensures user { user.new ≡ record user.old {
-          next = user.old.next + 1;
-          phase = user.old.phase + 1;
-          seen = user.new.seen;
-        } }
+        requires { UserBelongsAt N.parts IsAtUserPhase user.old }
+        ensures { UserEndedPhase N.parts user.old user.new }
     {
         let mut kept = self
             .moved
-            .wait_while(rt, self.room.lock(rt), |kept| !kept.ready_user(user));
-        kept.arrive_user(user);
+            .wait_while(rt, self.room.lock(rt), |kept| !kept.room.ready_user(user));
+        kept.room.arrive_user(user);
         self.moved.notify_all();
     }
 
@@ -293,19 +186,14 @@ impl<'a, N: Name> Hall<'a, N> {
     /// sets `out`, which has a word for each pixel, to a frame of the journal in front of the shot.
     /// Gives the number of the shot, from 1. The user's pass is of this opening.
     pub fn shoot<R: Wait>(&self, rt: &R, user: &mut UserPass<'a>, out: &mut [u32]) -> u32
-        requires belongs { UserBelongs N.parts user.old }
-        requires next { IsAtShot user.old }
+        requires user { UserBelongsAt N.parts IsAtShot user.old }
         requires out { length out.old ≡ N.parts.config.width * N.parts.config.height }
-        ensures told { TellsShot N.parts user.old.seen result user.new.seen out.new }
-        ensures legal { IsLegal N.parts.config user.new.seen }
-        ensures words { All IsWord out.new }
-        ensures user { user.new
-            ≡ record user.old { next = user.old.next + 1; seen = user.new.seen } }
+        ensures { DoneShot N.parts user.old result user.new out.new }
     {
         let mut kept = self
             .moved
-            .wait_while(rt, self.room.lock(rt), |kept| !kept.ready_user(user));
-        kept.shoot(user, out)
+            .wait_while(rt, self.room.lock(rt), |kept| !kept.room.ready_user(user));
+        kept.room.shoot(user, out)
     }
 
     /// Waits until the pass is ready, and lets it find its phase served ([`Room::admit`]). It may
@@ -315,8 +203,10 @@ impl<'a, N: Name> Hall<'a, N> {
         ensures { pass.new ≡ record pass.old { met = pass.old.phase } }
     {
         let kept = self.room.lock(rt);
-        let kept = self.moved.wait_while(rt, kept, |kept| !kept.ready(pass));
-        kept.admit(pass);
+        let kept = self
+            .moved
+            .wait_while(rt, kept, |kept| !kept.room.ready(pass));
+        kept.room.admit(pass);
     }
 
     /// The room. It is of this opening, and its journal is not ended.

@@ -1,9 +1,8 @@
 //! What the user does, and a shot.
 
-ghost use Rattle.std.specs.Prelude.{◌≡◌, ◌+◌, ◌*◌, All, false, length, slice_index};
-ghost use mathlib.Core.List.{IsPrefix};
-ghost use Rattle.nit_hall.specs.Terms.{IsAtDevice, IsAtShot, IsLegal, IsNearFrame, IsOpen, IsWord};
-ghost use Rattle.nit_hall.specs.Terms.{Painted, UserBelongs, deliveries_of, device_entry, frame};
+ghost use Rattle.std.specs.Prelude.{◌≡◌, ◌+◌, ◌*◌, All, false, length};
+ghost use Rattle.nit_hall.specs.Terms.{HasActed, IsAtDevice, IsAtShot, IsNearFrame, IsWord};
+ghost use Rattle.nit_hall.specs.Terms.{Painted, UserIsReadyAt, deliveries_of, device_entry, frame};
 ghost use Rattle.nit_hall.specs.Terms.{glass_in, kills, lenses, next_device, route, routed_as};
 ghost use Rattle.nit_hall.specs.Terms.{scenery_of, shots, stands, state_now, with_entry};
 ghost use Rattle.nit_events.specs.declared.entry.Entry.TheVariants as entry;
@@ -17,22 +16,14 @@ impl<'a> Room<'a> {
     /// Does the user's next line, which is of a device: it is the scene's input of that very line.
     /// The user's pass is of this room's opening and ready.
     pub fn user(&mut self, user: &mut UserPass<'a>) -> Routed
-        requires belongs { UserBelongs self.old.parts user.old }
-        requires ready { user.old.phase ≡ self.old.phase }
-        requires next { IsAtDevice user.old }
+        requires { UserIsReadyAt self.old.parts self.old.phase IsAtDevice user.old }
         ensures routed { let s = state_now self.old.scene in
             result ≡ routed_as (route s.config s.input s.stack (next_device user.old)).deliveries }
         ensures delivered { let s = state_now self.old.scene in deliveries_of result
             ≡ (route s.config s.input s.stack (next_device user.old)).deliveries }
         ensures room { self.new ≡ with_entry self.old (length self.old.parts.scripts)
             (device_entry user.old result) self.new.scene.raw self.new.scene.glasses }
-        ensures user { user.new
-            ≡ record user.old { next = user.old.next + 1; seen = self.new.scene.entries } }
-        ensures before { IsPrefix user.old.seen self.old.scene.entries }
-        ensures counted { slice_index self.old.counts (length self.old.parts.scripts)
-            ≡ user.old.next }
-        ensures legal { IsLegal self.old.parts.config self.new.scene.entries }
-        ensures open { IsOpen self.new.scene.entries }
+        ensures acted { HasActed self.old user.old self.new user.new }
         ensures painted { Painted (state_now self.old.scene) (device_entry user.old result)
             (state_now self.new.scene) (glass_in (lenses self.old.scene))
             (glass_in (lenses self.new.scene)) self.old.scene.raw self.new.scene.raw }
@@ -55,9 +46,7 @@ impl<'a> Room<'a> {
     /// the frame. Gives the number of the shot, from 1. The user's pass is of this room's opening
     /// and ready.
     pub fn shoot(&mut self, user: &mut UserPass<'a>, out: &mut [u32]) -> u32
-        requires belongs { UserBelongs self.old.parts user.old }
-        requires ready { user.old.phase ≡ self.old.phase }
-        requires next { IsAtShot user.old }
+        requires user { UserIsReadyAt self.old.parts self.old.phase IsAtShot user.old }
         requires out { length out.old ≡ self.old.parts.config.width * self.old.parts.config.height }
         ensures number { result ≡ shots self.old.scene.entries + 1 }
         ensures frame { out.new ≡ frame (scenery_of (state_now self.old.scene)) self.old.scene.raw }
@@ -66,13 +55,7 @@ impl<'a> Room<'a> {
         ensures words { All IsWord out.new }
         ensures room { self.new ≡ with_entry self.old (length self.old.parts.scripts)
             (entry.Shot result) self.old.scene.raw self.old.scene.glasses }
-        ensures user { user.new
-            ≡ record user.old { next = user.old.next + 1; seen = self.new.scene.entries } }
-        ensures before { IsPrefix user.old.seen self.old.scene.entries }
-        ensures counted { slice_index self.old.counts (length self.old.parts.scripts)
-            ≡ user.old.next }
-        ensures legal { IsLegal self.old.parts.config self.new.scene.entries }
-        ensures open { IsOpen self.new.scene.entries }
+        ensures acted { HasActed self.old user.old self.new user.new }
     {
         one_more();
         self.meet_user(user);

@@ -1,11 +1,10 @@
 //! A call of a client's.
 
-ghost use Rattle.std.specs.Prelude.{◌≡◌, ◌+◌, length, take, slice_index, false};
-ghost use mathlib.Core.List.{IsPrefix};
-ghost use Rattle.nit_hall.specs.Terms.{Belongs, HasLoaded, IsAtCall, IsLegal, IsOpen, Painted};
-ghost use Rattle.nit_hall.specs.Terms.{call_entry, glass_in, glasses_of_call, is_accepted, lenses};
-ghost use Rattle.nit_hall.specs.Terms.{next_call, serve, served, session, sight_after_line, stands};
-ghost use Rattle.nit_hall.specs.Terms.{state_now, with_entry};
+ghost use Rattle.std.specs.Prelude.{◌≡◌, false};
+ghost use Rattle.nit_hall.specs.Terms.{HasServed, IsAtCall, IsReadyAt, Painted, call_entry};
+ghost use Rattle.nit_hall.specs.Terms.{glass_in, glasses_of_call, is_accepted, lenses, next_call};
+ghost use Rattle.nit_hall.specs.Terms.{serve, session, sight_after_line, stands, state_now};
+ghost use Rattle.nit_hall.specs.Terms.{with_entry};
 
 use crate::pass::Pass;
 use crate::room::Room;
@@ -19,25 +18,12 @@ impl<'a> Room<'a> {
     /// client's own pixels are loaded by the pass, and all others by the readers' ends. The pass is
     /// of this room's opening and ready.
     pub fn serve(&mut self, pass: &mut Pass<'a>) -> Reply
-        requires belongs { Belongs self.old.parts pass.old }
-        requires ready { pass.old.phase ≡ self.old.phase }
-        requires next { IsAtCall pass.old }
+        requires { IsReadyAt self.old.parts self.old.phase IsAtCall pass.old }
         ensures reply { result
             ≡ (serve (session (state_now self.old.scene) pass.old.sid) (next_call pass.old)).reply }
         ensures room { self.new ≡ with_entry self.old pass.old.sid (call_entry pass.old result)
             self.new.scene.raw self.new.scene.glasses }
-        ensures pass { pass.new ≡ record pass.old {
-          next = pass.old.next + 1;
-          met = pass.old.phase;
-          seen = self.new.scene.entries;
-          sight = pass.new.sight;
-        } }
-        ensures sight { HasLoaded (sight_after_line pass.old) pass.new.sight }
-        ensures before { IsPrefix pass.old.seen self.old.scene.entries }
-        ensures counted { slice_index self.old.counts pass.old.sid
-            ≡ length (served (take pass.old.next pass.old.script)) }
-        ensures legal { IsLegal self.old.parts.config self.new.scene.entries }
-        ensures open { IsOpen self.new.scene.entries }
+        ensures served { HasServed self.old pass.old self.new pass.new }
         ensures painted { Painted (state_now self.old.scene) (call_entry pass.old result)
             (state_now self.new.scene)
             (glasses_of_call (lenses self.old.scene) pass.old.sid (sight_after_line pass.old))

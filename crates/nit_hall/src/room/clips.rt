@@ -1,13 +1,12 @@
 //! A clip call of a client's, and the clip list at the end.
 
-ghost use Rattle.std.specs.Prelude.{◌≡◌, ◌+◌, ℕ, length, map, slice_get, slice_index, Some, take};
+ghost use Rattle.std.specs.Prelude.{◌≡◌, ◌+◌, length, map, slice_index, take};
 ghost use mathlib.Core.List.{IsPrefix};
-ghost use Rattle.nit_hall.specs.Terms.{AreDoneClips, AreTogether, Belongs, CallLaws, ClipBelongs};
-ghost use Rattle.nit_hall.specs.Terms.{ClipHasMet, ClipPassModel, IsAtClip, IsAtPhaseEnd, IsLegal};
-ghost use Rattle.nit_hall.specs.Terms.{IsLegalClips, IsOpen, IsWholeClips, calls_to_make};
-ghost use Rattle.nit_hall.specs.Terms.{clip_answer, clip_calls_in, clip_entry, clipboard_of};
-ghost use Rattle.nit_hall.specs.Terms.{clips_to_make, knowing_clip, next_clip, state_now};
-ghost use Rattle.nit_hall.specs.Terms.{user_actions_to_do, with_clip, without_final};
+ghost use Rattle.nit_hall.specs.Terms.{AreDoneClips, CallLaws, CanClip, ClipBelongs, ClipHasMet};
+ghost use Rattle.nit_hall.specs.Terms.{HaveMet, IsLegal, IsLegalClips, IsOpen, IsWholeClips};
+ghost use Rattle.nit_hall.specs.Terms.{calls_to_make, clip_answer, clip_calls_in, clip_entry};
+ghost use Rattle.nit_hall.specs.Terms.{clipboard_of, clips_to_make, next_clip, state_now};
+ghost use Rattle.nit_hall.specs.Terms.{user_actions_to_do, with_clip};
 
 use crate::clip_pass::ClipPass;
 use crate::pass::Pass;
@@ -21,12 +20,8 @@ impl<'a> Room<'a> {
     /// opening and in one phase, which is served; the client's pass is done, or its next line ends
     /// the phase; and the journal is not ended.
     pub fn clip(&mut self, pass: &mut Pass<'a>, clip: &mut ClipPass<'a>) -> ClipReply
-        requires belongs { Belongs self.old.parts pass.old }
-        requires clip_belongs { ClipBelongs self.old.parts clip.old }
-        requires together { AreTogether pass.old clip.old }
+        requires clip { CanClip self.old.parts pass.old clip.old }
         requires ready { pass.old.phase ≡ self.old.phase }
-        requires phase_end { IsAtPhaseEnd pass.old }
-        requires next { IsAtClip clip.old }
         requires open { IsOpen self.old.scene.entries }
         ensures reply { result ≡ clip_answer (clipboard_of self.old.clips.entries)
             (state_now self.old.scene).input.focus clip.old.sid (next_clip clip.old) }
@@ -64,10 +59,7 @@ impl<'a> Room<'a> {
         ensures whole { IsWholeClips (map calls_to_make self.old.parts.scripts)
             (user_actions_to_do self.old.parts.input) self.old.scene.entries
             (map clips_to_make self.old.parts.clips) result.now }
-        ensures clips { clips.new
-            ≡ map (knowing_clip (without_final self.old.scene.entries)) clips.old }
-        ensures before { (k : ℕ) (q : ClipPassModel) → slice_get clips.old k ≡ Some q
-            → IsPrefix q.seen (without_final self.old.scene.entries) }
+        ensures met { HaveMet self.old clips.old clips.new }
     {
         self.meet_clips(clips);
         self.clip_list()
@@ -89,10 +81,7 @@ impl<'a> Room<'a> {
         ensures whole { IsWholeClips (map calls_to_make self.old.parts.scripts)
             (user_actions_to_do self.old.parts.input) self.old.scene.entries
             (map clips_to_make self.old.parts.clips) self.old.clips.entries }
-        ensures clips { clips.new
-            ≡ map (knowing_clip (without_final self.old.scene.entries)) clips.old }
-        ensures before { (k : ℕ) (q : ClipPassModel) → slice_get clips.old k ≡ Some q
-            → IsPrefix q.seen (without_final self.old.scene.entries) }
+        ensures met { HaveMet self.old clips.old clips.new }
     {
         calls_of_a_clip_script();
         let _kept = self.scene();

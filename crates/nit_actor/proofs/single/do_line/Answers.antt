@@ -9,13 +9,13 @@ returns-in-Call-clause-on c =
     c.requires.alone.step
     (at_line _ _ _ c.requires.next c.in-Call.is) refl
     (ap (λ (r : RoomModel). r.parts) c.serve.ensures.room) (ap (λ (r : RoomModel). r.phase) c.serve.ensures.room)
-    (ap (λ (r : RoomModel). r.arrived) c.serve.ensures.room) c.serve.ensures.pass
+    (ap (λ (r : RoomModel). r.arrived) c.serve.ensures.room) c.serve.ensures.served.pass
 
 pub returns-in-Call-clause-recorded : goal.returns-in-Call-clause-recorded
 returns-in-Call-clause-recorded c =
     call_recorded c.args.room.now.scene.entries c.serve.new.self.scene.entries c.args.pass.now c.serve.new.pass _ _ _ _
     _ (at_call _ _ _ c.requires.next c.in-Call.is) (ap (λ (r : RoomModel). r.scene.entries) c.serve.ensures.room)
-    c.serve.ensures.pass
+    c.serve.ensures.served.pass
 
 pub returns-in-Stroke-clause-on : goal.returns-in-Stroke-clause-on
 returns-in-Stroke-clause-on c =

@@ -1,9 +1,13 @@
+use Rattle.std.proofs.Common.{rules}
 use Rattle.nit_actor.proofs.Lemmas.{phase_ended, user_at_phase}
 use Rattle.nit_actor.proofs.single.end_phase.Goals as goal
 
-pub arrive_user-requires-clause-next : goal.arrive_user-requires-clause-next
-arrive_user-requires-clause-next c = user_at_phase c.args.room.now c.args.pass.now c.args.user.now c.requires.step
-    c.requires.next
+pub arrive_user-requires : goal.arrive_user-requires
+arrive_user-requires c = record {
+  belongs = search rules;
+  ready = search rules;
+  next = user_at_phase c.args.room.now c.args.pass.now c.args.user.now c.requires.step c.requires.next;
+}
 
 pub returns-clause-on : goal.returns-clause-on
 returns-clause-on c =

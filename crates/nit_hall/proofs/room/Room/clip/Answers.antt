@@ -14,16 +14,16 @@ found_at : (c : After-entries) → FoundClip c.args.self.now c.args.pass.now c.a
 found_at c =
     let r = c.requires in
     record {
-      belongs = r.belongs;
-      clip_belongs = r.clip_belongs;
-      together = r.together;
+      belongs = r.clip.belongs;
+      clip_belongs = r.clip.clip_belongs;
+      together = r.clip.together;
       ready = r.ready;
-      phase_end = r.phase_end;
-      next_is = r.next;
+      phase_end = r.clip.phase_end;
+      next_is = r.clip.next;
       open_is = r.«open»;
       counted = c.meet.ensures.counted;
       clip_counted = clip_counted c.self.inside.book.counts (c.self.view_is ∙ c.meet.ensures.room) c.clip.view_is
-          c.clip.invariant r.clip_belongs refl c.count.ensures.before.counted;
+          c.clip.invariant r.clip.clip_belongs refl c.count.ensures.before.counted;
       phase_is = c.phase-ended.ensures.ended;
       clip_phase_is = rw (← c.clip.view_is) c.clip.invariant.phase;
     }
@@ -55,7 +55,7 @@ pub returns-clause-room : goal.returns-clause-room
 returns-clause-room c =
     let er = c.self.view_is ∙ c.meet.ensures.room in
     let n = length c.self.inside.parts.scripts.now + 1 in
-    let number = number_is er c.clip.view_is c.clip.invariant c.requires.clip_belongs in
+    let number = number_is er c.clip.view_is c.clip.invariant c.requires.clip.clip_belongs in
     let call = c.next_clip-call.ensures.call ∙ ap next_clip (sym c.clip.view_is) in
     let at = ap length (c.entries.ensures ∙ ap (λ (j : JournalModel). j.entries) c.journal.ensures.entries) in
     let counts = ap (λ (b : BookModel). b.counts) c.count.ensures.book in
@@ -78,7 +78,7 @@ invariant_of-self c =
 
 pub invariant_of-clip : goal.invariant_of-clip
 invariant_of-clip c = clip_pass_call c.one_more_call.ensures _ _ c.count.new.share c.clip.invariant
-    (rw (← c.clip.view_is) at c.requires.next) (ap (λ (s : ShareModel). s.count) c.count.ensures.share)
+    (rw (← c.clip.view_is) at c.requires.clip.next) (ap (λ (s : ShareModel). s.count) c.count.ensures.share)
 
 pub returns-clause-pass : goal.returns-clause-pass
 returns-clause-pass c =

@@ -1,7 +1,7 @@
 use Rattle.std.proofs.Common.{Some, arith, length, slice_get, ℕ, ◌<◌, ◌∙◌, ◌≡◌}
-use Rattle.nit_hall.proofs.Lemmas.{ClipPassModel, IsKnownClip, clip_met, clips_whole, holds_below}
-use Rattle.nit_hall.proofs.Lemmas.{knowing_clip, long_same, slice_get_within, step_far, still_there}
-use Rattle.nit_hall.proofs.Lemmas.{without_final}
+use Rattle.nit_hall.proofs.Lemmas.{ClipPassModel, IsKnownClip, clip_met, clips_whole, common_steps}
+use Rattle.nit_hall.proofs.Lemmas.{holds_below, knowing_clip, long_same, slice_get_within, step_far}
+use Rattle.nit_hall.proofs.Lemmas.{still_there, without_final}
 use Rattle.nit_hall.proofs.room.Room.meet_clips.Goals as goal
 
 pub meet_clip-requires : goal.meet_clip-requires
@@ -27,13 +27,16 @@ clips-preserved c =
 pub returns-clause-legal : goal.returns-clause-legal
 returns-clause-legal c = c.scene-kept.ensures.kept.clips_follow.legal
 
-pub returns-clause-before : goal.returns-clause-before
-returns-clause-before c = λ k q at.
+pub returns-clause-met : goal.returns-clause-met
+returns-clause-met c =
     let long : length c.clips.clips ≡ length c.args.clips.now =
     long_same (knowing_clip (without_final c.args.self.now.scene.entries)) c.args.clips.now c.clips.clips
     c.clips.clip-index c.clips.invariant.so_far in
-    let inside : k < length c.args.clips.now = slice_get_within _ k q at in
-    (c.clips.invariant.met k q (omega (arith, long, inside)) at).front
+    record {
+      clips = grind (arith, common_steps);
+      before = λ k q at. let inside : k < length c.args.clips.now = slice_get_within _ k q at in
+          (c.clips.invariant.met k q (omega (arith, long, inside)) at).front;
+    }
 
 pub returns-clause-whole : goal.returns-clause-whole
 returns-clause-whole c =

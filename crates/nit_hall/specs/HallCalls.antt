@@ -1,45 +1,36 @@
 -- What a call over the lock needs of an actor's pass, and what it leaves of it.
-use Rattle.std.specs.Prelude.{◌≡◌, ℕ, ◌+◌, ◌*◌, All, List, length}
+use Rattle.std.specs.Prelude.{◌≡◌, ℕ, ◌+◌, All, List}
 use Rattle.nit_hall.specs.Below.{ClipReply, IsClipAnswer, IsLegal, IsWord, Reply, Routed, replay}
 use mathlib.Core.List.{IsPrefix}
 use Rattle.nit_hall.specs.OpeningParts.{OpeningParts}
-use Rattle.nit_hall.specs.Pass.{PassModel, UserPassModel, Belongs, UserBelongs, HasLoaded, IsAtShot}
+use Rattle.nit_hall.specs.Pass.{PassModel, UserPassModel, Belongs, UserBelongs, HasLoaded}
 use Rattle.nit_hall.specs.Pass.{call_entry, device_entry, sight_after_line}
-use Rattle.nit_hall.specs.ClipPass.{ClipPassModel, ClipBelongs, AreTogether, IsAtClip, next_clip}
+use Rattle.nit_hall.specs.ClipPass.{ClipPassModel, ClipBelongs, AreTogether, IsAtClip}
+use Rattle.nit_hall.specs.ClipPass.{IsAtPhaseEnd, next_clip}
 use Rattle.nit_hall.specs.Hall.{Tells, TellsShot}
 
 -- ---- what a call needs
 
--- the pass is of this opening and in the phase that is served, and it is where the call wants it
-pub record IsReadyAt (parts : OpeningParts) (phase : ℕ) (IsAt : PassModel → Type 0) (p : PassModel)
+-- the pass is of this opening, and its next line is one that the call does
+pub record BelongsAt (parts : OpeningParts) (IsAt : PassModel → Type 0) (p : PassModel)
     : Type 0 where
   pub belongs : Belongs parts p
-  pub ready : p.phase ≡ phase
   pub next : IsAt p
 
--- the pass is of this opening and in the phase that is served
-pub record IsReadyPass (parts : OpeningParts) (phase : ℕ) (p : PassModel) : Type 0 where
-  pub belongs : Belongs parts p
-  pub ready : p.phase ≡ phase
-
--- the user's pass is of this opening and in the phase that is served, and where the call wants it
-pub record UserIsReadyAt (parts : OpeningParts) (phase : ℕ) (IsAt : UserPassModel → Type 0)
+-- the user's pass is of this opening, and its next line is one that the call does
+pub record UserBelongsAt (parts : OpeningParts) (IsAt : UserPassModel → Type 0)
     (u : UserPassModel) : Type 0 where
   pub belongs : UserBelongs parts u
-  pub ready : u.phase ≡ phase
   pub next : IsAt u
 
--- the user's pass is at a shot, and there is a word for each pixel
-pub record CanShootTo (parts : OpeningParts) (phase : ℕ) (u : UserPassModel) (words : List ℕ)
-    : Type 0 where
-  pub user_ready : UserIsReadyAt parts phase IsAtShot u
-  pub out : length words ≡ parts.config.width * parts.config.height
-
--- the clip pass is of this opening and at a clip call, and beside its client's pass
-pub record IsReadyClip (parts : OpeningParts) (p : PassModel) (q : ClipPassModel) : Type 0 where
+-- The two passes are of one client of this opening and in one phase; the clip pass is at a clip
+-- call, and the client's pass has done what it does in its phase.
+pub record CanClip (parts : OpeningParts) (p : PassModel) (q : ClipPassModel) : Type 0 where
+  pub belongs : Belongs parts p
   pub clip_belongs : ClipBelongs parts q
   pub together : AreTogether p q
-  pub next_clip_is : IsAtClip q
+  pub phase_end : IsAtPhaseEnd p
+  pub next : IsAtClip q
 
 -- ---- what it leaves
 
