@@ -29,4 +29,5 @@ pub use Rattle.nit_slots.specs.Account.{IsDonation, table_size}
 pub use Rattle.nit_stack.specs.Sources.{PixelSource, pixel}
 pub use Rattle.nit_word.specs.Channels.{bare_word}
 pub use Rattle.nit_word.specs.Inks.{IsWord}
+pub use Rattle.nit_word.specs.Inks.{Colours}
 pub use Rattle.nit_word.specs.Sight.{Sight}

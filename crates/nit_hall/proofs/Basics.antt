@@ -5,6 +5,7 @@ pub use Rattle.nit_hall.specs.Terms.{Black, BookModel, BookName, Call, CallLaws,
 pub use Rattle.nit_hall.specs.Terms.{ClipCall, ClipEntry, ClipHasMet, ClipLine, ClipModel}
 pub use Rattle.nit_hall.specs.Terms.{ClipPassModel, ClipReply, Configuration, Device, Does, End}
 pub use Rattle.nit_hall.specs.Terms.{Entry, EntryLaws, FitsDevice, Follows, FollowsClips, HasMet}
+pub use Rattle.nit_hall.specs.Terms.{Colours, HasStages, Ink, IsLeftAt, ink_in, script_ink}
 pub use Rattle.nit_hall.specs.Terms.{HaveInks, InputLine, IsAtCall, IsAtClip, IsAtClipPhase}
 pub use Rattle.nit_hall.specs.Terms.{IsAtPhaseEnd, IsClipPass, IsDevice, IsDonation, IsDoneClip}
 pub use Rattle.nit_hall.specs.Terms.{IsDonePass, IsDoneUser, IsFirst, IsGlass, IsInPhase, IsInked}
@@ -23,7 +24,7 @@ pub use Rattle.nit_hall.specs.Terms.{clip_answer, clip_calls_in, clip_calls_of, 
 pub use Rattle.nit_hall.specs.Terms.{clip_phases_before, clip_script_in, clipboard_of, clips_to_do}
 pub use Rattle.nit_hall.specs.Terms.{clips_to_make, count_by, device_entry, donation_of, done}
 pub use Rattle.nit_hall.specs.Terms.{first_pass, first_state, first_user, frame, glass_in}
-pub use Rattle.nit_hall.specs.Terms.{glasses_of_call, ink, input_phases_before, into_iter_items}
+pub use Rattle.nit_hall.specs.Terms.{glasses_of_call, input_phases_before, into_iter_items}
 pub use Rattle.nit_hall.specs.Terms.{is_clip_phase, is_dirtied, is_input_phase, is_phase, is_served}
 pub use Rattle.nit_hall.specs.Terms.{knowing, knowing_clip, left_after, left_word, length}
 pub use Rattle.nit_hall.specs.Terms.{lines_of_all, lines_of_clips, lines_to_call, map, nat_le}
@@ -43,8 +44,8 @@ pub use Rattle.nit_journal.proofs.ForCallers.{calls_same, actions_of-append, act
 pub use Rattle.nit_journal.proofs.ForCallers.{phases_call}
 pub use Rattle.nit_journal.proofs.ForCallers.{phases_action, phases_final, same_config}
 pub use Rattle.nit_overlay.proofs.ForCallers.{same_frame}
-pub use Rattle.nit_plan.proofs.ForCallers.{calls_done}
-pub use Rattle.nit_word.proofs.ForCallers.{zero_at}
+pub use Rattle.nit_plan.proofs.ForCallers.{calls_done, has_stages, left_by_some}
+pub use Rattle.nit_word.proofs.ForCallers.{no_ink, zero_at}
 pub use Rattle.std.proofs.Common.{Bool, IfSome, None, [], ap, append_assoc, ap₂, arith, cond, drop}
 pub use Rattle.std.proofs.Common.{false, filter, get_or, get_or-set_other, get_or-set_same, inl}
 pub use Rattle.std.proofs.Common.{inr, length-append, length-set, refl, rules, set, subst, suc, sym}

@@ -1,6 +1,6 @@
 -- What answers use: all that lemmas use, and this crate's lemmas.
 pub use Rattle.nit_hall.proofs.Basics.{AllServed, AreBlank, AreDone, AreSplitOff, BookModel}
-pub use Rattle.nit_hall.proofs.Basics.{ClipPassModel, Configuration, Device, End, Entry, HaveInks}
+pub use Rattle.nit_hall.proofs.Basics.{ClipPassModel, Configuration, Device, End, Entry, script_ink}
 pub use Rattle.nit_hall.proofs.Basics.{InputLine, IsDoneUser, IsFirst, IsGlass, IsKnownPass}
 pub use Rattle.nit_hall.proofs.Basics.{IsLegalClips, IsOpen, IsRoom, IsWhole, JournalModel, Line}
 pub use Rattle.nit_hall.proofs.Basics.{List, OpeningParts, PassModel, RoomModel, SceneModel}

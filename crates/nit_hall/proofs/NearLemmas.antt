@@ -3,10 +3,12 @@ use Rattle.nit_hall.proofs.Basics.{AreNear, Bare, Black, Call, Configuration, En
 use Rattle.nit_hall.proofs.Basics.{IfSome, IsInked, IsLegal, IsNear, IsNearBy, IsWordOfScripts}
 use Rattle.nit_hall.proofs.Basics.{IsWordOfSource, Line, List, None, Option, Painted, PixelSource}
 use Rattle.nit_hall.proofs.Basics.{Reply, Sight, Some, State, Word, [], after, ap, cases_Bool}
-use Rattle.nit_hall.proofs.Basics.{false, first_state, ink, inl, inr, is_dirtied, pixel}
+use Rattle.nit_hall.proofs.Basics.{Colours, Ink, IsLeftAt, arith, cases_lt, donation_of, false}
+use Rattle.nit_hall.proofs.Basics.{first_state, ink_in, inl, inr, is_dirtied, left_by_some, length}
+use Rattle.nit_hall.proofs.Basics.{nat_tests, no_ink, pixel, refl, script_ink, table_size, zero_at}
 use Rattle.nit_hall.proofs.Basics.{pixel_count, replay, same_config, script_in, shots, slice_index}
 use Rattle.nit_hall.proofs.Basics.{slice_index_or, source_at, source_of, subst, sym, words_at_call}
-use Rattle.std.proofs.Common.{true, ℕ, ◌*◌, ◌++◌, ◌+◌, ◌<◌, ◌∙◌, ◌∷◌, ◌≡◌}
+use Rattle.std.proofs.Common.{nat_lt, true, ℕ, ◌*◌, ◌++◌, ◌+◌, ◌<◌, ◌∙◌, ◌∷◌, ◌≡◌, ◌≤◌}
 use Rattle.nit_events.specs.declared.entry.Entry.TheVariants as entry
 use Rattle.nit_hall.proofs.LastDirty.{last_is_last, last_before}
 
@@ -20,7 +22,7 @@ near_still config scripts journal e k Bare w clean near = near
 near_still config scripts journal e k Black w clean near = near
 near_still config scripts journal e k (Word t i) w clean near =
     record {
-      inked = near.inked;
+      left = near.left;
       exact = λ front call r rest last. let before =
           last_before config journal e k front (entry.Call t call r) rest clean last in near.exact front call r before.0
           before.1;
@@ -59,9 +61,34 @@ near_more laws config scripts journal e raw raw' legal loaded others near k on_s
 
 -- ---- what glasses give
 
--- each glass has the ink of its session's script
-abbrev pub AreInks : List (List Line) → (ℕ → Sight) → Type 0
-AreInks scripts glasses = (t : ℕ) → (glasses t).ink ≡ ink (script_in scripts t)
+-- each glass has the ink of its session
+abbrev pub AreInks : Configuration → List (List Line) → (ℕ → Sight) → Type 0
+AreInks config scripts glasses = (t : ℕ) → (glasses t).ink ≡ ink_in config scripts t
+
+pub ink_inside : (config : Configuration) (scripts : List (List Line)) (t : ℕ) (script : List Line) (donation : ℕ)
+    → t < length scripts → script_in scripts t ≡ script → donation ≡ donation_of config t
+    → script_ink script donation ≡ ink_in config scripts t
+ink_inside config scripts t script donation inside there paid =
+    let is : nat_lt t (length scripts) ≡ true = grind (arith, nat_tests) in
+    rw (is, there, ← paid) refl
+
+pub ink_behind : (config : Configuration) (scripts : List (List Line)) (t : ℕ) → length scripts ≤ t
+    → Colours [] ≡ ink_in config scripts t
+ink_behind config scripts t past =
+    let is : nat_lt t (length scripts) ≡ false = grind (arith, nat_tests) in rw is refl
+
+-- what the ink of a session has at a place is what its script has left there
+left_there : (config : Configuration) (scripts : List (List Line)) (t i w : ℕ) → IsInked (ink_in config scripts t) i w
+    → IsLeftAt config scripts t i w
+left_there config scripts t i w inked = elim (cases_lt t (length scripts)) [
+  | inl inside ↦ left_by_some (script_in scripts t) (donation_of config t) i w
+      (subst (λ (x : Ink). IsInked x i w) (sym (ink_inside config scripts t _ _ inside refl refl)) inked)
+  | inr past ↦ (
+    0,
+    no_ink i w (subst (λ (x : Ink). IsInked x i w) (sym (ink_behind config scripts t past)) inked)
+        ∙ sym (zero_at (table_size (donation_of config t)) i),
+  )
+]
 
 -- where the entry is a call, the caller's glass tells the words of its script
 abbrev pub TellsWords : Configuration → List (List Line) → List Entry → Entry → (ℕ → Sight) → Type 0
@@ -76,13 +103,13 @@ told_word (Some ws) words i w is told = let same : ws ≡ words = cc in told ∙
 -- what the glasses give a pixel that the next entry makes dirty is a word that it may hold then
 held_near : (config : Configuration) (scripts : List (List Line)) (journal : List Entry) (e : Entry) (glasses : ℕ
     → Sight) (k : ℕ) (source : PixelSource) (w : ℕ) → is_dirtied config journal e k ≡ true
-    → AreInks scripts glasses → TellsWords config scripts journal e glasses → IsWordOfSource glasses source w
+    → AreInks config scripts glasses → TellsWords config scripts journal e glasses → IsWordOfSource glasses source w
     → IsNearBy config scripts (journal ++ e ∷ []) k source w
 held_near config scripts journal e glasses k Bare w is inks tells held = held
 held_near config scripts journal e glasses k Black w is inks tells held = held
 held_near config scripts journal e glasses k (Word t i) w is inks tells held =
     record {
-      inked = subst (λ (x : List ℕ). IsInked x w) (inks t) held.inked;
+      left = left_there config scripts t i w (subst (λ (x : Ink). IsInked x i w) (inks t) held.inked);
       exact = λ front call r rest last.
           let at = last_is_last config journal e k front (entry.Call t call r) rest is last in
           told_word (glasses t).words (words_at_call config scripts t front) i w (tells t call r at.1
@@ -92,7 +119,7 @@ held_near config scripts journal e glasses k (Word t i) w is inks tells held =
 -- an entry that loads its dirty pixels by such glasses
 pub near_painted : EntryLaws → (config : Configuration) (scripts : List (List Line)) (journal : List Entry) (e : Entry)
     (s' : State) (glasses glasses' : ℕ → Sight) (raw raw' : List ℕ)
-    → IsLegal config (journal ++ e ∷ []) → s' ≡ after (replay config journal) e → AreInks scripts glasses
+    → IsLegal config (journal ++ e ∷ []) → s' ≡ after (replay config journal) e → AreInks config scripts glasses
     → TellsWords config scripts journal e glasses
     → Painted (replay config journal) e s' glasses glasses' raw raw' → AreNear config scripts journal raw
     → AreNear config scripts (journal ++ e ∷ []) raw'
@@ -104,10 +131,10 @@ near_painted laws config scripts journal e s' glasses glasses' raw raw' legal no
     inks tells (p.marked k inside is).0)
     (λ k clean. p.others k (λ _. clean)) near
 
--- ---- what the scripts' colours say of it
+-- ---- what the scripts alone say of it
 
 pub near_word : (config : Configuration) (scripts : List (List Line)) (journal : List Entry) (k : ℕ)
-    (source : PixelSource) (w : ℕ) → IsNearBy config scripts journal k source w → IsWordOfScripts scripts source w
+    (source : PixelSource) (w : ℕ) → IsNearBy config scripts journal k source w → IsWordOfScripts config scripts source w
 near_word config scripts journal k Bare w near = near
 near_word config scripts journal k Black w near = near
-near_word config scripts journal k (Word t i) w near = near.inked
+near_word config scripts journal k (Word t i) w near = near.left

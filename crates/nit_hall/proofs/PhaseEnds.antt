@@ -66,6 +66,7 @@ pass_phase next {p = p} name known known' is at e knows =
             subst (λ (o : Option (List ℕ)). IfSome o (λ words. words ≡ words_after p.script p.donation (p.next + 1)))
             (sym told) refl;
       };
+      inked = is.inked;
       told = told;
     })
 
@@ -81,6 +82,7 @@ pass_admitted p share met is =
       known = is.known;
       owner = is.owner;
       painted = is.painted;
+      inked = is.inked;
       told = is.told;
     }
 
@@ -98,6 +100,7 @@ pass_stroke p share s sight stand is at painted set =
       known = is.known ∙ sym (no_more_calls p.script p.next (line.Stroke s) at refl);
       owner = ap (λ (g : Sight). g.owner) set ∙ is.owner;
       painted = painted;
+      inked = ap (λ (g : Sight). g.ink) set ∙ is.inked;
       told = ap (λ (g : Sight). g.words) set ∙ ap (option_map (λ words. words_after p.script p.donation (p.next + 1)))
           is.told;
     }

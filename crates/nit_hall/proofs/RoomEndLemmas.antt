@@ -2,13 +2,13 @@
 use Rattle.nit_scene.specs.Screen.{AreGlasses}
 use Rattle.nit_hall.proofs.Basics.{AllServed, AreDone, Bare, Black, Bool, Configuration, End, Entry}
 use Rattle.nit_hall.proofs.Basics.{EntryLaws, Follows, HasMet, HaveInks, IsDonePass, IsGlass}
-use Rattle.nit_hall.proofs.Basics.{IsInked, IsKnownPass, IsLoaded, IsOpen, IsRoom, IsTrue}
+use Rattle.nit_hall.proofs.Basics.{no_ink, IsKnownPass, IsLoaded, IsOpen, IsRoom, IsTrue}
 use Rattle.nit_hall.proofs.Basics.{IsWordOfSource, Line, List, Painted, Painting, PassModel}
 use Rattle.nit_hall.proofs.Basics.{PassRest, PixelSource, RoomModel, SceneModel, Sight, Some, State}
 use Rattle.nit_hall.proofs.Basics.{Word, [], ap, append-nil, ap₂, arith, blank, cases_eq, cases_lt}
 use Rattle.nit_hall.proofs.Basics.{donation_of, drop, eqb-true, false, frame, get_or}
 use Rattle.nit_hall.proofs.Basics.{get_or-map-range_with_len, get_or_from_slice_get, get_or_past}
-use Rattle.nit_hall.proofs.Basics.{glass_in, ink, inl, inr, knowing, left_word, length, length-map}
+use Rattle.nit_hall.proofs.Basics.{glass_in, inl, inr, knowing, left_word, length, length-map}
 use Rattle.nit_hall.proofs.Basics.{map, map_over_more, no_sight, option_map, painted_from}
 use Rattle.nit_hall.proofs.Basics.{pixel_count, range_with_len, refl, rest_of, same_Some}
 use Rattle.nit_hall.proofs.Basics.{same_frame, scenery_of, script_in, served, set, slice_get}
@@ -19,8 +19,8 @@ use Rattle.std.proofs.Common.{suc, sym, take, true, zero, zero-add, ℕ, ◌++�
 use Rattle.std.proofs.Common.{◌∙◌, ◌∷◌, ◌≡◌, ◌≤◌}
 use Rattle.nit_events.specs.declared.entry.Entry.TheVariants as entry
 use Rattle.nit_hall.proofs.FinalEntries.{without-append}
-use Rattle.nit_hall.proofs.NearLemmas.{AreInks, told_word}
-use Rattle.nit_hall.proofs.RoomSteps.{room_then, room_grown, near_then}
+use Rattle.nit_hall.proofs.NearLemmas.{AreInks, ink_behind, ink_inside, told_word}
+use Rattle.nit_hall.proofs.RoomSteps.{inks_before, room_then, room_grown, near_then}
 use Rattle.nit_scene.specs.Scene.{IsAdded}
 
 -- ---- a list that is changed in place
@@ -56,7 +56,7 @@ met_now {r = r} k is met =
         met.painted.size
             ∙ ap table_size (is.belongs.donation ∙ ap (donation_of r.parts.config) is.number),
       );
-      inked = met.painted.ink;
+      inked = met.inked;
       told = met.told;
     }
 
@@ -136,17 +136,6 @@ tells_left all {r = r} are t h =
     ∙ ap (λ (ws : List ℕ). Some ws)
     (whole ∙ ap₂ (λ (ls : List Line) (d : ℕ). words_left ls d) (sym there.script) donation)
 
--- nothing but 0 is in no ink
-no_ink : (w : ℕ) → IsInked [] w → w ≡ 0
-no_ink w inked = eqb-true w 0 (left w inked)
-  where
-    first : (b : Bool) → IsTrue (b || false) → b ≡ true
-    first true h = refl
-    first false h = h
-
-    left : (n : ℕ) → IsInked [] n → (n == 0) ≡ true
-    left n h = first (n == 0) h
-
 held_left : (config : Configuration) (scripts : List (List Line)) (glasses : List Sight) (source : PixelSource) (w : ℕ)
     → length glasses ≡ length scripts
     → ((t : ℕ) → t < length scripts
@@ -159,7 +148,7 @@ held_left config scripts glasses (Word t i) w each tell held = elim (cases_lt t 
   | inr past ↦
       let none : glass_in glasses t ≡ no_sight = get_or_past glasses t no_sight (omega (arith, each, past)) in
       let script : script_in scripts t ≡ [] = get_or_past scripts t [] past in
-      no_ink w (subst (λ (g : Sight). IsLoaded g i w) none held).inked
+      no_ink i w (subst (λ (g : Sight). IsLoaded g i w) none held).inked
       ∙ sym (ap (λ (ls : List Line). slice_index (words_left ls (donation_of config t)) i) script
       ∙ zero_at (table_size (donation_of config t)) i)
 ]
@@ -206,15 +195,17 @@ sights_knowing known [] = refl
 sights_knowing known (p ∷ ps) = ap (λ (gs : List Sight). p.sight ∷ gs) (sights_knowing known ps)
 
 inks_of : {r : RoomModel} {ps : List PassModel} → AreKnown r ps
-    → AreInks r.parts.scripts (glass_in (map (λ (q : PassModel). q.sight) ps))
+    → AreInks r.parts.config r.parts.scripts (glass_in (map (λ (q : PassModel). q.sight) ps))
 inks_of {r = r} {ps = ps} are t = elim (cases_lt t (length r.parts.scripts)) [
   | inl inside ↦ let there = pass_there t are inside in
-      ap (λ (g : Sight). g.ink) there.sight ∙ there.known.inked ∙ ap ink (sym there.script)
+      ap (λ (g : Sight). g.ink) there.sight ∙ there.known.inked
+      ∙ ink_inside r.parts.config r.parts.scripts t _ _ inside there.script (there.is.belongs.donation
+      ∙ ap (donation_of r.parts.config) there.is.number)
   | inr past ↦
       let n = are.done_all.each in
       ap (λ (g : Sight). g.ink) (get_or_past (map (λ (q : PassModel). q.sight) ps) t no_sight
       (omega (arith, n, length-map ps (λ (q : PassModel). q.sight), past)))
-      ∙ ap ink (sym (get_or_past r.parts.scripts t [] past))
+      ∙ ink_behind r.parts.config r.parts.scripts t past
 ]
 
 -- what the scene promises of the last picture
@@ -235,8 +226,9 @@ pub room_ended : EntryLaws → {r : RoomModel} {new : SceneModel End} {ps : List
     → IsRoom (room_then r new r.counts r.phase r.arrived)
 room_ended laws {r = r} {new = new} room o are all ended =
     room_grown laws room o ended.added r.counts
-    (near_then laws room o ended.added (inks_of are) (λ t call rep same. absurd cc) ended.painted)
-    (subst (λ (gs : List End). HaveInks r.parts.scripts gs) (sym ended.same) room.inks)
+    (near_then laws room o ended.added (rw room.config (inks_of are)) (λ t call rep same. absurd cc) ended.painted)
+    (subst (λ (gs : List End). HaveInks r.scene.config r.parts.scripts gs) (sym ended.same)
+    (inks_before laws room o ended.added))
     (subst (λ (js : List Entry). Follows r.parts.scripts r.parts.input r.counts r.phase js)
     (booked_still r.scene new ended.added.recorded) room.follows) room.phases (inr all)
 

@@ -2,6 +2,7 @@
 use Rattle.nit_scene.specs.Screen.{AreGlasses}
 use Rattle.nit_hall.proofs.Basics.{AreBlank, AreNear, AreSplitOff, BookModel, BookName, ClipLine}
 use Rattle.nit_hall.proofs.Basics.{ClipModel, ClipPassModel, Configuration, End, Entry, Follows}
+use Rattle.nit_hall.proofs.Basics.{HasStages}
 use Rattle.nit_hall.proofs.Basics.{FollowsClips, HaveInks, IfSome, InputLine, IsDonation, IsFirst}
 use Rattle.nit_hall.proofs.Basics.{IsGlass, IsLegalClips, IsNearBy, IsNonDecreasingBy-short, IsPass}
 use Rattle.nit_hall.proofs.Basics.{IsPlanOf, IsRoom, IsSetting, Line, List, Member, OpeningParts}
@@ -10,7 +11,7 @@ use Rattle.nit_hall.proofs.Basics.{Sight, Some, [], ap, append_assoc, arith, bar
 use Rattle.nit_hall.proofs.Basics.{bare_word, calls_in, calls_of, cases_lt, clip_calls_in}
 use Rattle.nit_hall.proofs.Basics.{clip_script_in, donation_of, drop, drop_at, false, first_pass}
 use Rattle.nit_hall.proofs.Basics.{get_or, get_or-replicate, get_or_default, get_or_from_slice_get}
-use Rattle.nit_hall.proofs.Basics.{get_or_past, glass_in, ink, inl, inr, length, length-map}
+use Rattle.nit_hall.proofs.Basics.{get_or_past, glass_in, has_stages, inl, inr, length, length-map}
 use Rattle.nit_hall.proofs.Basics.{length-replicate, lines_of_all, lines_of_clips, map, new_sight}
 use Rattle.nit_hall.proofs.Basics.{no_sight, none-some, option_map, parts_of, phases_before, pixel}
 use Rattle.nit_hall.proofs.Basics.{plan_in, reader_sight, refl, replicate, replicate_more}
@@ -20,7 +21,8 @@ use Rattle.nit_hall.proofs.Basics.{table_size, take, take_all, take_at, user_act
 use Rattle.nit_hall.proofs.Basics.{with_clip_scripts, words_after}
 use Rattle.std.proofs.Common.{zero, ℕ, ⊎_elim, ◌*◌, ◌++◌, ◌+◌, ◌<◌, ◌∙◌, ◌∷◌, ◌≡◌, ◌≤◌, ◌⊎◌}
 use Rattle.nit_hall.proofs.LineLemmas.{item_there}
-use Rattle.nit_hall.proofs.Phases.{phases_begun}
+use Rattle.nit_hall.proofs.Phases.{phases_begun}use Rattle.nit_hall.proofs.NearLemmas.{ink_behind, ink_inside}
+
 
 pub near_begun : (config : Configuration) (scripts : List (List Line))
     → AreNear config scripts [] (replicate (config.width * config.height) bare_word)
@@ -80,7 +82,7 @@ pub room_begun : (r : RoomModel) → r.scene.config ≡ r.parts.config
     → length r.parts.scripts ≡ length r.scene.config.clients → length r.parts.scripts ≤ 16 → r.scene.entries ≡ []
     → r.scene.spare ≡ lines_of_all r.parts.scripts r.parts.input + 1
     → r.scene.raw ≡ replicate (r.scene.config.width * r.scene.config.height) bare_word
-    → HaveInks r.parts.scripts r.scene.glasses
+    → HaveInks r.scene.config r.parts.scripts r.scene.glasses
     → r.counts ≡ replicate (length r.parts.scripts + 1) 0 → r.phase ≡ 0 → r.arrived ≡ 0 → NoClips → r.parts.clips ≡ []
     → r.clips ≡ record { entries = []; spare = 0 } → r.clip_counts ≡ [] → IsRoom r
 room_begun r config each few empty spare raw inks counts first none no_clips none_is list no_counts =
@@ -94,7 +96,7 @@ room_begun r config each few empty spare raw inks counts first none no_clips non
       clients = few;
       follows = rw (empty, first) (follows_begun r.parts.scripts r.parts.input r.counts long zeros_);
       phases = rw (first, none) (phases_begun r.parts.scripts r.parts.input r.counts long zeros_);
-      inks = inks;
+      inks = rw (← config) inks;
       near = subst (λ (c : Configuration). AreNear c r.parts.scripts r.scene.entries r.scene.raw) config
           (rw (empty, raw) (near_begun r.scene.config r.parts.scripts));
       room = let n = ap length empty in omega (arith, n, spare);
@@ -109,7 +111,7 @@ room_begun r config each few empty spare raw inks counts first none no_clips non
 -- ---- a pass
 
 pub pass_begun : (p : PassModel) (share : ShareModel) → IsDonation p.donation → IsPlanOf p.script p.donation p.plan
-    → p.sight ≡ new_sight p.sid (table_size p.donation) p.plan.ink → p.next ≡ 0 → p.phase ≡ 0 → p.seen ≡ []
+    → p.sight ≡ new_sight p.sid p.script p.donation → p.next ≡ 0 → p.phase ≡ 0 → p.seen ≡ []
     → share.number ≡ p.sid → share.count ≡ 0 → IsPass p share
 pass_begun p share opens of is none first empty number count =
     let told : p.sight.words ≡ Some (words_after p.script p.donation p.next) = ap (λ (g : Sight). g.words) is
@@ -124,11 +126,13 @@ pass_begun p share opens of is none first empty number count =
       painted = record {
         opens = opens;
         planned = of;
-        ink = ap (λ (g : Sight). g.ink) is ∙ ap (λ (x : PlanModel). x.ink) of;
+        ink = subst (HasStages p.script p.donation) (sym (ap (λ (g : Sight). g.ink) is))
+            (has_stages p.script p.donation);
         size = ap (λ (g : Sight). g.size) is;
         words = subst (λ (o : Option (List ℕ)). IfSome o (λ words. words ≡ words_after p.script p.donation p.next))
             (sym told) refl;
       };
+      inked = ap (λ (g : Sight). g.ink) is;
       told = told;
     }
 
@@ -195,11 +199,11 @@ zeros_push n m cs ds is all more = is ∙ ap (λ (xs : List ℕ). xs ++ 0 ∷ []
 
 -- ---- the readers' ends
 
-lens_at : (config : Configuration) (plans : List PlanModel) (canvases lenses : List End) (t : ℕ)
-    → AreBlank config plans canvases → AreSplitOff canvases lenses → t < length config.clients
+lens_at : (config : Configuration) (scripts : List (List Line)) (canvases lenses : List End) (t : ℕ)
+    → AreBlank config scripts canvases → AreSplitOff canvases lenses → t < length config.clients
     → glass_in (map (λ (e : End). e.sight) lenses) t
-    ≡ reader_sight (new_sight t (table_size (donation_of config t)) (plan_in plans t).ink)
-lens_at config plans canvases lenses t b are h =
+    ≡ reader_sight (new_sight t (script_in scripts t) (donation_of config t))
+lens_at config scripts canvases lenses t b are h =
     let at = item_there canvases t (let n = b.canvas_each in omega (arith, n, h)) in
     ap (λ (gs : List Sight). glass_in gs t) are.sights
     ∙ get_or_from_slice_get (map (λ (e : End). reader_sight e.sight) canvases) t (reader_sight at.0.sight) no_sight
@@ -207,34 +211,34 @@ lens_at config plans canvases lenses t b are h =
     ∙ ap (λ (o : Option End). option_map (λ (e : End). reader_sight e.sight) o) at.1)
     ∙ ap reader_sight (b.blank t at.0 at.1)
 
-lens_each : (config : Configuration) (plans : List PlanModel) (canvases lenses : List End)
-    → AreBlank config plans canvases → AreSplitOff canvases lenses → length lenses ≡ length config.clients
-lens_each config plans canvases lenses b are = sym (length-map lenses (λ (e : End). e.sight))
+lens_each : (config : Configuration) (scripts : List (List Line)) (canvases lenses : List End)
+    → AreBlank config scripts canvases → AreSplitOff canvases lenses → length lenses ≡ length config.clients
+lens_each config scripts canvases lenses b are = sym (length-map lenses (λ (e : End). e.sight))
     ∙ ap (λ (gs : List Sight). length gs) are.sights ∙ length-map canvases (λ (e : End). reader_sight e.sight)
     ∙ b.canvas_each
 
-pub lens_glasses : (config : Configuration) (plans : List PlanModel) (canvases lenses : List End)
-    → AreBlank config plans canvases → AreSplitOff canvases lenses
+pub lens_glasses : (config : Configuration) (scripts : List (List Line)) (canvases lenses : List End)
+    → AreBlank config scripts canvases → AreSplitOff canvases lenses
     → AreGlasses (λ (e : End). e.sight) config lenses
-lens_glasses config plans canvases lenses b are = record {
-  each = lens_each config plans canvases lenses b are;
+lens_glasses config scripts canvases lenses b are = record {
+  each = lens_each config scripts canvases lenses b are;
   tables = λ t h. subst (λ (g : Sight). IsGlass config t g)
-      (sym (lens_at config plans canvases lenses t b are h)) (refl, refl);
+      (sym (lens_at config scripts canvases lenses t b are h)) (refl, refl);
 }
 
-pub lens_inks : (config : Configuration) (scripts : List (List Line)) (plans : List PlanModel)
-    (canvases lenses : List End) → IsSetting config scripts plans → AreBlank config plans canvases
-    → AreSplitOff canvases lenses → HaveInks scripts lenses
-lens_inks config scripts plans canvases lenses set b are t = elim (cases_lt t (length config.clients)) [
-  | inl inside ↦ ap (λ (g : Sight). g.ink) (lens_at config plans canvases lenses t b are inside)
-      ∙ ap (λ (p : PlanModel). p.ink) (set.planned t (let n = set.sessions in omega (arith, n, inside)))
+pub lens_inks : (config : Configuration) (scripts : List (List Line)) (canvases lenses : List End)
+    → length scripts ≡ length config.clients → AreBlank config scripts canvases → AreSplitOff canvases lenses
+    → HaveInks config scripts lenses
+lens_inks config scripts canvases lenses sessions b are t = elim (cases_lt t (length config.clients)) [
+  | inl inside ↦ ap (λ (g : Sight). g.ink) (lens_at config scripts canvases lenses t b are inside)
+      ∙ ink_inside config scripts t _ _ (omega (arith, sessions, inside)) refl refl
   | inr past ↦
-      let many = lens_each config plans canvases lenses b are in
+      let many = lens_each config scripts canvases lenses b are in
       let none : glass_in (map (λ (e : End). e.sight) lenses) t ≡ no_sight =
       get_or_past (map (λ (e : End). e.sight) lenses) t no_sight (let m =
       length-map lenses (λ (e : End). e.sight) in omega (arith, m, many, past)) in
       ap (λ (g : Sight). g.ink) none
-      ∙ ap ink (sym (get_or_past scripts t [] (let n = set.sessions in omega (arith, n, past))))
+      ∙ ink_behind config scripts t (omega (arith, sessions, past))
 ]
 
 -- ---- clip passes

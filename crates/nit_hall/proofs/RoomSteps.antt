@@ -61,8 +61,11 @@ module _ (laws : EntryLaws) {r : RoomModel} {new : SceneModel End} {e : Entry} (
   pub near_before : AreNear r.scene.config r.parts.scripts r.scene.entries r.scene.raw
   near_before = rw room.config room.near
 
+  pub inks_before : HaveInks r.scene.config r.parts.scripts r.scene.glasses
+  inks_before = rw room.config room.inks
+
   -- each pixel that the entry marks is loaded by these glasses
-  pub near_then : {glasses glasses' : ℕ → Sight} → AreInks r.parts.scripts glasses
+  pub near_then : {glasses glasses' : ℕ → Sight} → AreInks r.scene.config r.parts.scripts glasses
       → TellsWords r.scene.config r.parts.scripts r.scene.entries e glasses
       → Painted (state_now r.scene) e (state_now new) glasses glasses' r.scene.raw new.raw
       → AreNear r.scene.config r.parts.scripts (r.scene.entries ++ e ∷ []) new.raw
@@ -71,7 +74,7 @@ module _ (laws : EntryLaws) {r : RoomModel} {new : SceneModel End} {e : Entry} (
       new.raw legal_then (state_later laws added) inks tells painted near_before
 
   pub room_grown : (counts : List ℕ) → AreNear r.scene.config r.parts.scripts (r.scene.entries ++ e ∷ []) new.raw
-      → HaveInks r.parts.scripts new.glasses
+      → HaveInks r.scene.config r.parts.scripts new.glasses
       → Follows r.parts.scripts r.parts.input counts r.phase (without_final new.entries)
       → IsServedPhase r.phase r.arrived (phases_ended r.parts.scripts r.parts.input counts)
       → IsOpen new.entries ⊎ AllServed r.parts.scripts r.parts.input counts
@@ -83,7 +86,7 @@ module _ (laws : EntryLaws) {r : RoomModel} {new : SceneModel End} {e : Entry} (
     clients = room.clients;
     follows = follows;
     phases = phases;
-    inks = inks;
+    inks = rw added.config inks;
     near = rw (added.config, added.recorded) near;
     room = let sum = room.room in let rec_ = ap length added.recorded in let sp = added.spare in let left =
         (can_add room o).spare in omega (arith, sum, rec_, sp, left, length-append r.scene.entries (e ∷ []));
@@ -103,7 +106,7 @@ room_turned {r = r} counts phase arrived room o follows phases = record {
   clients = room.clients;
   follows = follows;
   phases = phases;
-  inks = room.inks;
+  inks = rw room.config room.inks;
   near = rw room.config room.near;
   room = room.room;
   ended = inl o;

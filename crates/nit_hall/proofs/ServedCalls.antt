@@ -4,7 +4,7 @@ use Rattle.nit_hall.proofs.Basics.{HasMet, IsAtCall, IsOpen, IsPaintedTo, IsPass
 use Rattle.nit_hall.proofs.Basics.{List, OpeningParts, Painted, PassModel, PlanModel, Reply}
 use Rattle.nit_hall.proofs.Basics.{RoomModel, SceneModel, ShareModel, Sight, Some, [], ap, ap₂}
 use Rattle.nit_hall.proofs.Basics.{arith, calls_in, calls_of, calls_own, cases_eq, donation_of}
-use Rattle.nit_hall.proofs.Basics.{eq-eqb, get_or_from_slice_get, glass_in, glasses_of_call, ink}
+use Rattle.nit_hall.proofs.Basics.{eq-eqb, get_or_from_slice_get, glass_in, glasses_of_call, ink_in, script_ink}
 use Rattle.nit_hall.proofs.Basics.{inl, inr, is_phase, is_served, knowing, length, lines_to_call}
 use Rattle.nit_hall.proofs.Basics.{map, ne_eqb, next_call, option_map, phases_before, raised}
 use Rattle.nit_hall.proofs.Basics.{script_in, seen, served, slice_get_within, slice_index}
@@ -16,8 +16,8 @@ use Rattle.nit_script.specs.declared.line.Line.TheVariants as line
 use Rattle.nit_hall.proofs.LineLemmas.{counted_same, served_counted, calls_front, calls_line}
 use Rattle.nit_hall.proofs.LineLemmas.{line_counted}
 use Rattle.nit_hall.proofs.FinalEntries.{open_whole}
-use Rattle.nit_hall.proofs.NearLemmas.{AreInks, TellsWords}
-use Rattle.nit_hall.proofs.RoomSteps.{room_then, room_grown, near_then, booked_more}
+use Rattle.nit_hall.proofs.NearLemmas.{AreInks, TellsWords, ink_inside}
+use Rattle.nit_hall.proofs.RoomSteps.{inks_before, room_then, room_grown, near_then, booked_more}
 use Rattle.nit_scene.specs.Scene.{IsAdded}
 use Rattle.nit_hall.proofs.ScriptsFollowed.{IsNext, one_left, client_is, script_there, follows_call}
 use Rattle.nit_hall.proofs.Phases.{client_ends, same_phase}
@@ -67,11 +67,11 @@ other_there : (glasses : List Sight) (sid : ℕ) (own : Sight) (t : ℕ) → t �
     ≡ glass_in glasses t
 other_there glasses sid own t ne = rw (ne_eqb t sid ne) refl
 
-inks_of_call : (scripts : List (List Line)) (glasses : List Sight) (sid : ℕ) (own : Sight)
-    → ((t : ℕ) → (glass_in glasses t).ink ≡ ink (script_in scripts t)) → own.ink ≡ ink (script_in scripts sid)
-    → AreInks scripts (glasses_of_call glasses sid own)
-inks_of_call scripts glasses sid own inks is t = elim (cases_eq t sid) [
-  | inl e ↦ subst (λ (x : ℕ). (glasses_of_call glasses sid own x).ink ≡ ink (script_in scripts x)) (sym e)
+inks_of_call : (config : Configuration) (scripts : List (List Line)) (glasses : List Sight) (sid : ℕ) (own : Sight)
+    → AreInks config scripts (glass_in glasses) → own.ink ≡ ink_in config scripts sid
+    → AreInks config scripts (glasses_of_call glasses sid own)
+inks_of_call config scripts glasses sid own inks is t = elim (cases_eq t sid) [
+  | inl e ↦ subst (λ (x : ℕ). (glasses_of_call glasses sid own x).ink ≡ ink_in config scripts x) (sym e)
       (ap (λ (g : Sight). g.ink) (own_there glasses sid own) ∙ is)
   | inr ne ↦ ap (λ (g : Sight). g.ink) (other_there glasses sid own t ne) ∙ inks t
 ]
@@ -86,11 +86,10 @@ pub own_seen : (old new : List Sight) (sid : ℕ) (own own' : Sight) → WereSee
 own_seen old new sid own own' were = let saw =
     were sid in (saw.0, sym (own_there new sid own') ∙ saw.1 ∙ ap (λ (g : Sight). seen g saw.0) (own_there old sid own))
 
-inks_after : (scripts : List (List Line)) (old new : List Sight) (sid : ℕ) (own own' : Sight)
-    → ((t : ℕ) → (glass_in old t).ink ≡ ink (script_in scripts t)) → WereSeen old new sid own own'
-    → glass_in new sid ≡ glass_in old sid
-    → (t : ℕ) → (glass_in new t).ink ≡ ink (script_in scripts t)
-inks_after scripts old new sid own own' inks were idle t = elim (cases_eq t sid) [
+inks_after : (config : Configuration) (scripts : List (List Line)) (old new : List Sight) (sid : ℕ) (own own' : Sight)
+    → AreInks config scripts (glass_in old) → WereSeen old new sid own own' → glass_in new sid ≡ glass_in old sid
+    → AreInks config scripts (glass_in new)
+inks_after config scripts old new sid own own' inks were idle t = elim (cases_eq t sid) [
   | inl e ↦ ap (λ (g : Sight). g.ink) (subst (λ (x : ℕ). glass_in new x ≡ glass_in old x) (sym e) idle) ∙ inks t
   | inr ne ↦ let saw = were t in ap (λ (g : Sight). g.ink) (sym (other_there new sid own' t ne) ∙ saw.1)
       ∙ ap (λ (g : Sight). g.ink) (other_there old sid own t ne) ∙ inks t
@@ -140,7 +139,8 @@ phase_same script k c at = counted_same is_phase script k (line.Call c) at refl
 
 pub room_call : EntryLaws → {r : RoomModel} {new : SceneModel End} {sid next : ℕ} {script : List Line} {c : Call}
     {rep : Reply} {own own' : Sight} → IsRoom r → IsNext r.parts.scripts r.counts sid next script (line.Call c)
-    → r.phase ≡ phases_before script next → IsCalled r.scene new sid c rep own own' → own.ink ≡ ink script
+    → r.phase ≡ phases_before script next → IsCalled r.scene new sid c rep own own'
+    → own.ink ≡ script_ink script (donation_of r.scene.config sid)
     → own.words ≡ Some (words_after script (donation_of r.scene.config sid) (next + 1))
     → IsRoom (room_then r new (raised r.counts sid) r.phase r.arrived)
 room_call laws {r = r} {new = new} {sid = sid} {next = next} {script = script} {c = c} {rep = rep} {own = own}
@@ -152,11 +152,14 @@ room_call laws {r = r} {new = new} {sid = sid} {next = next} {script = script} {
     ap (calls_of sid) (sym (open_whole old.entries was_open))
     ∙ calls_made r sid next script room at.script_is at.counted in
     let p = called.painted in
+    let inks = inks_before laws room was_open called.added in
     room_grown laws room was_open called.added (raised r.counts sid)
     (near_then laws room was_open called.added
-    (inks_of_call scripts (sights old) sid own room.inks (inked ∙ ap ink (sym (script_there at))))
+    (inks_of_call old.config scripts (sights old) sid own inks (inked
+    ∙ ink_inside old.config scripts sid script _ (slice_get_within scripts sid script at.script_is) (script_there at)
+    refl))
     (tells old.config scripts (sights old) old.entries sid next script c rep own at.script_is at.line_is made told) p)
-    (inks_after scripts (sights old) (sights new) sid own own' room.inks (λ t. (p.loads t, p.sights t)) called.idle)
+    (inks_after old.config scripts (sights old) (sights new) sid own own' inks (λ t. (p.loads t, p.sights t)) called.idle)
     (subst (λ (js : List Entry). Follows scripts r.parts.input (raised r.counts sid) r.phase js)
     (booked_more was_open called.open_is called.added) (follows_call rep room.follows at ready))
     (same_phase (client_ends r.parts.input room.follows.each at) (phase_same script next c at.line_is) room.phases)
@@ -203,6 +206,7 @@ pass_call p share c met name known sight stand is at l knows =
       owner = ap (λ (g : Sight). g.owner) (l.seen_is) ∙ ap (λ (g : Sight). g.owner) l.set ∙ is.owner;
       painted = subst (λ (g : Sight). IsPaintedTo p.script p.donation p.plan (p.next + 1) g) (sym l.seen_is)
           (still_painted p.script p.donation (p.next + 1) p.plan l.between l.loads l.painted);
+      inked = ap (λ (g : Sight). g.ink) l.seen_is ∙ ap (λ (g : Sight). g.ink) l.set ∙ is.inked;
       told = ap (λ (g : Sight). g.words) l.seen_is ∙ ap (λ (g : Sight). g.words) l.set ∙ told_after p is.told;
     }
 
@@ -245,6 +249,7 @@ pass_met {r = r} {p = p} known room same of is counted book seen_ =
           (ap (slice_index r.counts) (sym is.number) ∙ counted ∙ is.counted);
       owner = is.owner;
       painted = is.painted;
+      inked = is.inked;
       told = is.told;
     }
 

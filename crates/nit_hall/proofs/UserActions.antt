@@ -13,7 +13,7 @@ use Rattle.nit_hall.proofs.LineLemmas.{counted_same, actions_line}
 use Rattle.nit_hall.proofs.NearLemmas.{near_more}
 use Rattle.nit_hall.proofs.ScriptsFollowed.{AddsAction, IsUserNext, follows_action}
 use Rattle.nit_hall.proofs.Phases.{same_phase, user_ends}
-use Rattle.nit_hall.proofs.RoomSteps.{booked_more, legal_then, near_before, near_then}
+use Rattle.nit_hall.proofs.RoomSteps.{inks_before, booked_more, legal_then, near_before, near_then}
 use Rattle.nit_scene.specs.Scene.{IsAdded}
 use Rattle.nit_hall.proofs.RoomSteps.{room_grown, room_then}
 use Rattle.nit_hall.proofs.PhaseEnds.{actions_known, user_open}
@@ -30,7 +30,7 @@ adds_shot = record { no_phase = refl; action_is = refl; no_call = λ t. refl; is
 pub record IsDone (scripts : List (List Line)) (old new : SceneModel End) (e : Entry) : Type 0 where
   pub added : IsAdded old new e
   pub open_is : IsOpen new.entries
-  pub inks : HaveInks scripts new.glasses
+  pub inks : HaveInks old.config scripts new.glasses
   pub near : AreNear old.config scripts (old.entries ++ e ∷ []) new.raw
 
 pub room_action : EntryLaws → {r : RoomModel} {new : SceneModel End} {next : ℕ} {l : InputLine} {e : Entry} → IsRoom r
@@ -55,8 +55,8 @@ done_input laws room was added open_is painted =
     record {
       added = added;
       open_is = open_is;
-      inks = λ t. ap (λ (g : Sight). g.ink) (painted.sights t) ∙ room.inks t;
-      near = near_then laws room was added room.inks (λ t call rep same. absurd cc) painted;
+      inks = λ t. ap (λ (g : Sight). g.ink) (painted.sights t) ∙ inks_before laws room was added t;
+      near = near_then laws room was added (inks_before laws room was added) (λ t call rep same. absurd cc) painted;
     }
 
 pub done_shot : EntryLaws → {r : RoomModel} {new : SceneModel End} {number : ℕ} → IsRoom r → IsOpen r.scene.entries
@@ -67,7 +67,7 @@ done_shot laws {r = r} {new = new} {number = number} room was is added open_is =
     record {
       added = added;
       open_is = open_is;
-      inks = λ t. ap (λ (p : SceneModel End). (glass_in (sights p) t).ink) is ∙ room.inks t;
+      inks = λ t. ap (λ (p : SceneModel End). (glass_in (sights p) t).ink) is ∙ inks_before laws room was added t;
       near = rw (ap (λ (p : SceneModel End). p.raw) is)
           (near_more laws r.scene.config r.parts.scripts r.scene.entries (entry.Shot number) r.scene.raw r.scene.raw
           (legal_then laws room was added) (λ k inside dirty. absurd cc) (λ k clean. refl)

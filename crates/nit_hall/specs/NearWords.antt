@@ -1,9 +1,9 @@
 -- Which words a pixel may hold after a journal, whatever the threads of the clients wrote
 -- meanwhile. Pixels count from 0, row by row from the top.
 use Rattle.std.specs.Prelude.{◌≡◌, ℕ, ◌+◌, ◌<◌, Bool, true, false, List, ◌∷◌, ◌++◌, length}
-use Rattle.nit_hall.specs.Below.{Bare, Black, Call, Configuration, Entry, IsInked, Line}
+use Rattle.nit_hall.specs.Below.{Bare, Black, Call, Configuration, Entry, Line}
 use Rattle.nit_hall.specs.Below.{PixelSource, Reply, Word, after, bare_word, calls_of, dirty}
-use Rattle.nit_hall.specs.Below.{donation_of, frame, ink, pixel, pixel_count, replay, scenery_of}
+use Rattle.nit_hall.specs.Below.{donation_of, frame, pixel, pixel_count, replay, scenery_of}
 use Rattle.nit_hall.specs.Below.{script_in, slice_index, slice_index_or, source_at, words_after}
 use Rattle.nit_events.specs.declared.entry.Entry.TheVariants as entry
 use Rattle.nit_hall.specs.ServedLines.{lines_to_call}
@@ -37,12 +37,17 @@ abbrev pub words_at_call : Configuration → List (List Line) → ℕ → List E
 words_at_call config scripts t front =
     words_after (script_in scripts t) (donation_of config t) (lines_at_call scripts t front)
 
--- A pixel that shows the word at i of a session's table holds 0 or a colour of the session's
--- script. Where the last entry that made it dirty is a call of that session, it holds the very word
--- that the script had left there at that call.
+-- after some number of its lines a session's script has left w at place i of its table
+abbrev pub IsLeftAt : Configuration → List (List Line) → ℕ → ℕ → ℕ → Type 0
+IsLeftAt config scripts t i w =
+    (n : ℕ) × (w ≡ slice_index (words_after (script_in scripts t) (donation_of config t) n) i)
+
+-- A pixel that shows the word at i of a session's table holds one that the session's script has left
+-- there after some number of its lines. Where the last entry that made it dirty is a call of that
+-- session, it holds the very word that the script had left there at that call.
 pub record IsNearWord (config : Configuration) (scripts : List (List Line)) (journal : List Entry)
     (k t i w : ℕ) : Type 0 where
-  pub inked : IsInked (ink (script_in scripts t)) w
+  pub left : IsLeftAt config scripts t i w
   pub exact : (front : List Entry) (call : Call) (r : Reply) (rest : List Entry)
       → IsLastDirtied config journal k front (entry.Call t call r) rest
       → w ≡ slice_index (words_at_call config scripts t front) i
@@ -73,8 +78,8 @@ IsNearFrame config scripts journal words =
 
 -- ---- what the scripts alone say of a word
 
--- a pixel of this source may hold w by the scripts' colours alone
-abbrev pub IsWordOfScripts : List (List Line) → PixelSource → ℕ → Type 0
-IsWordOfScripts scripts Bare w = w ≡ bare_word
-IsWordOfScripts scripts Black w = w ≡ 0
-IsWordOfScripts scripts (Word t i) w = IsInked (ink (script_in scripts t)) w
+-- a pixel of this source may hold w by the scripts alone
+abbrev pub IsWordOfScripts : Configuration → List (List Line) → PixelSource → ℕ → Type 0
+IsWordOfScripts config scripts Bare w = w ≡ bare_word
+IsWordOfScripts config scripts Black w = w ≡ 0
+IsWordOfScripts config scripts (Word t i) w = IsLeftAt config scripts t i w

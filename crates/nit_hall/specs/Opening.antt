@@ -2,7 +2,7 @@
 use Rattle.std.specs.Prelude.{◌≡◌, ℕ, ◌+◌, ◌*◌, ◌<◌, List, [], length, map, replicate}
 use Rattle.nit_hall.specs.Below.{BookName, Configuration, End, InputLine, IsConfiguration, IsPlanOf}
 use Rattle.nit_hall.specs.Below.{Line, PlanModel, Some, bare_word, donation_of, new_sight, plan_in}
-use Rattle.nit_hall.specs.Below.{reader_sight, script_in, slice_get, table_size}
+use Rattle.nit_hall.specs.Below.{reader_sight, script_in, slice_get}
 use Rattle.nit_hall.specs.OpeningParts.{OpeningParts}
 use Rattle.nit_hall.specs.ServedLines.{lines_of_all}
 use Rattle.nit_hall.specs.Pass.{PassModel, UserPassModel}
@@ -17,19 +17,19 @@ pub record IsSetting (config : Configuration) (scripts : List (List Line)) (plan
       → IsPlanOf (script_in scripts k) (donation_of config k) (plan_in plans k)
 
 -- there is a canvas for each client, in order, with the client's number as owner, the ink of its
--- plan, a word for each place of its table, and words 0
-pub record AreBlank (config : Configuration) (plans : List PlanModel) (canvases : List End)
+-- script, a word for each place of its table, and words 0
+pub record AreBlank (config : Configuration) (scripts : List (List Line)) (canvases : List End)
     : Type 0 where
   pub canvas_each : length canvases ≡ length config.clients
   pub blank : (k : ℕ) (c : End) → slice_get canvases k ≡ Some c
-      → c.sight ≡ new_sight k (table_size (donation_of config k)) (plan_in plans k).ink
+      → c.sight ≡ new_sight k (script_in scripts k) (donation_of config k)
 
 -- the configuration, a setting of it, and a blank canvas for each client
 pub record CanOpen (config : Configuration) (scripts : List (List Line)) (plans : List PlanModel)
     (canvases : List End) : Type 0 where
   pub config_is : IsConfiguration config
   pub setting : IsSetting config scripts plans
-  pub canvases_are : AreBlank config plans canvases
+  pub canvases_are : AreBlank config scripts canvases
 
 -- the parts of an opening without clip scripts
 abbrev pub parts_of : BookName → Configuration → List (List Line) → List PlanModel → List InputLine

@@ -2,7 +2,7 @@
 use Rattle.std.specs.Prelude.{◌≡◌, ℕ, ◌+◌, ◌≤◌, List, length, take, slice_get, Option, Some}
 use Rattle.nit_hall.specs.Below.{BookName, Call, Device, Entry, InputLine, IsPaintedTo, Line}
 use Rattle.nit_hall.specs.Below.{PlanModel, Reply, Routed, ShareModel, Sight, Standing, Stroke}
-use Rattle.nit_hall.specs.Below.{calls_in, calls_of, donation_of, no_sight, seen, user_actions_of}
+use Rattle.nit_hall.specs.Below.{calls_in, calls_of, donation_of, no_sight, script_ink, seen, user_actions_of}
 use Rattle.nit_hall.specs.Below.{with_words, words_after}
 use Rattle.nit_events.specs.declared.call.Call.TheVariants as call
 use Rattle.nit_events.specs.declared.device.Device.TheVariants as device
@@ -43,7 +43,7 @@ pub record UserPassModel : Type 0 where
 
 -- What holds of every pass: its share has its number, and counts the lines before its next one that
 -- the room serves; what it knows of the journal has exactly its own calls so far; and its words are
--- those that the lines before its next one leave.
+-- those that the lines before its next one leave, with its script's ink.
 pub record IsPass (p : PassModel) (share : ShareModel) : Type 0 where
   pub number : share.number ≡ p.sid
   pub counted : share.count ≡ length (served (take p.next p.script))
@@ -52,6 +52,7 @@ pub record IsPass (p : PassModel) (share : ShareModel) : Type 0 where
   pub known : calls_of p.sid p.seen ≡ calls_in (take p.next p.script)
   pub owner : p.sight.owner ≡ p.sid
   pub painted : IsPaintedTo p.script p.donation p.plan p.next p.sight
+  pub inked : p.sight.ink ≡ script_ink p.script p.donation
   pub told : p.sight.words ≡ Some (words_after p.script p.donation p.next)
 
 -- What holds of the user's pass: its share has its number, and counts all lines before its next one,

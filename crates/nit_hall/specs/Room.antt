@@ -1,9 +1,10 @@
 -- What contracts see of a room, and what holds of it.
 use Rattle.std.specs.Prelude.{◌≡◌, ◌⊎◌, ℕ, ◌+◌, ◌-◌, ◌<◌, ◌≤◌, ◌==◌, if◌then◌else◌, List, [], ◌∷◌}
-use Rattle.std.specs.Prelude.{◌++◌, length, map, sum, take, count_by, slice_index}
-use Rattle.nit_hall.specs.Below.{ClipEntry, ClipModel, ClipReply, End, Entry, InputLine, IsLegal}
+use Rattle.std.specs.Prelude.{◌++◌, nat_lt, length, map, sum, take, count_by, slice_index}
+use Rattle.nit_hall.specs.Below.{ClipEntry, ClipModel, ClipReply, Colours, Configuration, End}
+use Rattle.nit_hall.specs.Below.{Entry, Ink, InputLine, IsLegal, script_ink}
 use Rattle.nit_hall.specs.Below.{IsNonDecreasing, IsOpen, Line, SceneModel, Sight, Standing}
-use Rattle.nit_hall.specs.Below.{calls_in, calls_of, calls_to_make, glass_in, ink, is_input_phase}
+use Rattle.nit_hall.specs.Below.{calls_in, calls_of, calls_to_make, glass_in, donation_of, is_input_phase}
 use Rattle.nit_hall.specs.Below.{is_phase, most_sessions, phases_along, raised, script_in}
 use Rattle.nit_hall.specs.Below.{state_now, user_actions_of, user_actions_to_do}
 use Rattle.nit_events.specs.declared.entry.Entry.TheVariants as entry
@@ -140,10 +141,17 @@ pub record IsServedPhase (phase arrived : ℕ) (ended : List ℕ) : Type 0 where
   pub counted : arrived ≡ count_by (λ n. n == phase + 1) ended
   pub some_left : arrived < length ended
 
--- each reader's end has the ink of its session's script
-abbrev pub HaveInks : List (List Line) → List End → Type 0
-HaveInks scripts ends =
-    (t : ℕ) → (glass_in (map (λ (e : End). e.sight) ends) t).ink ≡ ink (script_in scripts t)
+-- the ink of the session of this number is its script's; behind the last session there is none
+abbrev pub ink_in : Configuration → List (List Line) → ℕ → Ink
+ink_in config scripts t =
+    if nat_lt t (length scripts)
+    then script_ink (script_in scripts t) (donation_of config t)
+    else Colours []
+
+-- each reader's end has the ink of its session
+abbrev pub HaveInks : Configuration → List (List Line) → List End → Type 0
+HaveInks config scripts ends =
+    (t : ℕ) → (glass_in (map (λ (e : End). e.sight) ends) t).ink ≡ ink_in config scripts t
 
 -- What holds of every room: its journal is legal and follows the scripts, but for the last picture;
 -- its readers' ends have the inks of the scripts, and each raw word is one that its pixel may hold;
@@ -159,7 +167,7 @@ pub record IsRoom (r : RoomModel) : Type 0 where
       (without_final r.scene.entries)
   pub phases : IsServedPhase r.phase r.arrived
       (phases_ended r.parts.scripts r.parts.input r.counts)
-  pub inks : HaveInks r.parts.scripts r.scene.glasses
+  pub inks : HaveInks r.parts.config r.parts.scripts r.scene.glasses
   pub near : AreNear r.parts.config r.parts.scripts r.scene.entries r.scene.raw
   pub room : length r.scene.entries + r.scene.spare ≡ lines_of_all r.parts.scripts r.parts.input + 1
   pub ended : IsOpen r.scene.entries ⊎ AllServed r.parts.scripts r.parts.input r.counts

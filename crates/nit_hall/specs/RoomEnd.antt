@@ -1,21 +1,21 @@
 -- What a room knows of passes that are done, and what its last picture shows.
 use Rattle.std.specs.Prelude.{◌≡◌, ℕ, List, length, map, take, slice_index, Some}
 use Rattle.nit_hall.specs.Below.{Bare, Black, Configuration, IsGlass, Line, PixelSource, State}
-use Rattle.nit_hall.specs.Below.{Word, bare_word, donation_of, ink, pixel_count, range_with_len}
-use Rattle.nit_hall.specs.Below.{script_in, source_at, words_after, words_left}
+use Rattle.nit_hall.specs.Below.{Word, bare_word, donation_of, pixel_count, range_with_len}
+use Rattle.nit_hall.specs.Below.{script_in, script_ink, source_at, words_after, words_left}
 use mathlib.Core.List.{IsPrefix}
 use Rattle.nit_hall.specs.ServedLines.{served}
 use Rattle.nit_hall.specs.Pass.{PassModel}
 use Rattle.nit_hall.specs.Room.{RoomModel, without_final}
 
 -- What a room knows of the pass of this number when they have met: it knows a front of the journal;
--- as many of its lines were served as are done; and its words are those of its session's table, as
--- the lines that are done leave them.
+-- as many of its lines were served as are done; and its words are those of its session's table, with
+-- its script's ink, as the lines that are done leave them.
 pub record IsKnownPass (r : RoomModel) (k : ℕ) (p : PassModel) : Type 0 where
   pub front : IsPrefix p.seen (without_final r.scene.entries)
   pub counted : slice_index r.counts k ≡ length (served (take p.next p.script))
   pub glass : IsGlass r.parts.config k p.sight
-  pub inked : p.sight.ink ≡ ink p.script
+  pub inked : p.sight.ink ≡ script_ink p.script p.donation
   pub told : p.sight.words ≡ Some (words_after p.script p.donation p.next)
 
 -- the word of a pixel, where each session's table has the words that its whole script leaves

@@ -3,7 +3,8 @@ pub use Rattle.nit_hall.specs.Below.{AllByRecursion, AreInPhases, Bare, Black, B
 pub use Rattle.nit_hall.specs.Below.{Call, ClipCall, ClipEntry, ClipLine, ClipModel, ClipReply}
 pub use Rattle.nit_hall.specs.Below.{Configuration, Device, Does, End, Entry, FitsDevice, InputLine}
 pub use Rattle.nit_hall.specs.Below.{IsConfiguration, IsDevice, IsDonation, IsGlass, IsInPhase}
-pub use Rattle.nit_hall.specs.Below.{IsInked, IsLegal, IsLegalClips, IsLoaded, IsNonDecreasing}
+pub use Rattle.nit_hall.specs.Below.{Colours, HasStages, Ink, IsInked, script_ink}
+pub use Rattle.nit_hall.specs.Below.{IsLegal, IsLegalClips, IsLoaded, IsNonDecreasing}
 pub use Rattle.nit_hall.specs.Below.{IsOpen, IsPaintedTo, IsPlanOf, IsThere, IsTrue, IsWhole}
 pub use Rattle.nit_hall.specs.Below.{IsWholeClips, IsWord, IsWordOfSource, JournalModel, Line, List}
 pub use Rattle.nit_hall.specs.Below.{Member, Option, Painted, Painting, PixelSource, PlanModel}
@@ -13,7 +14,7 @@ pub use Rattle.nit_hall.specs.Below.{before_final, blank, calls_from, calls_in, 
 pub use Rattle.nit_hall.specs.Below.{calls_to_make, calls_up_to, clip_answer, clip_calls_in}
 pub use Rattle.nit_hall.specs.Below.{clip_calls_of, clipboard_of, clips_to_do, clips_to_make}
 pub use Rattle.nit_hall.specs.Below.{count_by, deliveries_of, donation_of, done, first_state, frame}
-pub use Rattle.nit_hall.specs.Below.{glass_in, glasses_of_call, ink, into_iter_items, is_accepted}
+pub use Rattle.nit_hall.specs.Below.{glass_in, glasses_of_call, into_iter_items, is_accepted}
 pub use Rattle.nit_hall.specs.Below.{is_clip_phase, is_input_phase, is_phase, kills, left_after}
 pub use Rattle.nit_hall.specs.Below.{length, map, most_clips, most_entries, most_height, most_lines}
 pub use Rattle.nit_hall.specs.Below.{most_sessions, most_shares, most_width, nat_le, new_sight}
@@ -33,7 +34,7 @@ pub use Rattle.nit_hall.specs.HallCalls.{BelongsAt, CanClip, DoneDevice, DoneSho
 pub use Rattle.nit_hall.specs.HallCalls.{ServedCall, ServedClip, UserBelongsAt, UserEndedPhase}
 pub use Rattle.nit_hall.specs.Meeting.{ClipHasMet, HasMet, UserHasMet}
 pub use Rattle.nit_hall.specs.NearWords.{AreNear, IsLastDirtied, IsNear, IsNearBy, IsNearFrame}
-pub use Rattle.nit_hall.specs.NearWords.{IsWordOfScripts, is_dirtied, words_at_call}
+pub use Rattle.nit_hall.specs.NearWords.{IsLeftAt, IsWordOfScripts, is_dirtied, words_at_call}
 pub use Rattle.nit_hall.specs.Opening.{AreBlank, AreSplitOff, CanOpen, IsFirst, IsOpening}
 pub use Rattle.nit_hall.specs.Opening.{IsSetting, first_pass, first_user, parts_of}
 pub use Rattle.nit_hall.specs.OpeningParts.{OpeningParts}
@@ -43,6 +44,7 @@ pub use Rattle.nit_hall.specs.Pass.{IsUserPass, PassModel, UserBelongs, UserPass
 pub use Rattle.nit_hall.specs.Pass.{device_entry, knowing, next_call, next_device, rest_of}
 pub use Rattle.nit_hall.specs.Pass.{sight_after_line}
 pub use Rattle.nit_hall.specs.Room.{AllServed, Follows, HaveInks, IsRoom, IsServedPhase, RoomModel}
+pub use Rattle.nit_hall.specs.Room.{ink_in}
 pub use Rattle.nit_hall.specs.Room.{after_arrival, arrived_one, clip_entry, lenses, phases_ended}
 pub use Rattle.nit_hall.specs.Room.{stands, with_clip, with_entry, with_final, without_final}
 pub use Rattle.nit_hall.specs.RoomCalls.{HasActed, HasArrived, HasServed, HaveMet, IsReadyAt}

@@ -91,7 +91,7 @@ impl<'a> Room<'a> {
         requires entries { (scene.entries ≡ []) × (book.entries ≡ []) }
         requires room { scene.spare ≡ lines_of_all parts.scripts.now parts.input.now + 1 }
         requires raw { scene.raw ≡ replicate (scene.config.width * scene.config.height) bare_word }
-        requires inks { HaveInks parts.scripts.now scene.glasses }
+        requires inks { HaveInks scene.config parts.scripts.now scene.glasses }
         requires counts { book.counts ≡ replicate (length parts.scripts.now + 1) 0 }
         requires clip { clip ≡ record { entries = []; spare = 0 } }
         ensures { result ≡ record {

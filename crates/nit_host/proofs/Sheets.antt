@@ -7,7 +7,7 @@ use Rattle.std.proofs.lemmas.Bool.Decides.{nat_tests}
 use Rattle.std.proofs.lemmas.List.{ext_get_or, get_or-append_right, get_or_append_left}
 use Rattle.std.proofs.lemmas.List.{get_or_default, length-append, take_at}
 use Rattle.std.proofs.lemmas.List.Folds.{list_any_at}
-use Rattle.nit_word.specs.Inks.{IsInked}
+use Rattle.nit_word.specs.Inks.{IsInked, Stages}
 use Rattle.nit_word.specs.Sight.{IsLoaded}
 use Rattle.nit_word.specs.Zeros.{zeros}
 use Rattle.nit_word.proofs.ForCallers.{are_set, length-zeros, set_long, word_at, zero_at}
@@ -83,13 +83,9 @@ word_loaded owner size words sight i w view all few place is =
       told = told;
     })
   where
-    inside : i < length (filled_up size words)
-    inside = subst (λ (n : ℕ). i < n) (sym (ap (λ (s : Sight). s.size) view)) place
-
-    inked : (b : Bool) → (w == 0) ≡ b → w ≡ slice_index (filled_up size words) i → IsInked (filled_up size words) w
+    inked : (b : Bool) → (w == 0) ≡ b → w ≡ slice_index (filled_up size words) i → IsInked (Stages (filled_up size words ∷ [])) i w
     inked true zero_is told = rw zero_is refl
-    inked false other told = rw other
-        (list_any_at (λ y. y == w) (filled_up size words) i 0 inside (grind (arith, nat_tests, told)))
+    inked false other told = rw (other, eq-eqb (slice_index (filled_up size words) i) w (sym told)) refl
 
 -- ---- words that are handed in
 

@@ -20,7 +20,7 @@ pub use Rattle.nit_screen.specs.Terms.{CanServe, CanShow, CanShowBy, Close, Conf
 pub use Rattle.nit_screen.specs.Terms.{Destroy, Device, Entry, Event, Flat, Front, HaveOwnNames}
 pub use Rattle.nit_screen.specs.Terms.{HoldBuffers, IfSome, InputState, IsAmongLoads, IsCallShown}
 pub use Rattle.nit_screen.specs.Terms.{IsClean, IsCopied, IsForgottenIfKilled, IsFrameOf, IsGlass}
-pub use Rattle.nit_screen.specs.Terms.{IsGlassOf, IsInked, IsInkedBy, IsKillAlone, IsLabelShown}
+pub use Rattle.nit_screen.specs.Terms.{Ink, IsGlassOf, IsInked, IsInkedBy, IsKillAlone, IsLabelShown}
 pub use Rattle.nit_screen.specs.Terms.{IsLabelled, IsLegal, IsLive, IsNamedBy, IsNewlyNamed, IsOn}
 pub use Rattle.nit_screen.specs.Terms.{IsPartOf, IsPartShown, IsQuiet, IsRawOf, IsRemovedFrom}
 pub use Rattle.nit_screen.specs.Terms.{IsRepaint, IsScreen, IsServed, IsServer, IsShown, IsSlotView}

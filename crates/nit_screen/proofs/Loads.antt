@@ -1,6 +1,6 @@
 -- What a load gives, and that loads leave the inks as they are.
 use Rattle.std.proofs.Common.{List, ap, slice_index_or, subst, sym, ℕ, ◌≡◌}
-use Rattle.nit_screen.proofs.Basics.{Agrees, AreInked, AreRaw, Bare, Black, Entry, IsInked}
+use Rattle.nit_screen.proofs.Basics.{Agrees, AreInked, AreRaw, Bare, Black, Entry, Ink, IsInked}
 use Rattle.nit_screen.proofs.Basics.{IsInkedBy, IsRawOf, IsWordOfSource, Painted, PixelSource}
 use Rattle.nit_screen.proofs.Basics.{Sight, State, Word, after, source_at}
 use Rattle.nit_screen.proofs.CleanPixels.{DeliveriesFit, keeps_each}
@@ -21,7 +21,7 @@ same_inks : (glasses glasses' : ℕ → Sight) → ((t : ℕ) → (glasses' t).i
     → (source : PixelSource) (w : ℕ) → IsInkedBy glasses source w → IsInkedBy glasses' source w
 same_inks glasses glasses' same Bare w h = h
 same_inks glasses glasses' same Black w h = h
-same_inks glasses glasses' same (Word t i) w h = subst (λ (ink : List ℕ). IsInked ink w) (sym (same t)) h
+same_inks glasses glasses' same (Word t i) w h = subst (λ (ink : Ink). IsInked ink i w) (sym (same t)) h
 
 held_is_inked : (glasses : ℕ → Sight) (source : PixelSource) (w : ℕ) → IsWordOfSource glasses source w
     → IsInkedBy glasses source w

@@ -72,7 +72,7 @@ pub use Rattle.nit_stack.specs.Stack.{size_of, slot_view_in, view_ref}
 pub use Rattle.nit_stack.specs.ViewNames.{IsNamedBy, MeanSame, is_session, name_of, views_of}
 pub use Rattle.nit_stack.specs.declared.view.ViewRef.{ViewRef}
 pub use Rattle.nit_word.specs.Channels.{bare_word}
-pub use Rattle.nit_word.specs.Inks.{IsInked, IsWord}
+pub use Rattle.nit_word.specs.Inks.{Ink, IsInked, IsWord}
 pub use Rattle.nit_word.specs.Sight.{Sight, seen, stored, told_at}
 pub use Rattle.nit_word.specs.Updates.{is_between, set_where, with_words}
 pub use Rattle.std.specs.List.{AllByRecursion, list_any, position_or_len, range_with_len}

@@ -29,13 +29,13 @@ IsRawOf (Word t i) w = IsWord w
 abbrev pub AreRaw : State → List ℕ → Type 0
 AreRaw s raw = (k : ℕ) → k < pixel_count s → IsRawOf (source_at s k) (slice_index_or raw k 0)
 
--- a word of a session is 0 or in the ink of the session's glass
+-- a word of a session is 0, or the ink of the session's glass has it at its place
 abbrev pub IsInkedBy : (ℕ → Sight) → PixelSource → ℕ → Type 0
 IsInkedBy glasses Bare w = Unit {0}
 IsInkedBy glasses Black w = Unit {0}
-IsInkedBy glasses (Word t i) w = IsInked (glasses t).ink w
+IsInkedBy glasses (Word t i) w = IsInked (glasses t).ink i w
 
--- each raw word that comes from a session is 0 or in the ink of the session's glass
+-- each raw word that comes from a session is 0, or the ink of the session's glass has it at its place
 abbrev pub AreInked : State → (ℕ → Sight) → List ℕ → Type 0
 AreInked s glasses raw =
     (k : ℕ) → k < pixel_count s → IsInkedBy glasses (source_at s k) (slice_index_or raw k 0)

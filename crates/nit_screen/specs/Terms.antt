@@ -3,7 +3,7 @@ pub use Rattle.nit_screen.specs.Below.{Above, Agrees, AllByRecursion, AreLive, A
 pub use Rattle.nit_screen.specs.Below.{Black, Buffer, Call, Close, Configuration, Delivery, Destroy}
 pub use Rattle.nit_screen.specs.Below.{Device, Entry, Event, Flat, Front, HoldBuffers, IfSome}
 pub use Rattle.nit_screen.specs.Below.{InputState, IsAmongLoads, IsConfiguration, IsCopied}
-pub use Rattle.nit_screen.specs.Below.{IsDevice, IsForgottenIfKilled, IsFreeLabel, IsInked}
+pub use Rattle.nit_screen.specs.Below.{Ink, IsDevice, IsForgottenIfKilled, IsFreeLabel, IsInked}
 pub use Rattle.nit_screen.specs.Below.{IsKillAlone, IsLegal, IsLive, IsNamedBy, IsRemovedFrom}
 pub use Rattle.nit_screen.specs.Below.{IsServed, IsServer, IsSlotView, IsStack, IsTrue}
 pub use Rattle.nit_screen.specs.Below.{IsViewChange, IsWord, IsWordOfSource, Item, Kill, LegalFrom}

@@ -1,7 +1,7 @@
 -- Words that are 0 or of some colours.
-use Rattle.std.proofs.Common.{All, Bool, List, arith, false, get_or, length, refl, true, ℕ, ◌+◌}
-use Rattle.std.proofs.Common.{◌<◌, ◌==◌, ◌≡◌, ◌≤◌}
-use Rattle.nit_word.proofs.Basics.{Any-from_list_any, IsOfColours, IsLoaded, IsLoadedRow, IsWord}
+use Rattle.std.proofs.Common.{All, Bool, List, [], arith, false, get_or, length, refl, true, ℕ, ◌+◌}
+use Rattle.std.proofs.Common.{◌<◌, ◌==◌, ◌||◌, ◌≡◌, ◌≤◌}
+use Rattle.nit_word.proofs.Basics.{Any-from_list_any, Colours, IsInked, IsOfColours, IsLoaded, IsLoadedRow, IsWord}
 use Rattle.nit_word.proofs.Basics.{inked_sight, list_any, nat_tests, slice_index}
 
 among_fits : (ink : List ℕ) (w : ℕ) → All IsWord ink → list_any (λ y. y == w) ink ≡ true → IsWord w
@@ -17,6 +17,14 @@ inked_fits ink w fit inked = by_zero (w == 0) refl
     by_zero : (b : Bool) → (w == 0) ≡ b → IsWord w
     by_zero true is = grind (arith, nat_tests)
     by_zero false is = among_fits ink w fit (rw is at inked)
+
+-- nothing but 0 is of no colours
+pub no_ink : (i w : ℕ) → IsInked (Colours []) i w → w ≡ 0
+no_ink i w inked = by_zero (w == 0) refl inked
+  where
+    by_zero : (b : Bool) → (w == 0) ≡ b → (b || false) ≡ true → w ≡ 0
+    by_zero true is some = grind (arith, nat_tests)
+    by_zero false is some = cc
 
 pub all_fit : (ink words : List ℕ) → All IsWord ink → All (IsOfColours ink) words → All IsWord words
 all_fit ink words fit inked i d lt = inked_fits ink (get_or words i d) fit (inked i d lt)

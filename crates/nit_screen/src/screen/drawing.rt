@@ -9,11 +9,11 @@ use nit_word::Inked;
 
 impl Screen<Inked> {
     /// Sets the word at place `i` of the screen's glass for the session `sid` to `w`, which is 0 or
-    /// in the glass's ink. Nothing else changes, and nothing is loaded.
+    /// what the glass's ink has there. Nothing else changes, and nothing is loaded.
     pub fn draw(&mut self, sid: u32, i: usize, w: u32)
         requires session { sid < length self.old.glasses }
         requires place { i < (slice_index_or self.old.glasses sid no_sight).size }
-        requires word { IsInked (slice_index_or self.old.glasses sid no_sight).ink w }
+        requires word { IsInked (slice_index_or self.old.glasses sid no_sight).ink i w }
         ensures { self.new ≡ record self.old {
           glasses = slice_set self.old.glasses sid
               (stored (slice_index_or self.old.glasses sid no_sight) i w);

@@ -26,5 +26,6 @@ returns c =
           (pass_counted c.self.inside.book.counts is of c.meet.ensures.before.counted);
       owner = rw (← c.pass.view_is) is.owner;
       painted = rw (← c.pass.view_is) is.painted;
+      inked = rw (← c.pass.view_is) is.inked;
       told = rw (← c.pass.view_is) is.told;
     }
