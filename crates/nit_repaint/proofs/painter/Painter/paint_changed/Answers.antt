@@ -1,4 +1,4 @@
-use Rattle.nit_repaint.proofs.Lemmas.{Point, comes_as, slot_owns_either}
+use Rattle.nit_repaint.proofs.Lemmas.{Point, comes_as, slot_owns_either, ◌∙◌}
 use Rattle.nit_repaint.proofs.painter.Painter.paint_changed.Goals as goal
 
 pub returns-clause-painted : goal.returns-clause-painted
