@@ -57,16 +57,14 @@ all_push P (z ∷ xs) x all here (suc k) y at = all_push (λ n. P (suc n)) xs x 
 -- ---- the buffers
 
 -- one key more
-pub one_key : (config : Configuration) (plans : List PlanModel) (k : ℕ) (keys keys' : List End) (key : End)
-    → length keys ≡ k → AreKeysBlank config plans keys
-    → key.sight ≡ new_sight k (table_size (donation_of config k)) (plan_in plans k).ink → keys' ≡ keys ++ key ∷ []
-    → AreKeysBlank config plans keys'
-one_key config plans k keys keys' key counted all is more =
-    subst (λ (es : List End). AreKeysBlank config plans es) (sym more)
-    (all_push (λ n (e : End). e.sight ≡ new_sight n (table_size (donation_of config n)) (plan_in plans n).ink) keys key
-    all
-    (subst (λ (n : ℕ). key.sight ≡ new_sight n (table_size (donation_of config n)) (plan_in plans n).ink) (sym counted)
-    is))
+pub one_key : (config : Configuration) (scripts : List (List Line)) (k : ℕ) (keys keys' : List End) (key : End)
+    → length keys ≡ k → AreKeysBlank config scripts keys
+    → key.sight ≡ new_sight k (script_in scripts k) (donation_of config k) → keys' ≡ keys ++ key ∷ []
+    → AreKeysBlank config scripts keys'
+one_key config scripts k keys keys' key counted all is more =
+    subst (λ (es : List End). AreKeysBlank config scripts es) (sym more)
+    (all_push (λ n (e : End). e.sight ≡ new_sight n (script_in scripts n) (donation_of config n)) keys key all
+    (subst (λ (n : ℕ). key.sight ≡ new_sight n (script_in scripts n) (donation_of config n)) (sym counted) is))
 
 -- ---- the beginning
 
@@ -115,10 +113,11 @@ setting config scripts plans sessions are = record {
       ∙ get_or-map-range_with_len _ 0 (length scripts) k k (record { steps = []; ink = [] }) inside (zero-add k);
 }
 
-pub blank_ends : (config : Configuration) (plans : List PlanModel) (buffers : List BufferName)
-    (keys canvases : List End) → AreBuffers config plans buffers keys → canvases ≡ keys → AreBlank config plans canvases
-blank_ends config plans buffers keys canvases b are =
-    subst (λ (es : List End). AreBlank config plans es) (sym are) (record { canvas_each = b.each; blank = b.blank })
+pub blank_ends : (config : Configuration) (scripts : List (List Line)) (buffers : List BufferName)
+    (keys canvases : List End) → AreBuffers config scripts buffers keys → canvases ≡ keys
+    → AreBlank config scripts canvases
+blank_ends config scripts buffers keys canvases b are =
+    subst (λ (es : List End). AreBlank config scripts es) (sym are) (record { canvas_each = b.each; blank = b.blank })
 
 -- ---- the passes come back done
 

@@ -27,6 +27,7 @@ pub use Rattle.nit_clip.specs.declared.call.ClipEntry.{ClipEntry}
 pub use Rattle.nit_clip.specs.declared.line.ClipLine.{ClipLine}
 pub use Rattle.nit_config.specs.Configuration.{Configuration, bar_rows, donation_of, member}
 pub use Rattle.nit_config.specs.ConfigurationRanges.{IsConfiguration}
+pub use Rattle.nit_config.specs.ConfigurationRanges.{IsMember}
 pub use Rattle.nit_config.specs.declared.config.Member.{Member}
 pub use Rattle.nit_events.specs.declared.entry.Entry.{Entry}
 pub use Rattle.nit_glyph.specs.Texts.{is_label, is_label_byte}
@@ -108,6 +109,7 @@ pub use Rattle.nit_store.specs.StoreAnswers.{AfterPut, AskedAtMost}
 pub use Rattle.nit_store.specs.declared.store.PutError.{PutError}
 pub use Rattle.nit_word.specs.Inks.{IsWord}
 pub use Rattle.nit_word.specs.Sight.{Sight, inked_sight}
+pub use Rattle.nit_word.specs.Zeros.{zeros}
 pub use Rattle.std.specs.Fmt.{decimal}
 pub use Rattle.std.specs.Global.{Global}
 pub use Rattle.std.specs.List.{AllByRecursion, list_all, range_with_len}

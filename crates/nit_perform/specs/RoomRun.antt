@@ -4,23 +4,22 @@ use Rattle.std.specs.Prelude.{◌∷◌, ◌≡◌, ◌++◌, ℕ, ◌*◌, ◌�
 use Rattle.std.specs.Prelude.{Some, vec_len, vec_capacity}
 use Rattle.nit_perform.specs.Below.{Belongs, BufferName, Configuration, End, Entry, InputLine}
 use Rattle.nit_perform.specs.Below.{IsOpen, Line, Member, Memory, OpeningParts, PassModel}
-use Rattle.nit_perform.specs.Below.{PlanModel}
 use Rattle.nit_perform.specs.Below.{RoomModel, StepTogether, UserBelongs, UserPassModel}
-use Rattle.nit_perform.specs.Below.{donation_of, idle_user, new_sight, picture_length, plan_in}
-use Rattle.nit_perform.specs.Below.{table_size, user_actions_of}
+use Rattle.nit_perform.specs.Below.{donation_of, idle_user, new_sight, picture_length, script_in}
+use Rattle.nit_perform.specs.Below.{user_actions_of}
 
 -- the key of this number is to words 0, one for each place of the table of its session, with the
--- ink of its plan
-abbrev pub AreKeysBlank : Configuration → List PlanModel → List End → Type 0
-AreKeysBlank config plans keys = (k : ℕ) (key : End) → slice_get keys k ≡ Some key
-    → key.sight ≡ new_sight k (table_size (donation_of config k)) (plan_in plans k).ink
+-- ink of its script
+abbrev pub AreKeysBlank : Configuration → List (List Line) → List End → Type 0
+AreKeysBlank config scripts keys = (k : ℕ) (key : End) → slice_get keys k ≡ Some key
+    → key.sight ≡ new_sight k (script_in scripts k) (donation_of config k)
 
 -- there is a buffer for each client, in order, and its key, over words 0
-pub record AreBuffers (config : Configuration) (plans : List PlanModel) (buffers : List BufferName)
-    (keys : List End) : Type 0 where
+pub record AreBuffers (config : Configuration) (scripts : List (List Line))
+    (buffers : List BufferName) (keys : List End) : Type 0 where
   pub each : length keys ≡ length config.clients
   pub own : map (λ (key : End). key.stand.buffer) keys ≡ buffers
-  pub blank : AreKeysBlank config plans keys
+  pub blank : AreKeysBlank config scripts keys
 
 -- A flag for each client, room for what all clients' threads are given to wait, and a word and
 -- bytes

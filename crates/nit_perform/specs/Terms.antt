@@ -66,6 +66,7 @@ pub use Rattle.nit_perform.specs.LastPicture.{AreAllDone, CanTakeLast, HasEnded,
 pub use Rattle.nit_perform.specs.LastPicture.{TakesLast, put_state_at}
 pub use Rattle.nit_perform.specs.RoomRun.{AreBuffers, AreKeysBlank, IsAlone, IsKnownWhole, IsMemory}
 pub use Rattle.nit_perform.specs.RoomRun.{IsReady, IsReadyAlone, IsSupplied}
+pub use Rattle.nit_perform.specs.Below.{IsMember, zeros}
 pub use Rattle.nit_perform.specs.RoundsOpening.{AreInkedPlans, AreScriptsOf, IsRoundsOpening}
 pub use Rattle.nit_perform.specs.RoundsOpening.{glasses_of, plans_of}
 pub use Rattle.nit_perform.specs.Runs.{HasRun, IsRunOf, IsSameRun, Runs, is_shot_entry}

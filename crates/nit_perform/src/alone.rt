@@ -35,7 +35,7 @@ pub fn run_one<S: Store>(
         (S.shown store.new) result }
 {
     let plans = plans_of(alloc, config, scripts)?;
-    let (buffers, keys) = buffers_of(alloc, config, &plans)?;
+    let (buffers, keys) = buffers_of(alloc, config, scripts)?;
     let canvases = canvases_of(alloc, &buffers, keys)?;
     let parts = Parts {
         scripts,

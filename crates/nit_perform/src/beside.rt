@@ -37,7 +37,7 @@ pub fn run_beside<R: Threads + Wait + Sync, S: Store, G: Gate>(
 {
     let alloc = host.alloc;
     let plans = plans_of(alloc, config, scripts)?;
-    let (buffers, keys) = buffers_of(alloc, config, &plans)?;
+    let (buffers, keys) = buffers_of(alloc, config, scripts)?;
     let canvases = canvases_of(alloc, &buffers, keys)?;
     let parts = Parts {
         scripts,

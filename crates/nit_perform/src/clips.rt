@@ -43,7 +43,7 @@ pub fn run_with_clips<R: Threads + Wait + Sync, S: Store, G: Gate>(
     let alloc = host.alloc;
     let clients = scripts.clients.as_slice();
     let plans = plans_of(alloc, config, clients)?;
-    let (buffers, keys) = buffers_of(alloc, config, &plans)?;
+    let (buffers, keys) = buffers_of(alloc, config, clients)?;
     let canvases = canvases_of(alloc, &buffers, keys)?;
     let parts = Parts {
         scripts: clients,

@@ -34,7 +34,7 @@ pub fn open_pairs<'a>(
     clips: &'a [ClipScript],
 ) -> Result<Paired<'a>, NoMemory>
     requires setting { IsSetting config.now parts.scripts.now parts.plans.now }
-    requires canvases { AreBlank config.now parts.plans.now canvases.items }
+    requires canvases { AreBlank config.now parts.scripts.now canvases.items }
     requires runnable { IsRunnable
         (clips_setup config.now parts.scripts.now parts.input.now clips.now) }
     requires each { length clips.now ≡ length parts.scripts.now }

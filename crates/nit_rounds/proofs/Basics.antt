@@ -2,7 +2,7 @@
 pub use Rattle.nit_hall.proofs.ForCallers.{WereSeen}
 pub use Rattle.nit_journal.proofs.ForCallers.{as_many_as_clients, same_config}
 pub use Rattle.nit_overlay.proofs.ForCallers.{same_frame}
-pub use Rattle.nit_plan.proofs.ForCallers.{above, alike, changed, for_any, line_here, none_begun}
+pub use Rattle.nit_plan.proofs.ForCallers.{word_inked, above, alike, changed, for_any, line_here, none_begun}
 pub use Rattle.nit_plan.proofs.ForCallers.{row_added, rows_done, unchanged}
 pub use Rattle.nit_report.proofs.ForCallers.{all_append, few_digits}
 pub use Rattle.nit_rounds.specs.Terms.{Action, ActorLine, Acts, AllByRecursion, AreBehind}
@@ -14,7 +14,7 @@ pub use Rattle.nit_rounds.specs.Terms.{ByClient}
 pub use Rattle.nit_rounds.specs.Terms.{ByUser, Call, Calls, Client, Configuration, Device, Does}
 pub use Rattle.nit_rounds.specs.Terms.{Drawing, Entry, File, Fill, FitsInto, HasTurn, InputLine}
 pub use Rattle.nit_rounds.specs.Terms.{IsAtTurn, IsBehind, IsBehindBy, IsButFor, IsConfiguration}
-pub use Rattle.nit_rounds.specs.Terms.{IsDonation, IsDrawn, IsDrawnPicture, IsGlass, IsInked}
+pub use Rattle.nit_rounds.specs.Terms.{IsDonation, IsDrawn, IsDrawnPicture, IsGlass, Colours}
 pub use Rattle.nit_rounds.specs.Terms.{IsLegal, IsLoaded, IsMember, IsMoved, IsNonDecreasing}
 pub use Rattle.nit_rounds.specs.Terms.{IsOpen, IsPaintedTo, IsPlanOf, IsPlanned, IsRawOf}
 pub use Rattle.nit_rounds.specs.Terms.{IsRecorded, IsRoundsRun, IsSetUp, IsShowing, IsTrue}
@@ -50,7 +50,7 @@ pub use Rattle.nit_rounds.specs.Terms.{turn_by, turn_of, turns_before, turns_fro
 pub use Rattle.nit_rounds.specs.Terms.{turns_of, user_actions_from, user_actions_of}
 pub use Rattle.nit_rounds.specs.Terms.{user_actions_to_do, with_words, word_after_entry, word_from}
 pub use Rattle.nit_rounds.specs.Terms.{words_after, words_left, zeros}
-pub use Rattle.nit_word.proofs.ForCallers.{before_row, same_set, set_long, word_at, zero_at}
+pub use Rattle.nit_word.proofs.ForCallers.{no_ink, before_row, same_set, set_long, word_at, zero_at}
 pub use Rattle.std.proofs.Common.{Bool, List, [], add-one, add-zero, ap, append-nil, append_assoc}
 pub use Rattle.std.proofs.Common.{ap₂, arith, codes, cond, count_by, drop, drop-drop, drop-set-lt}
 pub use Rattle.std.proofs.Common.{false, fold, get_or, get_or-set_other, get_or-set_same, inl, inr}

@@ -1,6 +1,6 @@
 -- A line of a script, done on the own glass of its session.
 use Rattle.nit_rounds.proofs.Basics.{BufferArea, FitsInto, IsDonation, IsPaintedTo, IsPlanOf, Line}
-use Rattle.nit_rounds.proofs.Basics.{List}
+use Rattle.nit_rounds.proofs.Basics.{Colours, List, word_inked}
 use Rattle.nit_rounds.proofs.Basics.{None, PlanModel, Sight, Some, Step, ap, ap₂, arith, false}
 use Rattle.nit_rounds.proofs.Basics.{get_or, get_or_from_slice_get, glass_after, ink, is_set_by}
 use Rattle.nit_rounds.proofs.Basics.{mul-le-mul_right, plan_of_script, refl, slice_index, static}
@@ -17,11 +17,18 @@ pub painted_to : AreLong → (t : ℕ) (script : List Line) (donation k : ℕ) (
     → IsPaintedTo script donation plan k g
 painted_to long t script donation k plan g opens of is =
     subst (λ (x : Sight). IsPaintedTo script donation plan k x) (sym is)
-    (record { opens = opens; planned = of; ink = refl; size = long script donation k opens.1; words = refl })
+    (record {
+      opens = opens;
+      planned = of;
+      ink = word_inked script donation;
+      size = long script donation k opens.1;
+      words = refl;
+    })
 
 -- the glass of so many words
 abbrev sized : ℕ → List Line → List ℕ → ℕ → Sight
-sized t script words size = record { owner = t; size = size; ink = ink script; words = Some words; log = None }
+sized t script words size =
+    record { owner = t; size = size; ink = Colours (ink script); words = Some words; log = None }
 
 pub after_stroke : AreLong → (t : ℕ) (script : List Line) (donation k : ℕ) (g g' : Sight) → IsDonation donation
     → g ≡ glass_after t script donation k → g' ≡ with_words (λ words. words_after script donation (k + 1)) g

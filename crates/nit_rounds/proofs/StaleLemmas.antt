@@ -2,6 +2,7 @@
 use Rattle.nit_rounds.proofs.Basics.{AreBehind, BufferArea, Bool, IsBehind, IsBehindBy, IsButFor}
 use Rattle.nit_rounds.proofs.Basics.{IsDonation, Line, List, None, Option, SceneModel, Sight, Some}
 use Rattle.nit_rounds.proofs.Basics.{Stale, Step, ap, cases_lt, cond, ext_get_or, false}
+use Rattle.nit_rounds.proofs.Basics.{Colours}
 use Rattle.nit_rounds.proofs.Basics.{get_or-set_same, get_or_past, glass_after, glass_in, ink}
 use Rattle.nit_rounds.proofs.Basics.{inked_sight, inl, inr, is_in_area, is_number_in, is_set_by}
 use Rattle.nit_rounds.proofs.Basics.{is_stale, length, length-set, no_sight, or_parts, refl}
@@ -135,7 +136,8 @@ as_but t script donation k None there own is behind =
 as_but t script donation k (Some a) there own is behind = behind.but
 
 sized : ℕ → List Line → List ℕ → ℕ → Sight
-sized t script words size = record { owner = t; size = size; ink = ink script; words = Some words; log = None }
+sized t script words size =
+    record { owner = t; size = size; ink = Colours (ink script); words = Some words; log = None }
 
 -- a line that sets no word
 pub nothing_drawn : AreLong → StayElsewhere → (t : ℕ) (script : List Line) (donation k : ℕ) (l : Line)

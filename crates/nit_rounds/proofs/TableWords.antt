@@ -1,7 +1,7 @@
 -- Words by the tables of the sessions.
-use Rattle.nit_rounds.proofs.Basics.{Bare, Black, Bool, Configuration, IsInked, IsLoaded, IsTrue}
+use Rattle.nit_rounds.proofs.Basics.{Bare, Black, Configuration, IsLoaded, no_ink}
 use Rattle.nit_rounds.proofs.Basics.{IsWordOfSource, Line, List, PixelSource, Sight, Word, [], ap}
-use Rattle.nit_rounds.proofs.Basics.{cases_lt, donation_of, eqb-true, false, get_or_past}
+use Rattle.nit_rounds.proofs.Basics.{cases_lt, donation_of, get_or_past}
 use Rattle.nit_rounds.proofs.Basics.{glass_after, glass_in, inl, inr, length, no_sight, script_in}
 use Rattle.nit_rounds.proofs.Basics.{slice_index, table_size, tables_after, word_from, words_after}
 use Rattle.nit_rounds.proofs.Basics.{zero_at, zeros}
@@ -18,17 +18,6 @@ pub held_word : (glasses : ℕ → Sight) (tables : ℕ → List ℕ) (source : 
 held_word glasses tables Bare w are held = held
 held_word glasses tables Black w are held = held
 held_word glasses tables (Word t i) w are held = are t i w held
-
--- nothing but 0 is in no ink
-no_ink : (w : ℕ) → IsInked [] w → w ≡ 0
-no_ink w inked = eqb-true w 0 (left w inked)
-  where
-    first : (b : Bool) → IsTrue (b || false) → b ≡ true
-    first true h = refl
-    first false h = h
-
-    left : (n : ℕ) → IsInked [] n → (n == 0) ≡ true
-    left n h = first (n == 0) h
 
 no_lines : (donation k : ℕ) → words_after [] donation k ≡ zeros (table_size donation)
 no_lines donation zero = refl
@@ -47,7 +36,7 @@ tables_told config scripts owns done each tell t i w loaded =
           let none : glass_in owns t ≡ no_sight =
           get_or_past owns t no_sight (subst (λ (n : ℕ). n ≤ t) (sym each) past) in
           let script : script_in scripts t ≡ [] = get_or_past scripts t [] past in
-          no_ink w (subst (λ (g : Sight). IsLoaded g i w) none loaded).inked
+          no_ink i w (subst (λ (g : Sight). IsLoaded g i w) none loaded).inked
           ∙ sym (zero_at (table_size (donation_of config t)) i)
           ∙ sym (ap (λ (ws : List ℕ). slice_index ws i)
           (ap (λ (ls : List Line). words_after ls (donation_of config t) (done t)) script

@@ -1,19 +1,16 @@
-use Rattle.nit_perform.proofs.Lemmas.{inked, is_ready, plans_long, setting, ◌∙◌}
+use Rattle.nit_perform.proofs.Lemmas.{is_ready, plans_long, setting, ◌∙◌}
 use Rattle.nit_perform.proofs.beside.run_beside.Goals as goal
 
 pub buffers_of-requires : goal.buffers_of-requires
-buffers_of-requires g c =
-    inked c.args.config.now c.args.scripts.now c.in_ok-plans.plans.items c.deref.result.now c.deref.ensures.value
-    c.in_ok-plans.ensures.plans (record { configured = c.requires.configured; each = c.requires.scripts })
-    c.in_ok-plans.ensures.words
+buffers_of-requires g c = record { configured = c.requires.configured; each = c.requires.scripts }
 
 pub open-requires-clause-setting : goal.open-requires-clause-setting
-open-requires-clause-setting g c = setting c.args.config.now c.args.scripts.now c.deref-3.result.now c.requires.scripts
-    (c.deref-3.ensures.value ∙ c.in_ok-plans.ensures.plans)
+open-requires-clause-setting g c = setting c.args.config.now c.args.scripts.now c.deref-2.result.now c.requires.scripts
+    (c.deref-2.ensures.value ∙ c.in_ok-plans.ensures.plans)
 
 pub run_named-requires-clause-ready : goal.run_named-requires-clause-ready
 run_named-requires-clause-ready g c κs within =
-    is_ready c.args.config.now c.args.scripts.now c.deref-3.result.now c.args.input.now c.in_ok-canvases.canvases.items
+    is_ready c.args.config.now c.args.scripts.now c.deref-2.result.now c.args.input.now c.in_ok-canvases.canvases.items
     c.in_ok-opened.opened.room c.in_ok-opened.opened.passes.items c.in_ok-opened.opened.user
-    c.requires.scripts (plans_long c.args.config.now c.args.scripts.now c.deref-3.result.now (c.deref-3.ensures.value
+    c.requires.scripts (plans_long c.args.config.now c.args.scripts.now c.deref-2.result.now (c.deref-2.ensures.value
     ∙ c.in_ok-plans.ensures.plans)) c.in_ok-opened.ensures

@@ -1,17 +1,16 @@
-use Rattle.nit_perform.proofs.Lemmas.{Line, List, ap, inked, length, setting, ◌∙◌}
+use Rattle.nit_perform.proofs.Lemmas.{Line, List, ap, length, setting, ◌∙◌}
 use Rattle.nit_perform.proofs.clips.run_with_clips.Goals as goal
 
 pub buffers_of-requires : goal.buffers_of-requires
 buffers_of-requires g c =
-    inked c.args.config.now c.as_slice-clients.result.now c.in_ok-plans.plans.items c.deref.result.now
-    c.deref.ensures.value c.in_ok-plans.ensures.plans (record {
+    record {
       configured = c.requires.runnable.configured;
       each = ap (λ (ss : List (List Line)). length ss) c.as_slice-clients.ensures.value
           ∙ c.requires.runnable.scripts;
-    }) c.in_ok-plans.ensures.words
+    }
 
 pub open_pairs-requires-clause-setting : goal.open_pairs-requires-clause-setting
 open_pairs-requires-clause-setting g c =
-    setting c.args.config.now c.as_slice-clients.result.now c.deref-3.result.now
+    setting c.args.config.now c.as_slice-clients.result.now c.deref-2.result.now
     (ap (λ (ss : List (List Line)). length ss) c.as_slice-clients.ensures.value ∙ c.requires.runnable.scripts)
-    (c.deref-3.ensures.value ∙ c.in_ok-plans.ensures.plans)
+    (c.deref-2.ensures.value ∙ c.in_ok-plans.ensures.plans)

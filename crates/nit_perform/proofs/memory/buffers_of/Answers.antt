@@ -1,7 +1,7 @@
 use Rattle.std.proofs.Common.{◌≡◌, ◌∙◌, ◌+◌, ◌<◌, ◌++◌, ◌∷◌, [], ℕ, List, length, map, ap, sym}
-use Rattle.nit_perform.proofs.Lemmas.{BufferName, Configuration, End, Member, PlanModel, at_member}
+use Rattle.nit_perform.proofs.Lemmas.{BufferName, Configuration, End, Line, Member, at_member}
 use Rattle.nit_perform.proofs.Lemmas.{donation_of, get_or_default, length_push, map_push, new_sight}
-use Rattle.nit_perform.proofs.Lemmas.{one_key, plan_in, slice_index_or, subst, table_size}
+use Rattle.nit_perform.proofs.Lemmas.{one_key, script_in, slice_index_or, subst}
 use Rattle.nit_perform.proofs.memory.buffers_of.Goals as goal
 
 pub loop-sid-preserved : goal.loop-sid-preserved
@@ -18,13 +18,8 @@ loop-sid-preserved c =
     ap (λ (m : Member). m.donation)
     (at_member config c.as_slice-clients.result.now k c.index-clients-sid.result (c.as_slice-clients.ensures.value
     ∙ ap (λ (x : Configuration). x.clients) c.config.view_is) inside) in
-    let size : c.table_words-words.result ≡ table_size (donation_of config k) = c.table_words-words.ensures.size
-    ∙ ap table_size client in
-    let plan : c.index-plans-sid.result ≡ plan_in c.args.plans.now k = c.index-plans-sid.is
-    ∙ get_or_default c.args.plans.now k c.index-plans-sid.result (record { steps = []; ink = [] })
-    c.loop-sid-test.true in
-    let ink : c.ink.result.now ≡ (plan_in c.args.plans.now k).ink = c.ink.ensures
-    ∙ ap (λ (p : PlanModel). p.ink) plan in
+    let script : c.index-scripts-sid.result ≡ script_in c.args.scripts.now k = c.index-scripts-sid.is
+    ∙ get_or_default c.args.scripts.now k c.index-scripts-sid.result [] c.loop-sid-test.true in
     record {
       keys_are = ap (λ (es : List End). length es) more ∙ length_push keys key
           ∙ ap (λ (n : ℕ). n + 1) c.loop-sid.invariant.keys_are;
@@ -33,9 +28,9 @@ loop-sid-preserved c =
           ∙ ap (λ (bs : List BufferName). bs ++ key.stand.buffer ∷ []) c.loop-sid.invariant.own
           ∙ ap (λ (b : BufferName). c.loop-sid.buffers.items ++ b ∷ []) c.in_ok-buffer.ensures.key
           ∙ sym c.in_ok-push.ensures.items;
-      blank = one_key config c.args.plans.now k keys c.push-in-loop-sid.new.self.items key c.loop-sid.invariant.keys_are
-          c.loop-sid.invariant.blank
-          (c.in_ok-buffer.ensures.sight ∙ ap (λ (n : ℕ). new_sight k n c.ink.result.now) size
-          ∙ ap (λ (ws : List ℕ). new_sight k (table_size (donation_of config k)) ws) ink)
+      blank = one_key config c.args.scripts.now k keys c.push-in-loop-sid.new.self.items key
+          c.loop-sid.invariant.keys_are c.loop-sid.invariant.blank
+          (c.in_ok-buffer.ensures.sight ∙ ap (λ (ls : List Line). new_sight k ls _) script
+          ∙ ap (new_sight k (script_in c.args.scripts.now k)) client)
           more;
     }

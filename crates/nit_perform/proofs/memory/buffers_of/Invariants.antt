@@ -6,5 +6,5 @@ abbrev pub invariant-loop-sid : goal.invariant-loop-sid
 invariant-loop-sid l = record {
   keys_are : length l.keys.items ≡ l.sid;
   own : map (λ (key : End). key.stand.buffer) l.keys.items ≡ l.buffers.items;
-  blank : AreKeysBlank l.config l.plans l.keys.items;
+  blank : AreKeysBlank l.config l.scripts l.keys.items;
 }
