@@ -4,9 +4,10 @@ import random
 
 import model
 from expected import expected_of, text_of
+from screen import KILL_KEY, XRAY_KEY
 
 COLOURS = ["000000", "FF0000", "00FF00", "0000FF", "FFFFFF", "808080", "123456", "FEDCBA"]
-MODE_KEYS = (model.XRAY_KEY, model.KILL_KEY)
+MODE_KEYS = (XRAY_KEY, KILL_KEY)
 
 
 class Case:

@@ -4,6 +4,7 @@ import re
 import tomllib
 
 import model
+from screen import Scene
 
 USAGE = "usage: nitpicker still W H SCRIPT, turns CONFIG, run CONFIG, gen N, audit CONFIG JOURNAL, clip CONFIG, capture CONFIG X Y W H or nested OUTER INNER"
 
@@ -145,7 +146,7 @@ def entry_of_device(line, told):
 
 def outputs_by_turns(setup):
     """The files of a run by turns, in the order in which they are put."""
-    scene, journal, puts = model.Scene(setup.config), [], {}
+    scene, journal, puts = Scene(setup.config), [], {}
     events = [[] for _ in setup.clients]
     for who, line in model.rounds(setup.clients + [setup.user]):
         if who < len(setup.clients):

@@ -12,7 +12,7 @@ one that PROGRAM leaves by `turns`, and where none is given the one that the rul
 REPLAY makes the calls and the input of the journal with two servers, one that the configuration
 opens and one that is opened by seats. Of each step are compared the reply or the deliveries, and
 the text. At each shot, and at the end, each live client refreshes all that its script has drawn by
-then; then the screen is to show the picture that tools/model.py gives, and at the end also
+then; then the screen is to show the picture that tools/screen.py gives, and at the end also
 `final.ppm` of PROGRAM, and a look is to tell the least part that changed.
 
 The status is 1 where a run differs. Its files are then kept, and said.
@@ -29,6 +29,7 @@ import model
 import runs
 from cases import case_of
 from expected import expected_of
+from screen import Scene
 
 
 class Refused(Exception):
@@ -63,7 +64,7 @@ class Play:
     """The lines of a play, and its files. It goes along the journal with the rules beside."""
 
     def __init__(self, setup, folder):
-        self.scene, self.folder = model.Scene(setup.config), folder
+        self.scene, self.folder = Scene(setup.config), folder
         self.scripts = [list(lines) for lines in setup.clients]
         self.lines, self.pictures = self.head(setup.config), 0
 

@@ -1,6 +1,6 @@
-"""Frames by the rules of tools/model.py, by rectangles instead of pixel by pixel.
+"""Frames by the rules of tools/screen.py, by rectangles instead of pixel by pixel.
 
-The sessions, the stack and the user's input are those of the model. What is loaded and what a frame
+The sessions, the stack and the user's input are those of that file. What is loaded and what a frame
 shows is worked out here for whole rectangles, so that a large screen has a frame behind each entry
 of a journal in reasonable time. The tests compare the two on random runs.
 
@@ -10,8 +10,9 @@ from functools import cached_property
 from itertools import groupby
 
 import model
+import screen
 
-BARE = model.BARE.to_bytes(3, "big")
+BARE = screen.BARE.to_bytes(3, "big")
 HALVED = bytes(n // 2 for n in range(256))
 REDDENED = bytes(128 + n // 2 for n in range(256))
 GREY, WHITE, RED = b"\x80" * 3, b"\xff" * 3, b"\xff\0\0"
@@ -92,12 +93,12 @@ class Drawing(model.Drawing):
 def text_rows(text, width):
     """The seven rows of the picture of a text, cut off at the width."""
     columns = range(min(4 * len(text) + 1, width))
-    return [b"".join(WHITE if model.is_dot(text, x, y) else bytes(3) for x in columns)
+    return [b"".join(WHITE if screen.is_dot(text, x, y) else bytes(3) for x in columns)
             for y in range(7)]
 
 
-class Scene(model.Scene):
-    """The model's scene, whose pixels are bytes. One that does not load knows no pixels."""
+class Scene(screen.Scene):
+    """The scene of the rules, whose pixels are bytes. One that does not load knows no pixels."""
 
     def __init__(self, config, loads=True):
         super().__init__(config)
@@ -107,7 +108,7 @@ class Scene(model.Scene):
         self.known = None
 
     def owners(self):
-        """The model's owners. They are kept while no view moves."""
+        """The owners by the rules. They are kept while no view moves."""
         if not self.loads:
             return Owners()
         now = [(view, view.rect) for view in self.stack]
@@ -174,7 +175,7 @@ class Scene(model.Scene):
 
     def frame(self):
         """The picture in the form P6."""
-        return model.header(self.width, self.height) + self.pixels()
+        return screen.header(self.width, self.height) + self.pixels()
 
     def pixels(self):
         """What the screen shows."""

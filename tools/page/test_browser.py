@@ -7,8 +7,8 @@ import tempfile
 import unittest
 from pathlib import Path
 
-import model
 import runs
+import screen
 from page import build, test_runs
 from page.browser import Browser
 from page.command import picture_of
@@ -392,7 +392,7 @@ class BrowserTest(unittest.TestCase):
 
 def frames_behind_entries(setup):
     """The frame of the beginning, and the one behind each entry, pixel by pixel."""
-    yield model.Scene(setup.config).frame()
-    for _, line, said, frame in frames_along(setup, model.Scene(setup.config)):
+    yield screen.Scene(setup.config).frame()
+    for _, line, said, frame in frames_along(setup, screen.Scene(setup.config)):
         if said is not None or line in ("shot", "final"):
             yield frame

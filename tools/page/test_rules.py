@@ -9,8 +9,8 @@ from html.parser import HTMLParser
 
 import cases
 import expected
-import model
 import runs
+import screen
 from page import build, pixels, replay, words
 from page.frames import Frames, check_picture
 from page.png import differences, part_of, png
@@ -25,7 +25,7 @@ SEEDS = 25
 class FramesTest(unittest.TestCase):
     def check(self, setup, what):
         """That frames by rectangles are those pixel by pixel."""
-        slow = frames_along(setup, model.Scene(setup.config))
+        slow = frames_along(setup, screen.Scene(setup.config))
         fast = frames_along(setup, pixels.Scene(setup.config))
         for number, (one, other) in enumerate(zip(slow, fast, strict=True)):
             self.assertEqual(one, other, f"{what}, line {number}")
@@ -52,7 +52,7 @@ class FramesTest(unittest.TestCase):
         setup = setup_from(moving_files())
         made = [row[3] for row in frames_along(setup, pixels.Scene(setup.config))]
         width, height = setup.config["screen"]["width"], setup.config["screen"]["height"]
-        bodies = [data[len(model.header(width, height)) :] for data in made]
+        bodies = [data[len(screen.header(width, height)) :] for data in made]
         frames = Frames(width, height)
         for step, body in enumerate(bodies):
             frames.add(step, body)
@@ -64,11 +64,11 @@ class FramesTest(unittest.TestCase):
             self.assertEqual(shown, body, f"step {step}")
 
     def test_a_wrong_picture_is_told_by_its_pixel(self):
-        right = model.header(3, 2) + bytes(range(18))
+        right = screen.header(3, 2) + bytes(range(18))
         wrong = right[:-4] + b"\xff" + right[-3:]
         with self.assertRaisesRegex(Fault, r"x\.ppm: the pixel at \(1, 1\) is 0C0DFF, .* 0C0D0E"):
             check_picture("x.ppm", wrong, right)
-        for other in (b"", right[:-1], b"P5" + right[2:], model.header(2, 3) + right[11:]):
+        for other in (b"", right[:-1], b"P5" + right[2:], screen.header(2, 3) + right[11:]):
             with self.assertRaises(Fault):
                 check_picture("x.ppm", other, right)
 
@@ -278,7 +278,7 @@ class ReplayTest(unittest.TestCase):
         run = self.run_of(setup, files)
         self.assertEqual([step.text for step in run.replay.steps],
                          replay.journal_lines(files["journal.txt"]))
-        scene = model.Scene(setup.config)
+        scene = screen.Scene(setup.config)
         for number, step in enumerate(run.replay.steps[:-1], 1):
             if step.text.startswith("call "):
                 scene.call(step.lane, step.text.split(" < ", 1)[1])

@@ -1,11 +1,12 @@
 """The calls of a run that are refused. The run is valid: its journal has each with its refusal."""
 import model
 import runs
+from screen import KILL_KEY
 
 from .faults import counted, quoted, shown
 from .journal import Unpainted, is_call
 
-KILL = f"press {model.KILL_KEY}"
+KILL = f"press {KILL_KEY}"
 REFUSALS = ("closed", "killed", "no-such-view", "bad-rect", "bad-size", "bad-title",
             "too-many-views", "out-of-quota", "no-reserve")
 

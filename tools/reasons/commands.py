@@ -3,8 +3,8 @@ import difflib
 import os
 import re
 
-import model
 from expected import USAGE, Setup, outputs_by_turns
+from screen import header
 
 from . import calls, config, journal, scripts
 from .faults import Note, Refused, Verdict, quoted, shown
@@ -265,7 +265,7 @@ def frames_of(inner):
     screen, outputs = inner.config["screen"], outputs_by_turns(inner)
     for name, picture in outputs.items():
         if name.endswith(".ppm"):
-            body = picture[len(model.header(screen["width"], screen["height"])):]
+            body = picture[len(header(screen["width"], screen["height"])):]
             yield [body[at : at + 3 * screen["width"]]
                    for at in range(0, len(body), 3 * screen["width"])]
 

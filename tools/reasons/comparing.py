@@ -37,7 +37,7 @@ def clip_text(rng, phases):
 
 
 def journal_text(setup):
-    """The journal of a run by turns, by the rules of tools/model.py."""
+    """The journal of a run by turns, by the rules of tools/screen.py."""
     scene, entries, shots = Unpainted(setup.config), [], 0
     for who, line in model.rounds([*setup.clients, setup.user]):
         if who < len(setup.clients):

@@ -1,5 +1,5 @@
 """Why a journal is refused: a line that has no reading, or an entry that is none of a run."""
-import model
+from screen import Scene
 
 from . import lines
 from .faults import Fault, Finding, Note, Refused, quoted, shown
@@ -14,7 +14,7 @@ AUDIT = "docs/FORMATS.md, The command line: `audit`"
 PHASES = "docs/FORMATS.md, Phases"
 
 
-class Unpainted(model.Scene):
+class Unpainted(Scene):
     """The scene without its pixels: what is answered and delivered goes by the views alone."""
 
     def owners(self):
@@ -71,7 +71,7 @@ def is_call(line):
 
 
 class Run:
-    """A run along its entries, by the rules of tools/model.py."""
+    """A run along its entries, by the rules of tools/screen.py."""
 
     def __init__(self, setup):
         self.scene = Unpainted(setup.config)
