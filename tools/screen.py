@@ -280,23 +280,6 @@ class Scene:
                 pixels += word.to_bytes(3, "big")
         return bytes(pixels)
 
-    def may_show(self, picture, inks):
-        """Whether a picture is a frame of this state where each loaded word is 0 or in the ink."""
-        start, size = header(self.width, self.height), 3 * self.width * self.height
-        if picture[: len(start)] != start or len(picture) != len(start) + size:
-            return False
-        owners, labels = self.what_stands()
-        for row in range(self.height):
-            for column in range(self.width):
-                view, at = owners[row][column], len(start) + 3 * (row * self.width + column)
-                loaded = {0}
-                if view and self.place_of(view, column, row):
-                    loaded |= inks[self.sessions.index(view.session)]
-                words = {self.pixel(view, labels, column, row, raw) for raw in loaded}
-                if int.from_bytes(picture[at : at + 3], "big") not in words:
-                    return False
-        return True
-
     def what_stands(self):
         owners = self.owners()
         return owners, self.label_places(owners) if self.mode != "flat" else {}
