@@ -145,10 +145,10 @@ HasPicture config files name s MayHold =
     × ShowsBy s MayHold words
 
 -- A word that a pixel may hold when a shot is taken behind these entries. By rounds it is the one
--- that the rounds have drawn there by then. Beside each other it is one that the entries allow:
--- where the last entry that made the pixel dirty is a call of the session whose word it shows, the
--- one that the session's script had left there with that call; and else 0 or a colour of its
--- script.
+-- that the rounds have drawn there by then. Beside each other it is one that the entries allow: one
+-- that the script of the session whose word it shows leaves at that place after some number of its
+-- lines; and where the last entry that made the pixel dirty is a call of that session, the one that
+-- the script had left there with that call.
 abbrev pub HoldsByWay : Bool → Setup → List Entry → ℕ → ℕ → Type 0
 HoldsByWay false s before k w =
     w ≡ (drawn_by_shot s.config s.scripts s.input (shots before)).word k
