@@ -129,7 +129,7 @@ text PAINTER
 | buffer 64 48
 | view
 | place 1 0 0 64 48
-2000 =fill 0 0 64 48 FF0000\nfill 0 0 64 48 0000FF\n
+2000 =fill 0 0 64 48 FF0000\nfill 1 0 1 1 00FF00\nfill 0 0 64 48 0000FF\n
 
 text CALLER
 | buffer 1 1
@@ -163,7 +163,7 @@ holds events-b.txt EVENTS
 holds journal.txt JOURNAL
 whole JOURNAL
 
-case one client paints over and over, another one calls without end, and the user takes shots
+case one client paints, green beside the place that another one uncovers, and the user takes shots
 words run, storm.toml
 file storm.toml STORM_CONFIG
 file a.nit PAINTER
