@@ -1,8 +1,9 @@
 -- Words that are kept as far as they were reached, and are 0 behind.
 use Rattle.std.proofs.Common.{All, Bool, List, ap, arith, cond, [], false, length, refl, subst, sym}
-use Rattle.std.proofs.Common.{take, true, ℕ, ◌%◌, ◌++◌, ◌+◌, ◌-◌, ◌<◌, ◌==◌, ◌^◌, ◌∙◌, ◌≡◌, ◌≤◌}
+use Rattle.std.proofs.Common.{take, true, ℕ, ◌%◌, ◌++◌, ◌+◌, ◌-◌, ◌<◌, ◌==◌, ◌^◌, ◌∙◌, ◌∷◌, ◌≡◌, ◌≤◌}
 use Rattle.std.proofs.Common.{slice_index}
 use Rattle.std.proofs.Math.ListN.{get_or-eq_default}
+use Rattle.std.proofs.lemmas.Bool.{eq-eqb}
 use Rattle.std.proofs.lemmas.Bool.Decides.{nat_tests}
 use Rattle.std.proofs.lemmas.List.{ext_get_or, get_or-append_right, get_or_append_left}
 use Rattle.std.proofs.lemmas.List.{get_or_default, length-append, take_at}
@@ -83,7 +84,8 @@ word_loaded owner size words sight i w view all few place is =
       told = told;
     })
   where
-    inked : (b : Bool) → (w == 0) ≡ b → w ≡ slice_index (filled_up size words) i → IsInked (Stages (filled_up size words ∷ [])) i w
+    inked : (b : Bool) → (w == 0) ≡ b → w ≡ slice_index (filled_up size words) i
+        → IsInked (Stages (filled_up size words ∷ [])) i w
     inked true zero_is told = rw zero_is refl
     inked false other told = rw (other, eq-eqb (slice_index (filled_up size words) i) w (sym told)) refl
 

@@ -5,7 +5,7 @@ use Rattle.nit_pixels.proofs.Basics.{LoadStep, PixelView, SeatState, Splits, Sto
 use Rattle.nit_pixels.proofs.Basics.{at_snoc, keeps, opening, option_map, owner_view}
 use Rattle.nit_pixels.proofs.Basics.{reader_view, set_again, step, view_loaded, view_stored}
 use Rattle.nit_pixels.proofs.Basics.{zero_inked, zeros}
-use Rattle.std.proofs.Common.{All, IfSome, IsSome, List, None, Option, Some, [], ap, get_or, length}
+use Rattle.std.proofs.Common.{IfSome, IsSome, List, None, Option, Some, [], ap, get_or, length}
 use Rattle.std.proofs.Common.{refl, set, slice_index, subst, suc, sym, zero, ℕ, ⊎_elim, ◌++◌, ◌∙◌}
 use Rattle.std.proofs.Common.{◌∷◌, ◌≡◌, ◌≢◌}
 use mathlib.Core.Option.{some, none, some-injective, some-ne-none}

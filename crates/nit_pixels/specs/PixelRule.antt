@@ -2,7 +2,7 @@
 -- it.
 use Rattle.std.specs.Prelude.{◌≡◌, ℕ, List, [], ◌∷◌, ◌++◌, Some, None, IfSome, IsSome}
 use Rattle.std.specs.Prelude.{slice_index, slice_set}
-use Rattle.nit_pixels.specs.Below.{AllByRecursion, FitsLine, Identity, Ink, IsInked, IsWord, Line}
+use Rattle.nit_pixels.specs.Below.{AllByRecursion, FitsLine, Identity, IsInked, IsWord, Line}
 use Rattle.nit_pixels.specs.Below.{Me, PixelView, Stages, State, Step, blank, option_map}
 use Rattle.nit_pixels.specs.Below.{stages_from, table_size, zeros}
 use mathlib.Core.Option.{some}

@@ -1,8 +1,8 @@
 -- Words that stay 0 or of some colours where some are set.
 use Rattle.std.proofs.Common.{All, Bool, List, None, Some, [], ap, ap₂, arith, cond, false, get_or}
-use Rattle.std.proofs.Common.{length, refl, subst, sym, true, ℕ, ◌%◌, ◌-◌, ◌<◌, ◌==◌, ◌∙◌, ◌≡◌}
+use Rattle.std.proofs.Common.{length, refl, subst, sym, true, ℕ, ◌<◌, ◌∙◌, ◌≡◌}
 use Rattle.nit_word.proofs.Basics.{AreInkedBetween, Colours, Ink, IsOfColours, Sight, filled_up, get_or-eq_default, get_or_default, nat_tests}
-use Rattle.nit_word.proofs.Basics.{in_turn, inked_sight, is_between, set_where, slice_index}
+use Rattle.nit_word.proofs.Basics.{inked_sight, is_between, set_where, slice_index}
 use Rattle.nit_word.proofs.Basics.{Stages, with_words, zeros}
 use mathlib.Core.Logic.{dite}
 use native.Mathlib.Decide.{dec_lt}
