@@ -84,8 +84,8 @@ rounds_long : (count : ℕ) (all : List (List ActorLine)) → AllBelow count all
 unfolding lines_in
 rounds_long count [] h = no_actor (range_with_len 0 count)
 rounds_long count (ds ∷ all) h =
-    let here : length (flat_map (λ p. in_phase p (turns_of ds)) (range_with_len 0 count)) ≡ length ds =
-    ap length (phases_whole ds 0 0 count (subst (λ (n : ℕ). Below n (turns_of ds)) (sym (zero-add count)) (h 0)))
+    let here =
+    ap length (phases_whole ds 0 0 count (rw (← zero-add count) at (h 0)))
     ∙ moves_long 0 0 ds in
     one_actor (turns_of ds) (map turns_of all) (range_with_len 0 count)
     ∙ omega (arith, here, rounds_long count all (λ k. h (suc k)))

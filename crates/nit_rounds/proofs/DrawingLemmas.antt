@@ -67,12 +67,11 @@ moved_on config scripts d m s s' is moved are taken =
     let e : Option Entry = entry_of d.state m.doing in
     let tables : ℕ → List ℕ = tables_after config scripts (done_after m.doing d.done) in
     let loaded : AreLoaded d.state e (glass_in s'.glasses) s.raw s'.raw =
-    subst (λ (x : State). AreLoaded x (entry_of x m.doing) (glass_in s'.glasses) s.raw s'.raw) is.state
-    moved.words in
+    rw is.state at moved.words in
     record {
       state = moved.state ∙ ap (λ (x : State). state_after x (entry_of x m.doing)) is.state;
       words = λ k on_screen. words_more d.state e (glass_in s'.glasses) tables s.raw s'.raw d.word loaded are is.words k
-          (subst (λ (n : ℕ). k < n) (same_count d.state e) on_screen);
+          (rw (same_count d.state e) at on_screen);
       taken = taken;
     }
 
@@ -99,9 +98,8 @@ pub shows_drawn : {V : Type 0} (Shows : ShotFrame → V → V → Type 0) (confi
     → ShowsEach Shows d.shots first old → ShowsLine Shows l s old new
     → ShowsEach Shows (shots_after config (ByUser l) d) first new
 shows_drawn Shows config d s input.Shot first old new same is shown more =
-    subst (λ (f : ShotFrame). ShowsEach Shows (d.shots ++ f ∷ []) first new) (shot_is config d s same is)
-    (shows_more Shows d.shots (next_shot s) first old new shown more)
+    rw (shot_is config d s same is) at (shows_more Shows d.shots (next_shot s) first old new shown more)
 shows_drawn {V = V} Shows config d s (input.Device dev) first old new same is shown more =
-    subst (λ (x : V). ShowsEach Shows d.shots first x) (sym more) shown
+    rw (← more) at shown
 shows_drawn {V = V} Shows config d s input.Phase first old new same is shown more =
-    subst (λ (x : V). ShowsEach Shows d.shots first x) (sym more) shown
+    rw (← more) at shown

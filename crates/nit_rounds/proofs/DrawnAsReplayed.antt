@@ -79,7 +79,7 @@ behind s taken (ByClient sid (line.Call call)) (entry.Call t c r ∷ rest) left 
       puts = refl;
       now = taken;
       counts = omega arith;
-      legal = subst (λ (x : State). LegalFrom x taken rest) state_is legal.1;
+      legal = rw state_is at legal.1;
       leads = state_is;
       acts_left = more;
     }
@@ -103,7 +103,7 @@ behind s taken (ByUser (input.Device dev)) (entry.Input d r ∷ rest) left legal
       puts = refl;
       now = taken;
       counts = omega arith;
-      legal = subst (λ (x : State). LegalFrom x taken rest) state_is legal.1;
+      legal = rw state_is at legal.1;
       leads = state_is;
       acts_left = more;
     }

@@ -27,13 +27,9 @@ painted_moved : OneMore → (old new new' : SceneModel Sight) (glasses : ℕ →
 painted_moved more old new new' glasses e e' config recorded is same entry painted =
     let s : State = state_now old in
     let later : state_now new ≡ after s e = state_later more old new e config recorded in
-    let now : Painted s e (after s e) (glass_in new'.glasses) (glass_in new'.glasses) old.raw new'.raw =
-    subst (λ (raw : List ℕ). Painted s e (after s e) (glass_in new'.glasses) (glass_in new'.glasses) old.raw raw)
-    (sym (ap (λ (p : SceneModel Sight). p.raw) is))
-    (subst (λ (f : ℕ → Sight). Painted s e (after s e) f (glass_in new'.glasses) old.raw new.raw) same
-    (subst (λ (x : State). Painted s e x glasses (glass_in new'.glasses) old.raw new.raw) later painted)) in
-    subst (λ (x : Entry). IsMoved (Some x) old new') entry
-    (record {
+    let now =
+    rw (← ap (λ (p : SceneModel Sight). p.raw) is) at (rw same at (rw later at painted)) in
+    rw (← entry) (record {
       state = ap state_now is ∙ later;
       words =
           λ k on_screen. (λ is. (now.marked k on_screen is).0, λ is. now.others k (λ _. is));
@@ -55,14 +51,13 @@ served_moved more old new sid call r r' own own' config recorded glasses owns re
     every_of_call old.glasses sid own inside
     ∙ ap₂ (λ (gs : List Sight) (g : Sight). glass_in (set gs sid g)) (sym glasses) (sym owns) in
     let later : glasses_of_call (itself new.glasses) sid own' ≡ all =
-    every_of_call new.glasses sid own' (subst (λ (gs : List Sight). sid < length gs) (sym glasses) inside) in
+    every_of_call new.glasses sid own' (rw (← glasses) at inside) in
     painted_moved more old new (record new { glasses = set new.glasses sid own' })
     (glasses_of_call (itself old.glasses) sid own) e (entry.Call sid call r') config recorded refl before
     (ap (λ (x : Reply). entry.Call sid call x) reply)
-    (subst (λ (f : ℕ → Sight). Painted s e (state_now new) (glasses_of_call (itself old.glasses) sid own) f old.raw
-    new.raw) later painted)
+    (rw later at painted)
 
--- the same of what a device did
+-- what a device did is loaded
 pub input_moved : OneMore → (old new : SceneModel Sight) (dev : Device) (routed routed' : Routed)
     → new.config ≡ old.config → new.entries ≡ old.entries ++ entry.Input dev routed ∷ [] → new.glasses ≡ old.glasses
     → routed ≡ routed'
@@ -74,10 +69,7 @@ input_moved more old new dev routed routed' config recorded glasses same painted
     let s : State = state_now old in
     painted_moved more old new new (glass_in old.glasses) e (entry.Input dev routed') config recorded refl
     (ap (λ (gs : List Sight). glass_in gs) (sym glasses)) (ap (λ (x : Routed). entry.Input dev x) same)
-    (subst (λ (gs : List Sight). Painted s e (state_now new) (glass_in old.glasses) (glass_in gs) old.raw new.raw)
-    (same_list new.glasses)
-    (subst (λ (gs : List Sight). Painted s e (state_now new) (glass_in gs) (glass_in (itself new.glasses)) old.raw
-    new.raw) (same_list old.glasses) painted))
+    (rw (same_list new.glasses) at (rw (same_list old.glasses) at painted))
 
 -- a shot changes neither the state nor a raw word
 pub shot_moved : OneMore → (old new : SceneModel Sight) (number spare : ℕ)

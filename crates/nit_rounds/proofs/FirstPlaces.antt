@@ -30,9 +30,7 @@ kept_first scripts input few =
       long = refl;
       actor = omega arith;
       phase = omega arith;
-      stand = λ k d inside. subst (λ (p : LinePlace). StandsAt (phase_count scripts input) 0 p
-          (script_of scripts input k))
-          (sym (get_or-replicate 17 k first_place d (omega arith))) (stands_first scripts input k);
+      stand = λ k d inside. rw (← get_or-replicate 17 k first_place d (omega arith)) at (stands_first scripts input k);
     }
 
 lefts_first : (n : ℕ) (all : List (List ActorLine)) → length all ≤ n → lefts (replicate n first_place) all

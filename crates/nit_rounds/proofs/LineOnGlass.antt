@@ -16,8 +16,7 @@ pub painted_to : AreLong → (t : ℕ) (script : List Line) (donation k : ℕ) (
     → IsDonation donation → IsPlanOf script donation plan → g ≡ glass_after t script donation k
     → IsPaintedTo script donation plan k g
 painted_to long t script donation k plan g opens of is =
-    subst (λ (x : Sight). IsPaintedTo script donation plan k x) (sym is)
-    (record { opens = opens; planned = of; ink = refl; size = long script donation k opens.1; words = refl })
+    rw is (record { opens = opens; planned = of; ink = refl; size = long script donation k opens.1; words = refl })
 
 -- the glass of so many words
 abbrev sized : ℕ → List Line → List ℕ → ℕ → Sight
@@ -54,7 +53,7 @@ pub step_there : HaveSteps → (script : List Line) (donation k : ℕ) (plan : P
     (l : Line) → IsPlanOf script donation plan → steps ≡ plan.steps → slice_get script k ≡ Some l
     → get_or steps k d ≡ step_of (static script donation k) (static script donation (k + 1)) l
 step_there have script donation k plan steps d l of are here =
-    let listed : slice_get steps k ≡ Some (step_of (static script donation k) (static script donation (k + 1)) l) =
+    let listed =
     ap (λ (ss : List Step). slice_get ss k) (are ∙ ap (λ (p : PlanModel). p.steps) of)
     ∙ have script donation k l here in
     get_or_from_slice_get steps k _ d listed
@@ -73,8 +72,7 @@ fits long within wide tall t script donation k l step area own most is across do
     let size : own.size ≡ table_size donation = ap (λ (x : Sight). x.size) now ∙ long script donation (k + 1) most in
     let rows : (area.y + area.h) * step.w ≤ step.h * step.w = mul-le-mul_right step.w down in
     let all : step.w * step.h ≤ table_size donation =
-    subst (λ n. n ≤ table_size donation) (sym (ap₂ (λ (a b : ℕ). a * b) w h))
-    (within script donation (k + 1) most) in record {
+    rw (← ap₂ (λ (a b : ℕ). a * b) w h) at (within script donation (k + 1) most) in record {
       wide = omega (arith, w, wide script donation (k + 1) most);
       tall = omega (arith, h, down, tall script donation (k + 1) most);
       columns = across;

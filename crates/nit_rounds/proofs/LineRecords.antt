@@ -1,6 +1,6 @@
 -- A line, done: what stays of the scene, and what is recorded.
-use Rattle.nit_rounds.proofs.Basics.{AreQuietBut, ByClient, Call, CanCall, DoesClientLine}
-use Rattle.nit_rounds.proofs.Basics.{DoesUserLine, Entry, HasSession, IsBehind, IsDonation, IsMoved}
+use Rattle.nit_rounds.proofs.Basics.{AreQuietBut, ByClient, Call, DoesClientLine}
+use Rattle.nit_rounds.proofs.Basics.{DoesUserLine, Entry, HasSession, IsBehind, IsDonation, IsGlass, IsMoved}
 use Rattle.nit_rounds.proofs.Basics.{IsOpen}
 use Rattle.nit_rounds.proofs.Basics.{IsRecorded, Line, List, None, Option, SceneModel, Sight, Some}
 use Rattle.nit_rounds.proofs.Basics.{Stale, State, [], ap, arith, donation_of, entry_of}
@@ -16,17 +16,26 @@ use Rattle.nit_rounds.proofs.Copies.{with_glass_of}
 use Rattle.nit_rounds.proofs.EntryEffects.{OneMore, shot_moved}
 use Rattle.nit_rounds.proofs.LineOnGlass.{AreLong}
 
+-- the session's client may call the scene by this own glass: no glass tells a log, but for that of
+-- the session on the scene, and the open journal has room for the call
+pub record CanCall (s : SceneModel Sight) (sid : ℕ) (glass : Sight) : Type 0 where
+  pub there : HasSession s sid
+  pub own : IsGlass s.config sid glass
+  pub quiet_own : glass.log ≡ None
+  pub quiet : AreQuietBut sid s.glasses
+  pub spare : 1 ≤ s.spare
+  pub unended : IsOpen s.entries
+
 -- what was drawn in the own glass, and copied to the scene's, leaves room for a call by it
 pub can_call : AreLong → (old mid : SceneModel Sight) (sid : ℕ) (script : List Line) (k : ℕ) (there own : Sight)
     → mid ≡ with_glass_of old sid there → HasSession old sid → IsDonation (donation_of old.config sid)
     → own ≡ glass_after sid script (donation_of old.config sid) k → AreQuietBut sid old.glasses → 1 ≤ old.spare
     → IsOpen old.entries → CanCall mid sid own
 can_call long old mid sid script k there own is has opens own_is quiet room unended =
-    subst (λ (p : SceneModel Sight). CanCall p sid own) (sym is)
-    (record {
+    rw is (record {
       there = record {
         session = has.session;
-        glasses = subst (λ (n : ℕ). sid < n) (sym (length-set old.glasses sid there)) has.glasses;
+        glasses = rw (← length-set old.glasses sid there) at has.glasses;
       };
       own = (
         ap (λ (x : Sight). x.owner) own_is,
@@ -65,7 +74,7 @@ pub call_done : (sid : ℕ) (call : Call) (old mid new : SceneModel Sight) (ther
     → mid ≡ with_glass_of old sid there → DoesClientLine sid (line.Call call) mid new own'
     → DoesClientLine sid (line.Call call) old new own'
 call_done sid call old mid new there own' is does =
-    let now = subst (λ (p : SceneModel Sight). DoesClientLine sid (line.Call call) p new own') is does in
+    let now = rw is at does in
     record {
       config = now.config;
       unended = now.unended;
@@ -87,11 +96,10 @@ pub none_done : (sid : ℕ) (l : Line) (old mid : SceneModel Sight) (there own' 
 none_done sid l old mid there own' other is unended =
     record {
       config = ap (λ (p : SceneModel Sight). p.config) is;
-      unended = subst (λ (p : SceneModel Sight). IsOpen p.entries) (sym is) unended;
+      unended = rw is unended;
       spare = ap (λ (p : SceneModel Sight). length p.entries + p.spare) is;
       recorded = no_record l sid old.entries mid.entries other (ap (λ (p : SceneModel Sight). p.entries) is);
-      moved = subst (λ (e : Option Entry). IsMoved e old (with_glass_of mid sid own'))
-          (no_entry (state_now old) l sid other) (record {
+      moved = rw (← no_entry (state_now old) l sid other) (record {
             state = ap (λ (p : SceneModel Sight). state_now p) is;
             words = ap (λ (p : SceneModel Sight). p.raw) is;
           });
@@ -102,7 +110,7 @@ pub as_found : (script : List Line) (k sid : ℕ) (l : Line) (s s' : SceneModel 
     → slice_get script k ≡ Some l → DoesClientLine sid l s s' own'
     → (x : Line) → slice_get script k ≡ Some x → DoesClientLine sid x s s' own'
 as_found script k sid l s s' own' here does x there =
-    subst (λ (y : Line). DoesClientLine sid y s s' own') (same_Some _ _ (sym here ∙ there)) does
+    rw (same_Some _ _ (sym here ∙ there)) at does
 
 -- ---- a user's line
 
@@ -126,8 +134,7 @@ pub behind_still : (stale : Option Stale) (sid : ℕ) (mid new : SceneModel Sigh
     → new.glasses ≡ mid.glasses → own' ≡ own → IsBehind stale sid (glass_in mid.glasses sid) own
     → IsBehind stale sid (glass_in new.glasses sid) own'
 behind_still stale sid mid new own own' glasses owns behind =
-    subst (λ (gs : List Sight). IsBehind stale sid (glass_in gs sid) own') (sym glasses)
-    (subst (λ (g : Sight). IsBehind stale sid (glass_in mid.glasses sid) g) (sym owns) behind)
+    rw (← glasses) at (rw (← owns) at behind)
 
 pub glasses_still : (sid : ℕ) (old mid new : SceneModel Sight) → new.glasses ≡ mid.glasses
     → mid ≡ with_glass_of old sid (glass_in mid.glasses sid)

@@ -120,8 +120,7 @@ unfolding numbers
 done_before of script all front m back l lines counts parts one =
     let by : front_lines of front ++ l ∷ front_lines of back ≡ script =
     sym (around (λ x. of x.doing) all front m back l parts one) ∙ lines in
-    let counted : flat_map (numbers of) front ++ m.number ∷ flat_map (numbers of) back
-    ≡ range_with_len 0 (length script) =
+    let counted =
     sym (around (numbers of) all front m back m.number parts (ap (map (λ _. m.number)) one)) ∙ counts in
     done_at of script (front_lines of front) l (front_lines of back) front m.number by refl
     (number_is (flat_map (numbers of) front) m.number (flat_map (numbers of) back) (length script) counted
@@ -139,7 +138,7 @@ client_done scripts input front back m s l parts by =
       elim (cases_lt s (length scripts)) [
         | inl inside ↦ inside
         | inr past ↦ absurd (nothing_there l m.number
-            (subst (λ (x : List Line). slice_get x m.number ≡ Some l) (get_or_past scripts s [] past) found.0))
+            (rw (get_or_past scripts s [] past) at found.0))
       ],
       found.0,
       found.1,

@@ -156,7 +156,7 @@ rest_first : (b : Bool) (p k n : ℕ) (ds : List ActorLine) → RestWhole ds
 rest_first true p k n ds whole h =
     let more : p + suc n ≡ suc p + n = omega arith in
     rw (later p (suc p) k ds (omega arith), add-one)
-    (whole (suc p) k n (subst (λ (c : ℕ). Below c (turns_from (suc p) k ds)) more h))
+    (whole (suc p) k n (rw more at h))
 rest_first false p k n ds whole h = whole p k (suc n) h
 
 pub phases_whole : (ds : List ActorLine) → RestWhole ds

@@ -58,7 +58,7 @@ rounds_alone : (script : List Line) (lines : List InputLine) → user_actions_to
 rounds_alone script lines idle =
     let moves = rounds (script ∷ []) lines in
     alone moves 0 0 (λ t. client_lines (script ∷ []) lines (suc t))
-    (subst (λ (ls : List InputLine). user_actions_from 0 ls ≡ []) (sym (user_lines (script ∷ []) lines)) idle)
+    (rw (← user_lines (script ∷ []) lines) at idle)
     ∙ ap (λ (ls : List Line). map (Calls 0) (done (calls_from 0 ls))) (client_lines (script ∷ []) lines 0)
 
 -- ---- the journal
@@ -87,7 +87,7 @@ pub by_rounds_alone : (config : Configuration) (script : List Line) (lines : Lis
 by_rounds_alone config script lines journal one idle legal whole =
     let (front, ends) = whole.ends in
     let own = journal_alone (first_state config) 0 front (as_many_as_clients config [] ∙ one)
-    (subst (λ (js : List Entry). IsLegal config js) ends legal) (ap user_actions_of (sym ends) ∙ whole.actions
+    (rw ends at legal) (ap user_actions_of (sym ends) ∙ whole.actions
     ∙ ap done idle) in (
       front,
       own ∙ ap (map (Calls 0)) (ap (calls_of 0) (sym ends) ∙ whole.calls 0 (omega arith))

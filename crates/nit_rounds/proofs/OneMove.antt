@@ -56,14 +56,12 @@ pub room_for : (scripts : List (List Line)) (lines : List InputLine) (before now
     → actions_of_line m.doing ≡ a ∷ []
     → length (actions_of_turns (rounds scripts lines)) ≤ before.spare → 1 ≤ now.spare
 room_for scripts lines before now owns m left a w one room =
-    let all : length (actions_of_turns (rounds scripts lines))
-    ≡ length (actions_of_turns w.front) + length (actions_of_turns (m ∷ left)) =
+    let all =
     ap (λ (ms : List LineTurn). length (actions_of_turns ms)) w.parts
     ∙ ap (λ (xs : List Action). length xs)
     (flat_map-append (λ (x : LineTurn). actions_of_line x.doing) w.front (m ∷ left))
     ∙ length-append (actions_of_turns w.front) (actions_of_turns (m ∷ left)) in
-    let more : length (actions_of_turns (m ∷ left))
-    ≡ length (actions_of_line m.doing) + length (actions_of_turns left) =
+    let more =
     length-append (actions_of_line m.doing) (actions_of_turns left) in
     let here : length (actions_of_line m.doing) ≡ 1 = ap (λ (xs : List Action). length xs) one in
     let long : length now.entries ≡ length (actions_of_turns w.front) = sym (length-map now.entries action_of)
@@ -79,5 +77,5 @@ quiet_now scripts lines before now owns left w t =
     ∙ elim (cases_lt t (length scripts)) [
       | inl inside ↦ ap (λ (g : Sight). g.log) (w.done t inside)
       | inr past ↦ ap (λ (g : Sight). g.log)
-          (get_or_past owns t no_sight (subst (λ (n : ℕ). n ≤ t) (sym w.owns_each) past))
+          (get_or_past owns t no_sight (rw (← w.owns_each) at past))
     ]

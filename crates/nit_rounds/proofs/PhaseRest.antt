@@ -129,7 +129,7 @@ all_short : (all : List (List LineTurn)) → ((i : ℕ) → i < length all → g
 all_short [] none = tt
 all_short (l ∷ all) none =
     let here : l ≡ [] = none 0 (omega arith) in (
-      subst (λ (x : List LineTurn). length x ≤ 0) (sym here) (omega arith),
+      rw here (omega arith),
       all_short all (λ i below_. none (suc i) (omega arith)),
     )
 

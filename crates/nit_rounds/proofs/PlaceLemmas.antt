@@ -25,7 +25,7 @@ pub script_user : (scripts : List (List Line)) (input : List InputLine) (k : ℕ
     → k ≤ length scripts → script_of scripts input k ≡ map ByUser input
 script_user scripts input k low high =
     let same : length scripts ≡ k = omega arith in
-    subst (λ (n : ℕ). script_of scripts input n ≡ map ByUser input) same (script_of_user 0 scripts (map ByUser input))
+    rw same at (script_of_user 0 scripts (map ByUser input))
 
 pub client_long : (scripts : List (List Line)) (input : List InputLine) (k : ℕ) (x : List Line) → k < length scripts
     → x ≡ get_or scripts k x → length x ≡ length (script_of scripts input k)
@@ -46,7 +46,7 @@ end_in f (x ∷ ls) (suc n) l d inside is e = end_in f ls n l d (omega arith) is
 pub client_inside : (scripts : List (List Line)) (input : List InputLine) (k n : ℕ) (x y : List Line)
     → k < length scripts → x ≡ get_or scripts k x → y ≡ x → n < length (script_of scripts input k) → n < length y
 client_inside scripts input k n x y inside is same h =
-    subst (λ (m : ℕ). n < m) (sym (ap length same ∙ client_long scripts input k x inside is)) h
+    rw (← (ap length same ∙ client_long scripts input k x inside is)) at h
 
 clients_long : (sid : ℕ) (scripts : List (List Line)) → length (clients_from sid scripts) ≡ length scripts
 clients_long sid [] = refl
@@ -63,14 +63,13 @@ has_script : (scripts : List (List Line)) (input : List InputLine) (k n : ℕ) �
 has_script scripts input k n h =
     elim (cases_lt k (length (actors scripts input))) [
       | inl inside ↦ omega (arith, actors_long scripts input)
-      | inr past ↦ absurd (let none : n < 0 = subst (λ (ds : List ActorLine). n < length ds)
-          (get_or_past (actors scripts input) k [] past) h in omega arith)
+      | inr past ↦ absurd (let none : n < 0 = rw (get_or_past (actors scripts input) k [] past) at h in omega arith)
     ]
 
 pub user_inside : (scripts : List (List Line)) (input : List InputLine) (k n : ℕ) (y : List InputLine)
     → length scripts ≤ k → y ≡ input → n < length (script_of scripts input k) → n < length y
 user_inside scripts input k n y low same h =
-    subst (λ (m : ℕ). n < m) (sym (ap length same ∙ user_long scripts input k low (has_script scripts input k n h))) h
+    rw (← (ap length same ∙ user_long scripts input k low (has_script scripts input k n h))) at h
 
 pub client_end : (scripts : List (List Line)) (input : List InputLine) (k n : ℕ) (x y : List Line) (l : Line)
     (d : ActorLine) → k < length scripts → x ≡ get_or scripts k x → y ≡ x → n < length (script_of scripts input k)
@@ -79,7 +78,7 @@ client_end scripts input k n x y l d inside is same h at e =
     let here : script_of scripts input k ≡ map (ByClient k) y = script_client scripts input k inside
     ∙ ap (map (ByClient k)) (get_or_default scripts k [] x inside ∙ sym is ∙ sym same) in
     ap ends_phase (end_in (ByClient k) y n l d (client_inside scripts input k n x y inside is same h) at
-    (subst (λ (ds : List ActorLine). slice_get ds n ≡ Some d) here e))
+    (rw here at e))
 
 pub user_end : (scripts : List (List Line)) (input : List InputLine) (k n : ℕ) (y : List InputLine) (other : InputLine)
     (d : ActorLine) → length scripts ≤ k → y ≡ input → n < length (script_of scripts input k)
@@ -89,7 +88,7 @@ user_end scripts input k n y other d low same h e =
     script_user scripts input k low (has_script scripts input k n h) ∙ ap (map ByUser) (sym same) in
     let inside = user_inside scripts input k n y low same h in
     ap ends_phase (end_in ByUser y n (get_or y n other) d inside (get_or_default y n other (get_or y n other) inside)
-    (subst (λ (ds : List ActorLine). slice_get ds n ≡ Some d) here e))
+    (rw here at e))
 
 -- ---- what each actor has left
 
@@ -175,14 +174,11 @@ pub step_stands : (count phase : ℕ) (place : LinePlace) (ds : List ActorLine) 
     → StandsAt count phase (stepped place (ends_phase (get_or ds place.line d))) ds
 step_stands count phase place ds d inside same stands =
     let up = stepped_up (ends_phase (get_or ds place.line d)) place.phase in
-    let low : place.phase ≤ cond (ends_phase (get_or ds place.line d)) (place.phase + 1) place.phase = up.0 in
-    let high : cond (ends_phase (get_or ds place.line d)) (place.phase + 1) place.phase ≤ suc place.phase = up.1 in
+    let low = up.0 in
+    let high = up.1 in
     let small : place.phase ≤ place.line = stands.small in
-    let parts : AllByRecursion (λ m. m.phase < count)
-    (record { phase = place.phase; number = place.line; doing = get_or ds place.line d }
-    ∷ left_at (stepped place (ends_phase (get_or ds place.line d))) ds) =
-    subst (λ (t : List LineTurn). AllByRecursion (λ m. m.phase < count) t) (left_first place ds d inside)
-    stands.within in
+    let parts =
+    rw (left_first place ds d inside) at stands.within in
     record { reached = λ _. omega arith; near = λ _. omega arith; small = omega arith; within = parts.1 }
 
 -- the phase ends for an actor that has no line to do in it

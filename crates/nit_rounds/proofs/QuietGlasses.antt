@@ -67,7 +67,7 @@ same_glasses f old new sid own own' quiet were idle rests =
     let long : length new ≡ length old = sym (length-map new f) ∙ ap (λ xs. length xs) rests ∙ length-map old f in
     ext_get_or no_sight new old long (λ t inside. same_at old new sid own own' quiet were idle t)
 
--- the same of an event that is no call
+-- an event that is no call leaves the glasses, where none tells a log
 pub same_seen : {R : Type 0} (f : Sight → R) (old new : List Sight) → AreQuiet old
     → ((t : ℕ) → (loads : List (ℕ × ℕ)) × (glass_in (itself new) t ≡ seen (glass_in (itself old) t) loads))
     → map f new ≡ map f old → new ≡ old

@@ -32,7 +32,7 @@ from_lower low mid (x ∷ xs) h r = (le_trans h r.0, r.1)
 same_then : (q : ℕ) (xs ys : List ℕ) → AllByRecursion (λ x. x ≡ q) xs → Rising q ys → Rising q (xs ++ ys)
 same_then q [] ys h r = r
 same_then q (x ∷ xs) ys h r =
-    (le_of_eq (sym h.0), subst (λ (n : ℕ). Rising n (xs ++ ys)) (sym h.0) (same_then q xs ys h.1 r))
+    (le_of_eq (sym h.0), rw (← h.0) at (same_then q xs ys h.1 r))
 
 -- ---- the moves of one phase
 

@@ -83,7 +83,7 @@ walk_rest zero all e =
     sym (all_walk (map (drop 1) all) ∙ ap (λ (k : ℕ). walk k (map (drop 1) all)) none)
 walk_rest (suc n) all e =
     let less : greatest (map length (map (drop 1) all)) ≡ n = omega (arith, greatest_drop all) in
-    walk_less n (map (drop 1) all) (short_drop n all (subst (λ (k : ℕ). Short k all) e (short_greatest all)))
+    walk_less n (map (drop 1) all) (short_drop n all (rw e at (short_greatest all)))
     ∙ sym (all_walk (map (drop 1) all) ∙ ap (λ (k : ℕ). walk k (map (drop 1) all)) less)
 
 -- the first round, and then those of what is left

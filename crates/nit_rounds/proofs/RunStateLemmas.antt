@@ -118,15 +118,12 @@ drawn_on : (config : Configuration) (scripts : List (List Line)) (front : List L
     → IsDrawn (drawn config scripts (front ++ m ∷ [])) s'
 drawn_on config scripts front m s s' owns same each tell counts is moved taken =
     let d : Drawing = drawn config scripts front in
-    let more : drawn config scripts (front ++ m ∷ []) ≡ after_turn config scripts d m =
+    let more =
     drawn_more config scripts front m in
     let done : (t : ℕ) → length (lines_of t (front ++ m ∷ [])) ≡ done_after m.doing d.done t = λ t. sym (counts t)
     ∙ ap (λ (x : Drawing). x.done t) more in
-    subst (λ (x : Drawing). IsDrawn x s') (sym more)
-    (moved_on config scripts d m s s' is moved
-    (subst (λ (gs : List Sight). AreOf (glass_in gs) (tables_after config scripts (done_after m.doing d.done)))
-    (sym same)
-    (tables_told config scripts owns (done_after m.doing d.done) each
+    rw (← more) at (moved_on config scripts d m s s' is moved
+    (rw (← same) at (tables_told config scripts owns (done_after m.doing d.done) each
     (λ t inside. tell t inside ∙ ap (λ (n : ℕ). glass_after t (script_in scripts t) (donation_of config t) n)
     (done t)))) taken)
 
@@ -168,10 +165,9 @@ after_client Fits Shows scripts lines before now now' owns owns' m left sid numb
         counts = counts_on before.config scripts w.front m w.counts;
         is_drawn = drawn_on before.config scripts w.front m now now' owns' same each done
             (counts_on before.config scripts w.front m w.counts) w.is_drawn
-            (subst (λ (d : ActorLine). IsMoved (entry_of (state_now now) d) now now') (sym move.doing) moved) taken;
+            (rw move.doing moved) taken;
       };
-      shown = subst (λ (fs : List ShotFrame). ShowsEach Shows fs first last)
-          (sym (ap (λ (d : Drawing). d.shots) (drawn_more before.config scripts w.front m) ∙ no_shot)) p.shown;
+      shown = rw (← (ap (λ (d : Drawing). d.shots) (drawn_more before.config scripts w.front m) ∙ no_shot)) at p.shown;
       fits = p.fits;
     }
   where
@@ -192,7 +188,7 @@ after_client Fits Shows scripts lines before now now' owns owns' m left sid numb
 
     this : IsDone sid
     this =
-        let there : sid < length owns = subst (λ (n : ℕ). sid < n) (sym w.owns_each) move.inside in
+        let there : sid < length owns = rw (← w.owns_each) at move.inside in
         ap (λ (gs : List Sight). glass_in gs sid) put ∙ get_or-set_same owns sid own' no_sight there ∙ own
         ∙ ap (λ (c : Configuration). glass_after sid (script_in scripts sid) (donation_of c sid) (number + 1)) w.config
         ∙ ap (λ (n : ℕ). glass_after sid (script_in scripts sid) (donation_of before.config sid) n) (sym counted)
@@ -239,7 +235,7 @@ user_shots config d (input.Device dev) before after' recorded taken = taken
     ∙ sym (device_shots before after' dev recorded)
 user_shots config d input.Phase before after' recorded taken = taken ∙ sym (ap shots recorded)
 
--- the same for the user
+-- what one turn of the user leaves
 pub after_user : {V : Type 0} (Fits : ℕ → ℕ → V → Type 0) (Shows : ShotFrame → V → V → Type 0)
     (scripts : List (List Line)) (lines : List InputLine) (before now now' : SceneModel Sight) (owns : List Sight)
     (m : LineTurn) (left : List LineTurn) (l : InputLine) (first old last : V)
@@ -264,17 +260,15 @@ after_user Fits Shows scripts lines before now now' owns m left l first old last
         counts = counts_on before.config scripts w.front m w.counts;
         is_drawn = drawn_on before.config scripts w.front m now now' owns (does.glasses ∙ w.same) w.owns_each done
             (counts_on before.config scripts w.front m w.counts) w.is_drawn
-            (subst (λ (d : ActorLine). IsMoved (entry_of (state_now now) d) now now') (sym doing) does.moved)
+            (rw doing does.moved)
             (ap (λ (d : ActorLine). length (shots_after before.config d (drawn before.config scripts w.front))) doing
             ∙ user_shots before.config (drawn before.config scripts w.front) l now.entries now'.entries does.recorded
             w.is_drawn.taken);
       };
-      shown = subst (λ (fs : List ShotFrame). ShowsEach Shows fs first last)
-          (sym (ap (λ (d : Drawing). d.shots) (drawn_more before.config scripts w.front m)
-          ∙ ap (λ (d : ActorLine). shots_after before.config d (drawn before.config scripts w.front)) doing))
-          (shows_drawn Shows before.config (drawn before.config scripts w.front) now l first old last w.config
+      shown = rw (← (ap (λ (d : Drawing). d.shots) (drawn_more before.config scripts w.front m)
+          ∙ ap (λ (d : ActorLine). shots_after before.config d (drawn before.config scripts w.front)) doing)) at (shows_drawn Shows before.config (drawn before.config scripts w.front) now l first old last w.config
           w.is_drawn p.shown more);
-      fits = subst (λ (c : Configuration). Fits c.width c.height last) w.config fits;
+      fits = rw w.config at fits;
     }
   where
     w : IsUnderWay scripts lines before now owns (m ∷ left)
@@ -295,7 +289,7 @@ bare_under sizes p true = refl
 bare_under sizes p false = refl
 
 raw_bare : (source : PixelSource) (w : ℕ) → source ≡ Bare → IsRawOf source w → w ≡ bare_word
-raw_bare source w is raw = subst (λ (x : PixelSource). IsRawOf x w) is raw
+raw_bare source w is raw = rw is at raw
 
 opening_bare : (config : Configuration) (raw : List ℕ) → AreRaw (first_state config) raw → (k : ℕ)
     → k < pixel_count (first_state config) → slice_index_or raw k 0 ≡ bare_word
@@ -323,14 +317,13 @@ begun Fits Shows scripts lines plans before owns left first all set_up none raw 
         owns_each = set_up.owns_each;
         done = set_up.blank;
         counts = λ t. ap (λ (d : Drawing). d.done t) (none_drawn before.config scripts);
-        is_drawn = subst (λ (d : Drawing). IsDrawn d before) (sym (none_drawn before.config scripts)) (record {
+        is_drawn = rw (none_drawn before.config scripts) (record {
           state = opened;
-          words = opening_bare before.config before.raw (subst (λ (s : State). AreRaw s before.raw) opened raw);
+          words = opening_bare before.config before.raw (rw opened at raw);
           taken = sym (ap shots none);
         });
       };
-      shown = subst (λ (fs : List ShotFrame). ShowsEach Shows fs first first)
-          (sym (ap (λ (d : Drawing). d.shots) (none_drawn before.config scripts))) refl;
+      shown = rw (ap (λ (d : Drawing). d.shots) (none_drawn before.config scripts)) refl;
       fits = fits;
     }
   where
@@ -359,8 +352,7 @@ pub all_shown : {V : Type 0} (Fits : ℕ → ℕ → V → Type 0) (Shows : Shot
     → IsShowing Fits Shows scripts lines before now owns left first last → left ≡ []
     → ShowsEach Shows (shot_frames_of before.config scripts lines) first last
 all_shown Fits Shows scripts lines before now owns left first last p over =
-    subst (λ (ms : List LineTurn). ShowsEach Shows (drawn before.config scripts ms).shots first last)
-    (all_done scripts lines before now owns left p.way over) p.shown
+    rw (all_done scripts lines before now owns left p.way over) at p.shown
 
 pub ended : EachOnce → AllLines
     → (scripts : List (List Line)) (lines : List InputLine) (before now : SceneModel Sight) (owns : List Sight)

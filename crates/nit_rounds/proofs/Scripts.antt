@@ -93,8 +93,7 @@ below scripts input k =
     elim (cases_lt k (length scripts)) [
       | inl inside ↦ client_below scripts input k inside
       | inr past ↦ elim (cases_eq (length scripts) k) [
-        | inl same ↦ subst (λ (n : ℕ). Below (phase_count scripts input)
-            (turns_of (get_or (actors scripts input) n []))) same (user_below scripts input)
+        | inl same ↦ rw same at (user_below scripts input)
         | inr other ↦ rw (script_of_nobody 0 k scripts (map ByUser input) (omega arith)) tt
       ]
     ]
@@ -110,8 +109,7 @@ project g scripts input k h =
     (ap (λ (x : List LineTurn). flat_map (λ p. in_phase p x) (range_with_len 0 (phase_count scripts input)))
     (get_map turns_of refl k (actors scripts input))
     ∙ phases_whole (get_or (actors scripts input) k []) 0 0 (phase_count scripts input)
-    (subst (λ (n : ℕ). Below n (turns_of (get_or (actors scripts input) k [])))
-    (sym (zero-add (phase_count scripts input))) (below scripts input k)))
+    (rw (← zero-add (phase_count scripts input)) at (below scripts input k)))
 
 -- g takes nothing of other clients' lines, and nothing of the user's lines
 abbrev pub NotOthers : {B : Type 0} → (LineTurn → List B) → ℕ → Type 0

@@ -59,19 +59,17 @@ shots_in_more (f ∷ front) m = by (shoots f.doing) (cond (shoots m.doing) 1 0) 
 -- entries without a shot have no file
 no_file : (P : List Entry → List ℕ → Type 0) (before put rest : List Entry) (files : List File) → shots put ≡ 0
     → ShotsBehind P (before ++ put) rest files → ShotsBehind P before (put ++ rest) files
-no_file P before [] rest files none h = subst (λ (es : List Entry). ShotsBehind P es rest files) (append-nil before) h
+no_file P before [] rest files none h = rw (append-nil before) at h
 no_file P before (entry.Shot k ∷ put) rest files none h = absurd (omega arith)
 no_file P before (entry.Call t c q ∷ put) rest files none h =
     no_file P (before ++ entry.Call t c q ∷ []) put rest files none
-    (subst (λ (es : List Entry). ShotsBehind P es rest files)
-    (sym (append_assoc before (entry.Call t c q ∷ []) put)) h)
+    (rw (← append_assoc before (entry.Call t c q ∷ []) put) at h)
 no_file P before (entry.Input dev routed ∷ put) rest files none h =
     no_file P (before ++ entry.Input dev routed ∷ []) put rest files none
-    (subst (λ (es : List Entry). ShotsBehind P es rest files)
-    (sym (append_assoc before (entry.Input dev routed ∷ []) put)) h)
+    (rw (← append_assoc before (entry.Input dev routed ∷ []) put) at h)
 no_file P before (entry.Final ∷ put) rest files none h =
     no_file P (before ++ entry.Final ∷ []) put rest files none
-    (subst (λ (es : List Entry). ShotsBehind P es rest files) (sym (append_assoc before (entry.Final ∷ []) put)) h)
+    (rw (← append_assoc before (entry.Final ∷ []) put) at h)
 
 -- a line that is no shot puts none, and makes no picture
 record Plain (config : Configuration) (doing : ActorLine) (taken : ℕ) (put : List Entry) : Type 0 where
@@ -138,7 +136,7 @@ module _ (config : Configuration) (scripts : List (List Line)) (lines : List Inp
       let moves : turns_before (shots before) (rounds scripts lines) ≡ front =
       ap (λ (n : ℕ). turns_before n (rounds scripts lines)) (h.entries_shot ∙ sym h.lines_shot)
       ∙ ap (λ (ms : List LineTurn). turns_before (shots_in front) ms) parts ∙ before_it front m left is in
-      let word : (drawn_by_shot config scripts lines (shots before)).word ≡ d.word =
+      let word =
       ap (λ (ms : List LineTurn). (fold after' (opening_drawing config) ms).word) moves
       ∙ ap (λ (x : Drawing). x.word) h.drawn_is in
       ap (λ (s : State). picture_of config s d.word) h.state_is
@@ -152,7 +150,7 @@ module _ (config : Configuration) (scripts : List (List Line)) (lines : List Inp
         frames = [];
         drawn_too = sym (append-nil d.shots);
         are =
-            subst (λ (es : List Entry). ShotsBehind IsPicture before es []) (sym (none_left journal is)) refl;
+            rw (none_left journal is) refl;
       }
   all_left (m ∷ left) front taken before journal d parts h legal is =
       let b = behind d.state taken m.doing journal (actions_of_turns left) legal is in
@@ -212,8 +210,7 @@ module _ (config : Configuration) (scripts : List (List Line)) (lines : List Inp
             record {
               frames = more.frames;
               drawn_too = more.drawn_too ∙ ap (λ (fs : List ShotFrame). fs ++ more.frames) (p.same d);
-              are = subst (λ (es : List Entry). ShotsBehind IsPicture before es (map shot_file more.frames))
-                  (sym b.parts) (no_file IsPicture before b.put b.rest (map shot_file more.frames) p.none more.are);
+              are = rw (← b.parts) at (no_file IsPicture before b.put b.rest (map shot_file more.frames) p.none more.are);
             }
       ]
 
@@ -235,7 +232,7 @@ module _ (config : Configuration) (scripts : List (List Line)) (lines : List Inp
       let r = all_left (rounds scripts lines) [] 0 [] journal (opening_drawing config) refl
       (record { drawn_is = refl; lines_shot = refl; pictures = refl; entries_shot = refl; state_is = refl }) legal
       is in
-      subst (λ (fs : List ShotFrame). ShotsBehind IsPicture [] journal (map shot_file fs)) (sym r.drawn_too) r.are
+      rw (← r.drawn_too) at r.are
 
   pub shots_drawn : (journal : List Entry) → IsLegal config journal → AreRoundsOf journal scripts lines
       → AreShotsOf IsPicture (journal ++ entry.Final ∷ []) (shots_of config scripts lines)

@@ -5,7 +5,7 @@ use Rattle.nit_rounds.proofs.Basics.{PutState, PutsAll, PutsNext, ShotFrame, Sho
 -- one frame more
 pub shows_more : {V : Type 0} (Shows : ShotFrame → V → V → Type 0) (front : List ShotFrame) (f : ShotFrame)
     (old mid new : V) → ShowsEach Shows front old mid → Shows f mid new → ShowsEach Shows (front ++ f ∷ []) old new
-shows_more {V = V} Shows [] f old mid new same more = (new, subst (λ (x : V). Shows f x new) same more, refl)
+shows_more {V = V} Shows [] f old mid new same more = (new, rw same at more, refl)
 shows_more Shows (g ∷ front) f old mid new (next, first, rest) more =
     (next, first, shows_more Shows front f next mid new rest more)
 

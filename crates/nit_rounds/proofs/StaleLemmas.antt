@@ -89,9 +89,9 @@ word_copied p now old n long same =
     elim (cases_lt n (length old)) [
       | inl inside ↦ go (p n) refl ∙ sym (word_at p (slice_index now) old n inside)
       | inr past ↦
-          get_or_past now n 0 (subst (λ (m : ℕ). m ≤ n) (sym long) past)
+          get_or_past now n 0 (rw (← long) at past)
           ∙ sym (get_or_past (set_where p (slice_index now) old) n 0
-          (subst (λ (m : ℕ). m ≤ n) (sym (set_long p (slice_index now) old)) past))
+          (rw (← set_long p (slice_index now) old) at past))
     ]
   where
     go : (b : Bool) → p n ≡ b → slice_index now n ≡ cond (p n) (slice_index now n) (slice_index old n)
@@ -144,7 +144,7 @@ pub nothing_drawn : AreLong → StayElsewhere → (t : ℕ) (script : List Line)
     → glass_after t script donation k ≡ glass_after t script donation (k + 1)
 nothing_drawn long stay t script donation k l opens here none =
     let step = step_of (static script donation k) (static script donation (k + 1)) l in
-    let as_long : length (words_after script donation k) ≡ length (words_after script donation (k + 1)) =
+    let as_long =
     long script donation k opens.1 ∙ sym (long script donation (k + 1) opens.1) in
     ap (λ (ws : List ℕ). inked_sight t ws (ink script))
     (ext_get_or 0 (words_after script donation k) (words_after script donation (k + 1)) as_long
@@ -188,7 +188,7 @@ drawn_but long stay t script donation k l step area p there own own' opens here 
         let neither = or_parts (p n) (is_number_in step.w area n) not in
         let outside : is_set_by l step (n % step.w) (n / step.w) ≡ false = sym (set (n % step.w) (n / step.w))
         ∙ neither.1 in
-        stay script donation k n l here (subst (λ (st : Step). is_set_by l st (n % st.w) (n / st.w) ≡ false) is outside)
+        stay script donation k n l here (rw is at outside)
         ∙ ap (λ (ws : List ℕ). slice_index ws n) before ∙ b.same n neither.0
 
 -- ---- the scene's glasses
@@ -226,10 +226,10 @@ behind_again None glasses glasses' owns owns' sid there own inside others gs os 
 behind_again (Some a) glasses glasses' owns owns' sid there own inside others gs os b =
     subst (λ (t : ℕ). (t < length owns') × (set glasses' t (glass_in owns' t) ≡ owns')
     × IsBehindBy a t (glass_in glasses' t) (glass_in owns' t)) (sym b.of)
-    (subst (λ (n : ℕ). sid < n) (sym (ap length os ∙ length-set owns sid own)) inside, all, now)
+    (rw (← (ap length os ∙ length-set owns sid own)) at inside, all, now)
   where
     in_glasses : sid < length glasses
-    in_glasses = subst (λ (n : ℕ). sid < n) (sym (ap length others) ∙ length-set glasses sid (glass_in owns sid)) inside
+    in_glasses = rw (sym (ap length others) ∙ length-set glasses sid (glass_in owns sid)) at inside
 
     there_is : glass_in glasses' sid ≡ there
     there_is = ap (λ (xs : List Sight). glass_in xs sid) gs ∙ get_or-set_same glasses sid there no_sight in_glasses
@@ -238,8 +238,7 @@ behind_again (Some a) glasses glasses' owns owns' sid there own inside others gs
     own_is = ap (λ (xs : List Sight). glass_in xs sid) os ∙ get_or-set_same owns sid own no_sight inside
 
     now : IsBehindBy a sid (glass_in glasses' sid) (glass_in owns' sid)
-    now = subst (λ (g : Sight). IsBehindBy a sid g (glass_in owns' sid)) (sym there_is)
-        (subst (λ (g : Sight). IsBehindBy a sid there g) (sym own_is) b)
+    now = rw (← there_is) at (rw (← own_is) at b)
 
     all : set glasses' sid (glass_in owns' sid) ≡ owns'
     all = ap (λ (g : Sight). set glasses' sid g) own_is ∙ all_own glasses glasses' owns owns' sid there own others gs os

@@ -42,12 +42,12 @@ pub tables_told : (config : Configuration) (scripts : List (List Line)) (owns : 
     → AreOf (glass_in owns) (tables_after config scripts done)
 tables_told config scripts owns done each tell t i w loaded =
     elim (cases_lt t (length scripts)) [
-      | inl inside ↦ (subst (λ (g : Sight). IsLoaded g i w) (tell t inside) loaded).told
+      | inl inside ↦ (rw (tell t inside) at loaded).told
       | inr past ↦
           let none : glass_in owns t ≡ no_sight =
-          get_or_past owns t no_sight (subst (λ (n : ℕ). n ≤ t) (sym each) past) in
+          get_or_past owns t no_sight (rw (← each) at past) in
           let script : script_in scripts t ≡ [] = get_or_past scripts t [] past in
-          no_ink w (subst (λ (g : Sight). IsLoaded g i w) none loaded).inked
+          no_ink w (rw none at loaded).inked
           ∙ sym (zero_at (table_size (donation_of config t)) i)
           ∙ sym (ap (λ (ws : List ℕ). slice_index ws i)
           (ap (λ (ls : List Line). words_after ls (donation_of config t) (done t)) script

@@ -54,9 +54,9 @@ clients_turn tells done scripts lines plans before now owns m left sid number pl
     record {
       in_owns = in_owns;
       in_scripts = move.inside;
-      in_plans = subst (λ (n : ℕ). sid < n) (sym planned.plans_each) move.inside;
+      in_plans = rw (← planned.plans_each) at move.inside;
       session = session;
-      glasses = subst (λ (gs : List Sight). sid < length gs) (sym w.same) in_owns;
+      glasses = rw (← w.same) at in_owns;
       here = slice_get_within (script_in scripts sid) number move.l move.here;
       donation = member_donates now.config sid planned.configured session;
       plan = planned.planned sid move.inside;
@@ -69,10 +69,10 @@ clients_turn tells done scripts lines plans before now owns m left sid number pl
     move = clients_move tells done scripts lines before now owns m left sid number w is
 
     in_owns : sid < length owns
-    in_owns = subst (λ (n : ℕ). sid < n) (sym w.owns_each) move.inside
+    in_owns = rw (← w.owns_each) at move.inside
 
     session : sid < length now.config.clients
-    session = subst (λ (n : ℕ). sid < n) planned.sessions move.inside
+    session = rw planned.sessions at move.inside
 
     one : (call : Call) → slice_get (script_in scripts sid) number ≡ Some (line.Call call)
         → actions_of_line m.doing ≡ Calls sid call ∷ []
@@ -80,7 +80,7 @@ clients_turn tells done scripts lines plans before now owns m left sid number pl
         let l : move.l ≡ line.Call call = same_some move.l (line.Call call) (sym move.here ∙ found) in
         ap (λ (d : ActorLine). actions_of_line d) (move.doing ∙ ap (λ (x : Line). ByClient sid x) l)
 
--- the same once what is stale of others was copied: the scene's glasses are the own ones, but for that of the session
+-- all that a client's line asks for, once what is stale of others was copied: the scene's glasses are the own ones, but for that of the session
 pub settled_turn : ClientTells → ClientDone
     → (scripts : List (List Line)) (lines : List InputLine) (plans : List PlanModel) (before s s' : SceneModel Sight)
     (owns : List Sight) (m : LineTurn) (left : List LineTurn) (sid number : ℕ)
@@ -90,16 +90,14 @@ pub settled_turn : ClientTells → ClientDone
     → MayDoLine scripts plans (settled s' owns) owns sid number
 settled_turn tells done scripts lines plans before s s' owns m left sid number planned w same is room =
     clients_turn tells done scripts lines plans before (settled s' owns) owns m left sid number
-    (subst (λ (c : Configuration). IsPlanned c scripts plans) (sym (ap (λ (p : SceneModel Sight). p.config) same))
-    planned)
-    (subst (λ (p : SceneModel Sight). IsUnderWay scripts lines before p owns (m ∷ left))
-    (sym (ap (λ (p : SceneModel Sight). settled p owns) same)) w) is room
+    (rw (← ap (λ (p : SceneModel Sight). p.config) same) at planned)
+    (rw (← ap (λ (p : SceneModel Sight). settled p owns) same) at w) is room
 
 -- the scene has a glass for each own one
 pub as_many : (glasses owns : List Sight) (sid : ℕ) (g : Sight) → set glasses sid g ≡ owns → sid < length owns
     → sid < length glasses
 as_many glasses owns sid g others inside =
-    subst (λ (n : ℕ). sid < n) (sym (ap length others) ∙ length-set glasses sid g) inside
+    rw (sym (ap length others) ∙ length-set glasses sid g) at inside
 
 -- what was loaded by equal glasses
 pub moved_settled : (e : State → Option Entry) (mid new : SceneModel Sight) (owns glasses owns' : List Sight)
@@ -107,7 +105,7 @@ pub moved_settled : (e : State → Option Entry) (mid new : SceneModel Sight) (o
     → IsMoved (e (state_now (settled mid owns))) (settled mid owns) (settled new owns')
 moved_settled e mid new owns glasses owns' same moved =
     let m : IsMoved (e (state_now mid)) mid (settled new owns') =
-    subst (λ (gs : List Sight). IsMoved (e (state_now mid)) mid (record new { glasses = gs })) same moved in
+    rw same at moved in
     record { state = m.state; words = m.words }
 
 -- what is read from an equal list, under any default
@@ -162,7 +160,7 @@ users_turn tells done scripts lines before s s' owns m left number way same is r
     }
   where
     w : IsUnderWay scripts lines before s' owns (m ∷ left)
-    w = subst (λ (p : SceneModel Sight). IsUnderWay scripts lines before p owns (m ∷ left)) (sym same) way
+    w = rw (← same) at way
 
     move : IsUsersMove lines m number
     move = users_move tells done scripts lines before s' owns m left number w is

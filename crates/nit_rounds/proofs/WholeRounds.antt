@@ -92,8 +92,7 @@ is_call : (s : ℕ) (c : Call) (j : Entry) → action_of j ≡ Calls s c → IsC
 is_call s c (entry.Call t call r) e =
     let same : t ≡ s = cc in
     let made : call ≡ c = cc in
-    subst (λ (x : ℕ). IsCall x c (entry.Call t call r)) same
-    (subst (λ (x : Call). IsCall t x (entry.Call t call r)) made
+    rw (← same) (subst (λ (x : Call). IsCall t x (entry.Call t call r)) made
     (record { phases = λ clients user rest. refl; calls = λ x rest. refl; actions = λ rest. refl }))
 is_call s c (entry.Input dev routed) e = absurd (cc)
 is_call s c (entry.Shot number) e = absurd (cc)
@@ -109,12 +108,10 @@ record IsAction (d : UserAction) (j : Entry) : Type 0 where
 is_action : (d : UserAction) (j : Entry) → action_of j ≡ Acts d → IsAction d j
 is_action d (entry.Input dev routed) e =
     let same : Does dev ≡ d = cc in
-    subst (λ (x : UserAction). IsAction x (entry.Input dev routed)) same
-    (record { phases = λ clients user rest. refl; calls = λ x rest. refl; actions = λ rest. refl })
+    rw (← same) (record { phases = λ clients user rest. refl; calls = λ x rest. refl; actions = λ rest. refl })
 is_action d (entry.Shot number) e =
     let same : Shoots ≡ d = cc in
-    subst (λ (x : UserAction). IsAction x (entry.Shot number)) same
-    (record { phases = λ clients user rest. refl; calls = λ x rest. refl; actions = λ rest. refl })
+    rw (← same) (record { phases = λ clients user rest. refl; calls = λ x rest. refl; actions = λ rest. refl })
 is_action d (entry.Call t call r) e = absurd (cc)
 is_action d entry.Final e = absurd (cc)
 
@@ -156,8 +153,7 @@ call_left clients s p c ms calls x =
     elim (cases_lt s (length clients)) [
       | inr past ↦ absurd (not_both (p, c) (flat_map (calls_in s) ms) (sym (get_or_past clients s [] past) ∙ here))
       | inl inside ↦ elim (cases_eq x s) [
-        | inl same ↦ subst (λ (y : ℕ). to_do (set clients s (left (to_do clients s))) y ≡ flat_map (calls_in y) ms)
-            (sym same) (get_or-set_same clients s (left (to_do clients s)) [] inside ∙ ap left here)
+        | inl same ↦ rw same (get_or-set_same clients s (left (to_do clients s)) [] inside ∙ ap left here)
         | inr other ↦ get_or-set_other clients s x (left (to_do clients s)) [] other
             ∙ (rw (ne_eqb s x (λ e. other (sym e))) at (calls x))
       ]

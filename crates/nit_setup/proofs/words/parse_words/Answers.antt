@@ -36,8 +36,8 @@ many (a ∷ b ∷ c ∷ d ∷ e ∷ []) long = absurd (long (omega arith))
 many (a ∷ b ∷ c ∷ d ∷ e ∷ f ∷ []) long = absurd (long (omega arith))
 many (a ∷ b ∷ c ∷ d ∷ e ∷ f ∷ h ∷ rest) long = refl
 
-pub returns-in_default-clause-none : goal.returns-in_default-clause-none
-returns-in_default-clause-none c =
+pub returns-in_default : goal.returns-in_default
+returns-in_default c =
     let count = length-map c.args.words.now _ in
     elim c.in_default.branch [
       | in_default-via-then-words-lt2 w ↦ few (texts c.args.words.now)
