@@ -27,8 +27,7 @@ firsts_and_rest : (all : List (List LineTurn)) → length (flat_map (take 1) all
 unfolding total
 firsts_and_rest [] = refl
 firsts_and_rest (l ∷ all) =
-    let whole : length (take 1 l) + length (drop 1 l) ≡ length l = sym (length-append (take 1 l) (drop 1 l))
-    ∙ ap length (take-append-drop 1 l) in
+    let whole : length (take 1 l) + length (drop 1 l) ≡ length l = rw (← length-append (take 1 l) (drop 1 l), take-append-drop 1 l) in
     omega (arith, length-append (take 1 l) (flat_map (take 1) all), firsts_and_rest all)
 
 walk_long : (n : ℕ) (all : List (List LineTurn)) → Short n all → length (walk n all) ≡ total all
@@ -41,9 +40,7 @@ walk_long (suc n) all h = omega (
 )
 
 phase_long : (all : List (List LineTurn)) (p : ℕ) → length (phase_rounds all p) ≡ total (map (in_phase p) all)
-phase_long all p = ap length (all_walk (map (in_phase p) all))
-    ∙ walk_long (greatest (map length (map (in_phase p) all))) (map (in_phase p) all)
-    (short_greatest (map (in_phase p) all))
+phase_long all p = rw (all_walk (map (in_phase p) all), walk_long (greatest (map length (map (in_phase p) all))) (map (in_phase p) all) (short_greatest (map (in_phase p) all)))
 
 no_actor : (ps : List ℕ) → length (flat_map (phase_rounds []) ps) ≡ 0
 no_actor [] = refl

@@ -42,7 +42,7 @@ done_more (ByUser l) done t = sym (add-zero (done t))
 
 same_count : (s : State) (e : Option Entry) → pixel_count (state_after s e) ≡ pixel_count s
 same_count s None = refl
-same_count s (Some e) = ap (λ (c : Configuration). c.width * c.height) (same_config s e)
+same_count s (Some e) = rw (same_config s e)
 
 -- pixels that were loaded again hold the words that are drawn
 words_more : (s : State) (e : Option Entry) (glasses : ℕ → Sight) (tables : ℕ → List ℕ) (raw raw' : List ℕ) (word : ℕ
@@ -50,7 +50,7 @@ words_more : (s : State) (e : Option Entry) (glasses : ℕ → Sight) (tables : 
     → ((k : ℕ) → k < pixel_count s → slice_index_or raw k 0 ≡ word k) → (k : ℕ) → k < pixel_count s
     → slice_index_or raw' k 0 ≡ word_after_entry tables s e word k
 words_more s None glasses tables raw raw' word loaded are held k on_screen =
-    ap (λ (ws : List ℕ). slice_index_or ws k 0) loaded ∙ held k on_screen
+    rw (loaded, held k on_screen)
 words_more s (Some e) glasses tables raw raw' word loaded are held k on_screen =
     elim (cases_Bool (dirty s e (after s e) (pixel s.config.width k))) [
       | inl is ↦ rw is (held_word glasses tables (source_at (after s e) k) (slice_index_or raw' k 0) are
@@ -69,7 +69,7 @@ moved_on config scripts d m s s' is moved are taken =
     let loaded : AreLoaded d.state e (glass_in s'.glasses) s.raw s'.raw =
     rw is.state at moved.words in
     record {
-      state = moved.state ∙ ap (λ (x : State). state_after x (entry_of x m.doing)) is.state;
+      state = rw (moved.state, is.state);
       words = λ k on_screen. words_more d.state e (glass_in s'.glasses) tables s.raw s'.raw d.word loaded are is.words k
           (rw (same_count d.state e) at on_screen);
       taken = taken;
@@ -81,10 +81,7 @@ moved_on config scripts d m s s' is moved are taken =
 frame_is : (d : Drawing) (s : SceneModel Sight) → IsDrawn d s → frame (scenery_of (state_now s)) s.raw
     ≡ frame_of d.state d.word
 frame_is d s is =
-    ap (λ (x : State). frame (scenery_of x) s.raw) is.state
-    ∙ same_frame (scenery_of d.state) s.raw (map d.word (range_with_len 0 (pixel_count d.state)))
-    (λ k on_screen. is.words k on_screen
-    ∙ sym (get_or-map-range_with_len d.word 0 (pixel_count d.state) k k 0 on_screen (zero-add k)))
+    rw (is.state, same_frame (scenery_of d.state) s.raw (map d.word (range_with_len 0 (pixel_count d.state))) (λ k on_screen. is.words k on_screen ∙ sym (get_or-map-range_with_len d.word 0 (pixel_count d.state) k k 0 on_screen (zero-add k))))
 
 shot_is : (config : Configuration) (d : Drawing) (s : SceneModel Sight) → s.config ≡ config → IsDrawn d s
     → next_shot s ≡ drawn_shot config d

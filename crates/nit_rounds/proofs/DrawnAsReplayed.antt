@@ -115,7 +115,7 @@ behind s taken (ByUser input.Shot) (entry.Shot n ∷ rest) left legal is = recor
   put = entry.Shot n ∷ [];
   rest = rest;
   parts = refl;
-  puts = ap (λ (k : ℕ). entry.Shot k ∷ []) legal.0;
+  puts = rw legal.0;
   now = taken + 1;
   counts = refl;
   legal = legal.1;
@@ -138,12 +138,10 @@ folded : (config : Configuration) (scripts : List (List Line)) (moves : List Lin
     (journal : List Entry) → LegalFrom d.state taken journal → map action_of journal ≡ actions_of_turns moves
     → (fold (after_turn config scripts) d moves).state ≡ replay_from d.state journal
 folded config scripts [] d taken journal legal is =
-    ap (λ (js : List Entry). replay_from d.state js) (sym (none_left journal is))
+    cc (none_left journal is)
 folded config scripts (m ∷ moves) d taken journal legal is =
     let b = behind d.state taken m.doing journal (actions_of_turns moves) legal is in
-    folded config scripts moves (after_turn config scripts d m) b.now b.rest b.legal b.acts_left
-    ∙ sym (ap (λ (js : List Entry). replay_from d.state js) b.parts ∙ fold-append after d.state b.put b.rest
-    ∙ ap (λ (x : State). replay_from x b.rest) b.leads)
+    rw (folded config scripts moves (after_turn config scripts d m) b.now b.rest b.legal b.acts_left, ← b.leads, ← fold-append after d.state b.put b.rest, ← b.parts)
 
 pub as_replayed : (config : Configuration) (scripts : List (List Line)) (moves : List LineTurn) (journal : List Entry)
     → IsLegal config journal → map action_of journal ≡ actions_of_turns moves → (drawn config scripts moves).state

@@ -16,8 +16,7 @@ OneMore = (s : State) (journal : List Entry) (e : Entry) → replay_from s (jour
 state_later : OneMore → (old new : SceneModel Sight) (e : Entry) → new.config ≡ old.config
     → new.entries ≡ old.entries ++ e ∷ [] → state_now new ≡ after (state_now old) e
 state_later more old new e config recorded =
-    ap (λ (c : Configuration). replay c new.entries) config ∙ ap (λ (js : List Entry). replay old.config js) recorded
-    ∙ more (first_state old.config) old.entries e
+    rw (config, recorded, more (first_state old.config) old.entries e)
 
 painted_moved : OneMore → (old new new' : SceneModel Sight) (glasses : ℕ → Sight) (e e' : Entry)
     → new.config ≡ old.config → new.entries ≡ old.entries ++ e ∷ [] → new' ≡ record new { glasses = new'.glasses }
@@ -48,13 +47,12 @@ served_moved more old new sid call r r' own own' config recorded glasses owns re
     let s : State = state_now old in
     let all : ℕ → Sight = glass_in (set new.glasses sid own') in
     let before : glasses_of_call (itself old.glasses) sid own ≡ all =
-    every_of_call old.glasses sid own inside
-    ∙ ap₂ (λ (gs : List Sight) (g : Sight). glass_in (set gs sid g)) (sym glasses) (sym owns) in
+    rw (every_of_call old.glasses sid own inside, ← glasses, ← owns) in
     let later : glasses_of_call (itself new.glasses) sid own' ≡ all =
     every_of_call new.glasses sid own' (rw (← glasses) at inside) in
     painted_moved more old new (record new { glasses = set new.glasses sid own' })
     (glasses_of_call (itself old.glasses) sid own) e (entry.Call sid call r') config recorded refl before
-    (ap (λ (x : Reply). entry.Call sid call x) reply)
+    (rw reply)
     (rw later at painted)
 
 -- what a device did is loaded
@@ -68,7 +66,7 @@ input_moved more old new dev routed routed' config recorded glasses same painted
     let e : Entry = entry.Input dev routed in
     let s : State = state_now old in
     painted_moved more old new new (glass_in old.glasses) e (entry.Input dev routed') config recorded refl
-    (ap (λ (gs : List Sight). glass_in gs) (sym glasses)) (ap (λ (x : Routed). entry.Input dev x) same)
+    (rw (← glasses)) (rw same)
     (rw (same_list new.glasses) at (rw (same_list old.glasses) at painted))
 
 -- a shot changes neither the state nor a raw word
@@ -76,7 +74,7 @@ pub shot_moved : OneMore → (old new : SceneModel Sight) (number spare : ℕ)
     → new ≡ record old { entries = old.entries ++ entry.Shot number ∷ []; spare = spare } → IsMoved None old new
 shot_moved more old new number spare is =
     record {
-      state = state_later more old new (entry.Shot number) (ap (λ (p : SceneModel Sight). p.config) is)
-          (ap (λ (p : SceneModel Sight). p.entries) is);
-      words = ap (λ (p : SceneModel Sight). p.raw) is;
+      state = state_later more old new (entry.Shot number) (rw is)
+          (rw is);
+      words = rw is;
     }

@@ -26,9 +26,7 @@ pub after_stroke : AreLong → (t : ℕ) (script : List Line) (donation k : ℕ)
     → g ≡ glass_after t script donation k → g' ≡ with_words (λ words. words_after script donation (k + 1)) g
     → g' ≡ glass_after t script donation (k + 1)
 after_stroke long t script donation k g g' opens was is =
-    is ∙ ap (λ (x : Sight). with_words (λ words. words_after script donation (k + 1)) x) was
-    ∙ ap (λ (n : ℕ). sized t script (words_after script donation (k + 1)) n) (long script donation k opens.1
-    ∙ sym (long script donation (k + 1) opens.1))
+    rw (is, was, long script donation k opens.1, ← long script donation (k + 1) opens.1)
 
 -- ---- the step of a line
 
@@ -67,9 +65,9 @@ pub fits : AreLong → AreWithin
     → area.x + area.w ≤ step.w → area.y + area.h ≤ step.h → own ≡ glass_after t script donation (k + 1)
     → FitsInto own.size (record { sid = t; w = step.w; area = area })
 fits long within wide tall t script donation k l step area own most is across down now =
-    let w : step.w ≡ (static script donation (k + 1)).bw = ap (λ (st : Step). st.w) is in
-    let h : step.h ≡ (static script donation (k + 1)).bh = ap (λ (st : Step). st.h) is in
-    let size : own.size ≡ table_size donation = ap (λ (x : Sight). x.size) now ∙ long script donation (k + 1) most in
+    let w : step.w ≡ (static script donation (k + 1)).bw = rw is in
+    let h : step.h ≡ (static script donation (k + 1)).bh = rw is in
+    let size : own.size ≡ table_size donation = rw (now, long script donation (k + 1) most) in
     let rows : (area.y + area.h) * step.w ≤ step.h * step.w = mul-le-mul_right step.w down in
     let all : step.w * step.h ≤ table_size donation =
     rw (← ap₂ (λ (a b : ℕ). a * b) w h) at (within script donation (k + 1) most) in record {

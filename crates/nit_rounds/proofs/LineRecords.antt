@@ -41,7 +41,7 @@ can_call long old mid sid script k there own is has opens own_is quiet room unen
         ap (λ (x : Sight). x.owner) own_is,
         ap (λ (x : Sight). x.size) own_is ∙ long script (donation_of old.config sid) k opens.1,
       );
-      quiet_own = ap (λ (x : Sight). x.log) own_is;
+      quiet_own = rw own_is;
       quiet = λ t other. ap (λ (x : Sight). x.log) (get_or-set_other old.glasses sid t there no_sight other)
           ∙ quiet t other;
       spare = room;
@@ -52,7 +52,7 @@ can_call long old mid sid script k there own is has opens own_is quiet room unen
 pub one_taken : (old new : List Entry) (e : Entry) (spare spare' : ℕ) → new ≡ old ++ e ∷ [] → spare' ≡ spare - 1
     → 1 ≤ spare → length new + spare' ≡ length old + spare
 one_taken old new e spare spare' recorded taken room =
-    let long : length new ≡ length old + 1 = ap length recorded ∙ length-append old (e ∷ []) in
+    let long : length new ≡ length old + 1 = rw (recorded, length-append old (e ∷ [])) in
     omega arith
 
 no_record : (l : Line) (sid : ℕ) (before after : List Entry) → ((call : Call) → l ≡ line.Call call → ⊥) → after ≡ before
@@ -95,14 +95,14 @@ pub none_done : (sid : ℕ) (l : Line) (old mid : SceneModel Sight) (there own' 
     → DoesClientLine sid l old mid own'
 none_done sid l old mid there own' other is unended =
     record {
-      config = ap (λ (p : SceneModel Sight). p.config) is;
+      config = rw is;
       unended = rw is unended;
-      spare = ap (λ (p : SceneModel Sight). length p.entries + p.spare) is;
-      recorded = no_record l sid old.entries mid.entries other (ap (λ (p : SceneModel Sight). p.entries) is);
+      spare = rw is;
+      recorded = no_record l sid old.entries mid.entries other (rw is);
       moved = rw (← no_entry (state_now old) l sid other) (record {
-            state = ap (λ (p : SceneModel Sight). state_now p) is;
-            words = ap (λ (p : SceneModel Sight). p.raw) is;
-          });
+        state = rw is;
+        words = rw is;
+      });
     }
 
 -- what the line at a place of a script does, any line found there does
@@ -120,11 +120,11 @@ pub shot_done : OneMore → (old new : SceneModel Sight)
 shot_done more old new is unended room =
     let entries = ap (λ (p : SceneModel Sight). p.entries) is in
     record {
-      glasses = ap (λ (p : SceneModel Sight). p.glasses) is;
-      config = ap (λ (p : SceneModel Sight). p.config) is;
+      glasses = rw is;
+      config = rw is;
       unended = unended;
       spare = one_taken old.entries new.entries _ old.spare new.spare entries
-          (ap (λ (p : SceneModel Sight). p.spare) is) room;
+          (rw is) room;
       recorded = entries;
       moved = shot_moved more old new _ _ is;
     }
@@ -139,5 +139,4 @@ behind_still stale sid mid new own own' glasses owns behind =
 pub glasses_still : (sid : ℕ) (old mid new : SceneModel Sight) → new.glasses ≡ mid.glasses
     → mid ≡ with_glass_of old sid (glass_in mid.glasses sid)
     → new.glasses ≡ set old.glasses sid (glass_in new.glasses sid)
-glasses_still sid old mid new same is = same ∙ ap (λ (p : SceneModel Sight). p.glasses) is
-    ∙ ap (λ (gs : List Sight). set old.glasses sid (glass_in gs sid)) (sym same)
+glasses_still sid old mid new same is = cc (same, is, same)

@@ -48,9 +48,7 @@ idle_by : (scripts : List (List Line)) (input : List InputLine) (at : Places) �
     → k ≤ length scripts → is_active at.phase (get_or at.places k first_place) (script_of scripts input k) ≡ false →
     in_phase at.phase (get_or (all_left scripts input at) k []) ≡ []
 idle_by scripts input at kept k inside none =
-    ap (in_phase at.phase) (left_by scripts input at kept k first_place inside)
-    ∙ idle at.phase (get_or at.places k first_place) (script_of scripts input k) none
-    (kept.stand k first_place inside).reached
+    rw (left_by scripts input at kept k first_place inside, idle at.phase (get_or at.places k first_place) (script_of scripts input k) none (kept.stand k first_place inside).reached)
 
 -- where no actor from one on has a line to do, none of them has a move in the phase
 all_idle : (scripts : List (List Line)) (input : List InputLine) (at : Places) (from : ℕ) → ArePlaces scripts input at
@@ -149,10 +147,7 @@ begin_phase scripts input at b kept rest none turn =
         stand = λ k d inside. phase_stands (phase_count scripts input) at.phase (get_or at.places k d)
             (script_of scripts input k) (none k d (omega arith) (omega arith)) (kept.stand k d inside);
       };
-      left = ap (λ (p : ℕ). left_from (phase_count scripts input) p 0 (all_left scripts input at)) (add-one at.phase)
-          ∙ phase_begun (phase_count scripts input) at.phase (all_left scripts input at) (omega arith)
-          (λ i below_. idle_all i (omega arith) below_)
-          ∙ (begin_round scripts input at kept rest).left;
+      left = rw (add-one at.phase, phase_begun (phase_count scripts input) at.phase (all_left scripts input at) (omega arith) (λ i below_. idle_all i (omega arith) below_), (begin_round scripts input at kept rest).left);
     }
 
 pub to_phase : (scripts : List (List Line)) (input : List InputLine) (at : Places) (b : ℕ) → ArePlaces scripts input at
@@ -307,11 +302,7 @@ client_turn scripts input at its inside =
     let long : (present at).line < length (get_or scripts at.actor []) =
     rw (ap length here
     ∙ length-map (get_or scripts at.actor []) (ByClient at.actor)) at (present_inside scripts input at its) in
-    sym (ap (λ (ds : List ActorLine). turn_by (get_or ds (present at).line (ByUser input_line.Shot)) (present at).line)
-    here
-    ∙ ap (λ (d : ActorLine). turn_by d (present at).line)
-    (get_or-map (ByClient at.actor) (get_or scripts at.actor []) (present at).line line.Phase
-    (ByUser input_line.Shot) long))
+    cc (get_or-map (ByClient at.actor) (get_or scripts at.actor []) (present at).line line.Phase (ByUser input_line.Shot) long, here)
 
 pub user_turn : (scripts : List (List Line)) (input : List InputLine) (at : Places) → IsAtTurn scripts input at
     → length scripts ≤ at.actor → turn.User (present at).line
@@ -320,7 +311,4 @@ user_turn scripts input at its past =
     let here : script_of scripts input at.actor ≡ map ByUser input = script_user scripts input at.actor past its.0 in
     let long : (present at).line < length input =
     rw (ap length here ∙ length-map input ByUser) at (present_inside scripts input at its) in
-    sym (ap (λ (ds : List ActorLine). turn_by (get_or ds (present at).line (ByUser input_line.Shot)) (present at).line)
-    here
-    ∙ ap (λ (d : ActorLine). turn_by d (present at).line)
-    (get_or-map ByUser input (present at).line input_line.Shot (ByUser input_line.Shot) long))
+    cc (get_or-map ByUser input (present at).line input_line.Shot (ByUser input_line.Shot) long, here)

@@ -39,7 +39,7 @@ one_more : (d : ActorLine) (ms : List LineTurn) → IsAlone ms → (p q : ℕ)
     → user_actions_from q (input_by_user d ++ input_lines_of ms) ≡ []
     → actions_of_line d ++ actions_of_turns ms ≡ map (Calls 0) (done (calls_from p (line_by 0 d ++ lines_of 0 ms)))
 one_more (ByClient zero (line.Call c)) ms rest p q others idle =
-    ap (λ (xs : List Action). Calls 0 c ∷ xs) (rest p q (first_alone (line.Call c) ms others) idle)
+    rw (rest p q (first_alone (line.Call c) ms others) idle)
 one_more (ByClient zero (line.Stroke s)) ms rest p q others idle = rest p q (first_alone (line.Stroke s) ms others) idle
 one_more (ByClient zero line.Phase) ms rest p q others idle = rest (suc p) q (first_alone line.Phase ms others) idle
 one_more (ByClient (suc s) l) ms rest p q others idle =
@@ -72,8 +72,7 @@ journal_alone : (s : State) (taken : ℕ) (front : List Entry) → length s.sess
     → map action_of front ≡ map (Calls 0) (calls_of 0 (front ++ entry.Final ∷ []))
 journal_alone s taken [] one legal none = refl
 journal_alone s taken (entry.Call zero c r ∷ front) one (agrees, legal) none =
-    ap (λ (xs : List Action). Calls 0 c ∷ xs)
-    (journal_alone (after s (entry.Call zero c r)) taken front (as_many s (entry.Call zero c r) ∙ one) legal none)
+    rw (journal_alone (after s (entry.Call zero c r)) taken front (as_many s (entry.Call zero c r) ∙ one) legal none)
 journal_alone s taken (entry.Call (suc sid) c r ∷ front) one (agrees, legal) none =
     absurd (let below = agrees.0 in omega (arith, one, below))
 journal_alone s taken (entry.Input dev routed ∷ front) one legal none = absurd cc
@@ -90,7 +89,7 @@ by_rounds_alone config script lines journal one idle legal whole =
     (rw ends at legal) (ap user_actions_of (sym ends) ∙ whole.actions
     ∙ ap done idle) in (
       front,
-      own ∙ ap (map (Calls 0)) (ap (calls_of 0) (sym ends) ∙ whole.calls 0 (omega arith))
+      own ∙ ap (map (Calls 0)) (rw (← ends, whole.calls 0 (omega arith)))
           ∙ sym (rounds_alone script lines idle),
       ends,
     )

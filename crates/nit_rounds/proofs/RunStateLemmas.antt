@@ -64,15 +64,13 @@ clients_move tells done scripts lines before now owns m left sid number w is =
     let here : slice_get (script_in scripts sid) number ≡ Some l =
     subst (λ (n : ℕ). slice_get (script_in scripts sid) n ≡ Some l) t.0 d.1 in
     let within : number < length (script_in scripts sid) = slice_get_within (script_in scripts sid) number l here in
-    let front : lines_of sid w.front ≡ take number (script_in scripts sid) = d.2
-    ∙ ap (λ (n : ℕ). take n (script_in scripts sid)) t.0 in
+    let front : lines_of sid w.front ≡ take number (script_in scripts sid) = rw (d.2, t.0) in
     record {
       l = l;
       doing = t.1.1;
       inside = d.0;
       here = here;
-      count = ap (λ (ls : List Line). length ls) front
-          ∙ length-take-le number (script_in scripts sid) (omega (arith, within));
+      count = rw (front, length-take-le number (script_in scripts sid) (omega (arith, within)));
     }
 
 abbrev pub UserDone : Type 0
@@ -102,9 +100,7 @@ pub own_glass : (scripts : List (List Line)) (lines : List InputLine) (before no
     → IsClientsMove scripts w.front m sid number
     → glass_in owns sid ≡ glass_after sid (script_in scripts sid) (donation_of now.config sid) number
 own_glass scripts lines before now owns m left sid number w move =
-    w.done sid move.inside ∙ ap (λ (n : ℕ). glass_after sid (script_in scripts sid) (donation_of before.config sid) n)
-    move.count
-    ∙ ap (λ (c : Configuration). glass_after sid (script_in scripts sid) (donation_of c sid) number) (sym w.config)
+    rw (w.done sid move.inside, move.count, ← w.config)
 
 -- what is drawn is drawn on
 drawn_on : (config : Configuration) (scripts : List (List Line)) (front : List LineTurn) (m : LineTurn)
@@ -131,9 +127,7 @@ counts_on : (config : Configuration) (scripts : List (List Line)) (front : List 
     → ((t : ℕ) → (drawn config scripts front).done t ≡ length (lines_of t front)) → (t : ℕ)
     → (drawn config scripts (front ++ m ∷ [])).done t ≡ length (lines_of t (front ++ m ∷ []))
 counts_on config scripts front m counts t =
-    ap (λ (x : Drawing). x.done t) (drawn_more config scripts front m)
-    ∙ done_more m.doing (drawn config scripts front).done t
-    ∙ ap (λ (n : ℕ). n + length (line_by t m.doing)) (counts t) ∙ sym (lines_more t front m)
+    rw (drawn_more config scripts front m, done_more m.doing (drawn config scripts front).done t, counts t, ← lines_more t front m)
 
 pub after_client : {V : Type 0} (Fits : ℕ → ℕ → V → Type 0) (Shows : ShotFrame → V → V → Type 0)
     (scripts : List (List Line)) (lines : List InputLine) (before now now' : SceneModel Sight) (owns owns' : List Sight)
@@ -153,10 +147,7 @@ after_client Fits Shows scripts lines before now now' owns owns' m left sid numb
         front = w.front ++ m ∷ [];
         parts = w.parts ∙ sym (append_assoc w.front (m ∷ []) left);
         config = config ∙ w.config;
-        entries = recorded_acts sid move.l now.entries now'.entries recorded
-            ∙ ap (λ (xs : List Action). xs ++ actions_of_line (ByClient sid move.l)) w.entries
-            ∙ ap (λ (d : ActorLine). actions_of_turns w.front ++ actions_of_line d) (sym move.doing)
-            ∙ sym (acts_more w.front m);
+        entries = cc (recorded_acts sid move.l now.entries now'.entries recorded, w.entries, move.doing, acts_more w.front m);
         unended = unended;
         spare = spare ∙ w.spare;
         same = same;
@@ -179,9 +170,7 @@ after_client Fits Shows scripts lines before now now' owns owns' m left sid numb
         (length (lines_of t (w.front ++ m ∷ [])))
 
     counted : length (lines_of sid (w.front ++ m ∷ [])) ≡ number + 1
-    counted = lines_more sid w.front m
-        ∙ ap (λ (n : ℕ). length (lines_of sid w.front) + n) (own_line sid move.l m.doing move.doing)
-        ∙ ap (λ (n : ℕ). n + 1) move.count
+    counted = rw (lines_more sid w.front m, own_line sid move.l m.doing move.doing, move.count)
 
     as_before : (t : ℕ) → t ≢ sid → length (lines_of t (w.front ++ m ∷ [])) ≡ length (lines_of t w.front)
     as_before t other = none_more t w.front m (other_line sid t move.l m.doing other move.doing)
@@ -189,51 +178,43 @@ after_client Fits Shows scripts lines before now now' owns owns' m left sid numb
     this : IsDone sid
     this =
         let there : sid < length owns = rw (← w.owns_each) at move.inside in
-        ap (λ (gs : List Sight). glass_in gs sid) put ∙ get_or-set_same owns sid own' no_sight there ∙ own
-        ∙ ap (λ (c : Configuration). glass_after sid (script_in scripts sid) (donation_of c sid) (number + 1)) w.config
-        ∙ ap (λ (n : ℕ). glass_after sid (script_in scripts sid) (donation_of before.config sid) n) (sym counted)
+        cc (put, get_or-set_same owns sid own' no_sight there, own, w.config, counted)
 
     same : now'.glasses ≡ owns'
-    same = glasses ∙ ap (λ (gs : List Sight). set gs sid own') w.same ∙ sym put
+    same = rw (glasses, w.same, ← put)
 
     each : length owns' ≡ length scripts
-    each = ap (λ (gs : List Sight). length gs) put ∙ length-set owns sid own' ∙ w.owns_each
+    each = rw (put, length-set owns sid own', w.owns_each)
 
     done : (t : ℕ) → t < length scripts → IsDone t
     done t inside =
         elim (cases_eq t sid) [
           | inl e ↦ subst IsDone (sym e) this
           | inr other ↦
-              ap (λ (gs : List Sight). glass_in gs t) put ∙ get_or-set_other owns sid t own' no_sight other
-              ∙ w.done t inside
-              ∙ ap (λ (n : ℕ). glass_after t (script_in scripts t) (donation_of before.config t) n)
-              (sym (as_before t other))
+              rw (put, get_or-set_other owns sid t own' no_sight other, w.done t inside, ← as_before t other)
         ]
 
     no_shot : shots_after before.config m.doing (drawn before.config scripts w.front)
         ≡ (drawn before.config scripts w.front).shots
-    no_shot = ap (λ (d : ActorLine). shots_after before.config d (drawn before.config scripts w.front)) move.doing
+    no_shot = cc move.doing
 
     taken : length (shots_after before.config m.doing (drawn before.config scripts w.front)) ≡ shots now'.entries
-    taken = ap length no_shot ∙ w.is_drawn.taken ∙ sym (line_shots sid move.l now.entries now'.entries recorded)
+    taken = rw (no_shot, w.is_drawn.taken, ← line_shots sid move.l now.entries now'.entries recorded)
 
 user_acts : (l : InputLine) (before after' : List Entry) → IsUserRecorded l before after'
     → map action_of after' ≡ map action_of before ++ actions_of_line (ByUser l)
-user_acts (input.Device dev) before after' recorded = ap (map action_of) recorded.1
-    ∙ map-append action_of before (entry.Input dev recorded.0 ∷ [])
-user_acts input.Shot before after' recorded = ap (map action_of) recorded
-    ∙ map-append action_of before (entry.Shot (shots before + 1) ∷ [])
-user_acts input.Phase before after' recorded = ap (map action_of) recorded ∙ sym (append-nil (map action_of before))
+user_acts (input.Device dev) before after' recorded = rw (recorded.1, map-append action_of before (entry.Input dev recorded.0 ∷ []))
+user_acts input.Shot before after' recorded = rw (recorded, map-append action_of before (entry.Shot (shots before + 1) ∷ []))
+user_acts input.Phase before after' recorded = cc (recorded, append-nil (map action_of before))
 
 user_shots : (config : Configuration) (d : Drawing) (l : InputLine) (before after' : List Entry)
     → IsUserRecorded l before after' → length d.shots ≡ shots before → length (shots_after config (ByUser l) d)
     ≡ shots after'
 user_shots config d input.Shot before after' recorded taken =
-    length-append d.shots (drawn_shot config d ∷ []) ∙ ap (λ (n : ℕ). n + 1) taken
-    ∙ sym (shot_counted before after' (shots before + 1) recorded)
+    rw (length-append d.shots (drawn_shot config d ∷ []), taken, ← shot_counted before after' (shots before + 1) recorded)
 user_shots config d (input.Device dev) before after' recorded taken = taken
     ∙ sym (device_shots before after' dev recorded)
-user_shots config d input.Phase before after' recorded taken = taken ∙ sym (ap shots recorded)
+user_shots config d input.Phase before after' recorded taken = rw (taken, ← recorded)
 
 -- what one turn of the user leaves
 pub after_user : {V : Type 0} (Fits : ℕ → ℕ → V → Type 0) (Shows : ShotFrame → V → V → Type 0)
@@ -248,10 +229,7 @@ after_user Fits Shows scripts lines before now now' owns m left l first old last
         front = w.front ++ m ∷ [];
         parts = w.parts ∙ sym (append_assoc w.front (m ∷ []) left);
         config = does.config ∙ w.config;
-        entries = user_acts l now.entries now'.entries does.recorded
-            ∙ ap (λ (xs : List Action). xs ++ actions_of_line (ByUser l)) w.entries
-            ∙ ap (λ (d : ActorLine). actions_of_turns w.front ++ actions_of_line d) (sym doing)
-            ∙ sym (acts_more w.front m);
+        entries = cc (user_acts l now.entries now'.entries does.recorded, w.entries, doing, acts_more w.front m);
         unended = does.unended;
         spare = does.spare ∙ w.spare;
         same = does.glasses ∙ w.same;
@@ -277,9 +255,7 @@ after_user Fits Shows scripts lines before now now' owns m left l first old last
     done : (t : ℕ) → t < length scripts
         → glass_in owns t ≡ glass_after t (script_in scripts t) (donation_of before.config t)
         (length (lines_of t (w.front ++ m ∷ [])))
-    done t inside = w.done t inside
-        ∙ ap (λ (n : ℕ). glass_after t (script_in scripts t) (donation_of before.config t) n)
-        (sym (none_more t w.front m (user_line t l m.doing doing)))
+    done t inside = rw (w.done t inside, ← none_more t w.front m (user_line t l m.doing doing))
 
 -- ---- the beginning
 
@@ -312,7 +288,7 @@ begun Fits Shows scripts lines plans before owns left first all set_up none raw 
         config = refl;
         entries = ap (map action_of) none;
         unended = subst IsOpen (sym none) tt;
-        spare = ap (λ (es : List Entry). length es + before.spare) none ∙ zero-add before.spare;
+        spare = rw (none, zero-add before.spare);
         same = set_up.same;
         owns_each = set_up.owns_each;
         done = set_up.blank;
@@ -328,7 +304,7 @@ begun Fits Shows scripts lines plans before owns left first all set_up none raw 
     }
   where
     opened : state_now before ≡ first_state before.config
-    opened = ap (λ (es : List Entry). replay before.config es) none
+    opened = rw none
 
 -- ---- the end
 
@@ -344,7 +320,7 @@ pub all_done : (scripts : List (List Line)) (lines : List InputLine) (before now
     (left : List LineTurn) → (w : IsUnderWay scripts lines before now owns left) → left ≡ []
     → w.front ≡ rounds scripts lines
 all_done scripts lines before now owns left w over =
-    sym (w.parts ∙ ap (λ (ms : List LineTurn). w.front ++ ms) over ∙ append-nil w.front)
+    rw (← append-nil w.front, ← over, ← w.parts)
 
 pub all_shown : {V : Type 0} (Fits : ℕ → ℕ → V → Type 0) (Shows : ShotFrame → V → V → Type 0)
     (scripts : List (List Line)) (lines : List InputLine) (before now : SceneModel Sight) (owns : List Sight)
@@ -361,7 +337,7 @@ pub ended : EachOnce → AllLines
 ended once all scripts lines before now owns left w over legal =
     record {
       config = w.config;
-      entries = w.entries ∙ ap (λ (ms : List LineTurn). actions_of_turns ms) (sym whole);
+      entries = rw (w.entries, ← whole);
       legal = legal;
       unended = w.unended;
       spare = w.spare;
@@ -376,8 +352,7 @@ ended once all scripts lines before now owns left w over legal =
     whole = sym (all_done scripts lines before now owns left w over)
 
     counted : (t : ℕ) → length (lines_of t w.front) ≡ length (script_in scripts t)
-    counted t = ap (λ (ms : List LineTurn). length (lines_of t ms)) (sym whole)
-        ∙ ap (λ (ls : List Line). length ls) (once scripts lines t)
+    counted t = rw (← whole, once scripts lines t)
 
     glass_of : ℕ → List ℕ → Sight
     glass_of t words = inked_sight t words (ink (script_in scripts t))
@@ -385,5 +360,4 @@ ended once all scripts lines before now owns left w over legal =
     left_all : (t : ℕ) → glass_of t
         (words_after (script_in scripts t) (donation_of before.config t) (length (script_in scripts t)))
         ≡ glass_of t (words_left (script_in scripts t) (donation_of before.config t))
-    left_all t = ap (λ (p : Painting). glass_of t p.words)
-        (all (blank (donation_of before.config t)) (script_in scripts t) (length (script_in scripts t)) (omega arith))
+    left_all t = cc (all (blank (donation_of before.config t)) (script_in scripts t) (length (script_in scripts t)) (omega arith))

@@ -52,7 +52,7 @@ as_many_files Pic front (entry.Input dev routed ∷ es) files are =
     as_many_files Pic (front ++ entry.Input dev routed ∷ []) es files are
 as_many_files Pic front (entry.Final ∷ es) files are = as_many_files Pic (front ++ entry.Final ∷ []) es files are
 as_many_files Pic front (entry.Shot n ∷ es) files (bytes, others, is, pic, rest) =
-    ap length is ∙ ap suc (as_many_files Pic (front ++ entry.Shot n ∷ []) es others rest)
+    rw (is, as_many_files Pic (front ++ entry.Shot n ∷ []) es others rest)
 
 -- and the one of a shot is a picture that the entries before it allow
 abbrev pub HasFile : Picturing → List Entry → ℕ → ℕ → List File → Type 0

@@ -47,9 +47,5 @@ tables_told config scripts owns done each tell t i w loaded =
           let none : glass_in owns t ≡ no_sight =
           get_or_past owns t no_sight (rw (← each) at past) in
           let script : script_in scripts t ≡ [] = get_or_past scripts t [] past in
-          no_ink w (rw none at loaded).inked
-          ∙ sym (zero_at (table_size (donation_of config t)) i)
-          ∙ sym (ap (λ (ws : List ℕ). slice_index ws i)
-          (ap (λ (ls : List Line). words_after ls (donation_of config t) (done t)) script
-          ∙ no_lines (donation_of config t) (done t)))
+          cc (no_ink w (rw none at loaded).inked, zero_at (table_size (donation_of config t)) i, no_lines (donation_of config t) (done t), script)
     ]

@@ -61,7 +61,7 @@ clients_turn tells done scripts lines plans before now owns m left sid number pl
       donation = member_donates now.config sid planned.configured session;
       plan = planned.planned sid move.inside;
       own = own_glass scripts lines before now owns m left sid number w move;
-      same = ap (λ (gs : List Sight). glass_in gs sid) w.same;
+      same = rw w.same;
       spare = λ call found. room_for scripts lines before now owns m left (Calls sid call) w (one call found) room;
     }
   where
@@ -78,7 +78,7 @@ clients_turn tells done scripts lines plans before now owns m left sid number pl
         → actions_of_line m.doing ≡ Calls sid call ∷ []
     one call found =
         let l : move.l ≡ line.Call call = same_some move.l (line.Call call) (sym move.here ∙ found) in
-        ap (λ (d : ActorLine). actions_of_line d) (move.doing ∙ ap (λ (x : Line). ByClient sid x) l)
+        rw (move.doing, l)
 
 -- all that a client's line asks for, once what is stale of others was copied: the scene's glasses are the own ones, but for that of the session
 pub settled_turn : ClientTells → ClientDone
@@ -111,8 +111,7 @@ moved_settled e mid new owns glasses owns' same moved =
 -- what is read from an equal list, under any default
 pub read_same : {X : Type 0} → (xs ys : List X) (k : ℕ) (d : X) → ys ≡ xs → k < length xs
     → get_or ys k d ≡ get_or xs k (get_or ys k d)
-read_same {X = X} xs ys k d same inside = ap (λ (zs : List X). get_or zs k d) same
-    ∙ get_or_default xs k d (get_or ys k d) inside
+read_same {X = X} xs ys k d same inside = cc (same, get_or_default xs k d (get_or ys k d) inside)
 
 -- what stands in a list at a place is what was found there
 pub found_here : {X : Type 0} → (xs : List X) (k : ℕ) (x y : X) → slice_get xs k ≡ Some x → y ≡ get_or xs k y → x ≡ y
@@ -153,8 +152,7 @@ users_turn tells done scripts lines before s s' owns m left number way same is r
         spare = λ takes.
             let (a, one) = one_act l takes in
             room_for scripts lines before s' owns m left a w
-            (ap (λ (d : ActorLine). actions_of_line d) (move.doing
-            ∙ ap ByUser (found_here lines number move.l l move.here got)) ∙ one) room;
+            (rw (move.doing, found_here lines number move.l l move.here got, one)) room;
         unended = w.unended;
       };
     }

@@ -59,7 +59,7 @@ returns-in_default c =
     let is = c.draw_line-stale.ensures.scene in
     record {
       drawn = c.draw_line-stale.ensures.drawn;
-      glasses = ap (λ (p : SceneModel Sight). p.glasses) is;
+      glasses = cc is;
       done = as_found c.args.part.script.now c.args.line c.args.part.sid c.index-lines-line.result c.args.scene.now
           c.draw_line-stale.new.scene c.draw_line-stale.new.own here
           (none_done c.args.part.sid c.index-lines-line.result c.args.scene.now c.draw_line-stale.new.scene _

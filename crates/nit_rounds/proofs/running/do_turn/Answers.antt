@@ -52,8 +52,7 @@ client_line-requires-clause-draw g c =
       line = rw script at t.here;
       donation = t.donation;
       plan = rw script at (rw (get_or_default c.args.next.parts.plans.now sid _ c.index-parts-sid-in-Client.result t.in_plans) at t.plan);
-      own = get_or_default c.args.owns.now sid _ no_sight t.in_owns ∙ t.own
-          ∙ ap (λ (ls : List Line). glass_after sid ls donation c.in-Client.line) script;
+      own = rw (get_or_default c.args.owns.now sid _ no_sight t.in_owns, t.own, script);
       behind = rw (← get_or_default c.args.owns.now sid no_sight _ t.in_owns) c.settle_others-stale.ensures.behind;
     }
 
@@ -63,8 +62,7 @@ client_line-requires-clause-spare g c =
     let t = settled_turn c.turns_tell.ensures.client c.lines_done.ensures.client _ _ _ before c.args.scene.now
     c.settle_others-stale.new.scene _ m left _ _ c.requires.planned p.way c.settle_others-stale.ensures.scene
     (is ∙ c.in-Client.is) room in
-    λ call found. t.spare call (ap (λ (ls : List Line). slice_get ls c.in-Client.line)
-    (get_or_default c.args.next.parts.scripts.now c.in-Client.sid [] c.index-parts-sid.result t.in_scripts) ∙ found)
+    λ call found. t.spare call (rw (get_or_default c.args.next.parts.scripts.now c.in-Client.sid [] c.index-parts-sid.result t.in_scripts, found))
 
 pub returns-in-Client-clause-behind : goal.returns-in-Client-clause-behind
 returns-in-Client-clause-behind g c =
@@ -95,8 +93,7 @@ returns-in-Client-clause-way g c before m left first p is =
     after_client g.V.Viewer.fits g.V.Viewer.shows _ _ before (settled mid owns) (settled new (set owns sid own')) owns _
     m left sid
     c.in-Client.line own' first _ p' move refl
-    (c.client_line.ensures.drawn.own ∙ ap
-    (λ (ls : List Line). glass_after sid ls (donation_of mid.config sid) (c.in-Client.line + 1)) script)
+    (rw (c.client_line.ensures.drawn.own, script))
     refl does.config does.unended does.spare does.recorded
     (moved_settled (λ s. entry_of s (ByClient sid move.l)) mid new owns (set new.glasses sid own')
     (set owns sid own') all does.moved)
