@@ -95,4 +95,9 @@ pub all_drawn : (s now : SceneModel Sight) (sid w : ℕ) (a : BufferArea) (c : �
     → now ≡ with_glass_of s sid (with_words (set_where (is_number_in w a) c) (glass_in s.glasses sid))
 all_drawn s now sid w a c j columns done was =
     let g = glass_in s.glasses sid in
-    rw (was, alike (rows_to w a c j) (set_where (is_number_in w a) c) g (with_words (rows_to w a c j) g) (for_any (λ words. rows_to w a c j words ≡ set_where (is_number_in w a) c words) g.words (λ words. all_rows w a c j words columns done)) refl)
+    rw (
+      was,
+      alike (rows_to w a c j) (set_where (is_number_in w a) c) g (with_words (rows_to w a c j) g) (for_any (λ words.
+          rows_to w a c j words ≡ set_where (is_number_in w a) c words) g.words (λ words. all_rows w a c j words
+          columns done)) refl,
+    )

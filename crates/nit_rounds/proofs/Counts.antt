@@ -5,7 +5,7 @@ use Rattle.nit_rounds.proofs.Basics.{clients_from, drop, flat_map, get_or, great
 use Rattle.nit_rounds.proofs.Basics.{length, length-append, length-map, map, phase_count}
 use Rattle.nit_rounds.proofs.Basics.{phase_rounds, range_with_len, refl, rounds, sum_by-cons}
 use Rattle.nit_rounds.proofs.Basics.{turns_from, turns_of}
-use Rattle.std.proofs.Common.{subst, suc, sum, sym, take, take-append-drop, zero, zero-add, ℕ, ◌++◌}
+use Rattle.std.proofs.Common.{suc, sum, sym, take, take-append-drop, zero, zero-add, ℕ, ◌++◌}
 use Rattle.std.proofs.Common.{◌+◌, ◌∙◌, ◌∷◌, ◌≡◌, ◌≤◌}
 use Rattle.nit_script.specs.declared.line.Line.TheVariants as line
 use Rattle.nit_script.specs.declared.line.InputLine.TheVariants as input
@@ -27,7 +27,10 @@ firsts_and_rest : (all : List (List LineTurn)) → length (flat_map (take 1) all
 unfolding total
 firsts_and_rest [] = refl
 firsts_and_rest (l ∷ all) =
-    let whole : length (take 1 l) + length (drop 1 l) ≡ length l = rw (← length-append (take 1 l) (drop 1 l), take-append-drop 1 l) in
+    let whole : length (take 1 l) + length (drop 1 l) ≡ length l = rw (
+      ← length-append (take 1 l) (drop 1 l),
+      take-append-drop 1 l,
+    ) in
     omega (arith, length-append (take 1 l) (flat_map (take 1) all), firsts_and_rest all)
 
 walk_long : (n : ℕ) (all : List (List LineTurn)) → Short n all → length (walk n all) ≡ total all
@@ -40,7 +43,11 @@ walk_long (suc n) all h = omega (
 )
 
 phase_long : (all : List (List LineTurn)) (p : ℕ) → length (phase_rounds all p) ≡ total (map (in_phase p) all)
-phase_long all p = rw (all_walk (map (in_phase p) all), walk_long (greatest (map length (map (in_phase p) all))) (map (in_phase p) all) (short_greatest (map (in_phase p) all)))
+phase_long all p = rw (
+  all_walk (map (in_phase p) all),
+  walk_long (greatest (map length (map (in_phase p) all))) (map
+      (in_phase p) all) (short_greatest (map (in_phase p) all)),
+)
 
 no_actor : (ps : List ℕ) → length (flat_map (phase_rounds []) ps) ≡ 0
 no_actor [] = refl

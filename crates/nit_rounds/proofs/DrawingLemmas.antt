@@ -3,14 +3,14 @@ use Rattle.nit_rounds.proofs.Basics.{ActorLine, AreLoaded, Bool, ByClient, ByUse
 use Rattle.nit_rounds.proofs.Basics.{Drawing, Entry, InputLine, IsDrawn, IsMoved, Line, LineTurn}
 use Rattle.nit_rounds.proofs.Basics.{List, None, Option, SceneModel, ShotFrame, ShowsEach}
 use Rattle.nit_rounds.proofs.Basics.{ShowsLine, Sight, Some, State, [], add-zero, after, after_turn}
-use Rattle.nit_rounds.proofs.Basics.{ap, cases_Bool, cond, dirty, done_after, drawn_shot, entry_of}
+use Rattle.nit_rounds.proofs.Basics.{cases_Bool, cond, dirty, done_after, drawn_shot, entry_of}
 use Rattle.nit_rounds.proofs.Basics.{false, fold-append, frame, frame_of, get_or-map-range_with_len}
 use Rattle.nit_rounds.proofs.Basics.{glass_in, inl, inr, length, line_by, map, next_shot}
 use Rattle.nit_rounds.proofs.Basics.{opening_drawing, pixel, pixel_count, range_with_len, refl}
 use Rattle.nit_rounds.proofs.Basics.{same_config, same_frame, scenery_of, shots, shots_after}
-use Rattle.nit_rounds.proofs.Basics.{slice_index_or, source_at, state_after, state_now, subst, sym}
+use Rattle.nit_rounds.proofs.Basics.{slice_index_or, source_at, state_after, state_now, sym}
 use Rattle.nit_rounds.proofs.Basics.{tables_after, true, word_after_entry, zero-add, ℕ}
-use Rattle.std.proofs.Common.{◌*◌, ◌++◌, ◌+◌, ◌<◌, ◌==◌, ◌∙◌, ◌∷◌, ◌≡◌}
+use Rattle.std.proofs.Common.{◌++◌, ◌+◌, ◌<◌, ◌==◌, ◌∙◌, ◌∷◌, ◌≡◌}
 use Rattle.nit_rounds.specs.Drawing.{drawn}
 use Rattle.nit_script.specs.declared.line.InputLine.TheVariants as input
 use Rattle.nit_rounds.proofs.TableWords.{AreOf, held_word}
@@ -81,7 +81,12 @@ moved_on config scripts d m s s' is moved are taken =
 frame_is : (d : Drawing) (s : SceneModel Sight) → IsDrawn d s → frame (scenery_of (state_now s)) s.raw
     ≡ frame_of d.state d.word
 frame_is d s is =
-    rw (is.state, same_frame (scenery_of d.state) s.raw (map d.word (range_with_len 0 (pixel_count d.state))) (λ k on_screen. is.words k on_screen ∙ sym (get_or-map-range_with_len d.word 0 (pixel_count d.state) k k 0 on_screen (zero-add k))))
+    rw (
+      is.state,
+      same_frame (scenery_of d.state) s.raw (map d.word (range_with_len 0 (pixel_count d.state))) (λ k
+          on_screen. is.words k on_screen ∙ sym (get_or-map-range_with_len d.word 0 (pixel_count d.state) k k 0
+          on_screen (zero-add k))),
+    )
 
 shot_is : (config : Configuration) (d : Drawing) (s : SceneModel Sight) → s.config ≡ config → IsDrawn d s
     → next_shot s ≡ drawn_shot config d

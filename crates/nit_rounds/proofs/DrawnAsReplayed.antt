@@ -1,5 +1,5 @@
 -- What is drawn is in the state that the journal of the same moves leads to.
-use Rattle.std.proofs.Common.{List, [], ap, arith, fold, map, refl, subst, sym, ℕ, ◌++◌, ◌+◌, ◌∙◌}
+use Rattle.std.proofs.Common.{List, [], ap, arith, fold, map, refl, sym, ℕ, ◌++◌, ◌+◌}
 use Rattle.std.proofs.Common.{◌∷◌, ◌≡◌}
 use Rattle.nit_rounds.proofs.Basics.{Action, ActorLine, Acts, ByClient, ByUser, Call, Calls}
 use Rattle.nit_rounds.proofs.Basics.{Configuration, Device, Does, Drawing, Entry, IsLegal}
@@ -141,7 +141,12 @@ folded config scripts [] d taken journal legal is =
     cc (none_left journal is)
 folded config scripts (m ∷ moves) d taken journal legal is =
     let b = behind d.state taken m.doing journal (actions_of_turns moves) legal is in
-    rw (folded config scripts moves (after_turn config scripts d m) b.now b.rest b.legal b.acts_left, ← b.leads, ← fold-append after d.state b.put b.rest, ← b.parts)
+    rw (
+      folded config scripts moves (after_turn config scripts d m) b.now b.rest b.legal b.acts_left,
+      ← b.leads,
+      ← fold-append after d.state b.put b.rest,
+      ← b.parts,
+    )
 
 pub as_replayed : (config : Configuration) (scripts : List (List Line)) (moves : List LineTurn) (journal : List Entry)
     → IsLegal config journal → map action_of journal ≡ actions_of_turns moves → (drawn config scripts moves).state

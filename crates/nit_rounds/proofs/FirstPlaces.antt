@@ -2,11 +2,11 @@
 use Rattle.nit_rounds.specs.Places.{left_from}
 use Rattle.nit_rounds.proofs.Basics.{ActorLine, ArePlaces, InputLine, Line, LineTurn, List}
 use Rattle.nit_rounds.proofs.Basics.{LinePlace}
-use Rattle.nit_rounds.proofs.Basics.{Places, StandsAt, [], actors, ap, arith, flat_map}
+use Rattle.nit_rounds.proofs.Basics.{Places, StandsAt, [], actors, arith, flat_map}
 use Rattle.nit_rounds.proofs.Basics.{get_or-replicate, in_phase, lefts, length, map, phase_count}
 use Rattle.nit_rounds.proofs.Basics.{phase_rounds, range_with_len, refl, replicate, rounds}
-use Rattle.nit_rounds.proofs.Basics.{script_of, subst, suc, sym, turns_left, turns_of}
-use Rattle.std.proofs.Common.{zero, ℕ, ◌++◌, ◌+◌, ◌-◌, ◌<◌, ◌∙◌, ◌∷◌, ◌≡◌, ◌≤◌}
+use Rattle.nit_rounds.proofs.Basics.{script_of, suc, turns_left, turns_of}
+use Rattle.std.proofs.Common.{zero, ℕ, ◌+◌, ◌-◌, ◌<◌, ◌∷◌, ◌≡◌, ◌≤◌}
 use Rattle.nit_rounds.proofs.Scripts.{below}
 use Rattle.nit_rounds.proofs.PlaceLemmas.{actors_long}
 use Rattle.nit_rounds.proofs.PhaseRest.{at_begin}
@@ -52,4 +52,8 @@ pub left_first_of : (scripts : List (List Line)) (input : List InputLine) → le
     → turns_left scripts input at_first ≡ rounds scripts input
 left_first_of scripts input few =
     let long : length (actors scripts input) ≡ length scripts + 1 = actors_long scripts input in
-    rw (lefts_first 17 (actors scripts input) (omega arith), from_first (phase_count scripts input) (map turns_of (actors scripts input)) (omega arith))
+    rw (
+      lefts_first 17 (actors scripts input) (omega arith),
+      from_first (phase_count scripts input) (map turns_of
+          (actors scripts input)) (omega arith),
+    )

@@ -5,7 +5,7 @@ use Rattle.nit_rounds.proofs.Basics.{None, PlanModel, Sight, Some, Step, ap, ap�
 use Rattle.nit_rounds.proofs.Basics.{get_or, get_or_from_slice_get, glass_after, ink, is_set_by}
 use Rattle.nit_rounds.proofs.Basics.{mul-le-mul_right, plan_of_script, refl, slice_index, static}
 use Rattle.nit_rounds.proofs.Basics.{step_of, table_size, with_words, words_after}
-use Rattle.std.proofs.Common.{length, slice_get, subst, sym, ℕ, ◌%◌, ◌*◌, ◌+◌, ◌/◌, ◌∙◌, ◌≡◌, ◌≤◌}
+use Rattle.std.proofs.Common.{length, slice_get, ℕ, ◌%◌, ◌*◌, ◌+◌, ◌/◌, ◌∙◌, ◌≡◌, ◌≤◌}
 
 -- what the laws of scripts say
 abbrev pub AreLong : Type 0

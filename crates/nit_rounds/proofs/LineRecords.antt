@@ -6,8 +6,8 @@ use Rattle.nit_rounds.proofs.Basics.{IsRecorded, Line, List, None, Option, Scene
 use Rattle.nit_rounds.proofs.Basics.{Stale, State, [], ap, arith, donation_of, entry_of}
 use Rattle.nit_rounds.proofs.Basics.{get_or-set_other, glass_after, glass_in, length, no_sight}
 use Rattle.nit_rounds.proofs.Basics.{same_Some, shots, state_now}
-use Rattle.std.proofs.Common.{slice_get, length-append, length-set, refl, set, subst, sym, ℕ, ◌++◌}
-use Rattle.std.proofs.Common.{◌+◌, ◌-◌, ◌<◌}
+use Rattle.std.proofs.Common.{slice_get, length-append, length-set, refl, set, sym, ℕ, ◌++◌}
+use Rattle.std.proofs.Common.{◌+◌, ◌-◌}
 use Rattle.std.proofs.Common.{◌∙◌, ◌∷◌, ◌≡◌, ◌≤◌}
 use Rattle.nit_events.specs.declared.entry.Entry.TheVariants as entry
 use Rattle.nit_script.specs.declared.line.Line.TheVariants as line

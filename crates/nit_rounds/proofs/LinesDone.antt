@@ -105,8 +105,18 @@ around {B = B} g all front m back x parts one = rw (parts, flat_map-append g fro
 number_is : (front : List ℕ) (number : ℕ) (back : List ℕ) (n : ℕ) → front ++ number ∷ back ≡ range_with_len 0 n
     → number ≡ length front
 number_is front number back n e =
-    let long : length front + suc (length back) ≡ n = rw (← length-append front (number ∷ back), e, length-range_with_len 0 n) in
-    rw (← get_or_at front number back 0 (length front) refl, e, get_or-range_with_len 0 n (length front) 0 (omega arith), zero-add (length front))
+    let long : length front + suc (length back) ≡ n = rw (
+      ← length-append front (number ∷ back),
+      e,
+      length-range_with_len 0 n,
+    ) in
+    rw (
+      ← get_or_at front number back 0 (length front) refl,
+      e,
+      get_or-range_with_len 0 n (length front) 0 (omega
+          arith),
+      zero-add (length front),
+    )
 
 done_before : {L : Type 0} (of : ActorLine → List L) (script : List L) (all front : List LineTurn) (m : LineTurn)
     (back : List LineTurn) (l : L) →

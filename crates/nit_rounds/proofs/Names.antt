@@ -1,5 +1,5 @@
 -- The names of the pictures of shots.
-use Rattle.std.proofs.Common.{List, ap, append_assoc, arith, rules, ℕ, ◌++◌, ◌<◌, ◌^◌, ◌∙◌, ◌≡◌}
+use Rattle.std.proofs.Common.{List, append_assoc, arith, rules, ℕ, ◌++◌, ◌<◌, ◌^◌, ◌≡◌}
 use Rattle.nit_rounds.proofs.Basics.{IsAscii-decimal, IsUtf8, IsUtf8-append, IsUtf8-from_ascii}
 use Rattle.nit_rounds.proofs.Basics.{codes, decimal, shot_name}
 

@@ -1,14 +1,14 @@
 -- How the actors go on: to the next one with a line to do, into a new round, into a new phase.
-use Rattle.nit_rounds.proofs.Basics.{ActorLine, AllByRecursion, ArePlaces, Bool, ByClient, ByUser}
+use Rattle.nit_rounds.proofs.Basics.{ActorLine, ArePlaces, Bool, ByClient, ByUser}
 use Rattle.nit_rounds.proofs.Basics.{HasTurn, InputLine, IsAtTurn, Line, LineTurn, List, NoneHas}
-use Rattle.nit_rounds.proofs.Basics.{LinePlace, Places, Some, StandsAt, [], actors, add-one, ap}
+use Rattle.nit_rounds.proofs.Basics.{LinePlace, Places, Some, [], actors, add-one, ap}
 use Rattle.nit_rounds.proofs.Basics.{arith}
 use Rattle.nit_rounds.proofs.Basics.{cases_eq, cases_lt, ends_phase, false, get_or, get_or-map}
 use Rattle.nit_rounds.proofs.Basics.{get_or-set_other, get_or-set_same, get_or_default, in_phase}
 use Rattle.nit_rounds.proofs.Basics.{inl, inr, is_active, left_at, left_from, lefts, length}
 use Rattle.nit_rounds.proofs.Basics.{length-map, length-set, map, phase_count, script_of}
 use Rattle.nit_rounds.proofs.Basics.{slice_get-get_or, stepped, turn_by, turns_left}
-use Rattle.std.proofs.Common.{slice_get, set, subst, suc, sym, true, ℕ, ◌+◌, ◌<◌, ◌∙◌, ◌∷◌, ◌≡◌}
+use Rattle.std.proofs.Common.{slice_get, set, suc, sym, ℕ, ◌+◌, ◌<◌, ◌∙◌, ◌∷◌, ◌≡◌}
 use Rattle.std.proofs.Common.{◌≤◌}
 use Rattle.nit_script.specs.declared.line.Line.TheVariants as line
 use Rattle.nit_script.specs.declared.line.InputLine.TheVariants as input_line
@@ -48,7 +48,11 @@ idle_by : (scripts : List (List Line)) (input : List InputLine) (at : Places) �
     → k ≤ length scripts → is_active at.phase (get_or at.places k first_place) (script_of scripts input k) ≡ false →
     in_phase at.phase (get_or (all_left scripts input at) k []) ≡ []
 idle_by scripts input at kept k inside none =
-    rw (left_by scripts input at kept k first_place inside, idle at.phase (get_or at.places k first_place) (script_of scripts input k) none (kept.stand k first_place inside).reached)
+    rw (
+      left_by scripts input at kept k first_place inside,
+      idle at.phase (get_or at.places k first_place) (script_of
+          scripts input k) none (kept.stand k first_place inside).reached,
+    )
 
 -- where no actor from one on has a line to do, none of them has a move in the phase
 all_idle : (scripts : List (List Line)) (input : List InputLine) (at : Places) (from : ℕ) → ArePlaces scripts input at
@@ -125,7 +129,8 @@ turn_shows scripts input at p b kept turn =
     let few : (get_or at.places b first_place).line < 65536 = turn.2 first_place in
     let small = stands.small in
     let same : (get_or at.places b first_place).phase ≡ p = parts.0 in
-    let inside = rw (left_first (get_or at.places b first_place) (script_of scripts input b) (ByUser input_line.Shot) parts.1) at stands.within in
+    let inside = rw (left_first (get_or at.places b first_place) (script_of scripts input b) (ByUser input_line.Shot)
+    parts.1) at stands.within in
     let within = inside.0 in
     (rw same at within, omega arith)
 
@@ -147,7 +152,12 @@ begin_phase scripts input at b kept rest none turn =
         stand = λ k d inside. phase_stands (phase_count scripts input) at.phase (get_or at.places k d)
             (script_of scripts input k) (none k d (omega arith) (omega arith)) (kept.stand k d inside);
       };
-      left = rw (add-one at.phase, phase_begun (phase_count scripts input) at.phase (all_left scripts input at) (omega arith) (λ i below_. idle_all i (omega arith) below_), (begin_round scripts input at kept rest).left);
+      left = rw (
+        add-one at.phase,
+        phase_begun (phase_count scripts input) at.phase (all_left scripts input at)
+            (omega arith) (λ i below_. idle_all i (omega arith) below_),
+        (begin_round scripts input at kept rest).left,
+      );
     }
 
 pub to_phase : (scripts : List (List Line)) (input : List InputLine) (at : Places) (b : ℕ) → ArePlaces scripts input at
@@ -240,8 +250,10 @@ step_place scripts input at kept turn place is =
         stand = λ k d below_.
             elim (cases_eq k at.actor) [
               | inl same ↦
-                  rw same (rw (← get_or-set_same at.places at.actor (stepped place (ends_phase (line_at scripts input at place)))
-                  d (omega arith)) at (step_stands (phase_count scripts input) at.phase place (script_of scripts input at.actor)
+                  rw same (rw (← get_or-set_same at.places at.actor (stepped place (ends_phase (line_at scripts input
+                  at place)))
+                  d (omega arith)) at (step_stands (phase_count scripts input) at.phase place (script_of scripts
+                  input at.actor)
                   (ByUser input_line.Shot) parts.1 parts.0 stands))
               | inr other ↦
                   rw (← get_or-set_other at.places at.actor k
@@ -302,7 +314,11 @@ client_turn scripts input at its inside =
     let long : (present at).line < length (get_or scripts at.actor []) =
     rw (ap length here
     ∙ length-map (get_or scripts at.actor []) (ByClient at.actor)) at (present_inside scripts input at its) in
-    cc (get_or-map (ByClient at.actor) (get_or scripts at.actor []) (present at).line line.Phase (ByUser input_line.Shot) long, here)
+    cc (
+      get_or-map (ByClient at.actor) (get_or scripts at.actor []) (present at).line line.Phase (ByUser
+          input_line.Shot) long,
+      here,
+    )
 
 pub user_turn : (scripts : List (List Line)) (input : List InputLine) (at : Places) → IsAtTurn scripts input at
     → length scripts ≤ at.actor → turn.User (present at).line

@@ -1,11 +1,11 @@
 -- A run of one client, whose user does nothing but end phases, is by rounds.
-use Rattle.nit_rounds.proofs.Basics.{Action, ActorLine, AreRoundsOf, Bool, ByClient, ByUser, Calls}
+use Rattle.nit_rounds.proofs.Basics.{ActorLine, AreRoundsOf, Bool, ByClient, ByUser, Calls}
 use Rattle.nit_rounds.proofs.Basics.{Configuration, Entry, InputLine, IsLegal, IsWhole, LegalFrom}
 use Rattle.nit_rounds.proofs.Basics.{Line, LineTurn, List, State, [], action_of, actions_of_line}
 use Rattle.nit_rounds.proofs.Basics.{actions_of_turns, after, ap, arith, as_many_as_clients}
 use Rattle.nit_rounds.proofs.Basics.{calls_from, calls_of, calls_to_make, done, eq-eqb, false}
 use Rattle.nit_rounds.proofs.Basics.{first_state, input_by_user, input_lines_of, length, line_by}
-use Rattle.nit_rounds.proofs.Basics.{lines_of, map, ne_eqb, refl, rounds, subst, suc, sym}
+use Rattle.nit_rounds.proofs.Basics.{lines_of, map, ne_eqb, refl, rounds, suc, sym}
 use Rattle.nit_rounds.proofs.Basics.{user_actions_from, user_actions_of, user_actions_to_do}
 use Rattle.std.proofs.Common.{true, zero, ℕ, ◌++◌, ◌==◌, ◌∙◌, ◌∷◌, ◌≡◌, if◌then◌else◌}
 use Rattle.nit_journal.proofs.ForCallers.{as_many}

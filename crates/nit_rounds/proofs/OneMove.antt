@@ -6,7 +6,7 @@ use Rattle.nit_rounds.proofs.Basics.{actions_of_turns, add-zero, ap, append-nil,
 use Rattle.nit_rounds.proofs.Basics.{eq-eqb, flat_map-append, get_or_past, glass_in, inl, inr}
 use Rattle.nit_rounds.proofs.Basics.{length, length-map, line_by, lines_of, map-append, ne_eqb}
 use Rattle.nit_rounds.proofs.Basics.{no_sight, rounds}
-use Rattle.std.proofs.Common.{length-append, map, refl, subst, sym, ℕ, ◌++◌, ◌+◌, ◌∙◌, ◌∷◌, ◌≡◌}
+use Rattle.std.proofs.Common.{length-append, map, refl, sym, ℕ, ◌++◌, ◌+◌, ◌∙◌, ◌∷◌, ◌≡◌}
 use Rattle.std.proofs.Common.{◌≢◌, ◌≤◌}
 use Rattle.nit_events.specs.declared.entry.Entry.TheVariants as entry
 use Rattle.nit_script.specs.declared.line.Line.TheVariants as line
@@ -16,7 +16,11 @@ use Rattle.nit_script.specs.declared.line.Line.TheVariants as line
 pub lines_more : (t : ℕ) (front : List LineTurn) (m : LineTurn) → length (lines_of t (front ++ m ∷ []))
     ≡ length (lines_of t front) + length (line_by t m.doing)
 lines_more t front m =
-    rw (flat_map-append (λ (x : LineTurn). line_by t x.doing) front (m ∷ []), append-nil (line_by t m.doing), length-append (lines_of t front) (line_by t m.doing))
+    rw (
+      flat_map-append (λ (x : LineTurn). line_by t x.doing) front (m ∷ []),
+      append-nil (line_by t m.doing),
+      length-append (lines_of t front) (line_by t m.doing),
+    )
 
 -- a move of another actor
 pub none_more : (t : ℕ) (front : List LineTurn) (m : LineTurn) → length (line_by t m.doing) ≡ 0
@@ -25,7 +29,11 @@ none_more t front m none = rw (lines_more t front m, none, add-zero (length (lin
 
 pub acts_more : (front : List LineTurn) (m : LineTurn) → actions_of_turns (front ++ m ∷ []) ≡ actions_of_turns front
     ++ actions_of_line m.doing
-acts_more front m = rw (flat_map-append (λ (x : LineTurn). actions_of_line x.doing) front (m ∷ []), append-nil (actions_of_line m.doing))
+acts_more front m = rw (
+  flat_map-append (λ (x : LineTurn). actions_of_line x.doing) front (m ∷ []),
+  append-nil
+      (actions_of_line m.doing),
+)
 
 pub own_line : (s : ℕ) (l : Line) (d : ActorLine) → d ≡ ByClient s l → length (line_by s d) ≡ 1
 own_line s l d is = ap (λ (x : ActorLine). length (line_by s x)) is ∙ rw (eq-eqb s s refl) refl
@@ -39,7 +47,11 @@ user_line t l d is = rw is
 
 pub recorded_acts : (sid : ℕ) (l : Line) (before after' : List Entry) → IsRecorded sid l before after'
     → map action_of after' ≡ map action_of before ++ actions_of_line (ByClient sid l)
-recorded_acts sid (line.Call call) before after' recorded = rw (recorded.1, map-append action_of before (entry.Call sid call recorded.0 ∷ []))
+recorded_acts sid (line.Call call) before after' recorded = rw (
+  recorded.1,
+  map-append action_of before (entry.Call
+      sid call recorded.0 ∷ []),
+)
 recorded_acts sid (line.Stroke s) before after' recorded = cc (recorded, append-nil (map action_of before))
 recorded_acts sid line.Phase before after' recorded = cc (recorded, append-nil (map action_of before))
 
@@ -57,7 +69,10 @@ room_for scripts lines before now owns m left a w one room =
     let more =
     length-append (actions_of_line m.doing) (actions_of_turns left) in
     let here : length (actions_of_line m.doing) ≡ 1 = rw one in
-    let long : length now.entries ≡ length (actions_of_turns w.front) = rw (← length-map now.entries action_of, w.entries) in
+    let long : length now.entries ≡ length (actions_of_turns w.front) = rw (
+      ← length-map now.entries action_of,
+      w.entries,
+    ) in
     let sum' : length now.entries + now.spare ≡ before.spare = w.spare in
     omega (arith, all, more, here, long, sum', room)
 

@@ -1,9 +1,9 @@
 -- What is left of a phase: an actor without a move is passed over, and a move is taken from the front.
 use Rattle.nit_rounds.proofs.Basics.{LineTurn, List, [], add-one, add-zero, all_rounds, ap}
-use Rattle.nit_rounds.proofs.Basics.{append-nil, append_assoc, ap₂, arith, drop, drop-set-lt}
+use Rattle.nit_rounds.proofs.Basics.{append-nil, append_assoc, arith, drop, drop-set-lt}
 use Rattle.nit_rounds.proofs.Basics.{drop_all, drop_more, eq-eqb, flat_map, get_or, in_phase}
 use Rattle.nit_rounds.proofs.Basics.{length, length-map, map, map-set, ne_eqb, phase_rounds}
-use Rattle.nit_rounds.proofs.Basics.{range_with_len, refl, rest_of_phase, set, set-get_or, subst}
+use Rattle.nit_rounds.proofs.Basics.{range_with_len, refl, rest_of_phase, set, set-get_or}
 use Rattle.nit_rounds.proofs.Basics.{suc, sym, take_more, take_more_set}
 use Rattle.std.proofs.Common.{take, take_all, zero, ℕ, ◌++◌, ◌+◌, ◌-◌, ◌<◌, ◌∙◌, ◌∷◌, ◌≡◌, ◌≤◌}
 use Rattle.nit_rounds.specs.Places.{left_from}
@@ -31,7 +31,12 @@ skip_many : (n k : ℕ) (all : List (List LineTurn)) → k + n ≤ length all
 skip_many zero k all inside none = cc (add-zero k)
 skip_many (suc n) k all inside none =
     let e : k + 1 + n ≡ k + suc n = omega arith in
-    rw (skip k all (omega arith) (none k (omega arith) (omega arith)), skip_many n (k + 1) all (omega arith) (λ i from_ below_. none i (omega arith) (omega arith)), e)
+    rw (
+      skip k all (omega arith) (none k (omega arith) (omega arith)),
+      skip_many n (k + 1) all (omega arith) (λ i
+          from_ below_. none i (omega arith) (omega arith)),
+      e,
+    )
 
 -- those from one actor up to another have no move
 pub skip_to : (k b : ℕ) (all : List (List LineTurn)) → k ≤ b → b ≤ length all
@@ -80,7 +85,11 @@ one_taken count p b all m rest inside has e =
     let now : get_or (map (in_phase p) all) b [] ≡ m ∷ in_phase p rest = get_map (in_phase p) refl b all
     ∙ ap (in_phase p) has ∙ rw (eq-eqb m.phase p e) refl in
     let long : b < length (map (in_phase p) all) = omega (arith, length-map all (in_phase p)) in
-    rw (take_one b (map (in_phase p) all) m (in_phase p rest) long now, ← map-set (in_phase p) all b rest, ← same_phases (count - suc p) (suc p) b all m rest has (omega arith))
+    rw (
+      take_one b (map (in_phase p) all) m (in_phase p rest) long now,
+      ← map-set (in_phase p) all b rest,
+      ← same_phases (count - suc p) (suc p) b all m rest has (omega arith),
+    )
 
 -- ---- new rounds, new phases, and the end
 
@@ -88,7 +97,8 @@ pub turned_to : (count p k b : ℕ) (all : List (List LineTurn)) → k ≤ b →
     → ((i : ℕ) → k ≤ i → i < b → in_phase p (get_or all i []) ≡ []) → left_from count p b all ≡ left_from count p k all
 unfolding left_from
 turned_to count p k b all up inside none =
-    rw (← (skip_to k b (map (in_phase p) all) up (omega (arith, length-map all (in_phase p))) (λ i from_ below_. get_map (in_phase p) refl i all ∙ none i from_ below_)))
+    rw (← (skip_to k b (map (in_phase p) all) up (omega (arith, length-map all (in_phase p))) (λ i from_ below_.
+    get_map (in_phase p) refl i all ∙ none i from_ below_)))
 
 -- what is left where no actor from this one on has a move in the phase
 round_ends : (count p k : ℕ) (all : List (List LineTurn)) → k ≤ length all
@@ -97,7 +107,8 @@ round_ends : (count p k : ℕ) (all : List (List LineTurn)) → k ≤ length all
     ++ flat_map (phase_rounds all) (range_with_len (suc p) (count - suc p))
 unfolding left_from
 round_ends count p k all up none =
-    rw (skip_rest k (map (in_phase p) all) (omega (arith, length-map all (in_phase p))) (λ i from_ below_. get_map (in_phase p) refl i all ∙ none i from_ (omega (arith, length-map all (in_phase p)))))
+    rw (skip_rest k (map (in_phase p) all) (omega (arith, length-map all (in_phase p))) (λ i from_ below_. get_map
+    (in_phase p) refl i all ∙ none i from_ (omega (arith, length-map all (in_phase p)))))
 
 pub round_begun : (count p k : ℕ) (all : List (List LineTurn)) → k ≤ length all
     → ((i : ℕ) → k ≤ i → i < length all → in_phase p (get_or all i []) ≡ [])
@@ -129,7 +140,14 @@ pub phase_begun : (count p : ℕ) (all : List (List LineTurn)) → suc p < count
 unfolding left_from
 phase_begun count p all more none =
     let one_more : count - suc p ≡ suc (count - suc (suc p)) = omega arith in
-    cc (at_begin (map (in_phase (suc p)) all), add-one (suc p), one_more, nothing_in p all none, at_begin (map (in_phase p) all))
+    cc (
+      at_begin (map (in_phase (suc p)) all),
+      add-one (suc p),
+      one_more,
+      nothing_in p all none,
+      at_begin (map
+          (in_phase p) all),
+    )
 
 nothing_behind : (n q : ℕ) (all : List (List LineTurn)) → ((i : ℕ) → i < length all → get_or all i [] ≡ [])
     → flat_map (phase_rounds all) (range_with_len q n) ≡ []

@@ -1,15 +1,15 @@
 -- Actors at places of their scripts: what each has left, and how places go on.
-use Rattle.nit_rounds.proofs.Basics.{ActorLine, AllByRecursion, Bool, ByClient, ByUser, InputLine}
-use Rattle.nit_rounds.proofs.Basics.{Line, LineTurn, List, LinePlace, Some, StandsAt, [], actors}
-use Rattle.nit_rounds.proofs.Basics.{add-one, and_parts, ap, ap₂, arith, cases_eq, cases_lt}
+use Rattle.nit_rounds.proofs.Basics.{ActorLine, Bool, ByClient, ByUser, InputLine}
+use Rattle.nit_rounds.proofs.Basics.{Line, List, LinePlace, Some, StandsAt, [], actors}
+use Rattle.nit_rounds.proofs.Basics.{add-one, and_parts, ap, arith, cases_eq, cases_lt}
 use Rattle.nit_rounds.proofs.Basics.{clients_from, cond, drop, drop_all, drop_more, ends_phase}
 use Rattle.nit_rounds.proofs.Basics.{eq-eqb, eqb-true, false, false≢true, get_or, get_or_default}
 use Rattle.nit_rounds.proofs.Basics.{get_or_past}
 use Rattle.nit_rounds.proofs.Basics.{in_phase, inl, inr, is_active, is_input_phase, is_phase}
 use Rattle.nit_rounds.proofs.Basics.{left_at, lefts, length, length-append, length-map, lt-ltb}
 use Rattle.nit_rounds.proofs.Basics.{ltb-true, map, nat_lt, refl, same_Some, script_of, set}
-use Rattle.nit_rounds.proofs.Basics.{stepped, turns_from}
-use Rattle.std.proofs.Common.{slice_get, subst, suc, sym, true, zero, zero-add, ℕ, ◌+◌, ◌<◌, ◌==◌}
+use Rattle.nit_rounds.proofs.Basics.{stepped}
+use Rattle.std.proofs.Common.{slice_get, suc, sym, true, zero, zero-add, ℕ, ◌+◌, ◌<◌, ◌==◌}
 use Rattle.std.proofs.Common.{◌∙◌, ◌∷◌, ◌≡◌, ◌≤◌}
 use Rattle.nit_rounds.proofs.OneActor.{later}
 use Rattle.nit_rounds.proofs.Scripts.{script_of_client, script_of_user}
@@ -29,7 +29,13 @@ script_user scripts input k low high =
 pub client_long : (scripts : List (List Line)) (input : List InputLine) (k : ℕ) (x : List Line) → k < length scripts
     → x ≡ get_or scripts k x → length x ≡ length (script_of scripts input k)
 client_long scripts input k x inside is =
-    rw (is, ← get_or_default scripts k [] x inside, ← length-map (get_or scripts k []) (ByClient k), ← script_client scripts input k inside)
+    rw (
+      is,
+      ← get_or_default scripts k [] x inside,
+      ← length-map (get_or scripts k []) (ByClient k),
+      ← script_client
+          scripts input k inside,
+    )
 
 pub user_long : (scripts : List (List Line)) (input : List InputLine) (k : ℕ) → length scripts ≤ k → k ≤ length scripts
     → length input ≡ length (script_of scripts input k)
@@ -72,7 +78,12 @@ pub client_end : (scripts : List (List Line)) (input : List InputLine) (k n : �
     (d : ActorLine) → k < length scripts → x ≡ get_or scripts k x → y ≡ x → n < length (script_of scripts input k)
     → l ≡ get_or y n l → slice_get (script_of scripts input k) n ≡ Some d → is_phase l ≡ ends_phase d
 client_end scripts input k n x y l d inside is same h at e =
-    let here : script_of scripts input k ≡ map (ByClient k) y = rw (script_client scripts input k inside, get_or_default scripts k [] x inside, ← is, ← same) in
+    let here : script_of scripts input k ≡ map (ByClient k) y = rw (
+      script_client scripts input k inside,
+      get_or_default scripts k [] x inside,
+      ← is,
+      ← same,
+    ) in
     cc (end_in (ByClient k) y n l d (client_inside scripts input k n x y inside is same h) at (rw here at e))
 
 pub user_end : (scripts : List (List Line)) (input : List InputLine) (k n : ℕ) (y : List InputLine) (other : InputLine)
@@ -82,7 +93,8 @@ user_end scripts input k n y other d low same h e =
     let here : script_of scripts input k ≡ map ByUser y =
     rw (script_user scripts input k low (has_script scripts input k n h), ← same) in
     let inside = user_inside scripts input k n y low same h in
-    cc (end_in ByUser y n (get_or y n other) d inside (get_or_default y n other (get_or y n other) inside) (rw here at e))
+    cc (end_in ByUser y n (get_or y n other) d inside (get_or_default y n other (get_or y n other) inside) (rw here
+    at e))
 
 -- ---- what each actor has left
 
@@ -153,7 +165,12 @@ pub left_first : (place : LinePlace) (ds : List ActorLine) (d : ActorLine) → p
     left_at place ds ≡ record { phase = place.phase; number = place.line; doing = get_or ds place.line d }
     ∷ left_at (stepped place (ends_phase (get_or ds place.line d))) ds
 left_first place ds d inside =
-    rw (drop_more ds place.line d inside, on_by_one (ends_phase (get_or ds place.line d)) place.phase, ← add-one place.line)
+    rw (
+      drop_more ds place.line d inside,
+      on_by_one (ends_phase (get_or ds place.line d)) place.phase,
+      ← add-one
+          place.line,
+    )
 
 stepped_up : (b : Bool) (p : ℕ) → (p ≤ cond b (p + 1) p) × (cond b (p + 1) p ≤ suc p)
 stepped_up true p = (omega arith, omega arith)

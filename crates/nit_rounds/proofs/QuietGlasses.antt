@@ -2,8 +2,8 @@
 use Rattle.nit_rounds.proofs.Basics.{AreQuiet, AreQuietBut, List, None, Sight, WereSeen, [], ap}
 use Rattle.nit_rounds.proofs.Basics.{cases_eq, eq-eqb, ext_get_or, get_or-set_other}
 use Rattle.nit_rounds.proofs.Basics.{get_or-set_same, glass_in, glasses_of_call, inl, inr}
-use Rattle.nit_rounds.proofs.Basics.{length-map, ne_eqb, no_sight, option_map, seen}
-use Rattle.std.proofs.Common.{length, map, refl, set, sym, ℕ, ◌++◌, ◌<◌, ◌∙◌, ◌∷◌, ◌≡◌, ◌≢◌}
+use Rattle.nit_rounds.proofs.Basics.{length-map, ne_eqb, no_sight, seen}
+use Rattle.std.proofs.Common.{length, map, refl, set, sym, ℕ, ◌<◌, ◌∙◌, ◌∷◌, ◌≡◌, ◌≢◌}
 
 abbrev pub itself : List Sight → List Sight
 itself glasses = map (λ g. g) glasses
@@ -52,7 +52,13 @@ same_at old new sid own own' quiet were idle t =
       | inl e ↦ rw (e, ← same_list new, idle, same_list old, ← e)
       | inr other ↦
           let saw = were t in
-          rw (← other_there new sid own' t other, saw.1, other_there old sid own t other, not_seen (glass_in old t) saw.0 (quiet t other))
+          rw (
+            ← other_there new sid own' t other,
+            saw.1,
+            other_there old sid own t other,
+            not_seen (glass_in old t)
+                saw.0 (quiet t other),
+          )
     ]
 
 pub same_glasses : {R : Type 0} (f : Sight → R) (old new : List Sight) (sid : ℕ) (own own' : Sight)

@@ -1,9 +1,9 @@
 -- Rounds one after the other: each takes the first move of each actor.
-use Rattle.nit_rounds.proofs.Basics.{AllByRecursion, LineTurn, List, [], all_rounds, ap, ap₂, arith}
+use Rattle.nit_rounds.proofs.Basics.{AllByRecursion, LineTurn, List, [], all_rounds, arith}
 use Rattle.nit_rounds.proofs.Basics.{drop, drop-drop, flat_map, flat_map-map, get_or, greatest}
 use Rattle.nit_rounds.proofs.Basics.{length-drop, map, nil_from_length, range_with_len, round}
-use Rattle.std.proofs.Common.{map-id, max, length, refl, subst, suc, sym, zero, ℕ, take, ◌++◌, ◌+◌}
-use Rattle.std.proofs.Common.{◌-◌, ◌∙◌, ◌∷◌, ◌≡◌, ◌≤◌}
+use Rattle.std.proofs.Common.{map-id, max, length, refl, suc, zero, ℕ, take, ◌++◌, ◌+◌}
+use Rattle.std.proofs.Common.{◌-◌, ◌∷◌, ◌≡◌, ◌≤◌}
 
 -- lists of at most n moves
 abbrev pub Short : ℕ → List (List LineTurn) → Type 0
@@ -79,12 +79,22 @@ walk_rest zero all e =
     cc (none, all_walk (map (drop 1) all))
 walk_rest (suc n) all e =
     let less : greatest (map length (map (drop 1) all)) ≡ n = omega (arith, greatest_drop all) in
-    rw (walk_less n (map (drop 1) all) (short_drop n all (rw e at (short_greatest all))), ← less, ← all_walk (map (drop 1) all))
+    rw (
+      walk_less n (map (drop 1) all) (short_drop n all (rw e at (short_greatest all))),
+      ← less,
+      ← all_walk (map
+          (drop 1) all),
+    )
 
 -- the first round, and then those of what is left
 pub first_round : (all : List (List LineTurn)) → all_rounds all ≡ flat_map (take 1) all ++ all_rounds (map (drop 1) all)
 first_round all =
-    rw (all_walk all, ← walk_less (greatest (map length all)) all (short_greatest all), walk_rest (greatest (map length all)) all refl)
+    rw (
+      all_walk all,
+      ← walk_less (greatest (map length all)) all (short_greatest all),
+      walk_rest (greatest (map
+          length all)) all refl,
+    )
 
 -- actors that have no move do nothing
 pub no_rounds : (all : List (List LineTurn)) → Short 0 all → all_rounds all ≡ []

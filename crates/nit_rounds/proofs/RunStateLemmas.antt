@@ -1,22 +1,22 @@
 -- A run that is under way: how it begins, what one turn does, and what holds at its end.
-use Rattle.nit_rounds.proofs.Basics.{Action, ActorLine, AreRaw, Bare, Bool, ByClient, ByUser}
+use Rattle.nit_rounds.proofs.Basics.{ActorLine, AreRaw, Bare, Bool, ByClient, ByUser}
 use Rattle.nit_rounds.proofs.Basics.{Configuration, DoesUserLine, Drawing, Entry, InputLine}
 use Rattle.nit_rounds.proofs.Basics.{IsDrawn, IsLegal, IsMoved, IsOpen, IsRawOf, IsRecorded}
 use Rattle.nit_rounds.proofs.Basics.{IsRoundsRun, IsSetUp, IsShowing, IsUnderWay, IsUserRecorded}
 use Rattle.nit_rounds.proofs.Basics.{Line, LineTurn, List, None, Option, Painting, PixelSource}
 use Rattle.nit_rounds.proofs.Basics.{PlanModel, Point, SceneModel, ShotFrame, ShowsEach, ShowsLine}
-use Rattle.nit_rounds.proofs.Basics.{Sight, Size, Some, State, View, [], action_of, actions_of_line}
-use Rattle.nit_rounds.proofs.Basics.{actions_of_turns, after_turn, ap, append-nil, append_assoc}
+use Rattle.nit_rounds.proofs.Basics.{Sight, Size, Some, View, [], action_of, actions_of_line}
+use Rattle.nit_rounds.proofs.Basics.{ap, append-nil, append_assoc}
 use Rattle.nit_rounds.proofs.Basics.{arith, bar_rows, bare_word, blank, buffer_size, cases_eq, cond}
 use Rattle.nit_rounds.proofs.Basics.{donation_of, done_after, drawn, drawn_shot, entry_of, false}
 use Rattle.nit_rounds.proofs.Basics.{first_state, get_or-set_other, get_or-set_same, glass_after}
 use Rattle.nit_rounds.proofs.Basics.{glass_in, in_bar, ink, inked_sight, inl, input_lines_of, inr}
-use Rattle.nit_rounds.proofs.Basics.{length, length-append, length-set, length-take-le, line_by}
+use Rattle.nit_rounds.proofs.Basics.{length, length-append, length-set, length-take-le}
 use Rattle.nit_rounds.proofs.Basics.{lines_of, map, map-append, no_sight, painted_from, pixel}
-use Rattle.nit_rounds.proofs.Basics.{pixel_count, refl, replay, rounds, script_in, set}
+use Rattle.nit_rounds.proofs.Basics.{pixel_count, refl, rounds, script_in, set}
 use Rattle.nit_rounds.proofs.Basics.{shot_frames_of, shots, shots_after, slice_get}
 use Rattle.nit_rounds.proofs.Basics.{slice_get_within, source_at, source_under, state_now}
-use Rattle.nit_rounds.proofs.Basics.{tables_after, turn_of, words_after, words_left}
+use Rattle.nit_rounds.proofs.Basics.{turn_of, words_after, words_left}
 use Rattle.std.proofs.Common.{slice_index_or, subst, sym, take, true, zero-add, ℕ, ◌++◌, ◌+◌, ◌<◌}
 use Rattle.std.proofs.Common.{◌∙◌, ◌∷◌, ◌≡◌, ◌≢◌, ◌≤◌}
 use Rattle.nit_events.specs.declared.entry.Entry.TheVariants as entry
@@ -24,7 +24,7 @@ use Rattle.nit_script.specs.declared.line.InputLine.TheVariants as input
 use Rattle.nit_rounds.specs.declared.turn.Turn.TheVariants as turn
 use Rattle.nit_rounds.proofs.DrawingLemmas.{done_more, drawn_more, moved_on, none_drawn}
 use Rattle.nit_rounds.proofs.DrawingLemmas.{shows_drawn}
-use Rattle.nit_rounds.proofs.TableWords.{AreOf, tables_told}
+use Rattle.nit_rounds.proofs.TableWords.{tables_told}
 use Rattle.nit_rounds.proofs.ShotLemmas.{device_shots, line_shots, shot_counted}
 use Rattle.nit_rounds.proofs.OneMove.{acts_more, lines_more, none_more, other_line, own_line}
 use Rattle.nit_rounds.proofs.OneMove.{recorded_acts, user_line}
@@ -127,7 +127,12 @@ counts_on : (config : Configuration) (scripts : List (List Line)) (front : List 
     → ((t : ℕ) → (drawn config scripts front).done t ≡ length (lines_of t front)) → (t : ℕ)
     → (drawn config scripts (front ++ m ∷ [])).done t ≡ length (lines_of t (front ++ m ∷ []))
 counts_on config scripts front m counts t =
-    rw (drawn_more config scripts front m, done_more m.doing (drawn config scripts front).done t, counts t, ← lines_more t front m)
+    rw (
+      drawn_more config scripts front m,
+      done_more m.doing (drawn config scripts front).done t,
+      counts t,
+      ← lines_more t front m,
+    )
 
 pub after_client : {V : Type 0} (Fits : ℕ → ℕ → V → Type 0) (Shows : ShotFrame → V → V → Type 0)
     (scripts : List (List Line)) (lines : List InputLine) (before now now' : SceneModel Sight) (owns owns' : List Sight)
@@ -147,7 +152,13 @@ after_client Fits Shows scripts lines before now now' owns owns' m left sid numb
         front = w.front ++ m ∷ [];
         parts = w.parts ∙ sym (append_assoc w.front (m ∷ []) left);
         config = config ∙ w.config;
-        entries = cc (recorded_acts sid move.l now.entries now'.entries recorded, w.entries, move.doing, acts_more w.front m);
+        entries = cc (
+          recorded_acts sid move.l now.entries now'.entries recorded,
+          w.entries,
+          move.doing,
+          acts_more
+              w.front m,
+        );
         unended = unended;
         spare = spare ∙ w.spare;
         same = same;
@@ -203,15 +214,22 @@ after_client Fits Shows scripts lines before now now' owns owns' m left sid numb
 
 user_acts : (l : InputLine) (before after' : List Entry) → IsUserRecorded l before after'
     → map action_of after' ≡ map action_of before ++ actions_of_line (ByUser l)
-user_acts (input.Device dev) before after' recorded = rw (recorded.1, map-append action_of before (entry.Input dev recorded.0 ∷ []))
-user_acts input.Shot before after' recorded = rw (recorded, map-append action_of before (entry.Shot (shots before + 1) ∷ []))
+user_acts (input.Device dev) before after' recorded =
+    rw (recorded.1, map-append action_of before (entry.Input dev recorded.0 ∷ []))
+user_acts input.Shot before after' recorded =
+    rw (recorded, map-append action_of before (entry.Shot (shots before + 1) ∷ []))
 user_acts input.Phase before after' recorded = cc (recorded, append-nil (map action_of before))
 
 user_shots : (config : Configuration) (d : Drawing) (l : InputLine) (before after' : List Entry)
     → IsUserRecorded l before after' → length d.shots ≡ shots before → length (shots_after config (ByUser l) d)
     ≡ shots after'
 user_shots config d input.Shot before after' recorded taken =
-    rw (length-append d.shots (drawn_shot config d ∷ []), taken, ← shot_counted before after' (shots before + 1) recorded)
+    rw (
+      length-append d.shots (drawn_shot config d ∷ []),
+      taken,
+      ← shot_counted before after' (shots before + 1)
+          recorded,
+    )
 user_shots config d (input.Device dev) before after' recorded taken = taken
     ∙ sym (device_shots before after' dev recorded)
 user_shots config d input.Phase before after' recorded taken = rw (taken, ← recorded)
@@ -244,7 +262,8 @@ after_user Fits Shows scripts lines before now now' owns m left l first old last
             w.is_drawn.taken);
       };
       shown = rw (← (ap (λ (d : Drawing). d.shots) (drawn_more before.config scripts w.front m)
-          ∙ ap (λ (d : ActorLine). shots_after before.config d (drawn before.config scripts w.front)) doing)) at (shows_drawn Shows before.config (drawn before.config scripts w.front) now l first old last w.config
+          ∙ ap (λ (d : ActorLine). shots_after before.config d (drawn before.config scripts w.front)) doing)) at
+          (shows_drawn Shows before.config (drawn before.config scripts w.front) now l first old last w.config
           w.is_drawn p.shown more);
       fits = rw w.config at fits;
     }
@@ -360,4 +379,5 @@ ended once all scripts lines before now owns left w over legal =
     left_all : (t : ℕ) → glass_of t
         (words_after (script_in scripts t) (donation_of before.config t) (length (script_in scripts t)))
         ≡ glass_of t (words_left (script_in scripts t) (donation_of before.config t))
-    left_all t = cc (all (blank (donation_of before.config t)) (script_in scripts t) (length (script_in scripts t)) (omega arith))
+    left_all t = cc (all (blank (donation_of before.config t)) (script_in scripts t) (length (script_in scripts t))
+        (omega arith))

@@ -2,9 +2,9 @@
 use Rattle.nit_rounds.proofs.Basics.{ActorLine, AllByRecursion, Bool, ByClient, ByUser, InputLine}
 use Rattle.nit_rounds.proofs.Basics.{Line, LineTurn, List, [], actors, add-zero, ap, arith}
 use Rattle.nit_rounds.proofs.Basics.{cases_eq, cases_lt, clients_from, cond, count_by, ends_phase}
-use Rattle.nit_rounds.proofs.Basics.{false, flat_map, get_or, greatest, in_phase, inl, inr}
+use Rattle.nit_rounds.proofs.Basics.{false, flat_map, get_or, greatest, inl, inr}
 use Rattle.nit_rounds.proofs.Basics.{is_input_phase, is_phase, length, map, phase_count, phases}
-use Rattle.nit_rounds.proofs.Basics.{range_with_len, refl, rounds, subst, suc, sum_by-append, sym}
+use Rattle.nit_rounds.proofs.Basics.{range_with_len, refl, rounds, suc, sum_by-append, sym}
 use Rattle.nit_rounds.proofs.Basics.{true, turns_from, turns_of, zero, zero-add, ℕ}
 use Rattle.std.proofs.Common.{◌++◌, ◌+◌, ◌<◌, ◌∙◌, ◌∷◌, ◌≡◌, ◌≤◌}
 use Rattle.nit_rounds.proofs.OneActor.{Silent, OnlyAt, Below, taken_silent, get_map, only_phases}
@@ -101,7 +101,12 @@ project : {B : Type 0} (g : LineTurn → List B) (scripts : List (List Line)) (i
     → OnlyAt g k (map turns_of (actors scripts input)) →
     flat_map g (rounds scripts input) ≡ flat_map g (turns_of (get_or (actors scripts input) k []))
 project g scripts input k h =
-    rw (only_phases g k (map turns_of (actors scripts input)) h (range_with_len 0 (phase_count scripts input)), get_map turns_of refl k (actors scripts input), phases_whole (get_or (actors scripts input) k []) 0 0 (phase_count scripts input) (rw (← zero-add (phase_count scripts input)) at (below scripts input k)))
+    rw (
+      only_phases g k (map turns_of (actors scripts input)) h (range_with_len 0 (phase_count scripts input)),
+      get_map turns_of refl k (actors scripts input),
+      phases_whole (get_or (actors scripts input) k []) 0 0
+          (phase_count scripts input) (rw (← zero-add (phase_count scripts input)) at (below scripts input k)),
+    )
 
 -- g takes nothing of other clients' lines, and nothing of the user's lines
 abbrev pub NotOthers : {B : Type 0} → (LineTurn → List B) → ℕ → Type 0
@@ -174,4 +179,9 @@ pub user_part : {B : Type 0} (g : LineTurn → List B) (made : List InputLine �
     → ((ls : List InputLine) → flat_map g (turns_of (map ByUser ls)) ≡ made ls) →
     (scripts : List (List Line)) (input : List InputLine) → flat_map g (rounds scripts input) ≡ made input
 user_part g made clients whole scripts input =
-    rw (project g scripts input (length scripts) (only_user g clients 0 scripts input), script_of_user 0 scripts (map ByUser input), whole input)
+    rw (
+      project g scripts input (length scripts) (only_user g clients 0 scripts input),
+      script_of_user 0 scripts (map
+          ByUser input),
+      whole input,
+    )

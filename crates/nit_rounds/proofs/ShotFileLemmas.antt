@@ -1,7 +1,7 @@
 -- The files of the shots of some entries.
 use Rattle.nit_rounds.proofs.Basics.{Entry, File, List, ShotsBehind, Some, [], ap, append-nil}
-use Rattle.nit_rounds.proofs.Basics.{arith, length, refl, shot_name, shots, slice_get, subst}
-use Rattle.std.proofs.Common.{suc, sym, ℕ, ◌++◌, ◌∙◌, ◌∷◌, ◌≡◌, append_assoc}
+use Rattle.nit_rounds.proofs.Basics.{arith, length, refl, shot_name, shots, slice_get}
+use Rattle.std.proofs.Common.{suc, ℕ, ◌++◌, ◌∙◌, ◌∷◌, ◌≡◌, append_assoc}
 use Rattle.nit_events.specs.declared.entry.Entry.TheVariants as entry
 
 abbrev Picturing : Type 1

@@ -202,7 +202,8 @@ module _ (config : Configuration) (scripts : List (List Line)) (lines : List Inp
             record {
               frames = more.frames;
               drawn_too = cc (more.drawn_too, p.same d);
-              are = rw (← b.parts) at (no_file IsPicture before b.put b.rest (map shot_file more.frames) p.none more.are);
+              are = rw (← b.parts) at (no_file IsPicture before b.put b.rest (map shot_file more.frames) p.none
+                  more.are);
             }
       ]
 

@@ -1,5 +1,5 @@
 -- Frames that are shown one after the other, and what they are to a desk.
-use Rattle.std.proofs.Common.{List, [], ap, map, refl, subst, ◌++◌, ◌∙◌, ◌∷◌, ◌≡◌}
+use Rattle.std.proofs.Common.{List, [], ap, map, refl, ◌++◌, ◌∙◌, ◌∷◌, ◌≡◌}
 use Rattle.nit_rounds.proofs.Basics.{PutState, PutsAll, PutsNext, ShotFrame, ShowsEach, shot_file}
 
 -- one frame more

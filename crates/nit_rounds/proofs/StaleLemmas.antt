@@ -3,12 +3,12 @@ use Rattle.nit_rounds.proofs.Basics.{AreBehind, BufferArea, Bool, IsBehind, IsBe
 use Rattle.nit_rounds.proofs.Basics.{IsDonation, Line, List, None, Option, SceneModel, Sight, Some}
 use Rattle.nit_rounds.proofs.Basics.{Stale, Step, ap, cases_lt, cond, ext_get_or, false}
 use Rattle.nit_rounds.proofs.Basics.{get_or-set_same, get_or_past, glass_after, glass_in, ink}
-use Rattle.nit_rounds.proofs.Basics.{inked_sight, inl, inr, is_in_area, is_number_in, is_set_by}
+use Rattle.nit_rounds.proofs.Basics.{inl, inr, is_in_area, is_number_in, is_set_by}
 use Rattle.nit_rounds.proofs.Basics.{is_stale, length, length-set, no_sight, or_parts, refl}
 use Rattle.nit_rounds.proofs.Basics.{same_Some, set, set-set, set_long, set_where, slice_get}
-use Rattle.nit_rounds.proofs.Basics.{slice_index, static, step_of, subst, told_at, told_words}
+use Rattle.nit_rounds.proofs.Basics.{slice_index, static, step_of, subst, told_at}
 use Rattle.nit_rounds.proofs.Basics.{with_words, word_at, words_after}
-use Rattle.std.proofs.Common.{sym, true, ℕ, ◌%◌, ◌+◌, ◌/◌, ◌<◌, ◌||◌, ◌∙◌, ◌≡◌, ◌≤◌}
+use Rattle.std.proofs.Common.{sym, true, ℕ, ◌%◌, ◌+◌, ◌/◌, ◌<◌, ◌||◌, ◌∙◌, ◌≡◌}
 use Rattle.nit_rounds.proofs.Copies.{with_glass_of}
 use Rattle.nit_rounds.proofs.LineOnGlass.{AreLong, StayElsewhere}
 
@@ -143,7 +143,8 @@ nothing_drawn long stay t script donation k l opens here none =
     let step = step_of (static script donation k) (static script donation (k + 1)) l in
     let as_long =
     long script donation k opens.1 ∙ sym (long script donation (k + 1) opens.1) in
-    rw (ext_get_or 0 (words_after script donation k) (words_after script donation (k + 1)) as_long (λ n inside. sym (stay script donation k n l here (none step (n % step.w) (n / step.w)))))
+    rw (ext_get_or 0 (words_after script donation k) (words_after script donation (k + 1)) as_long (λ n inside. sym
+    (stay script donation k n l here (none step (n % step.w) (n / step.w)))))
 
 -- what a line sets is stale too
 pub drawn_but : AreLong → StayElsewhere

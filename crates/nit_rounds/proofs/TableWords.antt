@@ -1,11 +1,11 @@
 -- Words by the tables of the sessions.
 use Rattle.nit_rounds.proofs.Basics.{Bare, Black, Bool, Configuration, IsInked, IsLoaded, IsTrue}
-use Rattle.nit_rounds.proofs.Basics.{IsWordOfSource, Line, List, PixelSource, Sight, Word, [], ap}
+use Rattle.nit_rounds.proofs.Basics.{IsWordOfSource, Line, List, PixelSource, Sight, Word, []}
 use Rattle.nit_rounds.proofs.Basics.{cases_lt, donation_of, eqb-true, false, get_or_past}
 use Rattle.nit_rounds.proofs.Basics.{glass_after, glass_in, inl, inr, length, no_sight, script_in}
 use Rattle.nit_rounds.proofs.Basics.{slice_index, table_size, tables_after, word_from, words_after}
 use Rattle.nit_rounds.proofs.Basics.{zero_at, zeros}
-use Rattle.std.proofs.Common.{refl, subst, suc, sym, true, zero, ℕ, ◌<◌, ◌==◌, ◌||◌, ◌∙◌, ◌≡◌, ◌≤◌}
+use Rattle.std.proofs.Common.{refl, suc, true, zero, ℕ, ◌<◌, ◌==◌, ◌||◌, ◌≡◌}
 
 -- ---- words
 
@@ -47,5 +47,11 @@ tables_told config scripts owns done each tell t i w loaded =
           let none : glass_in owns t ≡ no_sight =
           get_or_past owns t no_sight (rw (← each) at past) in
           let script : script_in scripts t ≡ [] = get_or_past scripts t [] past in
-          cc (no_ink w (rw none at loaded).inked, zero_at (table_size (donation_of config t)) i, no_lines (donation_of config t) (done t), script)
+          cc (
+            no_ink w (rw none at loaded).inked,
+            zero_at (table_size (donation_of config t)) i,
+            no_lines
+                (donation_of config t) (done t),
+            script,
+          )
     ]

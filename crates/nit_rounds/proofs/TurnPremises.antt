@@ -1,5 +1,5 @@
 -- What a turn finds: all that the line of its actor asks for.
-use Rattle.nit_rounds.proofs.Basics.{Action, ActorLine, Acts, All-get_or, AllByRecursion, ByClient}
+use Rattle.nit_rounds.proofs.Basics.{Action, Acts, All-get_or, AllByRecursion}
 use Rattle.nit_rounds.proofs.Basics.{ByUser, Call, Calls, CanDoUserLine, Configuration, Does, Entry}
 use Rattle.nit_rounds.proofs.Basics.{FitsInputLine, InputLine}
 use Rattle.nit_rounds.proofs.Basics.{IsConfiguration, IsDonation, IsMember, IsMoved, IsPlanOf}
@@ -10,7 +10,7 @@ use Rattle.nit_rounds.proofs.Basics.{drop, get_or, get_or_default, get_or_from_s
 use Rattle.nit_rounds.proofs.Basics.{glass_after, glass_in, length, option_map, plan_in, rounds}
 use Rattle.nit_rounds.proofs.Basics.{script_in, settled, slice_get_within, state_now, takes_place}
 use Rattle.nit_rounds.proofs.Basics.{turn_of}
-use Rattle.std.proofs.Common.{slice_get, length-set, refl, set, subst, suc, sym, true, zero, ℕ, ◌<◌}
+use Rattle.std.proofs.Common.{slice_get, length-set, refl, set, suc, sym, true, zero, ℕ, ◌<◌}
 use Rattle.std.proofs.Common.{◌∙◌, ◌∷◌, ◌≡◌, ◌≤◌}
 use Rattle.nit_script.specs.declared.line.Line.TheVariants as line
 use Rattle.nit_script.specs.declared.line.InputLine.TheVariants as input
@@ -80,7 +80,8 @@ clients_turn tells done scripts lines plans before now owns m left sid number pl
         let l : move.l ≡ line.Call call = same_some move.l (line.Call call) (sym move.here ∙ found) in
         rw (move.doing, l)
 
--- all that a client's line asks for, once what is stale of others was copied: the scene's glasses are the own ones, but for that of the session
+-- all that a client's line asks for, once what is stale of others was copied: the scene's glasses are the own ones,
+-- but for that of the session
 pub settled_turn : ClientTells → ClientDone
     → (scripts : List (List Line)) (lines : List InputLine) (plans : List PlanModel) (before s s' : SceneModel Sight)
     (owns : List Sight) (m : LineTurn) (left : List LineTurn) (sid number : ℕ)

@@ -2,7 +2,7 @@
 use Rattle.nit_rounds.proofs.Basics.{ActorLine, Acts, AreRoundsOf, Bool, ByClient, ByUser, Call}
 use Rattle.nit_rounds.proofs.Basics.{Calls, Does, Entry, InputLine, IsNonDecreasing, IsWhole, Line}
 use Rattle.nit_rounds.proofs.Basics.{LineTurn, List, Shoots, UserAction, [], action_of}
-use Rattle.nit_rounds.proofs.Basics.{actions_of_turns, actors, ap, ap₂, calls_from, calls_of}
+use Rattle.nit_rounds.proofs.Basics.{actions_of_turns, actors, ap, calls_from, calls_of}
 use Rattle.nit_rounds.proofs.Basics.{calls_to_make, cases_eq, cases_lt, done, eq-eqb, false}
 use Rattle.nit_rounds.proofs.Basics.{flat_map, get_or, get_or-set_other, get_or-set_same}
 use Rattle.nit_rounds.proofs.Basics.{get_or_past, inl, inr, left, length, map, ne_eqb, next_phase}

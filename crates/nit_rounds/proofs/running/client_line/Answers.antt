@@ -1,4 +1,4 @@
-use Rattle.nit_rounds.proofs.Lemmas.{SceneModel, Sight, as_found, behind_still, call_done, can_call}
+use Rattle.nit_rounds.proofs.Lemmas.{as_found, behind_still, call_done, can_call}
 use Rattle.nit_rounds.proofs.Lemmas.{glasses_still, line_here, none_done, one_taken, same_glasses}
 use Rattle.nit_rounds.proofs.Lemmas.{same_own, served_moved}
 use Rattle.std.proofs.Common.{Some, ap, ◌∙◌}

@@ -1,11 +1,11 @@
-use Rattle.std.proofs.Common.{List, [], ap, arith, length, refl, set, subst, sym, ◌+◌, ◌<◌, ◌∙◌}
-use Rattle.std.proofs.Common.{◌∷◌, slice_get, slice_index_or}
-use Rattle.nit_rounds.proofs.Lemmas.{ByClient, ByUser, FitsInputLine, InputLine}
-use Rattle.nit_rounds.proofs.Lemmas.{IsBehind, IsPlanOf, IsShowing, Line, LineTurn, PlanModel}
+use Rattle.std.proofs.Common.{List, [], ap, arith, length, refl, set, ◌∙◌}
+use Rattle.std.proofs.Common.{slice_get}
+use Rattle.nit_rounds.proofs.Lemmas.{ByClient, ByUser, FitsInputLine}
+use Rattle.nit_rounds.proofs.Lemmas.{IsShowing, Line, LineTurn}
 use Rattle.nit_rounds.proofs.Lemmas.{SceneModel, Sight, after_client, after_user, all_own, as_many}
 use Rattle.nit_rounds.proofs.Lemmas.{behind_again, clients_move, donation_of, each_at, entry_of}
-use Rattle.nit_rounds.proofs.Lemmas.{found_here, get_or_default, glass_after}
-use Rattle.nit_rounds.proofs.Lemmas.{glass_in, moved_settled, no_sight, read_same, script_in}
+use Rattle.nit_rounds.proofs.Lemmas.{found_here, get_or_default}
+use Rattle.nit_rounds.proofs.Lemmas.{moved_settled, no_sight, read_same}
 use Rattle.nit_rounds.proofs.Lemmas.{settled, settled_turn, users_move, users_turn}
 use Rattle.nit_rounds.proofs.running.do_turn.Goals as goal
 
@@ -51,7 +51,8 @@ client_line-requires-clause-draw g c =
       };
       line = rw script at t.here;
       donation = t.donation;
-      plan = rw script at (rw (get_or_default c.args.next.parts.plans.now sid _ c.index-parts-sid-in-Client.result t.in_plans) at t.plan);
+      plan = rw script at (rw (get_or_default c.args.next.parts.plans.now sid _ c.index-parts-sid-in-Client.result
+          t.in_plans) at t.plan);
       own = rw (get_or_default c.args.owns.now sid _ no_sight t.in_owns, t.own, script);
       behind = rw (← get_or_default c.args.owns.now sid no_sight _ t.in_owns) c.settle_others-stale.ensures.behind;
     }
@@ -62,7 +63,11 @@ client_line-requires-clause-spare g c =
     let t = settled_turn c.turns_tell.ensures.client c.lines_done.ensures.client _ _ _ before c.args.scene.now
     c.settle_others-stale.new.scene _ m left _ _ c.requires.planned p.way c.settle_others-stale.ensures.scene
     (is ∙ c.in-Client.is) room in
-    λ call found. t.spare call (rw (get_or_default c.args.next.parts.scripts.now c.in-Client.sid [] c.index-parts-sid.result t.in_scripts, found))
+    λ call found. t.spare call (rw (
+      get_or_default c.args.next.parts.scripts.now c.in-Client.sid []
+          c.index-parts-sid.result t.in_scripts,
+      found,
+    ))
 
 pub returns-in-Client-clause-behind : goal.returns-in-Client-clause-behind
 returns-in-Client-clause-behind g c =
@@ -137,6 +142,7 @@ returns-in-User-clause-way g c before m left first p is =
     (is ∙ c.in-User.is) in
     let does = c.user_line.ensures in
     let glasses = does.done.glasses ∙ ap (λ (s : SceneModel Sight). s.glasses) c.settle.ensures in
-    rw (ap (λ (gs : List Sight). record new { glasses = gs }) glasses) at (after_user g.V.Viewer.fits g.V.Viewer.shows _ _ before c.settle.new.scene new owns m left _ first _ _ p'
+    rw (ap (λ (gs : List Sight). record new { glasses = gs }) glasses) at (after_user g.V.Viewer.fits
+    g.V.Viewer.shows _ _ before c.settle.new.scene new owns m left _ first _ _ p'
     (move.doing ∙ ap ByUser (found_here c.args.next.parts.input.now c.in-User.line move.l _ move.here same))
     does.done does.shown does.viewer)

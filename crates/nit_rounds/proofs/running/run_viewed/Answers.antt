@@ -1,5 +1,5 @@
-use Rattle.nit_rounds.proofs.Lemmas.{IsShowing, LineTurn, List, SceneModel, Sight, ap, begun}
-use Rattle.nit_rounds.proofs.Lemmas.{front_move, settled, subst}
+use Rattle.nit_rounds.proofs.Lemmas.{List, Sight, ap, begun}
+use Rattle.nit_rounds.proofs.Lemmas.{front_move}
 use Rattle.nit_rounds.proofs.running.run_viewed.Goals as goal
 
 pub lines-init : goal.lines-init
@@ -7,9 +7,11 @@ lines-init g c =
     let same = c.requires.begins.set_up.same in
     record {
       behind = same;
-      way = rw (← ap (λ (gs : List Sight). record c.args.scene.now { glasses = gs }) same) (begun g.V.Viewer.fits g.V.Viewer.shows c.args.parts.scripts.now c.args.parts.input.now
+      way = rw (← ap (λ (gs : List Sight). record c.args.scene.now { glasses = gs }) same) (begun g.V.Viewer.fits
+          g.V.Viewer.shows c.args.parts.scripts.now c.args.parts.input.now
           c.args.parts.plans.now c.args.scene.now c.args.owns.now c.new-turns.result c.args.viewer.now
-          c.new-turns.ensures c.requires.begins.set_up c.requires.begins.entries c.journal.ensures.raw c.requires.viewer);
+          c.new-turns.ensures c.requires.begins.set_up c.requires.begins.entries c.journal.ensures.raw
+          c.requires.viewer);
     }
 
 pub lines-preserved : goal.lines-preserved

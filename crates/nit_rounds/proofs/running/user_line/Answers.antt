@@ -1,11 +1,12 @@
-use Rattle.nit_rounds.proofs.Lemmas.{CanDoUserLine, DoesUserLine, InputLine, refl, shot_done}
-use Rattle.nit_rounds.proofs.Lemmas.{input_moved, one_taken, same_seen, subst, sym}
+use Rattle.nit_rounds.proofs.Lemmas.{refl, shot_done}
+use Rattle.nit_rounds.proofs.Lemmas.{input_moved, one_taken, same_seen}
 use Rattle.nit_rounds.proofs.running.user_line.Goals as goal
 
 pub returns-in-Shot-clause-done : goal.returns-in-Shot-clause-done
 returns-in-Shot-clause-done g c =
     let can = rw c.in-Shot.is at c.requires.can in
-    rw (← c.in-Shot.is) at (shot_done c.one_more_entry.ensures.replayed c.args.scene.now c.shoot.new.scene c.shoot.ensures.scene
+    rw (← c.in-Shot.is) at (shot_done c.one_more_entry.ensures.replayed c.args.scene.now c.shoot.new.scene
+    c.shoot.ensures.scene
     c.shoot.ensures.«open» (can.spare refl))
 
 pub input-requires-clause-spare : goal.input-requires-clause-spare

@@ -1,4 +1,4 @@
-use Rattle.nit_rounds.proofs.Lemmas.{AreBehind, get_or_default, no_sight, settles, subst, ◌∙◌}
+use Rattle.nit_rounds.proofs.Lemmas.{get_or_default, no_sight, settles, ◌∙◌}
 use Rattle.nit_rounds.proofs.stale.settle.Goals as goal
 
 pub returns-in-Some : goal.returns-in-Some
