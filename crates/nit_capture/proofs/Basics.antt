@@ -1,6 +1,6 @@
 -- What lemmas use: the words of clauses, the library's lemmas, and those of the crates below.
 pub use Rattle.nit_capture.specs.Terms.{AgreeInside, All, AllAgree, AllByRecursion, Appends}
-pub use Rattle.nit_capture.specs.Terms.{HasPixels, HasRecord, IsErr, IsOnScreen, IsPicture}
+pub use Rattle.nit_capture.specs.Terms.{HasPixels, HasRecord, IsErr, IsPartOfScreen, IsPicture}
 pub use Rattle.nit_capture.specs.Terms.{IsPictureSize, IsPlace, IsWord, LiesIn, List, Rectangle}
 pub use Rattle.nit_capture.specs.Terms.{Shows, [], area, behind_two, black, blue, changed_tiles}
 pub use Rattle.nit_capture.specs.Terms.{channels, cond, crop, crop_pixel, differs, drop, filter}

@@ -1,5 +1,5 @@
 -- The part of a picture inside a rectangle.
-use Rattle.nit_capture.proofs.Basics.{All, HasPixels, IsOnScreen, IsPicture, IsPlace, IsWord, List}
+use Rattle.nit_capture.proofs.Basics.{All, HasPixels, IsPartOfScreen, IsPicture, IsPlace, IsWord, List}
 use Rattle.nit_capture.proofs.Basics.{Rectangle, Shows, add-zero, add_assoc, ap, ap₂, arith}
 use Rattle.nit_capture.proofs.Basics.{channels, crop, crop_pixel, div-mul-add, div_below, drop}
 use Rattle.nit_capture.proofs.Basics.{flat_map, get_or-drop, get_or-take, get_or_append_left, ints}
@@ -24,7 +24,7 @@ pub record HasEdges (width height : ℕ) (r : Rectangle) : Type 0 where
   pub right : nat_abs r.x + r.w ≤ width
   pub bottom : nat_abs r.y + r.h ≤ height
 
-pub on_screen : (width height : ℕ) (r : Rectangle) → IsOnScreen width height r → HasEdges width height r
+pub on_screen : (width height : ℕ) (r : Rectangle) → IsPartOfScreen width height r → HasEdges width height r
 on_screen width height r is =
     let i = within r (screen width height) is.pixels is.inside in
     record { right = edge r.x r.w width i.left i.right; bottom = edge r.y r.h height i.top i.bottom }
@@ -40,7 +40,7 @@ in_cut r k some lt =
     let turned : r.w * r.h ≡ r.h * r.w = mul_comm r.w r.h in
     record { down = div_below k r.w r.h wide (omega (arith, turned)); across = mod_below k r.w wide }
 
-pub cut_within : (width height : ℕ) (r : Rectangle) (k : ℕ) → IsOnScreen width height r → k < r.w * r.h
+pub cut_within : (width height : ℕ) (r : Rectangle) (k : ℕ) → IsPartOfScreen width height r → k < r.w * r.h
     → crop_place width r k < width * height
 unfolding crop_place
 cut_within width height r k is lt =
@@ -57,7 +57,7 @@ cut_in_row width r row j lt =
     ap₂ (λ (a b : ℕ). (nat_abs r.y + a) * width + (nat_abs r.x + b)) (div-mul-add row r.w j lt)
     (mod-mul-add row r.w j lt) ∙ omega arith
 
-pub cut_row_within : (width height : ℕ) (r : Rectangle) (row : ℕ) → IsOnScreen width height r → row < r.h
+pub cut_row_within : (width height : ℕ) (r : Rectangle) (row : ℕ) → IsPartOfScreen width height r → row < r.h
     → crop_row_place width r row + r.w ≤ width * height
 unfolding crop_row_place
 cut_row_within width height r row is lt =
@@ -128,7 +128,7 @@ pixel_shown front frame i all lt =
     let e : (c : ℕ) → length front + 3 * i + c ≡ length front + (3 * i + c) = λ c. omega arith in
     rw (r, e 1, at 1 (lit< tt), e 2, at 2 (lit< tt)) (omega arith)
 
-pub cut_shown : (width height : ℕ) (r : Rectangle) (bytes frame : List ℕ) → IsOnScreen width height r
+pub cut_shown : (width height : ℕ) (r : Rectangle) (bytes frame : List ℕ) → IsPartOfScreen width height r
     → Shows width height bytes frame → crop_bytes width height r bytes ≡ crop width r frame
 unfolding crop_bytes
 cut_shown width height r bytes frame is s =

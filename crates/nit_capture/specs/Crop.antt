@@ -10,7 +10,7 @@ abbrev pub screen : ℕ → ℕ → Rectangle
 screen width height = rectangle (pos 0) (pos 0) width height
 
 -- the rectangle lies on the screen, and has pixels
-pub record IsOnScreen (width height : ℕ) (r : Rectangle) : Type 0 where
+pub record IsPartOfScreen (width height : ℕ) (r : Rectangle) : Type 0 where
   pub inside : LiesIn r (screen width height)
   pub pixels : HasPixels r
 

@@ -29,10 +29,6 @@ between_inked ink from to c words now new old is =
     rw is (all_inked ink (is_between from to) c words
     (λ k inside. new k (grind (arith, nat_tests)) (grind (arith, nat_tests))) old)
 
-pub one_of : (ink : List ℕ) (b : Bool) (c d : ℕ) → IsOfColours ink c → IsOfColours ink d → IsOfColours ink (cond b c d)
-one_of ink true c d first second = first
-one_of ink false c d first second = second
-
 -- a word behind the last one is 0
 pub at_any : (ink others : List ℕ) (k : ℕ) → All (IsOfColours ink) others → IsOfColours ink (get_or others k 0)
 at_any ink others k all = dite (dec_lt k (length others)) (λ inside. all k 0 inside)

@@ -1,4 +1,4 @@
-use Rattle.nit_capture.proofs.Lemmas.{IsOnScreen, arith, cut_shown, on_screen, refl}
+use Rattle.nit_capture.proofs.Lemmas.{IsPartOfScreen, arith, cut_shown, on_screen, refl}
 use Rattle.nit_capture.proofs.capture.Capture.picture.Goals as goal
 
 pub cut_into-requires-clause-bytes : goal.cut_into-requires-clause-bytes
@@ -31,7 +31,7 @@ pub returns-clause-appended : goal.returns-clause-appended
 returns-clause-appended c = λ frame s.
     let i = c.self.invariant.0 in
     let at = c.self.inside in
-    let is : IsOnScreen at.width at.height at.rect = record { inside = i.inside; pixels = i.pixels } in
+    let is : IsPartOfScreen at.width at.height at.rect = record { inside = i.inside; pixels = i.pixels } in
     let shown = cut_shown _ _ _ _ frame is (rw (← c.self.view_is) at s) in
     let text = rw (c.w.ensures.value, c.h.ensures.value, c.deref.ensures.value, c.deref-2.ensures.value) at
     c.in_ok-append_record.ensures.ok in
@@ -41,6 +41,6 @@ pub returns-clause-kept : goal.returns-clause-kept
 returns-clause-kept c = λ frame s.
     let i = c.self.invariant.0 in
     let at = c.self.inside in
-    let is : IsOnScreen at.width at.height at.rect = record { inside = i.inside; pixels = i.pixels } in
+    let is : IsPartOfScreen at.width at.height at.rect = record { inside = i.inside; pixels = i.pixels } in
     let shown = cut_shown _ _ _ _ frame is (rw (← c.self.view_is) at s) in
     rw (← c.self.view_is, c.swap.ensures.x_after, c.cut_into.ensures.value, shown) refl
