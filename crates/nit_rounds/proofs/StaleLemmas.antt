@@ -7,9 +7,9 @@ use Rattle.nit_rounds.proofs.Basics.{get_or-set_same, get_or_past, glass_after, 
 use Rattle.nit_rounds.proofs.Basics.{inl, inr, is_in_area, is_number_in, is_set_by}
 use Rattle.nit_rounds.proofs.Basics.{is_stale, length, length-set, no_sight, or_parts, refl}
 use Rattle.nit_rounds.proofs.Basics.{same_Some, set, set-set, set_long, set_where, slice_get}
-use Rattle.nit_rounds.proofs.Basics.{slice_index, static, step_of, subst, told_at}
+use Rattle.nit_rounds.proofs.Basics.{FitsInto, slice_index, static, step_of, subst, told_at}
 use Rattle.nit_rounds.proofs.Basics.{with_words, word_at, words_after}
-use Rattle.std.proofs.Common.{sym, true, ℕ, ◌%◌, ◌+◌, ◌/◌, ◌<◌, ◌||◌, ◌∙◌, ◌≡◌}
+use Rattle.std.proofs.Common.{IfSome, sym, true, ℕ, ◌%◌, ◌+◌, ◌/◌, ◌<◌, ◌||◌, ◌∙◌, ◌≡◌}
 use Rattle.nit_rounds.proofs.Copies.{with_glass_of}
 use Rattle.nit_rounds.proofs.LineOnGlass.{AreLong, StayElsewhere}
 
@@ -131,6 +131,12 @@ pub as_but : (t : ℕ) (script : List Line) (donation k : ℕ) (stale : Option S
 as_but t script donation k None there own is behind =
     but_none there own (words_after script donation k) behind (rw is)
 as_but t script donation k (Some a) there own is behind = behind.but
+
+-- what is stale fits into a glass of the same size
+pub still_fits : (stale : Option Stale) (sid : ℕ) (there own : Sight) (size : ℕ) → own.size ≡ size
+    → IsBehind stale sid there own → IfSome stale (FitsInto size)
+still_fits None sid there own size same behind = tt
+still_fits (Some a) sid there own size same behind = subst (λ (n : ℕ). FitsInto n a) same behind.fits
 
 sized : ℕ → List Line → List ℕ → ℕ → Sight
 sized t script words size =
