@@ -126,6 +126,9 @@ all_ended h xs u e =
 pub client_none : (p : PassModel) → p.next ≡ length p.script → phase_left p ≡ None
 client_none p e = ap (λ b. cond {A = Option ℕ} b None (Some p.phase)) (eq-eqb p.next (length p.script) e)
 
+pub client_ended : (p : PassModel) → phase_left p ≡ None → p.next ≡ length p.script
+client_ended p e = ended p.next (length p.script) p.phase e
+
 pub pair_none : (p : PassModel) (q : ClipPassModel) → p.next ≡ length p.script → q.next ≡ length q.script
     → pair_phase_left p q ≡ None
 pair_none p q e f = ap (λ b. cond {A = Option ℕ} b None (Some p.phase))
@@ -141,7 +144,7 @@ pair_ended p q e =
 pub clients_done : (ps : List PassModel) → All (λ (p : PassModel). phase_left p ≡ None) ps
     → All (λ (p : PassModel). p.next ≡ length p.script) ps
 clients_done ps all = λ k d inside.
-    let p = slice_index_or ps k d in ended p.next (length p.script) p.phase (all k d inside)
+    client_ended (slice_index_or ps k d) (all k d inside)
 
 pub pairs_done : (bs : List Pair) → All (λ (b : Pair). pair_phase_left b.pass b.clip ≡ None) bs
     → All (λ (b : Pair). (b.pass.next ≡ length b.pass.script) × (b.clip.next ≡ length b.clip.script)) bs

@@ -13,6 +13,7 @@ pub use Rattle.nit_events.specs.declared.event.Routed.{Routed}
 pub use Rattle.nit_hall.specs.ClipPass.{AreTogether, ClipBelongs, ClipPassModel, IsAtClipPhase}
 pub use Rattle.nit_hall.specs.ClipPass.{IsAtPhaseEnd, clip_number, clip_phases_before}
 pub use Rattle.nit_hall.specs.Hall.{Tells, TellsShot}
+pub use Rattle.nit_hall.specs.HallCalls.{BelongsAt, UserBelongsAt}
 pub use Rattle.nit_hall.specs.NearWords.{IsNear, IsNearFrame}
 pub use Rattle.nit_hall.specs.OpeningParts.{OpeningParts}
 pub use Rattle.nit_hall.specs.Pass.{Belongs, HasMetPhase, IsAtDevice, IsAtPhase, IsAtShot}

@@ -29,6 +29,12 @@ pub record IsPairIn (parts : OpeningParts) (p : PassModel) (q : ClipPassModel) :
   pub clip : ClipBelongs parts q
   pub together : GoTogether p q
 
+-- the two passes are of this opening and go together, and the client's next line is such a one
+pub record PairIsAt (parts : OpeningParts) (IsAt : PassModel → Type 0) (p : PassModel)
+    (q : ClipPassModel) : Type 0 where
+  pub pair : IsPairIn parts p q
+  pub next : IsAt p
+
 -- ---- what a client with a clip script did
 
 -- One more line of the client's pass is done. Both passes keep their roles, and go together.

@@ -22,7 +22,7 @@ pub record StepTogether (r : RoomModel) (p : PassModel) (u : UserPassModel) : Ty
   pub arrived : r.arrived ≡ 0
   pub idle : drop u.next u.input ≡ idle_user (drop p.next p.script)
 
--- the same, where the room's journal is open
+-- the client and the user are in step, and the room's journal is not ended
 pub record AreAlone (r : RoomModel) (p : PassModel) (u : UserPassModel) : Type 0 where
   pub step : StepTogether r p u
   pub unended : IsOpen r.scene.entries
@@ -39,3 +39,11 @@ pub record StepOn (r : RoomModel) (p : PassModel) (u : UserPassModel) (r' : Room
 abbrev pub actions_to_be : List Entry → PassModel → List Action
 actions_to_be entries p =
     map action_of entries ++ map (Calls p.sid) (calls_in (drop p.next p.script))
+
+-- One more line of the client's is done, and the user is in step with it again. The journal is not
+-- ended, and has one act more where the line is a call.
+pub record AloneOn (r : RoomModel) (p : PassModel) (u : UserPassModel) (r' : RoomModel)
+    (p' : PassModel) (u' : UserPassModel) : Type 0 where
+  pub on : StepOn r p u r' p' u'
+  pub unended : IsOpen r'.scene.entries
+  pub recorded : actions_to_be r'.scene.entries p' ≡ actions_to_be r.scene.entries p

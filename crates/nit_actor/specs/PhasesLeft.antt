@@ -7,7 +7,8 @@ use Rattle.nit_actor.specs.Below.{ClipPassModel, Pair, PassModel, UserPassModel}
 abbrev pub phase_left : PassModel → Option ℕ
 phase_left p = if p.next == length p.script then None else Some p.phase
 
--- the same of a client with a clip script: a line of one of the two scripts is left
+-- the phase that a client with a clip script is in, where it is not done: a line of one of the two
+-- scripts is left
 abbrev pub pair_phase_left : PassModel → ClipPassModel → Option ℕ
 pair_phase_left p q =
     if (p.next == length p.script) && (q.next == length q.script) then None else Some p.phase
@@ -21,7 +22,7 @@ PairSteps before after' =
     → (after'.pass.next ≡ length after'.pass.script)
     × (after'.clip.next ≡ length after'.clip.script))
 
--- the same of the user
+-- the phase that the user is in, where it is not done
 abbrev pub user_phase_left : UserPassModel → Option ℕ
 user_phase_left u = if u.next == length u.input then None else Some u.phase
 

@@ -1,5 +1,5 @@
 -- Who an actor is and what it has to do. No line that it does changes this.
-use Rattle.std.specs.Prelude.{◌≡◌, ◌+◌, ℕ, List, length, slice_get, Some}
+use Rattle.std.specs.Prelude.{◌≡◌, ◌+◌, ℕ, All, List, length, map, slice_get, Some}
 use Rattle.nit_actor.specs.Below.{BookName, InputLine, Line, OpeningParts, PassModel, PlanModel}
 use Rattle.nit_actor.specs.Below.{UserPassModel, donation_of}
 
@@ -21,6 +21,10 @@ role_of p = record {
   donation = p.donation;
 }
 
+-- the next line of the pass is this one
+abbrev pub IsAtLine : Line → PassModel → Type 0
+IsAtLine line p = slice_get p.script p.next ≡ Some line
+
 -- a client's pass keeps its role, and one more of its lines is done
 pub record IsOneOn (before after' : PassModel) : Type 0 where
   pub same : role_of after' ≡ role_of before
@@ -30,6 +34,12 @@ pub record IsOneOn (before after' : PassModel) : Type 0 where
 pub record IsThrough (before after' : PassModel) : Type 0 where
   pub same : role_of after' ≡ role_of before
   pub done : after'.next ≡ length after'.script
+
+-- the actors keep their roles, each at its place, and are done
+pub record AreThrough {P F : Type 0} (role : P → F) (IsDone : P → Type 0) (before after' : List P)
+    : Type 0 where
+  pub same : map role after' ≡ map role before
+  pub done : All IsDone after'
 
 -- the user's: its number, the name of its room's book, and the input script
 pub record UserRole : Type 0 where

@@ -1,7 +1,7 @@
 -- What the user needs to take its shots, and what it has done when it took some.
-use Rattle.std.specs.Prelude.{◌≡◌, ◌*◌, ◌+◌, length}
-use Rattle.nit_actor.specs.Below.{Desk, IsSameDesk, OpeningParts, StoreModel, UserBelongs}
-use Rattle.nit_actor.specs.Below.{UserPassModel, picture_length, put_state_of_desk}
+use Rattle.std.specs.Prelude.{◌≡◌, ◌*◌, ◌+◌, All, List, Some, length, slice_get}
+use Rattle.nit_actor.specs.Below.{Desk, InputLine, IsSameDesk, OpeningParts, StoreModel}
+use Rattle.nit_actor.specs.Below.{UserBelongs, UserPassModel, picture_length, put_state_of_desk}
 use Rattle.nit_actor.specs.Pictures.{GrowsQuietly, PutsShotsBehind}
 use Rattle.nit_actor.specs.Role.{user_role_of}
 
@@ -11,6 +11,23 @@ pub record CanShoot {S : Type 0} (parts : OpeningParts) (u : UserPassModel)
   pub user : UserBelongs parts u
   pub frame : length d.frame.items ≡ parts.config.width * parts.config.height
   pub text : length d.text.items ≡ picture_length parts.config.width parts.config.height
+
+-- the user can shoot, and its next line is such a one
+pub record CanShootAt {S : Type 0} (parts : OpeningParts) (IsAt : UserPassModel → Type 0)
+    (u : UserPassModel) (d : Desk S) : Type 0 where
+  pub can : CanShoot parts u d
+  pub next : IsAt u
+
+-- the next line of the user is this one
+abbrev pub UserIsAtLine : InputLine → UserPassModel → Type 0
+UserIsAtLine line u = slice_get u.input u.next ≡ Some line
+
+-- what a thread needs that does the lines of some actors and of the user by turns: each actor is
+-- one of the run, and the user can take its shots
+pub record CanTakeTurns {P S : Type 0} (parts : OpeningParts) (IsIn : P → Type 0) (actors : List P)
+    (u : UserPassModel) (d : Desk S) : Type 0 where
+  pub actors_in : All IsIn actors
+  pub user : CanShoot parts u d
 
 -- The user is in its role, and the pictures of the shots that it came to know were put by the desk,
 -- in order, until a put was refused.
@@ -22,7 +39,13 @@ pub record TakesShots {S : Type 0} (shown : S → StoreModel) (parts : OpeningPa
       (put_state_of_desk (shown d'.store.now) d'.fault d'.tried)
   pub desk : IsSameDesk d d'
 
--- the same, and all lines of the user are done
+-- the user did one more line, and took its shots so
+pub record TakesShotsOn {S : Type 0} (shown : S → StoreModel) (parts : OpeningParts)
+    (u u' : UserPassModel) (d d' : Desk S) : Type 0 where
+  pub next : u'.next ≡ u.next + 1
+  pub shots : TakesShots shown parts u u' d d'
+
+-- the user took its shots so, and all its lines are done
 pub record TakesAllShots {S : Type 0} (shown : S → StoreModel) (parts : OpeningParts)
     (u u' : UserPassModel) (d d' : Desk S) : Type 0 where
   pub shots : TakesShots shown parts u u' d d'

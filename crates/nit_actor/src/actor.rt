@@ -1,7 +1,8 @@
 //! What an actor is, and what a client's thread does.
 
-ghost use Rattle.std.specs.Prelude.{◌≡◌, ◌+◌, Some, slice_get};
-ghost use Rattle.nit_actor.specs.Terms.{Belongs, HasMetPhase, IsOneOn, IsThrough, Stroke, role_of};
+ghost use Rattle.std.specs.Prelude.{◌≡◌};
+ghost use Rattle.nit_actor.specs.Terms.{Belongs, BelongsAt, HasMetPhase, IsAtLine, IsOneOn};
+ghost use Rattle.nit_actor.specs.Terms.{IsThrough, Stroke};
 ghost use Rattle.nit_script.specs.declared.line.Line.TheVariants as lines;
 
 use crate::gate::{Checkpoint, Gate, GatedHall};
@@ -78,7 +79,9 @@ impl<'h, 'a, N: Name, K: Checkpoint> Actor<GatedHall<'h, 'a, N, K>> for Pass<'a>
 
     #[tactic(auto, using(crate::proofs::LeastPhases::client_none))]
     fn run<R: Wait>(&mut self, rt: &R, gated: &GatedHall<'h, 'a, N, K>) {
-        run_lines(rt, gated, self);
+        'lines: while let Some(line) = self.next() {
+            do_line(rt, gated, self, &line);
+        }
     }
 }
 
@@ -86,6 +89,7 @@ impl<'h, 'a, N: Name, K: Checkpoint> Actor<GatedHall<'h, 'a, N, K>> for Pass<'a>
 /// call and the end of a phase wait until the room serves the pass's phase. A stroke waits so
 /// before it passes the gate, where the pass has not found its phase served yet; all others take no
 /// lock.
+#[tactic(auto, using(crate::proofs::LeastPhases::client_ended))]
 pub fn run_actor<'a, N: Name, G: Gate, R: Wait>(
     rt: &R,
     gated: GatedHall<'_, 'a, N, &G>,
@@ -94,21 +98,7 @@ pub fn run_actor<'a, N: Name, G: Gate, R: Wait>(
     requires belongs { Belongs N.parts pass.old }
     ensures { IsThrough pass.old pass.new }
 {
-    run_lines(rt, &gated, pass)
-}
-
-/// The same, with what is called before each line.
-fn run_lines<'a, N: Name, K: Checkpoint, R: Wait>(
-    rt: &R,
-    gated: &GatedHall<'_, 'a, N, K>,
-    pass: &mut Pass<'a>,
-)
-    requires belongs { Belongs N.parts pass.old }
-    ensures { IsThrough pass.old pass.new }
-{
-    'lines: while let Some(line) = pass.next() {
-        do_line(rt, gated, pass, &line);
-    }
+    pass.run(rt, &gated)
 }
 
 /// Does the next line of the pass, which is this one. It passes the gate first, outside the lock; a
@@ -119,8 +109,7 @@ pub(crate) fn do_line<'a, N: Name, K: Checkpoint, R: Wait>(
     pass: &mut Pass<'a>,
     line: &Line,
 )
-    requires belongs { Belongs N.parts pass.old }
-    requires next { slice_get pass.old.script pass.old.next ≡ Some line.now }
+    requires { BelongsAt N.parts (IsAtLine line.now) pass.old }
     ensures { IsOneOn pass.old pass.new }
 {
     wait_for_stroke(rt, gated.hall, pass, line);

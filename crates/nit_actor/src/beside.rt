@@ -1,9 +1,9 @@
 //! All actors of a run beside each other: each client on a thread of its own, the user on the
 //! calling one.
 
-ghost use Rattle.std.specs.Prelude.{◌≡◌, All, length, map, vec_len};
-ghost use Rattle.nit_actor.specs.Terms.{Belongs, CanShoot, HasPlaceFor, IsPairIn, TakesAllShots};
-ghost use Rattle.nit_actor.specs.Terms.{pair_role_of, role_of};
+ghost use Rattle.std.specs.Prelude.{◌≡◌, length, vec_len};
+ghost use Rattle.nit_actor.specs.Terms.{AreThrough, Belongs, CanTakeTurns, HasPlaceFor, IsPairIn};
+ghost use Rattle.nit_actor.specs.Terms.{TakesAllShots, pair_role_of, role_of};
 
 use crate::actor::Actor;
 use crate::crew::{CallerThread, Unstarted, run_crew};
@@ -58,11 +58,10 @@ pub fn run_beside<'a, 's, N: Name + Send + Sync, G: Gate, S: Store, R: Threads +
     passes: &mut Vec<Pass<'a>>,
     mine: UserAndDesk<'a, 's, S>,
 ) -> UserAndDesk<'a, 's, S>
-    requires passes { All (Belongs N.parts) passes.old.items }
-    requires ready { CanShoot N.parts mine.user mine.desk }
+    requires ready { CanTakeTurns N.parts (Belongs N.parts) passes.old.items mine.user mine.desk }
     requires place { HasPlaceFor (vec_len passes.old) unstarted }
-    ensures same { map role_of passes.new.items ≡ map role_of passes.old.items }
-    ensures done { All (λ p. p.next ≡ length p.script) passes.new.items }
+    ensures actors { AreThrough role_of (λ p. p.next ≡ length p.script) passes.old.items
+        passes.new.items }
     ensures user { TakesAllShots S.shown N.parts mine.entry.user result.user mine.entry.desk
         result.desk }
 {
@@ -84,13 +83,12 @@ pub fn run_beside_clips<'a, 's, N: Name + Send + Sync, G: Gate, S: Store, R: Thr
     pairs: &mut Vec<Pair<'a>>,
     mine: UserAndDesk<'a, 's, S>,
 ) -> UserAndDesk<'a, 's, S>
-    requires pairs { All (λ b. IsPairIn N.parts b.pass b.clip) pairs.old.items }
-    requires ready { CanShoot N.parts mine.user mine.desk }
+    requires ready { CanTakeTurns N.parts (λ b. IsPairIn N.parts b.pass b.clip) pairs.old.items
+        mine.user mine.desk }
     requires place { HasPlaceFor (vec_len pairs.old) unstarted }
-    ensures same { map (λ b. pair_role_of b.pass b.clip) pairs.new.items
-        ≡ map (λ b. pair_role_of b.pass b.clip) pairs.old.items }
-    ensures done { All (λ b. (b.pass.next ≡ length b.pass.script)
-        × (b.clip.next ≡ length b.clip.script)) pairs.new.items }
+    ensures actors { AreThrough (λ b. pair_role_of b.pass b.clip)
+        (λ b. (b.pass.next ≡ length b.pass.script) × (b.clip.next ≡ length b.clip.script))
+        pairs.old.items pairs.new.items }
     ensures user { TakesAllShots S.shown N.parts mine.entry.user result.user mine.entry.desk
         result.desk }
 {

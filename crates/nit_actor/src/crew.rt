@@ -4,7 +4,7 @@
 //! generic in the type of a pass, and what is known of a pass that comes back is its role alone.
 
 ghost use Rattle.std.specs.Prelude.{◌≡◌, All, map, vec_len};
-ghost use Rattle.nit_actor.specs.Terms.{HasPlaceFor, HasPlaceToStart, IsSameCrew, IsStarted};
+ghost use Rattle.nit_actor.specs.Terms.{CrewCanRun, CrewHasRun, HasPlaceFor, IsSameCrew, IsStarted};
 
 use crate::actor::Actor;
 use std::marker::PhantomData;
@@ -70,20 +70,8 @@ pub struct Unstarted<'r, P> {
     pub waiting: Vec<P>,
 }
 
-/// Runs a pass, unless its flag is raised.
-fn stepped<P: Actor<W>, W, R: Wait>(rt: &R, shared: &W, raised: &AtomicBool, pass: P) -> P
-    requires { P.fits (P.role pass) }
-    ensures { P.role result ≡ P.role pass }
-{
-    let mut pass = pass;
-    if !raised.load(Ordering::SeqCst) {
-        pass.run(rt, shared);
-    }
-    pass
-}
-
-/// Starts the thread of one pass. Where none can be started the closure comes back; called under
-/// the raised flag, it hands the pass back as it went.
+/// Starts the thread of one pass, which runs it unless its flag is raised. Where no thread can be
+/// started the closure comes back; called under the raised flag, it hands the pass back as it went.
 fn start<'s, E, P: Actor<W> + Send + Drop + 's, W: Sync, R: Threads + Wait + Sync>(
     scope: &Scope<'s, E>,
     rt: &'s R,
@@ -103,7 +91,13 @@ fn start<'s, E, P: Actor<W> + Send + Drop + 's, W: Sync, R: Threads + Wait + Syn
         move || -> P
             requires { P.fits (P.role pass) }
             ensures { P.role result ≡ P.role pass }
-        { stepped::<P, W, R>(rt, shared, raised, pass) },
+        {
+            let mut pass = pass;
+            if !raised.load(Ordering::SeqCst) {
+                pass.run(rt, shared);
+            }
+            pass
+        },
     ) {
         Ok(child) => Started::There(child),
         Err(refused) => {
@@ -132,10 +126,7 @@ fn run_rest<
     W: Sync,
     R: Threads + Wait + Sync,
 >(scope: &Scope<'s, E>, rt: &'s R, shared: &'s W, crew: &mut Crew<'r, P>, own: U) -> U
-    requires fits { All (λ p. P.fits (P.role p)) crew.old.passes.items }
-    requires waiting { All (λ p. P.fits (P.role p)) crew.old.unstarted.waiting.items }
-    requires ready { U.ready own }
-    requires place { HasPlaceToStart crew.old }
+    requires { CrewCanRun P.fits P.role U.ready crew.old own }
     ensures same { IsSameCrew P.role crew.old crew.new }
     ensures kept { U.kept own result }
 {
@@ -168,24 +159,18 @@ fn run_all<
     U: CallerThread<P, W> + Drop,
     W: Sync,
     R: Threads + Wait + Sync,
->(rt: &R, shared: &W, unstarted: Unstarted<'_, P>, passes: Vec<P>, own: U) -> (Vec<P>, U)
-    requires fits { All (λ p. P.fits (P.role p)) passes.items }
-    requires place { HasPlaceFor (vec_len passes) unstarted }
-    requires ready { U.ready own }
-    ensures passes { map P.role result.0.items ≡ map P.role passes.items }
-    ensures kept { U.kept own result.1 }
+>(rt: &R, shared: &W, crew: Crew<'_, P>, own: U) -> (Vec<P>, U)
+    requires { CrewCanRun P.fits P.role U.ready crew own }
+    ensures { CrewHasRun P.role U.kept crew.entry.passes.items own result.0.items result.1 }
 {
     thread::scope(
         thread::scope_env(),
         rt,
         |scope| -> (Vec<P>, U)
-            requires fits { All (λ p. P.fits (P.role p)) passes.items }
-            requires place { HasPlaceFor (vec_len passes) unstarted }
-            requires ready { U.ready own }
-            ensures passes { map P.role result.0.items ≡ map P.role passes.items }
-            ensures kept { U.kept own result.1 }
+            requires { CrewCanRun P.fits P.role U.ready crew own }
+            ensures { CrewHasRun P.role U.kept crew.entry.passes.items own result.0.items result.1 }
         {
-            let mut crew = Crew { passes, unstarted };
+            let mut crew = crew;
             let own = run_rest(scope, rt, shared, &mut crew, own);
             let Crew {
                 passes,
@@ -208,12 +193,15 @@ pub(crate) fn run_crew<
     requires fits { All (λ p. P.fits (P.role p)) passes.old.items }
     requires place { HasPlaceFor (vec_len passes.old) unstarted }
     requires ready { U.ready own }
-    ensures same { map P.role passes.new.items ≡ map P.role passes.old.items }
+    ensures ran { CrewHasRun P.role U.kept passes.old.items own passes.new.items result }
     ensures done { All (λ p. P.left p ≡ None) passes.new.items }
-    ensures kept { U.kept own result }
 {
     let none = Vec::new(*passes.allocator());
-    let (ran, own) = run_all(rt, shared, unstarted, mem::replace(passes, none), own);
+    let crew = Crew {
+        passes: mem::replace(passes, none),
+        unstarted,
+    };
+    let (ran, own) = run_all(rt, shared, crew, own);
     *passes = ran;
     U::kept_twice();
     own.run_mine(rt, shared, passes)

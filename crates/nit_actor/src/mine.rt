@@ -2,9 +2,9 @@
 //! turns.
 
 ghost use Rattle.std.specs.Prelude.{◌≡◌, All, None, Some, length, map};
-ghost use Rattle.nit_actor.specs.Terms.{Belongs, CanShoot, IsLeastOf, IsPairIn, NoneIsBefore};
-ghost use Rattle.nit_actor.specs.Terms.{TakesAllShots, lesser, pair_role_of, phases_left, role_of};
-ghost use Rattle.nit_actor.specs.Terms.{user_phase_left};
+ghost use Rattle.nit_actor.specs.Terms.{AreThrough, Belongs, CanTakeTurns, IsLeastOf, IsPairIn};
+ghost use Rattle.nit_actor.specs.Terms.{NoneIsBefore, TakesAllShots, lesser, pair_role_of};
+ghost use Rattle.nit_actor.specs.Terms.{phases_left, role_of, user_phase_left};
 
 use crate::actor::Actor;
 use crate::gate::{Gate, GatedHall};
@@ -27,10 +27,8 @@ pub fn run_mine<'a, N: Name, G: Gate, S: Store, R: Wait>(
     user: &mut UserPass<'a>,
     desk: &mut Desk<S>,
 )
-    requires passes { All (Belongs N.parts) passes.old }
-    requires ready { CanShoot N.parts user.old desk.old }
-    ensures same { map role_of passes.new ≡ map role_of passes.old }
-    ensures done { All (λ p. p.next ≡ length p.script) passes.new }
+    requires { CanTakeTurns N.parts (Belongs N.parts) passes.old user.old desk.old }
+    ensures actors { AreThrough role_of (λ p. p.next ≡ length p.script) passes.old passes.new }
     ensures user { TakesAllShots S.shown N.parts user.old user.new desk.old desk.new }
 {
     run_turns(rt, &gated, passes, user, desk)
@@ -49,13 +47,12 @@ pub fn run_mine_clips<'a, N: Name, G: Gate, S: Store, R: Wait>(
     user: &mut UserPass<'a>,
     desk: &mut Desk<S>,
 )
-    requires pairs { All (λ b. IsPairIn N.parts b.pass b.clip) pairs.old }
-    requires ready { CanShoot N.parts user.old desk.old }
-    ensures same { map (λ b. pair_role_of b.pass b.clip) pairs.new
-        ≡ map (λ b. pair_role_of b.pass b.clip) pairs.old }
+    requires { CanTakeTurns N.parts (λ b. IsPairIn N.parts b.pass b.clip) pairs.old user.old
+        desk.old }
+    ensures actors { AreThrough (λ b. pair_role_of b.pass b.clip)
+        (λ b. (b.pass.next ≡ length b.pass.script) × (b.clip.next ≡ length b.clip.script))
+        pairs.old pairs.new }
     ensures pairs { All (λ b. IsPairIn N.parts b.pass b.clip) pairs.new }
-    ensures done { All (λ b. (b.pass.next ≡ length b.pass.script)
-        × (b.clip.next ≡ length b.clip.script)) pairs.new }
     ensures user { TakesAllShots S.shown N.parts user.old user.new desk.old desk.new }
 {
     run_turns(rt, &gated, pairs, user, desk)
@@ -71,10 +68,8 @@ pub(crate) fn run_turns<'a, W: UserTurns<'a>, A: Actor<W>, S: Store, R: Wait>(
     user: &mut UserPass<'a>,
     desk: &mut Desk<S>,
 )
-    requires fits { All (λ a. A.fits (A.role a)) actors.old }
-    requires ready { CanShoot W.parts user.old desk.old }
-    ensures same { map A.role actors.new ≡ map A.role actors.old }
-    ensures done { All (λ a. A.left a ≡ None) actors.new }
+    requires { CanTakeTurns W.parts (λ a. A.fits (A.role a)) actors.old user.old desk.old }
+    ensures actors { AreThrough A.role (λ a. A.left a ≡ None) actors.old actors.new }
     ensures user { TakesAllShots S.shown W.parts user.old user.new desk.old desk.new }
 {
     'turns: for _ in rt.forever() {

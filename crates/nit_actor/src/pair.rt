@@ -1,9 +1,8 @@
 //! A client with its clip script, and what its thread does.
 
-ghost use Rattle.std.specs.Prelude.{◌≡◌, ◌⊎◌, Some, length, slice_get};
-ghost use Rattle.nit_actor.specs.Terms.{Belongs, ClipBelongs, DidClips, GoTogether, IsAtClipPhase};
-ghost use Rattle.nit_actor.specs.Terms.{IsAtPhase, IsAtPhaseEnd, IsPairIn, PairIsOneOn};
-ghost use Rattle.nit_actor.specs.Terms.{PairIsThrough};
+ghost use Rattle.std.specs.Prelude.{◌≡◌, ◌⊎◌, length};
+ghost use Rattle.nit_actor.specs.Terms.{DidClips, IsAtClipPhase, IsAtLine, IsAtPhase, IsAtPhaseEnd};
+ghost use Rattle.nit_actor.specs.Terms.{IsPairIn, PairIsAt, PairIsOneOn, PairIsThrough};
 
 use crate::actor::{Actor, do_line};
 use crate::gate::{Checkpoint, Gate, GatedHall};
@@ -68,22 +67,20 @@ pub fn run_clips<'a, N: Name, G: Gate, R: Wait>(
     pass: &mut Pass<'a>,
     clip: &mut ClipPass<'a>,
 )
-    requires belongs { Belongs N.parts pass.old }
-    requires clip_belongs { ClipBelongs N.parts clip.old }
-    requires together { GoTogether pass.old clip.old }
+    requires { IsPairIn N.parts pass.old clip.old }
     ensures { PairIsThrough pass.old clip.old pass.new clip.new }
 {
     run_pair(rt, &gated, pass, clip)
 }
 
-/// The same, with what is called before each line.
+/// Does what [`run_clips`] does, by any checkpoint in place of a gate.
 fn run_pair<'a, N: Name, K: Checkpoint, R: Wait>(
     rt: &R,
     gated: &GatedHall<'_, 'a, N, K>,
     pass: &mut Pass<'a>,
     clip: &mut ClipPass<'a>,
 )
-    requires pair { IsPairIn N.parts pass.old clip.old }
+    requires { IsPairIn N.parts pass.old clip.old }
     ensures { PairIsThrough pass.old clip.old pass.new clip.new }
 {
     'lines: while let Some(line) = pass.next() {
@@ -102,8 +99,7 @@ fn do_pair_line<'a, N: Name, K: Checkpoint, R: Wait>(
     clip: &mut ClipPass<'a>,
     line: &Line,
 )
-    requires pair { IsPairIn N.parts pass.old clip.old }
-    requires next { slice_get pass.old.script pass.old.next ≡ Some line.now }
+    requires { PairIsAt N.parts (IsAtLine line.now) pass.old clip.old }
     ensures { PairIsOneOn pass.old clip.old pass.new clip.new }
 {
     match line {
@@ -125,8 +121,7 @@ fn end_phase<'a, N: Name, K: Checkpoint, R: Wait>(
     pass: &mut Pass<'a>,
     clip: &mut ClipPass<'a>,
 )
-    requires pair { IsPairIn N.parts pass.old clip.old }
-    requires next { IsAtPhase pass.old }
+    requires { PairIsAt N.parts IsAtPhase pass.old clip.old }
     ensures { PairIsOneOn pass.old clip.old pass.new clip.new }
 {
     do_phase_clips(rt, gated.hall, pass, clip);
@@ -145,8 +140,7 @@ fn do_phase_clips<'a, N: Name, R: Wait>(
     pass: &mut Pass<'a>,
     clip: &mut ClipPass<'a>,
 )
-    requires pair { IsPairIn N.parts pass.old clip.old }
-    requires next { IsAtPhase pass.old }
+    requires { PairIsAt N.parts IsAtPhase pass.old clip.old }
     ensures did { DidClips N.parts pass.old clip.old pass.new clip.new }
     ensures clip_next { IsAtClipPhase clip.new }
 {
@@ -162,8 +156,7 @@ fn do_last_clips<'a, N: Name, R: Wait>(
     pass: &mut Pass<'a>,
     clip: &mut ClipPass<'a>,
 )
-    requires pair { IsPairIn N.parts pass.old clip.old }
-    requires done { pass.old.next ≡ length pass.old.script }
+    requires { PairIsAt N.parts (λ p. p.next ≡ length p.script) pass.old clip.old }
     ensures { PairIsThrough pass.old clip.old pass.new clip.new }
 {
     do_clips(rt, hall, pass, clip);
@@ -178,8 +171,7 @@ fn do_clips<'a, N: Name, R: Wait>(
     pass: &mut Pass<'a>,
     clip: &mut ClipPass<'a>,
 )
-    requires pair { IsPairIn N.parts pass.old clip.old }
-    requires at { IsAtPhaseEnd pass.old }
+    requires { PairIsAt N.parts IsAtPhaseEnd pass.old clip.old }
     ensures did { DidClips N.parts pass.old clip.old pass.new clip.new }
     ensures ended { IsAtClipPhase clip.new ⊎ (clip.new.next ≡ length clip.new.script) }
 {

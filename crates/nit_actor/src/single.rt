@@ -1,9 +1,9 @@
 //! A run of one client, without a lock and on the calling thread.
 
-ghost use Rattle.std.specs.Prelude.{◌≡◌, ◌+◌, ◌++◌, Some, drop, length, map, slice_get};
-ghost use Rattle.nit_actor.specs.Terms.{AreAlone, Belongs, Calls, IsAtPhase, IsAtStroke, IsOpen};
-ghost use Rattle.nit_actor.specs.Terms.{IsThrough, StepOn, StepTogether, action_of, actions_to_be};
-ghost use Rattle.nit_actor.specs.Terms.{calls_in, sight_after_line, user_role_of};
+ghost use Rattle.std.specs.Prelude.{◌≡◌, ◌+◌, ◌++◌, drop, length, map};
+ghost use Rattle.nit_actor.specs.Terms.{AloneOn, AreAlone, Belongs, Calls, IsAtLine, IsAtPhase};
+ghost use Rattle.nit_actor.specs.Terms.{IsAtStroke, IsOpen, IsThrough, StepOn, StepTogether};
+ghost use Rattle.nit_actor.specs.Terms.{action_of, calls_in, sight_after_line, user_role_of};
 
 use nit_hall::{Pass, Room, UserPass};
 use nit_script::Line;
@@ -31,11 +31,8 @@ pub fn run_alone<'a>(room: &mut Room<'a>, pass: &mut Pass<'a>, user: &mut UserPa
 /// Does the client's next line, which is this one. Where it ends a phase, the user ends it too.
 fn do_line<'a>(room: &mut Room<'a>, pass: &mut Pass<'a>, user: &mut UserPass<'a>, line: &Line)
     requires alone { AreAlone room.old pass.old user.old }
-    requires next { slice_get pass.old.script pass.old.next ≡ Some line.now }
-    ensures on { StepOn room.old pass.old user.old room.new pass.new user.new }
-    ensures open { IsOpen room.new.scene.entries }
-    ensures recorded { actions_to_be room.new.scene.entries pass.new
-        ≡ actions_to_be room.old.scene.entries pass.old }
+    requires next { IsAtLine line.now pass.old }
+    ensures { AloneOn room.old pass.old user.old room.new pass.new user.new }
 {
     match line {
         Line::Call(_) => {

@@ -1,9 +1,9 @@
 //! The user's turns and lines, over a hall.
 
-ghost use Rattle.std.specs.Prelude.{◌≡◌, ◌*◌, ◌+◌, All, Some, length, slice_get};
-ghost use Rattle.nit_actor.specs.Terms.{CanShoot, IsAtDevice, IsAtShot, IsAtUserPhase, IsQuietlyOn};
-ghost use Rattle.nit_actor.specs.Terms.{IsWord, TakesShots, TellsShot, UserBelongs};
-ghost use Rattle.nit_actor.specs.Terms.{user_phase_left};
+ghost use Rattle.std.specs.Prelude.{◌≡◌, ◌*◌, ◌+◌, All, length};
+ghost use Rattle.nit_actor.specs.Terms.{CanShootAt, IsAtDevice, IsAtShot, IsAtUserPhase};
+ghost use Rattle.nit_actor.specs.Terms.{IsQuietlyOn, IsWord, TakesShotsOn, TellsShot};
+ghost use Rattle.nit_actor.specs.Terms.{UserBelongsAt, UserIsAtLine, user_phase_left};
 
 use crate::gate::{Checkpoint, GatedHall};
 use nit_hall::{Hall, Name, UserPass};
@@ -72,8 +72,7 @@ pub(crate) fn user_phase_left(user: &UserPass<'_>) -> Option<u32>
 
 /// Does the user's next line, which is of a device.
 fn do_device<'a, N: Name, R: Wait>(rt: &R, hall: &Hall<'a, N>, user: &mut UserPass<'a>)
-    requires belongs { UserBelongs N.parts user.old }
-    requires next { IsAtDevice user.old }
+    requires { UserBelongsAt N.parts IsAtDevice user.old }
     ensures { IsQuietlyOn user.old user.new }
 {
     let _known = user.next();
@@ -83,8 +82,7 @@ fn do_device<'a, N: Name, R: Wait>(rt: &R, hall: &Hall<'a, N>, user: &mut UserPa
 
 /// Does the user's next line, which ends a phase.
 fn end_phase<'a, N: Name, R: Wait>(rt: &R, hall: &Hall<'a, N>, user: &mut UserPass<'a>)
-    requires belongs { UserBelongs N.parts user.old }
-    requires next { IsAtUserPhase user.old }
+    requires { UserBelongsAt N.parts IsAtUserPhase user.old }
     ensures { IsQuietlyOn user.old user.new }
 {
     let _known = user.next();
@@ -100,8 +98,7 @@ fn take_shot<'a, N: Name, R: Wait>(
     user: &mut UserPass<'a>,
     frame: &mut Vec<u32>,
 ) -> u32
-    requires belongs { UserBelongs N.parts user.old }
-    requires next { IsAtShot user.old }
+    requires user { UserBelongsAt N.parts IsAtShot user.old }
     requires frame { length frame.old.items ≡ N.parts.config.width * N.parts.config.height }
     ensures told { TellsShot N.parts user.old.seen result user.new.seen frame.new.items }
     ensures words { All IsWord frame.new.items }
@@ -119,10 +116,8 @@ fn shoot<'a, N: Name, S: Store, R: Wait>(
     user: &mut UserPass<'a>,
     desk: &mut Desk<S>,
 )
-    requires ready { CanShoot N.parts user.old desk.old }
-    requires next { IsAtShot user.old }
-    ensures next { user.new.next ≡ user.old.next + 1 }
-    ensures shots { TakesShots S.shown N.parts user.old user.new desk.old desk.new }
+    requires { CanShootAt N.parts IsAtShot user.old desk.old }
+    ensures { TakesShotsOn S.shown N.parts user.old user.new desk.old desk.new }
 {
     let (width, height) = hall.size();
     let _known = user.next();
@@ -141,10 +136,8 @@ fn do_user_line<'a, N: Name, K: Checkpoint, S: Store, R: Wait>(
     line: &InputLine,
     desk: &mut Desk<S>,
 )
-    requires ready { CanShoot N.parts user.old desk.old }
-    requires next { slice_get user.old.input user.old.next ≡ Some line.now }
-    ensures next { user.new.next ≡ user.old.next + 1 }
-    ensures shots { TakesShots S.shown N.parts user.old user.new desk.old desk.new }
+    requires { CanShootAt N.parts (UserIsAtLine line.now) user.old desk.old }
+    ensures { TakesShotsOn S.shown N.parts user.old user.new desk.old desk.new }
 {
     gated.gate.reach(gated.hall.clients(), user.line() + 1);
     match line {

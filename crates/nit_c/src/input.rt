@@ -29,7 +29,7 @@ fn tell(host: &mut Host, device: Option<Device>) -> NitRouted
     }
 }
 
-/// The same by a handle.
+/// Serves what the user does on the server of a handle, where there is one.
 fn feed(alloc: Global, server: &mut NitServer, device: Option<Device>) -> NitRouted
     ensures { IsInput server.old server.new device result }
 {

@@ -1,16 +1,16 @@
 -- What lemmas use: the words of clauses, the library's lemmas, and those of the crates below.
 pub use Rattle.nit_capture.specs.Terms.{AgreeInside, All, AllAgree, AllByRecursion, Appends}
-pub use Rattle.nit_capture.specs.Terms.{HasPixels, HasRecord, IsErr, IsPicture, IsPictureSize}
-pub use Rattle.nit_capture.specs.Terms.{IsPlace, IsWord, LiesIn, List, Rectangle, Shows, [], area}
-pub use Rattle.nit_capture.specs.Terms.{behind_two, black, blue, changed_tiles, channels, cond}
-pub use Rattle.nit_capture.specs.Terms.{crop, crop_pixel, differs, drop, filter, flat_map, green}
-pub use Rattle.nit_capture.specs.Terms.{high, is_next, left_of, length, list_any, nat_abs, negsuc}
-pub use Rattle.nit_capture.specs.Terms.{no_word, pixels_at, place, pos, prefix_len, range_with_len}
-pub use Rattle.nit_capture.specs.Terms.{record_at, record_of, records, red, run_at, run_bytes, runs}
-pub use Rattle.nit_capture.specs.Terms.{screen, slice_index, slice_set, spans, stream, take, tile}
-pub use Rattle.nit_capture.specs.Terms.{tile_at, tile_bytes, tile_count, tile_pixels, tiles_at}
-pub use Rattle.nit_capture.specs.Terms.{top_of, turn_at, two_bytes, wide, word_of, word_of_bytes, ℕ}
-pub use Rattle.nit_capture.specs.Terms.{ℤ, ◌>>=◌}
+pub use Rattle.nit_capture.specs.Terms.{HasPixels, HasRecord, IsErr, IsPartOfScreen, IsPicture}
+pub use Rattle.nit_capture.specs.Terms.{IsPictureSize, IsPlace, IsWord, LiesIn, List, Rectangle}
+pub use Rattle.nit_capture.specs.Terms.{Shows, [], area, behind_two, black, blue, changed_tiles}
+pub use Rattle.nit_capture.specs.Terms.{channels, cond, crop, crop_pixel, differs, drop, filter}
+pub use Rattle.nit_capture.specs.Terms.{flat_map, green, high, is_next, left_of, length, list_any}
+pub use Rattle.nit_capture.specs.Terms.{nat_abs, negsuc, no_word, pixels_at, place, pos, prefix_len}
+pub use Rattle.nit_capture.specs.Terms.{range_with_len, record_at, record_of, records, red, run_at}
+pub use Rattle.nit_capture.specs.Terms.{run_bytes, runs, screen, slice_index, slice_set, spans}
+pub use Rattle.nit_capture.specs.Terms.{stream, take, tile, tile_at, tile_bytes, tile_count}
+pub use Rattle.nit_capture.specs.Terms.{tile_pixels, tiles_at, top_of, turn_at, two_bytes, wide}
+pub use Rattle.nit_capture.specs.Terms.{word_of, word_of_bytes, ℕ, ℤ, ◌>>=◌}
 pub use Rattle.nit_rect.proofs.ForCallers.{and_true, bind_some, spans_holds, within}
 pub use Rattle.nit_word.proofs.ForCallers.{put_long}
 pub use Rattle.std.proofs.Common.{Bool, Err, None, Ok, Result, Some, add-one, add-zero, add_assoc}

@@ -1,5 +1,5 @@
 -- The part of a picture inside a rectangle.
-use Rattle.nit_capture.proofs.Basics.{All, HasPixels, IsPicture, IsPlace, IsWord, LiesIn, List}
+use Rattle.nit_capture.proofs.Basics.{All, HasPixels, IsPartOfScreen, IsPicture, IsPlace, IsWord, List}
 use Rattle.nit_capture.proofs.Basics.{Rectangle, Shows, add-zero, add_assoc, ap, ap₂, arith}
 use Rattle.nit_capture.proofs.Basics.{channels, crop, crop_pixel, div-mul-add, div_below, drop}
 use Rattle.nit_capture.proofs.Basics.{flat_map, get_or-drop, get_or-take, get_or_append_left, ints}
@@ -20,14 +20,13 @@ edge : (x : ℤ) (w width : ℕ) → pos 0 ≤ℤ x → (x +ℤ pos w) ≤ℤ (p
 edge (pos n) w width low high = omega (arith, ints)
 edge (negsuc n) w width low high = absurd (omega (arith, ints))
 
-pub record OnScreen (width height : ℕ) (r : Rectangle) : Type 0 where
+pub record HasEdges (width height : ℕ) (r : Rectangle) : Type 0 where
   pub right : nat_abs r.x + r.w ≤ width
   pub bottom : nat_abs r.y + r.h ≤ height
 
-pub on_screen : (width height : ℕ) (r : Rectangle) → HasPixels r → LiesIn r (screen width height)
-    → OnScreen width height r
-on_screen width height r some lies =
-    let i = within r (screen width height) some lies in
+pub on_screen : (width height : ℕ) (r : Rectangle) → IsPartOfScreen width height r → HasEdges width height r
+on_screen width height r is =
+    let i = within r (screen width height) is.pixels is.inside in
     record { right = edge r.x r.w width i.left i.right; bottom = edge r.y r.h height i.top i.bottom }
 
 -- where a pixel lies in the rectangle
@@ -41,11 +40,12 @@ in_cut r k some lt =
     let turned : r.w * r.h ≡ r.h * r.w = mul_comm r.w r.h in
     record { down = div_below k r.w r.h wide (omega (arith, turned)); across = mod_below k r.w wide }
 
-pub cut_within : (width height : ℕ) (r : Rectangle) (k : ℕ) → HasPixels r → OnScreen width height r → k < r.w * r.h
+pub cut_within : (width height : ℕ) (r : Rectangle) (k : ℕ) → IsPartOfScreen width height r → k < r.w * r.h
     → crop_place width r k < width * height
 unfolding crop_place
-cut_within width height r k some on lt =
-    let c = in_cut r k some lt in
+cut_within width height r k is lt =
+    let on = on_screen width height r is in
+    let c = in_cut r k is.pixels lt in
     mul-add-lt (nat_abs r.y + k / r.w) width (nat_abs r.x + k % r.w) height (omega (arith, on.bottom, c.down))
     (omega (arith, on.right, c.across))
 
@@ -57,11 +57,12 @@ cut_in_row width r row j lt =
     ap₂ (λ (a b : ℕ). (nat_abs r.y + a) * width + (nat_abs r.x + b)) (div-mul-add row r.w j lt)
     (mod-mul-add row r.w j lt) ∙ omega arith
 
-pub cut_row_within : (width height : ℕ) (r : Rectangle) (row : ℕ) → HasPixels r → OnScreen width height r → row < r.h
+pub cut_row_within : (width height : ℕ) (r : Rectangle) (row : ℕ) → IsPartOfScreen width height r → row < r.h
     → crop_row_place width r row + r.w ≤ width * height
 unfolding crop_row_place
-cut_row_within width height r row some on lt =
-    let wide : 0 < r.w = some.0 in
+cut_row_within width height r row is lt =
+    let on = on_screen width height r is in
+    let wide : 0 < r.w = is.pixels.0 in
     let last = mul-add-lt (nat_abs r.y + row) width (nat_abs r.x + (r.w - 1)) height (omega (arith, on.bottom))
     (omega (arith, on.right)) in
     omega (arith, last)
@@ -127,10 +128,10 @@ pixel_shown front frame i all lt =
     let e : (c : ℕ) → length front + 3 * i + c ≡ length front + (3 * i + c) = λ c. omega arith in
     rw (r, e 1, at 1 (lit< tt), e 2, at 2 (lit< tt)) (omega arith)
 
-pub cut_shown : (width height : ℕ) (r : Rectangle) (bytes frame : List ℕ) → HasPixels r → OnScreen width height r
+pub cut_shown : (width height : ℕ) (r : Rectangle) (bytes frame : List ℕ) → IsPartOfScreen width height r
     → Shows width height bytes frame → crop_bytes width height r bytes ≡ crop width r frame
 unfolding crop_bytes
-cut_shown width height r bytes frame some on s =
+cut_shown width height r bytes frame is s =
     let first : length bytes - 3 * (width * height) ≡ length s.front =
     omega (
       arith,
@@ -141,7 +142,7 @@ cut_shown width height r bytes frame some on s =
     ) in
     same_map (crop_pixel width height r bytes) (λ k. slice_index frame (crop_place width r k)) 0 (r.w * r.h)
     (λ k low high.
-    let lt = cut_within width height r k some on (omega arith) in
+    let lt = cut_within width height r k is (omega arith) in
     rw (first, s.bytes_are) (pixel_shown s.front frame (crop_place width r k) s.picture.words
     (omega (arith, s.picture.size))))
 

@@ -49,7 +49,7 @@ one_stream w h v g a b s s' all_a all_b e =
     let h1 : h / 256 ≡ g / 256 = ap (λ (l : List ℕ). slice_index l 7) e in
     let width : w ≡ v = same_number w v w0 w1 in
     let height : h ≡ g = same_number h g h0 h1 in
-    let rest : records w h (black w h) a ++ 0 ∷ [] ≡ records v g (black v g) b ++ 0 ∷ [] = ap (drop 8) e in (
+    let rest = ap (drop 8) e in (
       width,
       height,
       one_film w h (black w h) a b s (length-replicate (w * h) 0) all_a (rw (width, height) all_b)

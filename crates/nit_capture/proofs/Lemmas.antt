@@ -1,6 +1,6 @@
 -- What answers use: all that lemmas use, and this crate's lemmas.
-pub use Rattle.nit_capture.proofs.Basics.{IsPicture, IsWord, ap, append_assoc, area, arith}
-pub use Rattle.nit_capture.proofs.Basics.{crop_pixel, differs, filter, flat_map, high, inr}
+pub use Rattle.nit_capture.proofs.Basics.{IsPartOfScreen, IsPicture, IsWord, ap, append_assoc, area}
+pub use Rattle.nit_capture.proofs.Basics.{arith, crop_pixel, differs, filter, flat_map, high, inr}
 pub use Rattle.nit_capture.proofs.Basics.{length-drop, nat_tests, pixels_at, put_long}
 pub use Rattle.nit_capture.proofs.Basics.{range_with_len, record_at, refl, row_fits, rules}
 pub use Rattle.nit_capture.proofs.Basics.{run_bytes, runs, slice_index, sym, take-put_mid, take_all}

@@ -41,7 +41,7 @@ pub run_written : (out now words whole : List ℕ) (at more : ℕ) → at < leng
     → now ≡ out ++ run_bytes (more, slice_index words at)
     → now ++ flat_map run_bytes (runs (drop (at + (1 + more)) words)) ≡ whole
 run_written out now words whole at more lt before is e =
-    let head : slice_index (drop at words) 0 ≡ slice_index words at = get_or-drop at words 0 0
+    let head = get_or-drop at words 0 0
     ∙ ap (slice_index words) (add-zero at) in
     let split = first_split (drop at words) (omega (arith, length-drop at words)) in
     let all = rw (← is, head, drop-drop) at split in

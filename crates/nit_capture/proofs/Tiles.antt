@@ -21,7 +21,7 @@ left_fits w t some =
 row_below : (w h t : ℕ) → 1 ≤ w → t < tile_count w h → t / tiles_along w < tiles_along h
 unfolding tile_count
 row_below w h t some lt =
-    let turned : tiles_along w * tiles_along h ≡ tiles_along h * tiles_along w =
+    let turned =
     mul_comm (tiles_along w) (tiles_along h) in
     div_below t (tiles_along w) (tiles_along h) (some_tiles w some) (omega (arith, lt, turned))
 

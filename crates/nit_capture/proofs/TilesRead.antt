@@ -95,8 +95,7 @@ pixels_take w h t (suc left) k more word new frame bytes p rest here sum are e =
     (omega arith) step.are_bytes after in
     let mine : slice_index p (place w t k) ≡ x.0 = q.others (place w t k) set.apart ∙ set.mine in
     record {
-      text = subst (λ (y : ℕ). Continues more word (y ∷ tile_pixels w p t (k + 1) left) bytes rest) (sym mine)
-          (step.goes_on (tile_pixels w p t (k + 1) left) rest q.text);
+      text = rw (← mine) at (step.goes_on (tile_pixels w p t (k + 1) left) rest q.text);
       others = λ i no. q.others i (set.later i no) ∙ set.others i no;
       size = q.size ∙ length-set frame (place w t k) x.0;
       fresh = rw (mine, ← set.news p) (rw or_assoc at q.fresh);
@@ -233,4 +232,4 @@ pub same_picture : (w h : ℕ) (a b : List ℕ) → 1 ≤ w → length a ≡ w *
     → a ≡ b
 same_picture w h a b some size_a size_b same =
     ext_get_or 0 a b (size_a ∙ sym size_b) (λ i below. let l = lies_at w h i some (omega (arith, size_a)) in
-    subst (λ (j : ℕ). slice_index a j ≡ slice_index b j) l.is (same l.number l.pixel l.tile_below l.pixel_below))
+    rw l.is at (same l.number l.pixel l.tile_below l.pixel_below))

@@ -8,5 +8,6 @@ pub use Rattle.nit_word.specs.Channels.{blue, channels, green, red, word_of}
 pub use Rattle.nit_word.specs.Inks.{IsWord}
 pub use Rattle.std.specs.List.{AllByRecursion, filter, flat_map, list_any, prefix_len}
 pub use Rattle.std.specs.List.{range_with_len}
-pub use Rattle.std.specs.Prelude.{All, IfErr, IfOk, IsErr, List, OnErr, OnOk, [], cond, drop}
-pub use Rattle.std.specs.Prelude.{length, nat_abs, negsuc, pos, slice_index, slice_set, take, ℕ, ℤ}
+pub use Rattle.std.specs.Prelude.{All, IfErr, IfOk, IsErr, List, OnErr, OnOk, [], codes, cond, drop}
+pub use Rattle.std.specs.Prelude.{length, nat_abs, negsuc, pos, replicate, slice_index, slice_set}
+pub use Rattle.std.specs.Prelude.{take, ℕ, ℤ}

@@ -1,13 +1,18 @@
 -- The part of a screen's picture inside a rectangle.
 use Rattle.std.specs.Prelude.{◌≡◌, ℕ, ◌+◌, ◌-◌, length, ◌*◌, ◌/◌, ◌%◌, pos, nat_abs, List, [], ◌∷◌}
 use Rattle.std.specs.Prelude.{◌++◌, map, slice_index, IsTrue}
-use Rattle.nit_capture.specs.Below.{Rectangle, channels, covers, flat_map, range_with_len}
-use Rattle.nit_capture.specs.Below.{rectangle, word_of}
+use Rattle.nit_capture.specs.Below.{HasPixels, LiesIn, Rectangle, channels, covers, flat_map}
+use Rattle.nit_capture.specs.Below.{range_with_len, rectangle, word_of}
 use Rattle.nit_capture.specs.Tiles.{IsPicture}
 
 -- the screen as a rectangle
 abbrev pub screen : ℕ → ℕ → Rectangle
 screen width height = rectangle (pos 0) (pos 0) width height
+
+-- the rectangle lies on the screen, and has pixels
+pub record IsPartOfScreen (width height : ℕ) (r : Rectangle) : Type 0 where
+  pub inside : LiesIn r (screen width height)
+  pub pixels : HasPixels r
 
 -- where a screen's picture has pixel k of a rectangle on it, by rows of the rectangle
 unfoldable pub crop_place : ℕ → Rectangle → ℕ → ℕ

@@ -1,7 +1,6 @@
 -- A film as bytes.
 use Rattle.std.specs.Prelude.{◌≡◌, ℕ, ◌+◌, ◌/◌, ◌%◌, ◌==◌, if◌then◌else◌, List, [], ◌∷◌, ◌++◌}
-use Rattle.std.specs.Prelude.{length, codes}
-use Rattle.nit_capture.specs.Below.{channels, filter, flat_map, range_with_len}
+use Rattle.nit_capture.specs.Below.{channels, codes, filter, flat_map, length, range_with_len}
 use Rattle.nit_capture.specs.Tiles.{IsPicture, IsPictureSize, black, tile_count, tile, differs}
 
 -- ---- numbers and runs

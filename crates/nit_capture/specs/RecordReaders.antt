@@ -1,8 +1,7 @@
 -- A record read from left to right, pixel by pixel.
 use Rattle.std.specs.Prelude.{◌≡◌, ℕ, zero, suc, ◌+◌, ◌*◌, Bool, false, ◌||◌, not, ◌==◌}
 use Rattle.std.specs.Prelude.{if◌then◌else◌, List, [], ◌∷◌, Option, Some, None, slice_index}
-use Rattle.std.specs.Prelude.{slice_set}
-use Rattle.nit_capture.specs.Below.{word_of}
+use Rattle.nit_capture.specs.Below.{slice_set, word_of}
 use Rattle.nit_capture.specs.Tiles.{tile_count, area, place}
 pub use Rattle.nit_rect.specs.Options.{◌>>=◌}
 

@@ -1,12 +1,17 @@
 -- Pictures, and the tiles that they are cut into.
 use Rattle.std.specs.Prelude.{◌≡◌, ◌≤◌, ℕ, ◌+◌, ◌-◌, ◌*◌, ◌/◌, ◌%◌, min, Bool, not, ◌==◌, List, map}
-use Rattle.std.specs.Prelude.{length, replicate, slice_index}
-use Rattle.nit_capture.specs.Below.{All, IsWord, list_any, most_height, most_width, range_with_len}
+use Rattle.nit_capture.specs.Below.{All, IsWord, length, list_any, most_height, most_width}
+use Rattle.nit_capture.specs.Below.{range_with_len, replicate, slice_index}
 
 -- a picture of w by h has a word for each pixel, row by row from the top
 pub record IsPicture (w h : ℕ) (picture : List ℕ) : Type 0 where
   pub size : length picture ≡ w * h
   pub words : All IsWord picture
+
+-- two pictures of one size, the second behind the first
+pub record ArePictures (w h : ℕ) (first next : List ℕ) : Type 0 where
+  pub before : IsPicture w h first
+  pub now : IsPicture w h next
 
 -- the picture before the first one
 abbrev pub black : ℕ → ℕ → List ℕ

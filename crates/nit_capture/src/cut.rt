@@ -1,9 +1,9 @@
 //! The pixels of a rectangle, cut out of a picture of the screen.
 
 ghost use Rattle.std.specs.Prelude.{◌≡◌, ◌≤◌, ◌<◌, ◌*◌, ◌+◌, ℕ, length, map, nat_abs, slice_index};
-ghost use Rattle.nit_capture.specs.Terms.{HasPixels, IsPicture, IsPlace, LiesIn, crop_bytes};
-ghost use Rattle.nit_capture.specs.Terms.{crop_pixel, crop_row_place, most_pixels, range_with_len};
-ghost use Rattle.nit_capture.specs.Terms.{screen, word_of_bytes};
+ghost use Rattle.nit_capture.specs.Terms.{IsPartOfScreen, IsPicture, IsPlace, crop_bytes, crop_pixel};
+ghost use Rattle.nit_capture.specs.Terms.{crop_row_place, most_pixels, range_with_len};
+ghost use Rattle.nit_capture.specs.Terms.{word_of_bytes};
 
 use crate::grid::Grid;
 use nit_rect::Rect;
@@ -11,8 +11,7 @@ use nit_rect::Rect;
 /// Writes the pixels of a rectangle on the screen into the words, by rows, as the last bytes of the
 /// picture have them.
 pub fn cut_into(into: &mut Vec<u32>, grid: Grid, rect: &Rect, ppm: &[u8])
-    requires inside { LiesIn rect.now (screen grid.width grid.height) }
-    requires pixels { HasPixels rect.now }
+    requires screen { IsPartOfScreen grid.width grid.height rect.now }
     requires room { length into.old.items ≡ rect.now.w * rect.now.h }
     requires bytes { 3 * (grid.width * grid.height) ≤ length ppm.now }
     ensures value { into.new.items ≡ crop_bytes grid.width grid.height rect.now ppm.now }
@@ -21,10 +20,9 @@ pub fn cut_into(into: &mut Vec<u32>, grid: Grid, rect: &Rect, ppm: &[u8])
     cut_rows(into.as_mut_slice(), grid, rect, ppm);
 }
 
-/// The same for a slice, row by row.
+/// Writes these pixels into a slice, row by row.
 fn cut_rows(into: &mut [u32], grid: Grid, rect: &Rect, ppm: &[u8])
-    requires inside { LiesIn rect.now (screen grid.width grid.height) }
-    requires pixels { HasPixels rect.now }
+    requires screen { IsPartOfScreen grid.width grid.height rect.now }
     requires room { length into.old ≡ rect.now.w * rect.now.h }
     requires bytes { 3 * (grid.width * grid.height) ≤ length ppm.now }
     ensures value { into.new ≡ crop_bytes grid.width grid.height rect.now ppm.now }
@@ -39,8 +37,7 @@ fn cut_rows(into: &mut [u32], grid: Grid, rect: &Rect, ppm: &[u8])
 
 /// The bytes of a row of a rectangle on the screen.
 fn row_bytes<'a>(grid: Grid, rect: &Rect, ppm: &'a [u8], row: usize) -> &'a [u8]
-    requires inside { LiesIn rect.now (screen grid.width grid.height) }
-    requires pixels { HasPixels rect.now }
+    requires screen { IsPartOfScreen grid.width grid.height rect.now }
     requires bytes { 3 * (grid.width * grid.height) ≤ length ppm.now }
     requires row { row < rect.now.h }
     ensures length { length result.now ≡ 3 * rect.now.w }
@@ -55,8 +52,7 @@ fn row_bytes<'a>(grid: Grid, rect: &Rect, ppm: &'a [u8], row: usize) -> &'a [u8]
 
 /// Where the screen's picture has the first pixel of a row of a rectangle on it.
 fn row_start(grid: Grid, rect: &Rect, row: usize) -> usize
-    requires inside { LiesIn rect.now (screen grid.width grid.height) }
-    requires pixels { HasPixels rect.now }
+    requires screen { IsPartOfScreen grid.width grid.height rect.now }
     requires row { row < rect.now.h }
     ensures value { result ≡ crop_row_place grid.width rect.now row }
     ensures within { result + rect.now.w ≤ grid.width * grid.height }

@@ -35,93 +35,95 @@ impl Grid {
     {
         (self.width + SIDE - 1) / SIDE
     }
+}
 
-    /// The left column of a tile.
+/// A tile of the pictures of a size, by its number.
+#[derive(Clone, Copy)]
+pub struct Tile {
+    pub grid: Grid,
+    pub number: usize,
+    ghost in_picture: { number < tile_count grid.width grid.height },
+}
+
+impl Tile {
+    /// Its left column.
     #[tactic(auto, using(crate::proofs::Tiles::left_fits), unfolding(crate::specs::Tiles::left_of))]
-    fn left(self, tile: usize) -> usize
-        ensures value { result ≡ left_of self.width tile }
-        ensures within { result < self.width }
+    fn left(self) -> usize
+        ensures value { result ≡ left_of self.grid.width self.number }
+        ensures within { result < self.grid.width }
     {
-        SIDE * (tile % self.across())
+        SIDE * (self.number % self.grid.across())
     }
 
-    /// The top row of a tile.
+    /// Its top row.
     #[tactic(auto, using(crate::proofs::Tiles::top_fits), unfolding(crate::specs::Tiles::top_of))]
-    fn top(self, tile: usize) -> usize
-        requires { tile < tile_count self.width self.height }
-        ensures value { result ≡ top_of self.width tile }
-        ensures within { result < self.height }
+    fn top(self) -> usize
+        ensures value { result ≡ top_of self.grid.width self.number }
+        ensures within { result < self.grid.height }
     {
-        SIDE * (tile / self.across())
+        SIDE * (self.number / self.grid.across())
     }
 
-    /// How many columns a tile has.
+    /// How many columns it has.
     #[tactic(auto, unfolding(crate::specs::Tiles::wide))]
-    pub fn wide(self, tile: usize) -> usize
-        ensures value { result ≡ wide self.width tile }
+    pub fn wide(self) -> usize
+        ensures value { result ≡ wide self.grid.width self.number }
         ensures some { 1 ≤ result }
         ensures few { result ≤ tile_side }
     {
-        SIDE.min(self.width - self.left(tile))
+        SIDE.min(self.grid.width - self.left())
     }
 
-    /// How many rows a tile has.
+    /// How many rows it has.
     #[tactic(auto, unfolding(crate::specs::Tiles::high))]
-    pub fn high(self, tile: usize) -> usize
-        requires { tile < tile_count self.width self.height }
-        ensures value { result ≡ high self.width self.height tile }
+    pub fn high(self) -> usize
+        ensures value { result ≡ high self.grid.width self.grid.height self.number }
         ensures few { result ≤ tile_side }
     {
-        SIDE.min(self.height - self.top(tile))
+        SIDE.min(self.grid.height - self.top())
     }
 
-    /// Where the picture has the first pixel of a row of a tile.
+    /// Where the picture has the first pixel of one of its rows.
     #[tactic(auto, unfolding(crate::specs::Tiles::row_place))]
-    pub fn row(self, tile: usize, row: usize) -> usize
-        requires tile { tile < tile_count self.width self.height }
-        requires row { row < high self.width self.height tile }
-        ensures value { result ≡ row_place self.width tile row }
-        ensures within { result + wide self.width tile ≤ self.width * self.height }
+    pub fn row(self, row: usize) -> usize
+        requires row { row < high self.grid.width self.grid.height self.number }
+        ensures value { result ≡ row_place self.grid.width self.number row }
+        ensures within { result + wide self.grid.width self.number
+            ≤ self.grid.width * self.grid.height }
     {
-        (self.top(tile) + row) * self.width + self.left(tile)
+        (self.top() + row) * self.grid.width + self.left()
     }
 
-    /// How many pixels a tile has.
+    /// How many pixels it has.
     #[tactic(auto, unfolding(crate::specs::Tiles::area))]
-    pub fn area(self, tile: usize) -> usize
-        requires { tile < tile_count self.width self.height }
-        ensures value { result ≡ area self.width self.height tile }
+    pub fn area(self) -> usize
+        ensures value { result ≡ area self.grid.width self.grid.height self.number }
         ensures few { result ≤ most_area }
     {
-        self.high(tile) * self.wide(tile)
+        self.high() * self.wide()
     }
 
-    /// Where the picture has a pixel of a tile.
+    /// Where the picture has one of its pixels.
     #[tactic(auto, unfolding(crate::specs::Tiles::place))]
-    pub fn place(self, tile: usize, pixel: usize) -> usize
-        requires tile { tile < tile_count self.width self.height }
-        requires pixel { pixel < area self.width self.height tile }
-        ensures value { result ≡ place self.width tile pixel }
-        ensures within { result < self.width * self.height }
+    pub fn place(self, pixel: usize) -> usize
+        requires pixel { pixel < area self.grid.width self.grid.height self.number }
+        ensures value { result ≡ place self.grid.width self.number pixel }
+        ensures within { result < self.grid.width * self.grid.height }
     {
-        let wide = self.wide(tile);
-        let (down, across) = (
-            self.top(tile) + pixel / wide,
-            self.left(tile) + pixel % wide,
-        );
-        down * self.width + across
+        let wide = self.wide();
+        let (down, across) = (self.top() + pixel / wide, self.left() + pixel % wide);
+        down * self.grid.width + across
     }
 
-    /// Whether a tile of two pictures differs in some pixel.
-    pub fn differs(self, before: &[u32], now: &[u32], tile: usize) -> bool
-        requires tile { tile < tile_count self.width self.height }
-        requires before { length before.now ≡ self.width * self.height }
-        requires now { length now.now ≡ self.width * self.height }
-        ensures { result ≡ differs self.width self.height before.now now.now tile }
+    /// Whether two pictures differ in one of its pixels.
+    pub fn differs(self, before: &[u32], now: &[u32]) -> bool
+        requires before { length before.now ≡ self.grid.width * self.grid.height }
+        requires now { length now.now ≡ self.grid.width * self.grid.height }
+        ensures { result ≡ differs self.grid.width self.grid.height before.now now.now self.number }
     {
-        let wide = self.wide(tile);
-        for row in 0..self.high(tile) {
-            let at = self.row(tile, row);
+        let wide = self.wide();
+        for row in 0..self.high() {
+            let at = self.row(row);
             if !same_words(&before[at..at + wide], &now[at..at + wide]) {
                 return true;
             }

@@ -21,8 +21,8 @@ use Rattle.nit_hall.proofs.Basics.{table_size, take, take_all, take_at, user_act
 use Rattle.nit_hall.proofs.Basics.{with_clip_scripts, words_after}
 use Rattle.std.proofs.Common.{zero, ℕ, ⊎_elim, ◌*◌, ◌++◌, ◌+◌, ◌<◌, ◌∙◌, ◌∷◌, ◌≡◌, ◌≤◌, ◌⊎◌}
 use Rattle.nit_hall.proofs.LineLemmas.{item_there}
-use Rattle.nit_hall.proofs.Phases.{phases_begun}use Rattle.nit_hall.proofs.NearLemmas.{ink_behind, ink_inside}
-
+use Rattle.nit_hall.proofs.NearLemmas.{ink_behind, ink_inside}
+use Rattle.nit_hall.proofs.Phases.{phases_begun}
 
 pub near_begun : (config : Configuration) (scripts : List (List Line))
     → AreNear config scripts [] (replicate (config.width * config.height) bare_word)

@@ -55,9 +55,9 @@ pub record IsPass (p : PassModel) (share : ShareModel) : Type 0 where
   pub inked : p.sight.ink ≡ script_ink p.script p.donation
   pub told : p.sight.words ≡ Some (words_after p.script p.donation p.next)
 
--- What holds of the user's pass: its share has its number, and counts all lines before its next one,
--- since the room serves each of them; and what it knows of the journal has exactly its own lines so
--- far.
+-- What holds of the user's pass: its share has its number, and counts all lines before its next
+-- one, since the room serves each of them; and what it knows of the journal has exactly its own
+-- lines so far.
 pub record IsUserPass (u : UserPassModel) (share : ShareModel) : Type 0 where
   pub number : share.number ≡ u.number
   pub counted : share.count ≡ u.next

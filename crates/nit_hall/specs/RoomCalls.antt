@@ -1,4 +1,4 @@
--- What a call of a room needs of an actor's pass, and what it leaves of the pass and of the journal.
+-- What a call of a room needs of an actor's pass, and what it leaves of the pass and the journal.
 use Rattle.std.specs.Prelude.{◌≡◌, ℕ, ◌+◌, List, length, map, take, slice_get, slice_index, Some}
 use Rattle.nit_hall.specs.Below.{IsLegal, IsOpen}
 use mathlib.Core.List.{IsPrefix}
@@ -55,8 +55,8 @@ pub record HasActed (r : RoomModel) (u : UserPassModel) (r' : RoomModel) (u' : U
   pub legal : IsLegal r.parts.config r'.scene.entries
   pub unended : IsOpen r'.scene.entries
 
--- The pass has ended its phase. It knew a front of the journal, which stays as it was, and now knows
--- all of it, which is legal and not ended; and its lines before this one were counted.
+-- The pass has ended its phase. It knew a front of the journal, which stays as it was, and now
+-- knows all of it, which is legal and not ended; and its lines before this one were counted.
 pub record HasArrived (r : RoomModel) (p : PassModel) (r' : RoomModel) (p' : PassModel)
     : Type 0 where
   pub room : r' ≡ arrived_one r p.sid

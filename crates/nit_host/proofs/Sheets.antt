@@ -1,8 +1,9 @@
 -- Words that are kept as far as they were reached, and are 0 behind.
 use Rattle.std.proofs.Common.{All, Bool, List, ap, arith, cond, [], false, length, refl, subst, sym}
-use Rattle.std.proofs.Common.{take, true, ℕ, ◌%◌, ◌++◌, ◌+◌, ◌-◌, ◌<◌, ◌==◌, ◌^◌, ◌∙◌, ◌≡◌, ◌≤◌}
+use Rattle.std.proofs.Common.{take, true, ℕ, ◌%◌, ◌++◌, ◌+◌, ◌-◌, ◌<◌, ◌==◌, ◌^◌, ◌∙◌, ◌∷◌, ◌≡◌, ◌≤◌}
 use Rattle.std.proofs.Common.{slice_index}
 use Rattle.std.proofs.Math.ListN.{get_or-eq_default}
+use Rattle.std.proofs.lemmas.Bool.{eq-eqb}
 use Rattle.std.proofs.lemmas.Bool.Decides.{nat_tests}
 use Rattle.std.proofs.lemmas.List.{ext_get_or, get_or-append_right, get_or_append_left}
 use Rattle.std.proofs.lemmas.List.{get_or_default, length-append, take_at}
@@ -10,7 +11,8 @@ use Rattle.std.proofs.lemmas.List.Folds.{list_any_at}
 use Rattle.nit_word.specs.Inks.{IsInked, Stages}
 use Rattle.nit_word.specs.Sight.{IsLoaded}
 use Rattle.nit_word.specs.Zeros.{zeros}
-use Rattle.nit_word.proofs.ForCallers.{are_set, length-zeros, set_long, word_at, zero_at}
+use Rattle.nit_word.proofs.ForCallers.{are_set, filled_at, filled_long, length-zeros, none_past}
+use Rattle.nit_word.proofs.ForCallers.{same_filled, set_long, word_at, zero_at}
 use Rattle.nit_host.specs.Below.{IsWord, Sight, filled_up, is_between, plain_sight, set_where}
 use Rattle.nit_host.specs.Sheet.{SheetModel, low_bytes}
 use mathlib.Core.Logic.{dite}
@@ -27,23 +29,6 @@ padded_at words n i =
 
 pub padded_long : (words : List ℕ) (n : ℕ) → length (words ++ zeros n) ≡ length words + n
 padded_long words n = length-append words (zeros n) ∙ ap (λ k. length words + k) (length-zeros n)
-
-pub filled_long : (size : ℕ) (words : List ℕ) → length words ≤ size → length (filled_up size words) ≡ size
-filled_long size words few = omega (arith, padded_long words (size - length words))
-
-pub filled_at : (size : ℕ) (words : List ℕ) (i : ℕ) → slice_index (filled_up size words) i ≡ slice_index words i
-filled_at size words i = padded_at words (size - length words) i
-
--- the words stay where more are reached
-pub same_filled : (size count : ℕ) (words more : List ℕ) → count ≤ size → length words ≤ size
-    → more ≡ words ++ zeros (count - length words) → filled_up size more ≡ filled_up size words
-same_filled size count words more room few is =
-    let long : length more ≡ length words + (count - length words) = ap length is
-    ∙ padded_long words (count - length words) in
-    ext_get_or 0 (filled_up size more) (filled_up size words) (filled_long size more (omega (arith, long))
-    ∙ sym (filled_long size words few))
-    (λ k inside. filled_at size more k ∙ ap (λ (ws : List ℕ). slice_index ws k) is
-    ∙ padded_at words (count - length words) k ∙ sym (filled_at size words k))
 
 -- ---- words below 2^24
 
@@ -83,14 +68,12 @@ word_loaded owner size words sight i w view all few place is =
       told = told;
     })
   where
-    inked : (b : Bool) → (w == 0) ≡ b → w ≡ slice_index (filled_up size words) i → IsInked (Stages (filled_up size words ∷ [])) i w
+    inked : (b : Bool) → (w == 0) ≡ b → w ≡ slice_index (filled_up size words) i
+        → IsInked (Stages (filled_up size words ∷ [])) i w
     inked true zero_is told = rw zero_is refl
     inked false other told = rw (other, eq-eqb (slice_index (filled_up size words) i) w (sym told)) refl
 
 -- ---- words that are handed in
-
-none_past : (from to k : ℕ) → to ≤ k → is_between from to k ≡ false
-none_past from to k past = grind (arith, nat_tests)
 
 -- words that are set as far as they are reached
 pub set_filled : (from to size : ℕ) (others words : List ℕ) → length words ≤ size → to ≤ length words

@@ -19,7 +19,7 @@ pub record IsAreaOf (width height : ℕ) (a : Area) : Type 0 where
   pub wide : a.right ≤ width
   pub high : a.bottom ≤ height
 
--- the same as a rectangle
+-- the rectangle of an area's pixels
 abbrev pub rectangle_over : Area → Rectangle
 rectangle_over a = rectangle (pos a.left) (pos a.top) (a.right - a.left) (a.bottom - a.top)
 

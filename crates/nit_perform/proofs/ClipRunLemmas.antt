@@ -133,7 +133,7 @@ module _ (config : Configuration) (scripts : List (List Line)) (plans : List Pla
         (mapped_at pass_of pairs k d inside) (mapped_at clip_of pairs k d inside);
   }
 
--- the same of a room that is equal to this one, with the passes and the user's pass that it had
+-- so it is of a room that is equal to this one, with the passes and the user's pass that it had
 pub opened_ready : (config : Configuration) (scripts : List (List Line)) (plans : List PlanModel)
     (input : List InputLine) (canvases : List End) (r : RoomModel) (ps : List PassModel) (u : UserPassModel)
     → IsSetting config scripts plans → IsOpening config scripts plans input canvases r ps u

@@ -18,7 +18,7 @@ TakesFrame words old now =
     ⊎ (((now.fault ≡ Some TooLong) × (frame_answer old words ≡ Err TooLong))
     ⊎ (now.fault ≡ Some NoMemory))
 
--- the same, unless one was refused before; then nothing changes
+-- a frame was taken, unless one was refused before; then nothing changes
 abbrev pub TakesUnless : Option NestError → List ℕ → NestModel → NestState → Type 0
 TakesUnless (Some e) words old now = now ≡ record { nest = old; fault = Some e }
 TakesUnless None words old now = TakesFrame words old now

@@ -31,7 +31,7 @@ pub record IsMemory {T : Type 0} (config : Configuration) (m : Memory T) : Type 
   pub frame : length m.frame.items ≡ config.width * config.height
   pub text : length m.text.items ≡ picture_length config.width config.height
 
--- the same memory, beside the configuration's clients
+-- that memory, beside the configuration's clients
 pub record IsSupplied {T : Type 0} (config : Configuration) (m : Memory T)
     (clients : List Member) : Type 0 where
   pub memory : IsMemory config m

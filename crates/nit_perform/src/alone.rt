@@ -80,7 +80,8 @@ fn play_alone<'a, S: Store>(
         tried: PictureName::Final,
     };
     do_all(&mut room, &mut passes, &mut user);
-    let scene = last_picture(room, passes, user, &mut desk);
+    let done = Opened { room, passes, user };
+    let scene = last_picture(done, &mut desk);
     let LeftDesk { store, fault } = leave_desk(desk);
     leave_pictures(store, scene.into_journal().into_entries(), fault)
 }

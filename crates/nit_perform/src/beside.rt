@@ -95,7 +95,8 @@ fn run_named<'a, N: Name + Send + Sync, R: Threads + Wait + Sync, S: Store, G: G
     };
     let mine = nit_actor::run_beside(host.rt, gated, unstarted, &mut passes, mine);
     let UserAndDesk { user, mut desk } = mine;
-    let scene = last_picture(hall.into_room(), passes, user, &mut desk);
+    let room = hall.into_room();
+    let scene = last_picture(Opened { room, passes, user }, &mut desk);
     let LeftDesk { store, fault } = leave_desk(desk);
     leave_texts(host.alloc, store, fault, clients, scene)
 }

@@ -17,7 +17,7 @@ use crate::texts::leave_texts;
 use nit_actor::{Gate, GatedHall, Pair, Unstarted, UserAndDesk, run_beside_clips};
 use nit_clip::ClipScript;
 use nit_config::{Config, Member};
-use nit_hall::{Hall, Name, Parts};
+use nit_hall::{ClipOpened, Hall, Name, Opened, Parts};
 use nit_rect::NoMemory;
 use nit_rounds::{Desk, PictureName};
 use nit_run::Scripts;
@@ -105,7 +105,8 @@ fn run_clips_named<'a, N: Name + Send + Sync, R: Threads + Wait + Sync, S: Store
     let UserAndDesk { user, mut desk } = mine;
     take_apart(&mut pairs, &mut passes, &mut clips);
     let room = hall.into_room();
-    let (scene, list) = last_with_clips(host.alloc, room, passes, clips, user, &mut desk);
+    let opened = Opened { room, passes, user };
+    let (scene, list) = last_with_clips(host.alloc, ClipOpened { opened, clips }, &mut desk);
     let LeftDesk { store, fault } = leave_desk(desk);
     let ran = leave_texts(host.alloc, store, fault, clients, scene);
     put_clips(store, ran, list)

@@ -11,7 +11,7 @@ ghost use mathlib.Core.List.{IsPrefix};
 ghost use Rattle.nit_events.specs.declared.entry.Entry.TheVariants as entry;
 
 use nit_clip::clip_text;
-use nit_hall::{ClipPass, Pass, Room, UserPass};
+use nit_hall::{ClipOpened, Opened, Pass, Room, UserPass};
 use nit_journal::laws::one_more_entry;
 use nit_pixels::Lens;
 use nit_rect::NoMemory;
@@ -55,19 +55,17 @@ pub fn take_last(scene: &mut Scene<Inked>, owns: &mut [Inked])
 
 /// Takes the last picture by the passes, and puts it unless a put was refused before. Gives the
 /// scene, whose journal is whole.
-pub fn last_picture<'a, S: Store>(
-    room: Room<'a>,
-    passes: Vec<Pass<'a>>,
-    user: UserPass<'a>,
-    desk: &mut Desk<S>,
-) -> Scene<Lens<'a>>
-    requires done { AreAllDone room passes.items user }
-    requires desk { HasPictureRoom room.parts.config desk.old }
-    ensures { HasEnded S.shown room.entry.parts user.entry.seen result desk.old desk.new }
+pub fn last_picture<'a, S: Store>(actors: Opened<'a>, desk: &mut Desk<S>) -> Scene<Lens<'a>>
+    requires done { AreAllDone actors.room actors.passes.items actors.user }
+    requires desk { HasPictureRoom actors.room.parts.config desk.old }
+    ensures { HasEnded S.shown actors.entry.room.parts actors.entry.user.seen result
+        desk.old desk.new }
 {
-    let mut room = room;
-    let mut passes = passes;
-    let mut user = user;
+    let Opened {
+        mut room,
+        mut passes,
+        mut user,
+    } = actors;
     end_with_picture(&mut room, &mut passes, &mut user, desk);
     room.into_scene()
 }
@@ -77,22 +75,23 @@ pub fn last_picture<'a, S: Store>(
 /// memory for it.
 pub fn last_with_clips<'a, S: Store>(
     alloc: Global,
-    room: Room<'a>,
-    passes: Vec<Pass<'a>>,
-    clips: Vec<ClipPass<'a>>,
-    user: UserPass<'a>,
+    actors: ClipOpened<'a>,
     desk: &mut Desk<S>,
 ) -> (Scene<Lens<'a>>, Result<Vec<u8>, NoMemory>)
-    requires done { AreAllDone room passes.items user }
-    requires clips { AreDoneClips room.parts clips.items }
-    requires desk { HasPictureRoom room.parts.config desk.old }
-    ensures ended { HasEnded S.shown room.entry.parts user.entry.seen result.0 desk.old desk.new }
-    ensures list { IsClipListText (clips_setup_in room.entry.parts) result.0.entries result.1 }
+    requires done { AreAllDone actors.opened.room actors.opened.passes.items actors.opened.user }
+    requires clips { AreDoneClips actors.opened.room.parts actors.clips.items }
+    requires desk { HasPictureRoom actors.opened.room.parts.config desk.old }
+    ensures ended { HasEnded S.shown actors.entry.opened.room.parts actors.entry.opened.user.seen
+        result.0 desk.old desk.new }
+    ensures list { IsClipListText (clips_setup_in actors.entry.opened.room.parts)
+        result.0.entries result.1 }
 {
-    let mut room = room;
-    let mut passes = passes;
-    let mut clips = clips;
-    let mut user = user;
+    let ClipOpened { opened, mut clips } = actors;
+    let Opened {
+        mut room,
+        mut passes,
+        mut user,
+    } = opened;
     end_with_picture(&mut room, &mut passes, &mut user, desk);
     room.meet_clips(&mut clips);
     let list = clip_text(alloc, room.clip_list());

@@ -92,7 +92,8 @@ pub fn left(journal: Vec<Entry>, fault: Option<PutFault>) -> Ran
     }
 }
 
-/// The same of a run that puts nothing behind its pictures: the store stays as it is.
+/// What a run leaves that has this journal and puts nothing behind its pictures: the store stays as
+/// it is.
 pub fn leave_pictures<S: Store>(_store: &mut S, journal: Vec<Entry>, fault: Option<PutFault>) -> Ran
     ensures stays { S.shown _store.new ≡ S.shown _store.old }
     ensures ran { IsRunOf journal.items fault result }

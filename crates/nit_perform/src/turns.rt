@@ -1,6 +1,6 @@
 //! A run by turns.
 
-ghost use Rattle.nit_perform.specs.Terms.{HasRun, IsRoundsOpening, IsRunnable, Runs, false};
+ghost use Rattle.nit_perform.specs.Terms.{IsRunnable, Runs, false};
 ghost use Rattle.nit_perform.specs.Terms.{setup_of, true};
 
 use crate::last::put_last;
@@ -20,7 +20,7 @@ use std::alloc::Global;
 
 /// Takes all memory of a run, and does it by rounds, up to its end. Each shot is put as it is
 /// taken, then the last picture, and then the texts, until a put is refused. Where memory runs out
-/// before the first round, nothing was done.
+/// before the first round, nothing was done; the rounds take none.
 pub fn run_turns<S: Store>(
     alloc: Global,
     config: &Config,
@@ -32,29 +32,11 @@ pub fn run_turns<S: Store>(
     ensures { Runs (S.shown store.old) (setup_of config.now scripts.now input.now true false)
         (S.shown store.new) result }
 {
-    let Ok(opened) = open(alloc, config, scripts, input) else {
-        return Err(NoMemory);
-    };
-    Ok(play(alloc, opened, config, scripts, input, store))
-}
-
-/// Does the rounds, takes the last picture, and puts the texts. The rounds take no memory.
-fn play<S: Store>(
-    alloc: Global,
-    opened: OpenedRounds,
-    config: &Config,
-    scripts: &[Client],
-    input: &Input,
-    store: &mut S,
-) -> Ran
-    requires { IsRoundsOpening config.now scripts.now input.now opened }
-    ensures { HasRun (S.shown store.old) (setup_of config.now scripts.now input.now true false)
-        (S.shown store.new) result }
-{
     rounds_are_whole();
     one_more_entry();
     one_more_line();
     buffer_within_table();
+    let opened = open(alloc, config, scripts, input)?;
     let OpenedRounds {
         mut scene,
         mut owns,
@@ -76,5 +58,5 @@ fn play<S: Store>(
     run_rounds(&mut scene, &mut owns, parts, &mut desk);
     put_last(&mut scene, &mut owns, &mut desk);
     let LeftDesk { store, fault } = leave_desk(desk);
-    leave_texts(alloc, store, fault, &config.clients, scene)
+    Ok(leave_texts(alloc, store, fault, &config.clients, scene))
 }

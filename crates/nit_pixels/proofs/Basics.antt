@@ -1,7 +1,7 @@
 -- What lemmas use: the words of clauses, the library's lemmas, and those of the crates below.
 pub use Rattle.atomic_table.proofs.Lists.{at_set, at_snoc, set_again}
 pub use Rattle.nit_plan.proofs.ForCallers.{stage_fits}
-pub use Rattle.nit_pixels.specs.Terms.{AllByRecursion, FitsLine, Ink, Stages, script_of, stages_of}
+pub use Rattle.nit_pixels.specs.Terms.{AllByRecursion, FitsLine, Ink, Stages, owners_script, stages_of}
 pub use Rattle.nit_pixels.specs.Terms.{table_size}
 pub use Rattle.nit_pixels.specs.Terms.{Allows, End, Identity, IsInked, IsOwners, IsPixelRule}
 pub use Rattle.nit_pixels.specs.Terms.{IsViewOf, IsWord, LoadStep, PixelSeat, PixelView, SeatState}

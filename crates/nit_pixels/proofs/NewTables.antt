@@ -1,11 +1,11 @@
 -- The seat of a table that was just made.
 use Rattle.nit_pixels.proofs.Basics.{Identity, IsOwners, PixelSeat, length-zeros, new_sight}
-use Rattle.nit_pixels.proofs.Basics.{Stages, option_map, owner_view, script_of, sight_of, table_size}
+use Rattle.nit_pixels.proofs.Basics.{Stages, option_map, owner_view, owners_script, sight_of, table_size}
 use Rattle.std.proofs.Common.{Some, [], ap, length, subst, sym, ℕ, ◌<◌, ◌∙◌, ◌≡◌}
 
 pub first_sight : (identity : Identity) (s : PixelSeat) → s.table_id.words ≡ table_size identity.donation
     → s.me ≡ (owner_view identity, [])
-    → sight_of s ≡ new_sight identity.owner (script_of identity) identity.donation
+    → sight_of s ≡ new_sight identity.owner (owners_script identity) identity.donation
 first_sight identity s size me = λ i. record {
   owner = (me i).0.owner;
   size = size i;

@@ -1,11 +1,11 @@
 -- Each kind of step keeps the rule of the pixel words.
 use Rattle.nit_pixels.proofs.Basics.{AllByRecursion, Allows, FitsLine, Identity, IsInked, IsPixelRule}
-use Rattle.nit_pixels.proofs.Basics.{IsViewOf, Stages, script_of, stage_fits, stages_of, table_size}
+use Rattle.nit_pixels.proofs.Basics.{IsViewOf, Stages, owners_script, stage_fits, stages_of, table_size}
 use Rattle.nit_pixels.proofs.Basics.{LoadStep, PixelView, SeatState, Splits, StoreStep, at_set}
 use Rattle.nit_pixels.proofs.Basics.{at_snoc, keeps, opening, option_map, owner_view}
 use Rattle.nit_pixels.proofs.Basics.{reader_view, set_again, step, view_loaded, view_stored}
 use Rattle.nit_pixels.proofs.Basics.{zero_inked, zeros}
-use Rattle.std.proofs.Common.{All, IfSome, IsSome, List, None, Option, Some, [], ap, get_or, length}
+use Rattle.std.proofs.Common.{IfSome, IsSome, List, None, Option, Some, [], ap, get_or, length}
 use Rattle.std.proofs.Common.{refl, set, slice_index, subst, suc, sym, zero, ℕ, ⊎_elim, ◌++◌, ◌∙◌}
 use Rattle.std.proofs.Common.{◌∷◌, ◌≡◌, ◌≢◌}
 use mathlib.Core.Option.{some, none, some-injective, some-ne-none}
@@ -22,7 +22,7 @@ only a v zero e = (refl, some-injective a v e)
 only a v (suc j) e = absurd (some-ne-none v (sym e))
 
 -- making the table
-pub opens : (identity : Identity) → AllByRecursion FitsLine (script_of identity)
+pub opens : (identity : Identity) → AllByRecursion FitsLine (owners_script identity)
     → IsPixelRule identity (opening (zeros (table_size identity.donation)) [] (owner_view identity))
 opens identity fits = record {
   fits = fits;
@@ -79,7 +79,7 @@ loads_keep identity slots id me i s r _ at _ =
           },
       (
         refl,
-        stage_fits (script_of identity) identity.donation i n r.fits inked,
+        stage_fits (owners_script identity) identity.donation i n r.fits inked,
         subst (λ stages. IsInked (Stages stages) i n) (sym mine.1) inked,
         told,
       ),

@@ -2,19 +2,19 @@
 -- it.
 use Rattle.std.specs.Prelude.{◌≡◌, ℕ, List, [], ◌∷◌, ◌++◌, Some, None, IfSome, IsSome}
 use Rattle.std.specs.Prelude.{slice_index, slice_set}
-use Rattle.nit_pixels.specs.Below.{AllByRecursion, FitsLine, Identity, Ink, IsInked, IsWord, Line}
+use Rattle.nit_pixels.specs.Below.{AllByRecursion, FitsLine, Identity, IsInked, IsWord, Line}
 use Rattle.nit_pixels.specs.Below.{Me, PixelView, Stages, State, Step, blank, option_map}
 use Rattle.nit_pixels.specs.Below.{stages_from, table_size, zeros}
 use mathlib.Core.Option.{some}
 use lib.ListN.{get_elem?}
 
 -- the script of the owner
-abbrev pub script_of : Identity → List Line
-script_of identity = identity.script.value
+abbrev pub owners_script : Identity → List Line
+owners_script identity = identity.script.value
 
 -- the words before the owner's script, and after each of its lines
 abbrev pub stages_of : Identity → List (List ℕ)
-stages_of identity = stages_from (blank identity.donation) (script_of identity)
+stages_of identity = stages_from (blank identity.donation) (owners_script identity)
 
 -- the owner's view of words that are all 0
 abbrev pub owner_view : Identity → PixelView
@@ -65,7 +65,7 @@ PixelState = State (Unit {0}) PixelView
 -- lines, which fit. All views have the one owner and the words of the one script, and at most one
 -- view tells words, which are those of the table.
 pub record IsPixelRule (identity : Identity) (s : PixelState) : Type 0 where
-  pub fits : AllByRecursion FitsLine (script_of identity)
+  pub fits : AllByRecursion FitsLine (owners_script identity)
   pub inked : (i : ℕ) → IsInked (Stages (stages_of identity)) i (slice_index s.words i)
   pub views : (j : ℕ) (view : PixelView) → get_elem? s.views j ≡ some view
       → IsViewOf identity s.words view

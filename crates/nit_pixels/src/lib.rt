@@ -10,7 +10,7 @@
 //! Each load and each store is one atomic step on one word. Only [`PixelBuffer::new`] takes memory,
 //! and no call waits for another thread.
 //!
-//! The tests are in `nit_tests`: `parts/pixel_tests`.
+//! The tests are in `nit_tests`: `scripts/pixel_tests`.
 #![tactic(auto)]
 
 mod buffer;

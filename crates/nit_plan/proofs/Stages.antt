@@ -1,6 +1,6 @@
 -- What the lines of a script leave, as an ink.
 use Rattle.nit_plan.proofs.Basics.{AllByRecursion, Bool, FitsLine, HasStages, IsInked, IsOfColours}
-use Rattle.nit_plan.proofs.Basics.{IsWord, Line, List, Painting, [], after_line, arith, blank}
+use Rattle.nit_plan.proofs.Basics.{IsWord, Line, List, Painting, [], after_line, blank}
 use Rattle.nit_plan.proofs.Basics.{eq-eqb, eqb-true, false, ink, inked_fits, list_any, painted_from}
 use Rattle.nit_plan.proofs.Basics.{refl, script_ink, slice_index, stages_from, table_size}
 use Rattle.nit_plan.proofs.Basics.{words_after, zero_at}

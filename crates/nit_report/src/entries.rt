@@ -19,7 +19,7 @@ pub fn take_entry(bytes: &[u8]) -> Option<(Entry, &[u8])>
     Some((entry, take_byte(rest, b'\n')?))
 }
 
-/// The same up to the line feed.
+/// An entry's line up to its line feed.
 #[tactic(auto, unfolding(crate::specs::EntryReaders::entry_front_at))]
 fn take_front(bytes: &[u8]) -> Option<(Entry, &[u8])>
     ensures { Gives (λ x. (x.0, x.1.now)) result (entry_front_at bytes.now) }

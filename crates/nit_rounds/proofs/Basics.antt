@@ -7,7 +7,7 @@ pub use Rattle.nit_plan.proofs.ForCallers.{row_added, rows_done, unchanged}
 pub use Rattle.nit_report.proofs.ForCallers.{all_append, few_digits}
 pub use Rattle.nit_rounds.specs.Terms.{Action, ActorLine, Acts, AllByRecursion, AreBehind}
 pub use Rattle.nit_rounds.specs.Terms.{AreLoaded, ArePlaces, AreQuiet, AreQuietBut, AreRaw}
-pub use Rattle.nit_rounds.specs.Terms.{CanCall, CanDoUserLine, DoesClientLine, DoesUserLine}
+pub use Rattle.nit_rounds.specs.Terms.{CanDoUserLine, DoesClientLine, DoesUserLine}
 pub use Rattle.nit_rounds.specs.Terms.{FitsInputLine, HasSession}
 pub use Rattle.nit_rounds.specs.Terms.{AreRoundsOf, AreShotsOf, BufferArea, Bare, Black, Buffer}
 pub use Rattle.nit_rounds.specs.Terms.{ByClient}

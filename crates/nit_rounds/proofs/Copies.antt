@@ -63,8 +63,7 @@ same_glass s sid g is = sym (ap (λ (x : Sight). with_glass_of s sid x) is
 -- the session's glass of that scene
 pub glass_there : (s now : SceneModel Sight) (sid : ℕ) (g : Sight) → now ≡ with_glass_of s sid g
     → sid < length s.glasses → glass_in now.glasses sid ≡ g
-glass_there s now sid g is inside = ap (λ (p : SceneModel Sight). glass_in p.glasses sid) is
-    ∙ get_or-set_same s.glasses sid g no_sight inside
+glass_there s now sid g is inside = rw (is, get_or-set_same s.glasses sid g no_sight inside)
 
 pub begun : (s : SceneModel Sight) (sid w : ℕ) (a : BufferArea) (c : ℕ → ℕ)
     → s ≡ with_glass_of s sid (with_words (rows_to w a c a.y) (glass_in s.glasses sid))
@@ -88,10 +87,7 @@ row_drawn s now later sid w a c j within columns from below was drew =
     (with_words (set_where (is_in_row w a j) c) before)
     (for_any (λ words. set_where (is_in_row w a j) c (rows_to w a c j words) ≡ rows_to w a c (j + 1) words) g.words
     (λ words. next_row w a c j words columns from below)) refl refl in
-    drew ∙ ap (λ (x : Sight). with_glass_of now sid (with_words (set_where (is_in_row w a j) c) x))
-    (glass_there s now sid before was within) ∙ ap (λ (x : Sight). with_glass_of now sid x) both
-    ∙ ap (λ (p : SceneModel Sight). with_glass_of p sid after) was
-    ∙ ap (λ (gs : List Sight). record s { glasses = gs }) (set-set s.glasses sid before after)
+    rw (drew, glass_there s now sid before was within, both, was, set-set s.glasses sid before after)
 
 pub all_drawn : (s now : SceneModel Sight) (sid w : ℕ) (a : BufferArea) (c : ℕ → ℕ) (j : ℕ) → a.x + a.w ≤ w
     → a.y + a.h ≤ j
@@ -99,7 +95,9 @@ pub all_drawn : (s now : SceneModel Sight) (sid w : ℕ) (a : BufferArea) (c : �
     → now ≡ with_glass_of s sid (with_words (set_where (is_number_in w a) c) (glass_in s.glasses sid))
 all_drawn s now sid w a c j columns done was =
     let g = glass_in s.glasses sid in
-    was ∙ ap (λ (x : Sight). with_glass_of s sid x)
-    (alike (rows_to w a c j) (set_where (is_number_in w a) c) g (with_words (rows_to w a c j) g)
-    (for_any (λ words. rows_to w a c j words ≡ set_where (is_number_in w a) c words) g.words
-    (λ words. all_rows w a c j words columns done)) refl)
+    rw (
+      was,
+      alike (rows_to w a c j) (set_where (is_number_in w a) c) g (with_words (rows_to w a c j) g) (for_any (λ words.
+          rows_to w a c j words ≡ set_where (is_number_in w a) c words) g.words (λ words. all_rows w a c j words
+          columns done)) refl,
+    )

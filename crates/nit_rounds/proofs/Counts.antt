@@ -5,7 +5,7 @@ use Rattle.nit_rounds.proofs.Basics.{clients_from, drop, flat_map, get_or, great
 use Rattle.nit_rounds.proofs.Basics.{length, length-append, length-map, map, phase_count}
 use Rattle.nit_rounds.proofs.Basics.{phase_rounds, range_with_len, refl, rounds, sum_by-cons}
 use Rattle.nit_rounds.proofs.Basics.{turns_from, turns_of}
-use Rattle.std.proofs.Common.{subst, suc, sum, sym, take, take-append-drop, zero, zero-add, ℕ, ◌++◌}
+use Rattle.std.proofs.Common.{suc, sum, sym, take, take-append-drop, zero, zero-add, ℕ, ◌++◌}
 use Rattle.std.proofs.Common.{◌+◌, ◌∙◌, ◌∷◌, ◌≡◌, ◌≤◌}
 use Rattle.nit_script.specs.declared.line.Line.TheVariants as line
 use Rattle.nit_script.specs.declared.line.InputLine.TheVariants as input
@@ -27,8 +27,10 @@ firsts_and_rest : (all : List (List LineTurn)) → length (flat_map (take 1) all
 unfolding total
 firsts_and_rest [] = refl
 firsts_and_rest (l ∷ all) =
-    let whole : length (take 1 l) + length (drop 1 l) ≡ length l = sym (length-append (take 1 l) (drop 1 l))
-    ∙ ap length (take-append-drop 1 l) in
+    let whole : length (take 1 l) + length (drop 1 l) ≡ length l = rw (
+      ← length-append (take 1 l) (drop 1 l),
+      take-append-drop 1 l,
+    ) in
     omega (arith, length-append (take 1 l) (flat_map (take 1) all), firsts_and_rest all)
 
 walk_long : (n : ℕ) (all : List (List LineTurn)) → Short n all → length (walk n all) ≡ total all
@@ -41,9 +43,11 @@ walk_long (suc n) all h = omega (
 )
 
 phase_long : (all : List (List LineTurn)) (p : ℕ) → length (phase_rounds all p) ≡ total (map (in_phase p) all)
-phase_long all p = ap length (all_walk (map (in_phase p) all))
-    ∙ walk_long (greatest (map length (map (in_phase p) all))) (map (in_phase p) all)
-    (short_greatest (map (in_phase p) all))
+phase_long all p = rw (
+  all_walk (map (in_phase p) all),
+  walk_long (greatest (map length (map (in_phase p) all))) (map
+      (in_phase p) all) (short_greatest (map (in_phase p) all)),
+)
 
 no_actor : (ps : List ℕ) → length (flat_map (phase_rounds []) ps) ≡ 0
 no_actor [] = refl
@@ -84,8 +88,8 @@ rounds_long : (count : ℕ) (all : List (List ActorLine)) → AllBelow count all
 unfolding lines_in
 rounds_long count [] h = no_actor (range_with_len 0 count)
 rounds_long count (ds ∷ all) h =
-    let here : length (flat_map (λ p. in_phase p (turns_of ds)) (range_with_len 0 count)) ≡ length ds =
-    ap length (phases_whole ds 0 0 count (subst (λ (n : ℕ). Below n (turns_of ds)) (sym (zero-add count)) (h 0)))
+    let here =
+    ap length (phases_whole ds 0 0 count (rw (← zero-add count) at (h 0)))
     ∙ moves_long 0 0 ds in
     one_actor (turns_of ds) (map turns_of all) (range_with_len 0 count)
     ∙ omega (arith, here, rounds_long count all (λ k. h (suc k)))

@@ -3,14 +3,14 @@ use Rattle.nit_rounds.proofs.Basics.{ActorLine, AreLoaded, Bool, ByClient, ByUse
 use Rattle.nit_rounds.proofs.Basics.{Drawing, Entry, InputLine, IsDrawn, IsMoved, Line, LineTurn}
 use Rattle.nit_rounds.proofs.Basics.{List, None, Option, SceneModel, ShotFrame, ShowsEach}
 use Rattle.nit_rounds.proofs.Basics.{ShowsLine, Sight, Some, State, [], add-zero, after, after_turn}
-use Rattle.nit_rounds.proofs.Basics.{ap, cases_Bool, cond, dirty, done_after, drawn_shot, entry_of}
+use Rattle.nit_rounds.proofs.Basics.{cases_Bool, cond, dirty, done_after, drawn_shot, entry_of}
 use Rattle.nit_rounds.proofs.Basics.{false, fold-append, frame, frame_of, get_or-map-range_with_len}
 use Rattle.nit_rounds.proofs.Basics.{glass_in, inl, inr, length, line_by, map, next_shot}
 use Rattle.nit_rounds.proofs.Basics.{opening_drawing, pixel, pixel_count, range_with_len, refl}
 use Rattle.nit_rounds.proofs.Basics.{same_config, same_frame, scenery_of, shots, shots_after}
-use Rattle.nit_rounds.proofs.Basics.{slice_index_or, source_at, state_after, state_now, subst, sym}
+use Rattle.nit_rounds.proofs.Basics.{slice_index_or, source_at, state_after, state_now, sym}
 use Rattle.nit_rounds.proofs.Basics.{tables_after, true, word_after_entry, zero-add, ℕ}
-use Rattle.std.proofs.Common.{◌*◌, ◌++◌, ◌+◌, ◌<◌, ◌==◌, ◌∙◌, ◌∷◌, ◌≡◌}
+use Rattle.std.proofs.Common.{◌++◌, ◌+◌, ◌<◌, ◌==◌, ◌∙◌, ◌∷◌, ◌≡◌}
 use Rattle.nit_rounds.specs.Drawing.{drawn}
 use Rattle.nit_script.specs.declared.line.InputLine.TheVariants as input
 use Rattle.nit_rounds.proofs.TableWords.{AreOf, held_word}
@@ -42,7 +42,7 @@ done_more (ByUser l) done t = sym (add-zero (done t))
 
 same_count : (s : State) (e : Option Entry) → pixel_count (state_after s e) ≡ pixel_count s
 same_count s None = refl
-same_count s (Some e) = ap (λ (c : Configuration). c.width * c.height) (same_config s e)
+same_count s (Some e) = rw (same_config s e)
 
 -- pixels that were loaded again hold the words that are drawn
 words_more : (s : State) (e : Option Entry) (glasses : ℕ → Sight) (tables : ℕ → List ℕ) (raw raw' : List ℕ) (word : ℕ
@@ -50,7 +50,7 @@ words_more : (s : State) (e : Option Entry) (glasses : ℕ → Sight) (tables : 
     → ((k : ℕ) → k < pixel_count s → slice_index_or raw k 0 ≡ word k) → (k : ℕ) → k < pixel_count s
     → slice_index_or raw' k 0 ≡ word_after_entry tables s e word k
 words_more s None glasses tables raw raw' word loaded are held k on_screen =
-    ap (λ (ws : List ℕ). slice_index_or ws k 0) loaded ∙ held k on_screen
+    rw (loaded, held k on_screen)
 words_more s (Some e) glasses tables raw raw' word loaded are held k on_screen =
     elim (cases_Bool (dirty s e (after s e) (pixel s.config.width k))) [
       | inl is ↦ rw is (held_word glasses tables (source_at (after s e) k) (slice_index_or raw' k 0) are
@@ -67,12 +67,11 @@ moved_on config scripts d m s s' is moved are taken =
     let e : Option Entry = entry_of d.state m.doing in
     let tables : ℕ → List ℕ = tables_after config scripts (done_after m.doing d.done) in
     let loaded : AreLoaded d.state e (glass_in s'.glasses) s.raw s'.raw =
-    subst (λ (x : State). AreLoaded x (entry_of x m.doing) (glass_in s'.glasses) s.raw s'.raw) is.state
-    moved.words in
+    rw is.state at moved.words in
     record {
-      state = moved.state ∙ ap (λ (x : State). state_after x (entry_of x m.doing)) is.state;
+      state = rw (moved.state, is.state);
       words = λ k on_screen. words_more d.state e (glass_in s'.glasses) tables s.raw s'.raw d.word loaded are is.words k
-          (subst (λ (n : ℕ). k < n) (same_count d.state e) on_screen);
+          (rw (same_count d.state e) at on_screen);
       taken = taken;
     }
 
@@ -82,10 +81,12 @@ moved_on config scripts d m s s' is moved are taken =
 frame_is : (d : Drawing) (s : SceneModel Sight) → IsDrawn d s → frame (scenery_of (state_now s)) s.raw
     ≡ frame_of d.state d.word
 frame_is d s is =
-    ap (λ (x : State). frame (scenery_of x) s.raw) is.state
-    ∙ same_frame (scenery_of d.state) s.raw (map d.word (range_with_len 0 (pixel_count d.state)))
-    (λ k on_screen. is.words k on_screen
-    ∙ sym (get_or-map-range_with_len d.word 0 (pixel_count d.state) k k 0 on_screen (zero-add k)))
+    rw (
+      is.state,
+      same_frame (scenery_of d.state) s.raw (map d.word (range_with_len 0 (pixel_count d.state))) (λ k
+          on_screen. is.words k on_screen ∙ sym (get_or-map-range_with_len d.word 0 (pixel_count d.state) k k 0
+          on_screen (zero-add k))),
+    )
 
 shot_is : (config : Configuration) (d : Drawing) (s : SceneModel Sight) → s.config ≡ config → IsDrawn d s
     → next_shot s ≡ drawn_shot config d
@@ -99,9 +100,8 @@ pub shows_drawn : {V : Type 0} (Shows : ShotFrame → V → V → Type 0) (confi
     → ShowsEach Shows d.shots first old → ShowsLine Shows l s old new
     → ShowsEach Shows (shots_after config (ByUser l) d) first new
 shows_drawn Shows config d s input.Shot first old new same is shown more =
-    subst (λ (f : ShotFrame). ShowsEach Shows (d.shots ++ f ∷ []) first new) (shot_is config d s same is)
-    (shows_more Shows d.shots (next_shot s) first old new shown more)
+    rw (shot_is config d s same is) at (shows_more Shows d.shots (next_shot s) first old new shown more)
 shows_drawn {V = V} Shows config d s (input.Device dev) first old new same is shown more =
-    subst (λ (x : V). ShowsEach Shows d.shots first x) (sym more) shown
+    rw (← more) at shown
 shows_drawn {V = V} Shows config d s input.Phase first old new same is shown more =
-    subst (λ (x : V). ShowsEach Shows d.shots first x) (sym more) shown
+    rw (← more) at shown

@@ -1,5 +1,5 @@
 -- What is drawn is in the state that the journal of the same moves leads to.
-use Rattle.std.proofs.Common.{List, [], ap, arith, fold, map, refl, subst, sym, ℕ, ◌++◌, ◌+◌, ◌∙◌}
+use Rattle.std.proofs.Common.{List, [], ap, arith, fold, map, refl, sym, ℕ, ◌++◌, ◌+◌}
 use Rattle.std.proofs.Common.{◌∷◌, ◌≡◌}
 use Rattle.nit_rounds.proofs.Basics.{Action, ActorLine, Acts, ByClient, ByUser, Call, Calls}
 use Rattle.nit_rounds.proofs.Basics.{Configuration, Device, Does, Drawing, Entry, IsLegal}
@@ -79,7 +79,7 @@ behind s taken (ByClient sid (line.Call call)) (entry.Call t c r ∷ rest) left 
       puts = refl;
       now = taken;
       counts = omega arith;
-      legal = subst (λ (x : State). LegalFrom x taken rest) state_is legal.1;
+      legal = rw state_is at legal.1;
       leads = state_is;
       acts_left = more;
     }
@@ -103,7 +103,7 @@ behind s taken (ByUser (input.Device dev)) (entry.Input d r ∷ rest) left legal
       puts = refl;
       now = taken;
       counts = omega arith;
-      legal = subst (λ (x : State). LegalFrom x taken rest) state_is legal.1;
+      legal = rw state_is at legal.1;
       leads = state_is;
       acts_left = more;
     }
@@ -115,7 +115,7 @@ behind s taken (ByUser input.Shot) (entry.Shot n ∷ rest) left legal is = recor
   put = entry.Shot n ∷ [];
   rest = rest;
   parts = refl;
-  puts = ap (λ (k : ℕ). entry.Shot k ∷ []) legal.0;
+  puts = rw legal.0;
   now = taken + 1;
   counts = refl;
   legal = legal.1;
@@ -138,12 +138,15 @@ folded : (config : Configuration) (scripts : List (List Line)) (moves : List Lin
     (journal : List Entry) → LegalFrom d.state taken journal → map action_of journal ≡ actions_of_turns moves
     → (fold (after_turn config scripts) d moves).state ≡ replay_from d.state journal
 folded config scripts [] d taken journal legal is =
-    ap (λ (js : List Entry). replay_from d.state js) (sym (none_left journal is))
+    cc (none_left journal is)
 folded config scripts (m ∷ moves) d taken journal legal is =
     let b = behind d.state taken m.doing journal (actions_of_turns moves) legal is in
-    folded config scripts moves (after_turn config scripts d m) b.now b.rest b.legal b.acts_left
-    ∙ sym (ap (λ (js : List Entry). replay_from d.state js) b.parts ∙ fold-append after d.state b.put b.rest
-    ∙ ap (λ (x : State). replay_from x b.rest) b.leads)
+    rw (
+      folded config scripts moves (after_turn config scripts d m) b.now b.rest b.legal b.acts_left,
+      ← b.leads,
+      ← fold-append after d.state b.put b.rest,
+      ← b.parts,
+    )
 
 pub as_replayed : (config : Configuration) (scripts : List (List Line)) (moves : List LineTurn) (journal : List Entry)
     → IsLegal config journal → map action_of journal ≡ actions_of_turns moves → (drawn config scripts moves).state

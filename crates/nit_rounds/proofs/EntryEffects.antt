@@ -1,10 +1,10 @@
 -- How an entry moves the scene: to the state after it, and to raw words that are loaded again where it makes them
 -- dirty.
-use Rattle.std.proofs.Common.{List, None, Some, [], ap, ap₂, length, refl, set, subst, sym, ℕ, ◌++◌}
+use Rattle.std.proofs.Common.{List, None, Some, [], ap, length, refl, set, ℕ, ◌++◌}
 use Rattle.std.proofs.Common.{◌<◌, ◌∙◌, ◌∷◌, ◌≡◌}
-use Rattle.nit_rounds.proofs.Basics.{Call, Configuration, Device, Entry, IsMoved, Painted, Reply}
+use Rattle.nit_rounds.proofs.Basics.{Call, Device, Entry, IsMoved, Painted, Reply}
 use Rattle.nit_rounds.proofs.Basics.{Routed, SceneModel, Sight, State, after, first_state, glass_in}
-use Rattle.nit_rounds.proofs.Basics.{glasses_of_call, replay, replay_from, state_now}
+use Rattle.nit_rounds.proofs.Basics.{glasses_of_call, replay_from, state_now}
 use Rattle.nit_events.specs.declared.entry.Entry.TheVariants as entry
 use Rattle.nit_rounds.proofs.QuietGlasses.{every_of_call, itself, same_list}
 
@@ -16,8 +16,7 @@ OneMore = (s : State) (journal : List Entry) (e : Entry) → replay_from s (jour
 state_later : OneMore → (old new : SceneModel Sight) (e : Entry) → new.config ≡ old.config
     → new.entries ≡ old.entries ++ e ∷ [] → state_now new ≡ after (state_now old) e
 state_later more old new e config recorded =
-    ap (λ (c : Configuration). replay c new.entries) config ∙ ap (λ (js : List Entry). replay old.config js) recorded
-    ∙ more (first_state old.config) old.entries e
+    rw (config, recorded, more (first_state old.config) old.entries e)
 
 painted_moved : OneMore → (old new new' : SceneModel Sight) (glasses : ℕ → Sight) (e e' : Entry)
     → new.config ≡ old.config → new.entries ≡ old.entries ++ e ∷ [] → new' ≡ record new { glasses = new'.glasses }
@@ -27,13 +26,9 @@ painted_moved : OneMore → (old new new' : SceneModel Sight) (glasses : ℕ →
 painted_moved more old new new' glasses e e' config recorded is same entry painted =
     let s : State = state_now old in
     let later : state_now new ≡ after s e = state_later more old new e config recorded in
-    let now : Painted s e (after s e) (glass_in new'.glasses) (glass_in new'.glasses) old.raw new'.raw =
-    subst (λ (raw : List ℕ). Painted s e (after s e) (glass_in new'.glasses) (glass_in new'.glasses) old.raw raw)
-    (sym (ap (λ (p : SceneModel Sight). p.raw) is))
-    (subst (λ (f : ℕ → Sight). Painted s e (after s e) f (glass_in new'.glasses) old.raw new.raw) same
-    (subst (λ (x : State). Painted s e x glasses (glass_in new'.glasses) old.raw new.raw) later painted)) in
-    subst (λ (x : Entry). IsMoved (Some x) old new') entry
-    (record {
+    let now =
+    rw (← ap (λ (p : SceneModel Sight). p.raw) is) at (rw same at (rw later at painted)) in
+    rw (← entry) (record {
       state = ap state_now is ∙ later;
       words =
           λ k on_screen. (λ is. (now.marked k on_screen is).0, λ is. now.others k (λ _. is));
@@ -52,17 +47,15 @@ served_moved more old new sid call r r' own own' config recorded glasses owns re
     let s : State = state_now old in
     let all : ℕ → Sight = glass_in (set new.glasses sid own') in
     let before : glasses_of_call (itself old.glasses) sid own ≡ all =
-    every_of_call old.glasses sid own inside
-    ∙ ap₂ (λ (gs : List Sight) (g : Sight). glass_in (set gs sid g)) (sym glasses) (sym owns) in
+    rw (every_of_call old.glasses sid own inside, ← glasses, ← owns) in
     let later : glasses_of_call (itself new.glasses) sid own' ≡ all =
-    every_of_call new.glasses sid own' (subst (λ (gs : List Sight). sid < length gs) (sym glasses) inside) in
+    every_of_call new.glasses sid own' (rw (← glasses) at inside) in
     painted_moved more old new (record new { glasses = set new.glasses sid own' })
     (glasses_of_call (itself old.glasses) sid own) e (entry.Call sid call r') config recorded refl before
-    (ap (λ (x : Reply). entry.Call sid call x) reply)
-    (subst (λ (f : ℕ → Sight). Painted s e (state_now new) (glasses_of_call (itself old.glasses) sid own) f old.raw
-    new.raw) later painted)
+    (rw reply)
+    (rw later at painted)
 
--- the same of what a device did
+-- what a device did is loaded
 pub input_moved : OneMore → (old new : SceneModel Sight) (dev : Device) (routed routed' : Routed)
     → new.config ≡ old.config → new.entries ≡ old.entries ++ entry.Input dev routed ∷ [] → new.glasses ≡ old.glasses
     → routed ≡ routed'
@@ -73,18 +66,15 @@ input_moved more old new dev routed routed' config recorded glasses same painted
     let e : Entry = entry.Input dev routed in
     let s : State = state_now old in
     painted_moved more old new new (glass_in old.glasses) e (entry.Input dev routed') config recorded refl
-    (ap (λ (gs : List Sight). glass_in gs) (sym glasses)) (ap (λ (x : Routed). entry.Input dev x) same)
-    (subst (λ (gs : List Sight). Painted s e (state_now new) (glass_in old.glasses) (glass_in gs) old.raw new.raw)
-    (same_list new.glasses)
-    (subst (λ (gs : List Sight). Painted s e (state_now new) (glass_in gs) (glass_in (itself new.glasses)) old.raw
-    new.raw) (same_list old.glasses) painted))
+    (rw (← glasses)) (rw same)
+    (rw (same_list new.glasses) at (rw (same_list old.glasses) at painted))
 
 -- a shot changes neither the state nor a raw word
 pub shot_moved : OneMore → (old new : SceneModel Sight) (number spare : ℕ)
     → new ≡ record old { entries = old.entries ++ entry.Shot number ∷ []; spare = spare } → IsMoved None old new
 shot_moved more old new number spare is =
     record {
-      state = state_later more old new (entry.Shot number) (ap (λ (p : SceneModel Sight). p.config) is)
-          (ap (λ (p : SceneModel Sight). p.entries) is);
-      words = ap (λ (p : SceneModel Sight). p.raw) is;
+      state = state_later more old new (entry.Shot number) (rw is)
+          (rw is);
+      words = rw is;
     }

@@ -2,11 +2,11 @@
 use Rattle.nit_rounds.specs.Places.{left_from}
 use Rattle.nit_rounds.proofs.Basics.{ActorLine, ArePlaces, InputLine, Line, LineTurn, List}
 use Rattle.nit_rounds.proofs.Basics.{LinePlace}
-use Rattle.nit_rounds.proofs.Basics.{Places, StandsAt, [], actors, ap, arith, flat_map}
+use Rattle.nit_rounds.proofs.Basics.{Places, StandsAt, [], actors, arith, flat_map}
 use Rattle.nit_rounds.proofs.Basics.{get_or-replicate, in_phase, lefts, length, map, phase_count}
 use Rattle.nit_rounds.proofs.Basics.{phase_rounds, range_with_len, refl, replicate, rounds}
-use Rattle.nit_rounds.proofs.Basics.{script_of, subst, suc, sym, turns_left, turns_of}
-use Rattle.std.proofs.Common.{zero, ℕ, ◌++◌, ◌+◌, ◌-◌, ◌<◌, ◌∙◌, ◌∷◌, ◌≡◌, ◌≤◌}
+use Rattle.nit_rounds.proofs.Basics.{script_of, suc, turns_left, turns_of}
+use Rattle.std.proofs.Common.{zero, ℕ, ◌+◌, ◌-◌, ◌<◌, ◌∷◌, ◌≡◌, ◌≤◌}
 use Rattle.nit_rounds.proofs.Scripts.{below}
 use Rattle.nit_rounds.proofs.PlaceLemmas.{actors_long}
 use Rattle.nit_rounds.proofs.PhaseRest.{at_begin}
@@ -30,9 +30,7 @@ kept_first scripts input few =
       long = refl;
       actor = omega arith;
       phase = omega arith;
-      stand = λ k d inside. subst (λ (p : LinePlace). StandsAt (phase_count scripts input) 0 p
-          (script_of scripts input k))
-          (sym (get_or-replicate 17 k first_place d (omega arith))) (stands_first scripts input k);
+      stand = λ k d inside. rw (← get_or-replicate 17 k first_place d (omega arith)) at (stands_first scripts input k);
     }
 
 lefts_first : (n : ℕ) (all : List (List ActorLine)) → length all ≤ n → lefts (replicate n first_place) all
@@ -40,7 +38,7 @@ lefts_first : (n : ℕ) (all : List (List ActorLine)) → length all ≤ n → l
 lefts_first zero [] h = refl
 lefts_first (suc n) [] h = refl
 lefts_first zero (ds ∷ all) h = absurd (omega arith)
-lefts_first (suc n) (ds ∷ all) h = ap (λ (t : List (List LineTurn)). turns_of ds ∷ t) (lefts_first n all (omega arith))
+lefts_first (suc n) (ds ∷ all) h = rw (lefts_first n all (omega arith))
 
 from_first : (count : ℕ) (all : List (List LineTurn)) → 0 < count
     → left_from count 0 0 all ≡ flat_map (phase_rounds all) (range_with_len 0 count)
@@ -48,13 +46,14 @@ unfolding left_from
 from_first zero all h = absurd (omega arith)
 from_first (suc n) all h =
     let less : suc n - 1 ≡ n = omega arith in
-    ap (λ (t : List LineTurn). t ++ flat_map (phase_rounds all) (range_with_len 1 (suc n - 1)))
-    (at_begin (map (in_phase 0) all))
-    ∙ ap (λ (k : ℕ). phase_rounds all 0 ++ flat_map (phase_rounds all) (range_with_len 1 k)) less
+    rw (at_begin (map (in_phase 0) all), less)
 
 pub left_first_of : (scripts : List (List Line)) (input : List InputLine) → length scripts ≤ 16
     → turns_left scripts input at_first ≡ rounds scripts input
 left_first_of scripts input few =
     let long : length (actors scripts input) ≡ length scripts + 1 = actors_long scripts input in
-    ap (left_from (phase_count scripts input) 0 0) (lefts_first 17 (actors scripts input) (omega arith))
-    ∙ from_first (phase_count scripts input) (map turns_of (actors scripts input)) (omega arith)
+    rw (
+      lefts_first 17 (actors scripts input) (omega arith),
+      from_first (phase_count scripts input) (map turns_of
+          (actors scripts input)) (omega arith),
+    )

@@ -29,7 +29,7 @@ pub use Rattle.nit_rounds.proofs.RunStateLemmas.{users_move}
 pub use Rattle.nit_rounds.proofs.ShotFiles.{drawn_counted, drawn_each, shots_drawn}
 pub use Rattle.nit_rounds.proofs.ShownFrames.{put_as_pictures, stays_throughout}
 pub use Rattle.nit_rounds.proofs.StaleLemmas.{all_own, as_but, behind_again, copied_first}
-pub use Rattle.nit_rounds.proofs.StaleLemmas.{drawn_but, nothing_drawn, settles}
+pub use Rattle.nit_rounds.proofs.StaleLemmas.{drawn_but, nothing_drawn, settles, still_fits}
 pub use Rattle.nit_rounds.proofs.TurnNumbers.{tells_client, tells_user}
 pub use Rattle.nit_rounds.proofs.TurnPremises.{as_many, each_at, found_here, front_move}
 pub use Rattle.nit_rounds.proofs.TurnPremises.{moved_settled}

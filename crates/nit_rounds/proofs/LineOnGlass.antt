@@ -5,7 +5,7 @@ use Rattle.nit_rounds.proofs.Basics.{None, PlanModel, Sight, Some, Step, ap, ap�
 use Rattle.nit_rounds.proofs.Basics.{get_or, get_or_from_slice_get, glass_after, ink, is_set_by}
 use Rattle.nit_rounds.proofs.Basics.{mul-le-mul_right, plan_of_script, refl, slice_index, static}
 use Rattle.nit_rounds.proofs.Basics.{step_of, table_size, with_words, words_after}
-use Rattle.std.proofs.Common.{length, slice_get, subst, sym, ℕ, ◌%◌, ◌*◌, ◌+◌, ◌/◌, ◌∙◌, ◌≡◌, ◌≤◌}
+use Rattle.std.proofs.Common.{length, slice_get, ℕ, ◌%◌, ◌*◌, ◌+◌, ◌/◌, ◌∙◌, ◌≡◌, ◌≤◌}
 
 -- what the laws of scripts say
 abbrev pub AreLong : Type 0
@@ -16,8 +16,7 @@ pub painted_to : AreLong → (t : ℕ) (script : List Line) (donation k : ℕ) (
     → IsDonation donation → IsPlanOf script donation plan → g ≡ glass_after t script donation k
     → IsPaintedTo script donation plan k g
 painted_to long t script donation k plan g opens of is =
-    subst (λ (x : Sight). IsPaintedTo script donation plan k x) (sym is)
-    (record {
+    rw is (record {
       opens = opens;
       planned = of;
       ink = word_inked script donation;
@@ -34,9 +33,7 @@ pub after_stroke : AreLong → (t : ℕ) (script : List Line) (donation k : ℕ)
     → g ≡ glass_after t script donation k → g' ≡ with_words (λ words. words_after script donation (k + 1)) g
     → g' ≡ glass_after t script donation (k + 1)
 after_stroke long t script donation k g g' opens was is =
-    is ∙ ap (λ (x : Sight). with_words (λ words. words_after script donation (k + 1)) x) was
-    ∙ ap (λ (n : ℕ). sized t script (words_after script donation (k + 1)) n) (long script donation k opens.1
-    ∙ sym (long script donation (k + 1) opens.1))
+    rw (is, was, long script donation k opens.1, ← long script donation (k + 1) opens.1)
 
 -- ---- the step of a line
 
@@ -61,7 +58,7 @@ pub step_there : HaveSteps → (script : List Line) (donation k : ℕ) (plan : P
     (l : Line) → IsPlanOf script donation plan → steps ≡ plan.steps → slice_get script k ≡ Some l
     → get_or steps k d ≡ step_of (static script donation k) (static script donation (k + 1)) l
 step_there have script donation k plan steps d l of are here =
-    let listed : slice_get steps k ≡ Some (step_of (static script donation k) (static script donation (k + 1)) l) =
+    let listed =
     ap (λ (ss : List Step). slice_get ss k) (are ∙ ap (λ (p : PlanModel). p.steps) of)
     ∙ have script donation k l here in
     get_or_from_slice_get steps k _ d listed
@@ -75,13 +72,12 @@ pub fits : AreLong → AreWithin
     → area.x + area.w ≤ step.w → area.y + area.h ≤ step.h → own ≡ glass_after t script donation (k + 1)
     → FitsInto own.size (record { sid = t; w = step.w; area = area })
 fits long within wide tall t script donation k l step area own most is across down now =
-    let w : step.w ≡ (static script donation (k + 1)).bw = ap (λ (st : Step). st.w) is in
-    let h : step.h ≡ (static script donation (k + 1)).bh = ap (λ (st : Step). st.h) is in
-    let size : own.size ≡ table_size donation = ap (λ (x : Sight). x.size) now ∙ long script donation (k + 1) most in
+    let w : step.w ≡ (static script donation (k + 1)).bw = rw is in
+    let h : step.h ≡ (static script donation (k + 1)).bh = rw is in
+    let size : own.size ≡ table_size donation = rw (now, long script donation (k + 1) most) in
     let rows : (area.y + area.h) * step.w ≤ step.h * step.w = mul-le-mul_right step.w down in
     let all : step.w * step.h ≤ table_size donation =
-    subst (λ n. n ≤ table_size donation) (sym (ap₂ (λ (a b : ℕ). a * b) w h))
-    (within script donation (k + 1) most) in record {
+    rw (← ap₂ (λ (a b : ℕ). a * b) w h) at (within script donation (k + 1) most) in record {
       wide = omega (arith, w, wide script donation (k + 1) most);
       tall = omega (arith, h, down, tall script donation (k + 1) most);
       columns = across;

@@ -1,13 +1,13 @@
 -- A line, done: what stays of the scene, and what is recorded.
-use Rattle.nit_rounds.proofs.Basics.{AreQuietBut, ByClient, Call, CanCall, DoesClientLine}
-use Rattle.nit_rounds.proofs.Basics.{DoesUserLine, Entry, HasSession, IsBehind, IsDonation, IsMoved}
+use Rattle.nit_rounds.proofs.Basics.{AreQuietBut, ByClient, Call, DoesClientLine}
+use Rattle.nit_rounds.proofs.Basics.{DoesUserLine, Entry, HasSession, IsBehind, IsDonation, IsGlass, IsMoved}
 use Rattle.nit_rounds.proofs.Basics.{IsOpen}
 use Rattle.nit_rounds.proofs.Basics.{IsRecorded, Line, List, None, Option, SceneModel, Sight, Some}
 use Rattle.nit_rounds.proofs.Basics.{Stale, State, [], ap, arith, donation_of, entry_of}
 use Rattle.nit_rounds.proofs.Basics.{get_or-set_other, glass_after, glass_in, length, no_sight}
 use Rattle.nit_rounds.proofs.Basics.{same_Some, shots, state_now}
-use Rattle.std.proofs.Common.{slice_get, length-append, length-set, refl, set, subst, sym, ℕ, ◌++◌}
-use Rattle.std.proofs.Common.{◌+◌, ◌-◌, ◌<◌}
+use Rattle.std.proofs.Common.{slice_get, length-append, length-set, refl, set, sym, ℕ, ◌++◌}
+use Rattle.std.proofs.Common.{◌+◌, ◌-◌}
 use Rattle.std.proofs.Common.{◌∙◌, ◌∷◌, ◌≡◌, ◌≤◌}
 use Rattle.nit_events.specs.declared.entry.Entry.TheVariants as entry
 use Rattle.nit_script.specs.declared.line.Line.TheVariants as line
@@ -16,23 +16,32 @@ use Rattle.nit_rounds.proofs.Copies.{with_glass_of}
 use Rattle.nit_rounds.proofs.EntryEffects.{OneMore, shot_moved}
 use Rattle.nit_rounds.proofs.LineOnGlass.{AreLong}
 
+-- the session's client may call the scene by this own glass: no glass tells a log, but for that of
+-- the session on the scene, and the open journal has room for the call
+pub record CanCall (s : SceneModel Sight) (sid : ℕ) (glass : Sight) : Type 0 where
+  pub there : HasSession s sid
+  pub own : IsGlass s.config sid glass
+  pub quiet_own : glass.log ≡ None
+  pub quiet : AreQuietBut sid s.glasses
+  pub spare : 1 ≤ s.spare
+  pub unended : IsOpen s.entries
+
 -- what was drawn in the own glass, and copied to the scene's, leaves room for a call by it
 pub can_call : AreLong → (old mid : SceneModel Sight) (sid : ℕ) (script : List Line) (k : ℕ) (there own : Sight)
     → mid ≡ with_glass_of old sid there → HasSession old sid → IsDonation (donation_of old.config sid)
     → own ≡ glass_after sid script (donation_of old.config sid) k → AreQuietBut sid old.glasses → 1 ≤ old.spare
     → IsOpen old.entries → CanCall mid sid own
 can_call long old mid sid script k there own is has opens own_is quiet room unended =
-    subst (λ (p : SceneModel Sight). CanCall p sid own) (sym is)
-    (record {
+    rw is (record {
       there = record {
         session = has.session;
-        glasses = subst (λ (n : ℕ). sid < n) (sym (length-set old.glasses sid there)) has.glasses;
+        glasses = rw (← length-set old.glasses sid there) at has.glasses;
       };
       own = (
         ap (λ (x : Sight). x.owner) own_is,
         ap (λ (x : Sight). x.size) own_is ∙ long script (donation_of old.config sid) k opens.1,
       );
-      quiet_own = ap (λ (x : Sight). x.log) own_is;
+      quiet_own = rw own_is;
       quiet = λ t other. ap (λ (x : Sight). x.log) (get_or-set_other old.glasses sid t there no_sight other)
           ∙ quiet t other;
       spare = room;
@@ -43,7 +52,7 @@ can_call long old mid sid script k there own is has opens own_is quiet room unen
 pub one_taken : (old new : List Entry) (e : Entry) (spare spare' : ℕ) → new ≡ old ++ e ∷ [] → spare' ≡ spare - 1
     → 1 ≤ spare → length new + spare' ≡ length old + spare
 one_taken old new e spare spare' recorded taken room =
-    let long : length new ≡ length old + 1 = ap length recorded ∙ length-append old (e ∷ []) in
+    let long : length new ≡ length old + 1 = rw (recorded, length-append old (e ∷ [])) in
     omega arith
 
 no_record : (l : Line) (sid : ℕ) (before after : List Entry) → ((call : Call) → l ≡ line.Call call → ⊥) → after ≡ before
@@ -65,7 +74,7 @@ pub call_done : (sid : ℕ) (call : Call) (old mid new : SceneModel Sight) (ther
     → mid ≡ with_glass_of old sid there → DoesClientLine sid (line.Call call) mid new own'
     → DoesClientLine sid (line.Call call) old new own'
 call_done sid call old mid new there own' is does =
-    let now = subst (λ (p : SceneModel Sight). DoesClientLine sid (line.Call call) p new own') is does in
+    let now = rw is at does in
     record {
       config = now.config;
       unended = now.unended;
@@ -86,15 +95,14 @@ pub none_done : (sid : ℕ) (l : Line) (old mid : SceneModel Sight) (there own' 
     → DoesClientLine sid l old mid own'
 none_done sid l old mid there own' other is unended =
     record {
-      config = ap (λ (p : SceneModel Sight). p.config) is;
-      unended = subst (λ (p : SceneModel Sight). IsOpen p.entries) (sym is) unended;
-      spare = ap (λ (p : SceneModel Sight). length p.entries + p.spare) is;
-      recorded = no_record l sid old.entries mid.entries other (ap (λ (p : SceneModel Sight). p.entries) is);
-      moved = subst (λ (e : Option Entry). IsMoved e old (with_glass_of mid sid own'))
-          (no_entry (state_now old) l sid other) (record {
-            state = ap (λ (p : SceneModel Sight). state_now p) is;
-            words = ap (λ (p : SceneModel Sight). p.raw) is;
-          });
+      config = rw is;
+      unended = rw is unended;
+      spare = rw is;
+      recorded = no_record l sid old.entries mid.entries other (rw is);
+      moved = rw (← no_entry (state_now old) l sid other) (record {
+        state = rw is;
+        words = rw is;
+      });
     }
 
 -- what the line at a place of a script does, any line found there does
@@ -102,7 +110,7 @@ pub as_found : (script : List Line) (k sid : ℕ) (l : Line) (s s' : SceneModel 
     → slice_get script k ≡ Some l → DoesClientLine sid l s s' own'
     → (x : Line) → slice_get script k ≡ Some x → DoesClientLine sid x s s' own'
 as_found script k sid l s s' own' here does x there =
-    subst (λ (y : Line). DoesClientLine sid y s s' own') (same_Some _ _ (sym here ∙ there)) does
+    rw (same_Some _ _ (sym here ∙ there)) at does
 
 -- ---- a user's line
 
@@ -112,11 +120,11 @@ pub shot_done : OneMore → (old new : SceneModel Sight)
 shot_done more old new is unended room =
     let entries = ap (λ (p : SceneModel Sight). p.entries) is in
     record {
-      glasses = ap (λ (p : SceneModel Sight). p.glasses) is;
-      config = ap (λ (p : SceneModel Sight). p.config) is;
+      glasses = rw is;
+      config = rw is;
       unended = unended;
       spare = one_taken old.entries new.entries _ old.spare new.spare entries
-          (ap (λ (p : SceneModel Sight). p.spare) is) room;
+          (rw is) room;
       recorded = entries;
       moved = shot_moved more old new _ _ is;
     }
@@ -126,11 +134,9 @@ pub behind_still : (stale : Option Stale) (sid : ℕ) (mid new : SceneModel Sigh
     → new.glasses ≡ mid.glasses → own' ≡ own → IsBehind stale sid (glass_in mid.glasses sid) own
     → IsBehind stale sid (glass_in new.glasses sid) own'
 behind_still stale sid mid new own own' glasses owns behind =
-    subst (λ (gs : List Sight). IsBehind stale sid (glass_in gs sid) own') (sym glasses)
-    (subst (λ (g : Sight). IsBehind stale sid (glass_in mid.glasses sid) g) (sym owns) behind)
+    rw (← glasses) at (rw (← owns) at behind)
 
 pub glasses_still : (sid : ℕ) (old mid new : SceneModel Sight) → new.glasses ≡ mid.glasses
     → mid ≡ with_glass_of old sid (glass_in mid.glasses sid)
     → new.glasses ≡ set old.glasses sid (glass_in new.glasses sid)
-glasses_still sid old mid new same is = same ∙ ap (λ (p : SceneModel Sight). p.glasses) is
-    ∙ ap (λ (gs : List Sight). set old.glasses sid (glass_in gs sid)) (sym same)
+glasses_still sid old mid new same is = cc (same, is, same)

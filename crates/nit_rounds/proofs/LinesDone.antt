@@ -16,7 +16,7 @@ made_lines : {L : Type 0} (f : L → ActorLine) (of : ActorLine → List L) → 
     → (p n : ℕ) (ls : List L) → flat_map (λ m. of m.doing) (turns_from p n (map f ls)) ≡ ls
 made_lines f of one p n [] = refl
 made_lines {L = L} f of one p n (l ∷ ls) =
-    rw (one l) (ap (λ (t : List L). l ∷ t) (made_lines f of one (cond (ends_phase (f l)) (suc p) p) (suc n) ls))
+    rw (one l) (rw (made_lines f of one (cond (ends_phase (f l)) (suc p) p) (suc n) ls))
 
 -- the numbers of the lines
 numbers : {L : Type 0} → (ActorLine → List L) → LineTurn → List ℕ
@@ -27,8 +27,7 @@ made_numbers : {L : Type 0} (f : L → ActorLine) (of : ActorLine → List L) �
 unfolding numbers
 made_numbers f of one p n [] = refl
 made_numbers f of one p n (l ∷ ls) =
-    rw (one l) (ap (λ (t : List ℕ). n ∷ t) (made_numbers f of one (cond (ends_phase (f l)) (suc p) p) (suc n) ls
-    ∙ ap (λ (k : ℕ). range_with_len k (length ls)) (sym (add-one n))))
+    rw (one l) (rw (made_numbers f of one (cond (ends_phase (f l)) (suc p) p) (suc n) ls, ← add-one n))
 
 own_line : (s : ℕ) (l : Line) → line_by s (ByClient s l) ≡ l ∷ []
 own_line s l = rw (eq-eqb s s refl) refl
@@ -101,16 +100,23 @@ done_at {L = L} of script front l back moves number whole made count =
 -- what is taken of a list of moves around one
 around : {B : Type 0} (g : LineTurn → List B) (all front : List LineTurn) (m : LineTurn) (back : List LineTurn) (x : B)
     → all ≡ front ++ m ∷ back → g m ≡ x ∷ [] → flat_map g all ≡ flat_map g front ++ x ∷ flat_map g back
-around {B = B} g all front m back x parts one = ap (flat_map g) parts ∙ flat_map-append g front (m ∷ back)
-    ∙ ap (λ (t : List B). flat_map g front ++ (t ++ flat_map g back)) one
+around {B = B} g all front m back x parts one = rw (parts, flat_map-append g front (m ∷ back), one)
 
 number_is : (front : List ℕ) (number : ℕ) (back : List ℕ) (n : ℕ) → front ++ number ∷ back ≡ range_with_len 0 n
     → number ≡ length front
 number_is front number back n e =
-    let long : length front + suc (length back) ≡ n = sym (length-append front (number ∷ back)) ∙ ap length e
-    ∙ length-range_with_len 0 n in
-    sym (get_or_at front number back 0 (length front) refl) ∙ ap (λ (xs : List ℕ). get_or xs (length front) 0) e
-    ∙ get_or-range_with_len 0 n (length front) 0 (omega arith) ∙ zero-add (length front)
+    let long : length front + suc (length back) ≡ n = rw (
+      ← length-append front (number ∷ back),
+      e,
+      length-range_with_len 0 n,
+    ) in
+    rw (
+      ← get_or_at front number back 0 (length front) refl,
+      e,
+      get_or-range_with_len 0 n (length front) 0 (omega
+          arith),
+      zero-add (length front),
+    )
 
 done_before : {L : Type 0} (of : ActorLine → List L) (script : List L) (all front : List LineTurn) (m : LineTurn)
     (back : List LineTurn) (l : L) →
@@ -120,8 +126,7 @@ unfolding numbers
 done_before of script all front m back l lines counts parts one =
     let by : front_lines of front ++ l ∷ front_lines of back ≡ script =
     sym (around (λ x. of x.doing) all front m back l parts one) ∙ lines in
-    let counted : flat_map (numbers of) front ++ m.number ∷ flat_map (numbers of) back
-    ≡ range_with_len 0 (length script) =
+    let counted =
     sym (around (numbers of) all front m back m.number parts (ap (map (λ _. m.number)) one)) ∙ counts in
     done_at of script (front_lines of front) l (front_lines of back) front m.number by refl
     (number_is (flat_map (numbers of) front) m.number (flat_map (numbers of) back) (length script) counted
@@ -132,14 +137,14 @@ pub client_done : (scripts : List (List Line)) (input : List InputLine) (front b
     (s < length scripts) × (slice_get (get_or scripts s []) m.number ≡ Some l)
     × (lines_of s front ≡ take m.number (get_or scripts s []))
 client_done scripts input front back m s l parts by =
-    let one : line_by s m.doing ≡ l ∷ [] = ap (line_by s) by ∙ own_line s l in
+    let one : line_by s m.doing ≡ l ∷ [] = rw (by, own_line s l) in
     let found : IsDone (line_by s) (get_or scripts s []) front m.number l =
     done_before (line_by s) (get_or scripts s []) (rounds scripts input) front m back l
     (client_lines scripts input s) (client_numbers scripts input s) parts one in (
       elim (cases_lt s (length scripts)) [
         | inl inside ↦ inside
         | inr past ↦ absurd (nothing_there l m.number
-            (subst (λ (x : List Line). slice_get x m.number ≡ Some l) (get_or_past scripts s [] past) found.0))
+            (rw (get_or_past scripts s [] past) at found.0))
       ],
       found.0,
       found.1,

@@ -1,5 +1,5 @@
 -- The names of the pictures of shots.
-use Rattle.std.proofs.Common.{List, ap, append_assoc, arith, rules, ℕ, ◌++◌, ◌<◌, ◌^◌, ◌∙◌, ◌≡◌}
+use Rattle.std.proofs.Common.{List, append_assoc, arith, rules, ℕ, ◌++◌, ◌<◌, ◌^◌, ◌≡◌}
 use Rattle.nit_rounds.proofs.Basics.{IsAscii-decimal, IsUtf8, IsUtf8-append, IsUtf8-from_ascii}
 use Rattle.nit_rounds.proofs.Basics.{codes, decimal, shot_name}
 
@@ -12,5 +12,4 @@ name_is_text n small =
 pub name_in_pieces : (n : ℕ) (first second third : List ℕ) → first ≡ codes "shot-" → second ≡ first ++ decimal n
     → third ≡ second ++ codes ".ppm" → third ≡ shot_name n
 name_in_pieces n first second third one two three =
-    three ∙ ap (λ (t : List ℕ). t ++ codes ".ppm") (two ∙ ap (λ (t : List ℕ). t ++ decimal n) one)
-    ∙ append_assoc (codes "shot-") (decimal n) (codes ".ppm")
+    rw (three, two, one, append_assoc (codes "shot-") (decimal n) (codes ".ppm"))

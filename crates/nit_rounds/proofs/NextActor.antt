@@ -1,14 +1,14 @@
 -- How the actors go on: to the next one with a line to do, into a new round, into a new phase.
-use Rattle.nit_rounds.proofs.Basics.{ActorLine, AllByRecursion, ArePlaces, Bool, ByClient, ByUser}
+use Rattle.nit_rounds.proofs.Basics.{ActorLine, ArePlaces, Bool, ByClient, ByUser}
 use Rattle.nit_rounds.proofs.Basics.{HasTurn, InputLine, IsAtTurn, Line, LineTurn, List, NoneHas}
-use Rattle.nit_rounds.proofs.Basics.{LinePlace, Places, Some, StandsAt, [], actors, add-one, ap}
+use Rattle.nit_rounds.proofs.Basics.{LinePlace, Places, Some, [], actors, add-one, ap}
 use Rattle.nit_rounds.proofs.Basics.{arith}
 use Rattle.nit_rounds.proofs.Basics.{cases_eq, cases_lt, ends_phase, false, get_or, get_or-map}
 use Rattle.nit_rounds.proofs.Basics.{get_or-set_other, get_or-set_same, get_or_default, in_phase}
 use Rattle.nit_rounds.proofs.Basics.{inl, inr, is_active, left_at, left_from, lefts, length}
 use Rattle.nit_rounds.proofs.Basics.{length-map, length-set, map, phase_count, script_of}
 use Rattle.nit_rounds.proofs.Basics.{slice_get-get_or, stepped, turn_by, turns_left}
-use Rattle.std.proofs.Common.{slice_get, set, subst, suc, sym, true, ℕ, ◌+◌, ◌<◌, ◌∙◌, ◌∷◌, ◌≡◌}
+use Rattle.std.proofs.Common.{slice_get, set, suc, sym, ℕ, ◌+◌, ◌<◌, ◌∙◌, ◌∷◌, ◌≡◌}
 use Rattle.std.proofs.Common.{◌≤◌}
 use Rattle.nit_script.specs.declared.line.Line.TheVariants as line
 use Rattle.nit_script.specs.declared.line.InputLine.TheVariants as input_line
@@ -48,9 +48,11 @@ idle_by : (scripts : List (List Line)) (input : List InputLine) (at : Places) �
     → k ≤ length scripts → is_active at.phase (get_or at.places k first_place) (script_of scripts input k) ≡ false →
     in_phase at.phase (get_or (all_left scripts input at) k []) ≡ []
 idle_by scripts input at kept k inside none =
-    ap (in_phase at.phase) (left_by scripts input at kept k first_place inside)
-    ∙ idle at.phase (get_or at.places k first_place) (script_of scripts input k) none
-    (kept.stand k first_place inside).reached
+    rw (
+      left_by scripts input at kept k first_place inside,
+      idle at.phase (get_or at.places k first_place) (script_of
+          scripts input k) none (kept.stand k first_place inside).reached,
+    )
 
 -- where no actor from one on has a line to do, none of them has a move in the phase
 all_idle : (scripts : List (List Line)) (input : List InputLine) (at : Places) (from : ℕ) → ArePlaces scripts input at
@@ -125,13 +127,12 @@ turn_shows scripts input at p b kept turn =
     let parts = active_parts p (get_or at.places b first_place) (script_of scripts input b) (turn.1 first_place) in
     let stands = kept.stand b first_place turn.0 in
     let few : (get_or at.places b first_place).line < 65536 = turn.2 first_place in
-    let small : (get_or at.places b first_place).phase ≤ (get_or at.places b first_place).line = stands.small in
+    let small = stands.small in
     let same : (get_or at.places b first_place).phase ≡ p = parts.0 in
-    let inside = subst (λ (t : List LineTurn). AllByRecursion (λ m. m.phase < phase_count scripts input) t)
-    (left_first (get_or at.places b first_place) (script_of scripts input b) (ByUser input_line.Shot) parts.1)
-    stands.within in
-    let within : (get_or at.places b first_place).phase < phase_count scripts input = inside.0 in
-    (subst (λ (n : ℕ). n < phase_count scripts input) same within, omega arith)
+    let inside = rw (left_first (get_or at.places b first_place) (script_of scripts input b) (ByUser input_line.Shot)
+    parts.1) at stands.within in
+    let within = inside.0 in
+    (rw same at within, omega arith)
 
 begin_phase : (scripts : List (List Line)) (input : List InputLine) (at : Places) (b : ℕ) → ArePlaces scripts input at
     → NoneHas scripts input at.places at.phase at.actor (length scripts + 1)
@@ -151,10 +152,12 @@ begin_phase scripts input at b kept rest none turn =
         stand = λ k d inside. phase_stands (phase_count scripts input) at.phase (get_or at.places k d)
             (script_of scripts input k) (none k d (omega arith) (omega arith)) (kept.stand k d inside);
       };
-      left = ap (λ (p : ℕ). left_from (phase_count scripts input) p 0 (all_left scripts input at)) (add-one at.phase)
-          ∙ phase_begun (phase_count scripts input) at.phase (all_left scripts input at) (omega arith)
-          (λ i below_. idle_all i (omega arith) below_)
-          ∙ (begin_round scripts input at kept rest).left;
+      left = rw (
+        add-one at.phase,
+        phase_begun (phase_count scripts input) at.phase (all_left scripts input at)
+            (omega arith) (λ i below_. idle_all i (omega arith) below_),
+        (begin_round scripts input at kept rest).left,
+      );
     }
 
 pub to_phase : (scripts : List (List Line)) (input : List InputLine) (at : Places) (b : ℕ) → ArePlaces scripts input at
@@ -181,11 +184,9 @@ none_left scripts input at kept none next k inside =
       | inl more ↦
           let low : at.phase ≤ (get_or at.places k first_place).phase = stands.reached more in
           let high : (get_or at.places k first_place).phase ≤ suc at.phase = stands.near more in
-          let not_now : (get_or at.places k first_place).phase ≡ at.phase
-          → ⊥ = not_in_phase at.phase (get_or at.places k first_place) (script_of scripts input k)
+          let not_now = not_in_phase at.phase (get_or at.places k first_place) (script_of scripts input k)
           (none k first_place (omega arith) (omega arith)) more in
-          let not_next : (get_or at.places k first_place).phase ≡ at.phase + 1
-          → ⊥ = not_in_phase (at.phase + 1) (get_or at.places k first_place) (script_of scripts input k)
+          let not_next = not_in_phase (at.phase + 1) (get_or at.places k first_place) (script_of scripts input k)
           (next k first_place (omega arith) (omega arith)) more in
           elim (cases_eq (get_or at.places k first_place).phase at.phase) [
             | inl same ↦ absurd (not_now same)
@@ -231,15 +232,12 @@ step_place scripts input at kept turn place is =
     let many : length at.places ≡ 17 = kept.long in
     let inside : at.actor ≤ length scripts = turn.0 in
     let long : length (all_left scripts input at) ≡ length scripts + 1 = all_long scripts input at kept in
-    let active : is_active at.phase place (script_of scripts input at.actor) ≡ true =
-    subst (λ (p : LinePlace). is_active at.phase p (script_of scripts input at.actor) ≡ true) (sym is) (turn.1 place) in
+    let active =
+    rw (← is) at (turn.1 place) in
     let parts = active_parts at.phase place (script_of scripts input at.actor) active in
-    let stands : StandsAt (phase_count scripts input) at.phase place (script_of scripts input at.actor) =
-    subst (λ (p : LinePlace). StandsAt (phase_count scripts input) at.phase p (script_of scripts input at.actor))
-    (sym is) (kept.stand at.actor place inside) in
-    let has : get_or (all_left scripts input at) at.actor []
-    ≡ record { phase = place.phase; number = place.line; doing = line_at scripts input at place }
-    ∷ left_at (stepped place (ends_phase (line_at scripts input at place))) (script_of scripts input at.actor) =
+    let stands =
+    rw (← is) at (kept.stand at.actor place inside) in
+    let has =
     left_by scripts input at kept at.actor place inside
     ∙ ap (λ (p : LinePlace). left_at p (script_of scripts input at.actor)) (sym is)
     ∙ left_first place (script_of scripts input at.actor) (ByUser input_line.Shot) parts.1 in
@@ -252,19 +250,14 @@ step_place scripts input at kept turn place is =
         stand = λ k d below_.
             elim (cases_eq k at.actor) [
               | inl same ↦
-                  subst (λ (j : ℕ). StandsAt (phase_count scripts input) at.phase
-                  (get_or (set at.places at.actor (stepped place (ends_phase (line_at scripts input at place)))) j
-                  d) (script_of scripts input j)) (sym same)
-                  (subst (λ (p : LinePlace). StandsAt (phase_count scripts input) at.phase p
-                  (script_of scripts input at.actor))
-                  (sym (get_or-set_same at.places at.actor (stepped place (ends_phase (line_at scripts input at place)))
-                  d (omega arith)))
-                  (step_stands (phase_count scripts input) at.phase place (script_of scripts input at.actor)
+                  rw same (rw (← get_or-set_same at.places at.actor (stepped place (ends_phase (line_at scripts input
+                  at place)))
+                  d (omega arith)) at (step_stands (phase_count scripts input) at.phase place (script_of scripts
+                  input at.actor)
                   (ByUser input_line.Shot) parts.1 parts.0 stands))
               | inr other ↦
-                  subst (λ (p : LinePlace). StandsAt (phase_count scripts input) at.phase p (script_of scripts input k))
-                  (sym (get_or-set_other at.places at.actor k
-                  (stepped place (ends_phase (line_at scripts input at place))) d other)) (kept.stand k d below_)
+                  rw (← get_or-set_other at.places at.actor k
+                  (stepped place (ends_phase (line_at scripts input at place))) d other) at (kept.stand k d below_)
             ];
       };
       left = one_taken (phase_count scripts input) at.phase at.actor (all_left scripts input at) _
@@ -305,36 +298,27 @@ step_ends scripts input at kept turn ends told after is =
     let few : length scripts ≤ 16 = kept.few in
     let many : length at.places ≡ 17 = kept.long in
     let inside : at.actor ≤ length scripts = turn.0 in
-    let inner : (present at).line < length (script_of scripts input at.actor) = present_inside scripts input at turn in
+    let inner = present_inside scripts input at turn in
     let same : ends ≡ ends_phase (line_at scripts input at (present at)) =
     told (line_at scripts input at (present at))
     (slice_get-get_or (script_of scripts input at.actor) (present at).line (ByUser input_line.Shot) inner) in
-    subst (λ (p : LinePlace). IsBehind scripts input at
-    (record { places = set at.places at.actor p; phase = at.phase; actor = at.actor + 1 })
-    (record {
-      phase = (present at).phase;
-      number = (present at).line;
-      doing =
-          line_at scripts input at (present at);
-    }))
-    (sym (is ∙ ap (stepped (present at)) same))
-    (step_place scripts input at kept turn (present at)
+    rw (← (is ∙ ap (stepped (present at)) same)) at (step_place scripts input at kept turn (present at)
     (get_or_default at.places at.actor first_place (present at) (omega arith)))
 
 pub client_turn : (scripts : List (List Line)) (input : List InputLine) (at : Places) → IsAtTurn scripts input at
     → at.actor < length scripts → turn.Client at.actor (present at).line
     ≡ turn_by (line_at scripts input at (present at)) (present at).line
 client_turn scripts input at its inside =
-    let here : script_of scripts input at.actor ≡ map (ByClient at.actor) (get_or scripts at.actor []) =
+    let here =
     script_client scripts input at.actor inside in
     let long : (present at).line < length (get_or scripts at.actor []) =
-    subst (λ (n : ℕ). (present at).line < n) (ap length here
-    ∙ length-map (get_or scripts at.actor []) (ByClient at.actor)) (present_inside scripts input at its) in
-    sym (ap (λ (ds : List ActorLine). turn_by (get_or ds (present at).line (ByUser input_line.Shot)) (present at).line)
-    here
-    ∙ ap (λ (d : ActorLine). turn_by d (present at).line)
-    (get_or-map (ByClient at.actor) (get_or scripts at.actor []) (present at).line line.Phase
-    (ByUser input_line.Shot) long))
+    rw (ap length here
+    ∙ length-map (get_or scripts at.actor []) (ByClient at.actor)) at (present_inside scripts input at its) in
+    cc (
+      get_or-map (ByClient at.actor) (get_or scripts at.actor []) (present at).line line.Phase (ByUser
+          input_line.Shot) long,
+      here,
+    )
 
 pub user_turn : (scripts : List (List Line)) (input : List InputLine) (at : Places) → IsAtTurn scripts input at
     → length scripts ≤ at.actor → turn.User (present at).line
@@ -342,9 +326,5 @@ pub user_turn : (scripts : List (List Line)) (input : List InputLine) (at : Plac
 user_turn scripts input at its past =
     let here : script_of scripts input at.actor ≡ map ByUser input = script_user scripts input at.actor past its.0 in
     let long : (present at).line < length input =
-    subst (λ (n : ℕ). (present at).line < n) (ap length here ∙ length-map input ByUser)
-    (present_inside scripts input at its) in
-    sym (ap (λ (ds : List ActorLine). turn_by (get_or ds (present at).line (ByUser input_line.Shot)) (present at).line)
-    here
-    ∙ ap (λ (d : ActorLine). turn_by d (present at).line)
-    (get_or-map ByUser input (present at).line input_line.Shot (ByUser input_line.Shot) long))
+    rw (ap length here ∙ length-map input ByUser) at (present_inside scripts input at its) in
+    cc (get_or-map ByUser input (present at).line input_line.Shot (ByUser input_line.Shot) long, here)

@@ -1,9 +1,9 @@
 -- What of the rounds is one actor's: its moves in order, each once.
 use Rattle.nit_rounds.proofs.Basics.{ActorLine, AllByRecursion, Bool, LineTurn, List, [], add-one}
-use Rattle.nit_rounds.proofs.Basics.{ap, append-nil, ap₂, arith, cond, drop, ends_phase, eq-eqb}
+use Rattle.nit_rounds.proofs.Basics.{append-nil, ap₂, arith, cond, drop, ends_phase, eq-eqb}
 use Rattle.nit_rounds.proofs.Basics.{false, flat_map, flat_map-append, get_or, greatest, in_phase}
 use Rattle.nit_rounds.proofs.Basics.{length, length-drop, map, ne_eqb, nil_from_length}
-use Rattle.nit_rounds.proofs.Basics.{phase_rounds, range_with_len, refl, subst, suc, sym, take}
+use Rattle.nit_rounds.proofs.Basics.{phase_rounds, range_with_len, refl, suc, sym, take}
 use Rattle.nit_rounds.proofs.Basics.{turns_from}
 use Rattle.std.proofs.Common.{take-append-drop, true, zero, ℕ, ◌++◌, ◌+◌, ◌<◌, ◌==◌, ◌∙◌, ◌∷◌, ◌≡◌}
 use Rattle.std.proofs.Common.{◌≤◌}
@@ -84,36 +84,46 @@ only_firsts g (suc k) (l ∷ all) h = flat_map-append g (take 1 l) (flat_map (ta
 
 only_walk : {B : Type 0} (g : LineTurn → List B) (n k : ℕ) (all : List (List LineTurn)) → OnlyAt g k all
     → length (get_or all k []) ≤ n → flat_map g (walk n all) ≡ flat_map g (get_or all k [])
-only_walk {B = B} g zero k all h short = sym (ap (flat_map g) (nil_from_length (get_or all k []) (omega arith)))
+only_walk {B = B} g zero k all h short = sym (rw (nil_from_length (get_or all k []) (omega arith)))
 only_walk {B = B} g (suc n) k all h short =
     let rest_is : get_or (map (drop 1) all) k [] ≡ drop 1 (get_or all k []) = get_map (drop 1) refl k all in
     let shorter : length (get_or (map (drop 1) all) k []) ≤ n =
     rw rest_is (omega (arith, length-drop 1 (get_or all k []))) in
-    flat_map-append g (flat_map (take 1) all) (walk n (map (drop 1) all))
-    ∙ ap₂ (λ (a b : List B). a ++ b) (only_firsts g k all h)
-    (only_walk g n k (map (drop 1) all) (only_map g (drop 1) (quiet_drop g 1) k all h) shorter
-    ∙ ap (flat_map g) rest_is)
-    ∙ sym (flat_map-append g (take 1 (get_or all k [])) (drop 1 (get_or all k [])))
-    ∙ ap (flat_map g) (take-append-drop 1 (get_or all k []))
+    rw (
+      flat_map-append g (flat_map (take 1) all) (walk n (map (drop 1) all)),
+      only_firsts g k all h,
+      only_walk g n k
+          (map (drop 1) all) (only_map g (drop 1) (quiet_drop g 1) k all h) shorter,
+      rest_is,
+      ← flat_map-append g (take
+          1 (get_or all k [])) (drop 1 (get_or all k [])),
+      take-append-drop 1 (get_or all k []),
+    )
 
 only_phase : {B : Type 0} (g : LineTurn → List B) (k : ℕ) (all : List (List LineTurn)) → OnlyAt g k all → (p : ℕ)
     → flat_map g (phase_rounds all p) ≡ flat_map g (in_phase p (get_or all k []))
 only_phase g k all h p =
-    ap (flat_map g) (all_walk (map (in_phase p) all))
-    ∙ only_walk g (greatest (map length (map (in_phase p) all))) k (map (in_phase p) all)
-    (only_map g (in_phase p) (quiet_phase g p) k all h)
-    (short_at (greatest (map length (map (in_phase p) all))) k (map (in_phase p) all)
-    (short_greatest (map (in_phase p) all)))
-    ∙ ap (flat_map g) (get_map (in_phase p) refl k all)
+    rw (
+      all_walk (map (in_phase p) all),
+      only_walk g (greatest (map length (map (in_phase p) all))) k (map (in_phase
+          p) all) (only_map g (in_phase p) (quiet_phase g p) k all h) (short_at (greatest (map length (map (in_phase p)
+          all))) k (map (in_phase p) all) (short_greatest (map (in_phase p) all))),
+      get_map (in_phase p) refl k all,
+    )
 
 pub only_phases : {B : Type 0} (g : LineTurn → List B) (k : ℕ) (all : List (List LineTurn)) → OnlyAt g k all
     → (ps : List ℕ) →
     flat_map g (flat_map (phase_rounds all) ps) ≡ flat_map g (flat_map (λ p. in_phase p (get_or all k [])) ps)
 only_phases {B = B} g k all h [] = refl
 only_phases {B = B} g k all h (p ∷ ps) =
-    flat_map-append g (phase_rounds all p) (flat_map (phase_rounds all) ps)
-    ∙ ap₂ (λ (a b : List B). a ++ b) (only_phase g k all h p) (only_phases g k all h ps)
-    ∙ sym (flat_map-append g (in_phase p (get_or all k [])) (flat_map (λ q. in_phase q (get_or all k [])) ps))
+    rw (
+      flat_map-append g (phase_rounds all p) (flat_map (phase_rounds all) ps),
+      only_phase g k all h p,
+      only_phases
+          g k all h ps,
+      ← flat_map-append g (in_phase p (get_or all k [])) (flat_map (λ q. in_phase q (get_or all k
+          [])) ps),
+    )
 
 -- ---- the phases of a script make it whole
 
@@ -156,7 +166,7 @@ rest_first : (b : Bool) (p k n : ℕ) (ds : List ActorLine) → RestWhole ds
 rest_first true p k n ds whole h =
     let more : p + suc n ≡ suc p + n = omega arith in
     rw (later p (suc p) k ds (omega arith), add-one)
-    (whole (suc p) k n (subst (λ (c : ℕ). Below c (turns_from (suc p) k ds)) more h))
+    (whole (suc p) k n (rw more at h))
 rest_first false p k n ds whole h = whole p k (suc n) h
 
 pub phases_whole : (ds : List ActorLine) → RestWhole ds
@@ -166,6 +176,8 @@ phases_whole (d ∷ ds) p k (suc n) h =
     let m : LineTurn = record { phase = p; number = k; doing = d } in
     let next : ℕ = cond (ends_phase d) (suc p) p in
     rw (eq-eqb p p refl)
-    (ap (λ (t : List LineTurn). m ∷ (in_phase p (turns_from (cond (ends_phase d) (suc p) p) (suc k) ds) ++ t))
-    (passed m (turns_from (cond (ends_phase d) (suc p) p) (suc k) ds) (p + 1) n (omega arith))
-    ∙ ap (λ (t : List LineTurn). m ∷ t) (rest_first (ends_phase d) p (suc k) n ds (phases_whole ds) h.1))
+    (rw (
+      passed m (turns_from (cond (ends_phase d) (suc p) p) (suc k) ds) (p + 1) n (omega arith),
+      rest_first
+          (ends_phase d) p (suc k) n ds (phases_whole ds) h.1,
+    ))

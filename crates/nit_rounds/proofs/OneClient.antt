@@ -1,11 +1,11 @@
 -- A run of one client, whose user does nothing but end phases, is by rounds.
-use Rattle.nit_rounds.proofs.Basics.{Action, ActorLine, AreRoundsOf, Bool, ByClient, ByUser, Calls}
+use Rattle.nit_rounds.proofs.Basics.{ActorLine, AreRoundsOf, Bool, ByClient, ByUser, Calls}
 use Rattle.nit_rounds.proofs.Basics.{Configuration, Entry, InputLine, IsLegal, IsWhole, LegalFrom}
 use Rattle.nit_rounds.proofs.Basics.{Line, LineTurn, List, State, [], action_of, actions_of_line}
 use Rattle.nit_rounds.proofs.Basics.{actions_of_turns, after, ap, arith, as_many_as_clients}
 use Rattle.nit_rounds.proofs.Basics.{calls_from, calls_of, calls_to_make, done, eq-eqb, false}
 use Rattle.nit_rounds.proofs.Basics.{first_state, input_by_user, input_lines_of, length, line_by}
-use Rattle.nit_rounds.proofs.Basics.{lines_of, map, ne_eqb, refl, rounds, subst, suc, sym}
+use Rattle.nit_rounds.proofs.Basics.{lines_of, map, ne_eqb, refl, rounds, suc, sym}
 use Rattle.nit_rounds.proofs.Basics.{user_actions_from, user_actions_of, user_actions_to_do}
 use Rattle.std.proofs.Common.{true, zero, ℕ, ◌++◌, ◌==◌, ◌∙◌, ◌∷◌, ◌≡◌, if◌then◌else◌}
 use Rattle.nit_journal.proofs.ForCallers.{as_many}
@@ -39,7 +39,7 @@ one_more : (d : ActorLine) (ms : List LineTurn) → IsAlone ms → (p q : ℕ)
     → user_actions_from q (input_by_user d ++ input_lines_of ms) ≡ []
     → actions_of_line d ++ actions_of_turns ms ≡ map (Calls 0) (done (calls_from p (line_by 0 d ++ lines_of 0 ms)))
 one_more (ByClient zero (line.Call c)) ms rest p q others idle =
-    ap (λ (xs : List Action). Calls 0 c ∷ xs) (rest p q (first_alone (line.Call c) ms others) idle)
+    rw (rest p q (first_alone (line.Call c) ms others) idle)
 one_more (ByClient zero (line.Stroke s)) ms rest p q others idle = rest p q (first_alone (line.Stroke s) ms others) idle
 one_more (ByClient zero line.Phase) ms rest p q others idle = rest (suc p) q (first_alone line.Phase ms others) idle
 one_more (ByClient (suc s) l) ms rest p q others idle =
@@ -58,7 +58,7 @@ rounds_alone : (script : List Line) (lines : List InputLine) → user_actions_to
 rounds_alone script lines idle =
     let moves = rounds (script ∷ []) lines in
     alone moves 0 0 (λ t. client_lines (script ∷ []) lines (suc t))
-    (subst (λ (ls : List InputLine). user_actions_from 0 ls ≡ []) (sym (user_lines (script ∷ []) lines)) idle)
+    (rw (← user_lines (script ∷ []) lines) at idle)
     ∙ ap (λ (ls : List Line). map (Calls 0) (done (calls_from 0 ls))) (client_lines (script ∷ []) lines 0)
 
 -- ---- the journal
@@ -72,8 +72,7 @@ journal_alone : (s : State) (taken : ℕ) (front : List Entry) → length s.sess
     → map action_of front ≡ map (Calls 0) (calls_of 0 (front ++ entry.Final ∷ []))
 journal_alone s taken [] one legal none = refl
 journal_alone s taken (entry.Call zero c r ∷ front) one (agrees, legal) none =
-    ap (λ (xs : List Action). Calls 0 c ∷ xs)
-    (journal_alone (after s (entry.Call zero c r)) taken front (as_many s (entry.Call zero c r) ∙ one) legal none)
+    rw (journal_alone (after s (entry.Call zero c r)) taken front (as_many s (entry.Call zero c r) ∙ one) legal none)
 journal_alone s taken (entry.Call (suc sid) c r ∷ front) one (agrees, legal) none =
     absurd (let below = agrees.0 in omega (arith, one, below))
 journal_alone s taken (entry.Input dev routed ∷ front) one legal none = absurd cc
@@ -87,10 +86,10 @@ pub by_rounds_alone : (config : Configuration) (script : List Line) (lines : Lis
 by_rounds_alone config script lines journal one idle legal whole =
     let (front, ends) = whole.ends in
     let own = journal_alone (first_state config) 0 front (as_many_as_clients config [] ∙ one)
-    (subst (λ (js : List Entry). IsLegal config js) ends legal) (ap user_actions_of (sym ends) ∙ whole.actions
+    (rw ends at legal) (ap user_actions_of (sym ends) ∙ whole.actions
     ∙ ap done idle) in (
       front,
-      own ∙ ap (map (Calls 0)) (ap (calls_of 0) (sym ends) ∙ whole.calls 0 (omega arith))
+      own ∙ ap (map (Calls 0)) (rw (← ends, whole.calls 0 (omega arith)))
           ∙ sym (rounds_alone script lines idle),
       ends,
     )

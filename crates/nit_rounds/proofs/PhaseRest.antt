@@ -1,9 +1,9 @@
 -- What is left of a phase: an actor without a move is passed over, and a move is taken from the front.
 use Rattle.nit_rounds.proofs.Basics.{LineTurn, List, [], add-one, add-zero, all_rounds, ap}
-use Rattle.nit_rounds.proofs.Basics.{append-nil, append_assoc, ap₂, arith, drop, drop-set-lt}
+use Rattle.nit_rounds.proofs.Basics.{append-nil, append_assoc, arith, drop, drop-set-lt}
 use Rattle.nit_rounds.proofs.Basics.{drop_all, drop_more, eq-eqb, flat_map, get_or, in_phase}
 use Rattle.nit_rounds.proofs.Basics.{length, length-map, map, map-set, ne_eqb, phase_rounds}
-use Rattle.nit_rounds.proofs.Basics.{range_with_len, refl, rest_of_phase, set, set-get_or, subst}
+use Rattle.nit_rounds.proofs.Basics.{range_with_len, refl, rest_of_phase, set, set-get_or}
 use Rattle.nit_rounds.proofs.Basics.{suc, sym, take_more, take_more_set}
 use Rattle.std.proofs.Common.{take, take_all, zero, ℕ, ◌++◌, ◌+◌, ◌-◌, ◌<◌, ◌∙◌, ◌∷◌, ◌≡◌, ◌≤◌}
 use Rattle.nit_rounds.specs.Places.{left_from}
@@ -16,35 +16,34 @@ pub at_begin : (all : List (List LineTurn)) → rest_of_phase 0 all ≡ all_roun
 at_begin all = sym (first_round all)
 
 at_end : (k : ℕ) (all : List (List LineTurn)) → length all ≤ k → rest_of_phase k all ≡ all_rounds all
-at_end k all past = rw (drop_all k all past, take_all k all past) (ap all_rounds (append-nil all))
+at_end k all past = rw (drop_all k all past, take_all k all past) (rw (append-nil all))
 
 -- an actor that has no move is passed over
 skip : (k : ℕ) (all : List (List LineTurn)) → k < length all → get_or all k [] ≡ []
     → rest_of_phase k all ≡ rest_of_phase (k + 1) all
 skip k all inside none =
-    let here : drop k all ≡ [] ∷ drop (k + 1) all = drop_more all k [] inside
-    ∙ ap (λ (x : List LineTurn). x ∷ drop (k + 1) all) none in
-    let taken : take (k + 1) all ≡ take k all ++ [] ∷ [] = take_more all k [] inside
-    ∙ ap (λ (x : List LineTurn). take k all ++ x ∷ []) none in
-    rw (here, taken) (ap (λ (t : List (List LineTurn)). flat_map (take 1) (drop (k + 1) all) ++ all_rounds t)
-    (sym (append_assoc (take k all) ([] ∷ []) (map (drop 1) (drop (k + 1) all)))))
+    let here : drop k all ≡ [] ∷ drop (k + 1) all = rw (drop_more all k [] inside, none) in
+    let taken : take (k + 1) all ≡ take k all ++ [] ∷ [] = rw (take_more all k [] inside, none) in
+    rw (here, taken) (rw (← append_assoc (take k all) ([] ∷ []) (map (drop 1) (drop (k + 1) all))))
 
 skip_many : (n k : ℕ) (all : List (List LineTurn)) → k + n ≤ length all
     → ((i : ℕ) → k ≤ i → i < k + n → get_or all i [] ≡ []) → rest_of_phase k all ≡ rest_of_phase (k + n) all
-skip_many zero k all inside none = ap (λ (i : ℕ). rest_of_phase i all) (sym (add-zero k))
+skip_many zero k all inside none = cc (add-zero k)
 skip_many (suc n) k all inside none =
     let e : k + 1 + n ≡ k + suc n = omega arith in
-    skip k all (omega arith) (none k (omega arith) (omega arith))
-    ∙ skip_many n (k + 1) all (omega arith) (λ i from_ below_. none i (omega arith) (omega arith))
-    ∙ ap (λ (i : ℕ). rest_of_phase i all) e
+    rw (
+      skip k all (omega arith) (none k (omega arith) (omega arith)),
+      skip_many n (k + 1) all (omega arith) (λ i
+          from_ below_. none i (omega arith) (omega arith)),
+      e,
+    )
 
 -- those from one actor up to another have no move
 pub skip_to : (k b : ℕ) (all : List (List LineTurn)) → k ≤ b → b ≤ length all
     → ((i : ℕ) → k ≤ i → i < b → get_or all i [] ≡ []) → rest_of_phase k all ≡ rest_of_phase b all
 skip_to k b all up inside none =
     let e : k + (b - k) ≡ b = omega arith in
-    skip_many (b - k) k all (omega arith) (λ i from_ below_. none i from_ (omega arith))
-    ∙ ap (λ (i : ℕ). rest_of_phase i all) e
+    rw (skip_many (b - k) k all (omega arith) (λ i from_ below_. none i from_ (omega arith)), e)
 
 -- those from one actor on have no move, so a new round begins
 pub skip_rest : (k : ℕ) (all : List (List LineTurn)) → k ≤ length all
@@ -55,12 +54,10 @@ skip_rest k all up none = skip_to k (length all) all up (omega arith) none ∙ a
 take_one : (b : ℕ) (all : List (List LineTurn)) (m : LineTurn) (rest : List LineTurn) → b < length all
     → get_or all b [] ≡ m ∷ rest → rest_of_phase b all ≡ m ∷ rest_of_phase (b + 1) (set all b rest)
 take_one b all m rest inside has =
-    let here : drop b all ≡ (m ∷ rest) ∷ drop (b + 1) all = drop_more all b [] inside
-    ∙ ap (λ (x : List LineTurn). x ∷ drop (b + 1) all) has in
+    let here : drop b all ≡ (m ∷ rest) ∷ drop (b + 1) all = rw (drop_more all b [] inside, has) in
     let behind : drop (b + 1) (set all b rest) ≡ drop (b + 1) all = drop-set-lt (b + 1) all b rest (omega arith) in
     rw (here, behind, take_more_set all b rest inside)
-    (ap (λ (t : List (List LineTurn)). m ∷ (flat_map (take 1) (drop (b + 1) all) ++ all_rounds t))
-    (sym (append_assoc (take b all) (rest ∷ []) (map (drop 1) (drop (b + 1) all)))))
+    (rw (← append_assoc (take b all) (rest ∷ []) (map (drop 1) (drop (b + 1) all))))
 
 -- ---- the phases behind it
 
@@ -70,16 +67,14 @@ same_phase : (q b : ℕ) (all : List (List LineTurn)) (m : LineTurn) (rest : Lis
 same_phase q b all m rest has less =
     let before : get_or (map (in_phase q) all) b [] ≡ in_phase q rest = get_map (in_phase q) refl b all
     ∙ ap (in_phase q) has ∙ rw (ne_eqb m.phase q (λ e. omega arith)) refl in
-    map-set (in_phase q) all b rest ∙ ap (set (map (in_phase q) all) b) (sym before)
-    ∙ set-get_or (map (in_phase q) all) b []
+    rw (map-set (in_phase q) all b rest, ← before, set-get_or (map (in_phase q) all) b [])
 
 same_phases : (n q b : ℕ) (all : List (List LineTurn)) (m : LineTurn) (rest : List LineTurn)
     → get_or all b [] ≡ m ∷ rest → m.phase < q → flat_map (phase_rounds (set all b rest)) (range_with_len q n)
     ≡ flat_map (phase_rounds all) (range_with_len q n)
 same_phases zero q b all m rest has less = refl
 same_phases (suc n) q b all m rest has less =
-    ap₂ (λ (x y : List LineTurn). x ++ y) (ap all_rounds (same_phase q b all m rest has less))
-    (same_phases n (q + 1) b all m rest has (omega arith))
+    rw (same_phase q b all m rest has less, same_phases n (q + 1) b all m rest has (omega arith))
 
 -- an actor does its move, and what is left then
 pub one_taken : (count p b : ℕ) (all : List (List LineTurn)) (m : LineTurn) (rest : List LineTurn) → b < length all
@@ -90,10 +85,11 @@ one_taken count p b all m rest inside has e =
     let now : get_or (map (in_phase p) all) b [] ≡ m ∷ in_phase p rest = get_map (in_phase p) refl b all
     ∙ ap (in_phase p) has ∙ rw (eq-eqb m.phase p e) refl in
     let long : b < length (map (in_phase p) all) = omega (arith, length-map all (in_phase p)) in
-    ap₂ (λ (x y : List LineTurn). x ++ y)
-    (take_one b (map (in_phase p) all) m (in_phase p rest) long now
-    ∙ ap (λ (t : List (List LineTurn)). m ∷ rest_of_phase (b + 1) t) (sym (map-set (in_phase p) all b rest)))
-    (sym (same_phases (count - suc p) (suc p) b all m rest has (omega arith)))
+    rw (
+      take_one b (map (in_phase p) all) m (in_phase p rest) long now,
+      ← map-set (in_phase p) all b rest,
+      ← same_phases (count - suc p) (suc p) b all m rest has (omega arith),
+    )
 
 -- ---- new rounds, new phases, and the end
 
@@ -101,9 +97,8 @@ pub turned_to : (count p k b : ℕ) (all : List (List LineTurn)) → k ≤ b →
     → ((i : ℕ) → k ≤ i → i < b → in_phase p (get_or all i []) ≡ []) → left_from count p b all ≡ left_from count p k all
 unfolding left_from
 turned_to count p k b all up inside none =
-    ap (λ (t : List LineTurn). t ++ flat_map (phase_rounds all) (range_with_len (suc p) (count - suc p)))
-    (sym (skip_to k b (map (in_phase p) all) up (omega (arith, length-map all (in_phase p)))
-    (λ i from_ below_. get_map (in_phase p) refl i all ∙ none i from_ below_)))
+    rw (← (skip_to k b (map (in_phase p) all) up (omega (arith, length-map all (in_phase p))) (λ i from_ below_.
+    get_map (in_phase p) refl i all ∙ none i from_ below_)))
 
 -- what is left where no actor from this one on has a move in the phase
 round_ends : (count p k : ℕ) (all : List (List LineTurn)) → k ≤ length all
@@ -112,24 +107,22 @@ round_ends : (count p k : ℕ) (all : List (List LineTurn)) → k ≤ length all
     ++ flat_map (phase_rounds all) (range_with_len (suc p) (count - suc p))
 unfolding left_from
 round_ends count p k all up none =
-    ap (λ (t : List LineTurn). t ++ flat_map (phase_rounds all) (range_with_len (suc p) (count - suc p)))
-    (skip_rest k (map (in_phase p) all) (omega (arith, length-map all (in_phase p)))
-    (λ i from_ below_. get_map (in_phase p) refl i all ∙ none i from_ (omega (arith, length-map all (in_phase p)))))
+    rw (skip_rest k (map (in_phase p) all) (omega (arith, length-map all (in_phase p))) (λ i from_ below_. get_map
+    (in_phase p) refl i all ∙ none i from_ (omega (arith, length-map all (in_phase p)))))
 
 pub round_begun : (count p k : ℕ) (all : List (List LineTurn)) → k ≤ length all
     → ((i : ℕ) → k ≤ i → i < length all → in_phase p (get_or all i []) ≡ [])
     → left_from count p 0 all ≡ left_from count p k all
 unfolding left_from
 round_begun count p k all up none =
-    ap (λ (t : List LineTurn). t ++ flat_map (phase_rounds all) (range_with_len (suc p) (count - suc p)))
-    (at_begin (map (in_phase p) all)) ∙ sym (round_ends count p k all up none)
+    rw (at_begin (map (in_phase p) all), ← round_ends count p k all up none)
 
 -- lists that are all empty are short
 all_short : (all : List (List LineTurn)) → ((i : ℕ) → i < length all → get_or all i [] ≡ []) → Short 0 all
 all_short [] none = tt
 all_short (l ∷ all) none =
     let here : l ≡ [] = none 0 (omega arith) in (
-      subst (λ (x : List LineTurn). length x ≤ 0) (sym here) (omega arith),
+      rw here (omega arith),
       all_short all (λ i below_. none (suc i) (omega arith)),
     )
 
@@ -147,13 +140,14 @@ pub phase_begun : (count p : ℕ) (all : List (List LineTurn)) → suc p < count
 unfolding left_from
 phase_begun count p all more none =
     let one_more : count - suc p ≡ suc (count - suc (suc p)) = omega arith in
-    ap (λ (t : List LineTurn). t ++ flat_map (phase_rounds all) (range_with_len (suc (suc p)) (count - suc (suc p))))
-    (at_begin (map (in_phase (suc p)) all))
-    ∙ sym (ap (λ (t : List LineTurn). t ++ flat_map (phase_rounds all) (range_with_len (suc p) (count - suc p)))
-    (at_begin (map (in_phase p) all) ∙ nothing_in p all none)
-    ∙ ap (λ (n : ℕ). flat_map (phase_rounds all) (range_with_len (suc p) n)) one_more
-    ∙ ap (λ (q : ℕ). phase_rounds all (suc p) ++ flat_map (phase_rounds all) (range_with_len q (count - suc (suc p))))
-    (add-one (suc p)))
+    cc (
+      at_begin (map (in_phase (suc p)) all),
+      add-one (suc p),
+      one_more,
+      nothing_in p all none,
+      at_begin (map
+          (in_phase p) all),
+    )
 
 nothing_behind : (n q : ℕ) (all : List (List LineTurn)) → ((i : ℕ) → i < length all → get_or all i [] ≡ [])
     → flat_map (phase_rounds all) (range_with_len q n) ≡ []

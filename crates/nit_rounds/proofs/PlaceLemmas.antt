@@ -1,15 +1,15 @@
 -- Actors at places of their scripts: what each has left, and how places go on.
-use Rattle.nit_rounds.proofs.Basics.{ActorLine, AllByRecursion, Bool, ByClient, ByUser, InputLine}
-use Rattle.nit_rounds.proofs.Basics.{Line, LineTurn, List, LinePlace, Some, StandsAt, [], actors}
-use Rattle.nit_rounds.proofs.Basics.{add-one, and_parts, ap, ap₂, arith, cases_eq, cases_lt}
+use Rattle.nit_rounds.proofs.Basics.{ActorLine, Bool, ByClient, ByUser, InputLine}
+use Rattle.nit_rounds.proofs.Basics.{Line, List, LinePlace, Some, StandsAt, [], actors}
+use Rattle.nit_rounds.proofs.Basics.{add-one, and_parts, ap, arith, cases_eq, cases_lt}
 use Rattle.nit_rounds.proofs.Basics.{clients_from, cond, drop, drop_all, drop_more, ends_phase}
 use Rattle.nit_rounds.proofs.Basics.{eq-eqb, eqb-true, false, false≢true, get_or, get_or_default}
 use Rattle.nit_rounds.proofs.Basics.{get_or_past}
 use Rattle.nit_rounds.proofs.Basics.{in_phase, inl, inr, is_active, is_input_phase, is_phase}
 use Rattle.nit_rounds.proofs.Basics.{left_at, lefts, length, length-append, length-map, lt-ltb}
 use Rattle.nit_rounds.proofs.Basics.{ltb-true, map, nat_lt, refl, same_Some, script_of, set}
-use Rattle.nit_rounds.proofs.Basics.{stepped, turns_from}
-use Rattle.std.proofs.Common.{slice_get, subst, suc, sym, true, zero, zero-add, ℕ, ◌+◌, ◌<◌, ◌==◌}
+use Rattle.nit_rounds.proofs.Basics.{stepped}
+use Rattle.std.proofs.Common.{slice_get, suc, sym, true, zero, zero-add, ℕ, ◌+◌, ◌<◌, ◌==◌}
 use Rattle.std.proofs.Common.{◌∙◌, ◌∷◌, ◌≡◌, ◌≤◌}
 use Rattle.nit_rounds.proofs.OneActor.{later}
 use Rattle.nit_rounds.proofs.Scripts.{script_of_client, script_of_user}
@@ -18,44 +18,47 @@ use Rattle.nit_rounds.proofs.Scripts.{script_of_client, script_of_user}
 
 pub script_client : (scripts : List (List Line)) (input : List InputLine) (k : ℕ) → k < length scripts
     → script_of scripts input k ≡ map (ByClient k) (get_or scripts k [])
-script_client scripts input k inside = script_of_client 0 k scripts (map ByUser input ∷ []) inside
-    ∙ ap (λ (t : ℕ). map (ByClient t) (get_or scripts k [])) (zero-add k)
+script_client scripts input k inside = rw (script_of_client 0 k scripts (map ByUser input ∷ []) inside, zero-add k)
 
 pub script_user : (scripts : List (List Line)) (input : List InputLine) (k : ℕ) → length scripts ≤ k
     → k ≤ length scripts → script_of scripts input k ≡ map ByUser input
 script_user scripts input k low high =
     let same : length scripts ≡ k = omega arith in
-    subst (λ (n : ℕ). script_of scripts input n ≡ map ByUser input) same (script_of_user 0 scripts (map ByUser input))
+    rw same at (script_of_user 0 scripts (map ByUser input))
 
 pub client_long : (scripts : List (List Line)) (input : List InputLine) (k : ℕ) (x : List Line) → k < length scripts
     → x ≡ get_or scripts k x → length x ≡ length (script_of scripts input k)
 client_long scripts input k x inside is =
-    sym (ap length (script_client scripts input k inside) ∙ length-map (get_or scripts k []) (ByClient k)
-    ∙ ap length (get_or_default scripts k [] x inside ∙ sym is))
+    rw (
+      is,
+      ← get_or_default scripts k [] x inside,
+      ← length-map (get_or scripts k []) (ByClient k),
+      ← script_client
+          scripts input k inside,
+    )
 
 pub user_long : (scripts : List (List Line)) (input : List InputLine) (k : ℕ) → length scripts ≤ k → k ≤ length scripts
     → length input ≡ length (script_of scripts input k)
-user_long scripts input k low high = sym (ap length (script_user scripts input k low high) ∙ length-map input ByUser)
+user_long scripts input k low high = cc (length-map input ByUser, script_user scripts input k low high)
 
 end_in : {L : Type 0} (f : L → ActorLine) (ls : List L) (n : ℕ) (l : L) (d : ActorLine) → n < length ls
     → l ≡ get_or ls n l → slice_get (map f ls) n ≡ Some d → f l ≡ d
 end_in f [] n l d inside is e = absurd (omega arith)
-end_in f (x ∷ ls) zero l d inside is e = ap f is ∙ same_Some (f x) d e
+end_in f (x ∷ ls) zero l d inside is e = rw (is, same_Some (f x) d e)
 end_in f (x ∷ ls) (suc n) l d inside is e = end_in f ls n l d (omega arith) is e
 
 pub client_inside : (scripts : List (List Line)) (input : List InputLine) (k n : ℕ) (x y : List Line)
     → k < length scripts → x ≡ get_or scripts k x → y ≡ x → n < length (script_of scripts input k) → n < length y
 client_inside scripts input k n x y inside is same h =
-    subst (λ (m : ℕ). n < m) (sym (ap length same ∙ client_long scripts input k x inside is)) h
+    rw (← (ap length same ∙ client_long scripts input k x inside is)) at h
 
 clients_long : (sid : ℕ) (scripts : List (List Line)) → length (clients_from sid scripts) ≡ length scripts
 clients_long sid [] = refl
-clients_long sid (x ∷ scripts) = ap (λ (n : ℕ). suc n) (clients_long (suc sid) scripts)
+clients_long sid (x ∷ scripts) = rw (clients_long (suc sid) scripts)
 
 pub actors_long : (scripts : List (List Line)) (input : List InputLine)
     → length (actors scripts input) ≡ length scripts + 1
-actors_long scripts input = length-append (clients_from 0 scripts) (map ByUser input ∷ [])
-    ∙ ap (λ (n : ℕ). n + 1) (clients_long 0 scripts)
+actors_long scripts input = rw (length-append (clients_from 0 scripts) (map ByUser input ∷ []), clients_long 0 scripts)
 
 -- an actor that has a line is a client or the user
 has_script : (scripts : List (List Line)) (input : List InputLine) (k n : ℕ) → n < length (script_of scripts input k)
@@ -63,33 +66,35 @@ has_script : (scripts : List (List Line)) (input : List InputLine) (k n : ℕ) �
 has_script scripts input k n h =
     elim (cases_lt k (length (actors scripts input))) [
       | inl inside ↦ omega (arith, actors_long scripts input)
-      | inr past ↦ absurd (let none : n < 0 = subst (λ (ds : List ActorLine). n < length ds)
-          (get_or_past (actors scripts input) k [] past) h in omega arith)
+      | inr past ↦ absurd (let none : n < 0 = rw (get_or_past (actors scripts input) k [] past) at h in omega arith)
     ]
 
 pub user_inside : (scripts : List (List Line)) (input : List InputLine) (k n : ℕ) (y : List InputLine)
     → length scripts ≤ k → y ≡ input → n < length (script_of scripts input k) → n < length y
 user_inside scripts input k n y low same h =
-    subst (λ (m : ℕ). n < m) (sym (ap length same ∙ user_long scripts input k low (has_script scripts input k n h))) h
+    rw (← (ap length same ∙ user_long scripts input k low (has_script scripts input k n h))) at h
 
 pub client_end : (scripts : List (List Line)) (input : List InputLine) (k n : ℕ) (x y : List Line) (l : Line)
     (d : ActorLine) → k < length scripts → x ≡ get_or scripts k x → y ≡ x → n < length (script_of scripts input k)
     → l ≡ get_or y n l → slice_get (script_of scripts input k) n ≡ Some d → is_phase l ≡ ends_phase d
 client_end scripts input k n x y l d inside is same h at e =
-    let here : script_of scripts input k ≡ map (ByClient k) y = script_client scripts input k inside
-    ∙ ap (map (ByClient k)) (get_or_default scripts k [] x inside ∙ sym is ∙ sym same) in
-    ap ends_phase (end_in (ByClient k) y n l d (client_inside scripts input k n x y inside is same h) at
-    (subst (λ (ds : List ActorLine). slice_get ds n ≡ Some d) here e))
+    let here : script_of scripts input k ≡ map (ByClient k) y = rw (
+      script_client scripts input k inside,
+      get_or_default scripts k [] x inside,
+      ← is,
+      ← same,
+    ) in
+    cc (end_in (ByClient k) y n l d (client_inside scripts input k n x y inside is same h) at (rw here at e))
 
 pub user_end : (scripts : List (List Line)) (input : List InputLine) (k n : ℕ) (y : List InputLine) (other : InputLine)
     (d : ActorLine) → length scripts ≤ k → y ≡ input → n < length (script_of scripts input k)
     → slice_get (script_of scripts input k) n ≡ Some d → is_input_phase (get_or y n other) ≡ ends_phase d
 user_end scripts input k n y other d low same h e =
     let here : script_of scripts input k ≡ map ByUser y =
-    script_user scripts input k low (has_script scripts input k n h) ∙ ap (map ByUser) (sym same) in
+    rw (script_user scripts input k low (has_script scripts input k n h), ← same) in
     let inside = user_inside scripts input k n y low same h in
-    ap ends_phase (end_in ByUser y n (get_or y n other) d inside (get_or_default y n other (get_or y n other) inside)
-    (subst (λ (ds : List ActorLine). slice_get ds n ≡ Some d) here e))
+    cc (end_in ByUser y n (get_or y n other) d inside (get_or_default y n other (get_or y n other) inside) (rw here
+    at e))
 
 -- ---- what each actor has left
 
@@ -105,7 +110,7 @@ pub lefts_long : (places : List LinePlace) (all : List (List ActorLine)) → len
 lefts_long [] [] h = refl
 lefts_long [] (ds ∷ all) h = absurd (omega arith)
 lefts_long (p ∷ places) [] h = refl
-lefts_long (p ∷ places) (ds ∷ all) h = ap (λ (n : ℕ). suc n) (lefts_long places all (omega arith))
+lefts_long (p ∷ places) (ds ∷ all) h = rw (lefts_long places all (omega arith))
 
 pub set_lefts : (k : ℕ) (place : LinePlace) (places : List LinePlace) (all : List (List ActorLine))
     → set (lefts places all) k (left_at place (get_or all k [])) ≡ lefts (set places k place) all
@@ -114,7 +119,7 @@ set_lefts zero place (p ∷ places) [] = refl
 set_lefts (suc k) place (p ∷ places) [] = refl
 set_lefts zero place (p ∷ places) (ds ∷ all) = refl
 set_lefts (suc k) place (p ∷ places) (ds ∷ all) =
-    ap (λ (t : List (List LineTurn)). left_at p ds ∷ t) (set_lefts k place places all)
+    rw (set_lefts k place places all)
 
 -- ---- who has a line to do
 
@@ -144,12 +149,11 @@ idle phase place ds none reached =
             | inl same ↦ absurd (other same)
             | inr differs ↦ later phase place.phase place.line (drop place.line ds) (omega arith)
           ]
-      | inr past ↦ ap (λ (t : List ActorLine). in_phase phase (turns_from place.phase place.line t))
-          (drop_all place.line ds past)
+      | inr past ↦ rw (drop_all place.line ds past)
     ]
 
 pub nothing_more : (place : LinePlace) (ds : List ActorLine) → length ds ≤ place.line → left_at place ds ≡ []
-nothing_more place ds past = ap (turns_from place.phase place.line) (drop_all place.line ds past)
+nothing_more place ds past = rw (drop_all place.line ds past)
 
 -- ---- a step
 
@@ -161,10 +165,12 @@ pub left_first : (place : LinePlace) (ds : List ActorLine) (d : ActorLine) → p
     left_at place ds ≡ record { phase = place.phase; number = place.line; doing = get_or ds place.line d }
     ∷ left_at (stepped place (ends_phase (get_or ds place.line d))) ds
 left_first place ds d inside =
-    ap (turns_from place.phase place.line) (drop_more ds place.line d inside)
-    ∙ ap₂ (λ (p n : ℕ). record { phase = place.phase; number = place.line; doing = get_or ds place.line d }
-    ∷ turns_from p n (drop (place.line + 1) ds))
-    (on_by_one (ends_phase (get_or ds place.line d)) place.phase) (sym (add-one place.line))
+    rw (
+      drop_more ds place.line d inside,
+      on_by_one (ends_phase (get_or ds place.line d)) place.phase,
+      ← add-one
+          place.line,
+    )
 
 stepped_up : (b : Bool) (p : ℕ) → (p ≤ cond b (p + 1) p) × (cond b (p + 1) p ≤ suc p)
 stepped_up true p = (omega arith, omega arith)
@@ -175,14 +181,11 @@ pub step_stands : (count phase : ℕ) (place : LinePlace) (ds : List ActorLine) 
     → StandsAt count phase (stepped place (ends_phase (get_or ds place.line d))) ds
 step_stands count phase place ds d inside same stands =
     let up = stepped_up (ends_phase (get_or ds place.line d)) place.phase in
-    let low : place.phase ≤ cond (ends_phase (get_or ds place.line d)) (place.phase + 1) place.phase = up.0 in
-    let high : cond (ends_phase (get_or ds place.line d)) (place.phase + 1) place.phase ≤ suc place.phase = up.1 in
+    let low = up.0 in
+    let high = up.1 in
     let small : place.phase ≤ place.line = stands.small in
-    let parts : AllByRecursion (λ m. m.phase < count)
-    (record { phase = place.phase; number = place.line; doing = get_or ds place.line d }
-    ∷ left_at (stepped place (ends_phase (get_or ds place.line d))) ds) =
-    subst (λ (t : List LineTurn). AllByRecursion (λ m. m.phase < count) t) (left_first place ds d inside)
-    stands.within in
+    let parts =
+    rw (left_first place ds d inside) at stands.within in
     record { reached = λ _. omega arith; near = λ _. omega arith; small = omega arith; within = parts.1 }
 
 -- the phase ends for an actor that has no line to do in it

@@ -2,19 +2,18 @@
 use Rattle.nit_rounds.proofs.Basics.{AreQuiet, AreQuietBut, List, None, Sight, WereSeen, [], ap}
 use Rattle.nit_rounds.proofs.Basics.{cases_eq, eq-eqb, ext_get_or, get_or-set_other}
 use Rattle.nit_rounds.proofs.Basics.{get_or-set_same, glass_in, glasses_of_call, inl, inr}
-use Rattle.nit_rounds.proofs.Basics.{length-map, ne_eqb, no_sight, option_map, seen}
-use Rattle.std.proofs.Common.{length, map, refl, set, sym, ℕ, ◌++◌, ◌<◌, ◌∙◌, ◌∷◌, ◌≡◌, ◌≢◌}
+use Rattle.nit_rounds.proofs.Basics.{length-map, ne_eqb, no_sight, seen}
+use Rattle.std.proofs.Common.{length, map, refl, set, sym, ℕ, ◌<◌, ◌∙◌, ◌∷◌, ◌≡◌, ◌≢◌}
 
 abbrev pub itself : List Sight → List Sight
 itself glasses = map (λ g. g) glasses
 
 pub same_list : (glasses : List Sight) → itself glasses ≡ glasses
 same_list [] = refl
-same_list (g ∷ gs) = ap (λ (t : List Sight). g ∷ t) (same_list gs)
+same_list (g ∷ gs) = rw (same_list gs)
 
 not_seen : (g : Sight) (loads : List (ℕ × ℕ)) → g.log ≡ None → seen g loads ≡ g
-not_seen g loads quiet = ap (λ log. record g { log = option_map (λ before. before ++ loads) log }) quiet
-    ∙ sym (ap (λ log. record g { log = log }) quiet)
+not_seen g loads quiet = rw (quiet, ← quiet)
 
 -- the glasses of a call are those of the scene, with the own one for its session
 of_call : (glasses : List Sight) (sid : ℕ) (own : Sight) → sid < length glasses → (t : ℕ)
@@ -23,7 +22,7 @@ of_call glasses sid own inside t =
     ap (λ (gs : List Sight). glasses_of_call gs sid own t) (same_list glasses)
     ∙ elim (cases_eq t sid) [
       | inl e ↦ rw (eq-eqb t sid e)
-          (sym (ap (glass_in (set glasses sid own)) e ∙ get_or-set_same glasses sid own no_sight inside))
+          (cc (get_or-set_same glasses sid own no_sight inside, e))
       | inr other ↦ rw (ne_eqb t sid other) (sym (get_or-set_other glasses sid t own no_sight other))
     ]
 
@@ -38,8 +37,7 @@ pub same_own : (old new : List Sight) (sid : ℕ) (own own' : Sight) → own.log
     → WereSeen (itself old) (itself new) sid own own' → own' ≡ own
 same_own old new sid own own' quiet were =
     let saw = were sid in
-    sym (own_there new sid own') ∙ saw.1 ∙ ap (λ (g : Sight). seen g saw.0) (own_there old sid own)
-    ∙ not_seen own saw.0 quiet
+    rw (← own_there new sid own', saw.1, own_there old sid own, not_seen own saw.0 quiet)
 
 other_there : (glasses : List Sight) (sid : ℕ) (own : Sight) (t : ℕ) → t ≢ sid
     → glasses_of_call (itself glasses) sid own t ≡ glass_in glasses t
@@ -51,31 +49,32 @@ same_at : (old new : List Sight) (sid : ℕ) (own own' : Sight) → AreQuietBut 
     → glass_in new t ≡ glass_in old t
 same_at old new sid own own' quiet were idle t =
     elim (cases_eq t sid) [
-      | inl e ↦ ap (glass_in new) e ∙ sym (ap (λ (gs : List Sight). glass_in gs sid) (same_list new)) ∙ idle
-          ∙ ap (λ (gs : List Sight). glass_in gs sid) (same_list old) ∙ ap (glass_in old) (sym e)
+      | inl e ↦ rw (e, ← same_list new, idle, same_list old, ← e)
       | inr other ↦
           let saw = were t in
-          sym (other_there new sid own' t other) ∙ saw.1
-          ∙ ap (λ (g : Sight). seen g saw.0) (other_there old sid own t other)
-          ∙ not_seen (glass_in old t) saw.0 (quiet t other)
+          rw (
+            ← other_there new sid own' t other,
+            saw.1,
+            other_there old sid own t other,
+            not_seen (glass_in old t)
+                saw.0 (quiet t other),
+          )
     ]
 
 pub same_glasses : {R : Type 0} (f : Sight → R) (old new : List Sight) (sid : ℕ) (own own' : Sight)
     → AreQuietBut sid old → WereSeen (itself old) (itself new) sid own own'
     → glass_in (itself new) sid ≡ glass_in (itself old) sid → map f new ≡ map f old → new ≡ old
 same_glasses f old new sid own own' quiet were idle rests =
-    let long : length new ≡ length old = sym (length-map new f) ∙ ap (λ xs. length xs) rests ∙ length-map old f in
+    let long : length new ≡ length old = rw (← length-map new f, rests, length-map old f) in
     ext_get_or no_sight new old long (λ t inside. same_at old new sid own own' quiet were idle t)
 
--- the same of an event that is no call
+-- an event that is no call leaves the glasses, where none tells a log
 pub same_seen : {R : Type 0} (f : Sight → R) (old new : List Sight) → AreQuiet old
     → ((t : ℕ) → (loads : List (ℕ × ℕ)) × (glass_in (itself new) t ≡ seen (glass_in (itself old) t) loads))
     → map f new ≡ map f old → new ≡ old
 same_seen f old new quiet were rests =
-    let long : length new ≡ length old = sym (length-map new f) ∙ ap (λ xs. length xs) rests ∙ length-map old f in
+    let long : length new ≡ length old = rw (← length-map new f, rests, length-map old f) in
     ext_get_or no_sight new old long
     (λ t inside.
     let saw = were t in
-    sym (ap (λ (gs : List Sight). glass_in gs t) (same_list new)) ∙ saw.1
-    ∙ ap (λ (gs : List Sight). seen (glass_in gs t) saw.0) (same_list old)
-    ∙ not_seen (glass_in old t) saw.0 (quiet t))
+    rw (← same_list new, saw.1, same_list old, not_seen (glass_in old t) saw.0 (quiet t)))

@@ -3,7 +3,7 @@ use Rattle.nit_rounds.proofs.Basics.{Action, AllByRecursion, Bool, IsNonDecreasi
 use Rattle.nit_rounds.proofs.Basics.{[], actions_of_line, all_append, arith, cond, drop, eqb-true}
 use Rattle.nit_rounds.proofs.Basics.{false, flat_map, flat_map-append, get_or, in_phase, le_of_eq}
 use Rattle.nit_rounds.proofs.Basics.{le_trans, phase_rounds, range_with_len, round}
-use Rattle.std.proofs.Common.{length, map, refl, subst, suc, sym, take, true, zero, ℕ, ◌++◌, ◌+◌}
+use Rattle.std.proofs.Common.{length, map, refl, suc, sym, take, true, zero, ℕ, ◌++◌, ◌+◌}
 use Rattle.std.proofs.Common.{◌<◌, ◌==◌, ◌∷◌, ◌≡◌, ◌≤◌}
 
 -- ---- numbers that never fall
@@ -32,7 +32,7 @@ from_lower low mid (x ∷ xs) h r = (le_trans h r.0, r.1)
 same_then : (q : ℕ) (xs ys : List ℕ) → AllByRecursion (λ x. x ≡ q) xs → Rising q ys → Rising q (xs ++ ys)
 same_then q [] ys h r = r
 same_then q (x ∷ xs) ys h r =
-    (le_of_eq (sym h.0), subst (λ (n : ℕ). Rising n (xs ++ ys)) (sym h.0) (same_then q xs ys h.1 r))
+    (le_of_eq (sym h.0), rw (← h.0) at (same_then q xs ys h.1 r))
 
 -- ---- the moves of one phase
 

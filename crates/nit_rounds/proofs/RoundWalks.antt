@@ -1,9 +1,9 @@
 -- Rounds one after the other: each takes the first move of each actor.
-use Rattle.nit_rounds.proofs.Basics.{AllByRecursion, LineTurn, List, [], all_rounds, ap, ap₂, arith}
+use Rattle.nit_rounds.proofs.Basics.{AllByRecursion, LineTurn, List, [], all_rounds, arith}
 use Rattle.nit_rounds.proofs.Basics.{drop, drop-drop, flat_map, flat_map-map, get_or, greatest}
 use Rattle.nit_rounds.proofs.Basics.{length-drop, map, nil_from_length, range_with_len, round}
-use Rattle.std.proofs.Common.{map-id, max, length, refl, subst, suc, sym, zero, ℕ, take, ◌++◌, ◌+◌}
-use Rattle.std.proofs.Common.{◌-◌, ◌∙◌, ◌∷◌, ◌≡◌, ◌≤◌}
+use Rattle.std.proofs.Common.{map-id, max, length, refl, suc, zero, ℕ, take, ◌++◌, ◌+◌}
+use Rattle.std.proofs.Common.{◌-◌, ◌∷◌, ◌≡◌, ◌≤◌}
 
 -- lists of at most n moves
 abbrev pub Short : ℕ → List (List LineTurn) → Type 0
@@ -57,43 +57,47 @@ firsts_none (l ∷ all) h =
 
 walk_less : (n : ℕ) (all : List (List LineTurn)) → Short n all → walk (suc n) all ≡ walk n all
 walk_less zero all h = rw (firsts_none all h) refl
-walk_less (suc n) all h = ap (λ (t : List LineTurn). flat_map (take 1) all ++ t)
-    (walk_less n (map (drop 1) all) (short_drop n all h))
+walk_less (suc n) all h = rw (walk_less n (map (drop 1) all) (short_drop n all h))
 
 map_drops : (a : ℕ) (all : List (List LineTurn)) → map (drop 1) (map (drop a) all) ≡ map (drop (a + 1)) all
 map_drops a [] = refl
-map_drops a (l ∷ all) = ap₂ (λ (x : List LineTurn) (xs : List (List LineTurn)). x ∷ xs) (drop-drop 1 a l)
-    (map_drops a all)
+map_drops a (l ∷ all) = rw (drop-drop 1 a l, map_drops a all)
 
 rounds_from : (all : List (List LineTurn)) (a n : ℕ) → flat_map (round all) (range_with_len a n)
     ≡ walk n (map (drop a) all)
 rounds_from all a zero = refl
 rounds_from all a (suc n) =
-    ap₂ (λ (x y : List LineTurn). x ++ y)
-    (sym (flat_map-map (take 1) (drop a) all))
-    (rounds_from all (a + 1) n ∙ ap (walk n) (sym (map_drops a all)))
+    rw (← flat_map-map (take 1) (drop a) all, rounds_from all (a + 1) n, ← map_drops a all)
 
 pub all_walk : (all : List (List LineTurn)) → all_rounds all ≡ walk (greatest (map length all)) all
-all_walk all = rounds_from all 0 (greatest (map length all)) ∙ ap (walk (greatest (map length all))) (map-id all)
+all_walk all = rw (rounds_from all 0 (greatest (map length all)), map-id all)
 
 walk_rest : (n : ℕ) (all : List (List LineTurn)) → greatest (map length all) ≡ n
     → walk n (map (drop 1) all) ≡ all_rounds (map (drop 1) all)
 walk_rest zero all e =
     let none : greatest (map length (map (drop 1) all)) ≡ 0 = omega (arith, greatest_drop all) in
-    sym (all_walk (map (drop 1) all) ∙ ap (λ (k : ℕ). walk k (map (drop 1) all)) none)
+    cc (none, all_walk (map (drop 1) all))
 walk_rest (suc n) all e =
     let less : greatest (map length (map (drop 1) all)) ≡ n = omega (arith, greatest_drop all) in
-    walk_less n (map (drop 1) all) (short_drop n all (subst (λ (k : ℕ). Short k all) e (short_greatest all)))
-    ∙ sym (all_walk (map (drop 1) all) ∙ ap (λ (k : ℕ). walk k (map (drop 1) all)) less)
+    rw (
+      walk_less n (map (drop 1) all) (short_drop n all (rw e at (short_greatest all))),
+      ← less,
+      ← all_walk (map
+          (drop 1) all),
+    )
 
 -- the first round, and then those of what is left
 pub first_round : (all : List (List LineTurn)) → all_rounds all ≡ flat_map (take 1) all ++ all_rounds (map (drop 1) all)
 first_round all =
-    all_walk all ∙ sym (walk_less (greatest (map length all)) all (short_greatest all))
-    ∙ ap (λ (t : List LineTurn). flat_map (take 1) all ++ t) (walk_rest (greatest (map length all)) all refl)
+    rw (
+      all_walk all,
+      ← walk_less (greatest (map length all)) all (short_greatest all),
+      walk_rest (greatest (map
+          length all)) all refl,
+    )
 
 -- actors that have no move do nothing
 pub no_rounds : (all : List (List LineTurn)) → Short 0 all → all_rounds all ≡ []
 no_rounds all h =
     let none : greatest (map length all) ≡ 0 = let most = greatest_within 0 all h in omega arith in
-    all_walk all ∙ ap (λ (k : ℕ). walk k all) none
+    rw (all_walk all, none)

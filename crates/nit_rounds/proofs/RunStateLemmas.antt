@@ -1,22 +1,22 @@
 -- A run that is under way: how it begins, what one turn does, and what holds at its end.
-use Rattle.nit_rounds.proofs.Basics.{Action, ActorLine, AreRaw, Bare, Bool, ByClient, ByUser}
+use Rattle.nit_rounds.proofs.Basics.{ActorLine, AreRaw, Bare, Bool, ByClient, ByUser}
 use Rattle.nit_rounds.proofs.Basics.{Configuration, DoesUserLine, Drawing, Entry, InputLine}
 use Rattle.nit_rounds.proofs.Basics.{IsDrawn, IsLegal, IsMoved, IsOpen, IsRawOf, IsRecorded}
 use Rattle.nit_rounds.proofs.Basics.{IsRoundsRun, IsSetUp, IsShowing, IsUnderWay, IsUserRecorded}
 use Rattle.nit_rounds.proofs.Basics.{Line, LineTurn, List, None, Option, Painting, PixelSource}
 use Rattle.nit_rounds.proofs.Basics.{PlanModel, Point, SceneModel, ShotFrame, ShowsEach, ShowsLine}
-use Rattle.nit_rounds.proofs.Basics.{Sight, Size, Some, State, View, [], action_of, actions_of_line}
-use Rattle.nit_rounds.proofs.Basics.{actions_of_turns, after_turn, ap, append-nil, append_assoc}
+use Rattle.nit_rounds.proofs.Basics.{Sight, Size, Some, View, [], action_of, actions_of_line}
+use Rattle.nit_rounds.proofs.Basics.{ap, append-nil, append_assoc}
 use Rattle.nit_rounds.proofs.Basics.{arith, bar_rows, bare_word, blank, buffer_size, cases_eq, cond}
 use Rattle.nit_rounds.proofs.Basics.{donation_of, done_after, drawn, drawn_shot, entry_of, false}
 use Rattle.nit_rounds.proofs.Basics.{first_state, get_or-set_other, get_or-set_same, glass_after}
 use Rattle.nit_rounds.proofs.Basics.{glass_in, in_bar, ink, inked_sight, inl, input_lines_of, inr}
-use Rattle.nit_rounds.proofs.Basics.{length, length-append, length-set, length-take-le, line_by}
+use Rattle.nit_rounds.proofs.Basics.{length, length-append, length-set, length-take-le}
 use Rattle.nit_rounds.proofs.Basics.{lines_of, map, map-append, no_sight, painted_from, pixel}
-use Rattle.nit_rounds.proofs.Basics.{pixel_count, refl, replay, rounds, script_in, set}
+use Rattle.nit_rounds.proofs.Basics.{pixel_count, refl, rounds, script_in, set}
 use Rattle.nit_rounds.proofs.Basics.{shot_frames_of, shots, shots_after, slice_get}
 use Rattle.nit_rounds.proofs.Basics.{slice_get_within, source_at, source_under, state_now}
-use Rattle.nit_rounds.proofs.Basics.{tables_after, turn_of, words_after, words_left}
+use Rattle.nit_rounds.proofs.Basics.{turn_of, words_after, words_left}
 use Rattle.std.proofs.Common.{slice_index_or, subst, sym, take, true, zero-add, ℕ, ◌++◌, ◌+◌, ◌<◌}
 use Rattle.std.proofs.Common.{◌∙◌, ◌∷◌, ◌≡◌, ◌≢◌, ◌≤◌}
 use Rattle.nit_events.specs.declared.entry.Entry.TheVariants as entry
@@ -24,7 +24,7 @@ use Rattle.nit_script.specs.declared.line.InputLine.TheVariants as input
 use Rattle.nit_rounds.specs.declared.turn.Turn.TheVariants as turn
 use Rattle.nit_rounds.proofs.DrawingLemmas.{done_more, drawn_more, moved_on, none_drawn}
 use Rattle.nit_rounds.proofs.DrawingLemmas.{shows_drawn}
-use Rattle.nit_rounds.proofs.TableWords.{AreOf, tables_told}
+use Rattle.nit_rounds.proofs.TableWords.{tables_told}
 use Rattle.nit_rounds.proofs.ShotLemmas.{device_shots, line_shots, shot_counted}
 use Rattle.nit_rounds.proofs.OneMove.{acts_more, lines_more, none_more, other_line, own_line}
 use Rattle.nit_rounds.proofs.OneMove.{recorded_acts, user_line}
@@ -64,15 +64,13 @@ clients_move tells done scripts lines before now owns m left sid number w is =
     let here : slice_get (script_in scripts sid) number ≡ Some l =
     subst (λ (n : ℕ). slice_get (script_in scripts sid) n ≡ Some l) t.0 d.1 in
     let within : number < length (script_in scripts sid) = slice_get_within (script_in scripts sid) number l here in
-    let front : lines_of sid w.front ≡ take number (script_in scripts sid) = d.2
-    ∙ ap (λ (n : ℕ). take n (script_in scripts sid)) t.0 in
+    let front : lines_of sid w.front ≡ take number (script_in scripts sid) = rw (d.2, t.0) in
     record {
       l = l;
       doing = t.1.1;
       inside = d.0;
       here = here;
-      count = ap (λ (ls : List Line). length ls) front
-          ∙ length-take-le number (script_in scripts sid) (omega (arith, within));
+      count = rw (front, length-take-le number (script_in scripts sid) (omega (arith, within)));
     }
 
 abbrev pub UserDone : Type 0
@@ -102,9 +100,7 @@ pub own_glass : (scripts : List (List Line)) (lines : List InputLine) (before no
     → IsClientsMove scripts w.front m sid number
     → glass_in owns sid ≡ glass_after sid (script_in scripts sid) (donation_of now.config sid) number
 own_glass scripts lines before now owns m left sid number w move =
-    w.done sid move.inside ∙ ap (λ (n : ℕ). glass_after sid (script_in scripts sid) (donation_of before.config sid) n)
-    move.count
-    ∙ ap (λ (c : Configuration). glass_after sid (script_in scripts sid) (donation_of c sid) number) (sym w.config)
+    rw (w.done sid move.inside, move.count, ← w.config)
 
 -- what is drawn is drawn on
 drawn_on : (config : Configuration) (scripts : List (List Line)) (front : List LineTurn) (m : LineTurn)
@@ -118,15 +114,12 @@ drawn_on : (config : Configuration) (scripts : List (List Line)) (front : List L
     → IsDrawn (drawn config scripts (front ++ m ∷ [])) s'
 drawn_on config scripts front m s s' owns same each tell counts is moved taken =
     let d : Drawing = drawn config scripts front in
-    let more : drawn config scripts (front ++ m ∷ []) ≡ after_turn config scripts d m =
+    let more =
     drawn_more config scripts front m in
     let done : (t : ℕ) → length (lines_of t (front ++ m ∷ [])) ≡ done_after m.doing d.done t = λ t. sym (counts t)
     ∙ ap (λ (x : Drawing). x.done t) more in
-    subst (λ (x : Drawing). IsDrawn x s') (sym more)
-    (moved_on config scripts d m s s' is moved
-    (subst (λ (gs : List Sight). AreOf (glass_in gs) (tables_after config scripts (done_after m.doing d.done)))
-    (sym same)
-    (tables_told config scripts owns (done_after m.doing d.done) each
+    rw (← more) at (moved_on config scripts d m s s' is moved
+    (rw (← same) at (tables_told config scripts owns (done_after m.doing d.done) each
     (λ t inside. tell t inside ∙ ap (λ (n : ℕ). glass_after t (script_in scripts t) (donation_of config t) n)
     (done t)))) taken)
 
@@ -134,9 +127,12 @@ counts_on : (config : Configuration) (scripts : List (List Line)) (front : List 
     → ((t : ℕ) → (drawn config scripts front).done t ≡ length (lines_of t front)) → (t : ℕ)
     → (drawn config scripts (front ++ m ∷ [])).done t ≡ length (lines_of t (front ++ m ∷ []))
 counts_on config scripts front m counts t =
-    ap (λ (x : Drawing). x.done t) (drawn_more config scripts front m)
-    ∙ done_more m.doing (drawn config scripts front).done t
-    ∙ ap (λ (n : ℕ). n + length (line_by t m.doing)) (counts t) ∙ sym (lines_more t front m)
+    rw (
+      drawn_more config scripts front m,
+      done_more m.doing (drawn config scripts front).done t,
+      counts t,
+      ← lines_more t front m,
+    )
 
 pub after_client : {V : Type 0} (Fits : ℕ → ℕ → V → Type 0) (Shows : ShotFrame → V → V → Type 0)
     (scripts : List (List Line)) (lines : List InputLine) (before now now' : SceneModel Sight) (owns owns' : List Sight)
@@ -156,10 +152,13 @@ after_client Fits Shows scripts lines before now now' owns owns' m left sid numb
         front = w.front ++ m ∷ [];
         parts = w.parts ∙ sym (append_assoc w.front (m ∷ []) left);
         config = config ∙ w.config;
-        entries = recorded_acts sid move.l now.entries now'.entries recorded
-            ∙ ap (λ (xs : List Action). xs ++ actions_of_line (ByClient sid move.l)) w.entries
-            ∙ ap (λ (d : ActorLine). actions_of_turns w.front ++ actions_of_line d) (sym move.doing)
-            ∙ sym (acts_more w.front m);
+        entries = cc (
+          recorded_acts sid move.l now.entries now'.entries recorded,
+          w.entries,
+          move.doing,
+          acts_more
+              w.front m,
+        );
         unended = unended;
         spare = spare ∙ w.spare;
         same = same;
@@ -168,10 +167,9 @@ after_client Fits Shows scripts lines before now now' owns owns' m left sid numb
         counts = counts_on before.config scripts w.front m w.counts;
         is_drawn = drawn_on before.config scripts w.front m now now' owns' same each done
             (counts_on before.config scripts w.front m w.counts) w.is_drawn
-            (subst (λ (d : ActorLine). IsMoved (entry_of (state_now now) d) now now') (sym move.doing) moved) taken;
+            (rw move.doing moved) taken;
       };
-      shown = subst (λ (fs : List ShotFrame). ShowsEach Shows fs first last)
-          (sym (ap (λ (d : Drawing). d.shots) (drawn_more before.config scripts w.front m) ∙ no_shot)) p.shown;
+      shown = rw (← (ap (λ (d : Drawing). d.shots) (drawn_more before.config scripts w.front m) ∙ no_shot)) at p.shown;
       fits = p.fits;
     }
   where
@@ -183,63 +181,60 @@ after_client Fits Shows scripts lines before now now' owns owns' m left sid numb
         (length (lines_of t (w.front ++ m ∷ [])))
 
     counted : length (lines_of sid (w.front ++ m ∷ [])) ≡ number + 1
-    counted = lines_more sid w.front m
-        ∙ ap (λ (n : ℕ). length (lines_of sid w.front) + n) (own_line sid move.l m.doing move.doing)
-        ∙ ap (λ (n : ℕ). n + 1) move.count
+    counted = rw (lines_more sid w.front m, own_line sid move.l m.doing move.doing, move.count)
 
     as_before : (t : ℕ) → t ≢ sid → length (lines_of t (w.front ++ m ∷ [])) ≡ length (lines_of t w.front)
     as_before t other = none_more t w.front m (other_line sid t move.l m.doing other move.doing)
 
     this : IsDone sid
     this =
-        let there : sid < length owns = subst (λ (n : ℕ). sid < n) (sym w.owns_each) move.inside in
-        ap (λ (gs : List Sight). glass_in gs sid) put ∙ get_or-set_same owns sid own' no_sight there ∙ own
-        ∙ ap (λ (c : Configuration). glass_after sid (script_in scripts sid) (donation_of c sid) (number + 1)) w.config
-        ∙ ap (λ (n : ℕ). glass_after sid (script_in scripts sid) (donation_of before.config sid) n) (sym counted)
+        let there : sid < length owns = rw (← w.owns_each) at move.inside in
+        cc (put, get_or-set_same owns sid own' no_sight there, own, w.config, counted)
 
     same : now'.glasses ≡ owns'
-    same = glasses ∙ ap (λ (gs : List Sight). set gs sid own') w.same ∙ sym put
+    same = rw (glasses, w.same, ← put)
 
     each : length owns' ≡ length scripts
-    each = ap (λ (gs : List Sight). length gs) put ∙ length-set owns sid own' ∙ w.owns_each
+    each = rw (put, length-set owns sid own', w.owns_each)
 
     done : (t : ℕ) → t < length scripts → IsDone t
     done t inside =
         elim (cases_eq t sid) [
           | inl e ↦ subst IsDone (sym e) this
           | inr other ↦
-              ap (λ (gs : List Sight). glass_in gs t) put ∙ get_or-set_other owns sid t own' no_sight other
-              ∙ w.done t inside
-              ∙ ap (λ (n : ℕ). glass_after t (script_in scripts t) (donation_of before.config t) n)
-              (sym (as_before t other))
+              rw (put, get_or-set_other owns sid t own' no_sight other, w.done t inside, ← as_before t other)
         ]
 
     no_shot : shots_after before.config m.doing (drawn before.config scripts w.front)
         ≡ (drawn before.config scripts w.front).shots
-    no_shot = ap (λ (d : ActorLine). shots_after before.config d (drawn before.config scripts w.front)) move.doing
+    no_shot = cc move.doing
 
     taken : length (shots_after before.config m.doing (drawn before.config scripts w.front)) ≡ shots now'.entries
-    taken = ap length no_shot ∙ w.is_drawn.taken ∙ sym (line_shots sid move.l now.entries now'.entries recorded)
+    taken = rw (no_shot, w.is_drawn.taken, ← line_shots sid move.l now.entries now'.entries recorded)
 
 user_acts : (l : InputLine) (before after' : List Entry) → IsUserRecorded l before after'
     → map action_of after' ≡ map action_of before ++ actions_of_line (ByUser l)
-user_acts (input.Device dev) before after' recorded = ap (map action_of) recorded.1
-    ∙ map-append action_of before (entry.Input dev recorded.0 ∷ [])
-user_acts input.Shot before after' recorded = ap (map action_of) recorded
-    ∙ map-append action_of before (entry.Shot (shots before + 1) ∷ [])
-user_acts input.Phase before after' recorded = ap (map action_of) recorded ∙ sym (append-nil (map action_of before))
+user_acts (input.Device dev) before after' recorded =
+    rw (recorded.1, map-append action_of before (entry.Input dev recorded.0 ∷ []))
+user_acts input.Shot before after' recorded =
+    rw (recorded, map-append action_of before (entry.Shot (shots before + 1) ∷ []))
+user_acts input.Phase before after' recorded = cc (recorded, append-nil (map action_of before))
 
 user_shots : (config : Configuration) (d : Drawing) (l : InputLine) (before after' : List Entry)
     → IsUserRecorded l before after' → length d.shots ≡ shots before → length (shots_after config (ByUser l) d)
     ≡ shots after'
 user_shots config d input.Shot before after' recorded taken =
-    length-append d.shots (drawn_shot config d ∷ []) ∙ ap (λ (n : ℕ). n + 1) taken
-    ∙ sym (shot_counted before after' (shots before + 1) recorded)
+    rw (
+      length-append d.shots (drawn_shot config d ∷ []),
+      taken,
+      ← shot_counted before after' (shots before + 1)
+          recorded,
+    )
 user_shots config d (input.Device dev) before after' recorded taken = taken
     ∙ sym (device_shots before after' dev recorded)
-user_shots config d input.Phase before after' recorded taken = taken ∙ sym (ap shots recorded)
+user_shots config d input.Phase before after' recorded taken = rw (taken, ← recorded)
 
--- the same for the user
+-- what one turn of the user leaves
 pub after_user : {V : Type 0} (Fits : ℕ → ℕ → V → Type 0) (Shows : ShotFrame → V → V → Type 0)
     (scripts : List (List Line)) (lines : List InputLine) (before now now' : SceneModel Sight) (owns : List Sight)
     (m : LineTurn) (left : List LineTurn) (l : InputLine) (first old last : V)
@@ -252,10 +247,7 @@ after_user Fits Shows scripts lines before now now' owns m left l first old last
         front = w.front ++ m ∷ [];
         parts = w.parts ∙ sym (append_assoc w.front (m ∷ []) left);
         config = does.config ∙ w.config;
-        entries = user_acts l now.entries now'.entries does.recorded
-            ∙ ap (λ (xs : List Action). xs ++ actions_of_line (ByUser l)) w.entries
-            ∙ ap (λ (d : ActorLine). actions_of_turns w.front ++ actions_of_line d) (sym doing)
-            ∙ sym (acts_more w.front m);
+        entries = cc (user_acts l now.entries now'.entries does.recorded, w.entries, doing, acts_more w.front m);
         unended = does.unended;
         spare = does.spare ∙ w.spare;
         same = does.glasses ∙ w.same;
@@ -264,17 +256,16 @@ after_user Fits Shows scripts lines before now now' owns m left l first old last
         counts = counts_on before.config scripts w.front m w.counts;
         is_drawn = drawn_on before.config scripts w.front m now now' owns (does.glasses ∙ w.same) w.owns_each done
             (counts_on before.config scripts w.front m w.counts) w.is_drawn
-            (subst (λ (d : ActorLine). IsMoved (entry_of (state_now now) d) now now') (sym doing) does.moved)
+            (rw doing does.moved)
             (ap (λ (d : ActorLine). length (shots_after before.config d (drawn before.config scripts w.front))) doing
             ∙ user_shots before.config (drawn before.config scripts w.front) l now.entries now'.entries does.recorded
             w.is_drawn.taken);
       };
-      shown = subst (λ (fs : List ShotFrame). ShowsEach Shows fs first last)
-          (sym (ap (λ (d : Drawing). d.shots) (drawn_more before.config scripts w.front m)
-          ∙ ap (λ (d : ActorLine). shots_after before.config d (drawn before.config scripts w.front)) doing))
+      shown = rw (← (ap (λ (d : Drawing). d.shots) (drawn_more before.config scripts w.front m)
+          ∙ ap (λ (d : ActorLine). shots_after before.config d (drawn before.config scripts w.front)) doing)) at
           (shows_drawn Shows before.config (drawn before.config scripts w.front) now l first old last w.config
           w.is_drawn p.shown more);
-      fits = subst (λ (c : Configuration). Fits c.width c.height last) w.config fits;
+      fits = rw w.config at fits;
     }
   where
     w : IsUnderWay scripts lines before now owns (m ∷ left)
@@ -283,9 +274,7 @@ after_user Fits Shows scripts lines before now now' owns m left l first old last
     done : (t : ℕ) → t < length scripts
         → glass_in owns t ≡ glass_after t (script_in scripts t) (donation_of before.config t)
         (length (lines_of t (w.front ++ m ∷ [])))
-    done t inside = w.done t inside
-        ∙ ap (λ (n : ℕ). glass_after t (script_in scripts t) (donation_of before.config t) n)
-        (sym (none_more t w.front m (user_line t l m.doing doing)))
+    done t inside = rw (w.done t inside, ← none_more t w.front m (user_line t l m.doing doing))
 
 -- ---- the beginning
 
@@ -295,7 +284,7 @@ bare_under sizes p true = refl
 bare_under sizes p false = refl
 
 raw_bare : (source : PixelSource) (w : ℕ) → source ≡ Bare → IsRawOf source w → w ≡ bare_word
-raw_bare source w is raw = subst (λ (x : PixelSource). IsRawOf x w) is raw
+raw_bare source w is raw = rw is at raw
 
 opening_bare : (config : Configuration) (raw : List ℕ) → AreRaw (first_state config) raw → (k : ℕ)
     → k < pixel_count (first_state config) → slice_index_or raw k 0 ≡ bare_word
@@ -318,24 +307,23 @@ begun Fits Shows scripts lines plans before owns left first all set_up none raw 
         config = refl;
         entries = ap (map action_of) none;
         unended = subst IsOpen (sym none) tt;
-        spare = ap (λ (es : List Entry). length es + before.spare) none ∙ zero-add before.spare;
+        spare = rw (none, zero-add before.spare);
         same = set_up.same;
         owns_each = set_up.owns_each;
         done = set_up.blank;
         counts = λ t. ap (λ (d : Drawing). d.done t) (none_drawn before.config scripts);
-        is_drawn = subst (λ (d : Drawing). IsDrawn d before) (sym (none_drawn before.config scripts)) (record {
+        is_drawn = rw (none_drawn before.config scripts) (record {
           state = opened;
-          words = opening_bare before.config before.raw (subst (λ (s : State). AreRaw s before.raw) opened raw);
+          words = opening_bare before.config before.raw (rw opened at raw);
           taken = sym (ap shots none);
         });
       };
-      shown = subst (λ (fs : List ShotFrame). ShowsEach Shows fs first first)
-          (sym (ap (λ (d : Drawing). d.shots) (none_drawn before.config scripts))) refl;
+      shown = rw (ap (λ (d : Drawing). d.shots) (none_drawn before.config scripts)) refl;
       fits = fits;
     }
   where
     opened : state_now before ≡ first_state before.config
-    opened = ap (λ (es : List Entry). replay before.config es) none
+    opened = rw none
 
 -- ---- the end
 
@@ -351,7 +339,7 @@ pub all_done : (scripts : List (List Line)) (lines : List InputLine) (before now
     (left : List LineTurn) → (w : IsUnderWay scripts lines before now owns left) → left ≡ []
     → w.front ≡ rounds scripts lines
 all_done scripts lines before now owns left w over =
-    sym (w.parts ∙ ap (λ (ms : List LineTurn). w.front ++ ms) over ∙ append-nil w.front)
+    rw (← append-nil w.front, ← over, ← w.parts)
 
 pub all_shown : {V : Type 0} (Fits : ℕ → ℕ → V → Type 0) (Shows : ShotFrame → V → V → Type 0)
     (scripts : List (List Line)) (lines : List InputLine) (before now : SceneModel Sight) (owns : List Sight)
@@ -359,8 +347,7 @@ pub all_shown : {V : Type 0} (Fits : ℕ → ℕ → V → Type 0) (Shows : Shot
     → IsShowing Fits Shows scripts lines before now owns left first last → left ≡ []
     → ShowsEach Shows (shot_frames_of before.config scripts lines) first last
 all_shown Fits Shows scripts lines before now owns left first last p over =
-    subst (λ (ms : List LineTurn). ShowsEach Shows (drawn before.config scripts ms).shots first last)
-    (all_done scripts lines before now owns left p.way over) p.shown
+    rw (all_done scripts lines before now owns left p.way over) at p.shown
 
 pub ended : EachOnce → AllLines
     → (scripts : List (List Line)) (lines : List InputLine) (before now : SceneModel Sight) (owns : List Sight)
@@ -369,7 +356,7 @@ pub ended : EachOnce → AllLines
 ended once all scripts lines before now owns left w over legal =
     record {
       config = w.config;
-      entries = w.entries ∙ ap (λ (ms : List LineTurn). actions_of_turns ms) (sym whole);
+      entries = rw (w.entries, ← whole);
       legal = legal;
       unended = w.unended;
       spare = w.spare;
@@ -384,8 +371,7 @@ ended once all scripts lines before now owns left w over legal =
     whole = sym (all_done scripts lines before now owns left w over)
 
     counted : (t : ℕ) → length (lines_of t w.front) ≡ length (script_in scripts t)
-    counted t = ap (λ (ms : List LineTurn). length (lines_of t ms)) (sym whole)
-        ∙ ap (λ (ls : List Line). length ls) (once scripts lines t)
+    counted t = rw (← whole, once scripts lines t)
 
     glass_of : ℕ → List ℕ → Sight
     glass_of t words = inked_sight t words (ink (script_in scripts t))
@@ -393,5 +379,5 @@ ended once all scripts lines before now owns left w over legal =
     left_all : (t : ℕ) → glass_of t
         (words_after (script_in scripts t) (donation_of before.config t) (length (script_in scripts t)))
         ≡ glass_of t (words_left (script_in scripts t) (donation_of before.config t))
-    left_all t = ap (λ (p : Painting). glass_of t p.words)
-        (all (blank (donation_of before.config t)) (script_in scripts t) (length (script_in scripts t)) (omega arith))
+    left_all t = cc (all (blank (donation_of before.config t)) (script_in scripts t) (length (script_in scripts t))
+        (omega arith))

@@ -2,9 +2,9 @@
 use Rattle.nit_rounds.proofs.Basics.{ActorLine, AllByRecursion, Bool, ByClient, ByUser, InputLine}
 use Rattle.nit_rounds.proofs.Basics.{Line, LineTurn, List, [], actors, add-zero, ap, arith}
 use Rattle.nit_rounds.proofs.Basics.{cases_eq, cases_lt, clients_from, cond, count_by, ends_phase}
-use Rattle.nit_rounds.proofs.Basics.{false, flat_map, get_or, greatest, in_phase, inl, inr}
+use Rattle.nit_rounds.proofs.Basics.{false, flat_map, get_or, greatest, inl, inr}
 use Rattle.nit_rounds.proofs.Basics.{is_input_phase, is_phase, length, map, phase_count, phases}
-use Rattle.nit_rounds.proofs.Basics.{range_with_len, refl, rounds, subst, suc, sum_by-append, sym}
+use Rattle.nit_rounds.proofs.Basics.{range_with_len, refl, rounds, suc, sum_by-append, sym}
 use Rattle.nit_rounds.proofs.Basics.{true, turns_from, turns_of, zero, zero-add, ℕ}
 use Rattle.std.proofs.Common.{◌++◌, ◌+◌, ◌<◌, ◌∙◌, ◌∷◌, ◌≡◌, ◌≤◌}
 use Rattle.nit_rounds.proofs.OneActor.{Silent, OnlyAt, Below, taken_silent, get_map, only_phases}
@@ -18,7 +18,7 @@ script_of_client sid k [] behind h = absurd (omega arith)
 script_of_client sid zero (x ∷ scripts) behind h = ap (λ (t : ℕ). map (ByClient t) x) (sym (add-zero sid))
 script_of_client sid (suc k) (x ∷ scripts) behind h =
     let e : suc sid + k ≡ sid + suc k = omega arith in
-    script_of_client (suc sid) k scripts behind (omega arith) ∙ ap (λ (t : ℕ). map (ByClient t) (get_or scripts k [])) e
+    rw (script_of_client (suc sid) k scripts behind (omega arith), e)
 
 pub script_of_user : (sid : ℕ) (scripts : List (List Line)) (last : List ActorLine)
     → get_or (clients_from sid scripts ++ last ∷ []) (length scripts) [] ≡ last
@@ -52,20 +52,17 @@ moves_below count p k (d ∷ ds) h = (
 
 count_first : {X : Type 0} (test : X → Bool) (x : X) (xs : List X)
     → count_by test (x ∷ xs) ≡ cond (test x) 1 0 + count_by test xs
-count_first test x xs = sum_by-append (λ y. cond (test y) 1 0) (x ∷ []) xs
-    ∙ ap (λ (n : ℕ). n + count_by test xs) (zero-add (cond (test x) 1 0))
+count_first test x xs = rw (sum_by-append (λ y. cond (test y) 1 0) (x ∷ []) xs, zero-add (cond (test x) 1 0))
 
 ended_by_client : (s : ℕ) (ls : List Line) → ended (map (ByClient s) ls) ≡ count_by is_phase ls
 unfolding ended
 ended_by_client s [] = refl
-ended_by_client s (l ∷ ls) = ap (λ (n : ℕ). cond (is_phase l) 1 0 + n) (ended_by_client s ls)
-    ∙ sym (count_first is_phase l ls)
+ended_by_client s (l ∷ ls) = rw (ended_by_client s ls, ← count_first is_phase l ls)
 
 ended_by_user : (ls : List InputLine) → ended (map ByUser ls) ≡ count_by is_input_phase ls
 unfolding ended
 ended_by_user [] = refl
-ended_by_user (l ∷ ls) = ap (λ (n : ℕ). cond (is_input_phase l) 1 0 + n) (ended_by_user ls)
-    ∙ sym (count_first is_input_phase l ls)
+ended_by_user (l ∷ ls) = rw (ended_by_user ls, ← count_first is_input_phase l ls)
 
 phases_at : (k : ℕ) (scripts : List (List Line)) → k < length scripts
     → phases (get_or scripts k []) ≤ greatest (map phases scripts)
@@ -93,8 +90,7 @@ below scripts input k =
     elim (cases_lt k (length scripts)) [
       | inl inside ↦ client_below scripts input k inside
       | inr past ↦ elim (cases_eq (length scripts) k) [
-        | inl same ↦ subst (λ (n : ℕ). Below (phase_count scripts input)
-            (turns_of (get_or (actors scripts input) n []))) same (user_below scripts input)
+        | inl same ↦ rw same at (user_below scripts input)
         | inr other ↦ rw (script_of_nobody 0 k scripts (map ByUser input) (omega arith)) tt
       ]
     ]
@@ -105,13 +101,12 @@ project : {B : Type 0} (g : LineTurn → List B) (scripts : List (List Line)) (i
     → OnlyAt g k (map turns_of (actors scripts input)) →
     flat_map g (rounds scripts input) ≡ flat_map g (turns_of (get_or (actors scripts input) k []))
 project g scripts input k h =
-    only_phases g k (map turns_of (actors scripts input)) h (range_with_len 0 (phase_count scripts input))
-    ∙ ap (flat_map g)
-    (ap (λ (x : List LineTurn). flat_map (λ p. in_phase p x) (range_with_len 0 (phase_count scripts input)))
-    (get_map turns_of refl k (actors scripts input))
-    ∙ phases_whole (get_or (actors scripts input) k []) 0 0 (phase_count scripts input)
-    (subst (λ (n : ℕ). Below n (turns_of (get_or (actors scripts input) k [])))
-    (sym (zero-add (phase_count scripts input))) (below scripts input k)))
+    rw (
+      only_phases g k (map turns_of (actors scripts input)) h (range_with_len 0 (phase_count scripts input)),
+      get_map turns_of refl k (actors scripts input),
+      phases_whole (get_or (actors scripts input) k []) 0 0
+          (phase_count scripts input) (rw (← zero-add (phase_count scripts input)) at (below scripts input k)),
+    )
 
 -- g takes nothing of other clients' lines, and nothing of the user's lines
 abbrev pub NotOthers : {B : Type 0} → (LineTurn → List B) → ℕ → Type 0
@@ -157,7 +152,7 @@ of_script g s made user none whole sid zero [] input e =
 of_script g s made user none whole sid (suc k) [] input e = sym none
 of_script g s made user none whole sid zero (x ∷ scripts) input e =
     let here : sid ≡ s = omega arith in
-    ap (λ (t : ℕ). flat_map g (turns_of (map (ByClient t) x))) here ∙ whole x
+    rw (here, whole x)
 of_script g s made user none whole sid (suc k) (x ∷ scripts) input e =
     of_script g s made user none whole (suc sid) k scripts input (omega arith)
 
@@ -184,6 +179,9 @@ pub user_part : {B : Type 0} (g : LineTurn → List B) (made : List InputLine �
     → ((ls : List InputLine) → flat_map g (turns_of (map ByUser ls)) ≡ made ls) →
     (scripts : List (List Line)) (input : List InputLine) → flat_map g (rounds scripts input) ≡ made input
 user_part g made clients whole scripts input =
-    project g scripts input (length scripts) (only_user g clients 0 scripts input)
-    ∙ ap (λ (ds : List ActorLine). flat_map g (turns_of ds)) (script_of_user 0 scripts (map ByUser input))
-    ∙ whole input
+    rw (
+      project g scripts input (length scripts) (only_user g clients 0 scripts input),
+      script_of_user 0 scripts (map
+          ByUser input),
+      whole input,
+    )

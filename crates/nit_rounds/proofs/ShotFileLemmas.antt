@@ -1,7 +1,7 @@
 -- The files of the shots of some entries.
 use Rattle.nit_rounds.proofs.Basics.{Entry, File, List, ShotsBehind, Some, [], ap, append-nil}
-use Rattle.nit_rounds.proofs.Basics.{arith, length, refl, shot_name, shots, slice_get, subst}
-use Rattle.std.proofs.Common.{suc, sym, ℕ, ◌++◌, ◌∙◌, ◌∷◌, ◌≡◌, append_assoc}
+use Rattle.nit_rounds.proofs.Basics.{arith, length, refl, shot_name, shots, slice_get}
+use Rattle.std.proofs.Common.{suc, ℕ, ◌++◌, ◌∙◌, ◌∷◌, ◌≡◌, append_assoc}
 use Rattle.nit_events.specs.declared.entry.Entry.TheVariants as entry
 
 abbrev Picturing : Type 1
@@ -23,24 +23,23 @@ pub files_both : (Pic : Picturing) (front es fs : List Entry) (files more : List
     → ShotsBehind Pic front es files → ShotsBehind Pic (front ++ es) fs more
     → ShotsBehind Pic front (es ++ fs) (files ++ more)
 files_both Pic front [] fs files more none are =
-    subst (λ (gs : List File). ShotsBehind Pic front fs (gs ++ more)) (sym none)
-    (subst (λ (es : List Entry). ShotsBehind Pic es fs more) (append-nil front) are)
+    rw none (rw (append-nil front) at are)
 files_both Pic front (entry.Call s c r ∷ es) fs files more first are =
     files_both Pic (front ++ entry.Call s c r ∷ []) es fs files more first
-    (subst (λ (js : List Entry). ShotsBehind Pic js fs more) (sym (behind front es (entry.Call s c r))) are)
+    (rw (← behind front es (entry.Call s c r)) at are)
 files_both Pic front (entry.Input dev routed ∷ es) fs files more first are =
     files_both Pic (front ++ entry.Input dev routed ∷ []) es fs files more first
-    (subst (λ (js : List Entry). ShotsBehind Pic js fs more) (sym (behind front es (entry.Input dev routed))) are)
+    (rw (← behind front es (entry.Input dev routed)) at are)
 files_both Pic front (entry.Final ∷ es) fs files more first are =
     files_both Pic (front ++ entry.Final ∷ []) es fs files more first
-    (subst (λ (js : List Entry). ShotsBehind Pic js fs more) (sym (behind front es entry.Final)) are)
+    (rw (← behind front es entry.Final) at are)
 files_both Pic front (entry.Shot n ∷ es) fs files more (bytes, others, is, pic, rest) are = (
   bytes,
   others ++ more,
   ap (λ (gs : List File). gs ++ more) is,
   pic,
   files_both Pic (front ++ entry.Shot n ∷ []) es fs others more rest
-      (subst (λ (js : List Entry). ShotsBehind Pic js fs more) (sym (behind front es (entry.Shot n))) are),
+      (rw (← behind front es (entry.Shot n)) at are),
 )
 
 -- there are as many as shots
@@ -53,7 +52,7 @@ as_many_files Pic front (entry.Input dev routed ∷ es) files are =
     as_many_files Pic (front ++ entry.Input dev routed ∷ []) es files are
 as_many_files Pic front (entry.Final ∷ es) files are = as_many_files Pic (front ++ entry.Final ∷ []) es files are
 as_many_files Pic front (entry.Shot n ∷ es) files (bytes, others, is, pic, rest) =
-    ap length is ∙ ap suc (as_many_files Pic (front ++ entry.Shot n ∷ []) es others rest)
+    rw (is, as_many_files Pic (front ++ entry.Shot n ∷ []) es others rest)
 
 -- and the one of a shot is a picture that the entries before it allow
 abbrev pub HasFile : Picturing → List Entry → ℕ → ℕ → List File → Type 0
@@ -63,15 +62,14 @@ HasFile Pic known at number files = (bytes : List ℕ) × (slice_get files at �
 after_one : (Pic : Picturing) (front es : List Entry) (e : Entry) (at number : ℕ) (files : List File)
     → HasFile Pic ((front ++ e ∷ []) ++ es) at number files → HasFile Pic (front ++ (e ∷ es)) at number files
 after_one Pic front es e at number files (bytes, there, pic) =
-    (bytes, there, subst (λ (js : List Entry). Pic js bytes) (behind front es e) pic)
+    (bytes, there, rw (behind front es e) at pic)
 
 pub file_of_a_shot : (Pic : Picturing) (front es rest : List Entry) (number : ℕ) (files : List File)
     → ShotsBehind Pic front (es ++ entry.Shot number ∷ rest) files → HasFile Pic (front ++ es) (shots es) number files
 file_of_a_shot Pic front [] rest number files (bytes, others, is, pic, more) = (
   bytes,
   ap (λ (fs : List File). slice_get fs 0) is,
-  subst (λ (js : List Entry). Pic js bytes) (sym (append-nil front))
-      pic,
+  rw (← append-nil front) at pic,
 )
 file_of_a_shot Pic front (entry.Call s c r ∷ es) rest number files are =
     after_one Pic front es (entry.Call s c r) (shots es) number files
@@ -87,5 +85,5 @@ file_of_a_shot Pic front (entry.Shot n ∷ es) rest number files (bytes, others,
       found,
       ap (λ (fs : List File). slice_get fs (suc (shots es))) is
           ∙ there,
-      subst (λ (js : List Entry). Pic js found) (behind front es (entry.Shot n)) allowed,
+      rw (behind front es (entry.Shot n)) at allowed,
     )

@@ -31,13 +31,13 @@ before_it (f ∷ front) m rest is = by (shoots f.doing) refl (before_it front m 
   where
     by : (b : Bool) → shoots f.doing ≡ b → turns_before (shots_in front) (front ++ m ∷ rest) ≡ front
         → turns_before (cond b (suc (shots_in front)) (shots_in front)) (f ∷ (front ++ m ∷ rest)) ≡ f ∷ front
-    by true e more = rw e (ap (λ (ms : List LineTurn). f ∷ ms) more)
+    by true e more = rw e (rw more)
     by false e more = still (shots_in front) more
       where
         still : (n : ℕ) → turns_before n (front ++ m ∷ rest) ≡ front → turns_before n (f ∷ (front ++ m ∷ rest))
             ≡ f ∷ front
-        still zero more = rw e (ap (λ (ms : List LineTurn). f ∷ ms) more)
-        still (suc n) more = rw e (ap (λ (ms : List LineTurn). f ∷ ms) more)
+        still zero more = rw e (rw more)
+        still (suc n) more = rw e (rw more)
 
 shots_in_more : (front : List LineTurn) (m : LineTurn)
     → shots_in (front ++ m ∷ []) ≡ shots_in front + cond (shoots m.doing) 1 0
@@ -59,19 +59,17 @@ shots_in_more (f ∷ front) m = by (shoots f.doing) (cond (shoots m.doing) 1 0) 
 -- entries without a shot have no file
 no_file : (P : List Entry → List ℕ → Type 0) (before put rest : List Entry) (files : List File) → shots put ≡ 0
     → ShotsBehind P (before ++ put) rest files → ShotsBehind P before (put ++ rest) files
-no_file P before [] rest files none h = subst (λ (es : List Entry). ShotsBehind P es rest files) (append-nil before) h
+no_file P before [] rest files none h = rw (append-nil before) at h
 no_file P before (entry.Shot k ∷ put) rest files none h = absurd (omega arith)
 no_file P before (entry.Call t c q ∷ put) rest files none h =
     no_file P (before ++ entry.Call t c q ∷ []) put rest files none
-    (subst (λ (es : List Entry). ShotsBehind P es rest files)
-    (sym (append_assoc before (entry.Call t c q ∷ []) put)) h)
+    (rw (← append_assoc before (entry.Call t c q ∷ []) put) at h)
 no_file P before (entry.Input dev routed ∷ put) rest files none h =
     no_file P (before ++ entry.Input dev routed ∷ []) put rest files none
-    (subst (λ (es : List Entry). ShotsBehind P es rest files)
-    (sym (append_assoc before (entry.Input dev routed ∷ []) put)) h)
+    (rw (← append_assoc before (entry.Input dev routed ∷ []) put) at h)
 no_file P before (entry.Final ∷ put) rest files none h =
     no_file P (before ++ entry.Final ∷ []) put rest files none
-    (subst (λ (es : List Entry). ShotsBehind P es rest files) (sym (append_assoc before (entry.Final ∷ []) put)) h)
+    (rw (← append_assoc before (entry.Final ∷ []) put) at h)
 
 -- a line that is no shot puts none, and makes no picture
 record Plain (config : Configuration) (doing : ActorLine) (taken : ℕ) (put : List Entry) : Type 0 where
@@ -122,13 +120,11 @@ module _ (config : Configuration) (scripts : List (List Line)) (lines : List Inp
 
   state_more : (before put : List Entry) (s s' : State) → s ≡ replay config before → replay_from s put ≡ s'
       → s' ≡ replay config (before ++ put)
-  state_more before put s s' is leads = sym leads ∙ ap (λ (x : State). replay_from x put) is
-      ∙ sym (fold-append after (first_state config) before put)
+  state_more before put s s' is leads = rw (← leads, is, ← fold-append after (first_state config) before put)
 
   drawn_more : (front : List LineTurn) (m : LineTurn) (d : Drawing) → fold after' (opening_drawing config) front ≡ d
       → fold after' (opening_drawing config) (front ++ m ∷ []) ≡ after' d m
-  drawn_more front m d is = fold-append after' (opening_drawing config) front (m ∷ [])
-      ∙ ap (λ (x : Drawing). after' x m) is
+  drawn_more front m d is = rw (fold-append after' (opening_drawing config) front (m ∷ []), is)
 
   picture_here : (front : List LineTurn) (m : LineTurn) (left : List LineTurn) (taken : ℕ) (before : List Entry)
       (d : Drawing) → rounds scripts lines ≡ front ++ m ∷ left → shoots m.doing ≡ true → Half front taken before d
@@ -136,13 +132,11 @@ module _ (config : Configuration) (scripts : List (List Line)) (lines : List Inp
   unfolding drawn
   picture_here front m left taken before d parts is h =
       let moves : turns_before (shots before) (rounds scripts lines) ≡ front =
-      ap (λ (n : ℕ). turns_before n (rounds scripts lines)) (h.entries_shot ∙ sym h.lines_shot)
-      ∙ ap (λ (ms : List LineTurn). turns_before (shots_in front) ms) parts ∙ before_it front m left is in
-      let word : (drawn_by_shot config scripts lines (shots before)).word ≡ d.word =
+      rw (h.entries_shot, ← h.lines_shot, parts, before_it front m left is) in
+      let word =
       ap (λ (ms : List LineTurn). (fold after' (opening_drawing config) ms).word) moves
       ∙ ap (λ (x : Drawing). x.word) h.drawn_is in
-      ap (λ (s : State). picture_of config s d.word) h.state_is
-      ∙ ap (λ (w : ℕ → ℕ). picture_of config (replay config before) w) (sym word)
+      rw (h.state_is, ← word)
 
   all_left : (left front : List LineTurn) (taken : ℕ) (before journal : List Entry) (d : Drawing)
       → rounds scripts lines ≡ front ++ left → Half front taken before d → LegalFrom d.state taken journal
@@ -152,33 +146,30 @@ module _ (config : Configuration) (scripts : List (List Line)) (lines : List Inp
         frames = [];
         drawn_too = sym (append-nil d.shots);
         are =
-            subst (λ (es : List Entry). ShotsBehind IsPicture before es []) (sym (none_left journal is)) refl;
+            rw (none_left journal is) refl;
       }
   all_left (m ∷ left) front taken before journal d parts h legal is =
       let b = behind d.state taken m.doing journal (actions_of_turns left) legal is in
       let next = after' d m in
       let parts' : rounds scripts lines ≡ (front ++ m ∷ []) ++ left = parts ∙ sym (append_assoc front (m ∷ []) left) in
-      let counted : shots (before ++ b.put) ≡ b.now = shots_both before b.put
-      ∙ ap (λ (n : ℕ). n + shots b.put) h.entries_shot ∙ sym b.counts in
+      let counted : shots (before ++ b.put) ≡ b.now = rw (shots_both before b.put, h.entries_shot, ← b.counts) in
       elim (cases_Bool (shoots m.doing)) [
         | inl is_shot ↦
             let t = taken_by config m.doing taken b.put is_shot b.puts in
             let one : shots b.put ≡ 1 = ap shots t.itself in
-            let now : b.now ≡ taken + 1 = b.counts ∙ ap (λ (n : ℕ). taken + n) one in
+            let now : b.now ≡ taken + 1 = rw (b.counts, one) in
             let more = all_left left (front ++ m ∷ []) b.now (before ++ b.put) b.rest next parts'
             (record {
               drawn_is = drawn_more front m d h.drawn_is;
-              lines_shot = shots_in_more front m ∙ ap (λ (x : Bool). shots_in front + cond x 1 0) is_shot
-                  ∙ ap (λ (n : ℕ). n + 1) h.lines_shot ∙ sym now;
-              pictures = ap length (t.more d) ∙ length_push d.shots (drawn_shot config d)
-                  ∙ ap (λ (n : ℕ). n + 1) h.pictures ∙ sym now;
+              lines_shot = rw (shots_in_more front m, is_shot, h.lines_shot, ← now);
+              pictures = rw (t.more d, length_push d.shots (drawn_shot config d), h.pictures, ← now);
               entries_shot = counted;
               state_is = state_more before b.put d.state next.state h.state_is b.leads;
             })
             b.legal b.acts_left in
             let files : List File = map shot_file more.frames in
             let named : shot_name (length d.shots + 1) ≡ shot_name (taken + 1) =
-            ap (λ (n : ℕ). shot_name (n + 1)) h.pictures in
+            rw h.pictures in
             let here : ShotsBehind IsPicture before (entry.Shot (taken + 1) ∷ b.rest)
             (shot_file (drawn_shot config d) ∷ files) = (
               picture_of config d.state d.word,
@@ -189,8 +180,7 @@ module _ (config : Configuration) (scripts : List (List Line)) (lines : List Inp
             ) in
             record {
               frames = drawn_shot config d ∷ more.frames;
-              drawn_too = more.drawn_too ∙ ap (λ (fs : List ShotFrame). fs ++ more.frames) (t.more d)
-                  ∙ append_assoc d.shots (drawn_shot config d ∷ []) more.frames;
+              drawn_too = cc (more.drawn_too, t.more d, append_assoc d.shots (drawn_shot config d ∷ []) more.frames);
               are = subst (λ (es : List Entry). ShotsBehind IsPicture before es
                   (shot_file (drawn_shot config d) ∷ files))
                   (sym (b.parts ∙ ap (λ (es : List Entry). es ++ b.rest) t.itself)) here;
@@ -204,16 +194,16 @@ module _ (config : Configuration) (scripts : List (List Line)) (lines : List Inp
               drawn_is = drawn_more front m d h.drawn_is;
               lines_shot = shots_in_more front m ∙ ap (λ (x : Bool). shots_in front + cond x 1 0) other
                   ∙ (let e : shots_in front + 0 ≡ shots_in front = omega arith in e) ∙ h.lines_shot ∙ sym now;
-              pictures = ap length (p.same d) ∙ h.pictures ∙ sym now;
+              pictures = cc (p.same d, h.pictures, now);
               entries_shot = counted;
               state_is = state_more before b.put d.state next.state h.state_is b.leads;
             })
             b.legal b.acts_left in
             record {
               frames = more.frames;
-              drawn_too = more.drawn_too ∙ ap (λ (fs : List ShotFrame). fs ++ more.frames) (p.same d);
-              are = subst (λ (es : List Entry). ShotsBehind IsPicture before es (map shot_file more.frames))
-                  (sym b.parts) (no_file IsPicture before b.put b.rest (map shot_file more.frames) p.none more.are);
+              drawn_too = cc (more.drawn_too, p.same d);
+              are = rw (← b.parts) at (no_file IsPicture before b.put b.rest (map shot_file more.frames) p.none
+                  more.are);
             }
       ]
 
@@ -235,7 +225,7 @@ module _ (config : Configuration) (scripts : List (List Line)) (lines : List Inp
       let r = all_left (rounds scripts lines) [] 0 [] journal (opening_drawing config) refl
       (record { drawn_is = refl; lines_shot = refl; pictures = refl; entries_shot = refl; state_is = refl }) legal
       is in
-      subst (λ (fs : List ShotFrame). ShotsBehind IsPicture [] journal (map shot_file fs)) (sym r.drawn_too) r.are
+      rw (← r.drawn_too) at r.are
 
   pub shots_drawn : (journal : List Entry) → IsLegal config journal → AreRoundsOf journal scripts lines
       → AreShotsOf IsPicture (journal ++ entry.Final ∷ []) (shots_of config scripts lines)
@@ -262,4 +252,4 @@ module _ (config : Configuration) (scripts : List (List Line)) (lines : List Inp
       let file = file_of_a_shot (IsDrawnPicture config scripts lines) [] front rest number
       (shots_of config scripts lines)
       (drawn_along config scripts lines (front ++ entry.Shot number ∷ rest) legal is) in
-      file.1 ∙ ap (λ (bytes : List ℕ). Some (shot_name number, bytes)) file.2
+      rw (file.1, file.2)

@@ -1,5 +1,5 @@
 -- The shots of a journal that grows at its end.
-use Rattle.std.proofs.Common.{List, [], add-zero, ap, arith, refl, sym, zero-add, ℕ, ◌++◌, ◌+◌, ◌∙◌}
+use Rattle.std.proofs.Common.{List, [], add-zero, ap, arith, refl, sym, zero-add, ℕ, ◌++◌, ◌+◌}
 use Rattle.std.proofs.Common.{◌∷◌, ◌≡◌}
 use Rattle.nit_rounds.proofs.Basics.{Device, Entry, IsRecorded, IsUserRecorded, Line, shots}
 use Rattle.nit_events.specs.declared.entry.Entry.TheVariants as entry
@@ -17,8 +17,7 @@ shots_both (entry.Shot k ∷ front) back = let more = shots_both front back in o
 
 none_more : (before after' : List Entry) (e : Entry) → shots (e ∷ []) ≡ 0 → after' ≡ before ++ e ∷ []
     → shots after' ≡ shots before
-none_more before after' e none recorded = ap shots recorded ∙ shots_both before (e ∷ [])
-    ∙ ap (λ (n : ℕ). shots before + n) none ∙ add-zero (shots before)
+none_more before after' e none recorded = rw (recorded, shots_both before (e ∷ []), none, add-zero (shots before))
 
 -- a client's line is no shot
 pub line_shots : (sid : ℕ) (l : Line) (before after' : List Entry) → IsRecorded sid l before after'
@@ -35,4 +34,4 @@ device_shots before after' dev recorded = none_more before after' (entry.Input d
 
 pub shot_counted : (before after' : List Entry) (number : ℕ) → after' ≡ before ++ entry.Shot number ∷ []
     → shots after' ≡ shots before + 1
-shot_counted before after' number recorded = ap shots recorded ∙ shots_both before (entry.Shot number ∷ [])
+shot_counted before after' number recorded = rw (recorded, shots_both before (entry.Shot number ∷ []))

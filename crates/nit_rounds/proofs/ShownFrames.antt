@@ -1,11 +1,11 @@
 -- Frames that are shown one after the other, and what they are to a desk.
-use Rattle.std.proofs.Common.{List, [], ap, map, refl, subst, ◌++◌, ◌∙◌, ◌∷◌, ◌≡◌}
+use Rattle.std.proofs.Common.{List, [], ap, map, refl, ◌++◌, ◌∙◌, ◌∷◌, ◌≡◌}
 use Rattle.nit_rounds.proofs.Basics.{PutState, PutsAll, PutsNext, ShotFrame, ShowsEach, shot_file}
 
 -- one frame more
 pub shows_more : {V : Type 0} (Shows : ShotFrame → V → V → Type 0) (front : List ShotFrame) (f : ShotFrame)
     (old mid new : V) → ShowsEach Shows front old mid → Shows f mid new → ShowsEach Shows (front ++ f ∷ []) old new
-shows_more {V = V} Shows [] f old mid new same more = (new, subst (λ (x : V). Shows f x new) same more, refl)
+shows_more {V = V} Shows [] f old mid new same more = (new, rw same at more, refl)
 shows_more Shows (g ∷ front) f old mid new (next, first, rest) more =
     (next, first, shows_more Shows front f next mid new rest more)
 

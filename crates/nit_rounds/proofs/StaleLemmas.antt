@@ -4,12 +4,12 @@ use Rattle.nit_rounds.proofs.Basics.{IsDonation, Line, List, None, Option, Scene
 use Rattle.nit_rounds.proofs.Basics.{Stale, Step, ap, cases_lt, cond, ext_get_or, false}
 use Rattle.nit_rounds.proofs.Basics.{Colours}
 use Rattle.nit_rounds.proofs.Basics.{get_or-set_same, get_or_past, glass_after, glass_in, ink}
-use Rattle.nit_rounds.proofs.Basics.{inked_sight, inl, inr, is_in_area, is_number_in, is_set_by}
+use Rattle.nit_rounds.proofs.Basics.{inl, inr, is_in_area, is_number_in, is_set_by}
 use Rattle.nit_rounds.proofs.Basics.{is_stale, length, length-set, no_sight, or_parts, refl}
 use Rattle.nit_rounds.proofs.Basics.{same_Some, set, set-set, set_long, set_where, slice_get}
-use Rattle.nit_rounds.proofs.Basics.{slice_index, static, step_of, subst, told_at, told_words}
+use Rattle.nit_rounds.proofs.Basics.{FitsInto, slice_index, static, step_of, subst, told_at}
 use Rattle.nit_rounds.proofs.Basics.{with_words, word_at, words_after}
-use Rattle.std.proofs.Common.{sym, true, ℕ, ◌%◌, ◌+◌, ◌/◌, ◌<◌, ◌||◌, ◌∙◌, ◌≡◌, ◌≤◌}
+use Rattle.std.proofs.Common.{IfSome, sym, true, ℕ, ◌%◌, ◌+◌, ◌/◌, ◌<◌, ◌||◌, ◌∙◌, ◌≡◌}
 use Rattle.nit_rounds.proofs.Copies.{with_glass_of}
 use Rattle.nit_rounds.proofs.LineOnGlass.{AreLong, StayElsewhere}
 
@@ -58,7 +58,7 @@ but_none there own words same told =
     record {
       old = words;
       now = words;
-      is = same ∙ ap (λ (ws : Option (List ℕ)). record own { words = ws }) told;
+      is = rw (same, told);
       told = told;
       long = refl;
       same = λ n _. refl;
@@ -66,22 +66,19 @@ but_none there own words same told =
 
 pub same_by_none : (there own : Sight) → IsButFor (λ n. false) there own → there ≡ own
 same_by_none there own b =
-    b.is ∙ ap (λ (ws : List ℕ). record own { words = Some ws })
-    (ext_get_or 0 b.old b.now (sym b.long) (λ k inside. sym (b.same k refl)))
-    ∙ ap (λ (ws : Option (List ℕ)). record own { words = ws }) (sym b.told)
+    rw (b.is, ext_get_or 0 b.old b.now (sym b.long) (λ k inside. sym (b.same k refl)), ← b.told)
 
 -- ---- copies
 
 -- what is told of a glass
 tells : (own : Sight) (words : List ℕ) → own.words ≡ Some words → told_at own ≡ slice_index words
-tells own words told = ap (λ (ws : Option (List ℕ)). slice_index (told_words ws)) told
+tells own words told = rw told
 
 copied_words : (p : ℕ → Bool) (there own : Sight) (old now : List ℕ) → there ≡ record own { words = Some old }
     → own.words ≡ Some now
     → with_words (set_where p (told_at own)) there ≡ record own { words = Some (set_where p (slice_index now) old) }
 copied_words p there own old now is told =
-    ap (λ (g : Sight). with_words (set_where p (told_at own)) g) is
-    ∙ ap (λ (c : ℕ → ℕ). record own { words = Some (set_where p c old) }) (tells own now told)
+    cc (is, tells own now told)
 
 word_copied : (p : ℕ → Bool) (now old : List ℕ) (n : ℕ) → length now ≡ length old
     → (p n ≡ false → slice_index now n ≡ slice_index old n)
@@ -90,9 +87,9 @@ word_copied p now old n long same =
     elim (cases_lt n (length old)) [
       | inl inside ↦ go (p n) refl ∙ sym (word_at p (slice_index now) old n inside)
       | inr past ↦
-          get_or_past now n 0 (subst (λ (m : ℕ). m ≤ n) (sym long) past)
+          get_or_past now n 0 (rw (← long) at past)
           ∙ sym (get_or_past (set_where p (slice_index now) old) n 0
-          (subst (λ (m : ℕ). m ≤ n) (sym (set_long p (slice_index now) old)) past))
+          (rw (← set_long p (slice_index now) old) at past))
     ]
   where
     go : (b : Bool) → p n ≡ b → slice_index now n ≡ cond (p n) (slice_index now n) (slice_index old n)
@@ -132,8 +129,14 @@ copied_all p there own b =
 pub as_but : (t : ℕ) (script : List Line) (donation k : ℕ) (stale : Option Stale) (there own : Sight)
     → own ≡ glass_after t script donation k → IsBehind stale t there own → IsButFor (is_stale stale) there own
 as_but t script donation k None there own is behind =
-    but_none there own (words_after script donation k) behind (ap (λ (g : Sight). g.words) is)
+    but_none there own (words_after script donation k) behind (rw is)
 as_but t script donation k (Some a) there own is behind = behind.but
+
+-- what is stale fits into a glass of the same size
+pub still_fits : (stale : Option Stale) (sid : ℕ) (there own : Sight) (size : ℕ) → own.size ≡ size
+    → IsBehind stale sid there own → IfSome stale (FitsInto size)
+still_fits None sid there own size same behind = tt
+still_fits (Some a) sid there own size same behind = subst (λ (n : ℕ). FitsInto n a) same behind.fits
 
 sized : ℕ → List Line → List ℕ → ℕ → Sight
 sized t script words size =
@@ -146,11 +149,10 @@ pub nothing_drawn : AreLong → StayElsewhere → (t : ℕ) (script : List Line)
     → glass_after t script donation k ≡ glass_after t script donation (k + 1)
 nothing_drawn long stay t script donation k l opens here none =
     let step = step_of (static script donation k) (static script donation (k + 1)) l in
-    let as_long : length (words_after script donation k) ≡ length (words_after script donation (k + 1)) =
+    let as_long =
     long script donation k opens.1 ∙ sym (long script donation (k + 1) opens.1) in
-    ap (λ (ws : List ℕ). inked_sight t ws (ink script))
-    (ext_get_or 0 (words_after script donation k) (words_after script donation (k + 1)) as_long
-    (λ n inside. sym (stay script donation k n l here (none step (n % step.w) (n / step.w)))))
+    rw (ext_get_or 0 (words_after script donation k) (words_after script donation (k + 1)) as_long (λ n inside. sym
+    (stay script donation k n l here (none step (n % step.w) (n / step.w)))))
 
 -- what a line sets is stale too
 pub drawn_but : AreLong → StayElsewhere
@@ -164,12 +166,9 @@ drawn_but long stay t script donation k l step area p there own own' opens here 
     record {
       old = b.old;
       now = new;
-      is = b.is ∙ ap (λ (g : Sight). record g { words = Some b.old }) was
-          ∙ ap (λ (n : ℕ). record (glass_after t script donation (k + 1)) { words = Some b.old; size = n })
-          (sym as_long)
-          ∙ sym (ap (λ (g : Sight). record g { words = Some b.old }) now);
-      told = ap (λ (g : Sight). g.words) now;
-      long = as_long ∙ ap length before ∙ b.long;
+      is = cc (b.is, was, as_long, now);
+      told = rw now;
+      long = rw (as_long, before, b.long);
       same = same;
     }
   where
@@ -183,15 +182,14 @@ drawn_but long stay t script donation k l step area p there own own' opens here 
     as_long = long script donation (k + 1) opens.1 ∙ sym (long script donation k opens.1)
 
     before : old ≡ b.now
-    before = same_Some _ _ (sym (ap (λ (g : Sight). g.words) was) ∙ b.told)
+    before = same_Some _ _ (cc (was, b.told))
 
     same : (n : ℕ) → (p n || is_number_in step.w area n) ≡ false → slice_index new n ≡ slice_index b.old n
     same n not =
         let neither = or_parts (p n) (is_number_in step.w area n) not in
         let outside : is_set_by l step (n % step.w) (n / step.w) ≡ false = sym (set (n % step.w) (n / step.w))
         ∙ neither.1 in
-        stay script donation k n l here (subst (λ (st : Step). is_set_by l st (n % st.w) (n / st.w) ≡ false) is outside)
-        ∙ ap (λ (ws : List ℕ). slice_index ws n) before ∙ b.same n neither.0
+        rw (stay script donation k n l here (rw is at outside), before, b.same n neither.0)
 
 -- ---- the scene's glasses
 
@@ -203,19 +201,14 @@ pub settles : (s s' : SceneModel Sight) (owns : List Sight) (a : Stale) (own : S
     → s' ≡ record s { glasses = owns }
 settles s s' owns a own is behind copied =
     let there = glass_in s.glasses a.sid in
-    copied ∙ ap (λ (g : Sight). with_glass_of s a.sid
-    (with_words (set_where (is_number_in a.w a.area) (told_at g)) there)) is
-    ∙ ap (λ (g : Sight). with_glass_of s a.sid g)
-    (copied_all (is_stale (Some a)) there (glass_in owns a.sid) behind.2.but)
-    ∙ ap (λ (gs : List Sight). record s { glasses = gs }) behind.1
+    rw (copied, is, copied_all (is_stale (Some a)) there (glass_in owns a.sid) behind.2.but, behind.1)
 
 -- the glasses after a turn of a session, with its own one
 pub all_own : (glasses glasses' owns owns' : List Sight) (sid : ℕ) (there own : Sight)
     → set glasses sid (glass_in owns sid) ≡ owns → glasses' ≡ set glasses sid there → owns' ≡ set owns sid own
     → set glasses' sid own ≡ owns'
 all_own glasses glasses' owns owns' sid there own others gs os =
-    ap (λ (xs : List Sight). set xs sid own) gs ∙ set-set glasses sid there own
-    ∙ sym (set-set glasses sid (glass_in owns sid) own) ∙ ap (λ (xs : List Sight). set xs sid own) others ∙ sym os
+    rw (gs, set-set glasses sid there own, ← set-set glasses sid (glass_in owns sid) own, others, ← os)
 
 -- what is stale after a turn of a session is of it
 pub behind_again : (stale : Option Stale) (glasses glasses' owns owns' : List Sight) (sid : ℕ) (there own : Sight)
@@ -223,25 +216,23 @@ pub behind_again : (stale : Option Stale) (glasses glasses' owns owns' : List Si
     → set glasses sid (glass_in owns sid) ≡ owns → glasses' ≡ set glasses sid there → owns' ≡ set owns sid own
     → IsBehind stale sid there own → AreBehind stale glasses' owns'
 behind_again None glasses glasses' owns owns' sid there own inside others gs os b =
-    gs ∙ ap (λ (g : Sight). set glasses sid g) b ∙ sym (set-set glasses sid (glass_in owns sid) own)
-    ∙ ap (λ (xs : List Sight). set xs sid own) others ∙ sym os
+    rw (gs, b, ← set-set glasses sid (glass_in owns sid) own, others, ← os)
 behind_again (Some a) glasses glasses' owns owns' sid there own inside others gs os b =
     subst (λ (t : ℕ). (t < length owns') × (set glasses' t (glass_in owns' t) ≡ owns')
     × IsBehindBy a t (glass_in glasses' t) (glass_in owns' t)) (sym b.of)
-    (subst (λ (n : ℕ). sid < n) (sym (ap length os ∙ length-set owns sid own)) inside, all, now)
+    (rw (← (ap length os ∙ length-set owns sid own)) at inside, all, now)
   where
     in_glasses : sid < length glasses
-    in_glasses = subst (λ (n : ℕ). sid < n) (sym (ap length others) ∙ length-set glasses sid (glass_in owns sid)) inside
+    in_glasses = rw (sym (ap length others) ∙ length-set glasses sid (glass_in owns sid)) at inside
 
     there_is : glass_in glasses' sid ≡ there
-    there_is = ap (λ (xs : List Sight). glass_in xs sid) gs ∙ get_or-set_same glasses sid there no_sight in_glasses
+    there_is = rw (gs, get_or-set_same glasses sid there no_sight in_glasses)
 
     own_is : glass_in owns' sid ≡ own
-    own_is = ap (λ (xs : List Sight). glass_in xs sid) os ∙ get_or-set_same owns sid own no_sight inside
+    own_is = rw (os, get_or-set_same owns sid own no_sight inside)
 
     now : IsBehindBy a sid (glass_in glasses' sid) (glass_in owns' sid)
-    now = subst (λ (g : Sight). IsBehindBy a sid g (glass_in owns' sid)) (sym there_is)
-        (subst (λ (g : Sight). IsBehindBy a sid there g) (sym own_is) b)
+    now = rw (← there_is) at (rw (← own_is) at b)
 
     all : set glasses' sid (glass_in owns' sid) ≡ owns'
-    all = ap (λ (g : Sight). set glasses' sid g) own_is ∙ all_own glasses glasses' owns owns' sid there own others gs os
+    all = rw (own_is, all_own glasses glasses' owns owns' sid there own others gs os)

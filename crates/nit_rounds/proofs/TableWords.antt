@@ -1,11 +1,11 @@
 -- Words by the tables of the sessions.
 use Rattle.nit_rounds.proofs.Basics.{Bare, Black, Configuration, IsLoaded, no_ink}
-use Rattle.nit_rounds.proofs.Basics.{IsWordOfSource, Line, List, PixelSource, Sight, Word, [], ap}
+use Rattle.nit_rounds.proofs.Basics.{IsWordOfSource, Line, List, PixelSource, Sight, Word, []}
 use Rattle.nit_rounds.proofs.Basics.{cases_lt, donation_of, get_or_past}
 use Rattle.nit_rounds.proofs.Basics.{glass_after, glass_in, inl, inr, length, no_sight, script_in}
 use Rattle.nit_rounds.proofs.Basics.{slice_index, table_size, tables_after, word_from, words_after}
 use Rattle.nit_rounds.proofs.Basics.{zero_at, zeros}
-use Rattle.std.proofs.Common.{refl, subst, suc, sym, true, zero, ℕ, ◌<◌, ◌==◌, ◌||◌, ◌∙◌, ◌≡◌, ◌≤◌}
+use Rattle.std.proofs.Common.{refl, suc, true, zero, ℕ, ◌<◌, ◌==◌, ◌||◌, ◌≡◌}
 
 -- ---- words
 
@@ -31,14 +31,16 @@ pub tables_told : (config : Configuration) (scripts : List (List Line)) (owns : 
     → AreOf (glass_in owns) (tables_after config scripts done)
 tables_told config scripts owns done each tell t i w loaded =
     elim (cases_lt t (length scripts)) [
-      | inl inside ↦ (subst (λ (g : Sight). IsLoaded g i w) (tell t inside) loaded).told
+      | inl inside ↦ (rw (tell t inside) at loaded).told
       | inr past ↦
           let none : glass_in owns t ≡ no_sight =
-          get_or_past owns t no_sight (subst (λ (n : ℕ). n ≤ t) (sym each) past) in
+          get_or_past owns t no_sight (rw (← each) at past) in
           let script : script_in scripts t ≡ [] = get_or_past scripts t [] past in
-          no_ink i w (subst (λ (g : Sight). IsLoaded g i w) none loaded).inked
-          ∙ sym (zero_at (table_size (donation_of config t)) i)
-          ∙ sym (ap (λ (ws : List ℕ). slice_index ws i)
-          (ap (λ (ls : List Line). words_after ls (donation_of config t) (done t)) script
-          ∙ no_lines (donation_of config t) (done t)))
+          cc (
+            no_ink i w (rw none at loaded).inked,
+            zero_at (table_size (donation_of config t)) i,
+            no_lines
+                (donation_of config t) (done t),
+            script,
+          )
     ]

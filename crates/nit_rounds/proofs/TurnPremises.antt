@@ -1,5 +1,5 @@
 -- What a turn finds: all that the line of its actor asks for.
-use Rattle.nit_rounds.proofs.Basics.{Action, ActorLine, Acts, All-get_or, AllByRecursion, ByClient}
+use Rattle.nit_rounds.proofs.Basics.{Action, Acts, All-get_or, AllByRecursion}
 use Rattle.nit_rounds.proofs.Basics.{ByUser, Call, Calls, CanDoUserLine, Configuration, Does, Entry}
 use Rattle.nit_rounds.proofs.Basics.{FitsInputLine, InputLine}
 use Rattle.nit_rounds.proofs.Basics.{IsConfiguration, IsDonation, IsMember, IsMoved, IsPlanOf}
@@ -10,7 +10,7 @@ use Rattle.nit_rounds.proofs.Basics.{drop, get_or, get_or_default, get_or_from_s
 use Rattle.nit_rounds.proofs.Basics.{glass_after, glass_in, length, option_map, plan_in, rounds}
 use Rattle.nit_rounds.proofs.Basics.{script_in, settled, slice_get_within, state_now, takes_place}
 use Rattle.nit_rounds.proofs.Basics.{turn_of}
-use Rattle.std.proofs.Common.{slice_get, length-set, refl, set, subst, suc, sym, true, zero, ℕ, ◌<◌}
+use Rattle.std.proofs.Common.{slice_get, length-set, refl, set, suc, sym, true, zero, ℕ, ◌<◌}
 use Rattle.std.proofs.Common.{◌∙◌, ◌∷◌, ◌≡◌, ◌≤◌}
 use Rattle.nit_script.specs.declared.line.Line.TheVariants as line
 use Rattle.nit_script.specs.declared.line.InputLine.TheVariants as input
@@ -54,14 +54,14 @@ clients_turn tells done scripts lines plans before now owns m left sid number pl
     record {
       in_owns = in_owns;
       in_scripts = move.inside;
-      in_plans = subst (λ (n : ℕ). sid < n) (sym planned.plans_each) move.inside;
+      in_plans = rw (← planned.plans_each) at move.inside;
       session = session;
-      glasses = subst (λ (gs : List Sight). sid < length gs) (sym w.same) in_owns;
+      glasses = rw (← w.same) at in_owns;
       here = slice_get_within (script_in scripts sid) number move.l move.here;
       donation = member_donates now.config sid planned.configured session;
       plan = planned.planned sid move.inside;
       own = own_glass scripts lines before now owns m left sid number w move;
-      same = ap (λ (gs : List Sight). glass_in gs sid) w.same;
+      same = rw w.same;
       spare = λ call found. room_for scripts lines before now owns m left (Calls sid call) w (one call found) room;
     }
   where
@@ -69,18 +69,19 @@ clients_turn tells done scripts lines plans before now owns m left sid number pl
     move = clients_move tells done scripts lines before now owns m left sid number w is
 
     in_owns : sid < length owns
-    in_owns = subst (λ (n : ℕ). sid < n) (sym w.owns_each) move.inside
+    in_owns = rw (← w.owns_each) at move.inside
 
     session : sid < length now.config.clients
-    session = subst (λ (n : ℕ). sid < n) planned.sessions move.inside
+    session = rw planned.sessions at move.inside
 
     one : (call : Call) → slice_get (script_in scripts sid) number ≡ Some (line.Call call)
         → actions_of_line m.doing ≡ Calls sid call ∷ []
     one call found =
         let l : move.l ≡ line.Call call = same_some move.l (line.Call call) (sym move.here ∙ found) in
-        ap (λ (d : ActorLine). actions_of_line d) (move.doing ∙ ap (λ (x : Line). ByClient sid x) l)
+        rw (move.doing, l)
 
--- the same once what is stale of others was copied: the scene's glasses are the own ones, but for that of the session
+-- all that a client's line asks for, once what is stale of others was copied: the scene's glasses are the own ones,
+-- but for that of the session
 pub settled_turn : ClientTells → ClientDone
     → (scripts : List (List Line)) (lines : List InputLine) (plans : List PlanModel) (before s s' : SceneModel Sight)
     (owns : List Sight) (m : LineTurn) (left : List LineTurn) (sid number : ℕ)
@@ -90,16 +91,14 @@ pub settled_turn : ClientTells → ClientDone
     → MayDoLine scripts plans (settled s' owns) owns sid number
 settled_turn tells done scripts lines plans before s s' owns m left sid number planned w same is room =
     clients_turn tells done scripts lines plans before (settled s' owns) owns m left sid number
-    (subst (λ (c : Configuration). IsPlanned c scripts plans) (sym (ap (λ (p : SceneModel Sight). p.config) same))
-    planned)
-    (subst (λ (p : SceneModel Sight). IsUnderWay scripts lines before p owns (m ∷ left))
-    (sym (ap (λ (p : SceneModel Sight). settled p owns) same)) w) is room
+    (rw (← ap (λ (p : SceneModel Sight). p.config) same) at planned)
+    (rw (← ap (λ (p : SceneModel Sight). settled p owns) same) at w) is room
 
 -- the scene has a glass for each own one
 pub as_many : (glasses owns : List Sight) (sid : ℕ) (g : Sight) → set glasses sid g ≡ owns → sid < length owns
     → sid < length glasses
 as_many glasses owns sid g others inside =
-    subst (λ (n : ℕ). sid < n) (sym (ap length others) ∙ length-set glasses sid g) inside
+    rw (sym (ap length others) ∙ length-set glasses sid g) at inside
 
 -- what was loaded by equal glasses
 pub moved_settled : (e : State → Option Entry) (mid new : SceneModel Sight) (owns glasses owns' : List Sight)
@@ -107,14 +106,13 @@ pub moved_settled : (e : State → Option Entry) (mid new : SceneModel Sight) (o
     → IsMoved (e (state_now (settled mid owns))) (settled mid owns) (settled new owns')
 moved_settled e mid new owns glasses owns' same moved =
     let m : IsMoved (e (state_now mid)) mid (settled new owns') =
-    subst (λ (gs : List Sight). IsMoved (e (state_now mid)) mid (record new { glasses = gs })) same moved in
+    rw same at moved in
     record { state = m.state; words = m.words }
 
 -- what is read from an equal list, under any default
 pub read_same : {X : Type 0} → (xs ys : List X) (k : ℕ) (d : X) → ys ≡ xs → k < length xs
     → get_or ys k d ≡ get_or xs k (get_or ys k d)
-read_same {X = X} xs ys k d same inside = ap (λ (zs : List X). get_or zs k d) same
-    ∙ get_or_default xs k d (get_or ys k d) inside
+read_same {X = X} xs ys k d same inside = cc (same, get_or_default xs k d (get_or ys k d) inside)
 
 -- what stands in a list at a place is what was found there
 pub found_here : {X : Type 0} → (xs : List X) (k : ℕ) (x y : X) → slice_get xs k ≡ Some x → y ≡ get_or xs k y → x ≡ y
@@ -155,14 +153,13 @@ users_turn tells done scripts lines before s s' owns m left number way same is r
         spare = λ takes.
             let (a, one) = one_act l takes in
             room_for scripts lines before s' owns m left a w
-            (ap (λ (d : ActorLine). actions_of_line d) (move.doing
-            ∙ ap ByUser (found_here lines number move.l l move.here got)) ∙ one) room;
+            (rw (move.doing, found_here lines number move.l l move.here got, one)) room;
         unended = w.unended;
       };
     }
   where
     w : IsUnderWay scripts lines before s' owns (m ∷ left)
-    w = subst (λ (p : SceneModel Sight). IsUnderWay scripts lines before p owns (m ∷ left)) (sym same) way
+    w = rw (← same) at way
 
     move : IsUsersMove lines m number
     move = users_move tells done scripts lines before s' owns m left number w is

@@ -2,7 +2,7 @@
 use Rattle.nit_rounds.proofs.Basics.{ActorLine, Acts, AreRoundsOf, Bool, ByClient, ByUser, Call}
 use Rattle.nit_rounds.proofs.Basics.{Calls, Does, Entry, InputLine, IsNonDecreasing, IsWhole, Line}
 use Rattle.nit_rounds.proofs.Basics.{LineTurn, List, Shoots, UserAction, [], action_of}
-use Rattle.nit_rounds.proofs.Basics.{actions_of_turns, actors, ap, ap₂, calls_from, calls_of}
+use Rattle.nit_rounds.proofs.Basics.{actions_of_turns, actors, ap, calls_from, calls_of}
 use Rattle.nit_rounds.proofs.Basics.{calls_to_make, cases_eq, cases_lt, done, eq-eqb, false}
 use Rattle.nit_rounds.proofs.Basics.{flat_map, get_or, get_or-set_other, get_or-set_same}
 use Rattle.nit_rounds.proofs.Basics.{get_or_past, inl, inr, left, length, map, ne_eqb, next_phase}
@@ -39,16 +39,15 @@ script_calls : (s p n : ℕ) (ls : List Line) → flat_map (calls_in s) (turns_f
     ≡ calls_from p ls
 script_calls s p n [] = refl
 script_calls s p n (line.Call c ∷ ls) =
-    rw (eq-eqb s s refl) (ap (λ (t : List (ℕ × Call)). (p, c) ∷ t) (script_calls s p (suc n) ls))
+    rw (eq-eqb s s refl) (rw (script_calls s p (suc n) ls))
 script_calls s p n (line.Stroke x ∷ ls) = script_calls s p (suc n) ls
 script_calls s p n (line.Phase ∷ ls) = script_calls s (suc p) (suc n) ls
 
 script_actions : (p n : ℕ) (ls : List InputLine) → flat_map actions_in (turns_from p n (map ByUser ls))
     ≡ user_actions_from p ls
 script_actions p n [] = refl
-script_actions p n (input.Device d ∷ ls) = ap (λ (t : List (ℕ × UserAction)). (p, Does d) ∷ t)
-    (script_actions p (suc n) ls)
-script_actions p n (input.Shot ∷ ls) = ap (λ (t : List (ℕ × UserAction)). (p, Shoots) ∷ t) (script_actions p (suc n) ls)
+script_actions p n (input.Device d ∷ ls) = rw (script_actions p (suc n) ls)
+script_actions p n (input.Shot ∷ ls) = rw (script_actions p (suc n) ls)
 script_actions p n (input.Phase ∷ ls) = script_actions (suc p) (suc n) ls
 
 other_call : (s p t : ℕ) (l : Line) → (t ≡ s → ⊥) → call_in s p (ByClient t l) ≡ []
@@ -92,8 +91,7 @@ is_call : (s : ℕ) (c : Call) (j : Entry) → action_of j ≡ Calls s c → IsC
 is_call s c (entry.Call t call r) e =
     let same : t ≡ s = cc in
     let made : call ≡ c = cc in
-    subst (λ (x : ℕ). IsCall x c (entry.Call t call r)) same
-    (subst (λ (x : Call). IsCall t x (entry.Call t call r)) made
+    rw (← same) (subst (λ (x : Call). IsCall t x (entry.Call t call r)) made
     (record { phases = λ clients user rest. refl; calls = λ x rest. refl; actions = λ rest. refl }))
 is_call s c (entry.Input dev routed) e = absurd (cc)
 is_call s c (entry.Shot number) e = absurd (cc)
@@ -109,12 +107,10 @@ record IsAction (d : UserAction) (j : Entry) : Type 0 where
 is_action : (d : UserAction) (j : Entry) → action_of j ≡ Acts d → IsAction d j
 is_action d (entry.Input dev routed) e =
     let same : Does dev ≡ d = cc in
-    subst (λ (x : UserAction). IsAction x (entry.Input dev routed)) same
-    (record { phases = λ clients user rest. refl; calls = λ x rest. refl; actions = λ rest. refl })
+    rw (← same) (record { phases = λ clients user rest. refl; calls = λ x rest. refl; actions = λ rest. refl })
 is_action d (entry.Shot number) e =
     let same : Shoots ≡ d = cc in
-    subst (λ (x : UserAction). IsAction x (entry.Shot number)) same
-    (record { phases = λ clients user rest. refl; calls = λ x rest. refl; actions = λ rest. refl })
+    rw (← same) (record { phases = λ clients user rest. refl; calls = λ x rest. refl; actions = λ rest. refl })
 is_action d (entry.Call t call r) e = absurd (cc)
 is_action d entry.Final e = absurd (cc)
 
@@ -144,7 +140,7 @@ not_both x xs e = cc
 
 one_call : (b : Bool) (p : ℕ) (c : Call) (xs : List Call) (ys : List (ℕ × Call)) → xs ≡ done ys
     → (if b then c ∷ xs else xs) ≡ done ((if b then (p, c) ∷ [] else []) ++ ys)
-one_call true p c xs ys e = ap (λ (t : List Call). c ∷ t) e
+one_call true p c xs ys e = rw e
 one_call false p c xs ys e = e
 
 -- the call of a session is done, and what is left of the clients' calls
@@ -156,8 +152,7 @@ call_left clients s p c ms calls x =
     elim (cases_lt s (length clients)) [
       | inr past ↦ absurd (not_both (p, c) (flat_map (calls_in s) ms) (sym (get_or_past clients s [] past) ∙ here))
       | inl inside ↦ elim (cases_eq x s) [
-        | inl same ↦ subst (λ (y : ℕ). to_do (set clients s (left (to_do clients s))) y ≡ flat_map (calls_in y) ms)
-            (sym same) (get_or-set_same clients s (left (to_do clients s)) [] inside ∙ ap left here)
+        | inl same ↦ rw same (rw (get_or-set_same clients s (left (to_do clients s)) [] inside, here))
         | inr other ↦ get_or-set_other clients s x (left (to_do clients s)) [] other
             ∙ (rw (ne_eqb s x (λ e. other (sym e))) at (calls x))
       ]
@@ -172,8 +167,7 @@ more_call : (s p n : ℕ) (c : Call) (ms : List LineTurn) (clients : List (List 
 more_call s p n c ms clients user j js is calls rest =
     let here : to_do clients s ≡ (p, c) ∷ flat_map (calls_in s) ms = rw (eq-eqb s s refl) at (calls s) in
     record {
-      phases = is.phases clients user (js ++ entry.Final ∷ [])
-          ∙ ap₂ (λ (x : ℕ) (xs : List ℕ). x ∷ xs) (ap next_phase here) rest.phases;
+      phases = cc (is.phases clients user (js ++ entry.Final ∷ []), here, rest.phases);
       calls = λ x. is.calls x (js ++ entry.Final ∷ [])
           ∙ one_call (s == x) p c (calls_of x (js ++ entry.Final ∷ [])) (flat_map (calls_in x) ms) (rest.calls x);
       actions = is.actions (js ++ entry.Final ∷ []) ∙ rest.actions;
@@ -187,12 +181,10 @@ more_action : (p n : ℕ) (d : UserAction) (of : InputLine) (ms : List LineTurn)
     Follows clients user (move p n (ByUser of) ∷ ms) (j ∷ js)
 more_action p n d of ms clients user j js is rest here phases made =
     record {
-      phases = is.phases clients user (js ++ entry.Final ∷ []) ∙ ap₂ (λ (x : ℕ) (xs : List ℕ). x ∷ xs) here rest.phases
-          ∙ sym phases;
+      phases = rw (is.phases clients user (js ++ entry.Final ∷ []), here, rest.phases, ← phases);
       calls = λ x. is.calls x (js ++ entry.Final ∷ []) ∙ rest.calls x
           ∙ ap (λ (t : List (ℕ × Call)). done (t ++ flat_map (calls_in x) ms)) (sym (no_call x p of));
-      actions = is.actions (js ++ entry.Final ∷ []) ∙ ap (λ (t : List UserAction). d ∷ t) rest.actions
-          ∙ ap (λ (t : List (ℕ × UserAction)). done (t ++ flat_map actions_in ms)) (sym made);
+      actions = cc (is.actions (js ++ entry.Final ∷ []), rest.actions, made);
     }
 
 -- what these moves do, a move more does in front
@@ -218,14 +210,14 @@ more p n (ByUser (input.Device d)) ms follow clients user (j ∷ js) ahead e =
     let tail : map action_of js ≡ actions_of_turns ms = cc in
     more_action p n (Does d) (input.Device d) ms clients user j js (is_action (Does d) j head)
     (follow clients (left user) js (record { calls = ahead.calls; actions = ap left ahead.actions }) tail)
-    (ap next_phase ahead.actions) refl refl
+    (rw ahead.actions) refl refl
 more p n (ByUser input.Shot) ms follow clients user [] ahead e = absurd (not_both (Acts Shoots) (actions_of_turns ms) e)
 more p n (ByUser input.Shot) ms follow clients user (j ∷ js) ahead e =
     let head : action_of j ≡ Acts Shoots = cc in
     let tail : map action_of js ≡ actions_of_turns ms = cc in
     more_action p n Shoots input.Shot ms clients user j js (is_action Shoots j head)
     (follow clients (left user) js (record { calls = ahead.calls; actions = ap left ahead.actions }) tail)
-    (ap next_phase ahead.actions) refl refl
+    (rw ahead.actions) refl refl
 more p n (ByUser input.Phase) ms follow clients user js ahead e =
     let f = follow clients user js (record { calls = ahead.calls; actions = ahead.actions }) e in
     record { phases = f.phases; calls = f.calls; actions = f.actions }
@@ -255,7 +247,7 @@ whole scripts input journal are =
     }) are in
     record {
       calls = λ s inside. done_as.calls s ∙ ap done (round_calls scripts input s ∙ sym (made_of scripts s));
-      actions = done_as.actions ∙ ap done (round_actions scripts input);
+      actions = rw (done_as.actions, round_actions scripts input);
       phases = subst IsNonDecreasing (sym done_as.phases)
           (never_falls 0 _ (rounds_rise (map turns_of (actors scripts input)) 0 (phase_count scripts input)));
       ends = (journal, refl);

@@ -8,7 +8,7 @@ pub record IsSameDesk {S : Type 0} (before after' : Desk S) : Type 0 where
   pub text : length after'.text.items ≡ length before.text.items
   pub same_store : after'.store.ghost_name ≡ before.store.ghost_name
 
--- the same, and the frame that it has copied
+-- the desk has its store, as much room as before, and the frame that it has copied
 pub record KeepsFrame {S : Type 0} (before after' : Desk S) : Type 0 where
   pub frame : after'.frame.items ≡ before.frame.items
   pub text : length after'.text.items ≡ length before.text.items

@@ -1,27 +1,16 @@
--- A client's line that is drawn on the own glass of its session, and a call by that glass.
-use Rattle.std.specs.Prelude.{◌≡◌, ℕ, ◌+◌, ◌<◌, ◌≤◌, length, Option, None}
-use Rattle.nit_rounds.specs.Below.{IsDonation, IsGlass, IsOpen, IsPlanOf, ClientPart, SceneModel}
+-- A client's line that is drawn on the own glass of its session.
+use Rattle.std.specs.Prelude.{◌≡◌, ℕ, ◌+◌, ◌<◌, length, Option}
+use Rattle.nit_rounds.specs.Below.{IsDonation, IsPlanOf, ClientPart, SceneModel}
 use Rattle.nit_rounds.specs.Below.{Sight}
 use Rattle.nit_rounds.specs.Below.{Stale}
 use Rattle.nit_rounds.specs.Below.{donation_of, glass_in}
 use Rattle.nit_rounds.specs.RoundsRun.{glass_after}
-use Rattle.nit_rounds.specs.RunState.{AreQuietBut}
 use Rattle.nit_rounds.specs.Stale.{IsBehind}
 
 -- the scene has this session, with a glass
 pub record HasSession (s : SceneModel Sight) (sid : ℕ) : Type 0 where
   pub session : sid < length s.config.clients
   pub glasses : sid < length s.glasses
-
--- the session's client may call the scene by this own glass: no glass tells a log, but for that of
--- the session on the scene, and the open journal has room for the call
-pub record CanCall (s : SceneModel Sight) (sid : ℕ) (glass : Sight) : Type 0 where
-  pub there : HasSession s sid
-  pub own : IsGlass s.config sid glass
-  pub quiet_own : glass.log ≡ None
-  pub quiet : AreQuietBut sid s.glasses
-  pub spare : 1 ≤ s.spare
-  pub unended : IsOpen s.entries
 
 -- The script has a line of this number, and the plan is that of the script with the session's
 -- opening donation. The lines before it stand on the own glass, and on the scene's but for what is

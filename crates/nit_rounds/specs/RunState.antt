@@ -14,7 +14,7 @@ use Rattle.nit_script.specs.declared.line.InputLine.TheVariants as input
 use Rattle.nit_rounds.specs.Turn.{ByClient, ByUser, LineTurn}
 use Rattle.nit_rounds.specs.Rounds.{rounds}
 use Rattle.nit_rounds.specs.TurnActions.{actions_of_turns, lines_of}
-use Rattle.nit_rounds.specs.RoundsRun.{glass_after}
+use Rattle.nit_rounds.specs.RoundsRun.{IsSetUp, glass_after}
 use Rattle.nit_rounds.specs.ShotFrames.{ShotFrame, ShowsEach}
 use Rattle.nit_rounds.specs.Drawing.{Drawing, drawn, entry_of, state_after}
 
@@ -57,6 +57,14 @@ pub record IsPlanned (config : Configuration) (scripts : List (List Line))
   pub plans_each : length plans ≡ length scripts
   pub planned : (t : ℕ) → t < length scripts
       → IsPlanOf (script_in scripts t) (donation_of config t) (plan_in plans t)
+
+-- A run by rounds begins: its parts are set up, and the scene has no entry, and room for one for
+-- each call, device event and shot.
+pub record BeginsRounds (scripts : List (List Line)) (plans : List PlanModel)
+    (input : List InputLine) (s : SceneModel Sight) (owns : List Sight) : Type 0 where
+  pub set_up : IsSetUp s.config scripts plans s.glasses owns
+  pub entries : s.entries ≡ []
+  pub spare : length (actions_of_turns (rounds scripts input)) ≤ s.spare
 
 -- By these glasses, exactly the pixels that an entry makes dirty hold what their sources in the
 -- state after it give, and all others hold what they held. Where there is no entry all do.
@@ -141,8 +149,8 @@ pub record IsUnderWay (scripts : List (List Line)) (lines : List InputLine)
   pub counts : (t : ℕ) → (drawn before.config scripts front).done t ≡ length (lines_of t front)
   pub is_drawn : IsDrawn (drawn before.config scripts front) now
 
--- the same, and the frames of the shots among the moves that are done were shown to what takes
--- frames of the screen's width and height
+-- a run by rounds under way, where the frames of the shots among the moves that are done were shown
+-- to what takes frames of the screen's width and height
 pub record IsShowing {V : Type 0} (Fits : ℕ → ℕ → V → Type 0) (Shows : ShotFrame → V → V → Type 0)
     (scripts : List (List Line)) (lines : List InputLine)
     (before now : SceneModel Sight) (owns : List Sight) (left : List LineTurn)

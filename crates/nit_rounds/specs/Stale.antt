@@ -32,7 +32,8 @@ pub record IsBehindBy (a : Stale) (sid : ℕ) (there own : Sight) : Type 0 where
   pub fits : FitsInto own.size a
   pub but : IsButFor (is_stale (Some a)) there own
 
--- the same, where something is stale; else the scene's glass is equal to the own one
+-- the scene's glass of the session is the own one, but for what is stale; where nothing is, it is
+-- equal
 abbrev pub IsBehind : Option Stale → ℕ → Sight → Sight → Type 0
 IsBehind None sid there own = there ≡ own
 IsBehind (Some a) sid there own = IsBehindBy a sid there own

@@ -32,7 +32,7 @@ pub use Rattle.nit_rounds.specs.Drawing.{Drawing, PutsShots, after_turn, done_af
 pub use Rattle.nit_rounds.specs.Drawing.{drawn_shot, entry_of, frame_of, opening_drawing}
 pub use Rattle.nit_rounds.specs.Drawing.{picture_of, shot_frames_of, shots_after, shots_of}
 pub use Rattle.nit_rounds.specs.Drawing.{state_after, tables_after, word_after_entry, word_from}
-pub use Rattle.nit_rounds.specs.LineDrawing.{CanCall, CanDraw, HasDrawn, HasSession}
+pub use Rattle.nit_rounds.specs.LineDrawing.{CanDraw, HasDrawn, HasSession}
 pub use Rattle.nit_rounds.specs.Places.{ArePlaces, HasTurn, IsActorOf, IsAtTurn, IsFirstActive}
 pub use Rattle.nit_rounds.specs.Places.{IsNextTurn}
 pub use Rattle.nit_rounds.specs.Places.{NoneHas, StandsAt, is_active, left_at, left_from, lefts}
@@ -42,7 +42,8 @@ pub use Rattle.nit_rounds.specs.Rounds.{all_rounds, greatest, in_phase, phase_co
 pub use Rattle.nit_rounds.specs.Rounds.{round, rounds}
 pub use Rattle.nit_rounds.specs.RoundsRun.{IsRoundsRun, IsSetUp, glass_after, picture_name}
 pub use Rattle.nit_rounds.specs.RoundsRun.{put_state_of_desk, shot_name}
-pub use Rattle.nit_rounds.specs.RunState.{AreLoaded, AreQuiet, AreQuietBut, CanDoUserLine}
+pub use Rattle.nit_rounds.specs.RunState.{AreLoaded, AreQuiet, AreQuietBut, BeginsRounds}
+pub use Rattle.nit_rounds.specs.RunState.{CanDoUserLine}
 pub use Rattle.nit_rounds.specs.RunState.{DoesClientLine, DoesUserLine, IsDrawn, IsMoved}
 pub use Rattle.nit_rounds.specs.RunState.{IsPlanned, IsRecorded, IsShowing, IsUnderWay}
 pub use Rattle.nit_rounds.specs.RunState.{IsUserRecorded, ShowsLine, is_number_in, next_shot}

@@ -1,17 +1,16 @@
 //! A run by rounds, on one thread.
 
 ghost use Rattle.std.specs.Prelude.{◌≡◌, ◌≤◌, ◌∷◌, [], List};
-ghost use Rattle.nit_rounds.specs.Terms.{AreBehind, AreQuietBut, CanCall, CanDoUserLine, CanDraw};
-ghost use Rattle.nit_rounds.specs.Terms.{DoesClientLine, DoesUserLine, HasDrawn};
+ghost use Rattle.nit_rounds.specs.Terms.{AreBehind, AreQuietBut, BeginsRounds, CanDoUserLine};
+ghost use Rattle.nit_rounds.specs.Terms.{CanDraw, DoesClientLine, DoesUserLine, HasDrawn};
 ghost use Rattle.nit_rounds.specs.Terms.{IsOpen, IsPlanned, IsRoundsRun, IsSameDesk};
-ghost use Rattle.nit_rounds.specs.Terms.{IsSetUp, IsShowing, Line, LineTurn, PutsShots, SceneModel};
+ghost use Rattle.nit_rounds.specs.Terms.{IsShowing, Line, LineTurn, PutsShots, SceneModel};
 ghost use Rattle.nit_rounds.specs.Terms.{ShowsEach, ShowsLine, Sight, Some, actions_of_turns};
 ghost use Rattle.nit_rounds.specs.Terms.{glass_in, length, picture_length, put_state_of_desk};
 ghost use Rattle.nit_rounds.specs.Terms.{rounds, settled, shot_frames_of, slice_get, slice_set};
 ghost use Rattle.nit_rounds.specs.Terms.{turn_of};
 ghost use Rattle.nit_events.specs.declared.call.Call.{Call as CallOf};
 ghost use Rattle.nit_script.specs.declared.line.Line.TheVariants as lines;
-ghost use Rattle.nit_script.specs.declared.line.InputLine.TheVariants as inputs;
 
 use crate::desk::Desk;
 use crate::drawing::draw_line;
@@ -21,7 +20,6 @@ use crate::stale::{Stale, settle, settle_others};
 use crate::turn::Turn;
 use crate::turns::Turns;
 use crate::viewer::Viewer;
-use nit_events::{Call, Device};
 use nit_hall::Parts;
 use nit_journal::laws::one_more_entry;
 use nit_plan::laws::{buffer_within_table, one_more_line};
@@ -52,25 +50,16 @@ fn client_line(
         → DoesClientLine part.entry.sid l scene.old scene.new own.new }
 {
     buffer_within_table();
+    one_more_entry();
     let stale = draw_line(scene, own, part, line, stale);
     if let Line::Call(call) = &part.script.lines()[line] {
-        call_scene(scene, own, part.sid, call);
+        let _ = scene.call(part.sid, call, own);
     }
     stale
 }
 
-/// A session's call of the scene, by the session's own glass.
-fn call_scene(scene: &mut Scene<Inked>, own: &mut Inked, sid: u32, call: &Call)
-    requires { CanCall scene.old sid own.old }
-    ensures own { own.new ≡ own.old }
-    ensures glasses { scene.new.glasses ≡ scene.old.glasses }
-    ensures done { DoesClientLine sid (lines.Call call.now) scene.old scene.new own.new }
-{
-    one_more_entry();
-    let _ = scene.call(sid, call, own);
-}
-
-/// Does a line of the input script: what a device did and a shot are events of the scene.
+/// Does a line of the input script: what a device did and a shot are events of the scene. No glass
+/// of the scene tells a log, so what a device did leaves the glasses as they are.
 fn user_line<V: Viewer>(scene: &mut Scene<Inked>, line: &InputLine, viewer: &mut V)
     requires can { CanDoUserLine line.now scene.old }
     requires viewer { V.fits scene.old.config.width scene.old.config.height viewer.old }
@@ -80,49 +69,50 @@ fn user_line<V: Viewer>(scene: &mut Scene<Inked>, line: &InputLine, viewer: &mut
 {
     one_more_entry();
     match line {
-        InputLine::Device(dev) => serve_device(scene, *dev),
+        InputLine::Device(dev) => {
+            let _ = scene.input(*dev);
+        }
         InputLine::Shot => viewer.shoot(scene),
         InputLine::Phase => {}
     }
 }
 
-/// Serves what a device did. No glass of the scene tells a log, so the glasses stay as they are.
-fn serve_device(scene: &mut Scene<Inked>, dev: Device)
-    requires { CanDoUserLine (inputs.Device dev) scene.old }
-    ensures { DoesUserLine (inputs.Device dev) scene.old scene.new }
-{
-    one_more_entry();
-    let _ = scene.input(dev);
+/// A turn of the rounds of these scripts.
+#[derive(Clone, Copy)]
+struct PartsTurn<'a> {
+    parts: Parts<'a>,
+    turn: Turn,
 }
 
 /// Does the line of a turn, and gives what is stale then.
 fn do_turn<V: Viewer>(
     scene: &mut Scene<Inked>,
     owns: &mut [Inked],
-    parts: Parts<'_>,
     viewer: &mut V,
     stale: Option<Stale>,
-    turn: Turn,
+    next: PartsTurn<'_>,
 ) -> Option<Stale>
-    requires planned { IsPlanned scene.old.config parts.scripts.now parts.plans.now }
+    requires planned { IsPlanned scene.old.config next.parts.scripts.now next.parts.plans.now }
     requires behind { AreBehind stale scene.old.glasses owns.old }
     requires next { (before : SceneModel Sight) × (m : LineTurn) × (left : List LineTurn)
         × (first : V)
-        × IsShowing V.fits V.shows parts.scripts.now parts.input.now before
+        × IsShowing V.fits V.shows next.parts.scripts.now next.parts.input.now before
         (settled scene.old owns.old) owns.old (m ∷ left) first viewer.old
-        × (turn_of m ≡ turn)
-        × (length (actions_of_turns (rounds parts.scripts.now parts.input.now)) ≤ before.spare) }
+        × (turn_of m ≡ next.turn)
+        × (length (actions_of_turns (rounds next.parts.scripts.now next.parts.input.now))
+        ≤ before.spare) }
     ensures behind { AreBehind result scene.new.glasses owns.new }
     ensures way { (before : SceneModel Sight) (m : LineTurn) (left : List LineTurn) (first : V)
-        → IsShowing V.fits V.shows parts.entry.scripts.now parts.entry.input.now before
+        → IsShowing V.fits V.shows next.entry.parts.scripts.now next.entry.parts.input.now before
         (settled scene.old owns.old) owns.old (m ∷ left) first viewer.old
-        → turn_of m ≡ turn
-        → IsShowing V.fits V.shows parts.entry.scripts.now parts.entry.input.now before
+        → turn_of m ≡ next.entry.turn
+        → IsShowing V.fits V.shows next.entry.parts.scripts.now next.entry.parts.input.now before
         (settled scene.new owns.new) owns.new left first viewer.new }
 {
     lines_done();
     turns_tell();
     one_more_entry();
+    let PartsTurn { parts, turn } = next;
     match turn {
         Turn::Client { sid, line } => {
             let stale = settle_others(scene, owns, stale, sid);
@@ -154,11 +144,8 @@ pub fn run_viewed<V: Viewer>(
     parts: Parts<'_>,
     viewer: &mut V,
 )
-    requires set_up { IsSetUp scene.old.config parts.scripts.now parts.plans.now
-        scene.old.glasses owns.old }
-    requires entries { scene.old.entries ≡ [] }
-    requires spare { length (actions_of_turns (rounds parts.scripts.now parts.input.now))
-        ≤ scene.old.spare }
+    requires begins { BeginsRounds parts.scripts.now parts.plans.now parts.input.now scene.old
+        owns.old }
     requires viewer { V.fits scene.old.config.width scene.old.config.height viewer.old }
     ensures run { IsRoundsRun parts.entry.scripts.now parts.entry.input.now scene.old scene.new
         owns.new }
@@ -174,25 +161,22 @@ pub fn run_viewed<V: Viewer>(
     let mut turns = Turns::new(parts.scripts, parts.input);
     let mut stale = None;
     'lines: while let Some(turn) = turns.next() {
-        stale = do_turn(scene, owns, parts, viewer, stale, turn);
+        stale = do_turn(scene, owns, viewer, stale, PartsTurn { parts, turn });
     }
     settle(scene, owns, stale);
     let _ = scene.journal();
 }
 
-/// The same, with a desk that puts the picture of each shot until a put is refused. The desk's text
-/// has a byte for each of a picture. Its frame is not used.
+/// Does all lines so with a desk, which puts the picture of each shot until a put is refused. The
+/// desk's text has a byte for each of a picture. Its frame is not used.
 pub fn run_rounds<S: Store>(
     scene: &mut Scene<Inked>,
     owns: &mut [Inked],
     parts: Parts<'_>,
     desk: &mut Desk<S>,
 )
-    requires set_up { IsSetUp scene.old.config parts.scripts.now parts.plans.now
-        scene.old.glasses owns.old }
-    requires entries { scene.old.entries ≡ [] }
-    requires spare { length (actions_of_turns (rounds parts.scripts.now parts.input.now))
-        ≤ scene.old.spare }
+    requires begins { BeginsRounds parts.scripts.now parts.plans.now parts.input.now scene.old
+        owns.old }
     requires text { length desk.old.text.items
         ≡ picture_length scene.old.config.width scene.old.config.height }
     ensures run { IsRoundsRun parts.entry.scripts.now parts.entry.input.now scene.old scene.new

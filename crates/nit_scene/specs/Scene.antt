@@ -47,7 +47,7 @@ pub record IsShot {G : Type 0} (before now : SceneModel G) (number : ℕ) : Type
 
 -- The journal is ended by the last picture, for which every pixel was loaded again through the
 -- sessions' own glasses. The scene's glasses and the state are as they were.
-pub record IsEnded {G C R : Type 0} (sight : C → Sight) (rest : C → R) (owns owns' : List C)
+pub record IsFinished {G C R : Type 0} (sight : C → Sight) (rest : C → R) (owns owns' : List C)
     (before now : SceneModel G) : Type 0 where
   pub added : IsAdded before now entry.Final
   pub same : state_now now ≡ state_now before

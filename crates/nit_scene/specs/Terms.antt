@@ -12,5 +12,5 @@ pub use Rattle.nit_scene.specs.Below.{pixel_count, refusal, replay, reserved, ro
 pub use Rattle.nit_scene.specs.Below.{scenery_of, serve, session, session_in, set_where, shots}
 pub use Rattle.nit_scene.specs.Below.{source_at, spare, state_of, stored, told_at, views_in_use}
 pub use Rattle.nit_scene.specs.Below.{with_words}
-pub use Rattle.nit_scene.specs.Scene.{CanAdd, IsAdded, IsEnded, IsScene, IsShot, state_now}
+pub use Rattle.nit_scene.specs.Scene.{CanAdd, IsAdded, IsFinished, IsScene, IsShot, state_now}
 pub use Rattle.nit_scene.specs.SessionsAlone.{AreAlone, FollowPresses}

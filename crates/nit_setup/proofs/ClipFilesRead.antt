@@ -30,7 +30,7 @@ clips_right (first ∷ rest) wanted clips some all right =
     all_so (λ ls. wrong_clip (wanted_by (first ∷ rest)) ls ≡ None) (λ ls. clip_phases ls ≡ wanted) clips
     (λ ls e. phases_are (phases first) (clip_phases ls) e ∙ all.0) right
 
--- the same setup without clip scripts
+-- a setup with no clip scripts, without them
 abbrev without_clips : Setup → Setup
 without_clips s = record s { clips = [] }
 

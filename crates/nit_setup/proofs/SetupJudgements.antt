@@ -174,7 +174,7 @@ setup_not_refused configuration files s name f v (inr (config, is, r)) =
           (subst (λ (k : Configuration). IsInputsFault files k name f) same inputs)
     ]
 
--- the same files make one setup
+-- files make one setup
 abbrev pub IsSameSetup : Setup → Setup → Type 0
 IsSameSetup s t = (s.config ≡ t.config) × (s.scripts ≡ t.scripts) × (s.input ≡ t.input)
 

@@ -1,5 +1,5 @@
 -- What the words ask for, as the code has it.
-use Rattle.std.specs.Prelude.{◌<◌, ◌≤◌, true, false, Option, Some, None}
+use Rattle.std.specs.Prelude.{◌<◌, ◌≡◌, ◌≤◌, true, false, IfNone, IfSome, Option, Some, None}
 use Rattle.nit_setup.specs.Below.{Asked, IsRegionWords, most_height, most_width, number_end}
 use Rattle.nit_setup.specs.Command.{Command, Still, Run, Gen, Audit, Clip, Capture, Nested}
 use Rattle.nit_setup.specs.Command.{NoCommand}
@@ -16,7 +16,7 @@ asks_for (asked.Clip config) = Clip config.now
 asks_for (asked.Capture config region) = Capture config.now region
 asks_for (asked.Nested outer inner) = Nested outer.now inner.now
 
--- the same, where words that are no command ask for nothing
+-- the command of what words ask for, where words that are no command ask for nothing
 abbrev pub command_of : Option Asked → Command
 command_of None = NoCommand
 command_of (Some asked) = asks_for asked
@@ -29,3 +29,10 @@ IsAskedInRange (asked.Still width height script) = (0 < width) × (width ≤ mos
 IsAskedInRange (asked.Gen number) = number < number_end
 IsAskedInRange (asked.Capture config region) = IsRegionWords region
 IsAskedInRange other = Unit {0}
+
+-- the words of this command are read so: as what asks for it, within the ranges, or as nothing where
+-- it is no command
+pub record IsReadAs (c : Command) (asked : Option Asked) : Type 0 where
+  pub some : IfSome asked (λ a. c ≡ asks_for a)
+  pub none : IfNone asked (c ≡ NoCommand)
+  pub range : IfSome asked IsAskedInRange

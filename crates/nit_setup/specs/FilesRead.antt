@@ -169,8 +169,9 @@ pub record AreAllScripts (configuration : List ℕ) (told : Option (List File)) 
   pub runnable : IsRunnable s
   pub valid : IfSome told (λ files. AreSetup configuration files s)
 
--- The same, and the first clip scripts have as many phases as are wanted. Where the store tells its
--- files, they are what the files of their names are.
+-- The setup without its clip scripts is that of a configuration and its scripts, and the first clip
+-- scripts have as many phases as are wanted. Where the store tells its files, they are what the
+-- files of their names are.
 pub record AreFirstClips (configuration : List ℕ) (told : Option (List File)) (s : Setup)
     : Type 0 where
   pub scripts : AreAllScripts configuration told (record s { clips = [] })

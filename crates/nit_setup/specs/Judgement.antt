@@ -60,7 +60,7 @@ abbrev pub wrong_phases : Option ℕ → ℕ → Option Fault
 wrong_phases None count = None
 wrong_phases (Some wanted) count = if count == wanted then None else Some fault.PhasesDiffer
 
--- the same of lines, by which of them end a phase
+-- another number of phases than is wanted is wrong with lines, by which of them end a phase
 abbrev pub wrong_lines : {L : Type 0} → (L → Bool) → Option ℕ → List L → Option Fault
 wrong_lines ends wanted lines = wrong_phases wanted (phases_by ends lines)
 

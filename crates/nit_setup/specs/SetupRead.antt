@@ -25,7 +25,7 @@ use Rattle.nit_setup.specs.declared.stop.StopName.TheVariants as file_name
 abbrev pub setup_in : Loaded → Bool → Setup
 setup_in l beside = setup_of l.config l.scripts.clients.items l.scripts.input true beside
 
--- the same as files
+-- the files of a configuration and its scripts
 abbrev pub files_in : Loaded → RunFiles
 files_in l = run_files l.config l.scripts.clients.items l.scripts.input
 
@@ -129,7 +129,9 @@ IsLoaded name said old new (Err stop) =
     ⊎ ((config : Configuration) × (between : StoreModel) × ConfigRead name old config between
     × ReadScripts config between new (Err stop))
 
--- the same, where the first client is to show frames
+-- a configuration whose first client is to show frames was read with its scripts; or it was not
+-- read or is refused, and the stop has the first name; or one of the scripts was not read or is
+-- refused
 abbrev pub IsOuterLoaded : List ℕ → StoreModel → StoreModel → Result Loaded Stop → Type 0
 IsOuterLoaded name old new (Ok l) = OuterRunRead name old l new
 IsOuterLoaded name old new (Err stop) =

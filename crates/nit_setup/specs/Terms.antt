@@ -1,5 +1,5 @@
 -- The words that clauses use: those that come from outside, and those of this crate.
-pub use Rattle.nit_setup.specs.Asked.{IsAskedInRange, asks_for, command_of}
+pub use Rattle.nit_setup.specs.Asked.{IsAskedInRange, IsReadAs, asks_for, command_of}
 pub use Rattle.nit_setup.specs.Below.{AllByRecursion, AllZip, AreLines, ClipLine, Configuration}
 pub use Rattle.nit_setup.specs.Below.{End, Entry, Fault, File, FitsClipLine, FitsInputLine}
 pub use Rattle.nit_setup.specs.Below.{FitsLine, HasOneReading, HaveSamePhases, IfNone, IfSome}

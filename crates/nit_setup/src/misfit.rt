@@ -52,7 +52,7 @@ pub fn first_other<'a>(wanted: usize, config: &'a Config, scripts: &Scripts) -> 
     }
 }
 
-/// The same among the clients' scripts.
+/// The name of the first script of a client that has not so many phases, in their order.
 fn first_other_client<'a>(
     wanted: usize,
     clients: &'a [Member],

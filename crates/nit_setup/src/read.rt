@@ -35,14 +35,14 @@ pub struct Loaded {
     pub scripts: Scripts,
 }
 
-/// The same, and a clip script for each client.
+/// A configuration, its scripts, and a clip script for each client, as they were read.
 #[derive(Drop)]
 pub struct WithClips {
     pub run: Loaded,
     pub clips: Vec<ClipScript>,
 }
 
-/// The same, and a journal.
+/// A configuration, its scripts, and a journal, as they were read.
 #[derive(Drop)]
 pub struct WithJournal {
     pub run: Loaded,
@@ -170,7 +170,7 @@ fn load_run<S: Store>(
     }
 }
 
-/// The same, where the first client is to show frames.
+/// Reads the configuration of this name and its scripts, where the first client is to show frames.
 fn load_outer_run<S: Store>(alloc: Global, store: &mut S, name: &str) -> Result<Loaded, Stop>
     ensures { IsOuterLoaded name.now (S.shown store.old) (S.shown store.new) result }
 {

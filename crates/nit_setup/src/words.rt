@@ -1,7 +1,7 @@
 //! The words of the command line.
 
-ghost use Rattle.std.specs.Prelude.{◌<◌, ◌≡◌, IfSome, IfNone, Some, ◌≤◌};
-ghost use Rattle.nit_setup.specs.Terms.{IsAskedInRange, NoCommand, asks_for, capture};
+ghost use Rattle.std.specs.Prelude.{◌<◌, ◌≡◌, IfSome, ◌≤◌};
+ghost use Rattle.nit_setup.specs.Terms.{IsReadAs, asks_for, capture};
 ghost use Rattle.nit_setup.specs.Terms.{capture_command, command, gen, most_height, most_width};
 ghost use Rattle.nit_setup.specs.Terms.{natural_of, number_end, number_up_to, pair_of, run_of};
 ghost use Rattle.nit_setup.specs.Terms.{first_name, second_name, still, still_of, texts};
@@ -68,7 +68,7 @@ impl<'a> Asked<'a> {
         }
     }
 
-    /// The second one.
+    /// The second file that the words name, with an empty name where they name none.
     pub fn second(self) -> &'a str
         ensures { result.now ≡ second_name (asks_for self.entry) }
     {
@@ -83,9 +83,7 @@ impl<'a> Asked<'a> {
 
 /// What the words ask for. None where they are no command.
 pub fn parse_words(words: &[String]) -> Option<Asked<'_>>
-    ensures some { IfSome result (λ a. command (texts words.now) ≡ asks_for a) }
-    ensures none { IfNone result (command (texts words.now) ≡ NoCommand) }
-    ensures range { IfSome result IsAskedInRange }
+    ensures { IsReadAs (command (texts words.now)) result }
 {
     match words {
         [verb, word] => run_of(verb.as_str(), word.as_str()),
@@ -112,9 +110,7 @@ pub fn parse_words(words: &[String]) -> Option<Asked<'_>>
 
 /// The run that this verb and this word ask for.
 fn run_of<'a>(verb: &str, word: &'a str) -> Option<Asked<'a>>
-    ensures some { IfSome result (λ a. run_of verb.now word.entry.now ≡ asks_for a) }
-    ensures none { IfNone result (run_of verb.now word.entry.now ≡ NoCommand) }
-    ensures range { IfSome result IsAskedInRange }
+    ensures { IsReadAs (run_of verb.now word.entry.now) result }
 {
     if verb == "turns" {
         return Some(Asked::Turns { config: word });
@@ -134,11 +130,7 @@ fn run_of<'a>(verb: &str, word: &'a str) -> Option<Asked<'a>>
 
 /// The picture that this verb and these words ask for.
 fn still_of<'a>(verb: &str, width: &str, height: &str, script: &'a str) -> Option<Asked<'a>>
-    ensures some { IfSome result (λ a. still_of verb.now width.now height.now script.entry.now
-        ≡ asks_for a) }
-    ensures none { IfNone result (still_of verb.now width.now height.now script.entry.now
-        ≡ NoCommand) }
-    ensures range { IfSome result IsAskedInRange }
+    ensures { IsReadAs (still_of verb.now width.now height.now script.entry.now) result }
 {
     if verb == "still" {
         still(width, height, script)
@@ -149,11 +141,7 @@ fn still_of<'a>(verb: &str, width: &str, height: &str, script: &'a str) -> Optio
 
 /// What this verb and these two names ask for.
 fn pair_of<'a>(verb: &str, first: &'a str, second: &'a str) -> Option<Asked<'a>>
-    ensures some { IfSome result (λ a. pair_of verb.now first.entry.now second.entry.now
-        ≡ asks_for a) }
-    ensures none { IfNone result (pair_of verb.now first.entry.now second.entry.now
-        ≡ NoCommand) }
-    ensures range { IfSome result IsAskedInRange }
+    ensures { IsReadAs (pair_of verb.now first.entry.now second.entry.now) result }
 {
     if verb == "audit" {
         return Some(Asked::Audit {
@@ -180,11 +168,7 @@ fn capture_of<'a>(
     w: &str,
     h: &str,
 ) -> Option<Asked<'a>>
-    ensures some { IfSome result
-        (λ a. capture_command verb.now config.entry.now x.now y.now w.now h.now ≡ asks_for a) }
-    ensures none { IfNone result (capture_command verb.now config.entry.now x.now y.now w.now h.now
-        ≡ NoCommand) }
-    ensures range { IfSome result IsAskedInRange }
+    ensures { IsReadAs (capture_command verb.now config.entry.now x.now y.now w.now h.now) result }
 {
     if verb == "capture" {
         captured(config, x, y, w, h)
@@ -195,15 +179,8 @@ fn capture_of<'a>(
 
 /// A picture of the size that these words spell, made of this script.
 fn still<'a>(width: &str, height: &str, script: &'a str) -> Option<Asked<'a>>
-    ensures some { IfSome result
-        (λ a. still (number_up_to most_width width.now) (number_up_to most_height height.now)
-        script.entry.now
-        ≡ asks_for a) }
-    ensures none { IfNone result
-        (still (number_up_to most_width width.now) (number_up_to most_height height.now)
-        script.entry.now
-        ≡ NoCommand) }
-    ensures range { IfSome result IsAskedInRange }
+    ensures { IsReadAs (still (number_up_to most_width width.now)
+        (number_up_to most_height height.now) script.entry.now) result }
 {
     let width = size(width, MOST_WIDTH)?;
     let height = size(height, MOST_HEIGHT)?;
@@ -216,9 +193,7 @@ fn still<'a>(width: &str, height: &str, script: &'a str) -> Option<Asked<'a>>
 
 /// The generated run of the number that this word spells.
 fn generated<'a>(number: &str) -> Option<Asked<'a>>
-    ensures some { IfSome result (λ a. gen (natural_of number.now) ≡ asks_for a) }
-    ensures none { IfNone result (gen (natural_of number.now) ≡ NoCommand) }
-    ensures range { IfSome result IsAskedInRange }
+    ensures { IsReadAs (gen (natural_of number.now)) result }
 {
     let number = whole_number(number)?;
     Some(Asked::Gen { number })
@@ -227,11 +202,8 @@ fn generated<'a>(number: &str) -> Option<Asked<'a>>
 /// The run of the configuration of this name, and the film of the region that the other words
 /// spell.
 fn captured<'a>(config: &'a str, x: &str, y: &str, w: &str, h: &str) -> Option<Asked<'a>>
-    ensures some { IfSome result (λ a. capture config.entry.now (natural_of x.now)
-        (natural_of y.now) (natural_of w.now) (natural_of h.now) ≡ asks_for a) }
-    ensures none { IfNone result (capture config.entry.now (natural_of x.now)
-        (natural_of y.now) (natural_of w.now) (natural_of h.now) ≡ NoCommand) }
-    ensures range { IfSome result IsAskedInRange }
+    ensures { IsReadAs (capture config.entry.now (natural_of x.now) (natural_of y.now)
+        (natural_of w.now) (natural_of h.now)) result }
 {
     let x = whole_number(x)?;
     let y = whole_number(y)?;

@@ -1,8 +1,8 @@
 //! Worked rows of the parts: what each of them answers by itself, and two or three together.
 //!
 //! The parts here are those that know nothing of scripts, configurations and journals: words,
-//! glyphs, queues, labels, cuts, painting, a part of a picture, what changed of one, shared words,
-//! the book of entries, and films.
+//! glyphs, queues, labels, cuts, painting, a part of a picture, what changed of one, the book of
+//! entries, and films.
 //!
 //! Rows of shaded words are compared with the same words shaded one by one.
 
@@ -13,7 +13,6 @@ mod look_tests;
 mod overlay_tests;
 mod paint_tests;
 mod pictures;
-mod pixel_tests;
 mod place_tests;
 mod play_tests;
 mod queue_tests;

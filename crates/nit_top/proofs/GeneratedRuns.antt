@@ -59,7 +59,7 @@ generated_runnable n laws = record {
   clips_each = inl refl;
 }
 
--- the same setup without the files that are made before it
+-- a generated setup without the files that are made before it
 abbrev pub unmade : ℕ → Setup
 unmade n = setup_of generated_configuration (scripts_of n) (user_script n) true true
 
@@ -90,7 +90,7 @@ clients_fit [] (s ∷ scripts) reads = absurd reads
 clients_fit (t ∷ texts) [] reads = absurd reads
 clients_fit (t ∷ texts) (s ∷ scripts) reads = (reads.0.0, clients_fit texts scripts reads.1)
 
--- the same setup in other words
+-- that setup in other words
 pub same_unmade : (n : ℕ) (config : Configuration) (scripts : List (List Line)) (lines : List InputLine)
     → config ≡ generated_configuration → scripts ≡ scripts_of n → lines ≡ user_script n
     → setup_of config scripts lines true true ≡ unmade n

@@ -37,7 +37,7 @@ no_setup (Some files) outside v = v.1
 
 -- ---- where the region lies
 
--- the same files have the same screen
+-- files have one screen
 same_side : (c : Command) (files : List File) (s t : Setup) → IsValid c files s → IsValid c files t
     → is_outside_of c s.config ≡ is_outside_of c t.config
 same_side (Still width height script) files s t v w = refl

@@ -41,7 +41,8 @@ pub fn nitpicker<R: Threads + Wait + Sync, S: Store, G: Gate>(
     finish(store, asked, worked)
 }
 
-/// The same for words that start no thread. It waits for nobody, and returns.
+/// Does what the words of the command line ask for, over this store, where they start no thread. It
+/// waits for nobody, and returns.
 pub fn nitpicker_alone<S: Store>(alloc: Global, words: &[String], store: &mut S) -> Done
     requires { starts_threads (command (texts words.now)) ≡ false }
     ensures { Answer (S.shown store.old) (texts words.now)
@@ -92,7 +93,7 @@ fn work<R: Threads + Wait + Sync, S: Store, G: Gate>(
     }
 }
 
-/// The same on the calling thread, where the words start no thread.
+/// Does the work on the calling thread, where the words start no thread.
 fn work_alone<S: Store>(alloc: Global, store: &mut S, asked: Option<Asked>) -> Worked
     requires range { IfSome asked IsAskedInRange }
     requires alone { starts_threads (command_of asked) ≡ false }

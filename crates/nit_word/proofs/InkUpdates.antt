@@ -1,8 +1,8 @@
 -- Words that stay 0 or of some colours where some are set.
 use Rattle.std.proofs.Common.{All, Bool, List, None, Some, [], ap, ap₂, arith, cond, false, get_or}
-use Rattle.std.proofs.Common.{length, refl, subst, sym, true, ℕ, ◌%◌, ◌-◌, ◌<◌, ◌==◌, ◌∙◌, ◌≡◌}
+use Rattle.std.proofs.Common.{length, refl, subst, sym, true, ℕ, ◌<◌, ◌∙◌, ◌≡◌}
 use Rattle.nit_word.proofs.Basics.{AreInkedBetween, Colours, Ink, IsOfColours, Sight, filled_up, get_or-eq_default, get_or_default, nat_tests}
-use Rattle.nit_word.proofs.Basics.{in_turn, inked_sight, is_between, set_where, slice_index}
+use Rattle.nit_word.proofs.Basics.{inked_sight, is_between, set_where, slice_index}
 use Rattle.nit_word.proofs.Basics.{Stages, with_words, zeros}
 use mathlib.Core.Logic.{dite}
 use native.Mathlib.Decide.{dec_lt}
@@ -28,10 +28,6 @@ pub between_inked : (ink : List ℕ) (from to : ℕ) (c : ℕ → ℕ) (words no
 between_inked ink from to c words now new old is =
     rw is (all_inked ink (is_between from to) c words
     (λ k inside. new k (grind (arith, nat_tests)) (grind (arith, nat_tests))) old)
-
-pub one_of : (ink : List ℕ) (b : Bool) (c d : ℕ) → IsOfColours ink c → IsOfColours ink d → IsOfColours ink (cond b c d)
-one_of ink true c d first second = first
-one_of ink false c d first second = second
 
 -- a word behind the last one is 0
 pub at_any : (ink others : List ℕ) (k : ℕ) → All (IsOfColours ink) others → IsOfColours ink (get_or others k 0)

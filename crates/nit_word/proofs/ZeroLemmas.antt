@@ -1,5 +1,5 @@
 -- Words that are all 0.
-use Rattle.std.proofs.Common.{List, ap, arith, length, refl, replicate, subst, suc, sym, zero}
+use Rattle.std.proofs.Common.{ap, arith, length, refl, replicate, subst, suc, sym, zero}
 use Rattle.std.proofs.Common.{zero-add, ℕ, ◌++◌, ◌+◌, ◌∙◌, ◌∷◌, ◌≡◌}
 use Rattle.nit_word.proofs.Basics.{Ink, IsInked, length-replicate, slice_index}
 use Rattle.nit_word.specs.Zeros.{zeros}

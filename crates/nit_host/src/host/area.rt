@@ -114,7 +114,7 @@ impl Area {
         self.right <= self.left || self.bottom <= self.top
     }
 
-    /// The same as a rectangle.
+    /// The rectangle of the area's pixels.
     pub(crate) fn rect(&self) -> Rect
         requires left { self.now.left ≤ self.now.right }
         requires top { self.now.top ≤ self.now.bottom }

@@ -197,7 +197,8 @@ pub(crate) fn bar_or_screen(desktop: &Desktop<Sheet>) -> Area
     }
 }
 
-/// The same, and all of the screen where a client is locked out.
+/// An area with all that the bar and the mode draw, which is the whole screen where a client is
+/// locked out.
 pub(crate) fn told(desktop: &Desktop<Sheet>, routed: &Routed) -> Area
     ensures { IsToldArea desktop.now.state (deliveries_of routed.now) result }
 {

@@ -72,7 +72,7 @@ fn paint_pieces<G: Glass>(
     paint_bare(stack, raw, &bare);
 }
 
-/// The same where the buffer moves by so much and has other words in each of its pixels.
+/// The picture of a buffer that is moved by so much and has another word in each of its pixels.
 fn plain(rt: &impl Abort, alloc: Global, ox: i32, oy: i32) -> [u32; 32]
     requires { IsPlace ox × IsPlace oy }
 {

@@ -2,6 +2,7 @@
 
 ghost use Rattle.std.specs.Prelude.{◌≡◌, ◌≤◌, All, IfOk, length, map};
 ghost use Rattle.nit_word.specs.Inks.{IsWord};
+ghost use Rattle.nit_word.specs.Zeros.{zeros};
 ghost use Rattle.nit_slots.specs.Account.{IsDonation};
 ghost use Rattle.nit_plan.specs.ScriptWords.{table_size};
 ghost use Rattle.nit_config.specs.ConfigurationRanges.{IsConfiguration};
@@ -38,25 +39,33 @@ pub fn plans_of(alloc: Global, config: &Config, scripts: &[Client]) -> Result<Ve
 pub fn buffers_of(
     alloc: Global,
     config: &Config,
-    plans: &[Plan],
+    scripts: &[Client],
 ) -> Result<(Vec<PixelBuffer>, Vec<Key>), NoMemory>
     requires configured { IsConfiguration config.now }
-    requires each { length plans.now ≡ length config.now.clients }
-    requires words { All (λ p. All IsWord p.ink) plans.now }
+    requires each { length scripts.now ≡ length config.now.clients }
     ensures own { IfOk result
         (λ made. map (λ key. key.stand.buffer) made.1.items ≡ made.0.items) }
-    ensures blank { IfOk result (λ made. AreBlank config.now plans.now made.1.items) }
+    ensures blank { IfOk result (λ made. AreBlank config.now scripts.now made.1.items) }
 {
     let clients = config.clients.as_slice();
     let mut buffers = Vec::new(alloc);
     let mut keys = Vec::new(alloc);
-    for (sid, plan) in plans.iter().enumerate() {
-        let words = table_words(clients[sid].donation);
-        let (buffer, key) = PixelBuffer::new(alloc, sid as u32, words, plan.ink())?;
+    for (sid, script) in scripts.iter().enumerate() {
+        let donation = clients[sid].donation;
+        let words = zero_words(alloc, table_words(donation) as usize)?;
+        let (buffer, key) = PixelBuffer::new(alloc, sid as u32, script, donation, &words)?;
         buffers.push(buffer)?;
         keys.push(key)?;
     }
     Ok((buffers, keys))
+}
+
+/// So many words that are 0.
+#[tactic(auto, unfolding(nit_word::specs::Zeros::zeros))]
+fn zero_words(alloc: Global, count: usize) -> Result<Vec<u64>, NoMemory>
+    ensures { IfOk result (λ v. v.items ≡ zeros count) }
+{
+    Ok(vec![in alloc; 0u64; count]?)
 }
 
 /// The owner's end of each buffer.

@@ -178,7 +178,7 @@ fn serve_texts<R: Abort + Threads + Wait + Sync>(
     must(rt, "clip scripts", clips.len() == clients.len());
     must_match(rt, clients, clips);
     let plans = plans_of(alloc, config, clients).expect(rt, "plans");
-    let made = buffers_of(alloc, config, &plans);
+    let made = buffers_of(alloc, config, clients);
     let (buffers, keys) = made.expect(rt, "buffers");
     let canvases = canvases_of(alloc, &buffers, keys).expect(rt, "canvases");
     let parts = Parts {

@@ -137,8 +137,8 @@ pub fn set_up<'a>(
     }
 }
 
-/// The same with a red and a blue glass of the scene's own that can be drawn in: the first word of
-/// the red one is 0.
+/// The stage of the two clients of a configuration, whose scene has a red and a blue glass that can
+/// be drawn in: the first word of the red one is 0.
 pub fn set_up_drawn<'a>(
     rt: &impl Abort,
     alloc: Global,

@@ -1,7 +1,7 @@
 //! The work of a command: what is to be run, the run, and how it came to its end.
 
 ghost use Rattle.std.specs.Prelude.{◌<◌, ◌≤◌, false, true};
-ghost use Rattle.nit_top.specs.Terms.{Ends, Gen, IsAlone, IsRunnable, Performed, Run, Still};
+ghost use Rattle.nit_top.specs.Terms.{Ends, Gen, IsRunnable, Performed, Run, Still};
 ghost use Rattle.nit_top.specs.Terms.{generated, most_height, most_width, number_end, setup_of};
 
 use crate::report::finish::{Worked, ended_before_run, stop_after};
@@ -12,15 +12,14 @@ use nit_rect::NoMemory;
 use nit_report::{gen_config, generate, generated_client_counts, generated_user_counts};
 use nit_run::Scripts;
 use nit_run::laws::headline;
-use nit_script::{Client, Input};
-use nit_setup::{End, OneScript, nowhere, read_files, read_run, read_still};
+use nit_setup::{End, Loaded, OneScript, nowhere, read_files, read_run, read_still};
 use nit_store::Store;
 use nit_store::laws::puts_go_on;
 use std::alloc::Global;
 use std::sync::Wait;
 use std::thread::Threads;
 
-/// Makes the picture of the script of this name.
+/// Makes the picture of the script of this name, without texts.
 pub fn still<S: Store>(
     alloc: Global,
     store: &mut S,
@@ -32,6 +31,7 @@ pub fn still<S: Store>(
     ensures { Ends (Still width height script.now) (S.shown store.old)
         (S.shown store.new) result }
 {
+    headline();
     let OneScript {
         config,
         client,
@@ -40,23 +40,26 @@ pub fn still<S: Store>(
         Ok(read) => read,
         Err(stop) => return ended_before_run(alloc, stop),
     };
-    perform_alone(alloc, store, &config, &[client], &input)
+    let Ok(ran) = run_one(alloc, &config, &[client], &input, store) else {
+        return ended_before_run(alloc, nowhere(End::NoMemory));
+    };
+    Worked::after(ran, 1)
 }
 
-/// Runs the configuration of this name by turns.
+/// Runs the configuration of this name by turns, with texts.
 pub fn turns<S: Store>(alloc: Global, store: &mut S, name: &str) -> Worked
     ensures { Ends (Run false name.now) (S.shown store.old) (S.shown store.new) result }
 {
-    match read_run(alloc, store, name) {
-        Ok(run) => perform(
-            alloc,
-            store,
-            &run.config,
-            &run.scripts.clients,
-            &run.scripts.input,
-        ),
-        Err(stop) => ended_before_run(alloc, stop),
-    }
+    headline();
+    let Loaded { config, scripts } = match read_run(alloc, store, name) {
+        Ok(run) => run,
+        Err(stop) => return ended_before_run(alloc, stop),
+    };
+    let clients = scripts.clients.as_slice();
+    let Ok(ran) = run_turns(alloc, &config, clients, &scripts.input, store) else {
+        return ended_before_run(alloc, nowhere(End::NoMemory));
+    };
+    Worked::after(ran, clients.len())
 }
 
 /// Runs the configuration of this name with each client on a thread of its own.
@@ -101,46 +104,6 @@ pub fn generated<R: Threads + Wait + Sync, S: Store, G: Gate>(
         return ended_before_run(host.alloc, nowhere(End::NoMemory));
     };
     perform_beside(host, store, &config, &scripts)
-}
-
-/// Runs a setup by rounds, with texts. A run that is not begun leaves everything.
-fn perform<S: Store>(
-    alloc: Global,
-    store: &mut S,
-    config: &Config,
-    scripts: &[Client],
-    input: &Input,
-) -> Worked
-    requires { IsRunnable (setup_of config.now scripts.now input.now true false) }
-    ensures { Performed (S.shown store.old) (setup_of config.now scripts.now input.now true false)
-        (S.shown store.new) result }
-{
-    headline();
-    let Ok(ran) = run_turns(alloc, config, scripts, input, store) else {
-        return ended_before_run(alloc, nowhere(End::NoMemory));
-    };
-    Worked::after(ran, scripts.len())
-}
-
-/// Runs one client whose user does nothing, without texts. A run that is not begun leaves
-/// everything.
-fn perform_alone<S: Store>(
-    alloc: Global,
-    store: &mut S,
-    config: &Config,
-    scripts: &[Client],
-    input: &Input,
-) -> Worked
-    requires runnable { IsRunnable (setup_of config.now scripts.now input.now false false) }
-    requires alone { IsAlone scripts.now input.now }
-    ensures { Performed (S.shown store.old) (setup_of config.now scripts.now input.now false false)
-        (S.shown store.new) result }
-{
-    headline();
-    let Ok(ran) = run_one(alloc, config, scripts, input, store) else {
-        return ended_before_run(alloc, nowhere(End::NoMemory));
-    };
-    Worked::after(ran, scripts.len())
 }
 
 /// Runs a setup with texts, each client on a thread of its own. A run that is not begun leaves

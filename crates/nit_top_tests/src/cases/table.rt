@@ -21,7 +21,7 @@ impl<'a> Case<'a> {
         last(self.lines, word)
     }
 
-    /// The same of a line that each case has.
+    /// What stands behind this word in the last line that begins with it, which each case has.
     pub fn want(&self, rt: &impl Abort, word: &str) -> &'a str {
         found(rt, word, self.last(word))
     }

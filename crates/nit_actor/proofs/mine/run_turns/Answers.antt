@@ -12,8 +12,11 @@ turns-preserved g c =
       ready = ready_again g.S.Store.shown g.W.UserTurns.parts _ _ _ _ i.ready c.user_turn.ensures.shots;
     }
 
-pub returns-in_default-clause-done : goal.returns-in_default-clause-done
-returns-in_default-clause-done g c = (all_ended g.A.Actor.left c.turns.actors c.turns.user c.in_default.ensures).0
+pub returns-in_default-clause-actors : goal.returns-in_default-clause-actors
+returns-in_default-clause-actors g c = record {
+  same = c.turns.invariant.same;
+  done = (all_ended g.A.Actor.left c.turns.actors c.turns.user c.in_default.ensures).0;
+}
 
 pub returns-in_default-clause-user : goal.returns-in_default-clause-user
 returns-in_default-clause-user g c = record {

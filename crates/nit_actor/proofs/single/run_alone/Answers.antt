@@ -6,7 +6,7 @@ lines-preserved c =
     let i = c.lines.invariant in
     let e = c.do_line.ensures in
     record {
-      alone = record { step = e.on.step; unended = e.«open» };
+      alone = record { step = e.on.step; unended = e.unended };
       same = e.on.pass.same ∙ i.same;
       user_same = e.on.user_same ∙ i.user_same;
       parts = e.on.parts ∙ i.parts;

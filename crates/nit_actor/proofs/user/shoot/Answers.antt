@@ -1,26 +1,30 @@
 use Rattle.nit_actor.proofs.Lemmas.{UserPassModel, ap, length, puts_shot, user_role_of, ◌∙◌}
 use Rattle.nit_actor.proofs.user.shoot.Goals as goal
 
-pub returns-clause-shots : goal.returns-clause-shots
-returns-clause-shots g c =
+pub returns : goal.returns
+returns g c =
     let t = c.take_shot-number in
     let kept = c.put_copied.ensures.kept in
     let same = ap user_role_of t.ensures.user in
+    let next = ap (λ (v : UserPassModel). v.next) t.ensures.user in
     record {
-      same = same;
-      put = puts_shot g.N.Name.parts c.args.user.now t.new.user t.result c.size-width.result.0 c.size-width.result.1
-          t.new.frame.items _ _
-          (record {
-            same = same;
-            next = ap (λ (v : UserPassModel). v.next) t.ensures.user;
-            line_is = c.requires.next;
-            before_is = c.next-known.ensures.known;
-            after_is = c.next-known-2.ensures.known;
-          })
-          t.ensures.told c.size-width.ensures.size c.put_copied.ensures.put;
-      desk = record {
-        frame = ap length kept.frame ∙ t.ensures.frame;
-        text = kept.text;
-        same_store = kept.same_store;
+      next = next;
+      shots = record {
+        same = same;
+        put = puts_shot g.N.Name.parts c.args.user.now t.new.user t.result c.size-width.result.0
+            c.size-width.result.1 t.new.frame.items _ _
+            (record {
+              same = same;
+              next = next;
+              line_is = c.requires.next;
+              before_is = c.next-known.ensures.known;
+              after_is = c.next-known-2.ensures.known;
+            })
+            t.ensures.told c.size-width.ensures.size c.put_copied.ensures.put;
+        desk = record {
+          frame = ap length kept.frame ∙ t.ensures.frame;
+          text = kept.text;
+          same_store = kept.same_store;
+        };
       };
     }

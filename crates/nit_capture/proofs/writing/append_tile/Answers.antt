@@ -2,18 +2,18 @@ use Rattle.nit_capture.proofs.Lemmas.{appends_behind, arith, refl, tile_fits, ti
 use Rattle.nit_capture.specs.Film.{tile_bytes}
 use Rattle.nit_capture.proofs.writing.append_tile.Goals as goal
 
-pub overflow_cast-number-2 : goal.overflow_cast-number-2
-overflow_cast-number-2 c = let few = tiles_few c.args.grid.width c.args.grid.height c.args.grid.size in omega
-    (arith, few, c.requires.tile)
+pub overflow_cast-tile-2 : goal.overflow_cast-tile-2
+overflow_cast-tile-2 c = let few = tiles_few c.args.tile.grid.width c.args.tile.grid.height c.args.tile.grid.size in omega
+    (arith, few, c.args.tile.in_picture)
 
 pub write_runs-end-requires-clause-words : goal.write_runs-end-requires-clause-words
 write_runs-end-requires-clause-words c =
     rw (c.area.ensures.value, c.tile_words-words.ensures)
-    (tile_fits c.args.grid.width c.args.grid.height c.args.number c.args.picture.now c.requires.picture)
+    (tile_fits c.args.tile.grid.width c.args.tile.grid.height c.args.tile.number c.args.picture.now c.requires)
 
 pub returns : goal.returns
 unfolding tile_bytes
 returns c =
     let text = rw (c.area.ensures.value, c.tile_words-words.ensures) at c.write_runs-end.ensures.value in
-    appends_behind c.put-2.result _ (two_bytes c.args.number) _ _ _ _ (rw text at c.put-2.ensures) c.in_ok-put.ensures
+    appends_behind c.put-2.result _ (two_bytes c.args.tile.number) _ _ _ _ (rw text at c.put-2.ensures) c.in_ok-put.ensures
     refl

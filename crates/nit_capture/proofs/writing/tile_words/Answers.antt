@@ -6,18 +6,18 @@ use Rattle.nit_capture.proofs.writing.tile_words.Goals as goal
 
 pub loop-row-preserved : goal.loop-row-preserved
 loop-row-preserved c =
-    let w = c.args.grid.width in
-    let h = c.args.grid.height in
-    let t = c.args.number in
-    let some = c.args.grid.size.some_columns in
+    let w = c.args.which.grid.width in
+    let h = c.args.which.grid.height in
+    let t = c.args.which.number in
+    let some = c.args.which.grid.size.some_columns in
     let test = c.loop-row-test.true in
     let lt : c.loop-row.row < high w h t = omega (arith, c.high-row-end.ensures.value) in
-    let room = row_room w h t c.loop-row.row some c.requires.tile lt in
+    let room = row_room w h t c.loop-row.row some c.args.which.in_picture lt in
     let part = rw (span_is, c.row-at.ensures.value, c.wide-wide.ensures.value) at c.copy_from_slice.ensures.after in
-    let taken = rw (← part) at (part_taken w h t c.loop-row.row _ some c.requires.tile lt c.requires.picture) in
+    let taken = rw (← part) at (part_taken w h t c.loop-row.row _ some c.args.which.in_picture lt c.requires) in
     rw c.wide-wide.ensures.value (record {
-      value = row_copied w h t c.loop-row.row _ c.args.picture.now c.loop-row.words _ some c.requires.tile
-          lt c.requires.picture (omega (arith, room, c.loop-row.invariant.size)) c.loop-row.invariant.value part;
+      value = row_copied w h t c.loop-row.row _ c.args.picture.now c.loop-row.words _ some c.args.which.in_picture
+          lt c.requires (omega (arith, room, c.loop-row.invariant.size)) c.loop-row.invariant.value part;
       size = put_long _ _ c.loop-row.words c.copy_from_slice.new.self
           (omega (arith, room, c.loop-row.invariant.size)) (omega (arith, taken)) ∙ c.loop-row.invariant.size;
     })
@@ -26,6 +26,6 @@ pub returns : goal.returns
 unfolding area
 returns c =
     let test = c.loop-row-test.false in
-    let all : c.loop-row.row ≡ high c.args.grid.width c.args.grid.height c.args.number =
+    let all : c.loop-row.row ≡ high c.args.which.grid.width c.args.which.grid.height c.args.which.number =
     omega (arith, c.loop-row.auto.row-end, c.high-row-end.ensures.value) in
     rw (← all) c.loop-row.invariant.value

@@ -7,7 +7,7 @@ use Rattle.nit_perform.proofs.beside.run_named.Goals as goal
 
 pub last_picture-scene-requires-clause-done : goal.last_picture-scene-requires-clause-done
 last_picture-scene-requires-clause-done g c =
-    let is = sym c.into_room.ensures.parts in
+    let is = sym c.into_room-room.ensures.parts in
     record {
       clients_done = subst (λ (q : OpeningParts). AreDone q c.run_beside-mine.new.passes.items) is
           (all_done g.N.Name.parts c.args.opened.room c.args.opened.passes.items c.run_beside-mine.new.passes.items
@@ -16,7 +16,7 @@ last_picture-scene-requires-clause-done g c =
           (user_done g.N.Name.parts c.args.opened.user c.run_beside-mine.result.user
           c.requires.ready.user_belongs c.run_beside-mine.ensures.user.shots.same
           c.run_beside-mine.ensures.user.done);
-      unended = c.into_room.ensures.«open»;
+      unended = c.into_room-room.ensures.«open»;
     }
 
 pub returns : goal.returns
@@ -27,7 +27,7 @@ returns g c =
     let scene = c.last_picture-scene.result in
     let new = shown c.leave_texts.new.store in
     let ran = c.leave_texts.result in
-    let ended = ended_as c.into_room.ensures.parts c.last_picture-scene.ensures in
+    let ended = ended_as c.into_room-room.ensures.parts c.last_picture-scene.ensures in
     let texts = subst (λ (o : PutState).
     PutsAll (events_files scene.config scene.entries ++ journal_file scene.entries ∷ []) o
     (put_state_of_run new ran.fault)) c.leave_desk-store.ensures.puts c.leave_texts.ensures.puts in

@@ -1,7 +1,40 @@
 use Rattle.nit_rounds.proofs.Lemmas.{after_stroke, as_but, donation_of, drawn_but, fits, glass_in}
-use Rattle.nit_rounds.proofs.Lemmas.{is_stale, line_here, nothing_drawn, painted_to, step_there, ℕ}
-use Rattle.nit_rounds.proofs.Lemmas.{◌∙◌}
+use Rattle.nit_rounds.proofs.Lemmas.{Sight, ap, is_stale, line_here, nothing_drawn, painted_to}
+use Rattle.nit_rounds.proofs.Lemmas.{step_there, still_fits, sym, ℕ, ◌∙◌}
 use Rattle.nit_rounds.proofs.drawing.draw_line.Goals as goal
+
+pub stroke-requires-clause-before : goal.stroke-requires-clause-before
+stroke-requires-clause-before c =
+    let a = c.args in
+    let d : ℕ = donation_of a.scene.now.config a.part.sid in
+    let draw = c.requires.draw in (
+      d,
+      painted_to c.buffer_within_table.ensures.words a.part.sid a.part.script.now d a.line a.part.plan.now _
+          draw.donation draw.plan draw.own,
+    )
+
+pub add-requires-clause-earlier : goal.add-requires-clause-earlier
+add-requires-clause-earlier c =
+    let a = c.args in
+    let d : ℕ = donation_of a.scene.now.config a.part.sid in
+    let draw = c.requires.draw in
+    let drawn = c.stroke.ensures.sight d (painted_to c.buffer_within_table.ensures.words a.part.sid a.part.script.now d
+    a.line a.part.plan.now _ draw.donation draw.plan draw.own) in
+    still_fits a.stale a.part.sid (glass_in a.scene.now.glasses a.part.sid) a.own.now _
+    (sym (ap (λ (g : Sight). g.size) drawn)) draw.behind
+
+pub returns-clause-drawn : goal.returns-clause-drawn
+returns-clause-drawn c =
+    let a = c.args in
+    let d : ℕ = donation_of a.scene.now.config a.part.sid in
+    let draw = c.requires.draw in
+    let long = c.buffer_within_table.ensures.words in
+    record {
+      own = after_stroke long a.part.sid a.part.script.now d a.line _ _ draw.donation draw.own
+          (c.stroke.ensures.sight d (painted_to long a.part.sid a.part.script.now d a.line a.part.plan.now _
+          draw.donation draw.plan draw.own));
+      behind = c.add.ensures.behind;
+    }
 
 pub add-requires-clause-later : goal.add-requires-clause-later
 add-requires-clause-later c =

@@ -1,36 +1,59 @@
-use Rattle.nit_rounds.proofs.Lemmas.{SceneModel, Sight, as_found, behind_still, call_done, can_call}
-use Rattle.nit_rounds.proofs.Lemmas.{glasses_still, line_here, none_done}
+use Rattle.nit_rounds.proofs.Lemmas.{as_found, behind_still, call_done, can_call}
+use Rattle.nit_rounds.proofs.Lemmas.{glasses_still, line_here, none_done, one_taken, same_glasses}
+use Rattle.nit_rounds.proofs.Lemmas.{same_own, served_moved}
 use Rattle.std.proofs.Common.{Some, ap, ◌∙◌}
 use Rattle.nit_rounds.proofs.running.client_line.Goals as goal
 
-pub call_scene-requires : goal.call_scene-requires
-call_scene-requires c =
+pub call-requires : goal.call-requires
+call-requires c =
     let drawn = c.draw_line-stale.ensures in
     let here = line_here c.args.part.script.now c.lines.result.now c.args.line c.index-lines-line.result
     c.lines.ensures.value c.requires.draw.line c.index-lines-line.is in
-    can_call c.buffer_within_table.ensures.words c.args.scene.now c.draw_line-stale.new.scene c.args.part.sid
-    c.args.part.script.now _ _ c.draw_line-stale.new.own drawn.scene c.requires.draw.there c.requires.draw.donation
-    drawn.drawn.own c.requires.quiet (c.requires.spare _ (here ∙ ap Some c.in-Call.is)) c.requires.«open»
+    let can = can_call c.buffer_within_table.ensures.words c.args.scene.now c.draw_line-stale.new.scene
+    c.args.part.sid c.args.part.script.now _ _ c.draw_line-stale.new.own drawn.scene c.requires.draw.there
+    c.requires.draw.donation drawn.drawn.own c.requires.quiet (c.requires.spare _ (here ∙ ap Some c.in-Call.is))
+    c.requires.«open» in
+    record {
+      session = can.there.session;
+      journal = record { spare = can.spare; «open» = can.unended };
+      own = can.own;
+    }
 
 pub returns-in-Call : goal.returns-in-Call
 returns-in-Call c =
+    let sid = c.args.part.sid in
     let here = line_here c.args.part.script.now c.lines.result.now c.args.line c.index-lines-line.result
     c.lines.ensures.value c.requires.draw.line c.index-lines-line.is in
-    let is = c.draw_line-stale.ensures.scene in
-    let does = c.call_scene.ensures in
+    let found = here ∙ ap Some c.in-Call.is in
+    let mid = c.draw_line-stale.new.scene in
+    let drawn = c.draw_line-stale.ensures in
+    let can = can_call c.buffer_within_table.ensures.words c.args.scene.now mid sid c.args.part.script.now _ _
+    c.draw_line-stale.new.own drawn.scene c.requires.draw.there c.requires.draw.donation drawn.drawn.own
+    c.requires.quiet (c.requires.spare _ found) c.requires.«open» in
+    let new = c.call.new.self in
+    let served = c.call.ensures in
+    let p = served.painted in
+    let own = same_own mid.glasses new.glasses sid c.draw_line-stale.new.own c.call.new.own can.quiet_own
+    (λ t. (p.loads t, p.sights t)) in
+    let glasses = same_glasses (λ _. tt) mid.glasses new.glasses sid c.draw_line-stale.new.own c.call.new.own can.quiet
+    (λ t. (p.loads t, p.sights t)) served.idle served.rests in
     record {
       drawn = record {
-        own = does.own ∙ c.draw_line-stale.ensures.drawn.own;
-        behind = behind_still c.draw_line-stale.result c.args.part.sid c.draw_line-stale.new.scene
-            c.call_scene.new.scene c.draw_line-stale.new.own c.call_scene.new.own does.glasses does.own
-            c.draw_line-stale.ensures.drawn.behind;
+        own = own ∙ drawn.drawn.own;
+        behind = behind_still c.draw_line-stale.result sid mid new c.draw_line-stale.new.own c.call.new.own glasses own
+            drawn.drawn.behind;
       };
-      glasses = glasses_still c.args.part.sid c.args.scene.now c.draw_line-stale.new.scene c.call_scene.new.scene
-          does.glasses is;
-      done = as_found c.args.part.script.now c.args.line c.args.part.sid _ c.args.scene.now c.call_scene.new.scene
-          c.call_scene.new.own (here ∙ ap Some c.in-Call.is)
-          (call_done c.args.part.sid _ c.args.scene.now c.draw_line-stale.new.scene c.call_scene.new.scene _ _ is
-          does.done);
+      glasses = glasses_still sid c.args.scene.now mid new glasses drawn.scene;
+      done = as_found c.args.part.script.now c.args.line sid _ c.args.scene.now new c.call.new.own found
+          (call_done sid _ c.args.scene.now mid new _ _ drawn.scene (record {
+            config = served.added.config;
+            unended = served.«open»;
+            spare = one_taken mid.entries _ _ _ _ served.added.recorded served.added.spare can.spare;
+            recorded = (c.call.result, served.added.recorded);
+            moved = served_moved c.one_more_entry.ensures.replayed mid new sid c.in-Call.call c.call.result _
+                c.draw_line-stale.new.own c.call.new.own served.added.config served.added.recorded glasses own served.reply
+                can.there.glasses served.painted;
+          }));
     }
 
 pub returns-in_default : goal.returns-in_default
@@ -40,7 +63,7 @@ returns-in_default c =
     let is = c.draw_line-stale.ensures.scene in
     record {
       drawn = c.draw_line-stale.ensures.drawn;
-      glasses = ap (λ (p : SceneModel Sight). p.glasses) is;
+      glasses = cc is;
       done = as_found c.args.part.script.now c.args.line c.args.part.sid c.index-lines-line.result c.args.scene.now
           c.draw_line-stale.new.scene c.draw_line-stale.new.own here
           (none_done c.args.part.sid c.index-lines-line.result c.args.scene.now c.draw_line-stale.new.scene _

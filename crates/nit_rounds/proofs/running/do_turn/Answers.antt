@@ -1,11 +1,11 @@
-use Rattle.std.proofs.Common.{List, [], ap, arith, length, refl, set, subst, sym, ◌+◌, ◌<◌, ◌∙◌}
-use Rattle.std.proofs.Common.{◌∷◌, slice_get, slice_index_or}
-use Rattle.nit_rounds.proofs.Lemmas.{ByClient, ByUser, FitsInputLine, InputLine}
-use Rattle.nit_rounds.proofs.Lemmas.{IsBehind, IsPlanOf, IsShowing, Line, LineTurn, PlanModel}
+use Rattle.std.proofs.Common.{List, [], ap, arith, length, refl, set, ◌∙◌}
+use Rattle.std.proofs.Common.{slice_get}
+use Rattle.nit_rounds.proofs.Lemmas.{ByClient, ByUser, FitsInputLine}
+use Rattle.nit_rounds.proofs.Lemmas.{IsShowing, Line, LineTurn}
 use Rattle.nit_rounds.proofs.Lemmas.{SceneModel, Sight, after_client, after_user, all_own, as_many}
 use Rattle.nit_rounds.proofs.Lemmas.{behind_again, clients_move, donation_of, each_at, entry_of}
-use Rattle.nit_rounds.proofs.Lemmas.{found_here, get_or_default, glass_after}
-use Rattle.nit_rounds.proofs.Lemmas.{glass_in, moved_settled, no_sight, read_same, script_in}
+use Rattle.nit_rounds.proofs.Lemmas.{found_here, get_or_default}
+use Rattle.nit_rounds.proofs.Lemmas.{moved_settled, no_sight, read_same}
 use Rattle.nit_rounds.proofs.Lemmas.{settled, settled_turn, users_move, users_turn}
 use Rattle.nit_rounds.proofs.running.do_turn.Goals as goal
 
@@ -43,22 +43,18 @@ client_line-requires-clause-draw g c =
     let t = settled_turn c.turns_tell.ensures.client c.lines_done.ensures.client _ _ _ before c.args.scene.now s _ m
     left _ _ c.requires.planned p.way c.settle_others-stale.ensures.scene (is ∙ c.in-Client.is) room in
     let donation = donation_of s.config sid in
-    let script = get_or_default c.args.parts.scripts.now sid [] c.index-parts-sid.result t.in_scripts in
+    let script = get_or_default c.args.next.parts.scripts.now sid [] c.index-parts-sid.result t.in_scripts in
     record {
       there = record {
         session = t.session;
         glasses = as_many s.glasses c.args.owns.now sid _ c.settle_others-stale.ensures.others t.in_owns;
       };
-      line = subst (λ (ls : List Line). c.in-Client.line < length ls) script t.here;
+      line = rw script at t.here;
       donation = t.donation;
-      plan = subst (λ (ls : List Line). IsPlanOf ls donation
-          (slice_index_or c.args.parts.plans.now sid c.index-parts-sid-in-Client.result)) script
-          (subst (λ (p : PlanModel). IsPlanOf (script_in c.args.parts.scripts.now sid) donation p)
-          (get_or_default c.args.parts.plans.now sid _ c.index-parts-sid-in-Client.result t.in_plans) t.plan);
-      own = get_or_default c.args.owns.now sid _ no_sight t.in_owns ∙ t.own
-          ∙ ap (λ (ls : List Line). glass_after sid ls donation c.in-Client.line) script;
-      behind = subst (λ (g : Sight). IsBehind c.settle_others-stale.result sid (glass_in s.glasses sid) g)
-          (get_or_default c.args.owns.now sid no_sight _ t.in_owns) c.settle_others-stale.ensures.behind;
+      plan = rw script at (rw (get_or_default c.args.next.parts.plans.now sid _ c.index-parts-sid-in-Client.result
+          t.in_plans) at t.plan);
+      own = rw (get_or_default c.args.owns.now sid _ no_sight t.in_owns, t.own, script);
+      behind = rw (← get_or_default c.args.owns.now sid no_sight _ t.in_owns) c.settle_others-stale.ensures.behind;
     }
 
 pub client_line-requires-clause-spare : goal.client_line-requires-clause-spare
@@ -67,8 +63,11 @@ client_line-requires-clause-spare g c =
     let t = settled_turn c.turns_tell.ensures.client c.lines_done.ensures.client _ _ _ before c.args.scene.now
     c.settle_others-stale.new.scene _ m left _ _ c.requires.planned p.way c.settle_others-stale.ensures.scene
     (is ∙ c.in-Client.is) room in
-    λ call found. t.spare call (ap (λ (ls : List Line). slice_get ls c.in-Client.line)
-    (get_or_default c.args.parts.scripts.now c.in-Client.sid [] c.index-parts-sid.result t.in_scripts) ∙ found)
+    λ call found. t.spare call (rw (
+      get_or_default c.args.next.parts.scripts.now c.in-Client.sid []
+          c.index-parts-sid.result t.in_scripts,
+      found,
+    ))
 
 pub returns-in-Client-clause-behind : goal.returns-in-Client-clause-behind
 returns-in-Client-clause-behind g c =
@@ -90,19 +89,16 @@ returns-in-Client-clause-way g c before m left first p is =
     let all = all_own mid.glasses new.glasses owns (set owns sid own') sid _ own' c.settle_others-stale.ensures.others
     c.client_line.ensures.glasses refl in
     let there = ap (λ (s : SceneModel Sight). settled s owns) c.settle_others-stale.ensures.scene in
-    let p' = subst (λ (s : SceneModel Sight). IsShowing g.V.Viewer.fits g.V.Viewer.shows c.args.parts.scripts.now
-    c.args.parts.input.now
-    before s owns (m ∷ left) first c.args.viewer.now) (sym there) p in
+    let p' = rw (← there) at p in
     let move = clients_move c.turns_tell.ensures.client c.lines_done.ensures.client _ _ before _ _ m left _ _ p'.way
     (is ∙ c.in-Client.is) in
-    let script = get_or_default c.args.parts.scripts.now sid c.index-parts-sid.result [] move.inside in
+    let script = get_or_default c.args.next.parts.scripts.now sid c.index-parts-sid.result [] move.inside in
     let here = ap (λ (ls : List Line). slice_get ls c.in-Client.line) script ∙ move.here in
     let does = c.client_line.ensures.done move.l here in
     after_client g.V.Viewer.fits g.V.Viewer.shows _ _ before (settled mid owns) (settled new (set owns sid own')) owns _
     m left sid
     c.in-Client.line own' first _ p' move refl
-    (c.client_line.ensures.drawn.own ∙ ap
-    (λ (ls : List Line). glass_after sid ls (donation_of mid.config sid) (c.in-Client.line + 1)) script)
+    (rw (c.client_line.ensures.drawn.own, script))
     refl does.config does.unended does.spare does.recorded
     (moved_settled (λ s. entry_of s (ByClient sid move.l)) mid new owns (set new.glasses sid own')
     (set owns sid own') all does.moved)
@@ -114,7 +110,7 @@ bounds-lines-line g c =
     let (before, m, left, first, p, is, room) = c.requires.next in
     let t = users_turn c.turns_tell.ensures.user c.lines_done.ensures.user _ _ before c.args.scene.now _ _ m left _
     p.way c.settle.ensures (is ∙ c.in-User.is) room in
-    subst (λ (ls : List InputLine). c.in-User.line < length ls) (sym c.lines.ensures.value) t.here
+    rw (← c.lines.ensures.value) at t.here
 
 pub offset_bounds-lines-line : goal.offset_bounds-lines-line
 offset_bounds-lines-line g c =
@@ -126,8 +122,8 @@ user_line-requires-clause-can g c =
     let (before, m, left, first, p, is, room) = c.requires.next in
     let t = users_turn c.turns_tell.ensures.user c.lines_done.ensures.user _ _ before c.args.scene.now _ _ m left _
     p.way c.settle.ensures (is ∙ c.in-User.is) room in
-    let inside = subst (λ (ls : List InputLine). c.in-User.line < length ls) (sym c.lines.ensures.value) t.here in
-    t.can _ (read_same c.args.parts.input.now c.lines.result.now c.in-User.line _ c.lines.ensures.value t.here)
+    let inside = rw (← c.lines.ensures.value) at t.here in
+    t.can _ (read_same c.args.next.parts.input.now c.lines.result.now c.in-User.line _ c.lines.ensures.value t.here)
     (each_at FitsInputLine c.lines.result.now c.in-User.line _ inside c.lines.ensures.fits)
 
 pub returns-in-User-clause-way : goal.returns-in-User-clause-way
@@ -136,17 +132,17 @@ returns-in-User-clause-way g c before m left first p is =
     let new = c.user_line.new.scene in
     let last = c.user_line.new.viewer in
     let Way = λ (s : SceneModel Sight) (ms : List LineTurn). IsShowing g.V.Viewer.fits g.V.Viewer.shows
-    c.args.parts.scripts.now c.args.parts.input.now before s owns ms first in
-    let p' = subst (λ (s : SceneModel Sight). Way s (m ∷ left) c.args.viewer.now) (sym c.settle.ensures) p in
+    c.args.next.parts.scripts.now c.args.next.parts.input.now before s owns ms first in
+    let p' = rw (← c.settle.ensures) at p in
     let (before', m', left', first', q, is', room) = c.requires.next in
     let t = users_turn c.turns_tell.ensures.user c.lines_done.ensures.user _ _ before' c.args.scene.now _ _ m' left' _
     q.way c.settle.ensures (is' ∙ c.in-User.is) room in
-    let same = read_same c.args.parts.input.now c.lines.result.now c.in-User.line _ c.lines.ensures.value t.here in
+    let same = read_same c.args.next.parts.input.now c.lines.result.now c.in-User.line _ c.lines.ensures.value t.here in
     let move = users_move c.turns_tell.ensures.user c.lines_done.ensures.user _ _ before _ _ m left _ p'.way
     (is ∙ c.in-User.is) in
     let does = c.user_line.ensures in
     let glasses = does.done.glasses ∙ ap (λ (s : SceneModel Sight). s.glasses) c.settle.ensures in
-    subst (λ (s : SceneModel Sight). Way s left last) (ap (λ (gs : List Sight). record new { glasses = gs }) glasses)
-    (after_user g.V.Viewer.fits g.V.Viewer.shows _ _ before c.settle.new.scene new owns m left _ first _ _ p'
-    (move.doing ∙ ap ByUser (found_here c.args.parts.input.now c.in-User.line move.l _ move.here same))
+    rw (ap (λ (gs : List Sight). record new { glasses = gs }) glasses) at (after_user g.V.Viewer.fits
+    g.V.Viewer.shows _ _ before c.settle.new.scene new owns m left _ first _ _ p'
+    (move.doing ∙ ap ByUser (found_here c.args.next.parts.input.now c.in-User.line move.l _ move.here same))
     does.done does.shown does.viewer)

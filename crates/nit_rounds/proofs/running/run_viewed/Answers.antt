@@ -1,19 +1,17 @@
-use Rattle.nit_rounds.proofs.Lemmas.{IsShowing, LineTurn, List, SceneModel, Sight, ap, begun}
-use Rattle.nit_rounds.proofs.Lemmas.{front_move, settled, subst}
+use Rattle.nit_rounds.proofs.Lemmas.{List, Sight, ap, begun}
+use Rattle.nit_rounds.proofs.Lemmas.{front_move}
 use Rattle.nit_rounds.proofs.running.run_viewed.Goals as goal
 
 pub lines-init : goal.lines-init
 lines-init g c =
-    let same = c.requires.set_up.same in
+    let same = c.requires.begins.set_up.same in
     record {
       behind = same;
-      way = subst (λ (s : SceneModel Sight). IsShowing g.V.Viewer.fits g.V.Viewer.shows c.args.parts.scripts.now
-          c.args.parts.input.now c.args.scene.now s c.args.owns.now c.new-turns.result c.args.viewer.now
-          c.args.viewer.now)
-          (ap (λ (gs : List Sight). record c.args.scene.now { glasses = gs }) same)
-          (begun g.V.Viewer.fits g.V.Viewer.shows c.args.parts.scripts.now c.args.parts.input.now
+      way = rw (← ap (λ (gs : List Sight). record c.args.scene.now { glasses = gs }) same) (begun g.V.Viewer.fits
+          g.V.Viewer.shows c.args.parts.scripts.now c.args.parts.input.now
           c.args.parts.plans.now c.args.scene.now c.args.owns.now c.new-turns.result c.args.viewer.now
-          c.new-turns.ensures c.requires.set_up c.requires.entries c.journal.ensures.raw c.requires.viewer);
+          c.new-turns.ensures c.requires.begins.set_up c.requires.begins.entries c.journal.ensures.raw
+          c.requires.viewer);
     }
 
 pub lines-preserved : goal.lines-preserved
@@ -23,7 +21,5 @@ lines-preserved g c =
     record {
       behind = c.do_turn-stale.ensures.behind;
       way = c.do_turn-stale.ensures.way c.args.scene.now front.0 c.next.new.self c.args.viewer.now
-          (subst (λ (ms : List LineTurn). IsShowing g.V.Viewer.fits g.V.Viewer.shows c.args.parts.scripts.now
-          c.args.parts.input.now c.args.scene.now (settled c.lines.scene c.lines.owns) c.lines.owns ms
-          c.args.viewer.now c.lines.viewer) front.1 c.lines.invariant.way) front.2;
+          (rw front.1 at c.lines.invariant.way) front.2;
     }

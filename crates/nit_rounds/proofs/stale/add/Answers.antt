@@ -1,13 +1,11 @@
-use Rattle.nit_rounds.proofs.Lemmas.{IsButFor, Some, copied_first, glass_in, glass_there, is_stale}
-use Rattle.nit_rounds.proofs.Lemmas.{refl, subst}
-use Rattle.std.proofs.Common.{◌||◌}
+use Rattle.nit_rounds.proofs.Lemmas.{Some, copied_first, glass_in, glass_there, is_stale}
+use Rattle.nit_rounds.proofs.Lemmas.{refl}
 use Rattle.nit_rounds.proofs.stale.add.Goals as goal
 
 pub returns-clause-behind : goal.returns-clause-behind
 returns-clause-behind c =
     let a = c.args in
-    let but = subst (λ s. IsButFor (λ n. is_stale s n || is_stale (Some a.later) n)
-    (glass_in a.scene.now.glasses a.later.sid) a.own.now) c.in-Some.is c.requires.but in
+    let but = rw c.in-Some.is at c.requires.but in
     record {
       of = refl;
       fits = c.requires.later;

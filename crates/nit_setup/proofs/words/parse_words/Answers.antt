@@ -36,9 +36,10 @@ many (a ∷ b ∷ c ∷ d ∷ e ∷ []) long = absurd (long (omega arith))
 many (a ∷ b ∷ c ∷ d ∷ e ∷ f ∷ []) long = absurd (long (omega arith))
 many (a ∷ b ∷ c ∷ d ∷ e ∷ f ∷ h ∷ rest) long = refl
 
-pub returns-in_default-clause-none : goal.returns-in_default-clause-none
-returns-in_default-clause-none c =
+pub returns-in_default : goal.returns-in_default
+returns-in_default c =
     let count = length-map c.args.words.now _ in
+    let none : command (texts c.args.words.now) ≡ NoCommand =
     elim c.in_default.branch [
       | in_default-via-then-words-lt2 w ↦ few (texts c.args.words.now)
           (subst (λ (n : ℕ). n < 2) (sym count) (ltb-true _ 2 w.if-words-lt2-1.true))
@@ -48,4 +49,5 @@ returns-in_default-clause-none c =
       | in_default-via-else-words-lt2+else-words-lt3+else-words-lt4+else-words-lt5+else-words-lt6+else-words-lt7
           w ↦ many (texts c.args.words.now)
           (λ short. not_less _ 7 w.if-words-lt7-1.false (subst (λ (n : ℕ). n < 7) count short))
-    ]
+    ] in
+    record { some = tt; none = none; range = tt }

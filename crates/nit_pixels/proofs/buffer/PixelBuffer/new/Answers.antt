@@ -1,4 +1,4 @@
-use Rattle.nit_pixels.proofs.Lemmas.{Identity, ap, arith, first_owns, first_sight, length}
+use Rattle.nit_pixels.proofs.Lemmas.{ap, arith, first_owns, first_sight, length}
 use Rattle.nit_pixels.proofs.Lemmas.{length-zeros, new_sight, opens, table_size, ◌∙◌}
 use Rattle.nit_pixels.proofs.buffer.PixelBuffer.new.Goals as goal
 

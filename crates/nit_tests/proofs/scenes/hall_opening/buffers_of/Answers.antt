@@ -3,9 +3,8 @@ use Rattle.std.proofs.Common.{subst}
 use Rattle.std.specs.Prelude.{slice_index_or}
 use Rattle.std.proofs.lemmas.List.{length_push, get_or_default, map_push}
 use Rattle.nit_config.specs.Configuration.{Configuration, donation_of}
-use Rattle.nit_plan.specs.ScriptWords.{table_size}
-use Rattle.nit_plan.specs.SessionLists.{plan_in}
-use Rattle.nit_plan.specs.Plan.{PlanModel}
+use Rattle.nit_plan.specs.SessionLists.{script_in}
+use Rattle.nit_script.specs.declared.line.Line.{Line}
 use Rattle.nit_pixels.specs.End.{BufferName, End, new_sight}
 use Rattle.nit_tests.proofs.OpeningLemmas.{donation_at, one_more}
 use Rattle.nit_tests.proofs.scenes.hall_opening.buffers_of.Goals as goal
@@ -23,13 +22,8 @@ loop-sid-preserved c =
     ≡ donation_of config k =
     donation_at config c.as_slice-clients.result.now k c.index-clients-sid.result (c.as_slice-clients.ensures.value
     ∙ ap (λ (x : Configuration). x.clients) c.config.view_is) inside in
-    let size : c.table_words-words.result ≡ table_size (donation_of config k) = c.table_words-words.ensures.size
-    ∙ ap table_size client in
-    let plan : c.index-plans-sid.result ≡ plan_in c.args.plans.now k = c.index-plans-sid.is
-    ∙ get_or_default c.args.plans.now k c.index-plans-sid.result (record { steps = []; ink = [] })
-    c.loop-sid-test.true in
-    let ink : c.ink.result.now ≡ (plan_in c.args.plans.now k).ink = c.ink.ensures
-    ∙ ap (λ (p : PlanModel). p.ink) plan in
+    let script : c.index-scripts-sid.result ≡ script_in c.args.scripts.now k = c.index-scripts-sid.is
+    ∙ get_or_default c.args.scripts.now k c.index-scripts-sid.result [] c.loop-sid-test.true in
     record {
       counted = ap (λ (es : List End). length es) more ∙ length_push keys key
           ∙ ap (λ (n : ℕ). n + 1) c.loop-sid.invariant.counted;
@@ -38,9 +32,8 @@ loop-sid-preserved c =
           ∙ ap (λ (bs : List BufferName). bs ++ key.stand.buffer ∷ []) c.loop-sid.invariant.own
           ∙ ap (λ (b : BufferName). c.loop-sid.buffers.items ++ b ∷ []) c.in_ok-buffer.ensures.key
           ∙ sym c.in_ok-push.ensures.items;
-      blank = one_more (λ n (e : End). e.sight
-          ≡ new_sight n (table_size (donation_of config n)) (plan_in c.args.plans.now n).ink) keys key k _
-          c.loop-sid.invariant.counted more c.loop-sid.invariant.blank
-          (c.in_ok-buffer.ensures.sight ∙ ap (λ (n : ℕ). new_sight k n c.ink.result.now) size
-          ∙ ap (λ (ws : List ℕ). new_sight k (table_size (donation_of config k)) ws) ink);
+      blank = one_more (λ n (e : End). e.sight ≡ new_sight n (script_in c.args.scripts.now n) (donation_of config n))
+          keys key k _ c.loop-sid.invariant.counted more c.loop-sid.invariant.blank
+          (c.in_ok-buffer.ensures.sight ∙ ap (λ (ls : List Line). new_sight k ls _) script
+          ∙ ap (new_sight k (script_in c.args.scripts.now k)) client);
     }
