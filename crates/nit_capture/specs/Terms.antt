@@ -6,7 +6,8 @@ pub use Rattle.nit_capture.specs.Below.{OnOk, Rectangle, [], blue, channels, con
 pub use Rattle.nit_capture.specs.Below.{flat_map, green, length, list_any, nat_abs, negsuc, pos}
 pub use Rattle.nit_capture.specs.Below.{prefix_len, range_with_len, red, slice_index, slice_set}
 pub use Rattle.nit_capture.specs.Below.{spans, take, word_of, ℕ, ℤ}
-pub use Rattle.nit_capture.specs.Crop.{AgreeInside, AllAgree, IsPartOfScreen, Shows, crop, crop_bytes}
+pub use Rattle.nit_capture.specs.Crop.{AgreeInside, AllAgree, IsPartOfScreen, Shows, crop}
+pub use Rattle.nit_capture.specs.Crop.{crop_bytes}
 pub use Rattle.nit_capture.specs.Crop.{crop_pixel, crop_row_place, screen, word_of_bytes}
 pub use Rattle.nit_capture.specs.Film.{HasRecord, changed_tiles, record_of, records, run_bytes}
 pub use Rattle.nit_capture.specs.Film.{runs, stream, tile_bytes, two_bytes}

@@ -1,7 +1,8 @@
 //! The pixels of a rectangle, cut out of a picture of the screen.
 
 ghost use Rattle.std.specs.Prelude.{◌≡◌, ◌≤◌, ◌<◌, ◌*◌, ◌+◌, ℕ, length, map, nat_abs, slice_index};
-ghost use Rattle.nit_capture.specs.Terms.{IsPartOfScreen, IsPicture, IsPlace, crop_bytes, crop_pixel};
+ghost use Rattle.nit_capture.specs.Terms.{IsPartOfScreen, IsPicture, IsPlace, crop_bytes};
+ghost use Rattle.nit_capture.specs.Terms.{crop_pixel};
 ghost use Rattle.nit_capture.specs.Terms.{crop_row_place, most_pixels, range_with_len};
 ghost use Rattle.nit_capture.specs.Terms.{word_of_bytes};
 

@@ -134,7 +134,8 @@ near_painted laws config scripts journal e s' glasses glasses' raw raw' legal no
 -- ---- what the scripts alone say of it
 
 pub near_word : (config : Configuration) (scripts : List (List Line)) (journal : List Entry) (k : ℕ)
-    (source : PixelSource) (w : ℕ) → IsNearBy config scripts journal k source w → IsWordOfScripts config scripts source w
+    (source : PixelSource) (w : ℕ) → IsNearBy config scripts journal k source w
+    → IsWordOfScripts config scripts source w
 near_word config scripts journal k Bare w near = near
 near_word config scripts journal k Black w near = near
 near_word config scripts journal k (Word t i) w near = near.left

@@ -159,7 +159,8 @@ room_call laws {r = r} {new = new} {sid = sid} {next = next} {script = script} {
     ∙ ink_inside old.config scripts sid script _ (slice_get_within scripts sid script at.script_is) (script_there at)
     refl))
     (tells old.config scripts (sights old) old.entries sid next script c rep own at.script_is at.line_is made told) p)
-    (inks_after old.config scripts (sights old) (sights new) sid own own' inks (λ t. (p.loads t, p.sights t)) called.idle)
+    (inks_after old.config scripts (sights old) (sights new) sid own own' inks (λ t.
+    (p.loads t, p.sights t)) called.idle)
     (subst (λ (js : List Entry). Follows scripts r.parts.input (raised r.counts sid) r.phase js)
     (booked_more was_open called.open_is called.added) (follows_call rep room.follows at ready))
     (same_phase (client_ends r.parts.input room.follows.each at) (phase_same script next c at.line_is) room.phases)

@@ -42,9 +42,9 @@ abbrev pub IsLeftAt : Configuration → List (List Line) → ℕ → ℕ → ℕ
 IsLeftAt config scripts t i w =
     (n : ℕ) × (w ≡ slice_index (words_after (script_in scripts t) (donation_of config t) n) i)
 
--- A pixel that shows the word at i of a session's table holds one that the session's script has left
--- there after some number of its lines. Where the last entry that made it dirty is a call of that
--- session, it holds the very word that the script had left there at that call.
+-- A pixel that shows the word at i of a session's table holds one that the session's script has
+-- left there after some number of its lines. Where the last entry that made it dirty is a call of
+-- that session, it holds the very word that the script had left there at that call.
 pub record IsNearWord (config : Configuration) (scripts : List (List Line)) (journal : List Entry)
     (k t i w : ℕ) : Type 0 where
   pub left : IsLeftAt config scripts t i w

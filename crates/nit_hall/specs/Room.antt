@@ -4,7 +4,8 @@ use Rattle.std.specs.Prelude.{◌++◌, nat_lt, length, map, sum, take, count_by
 use Rattle.nit_hall.specs.Below.{ClipEntry, ClipModel, ClipReply, Colours, Configuration, End}
 use Rattle.nit_hall.specs.Below.{Entry, Ink, InputLine, IsLegal, script_ink}
 use Rattle.nit_hall.specs.Below.{IsNonDecreasing, IsOpen, Line, SceneModel, Sight, Standing}
-use Rattle.nit_hall.specs.Below.{calls_in, calls_of, calls_to_make, glass_in, donation_of, is_input_phase}
+use Rattle.nit_hall.specs.Below.{calls_in, calls_of, calls_to_make, glass_in, donation_of}
+use Rattle.nit_hall.specs.Below.{is_input_phase}
 use Rattle.nit_hall.specs.Below.{is_phase, most_sessions, phases_along, raised, script_in}
 use Rattle.nit_hall.specs.Below.{state_now, user_actions_of, user_actions_to_do}
 use Rattle.nit_events.specs.declared.entry.Entry.TheVariants as entry

@@ -9,8 +9,8 @@ use Rattle.nit_hall.specs.Pass.{PassModel}
 use Rattle.nit_hall.specs.Room.{RoomModel, without_final}
 
 -- What a room knows of the pass of this number when they have met: it knows a front of the journal;
--- as many of its lines were served as are done; and its words are those of its session's table, with
--- its script's ink, as the lines that are done leave them.
+-- as many of its lines were served as are done; and its words are those of its session's table,
+-- with its script's ink, as the lines that are done leave them.
 pub record IsKnownPass (r : RoomModel) (k : ℕ) (p : PassModel) : Type 0 where
   pub front : IsPrefix p.seen (without_final r.scene.entries)
   pub counted : slice_index r.counts k ≡ length (served (take p.next p.script))

@@ -3,7 +3,8 @@
 -- from the top.
 use Rattle.std.specs.Prelude.{◌≡◌, ℕ, zero, suc, ◌+◌, ◌<◌, ◌==◌, Bool, true, false, ◌&&◌, List, []}
 use Rattle.std.specs.Prelude.{◌∷◌, count_by, Contains, slice_index_or, None, if◌then◌else◌}
-use Rattle.nit_paint.specs.Below.{Bare, Black, Colours, IsLoaded, PixelSource, Sight, Word, bare_word, seen}
+use Rattle.nit_paint.specs.Below.{Bare, Black, Colours, IsLoaded, PixelSource, Sight, Word}
+use Rattle.nit_paint.specs.Below.{bare_word, seen}
 
 -- the sight where there is no glass
 abbrev pub no_sight : Sight

@@ -68,10 +68,14 @@ impl<S: Store, F: Filming> FilmStore<'_, S, F> {
     /// Whether these bytes can be the film's next picture: it is whole and not ended, and they have
     /// enough bytes.
     fn takes(&self, bytes: &[u8]) -> bool
-        ensures { result ≡ true → CanFilm self.now.reel.whole self.now.reel.ended self.now.reel.count
+        ensures { result ≡ true
+            → CanFilm self.now.reel.whole self.now.reel.ended self.now.reel.count
             self.now.reel.film.capture bytes.now }
     {
-        self.reel.whole && !self.reel.ended && self.reel.count < MOST_SHOTS && self.reel.film.fits(bytes)
+        self.reel.whole
+            && !self.reel.ended
+            && self.reel.count < MOST_SHOTS
+            && self.reel.film.fits(bytes)
     }
 
     /// Puts the picture of the next shot, and adds it to the film.

@@ -27,7 +27,8 @@ pub opens : (identity : Identity) → AllByRecursion FitsLine (owners_script ide
 opens identity fits = record {
   fits = fits;
   inked = λ i. zero_inked (Stages (stages_of identity)) i (table_size identity.donation) i;
-  views = λ j v at. subst (IsViewOf identity (zeros (table_size identity.donation))) (only (owner_view identity) v j at).1
+  views = λ j v at. subst (IsViewOf identity (zeros (table_size identity.donation))) (only
+      (owner_view identity) v j at).1
       (refl, refl, refl);
   one_owner = λ j k v w p q _ _. (only (owner_view identity) v j p).0 ∙ sym (only (owner_view identity) w k q).0;
 }

@@ -4,8 +4,9 @@
 //! A [`PixelBuffer`] has the words of one owner. Its one [`Key`] makes the owner's end, a
 //! [`Canvas`], and the canvas splits readers' ends off, each a [`Lens`]. Each end can be sent to a
 //! thread of its own, as long as the buffer is lent. The canvas stores words and reads exactly what
-//! it stored. A lens reads at each place a word that the owner's script leaves there after some of its
-//! lines, and no contract says after which. Both are a `Glass` and keep a log of their loads that contracts alone know.
+//! it stored. A lens reads at each place a word that the owner's script leaves there after some of
+//! its lines, and no contract says after which. Both are a `Glass` and keep a log of their loads
+//! that contracts alone know.
 //!
 //! Each load and each store is one atomic step on one word. Only [`PixelBuffer::new`] takes memory,
 //! and no call waits for another thread.

@@ -48,7 +48,8 @@ stroked_from ink size s n (w ∷ words) named inked = (
 )
 
 stroked_inked : (ink : List ℕ) (size : Size) (s : Stroke) (words : List ℕ)
-    → AllByRecursion (IsOfColours ink) (colours (line.Stroke s)) → AreInked ink words → AreInked ink (stroked size s words)
+    → AllByRecursion (IsOfColours ink) (colours (line.Stroke s)) → AreInked ink words
+    → AreInked ink (stroked size s words)
 unfolding stroked
 stroked_inked ink size s words named inked = stroked_from ink size s 0 words named inked
 
@@ -57,7 +58,8 @@ buffer_inked : (ink : List ℕ) (took : Bool) (w h : ℕ) (words : List ℕ) →
 buffer_inked ink true w h words inked = cleared_inked ink w h words inked
 buffer_inked ink false w h words inked = inked
 
-line_inked : (ink : List ℕ) (p : Painting) (l : Line) → AllByRecursion (IsOfColours ink) (colours l) → AreInked ink p.words
+line_inked : (ink : List ℕ) (p : Painting) (l : Line) → AllByRecursion (IsOfColours ink) (colours l)
+    → AreInked ink p.words
     → AreInked ink (after_line p l).words
 line_inked ink p (line.Call (Buffer w h)) named inked =
     buffer_inked ink (is_accepted (serve p.session (Buffer w h)).reply) w h p.words inked

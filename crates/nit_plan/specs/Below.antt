@@ -28,7 +28,8 @@ pub use Rattle.nit_script.specs.declared.line.Stroke.TheVariants.{Check, Fill}
 pub use Rattle.nit_slots.specs.Account.{IsDonation, buffer_left, buffer_need, room, view_left}
 pub use Rattle.nit_slots.specs.Table.{last_handle}
 pub use Rattle.nit_stack.specs.Sources.{Size}
-pub use Rattle.nit_word.specs.Inks.{AreInkedBetween, Colours, Ink, IsInked, IsOfColours, IsWord, Stages}
+pub use Rattle.nit_word.specs.Inks.{AreInkedBetween, Colours, Ink, IsInked, IsOfColours, IsWord}
+pub use Rattle.nit_word.specs.Inks.{Stages}
 pub use Rattle.nit_word.specs.Sight.{Sight, TellsAll, inked_sight, stored}
 pub use Rattle.nit_word.specs.Updates.{in_turn, is_between, set_where, with_words}
 pub use Rattle.nit_word.specs.Zeros.{zeros}

@@ -1,7 +1,8 @@
 -- What a script alone says: its session, its colours, and the words that it leaves. The words do
 -- not depend on what happens to the session in a run.
 use Rattle.std.specs.Prelude.{ℕ, List, [], ◌∷◌, fold, take, if◌then◌else◌}
-use Rattle.nit_plan.specs.Below.{Buffer, Call, Check, Fill, Ink, IsInked, Line, Reply, Session, Size}
+use Rattle.nit_plan.specs.Below.{Buffer, Call, Check, Fill, Ink, IsInked, Line, Reply, Session}
+use Rattle.nit_plan.specs.Below.{Size}
 use Rattle.nit_plan.specs.Below.{Stages, first_session, flat_map, is_accepted, serve, slice_index}
 use Rattle.nit_plan.specs.Below.{zeros}
 use Rattle.nit_script.specs.declared.line.Line.TheVariants as line

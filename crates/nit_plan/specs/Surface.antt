@@ -5,8 +5,8 @@ use Rattle.nit_plan.specs.ScriptWords.{HasStages, table_size, words_after}
 use Rattle.nit_plan.specs.Plan.{PlanModel, IsPlanOf}
 
 -- The plan is that of the script with this donation. The surface has an ink with all that the lines
--- leave, and as many words as the session's table. Where it tells its words, they are those that the
--- first k lines leave.
+-- leave, and as many words as the session's table. Where it tells its words, they are those that
+-- the first k lines leave.
 pub record IsPaintedTo (script : List Line) (donation : ℕ) (plan : PlanModel) (k : ℕ)
     (sight : Sight) : Type 0 where
   pub opens : IsDonation donation

@@ -13,13 +13,15 @@ pub use Rattle.nit_plan.specs.Below.{most_units, option_map, refusal, replay, ro
 pub use Rattle.nit_plan.specs.Below.{set_where, slice_get, slice_index, stored, take, taking}
 pub use Rattle.nit_plan.specs.Below.{unless, view_left, with_words, zeros, ℕ, ◌orelse◌}
 pub use Rattle.nit_plan.specs.Calls.{calls_from, calls_in, calls_to_make}
-pub use Rattle.nit_plan.specs.Plan.{IsLineInked, IsPlanOf, PlanModel, accepts, expected_of, is_set_by}
+pub use Rattle.nit_plan.specs.Plan.{IsLineInked, IsPlanOf, PlanModel, accepts, expected_of}
+pub use Rattle.nit_plan.specs.Plan.{is_set_by}
 pub use Rattle.nit_plan.specs.Plan.{plan_of_script, session_after, step_of, steps_from}
 pub use Rattle.nit_plan.specs.Plan.{words_by_step}
 pub use Rattle.nit_plan.specs.ScriptWords.{HasStages, script_ink, stages_from}
 pub use Rattle.nit_plan.specs.ScriptWords.{Painting, after_line, blank, colours, ink, painted_from}
 pub use Rattle.nit_plan.specs.ScriptWords.{session_of_script, session_size, static, table_size}
 pub use Rattle.nit_plan.specs.ScriptWords.{words_after, words_after_call, words_left}
-pub use Rattle.nit_plan.specs.Strokes.{IsStrokeInked, cleared, is_in_area, is_stroked, is_within, place_colour}
+pub use Rattle.nit_plan.specs.Strokes.{IsStrokeInked, cleared, is_in_area, is_stroked, is_within}
+pub use Rattle.nit_plan.specs.Strokes.{place_colour}
 pub use Rattle.nit_plan.specs.Strokes.{stroke_colour, stroked, word_after_stroke}
 pub use Rattle.nit_plan.specs.Surface.{IsPaintedTo}

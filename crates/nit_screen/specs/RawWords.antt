@@ -35,7 +35,8 @@ IsInkedBy glasses Bare w = Unit {0}
 IsInkedBy glasses Black w = Unit {0}
 IsInkedBy glasses (Word t i) w = IsInked (glasses t).ink i w
 
--- each raw word that comes from a session is 0, or the ink of the session's glass has it at its place
+-- each raw word that comes from a session is 0, or the ink of the session's glass has it at its
+-- place
 abbrev pub AreInked : State → (ℕ → Sight) → List ℕ → Type 0
 AreInked s glasses raw =
     (k : ℕ) → k < pixel_count s → IsInkedBy glasses (source_at s k) (slice_index_or raw k 0)

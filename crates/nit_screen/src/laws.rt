@@ -33,8 +33,9 @@ pub fn raw_stays_raw()
     deliveries_fit();
 }
 
-/// Where each raw word that comes from a session is 0 or what its glass's ink has at its place, that
-/// holds again when the dirty pixels of an entry were loaded. The loads leave the inks as they are.
+/// Where each raw word that comes from a session is 0 or what its glass's ink has at its place,
+/// that holds again when the dirty pixels of an entry were loaded. The loads leave the inks as they
+/// are.
 pub fn ink_stays()
     ensures { (s : State) (taken : ℕ) (e : Entry) (glasses glasses_after : ℕ → Sight)
         (raw raw_after : List ℕ) → Agrees s taken e

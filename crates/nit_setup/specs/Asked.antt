@@ -30,8 +30,8 @@ IsAskedInRange (asked.Gen number) = number < number_end
 IsAskedInRange (asked.Capture config region) = IsRegionWords region
 IsAskedInRange other = Unit {0}
 
--- the words of this command are read so: as what asks for it, within the ranges, or as nothing where
--- it is no command
+-- the words of this command are read so: as what asks for it, within the ranges, or as nothing
+-- where it is no command
 pub record IsReadAs (c : Command) (asked : Option Asked) : Type 0 where
   pub some : IfSome asked (λ a. c ≡ asks_for a)
   pub none : IfNone asked (c ≡ NoCommand)

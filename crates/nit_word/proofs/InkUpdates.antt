@@ -1,7 +1,8 @@
 -- Words that stay 0 or of some colours where some are set.
 use Rattle.std.proofs.Common.{All, Bool, List, None, Some, [], ap, ap₂, arith, cond, false, get_or}
 use Rattle.std.proofs.Common.{length, refl, subst, sym, true, ℕ, ◌<◌, ◌∙◌, ◌≡◌}
-use Rattle.nit_word.proofs.Basics.{AreInkedBetween, Colours, Ink, IsOfColours, Sight, filled_up, get_or-eq_default, get_or_default, nat_tests}
+use Rattle.nit_word.proofs.Basics.{AreInkedBetween, Colours, Ink, IsOfColours, Sight, filled_up, get_or-eq_default}
+use Rattle.nit_word.proofs.Basics.{get_or_default, nat_tests}
 use Rattle.nit_word.proofs.Basics.{inked_sight, is_between, set_where, slice_index}
 use Rattle.nit_word.proofs.Basics.{Stages, with_words, zeros}
 use mathlib.Core.Logic.{dite}
@@ -10,7 +11,8 @@ use Rattle.nit_word.proofs.ReachedWords.{filled_at}
 use Rattle.nit_word.proofs.UpdateLemmas.{set_long, word_at}
 use Rattle.nit_word.proofs.ZeroLemmas.{zero_inked}
 
-by_test : (ink : List ℕ) (b : Bool) (x y : ℕ) → (b ≡ true → IsOfColours ink x) → IsOfColours ink y → IsOfColours ink (cond b x y)
+by_test : (ink : List ℕ) (b : Bool) (x y : ℕ) → (b ≡ true → IsOfColours ink x) → IsOfColours ink y
+    → IsOfColours ink (cond b x y)
 by_test ink true x y new old = new refl
 by_test ink false x y new old = old
 
@@ -35,13 +37,15 @@ at_any ink others k all = dite (dec_lt k (length others)) (λ inside. all k 0 in
     (λ behind. subst (IsOfColours ink) (sym (get_or-eq_default others 0 (omega arith))) refl)
 
 pub copied_inked : (ink : List ℕ) (from to : ℕ) (others words now : List ℕ) → All (IsOfColours ink) others
-    → All (IsOfColours ink) words → now ≡ set_where (is_between from to) (slice_index others) words → All (IsOfColours ink) now
+    → All (IsOfColours ink) words → now ≡ set_where (is_between from to) (slice_index others) words
+    → All (IsOfColours ink) now
 copied_inked ink from to others words now new old is =
     rw is (all_inked ink (is_between from to) (slice_index others) words (λ k inside. at_any ink others k new) old)
 
 pub zeros_inked : (ink : List ℕ) (n : ℕ) (now : List ℕ) → now ≡ zeros n → All (IsOfColours ink) now
 zeros_inked ink n now is = rw is
-    (λ k d inside. subst (IsOfColours ink) (sym (get_or_default (zeros n) k d 0 inside)) (zero_inked (Colours ink) 0 n k))
+    (λ k d inside. subst (IsOfColours ink) (sym (get_or_default (zeros n) k d 0 inside)) (zero_inked
+    (Colours ink) 0 n k))
 
 -- the words that were reached are among all
 pub reached_inked : (ink : List ℕ) (size : ℕ) (reached words : List ℕ) → words ≡ filled_up size reached

@@ -3,7 +3,8 @@ use Rattle.nit_capture.specs.Film.{tile_bytes}
 use Rattle.nit_capture.proofs.writing.append_tile.Goals as goal
 
 pub overflow_cast-tile-2 : goal.overflow_cast-tile-2
-overflow_cast-tile-2 c = let few = tiles_few c.args.tile.grid.width c.args.tile.grid.height c.args.tile.grid.size in omega
+overflow_cast-tile-2 c = let few =
+    tiles_few c.args.tile.grid.width c.args.tile.grid.height c.args.tile.grid.size in omega
     (arith, few, c.args.tile.in_picture)
 
 pub write_runs-end-requires-clause-words : goal.write_runs-end-requires-clause-words
@@ -15,5 +16,6 @@ pub returns : goal.returns
 unfolding tile_bytes
 returns c =
     let text = rw (c.area.ensures.value, c.tile_words-words.ensures) at c.write_runs-end.ensures.value in
-    appends_behind c.put-2.result _ (two_bytes c.args.tile.number) _ _ _ _ (rw text at c.put-2.ensures) c.in_ok-put.ensures
+    appends_behind c.put-2.result _ (two_bytes c.args.tile.number) _ _ _ _
+    (rw text at c.put-2.ensures) c.in_ok-put.ensures
     refl

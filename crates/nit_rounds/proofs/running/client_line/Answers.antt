@@ -51,7 +51,8 @@ returns-in-Call c =
             spare = one_taken mid.entries _ _ _ _ served.added.recorded served.added.spare can.spare;
             recorded = (c.call.result, served.added.recorded);
             moved = served_moved c.one_more_entry.ensures.replayed mid new sid c.in-Call.call c.call.result _
-                c.draw_line-stale.new.own c.call.new.own served.added.config served.added.recorded glasses own served.reply
+                c.draw_line-stale.new.own c.call.new.own served.added.config served.added.recorded glasses own
+                served.reply
                 can.there.glasses served.painted;
           }));
     }

@@ -5,7 +5,8 @@ use Rattle.nit_capture.proofs.grid.Tile.row.Goals as goal
 pub overflow_add-result : goal.overflow_add-result
 overflow_add-result c =
     let s = c.args.self.grid.size in
-    let high = high_some c.args.self.grid.width c.args.self.grid.height c.args.self.number s.some_columns c.args.self.in_picture in
+    let high = high_some c.args.self.grid.width c.args.self.grid.height c.args.self.number s.some_columns
+    c.args.self.in_picture in
     rw c.top.ensures.value (omega (arith, high.within, s.rows))
 
 pub overflow_mul-result : goal.overflow_mul-result

@@ -3,7 +3,8 @@ use Rattle.nit_pixels.proofs.Lemmas.{length-zeros, new_sight, opens, table_size,
 use Rattle.nit_pixels.proofs.buffer.PixelBuffer.new.Goals as goal
 
 pub of_words-requires : goal.of_words-requires
-of_words-requires c = rw c.requires.words (opens _ (rw (c.of.ensures, ← c.lines-lines.ensures.value) c.lines-lines.ensures.fits))
+of_words-requires c = rw c.requires.words (opens _ (rw
+    (c.of.ensures, ← c.lines-lines.ensures.value) c.lines-lines.ensures.fits))
 
 pub invariant_of-result : goal.invariant_of-result
 invariant_of-result c =

@@ -9,7 +9,8 @@ invariant_of-self c =
     ∙ sym (ap (λ (g : Sight). colours_in g.ink) c.self.view_is) in (
       c.self.invariant.0,
       copied_inked _ c.args.from c.args.to _ _ _
-          (subst (λ (ink : List ℕ). All (IsOfColours ink) c.other.inside.words) same c.other.invariant.1) c.self.invariant.1
+          (subst (λ (ink : List ℕ). All
+          (IsOfColours ink) c.other.inside.words) same c.other.invariant.1) c.self.invariant.1
           c.copy.ensures,
     )
 
