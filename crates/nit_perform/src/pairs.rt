@@ -49,8 +49,8 @@ pub fn open_pairs<'a>(
     Ok(make_pairs(opened, pairs))
 }
 
-/// The room of an opening, with its passes and clip passes in pairs, in order. There is a clip pass for
-/// each pass; `pairs` is empty, and has room for all.
+/// The room of an opening, with its passes and clip passes in pairs, in order. There is a clip pass
+/// for each pass; `pairs` is empty, and has room for all.
 fn make_pairs<'a>(opened: ClipOpened<'a>, pairs: Vec<Pair<'a>>) -> Paired<'a>
     requires each { length opened.clips.items ≡ length opened.opened.passes.items }
     requires empty { pairs.items ≡ [] }

@@ -6,8 +6,7 @@ buffers_of-requires g c =
     inked c.args.config.now c.as_slice-clients.result.now c.in_ok-plans.plans.items c.deref.result.now
     c.deref.ensures.value c.in_ok-plans.ensures.plans (record {
       configured = c.requires.runnable.configured;
-      each = ap (λ (ss : List (List Line)). length ss) c.as_slice-clients.ensures.value
-          ∙ c.requires.runnable.scripts;
+      each = rw (c.as_slice-clients.ensures.value, c.requires.runnable.scripts);
     }) c.in_ok-plans.ensures.words
 
 pub open_pairs-requires-clause-setting : goal.open_pairs-requires-clause-setting

@@ -1,4 +1,4 @@
-use Rattle.std.proofs.Common.{◌≢◌, ◌∙◌, ◌++◌, ◌∷◌, [], Bool, ℕ, List, true, false, ap, subst, sym}
+use Rattle.std.proofs.Common.{◌≢◌, ◌∙◌, ◌++◌, ◌∷◌, [], ℕ, List, true, false, ap, subst, sym}
 use Rattle.nit_perform.proofs.Lemmas.{AllByRecursion, CaptureModel, IsFilmOf, before_last}
 use Rattle.nit_perform.proofs.Lemmas.{film_grows, last_more, picture_names, with_last}
 use Rattle.nit_perform.proofs.film_store.FilmStore.put_final.Goals as goal
