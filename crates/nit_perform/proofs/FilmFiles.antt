@@ -9,11 +9,11 @@ use Rattle.nit_perform.proofs.Basics.{PutFault, PutFiles, PutIn, PutState, PutsA
 use Rattle.nit_perform.proofs.Basics.{Region, Setup, StoreModel, begun_of, bytes_of, bytes_under}
 use Rattle.nit_perform.proofs.Basics.{cropped_bytes, events_files, film_header, film_name, film_of}
 use Rattle.nit_perform.proofs.Basics.{final_name, final_picture, first_state, journal_file}
-use Rattle.nit_perform.proofs.Basics.{later_shots, numbered, option_map, other_both, other_letter}
+use Rattle.nit_perform.proofs.Basics.{later_shots, numbered, other_both, other_letter}
 use Rattle.nit_perform.proofs.Basics.{picture_names, pictures_in, put_state_of_run, puts_more}
-use Rattle.nit_perform.proofs.Basics.{range_with_len, records, refusal_of, shot_name, shots, stays}
-use Rattle.nit_perform.proofs.Basics.{text_files, texts_other, unrefused, unwrap_or, with_texts}
-use Rattle.nit_perform.proofs.PutLemmas.{PutAll, PutSo, all_put}
+use Rattle.nit_perform.proofs.Basics.{range_with_len, records, shot_name, shots, stays}
+use Rattle.nit_perform.proofs.Basics.{texts_other, unrefused, with_texts}
+use Rattle.nit_perform.proofs.PutLemmas.{PutAll, all_put}
 use Rattle.nit_store.specs.declared.store.PutError.TheVariants as put
 
 -- ---- what files have at the end
@@ -21,7 +21,7 @@ use Rattle.nit_store.specs.declared.store.PutError.TheVariants as put
 put_stays : (f : File) (files : List File) (old new : List File) → PutEach (f ∷ files) old new → OtherThan f.0 files
     → bytes_of f.0 new ≡ f.1
 put_stays f files old new (mid, p, puts) other =
-    ap (λ (o : Option (List ℕ)). unwrap_or o []) (stays files f.0 mid new puts other ∙ p.this)
+    rw (stays files f.0 mid new puts other, p.this)
 
 -- the files behind some of those that were put
 record PutBehind (files : List File) (new : List File) : Type 0 where
@@ -43,12 +43,10 @@ shots_under : (first : ℕ) (files rest : List File) (old new : List File) → f
 shots_under first [] rest old new few is none puts = refl
 shots_under first (f ∷ files) rest old new few is none puts =
     let other : OtherThan f.0 (files ++ rest) =
-    subst (λ (name : List ℕ). OtherThan name (files ++ rest)) (sym is.0)
-    (other_both (shot_name first) files rest
+    rw (← is.0) at (other_both (shot_name first) files rest
     (later_shots first (first + 1) files (omega arith) (omega arith) is.1) (none first)) in
-    let one : bytes_of (shot_name first) new ≡ f.1 = ap (λ (name : List ℕ). bytes_of name new) (sym is.0)
-    ∙ put_stays f (files ++ rest) old new puts other in
-    let more : bytes_under new (map shot_name (range_with_len (first + 1) (length files))) ≡ map (λ g. g.1) files =
+    let one : bytes_of (shot_name first) new ≡ f.1 = rw (← is.0, put_stays f (files ++ rest) old new puts other) in
+    let more =
     shots_under (first + 1) files rest puts.0 new (omega arith) is.1 none puts.2 in
     λ i. one i ∷ more i
 
@@ -63,32 +61,27 @@ pictures_under s journal outputs are old new texts beside made legal few puts =
     let files = are.0 in
     let last : File = (final_name, final_picture s journal) in
     let words : List File = events_files s.config journal ++ journal_file journal ∷ [] in
-    let parts : outputs ≡ files ++ last ∷ words = are.2
-    ∙ ap (λ (front : List File). front ++ (files ++ last ∷ text_files s journal)) made
-    ∙ ap (λ (back : List File). files ++ last ∷ back) (with_texts s journal texts) in
-    let all : PutEach (files ++ last ∷ words) old new = subst (λ (fs : List File). PutEach fs old new) parts puts in
+    let parts : outputs ≡ files ++ last ∷ words = rw (are.2, made, with_texts s journal texts) in
+    let all : PutEach (files ++ last ∷ words) old new = rw parts at puts in
     let counted = numbered (IsNearPicture s.config s.scripts) (first_state s.config) 0 [] journal files legal
     (are.1.beside beside) in
     let long : length files ≡ shots journal = counted.1 in
     let none : NoShots (last ∷ words) =
     λ n. other_letter (shot_name n) 115 (last ∷ words) refl
     ((λ e. omega arith), texts_other s.config journal 115 (λ e. omega arith) (λ e. omega arith)) in
-    let shown : bytes_under new (map shot_name (range_with_len 1 (length files))) ≡ map (λ f. f.1) files =
+    let shown =
     shots_under 1 files (last ∷ words) old new (omega arith) counted.0 none all in
     let b = behind files (last ∷ words) old new all in
     let end : bytes_of final_name new ≡ final_picture s journal =
     put_stays last words b.mid new b.puts
     (other_letter final_name 102 words refl
     (texts_other s.config journal 102 (λ e. omega arith) (λ e. omega arith))) in
-    under_both new (map shot_name (range_with_len 1 (shots journal))) final_name
-    ∙ ap (λ (n : ℕ). bytes_under new (map shot_name (range_with_len 1 n)) ++ bytes_of final_name new ∷ []) (sym long)
-    ∙ ap (λ (bs : List (List ℕ)). bs ++ bytes_of final_name new ∷ []) shown
-    ∙ ap (λ (b : List ℕ). map (λ f. f.1) files ++ b ∷ []) end
+    rw (under_both new (map shot_name (range_with_len 1 (shots journal))) final_name, ← long, shown, end)
   where
     under_both : (files : List File) (names : List (List ℕ)) (name : List ℕ) → bytes_under files (names ++ name ∷ [])
         ≡ bytes_under files names ++ bytes_of name files ∷ []
     under_both files [] name = refl
-    under_both files (n ∷ names) name = ap (λ (bs : List (List ℕ)). bytes_of n files ∷ bs) (under_both files names name)
+    under_both files (n ∷ names) name = rw (under_both files names name)
 
 -- a film that has taken these pictures, with its end, is their film
 film_is : (region : Region) (config : Configuration) (begun now : CaptureModel) (pictures : List (List ℕ))
@@ -125,8 +118,7 @@ same_put name a b old None new same next =
   where
     by_told : (o : Option (List File)) → old.files ≡ o → AfterPut old name b new.shown next.answer
     by_told None none = untold_put old new.shown name a b next.answer none next.put
-    by_told (Some files) told = subst (λ (bytes : List ℕ). AfterPut old name bytes new.shown next.answer)
-        (same refl files told) next.put
+    by_told (Some files) told = rw (same refl files told) at next.put
 
 -- ---- a run that was filmed
 
@@ -134,7 +126,7 @@ told_each : (outputs : List File) (old : Option (List File)) (files : List File)
     → PutFiles outputs old new → new ≡ Some files → (first : List File) × PutEach outputs first files
 told_each outputs None files new h told = absurd (let e = sym h ∙ told in cc)
 told_each outputs (Some first) files new h told =
-    (first, subst (λ (fs : List File). PutEach outputs first fs) (some_same h.0 files (sym h.1 ∙ told)) h.2)
+    (first, rw (some_same h.0 files (sym h.1 ∙ told)) at h.2)
   where
     some_same : (a b : List File) → Some a ≡ Some b → a ≡ b
     some_same a b e = cc
@@ -142,8 +134,7 @@ told_each outputs (Some first) files new h told =
 put_whole : (outputs : List File) (old mid : StoreModel) (fault : Option PutFault) → fault ≡ None
     → PutsAll outputs (unrefused old) (put_state_of_run mid fault) → PutAll old outputs mid
 put_whole outputs old mid fault none puts =
-    subst (λ (o : Option PutFault). PutSo old outputs mid (option_map refusal_of o)) none
-    (all_put old outputs (put_state_of_run mid fault) puts)
+    rw none at (all_put old outputs (put_state_of_run mid fault) puts)
 
 -- What is known when a run through the store of a film has ended: whether the film is whole, that it is then
 -- that of the files, and what its put leaves.

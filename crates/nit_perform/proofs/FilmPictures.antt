@@ -1,14 +1,14 @@
 -- The pictures of a film, and the files under their names.
 use Rattle.std.proofs.Common.{◌≡◌, ◌≢◌, ℕ, zero, suc, ◌+◌, ◌<◌, ◌≤◌, Bool, true, false, List, []}
 use Rattle.std.proofs.Common.{◌∷◌, ◌++◌, map, Option, Some, None, Result, Ok, Err, refl, sym, ap}
-use Rattle.std.proofs.Common.{subst, ◌∙◌, arith, append_assoc, inl, inr}
+use Rattle.std.proofs.Common.{◌∙◌, arith, append_assoc, inl, inr}
 use Rattle.nit_perform.proofs.Basics.{AfterPut, AllByRecursion, CaptureModel, File, HasTaken}
 use Rattle.nit_perform.proofs.Basics.{IsFilmOf, IsPut, PutError, PutIn, StoreModel, all_append}
 use Rattle.nit_perform.proofs.Basics.{append-nil, bytes_of, bytes_under, codes, cropped_bytes}
 use Rattle.nit_perform.proofs.Basics.{decimal, file_at, film_header, final_name, last_of}
 use Rattle.nit_perform.proofs.Basics.{map-range_with_len_more, next_record, picture_names}
 use Rattle.nit_perform.proofs.Basics.{range_with_len, record_of, records, shot_name, shots_apart}
-use Rattle.nit_perform.proofs.Basics.{slice_index, unwrap_or, with_last}
+use Rattle.nit_perform.proofs.Basics.{slice_index, with_last}
 use Rattle.nit_perform.proofs.PutLemmas.{same_files}
 use Rattle.nit_store.specs.declared.store.PutError.TheVariants as put
 
@@ -48,22 +48,20 @@ pub others_stay : (name bytes : List ℕ) (old new : List File) (names : List (L
     → AllByRecursion (λ n. n ≢ name) names → bytes_under new names ≡ bytes_under old names
 others_stay name bytes old new [] p apart = refl
 others_stay name bytes old new (n ∷ names) p apart =
-    let one : bytes_of n new ≡ bytes_of n old = ap (λ (o : Option (List ℕ)). unwrap_or o []) (p.others n apart.0) in
+    let one : bytes_of n new ≡ bytes_of n old = rw (p.others n apart.0) in
     let rest : bytes_under new names ≡ bytes_under old names = others_stay name bytes old new names p apart.1 in
     λ i. one i ∷ rest i
 
 under_more : (files : List File) (names : List (List ℕ)) (name : List ℕ) → bytes_under files (names ++ name ∷ [])
     ≡ bytes_under files names ++ bytes_of name files ∷ []
 under_more files [] name = refl
-under_more files (n ∷ names) name = ap (λ (bs : List (List ℕ)). bytes_of n files ∷ bs) (under_more files names name)
+under_more files (n ∷ names) name = rw (under_more files names name)
 
 -- a put adds its bytes behind those under other names
 pub put_more : (name bytes : List ℕ) (old new : List File) (names : List (List ℕ)) → IsPut name bytes old new
     → AllByRecursion (λ n. n ≢ name) names → bytes_under new (names ++ name ∷ []) ≡ bytes_under old names ++ bytes ∷ []
 put_more name bytes old new names p apart =
-    under_more new names name ∙ ap (λ (bs : List (List ℕ)). bs ++ bytes_of name new ∷ [])
-    (others_stay name bytes old new names p apart)
-    ∙ ap (λ (o : Option (List ℕ)). bytes_under old names ++ unwrap_or o [] ∷ []) p.this
+    rw (under_more new names name, others_stay name bytes old new names p apart, p.this)
 
 -- ---- what a capture has taken
 
@@ -72,8 +70,10 @@ records_more : (w h : ℕ) (before : List ℕ) (pictures : List (List ℕ)) (now
     now
 records_more w h before [] now = append-nil (record_of w h before now)
 records_more w h before (p ∷ pictures) now =
-    ap (λ (bs : List ℕ). record_of w h before p ++ bs) (records_more w h p pictures now)
-    ∙ sym (append_assoc (record_of w h before p) (records w h p pictures) (record_of w h (last_of p pictures) now))
+    rw (
+      records_more w h p pictures now,
+      ← append_assoc (record_of w h before p) (records w h p pictures) (record_of w h (last_of p pictures) now),
+    )
 
 last_is : (before : List ℕ) (pictures : List (List ℕ)) (now : List ℕ) → last_of before (pictures ++ now ∷ []) ≡ now
 last_is before [] now = refl
@@ -82,7 +82,7 @@ last_is before (p ∷ pictures) now = last_is p pictures now
 taken_more : (c : CaptureModel) (pictures : List (List ℕ)) (ppm : List ℕ) → map (cropped_bytes c) (pictures ++ ppm ∷ [])
     ≡ map (cropped_bytes c) pictures ++ cropped_bytes c ppm ∷ []
 taken_more c [] ppm = refl
-taken_more c (p ∷ pictures) ppm = ap (λ (ps : List (List ℕ)). cropped_bytes c p ∷ ps) (taken_more c pictures ppm)
+taken_more c (p ∷ pictures) ppm = rw (taken_more c pictures ppm)
 
 -- one picture more was taken
 pub takes_more : (begun now next : CaptureModel) (pictures : List (List ℕ)) (bytes more ppm : List ℕ)
@@ -134,7 +134,7 @@ put_told name bytes (Some old) new files p told =
       before = old;
       told = refl;
       put =
-          subst (λ (fs : List File). IsPut name bytes old fs) (same_files p.0 files (sym p.1 ∙ told)) p.2;
+          rw (same_files p.0 files (sym p.1 ∙ told)) at p.2;
     }
 
 stays_told : (name : List ℕ) (old : StoreModel) (files : List File) → old.files ≡ Some files → ToldBefore name old files
@@ -159,7 +159,7 @@ under_same : (name : List ℕ) (old new : List File) (names : List (List ℕ))
     → bytes_under new names ≡ bytes_under old names
 under_same name old new [] others apart = refl
 under_same name old new (n ∷ names) others apart =
-    let one : bytes_of n new ≡ bytes_of n old = ap (λ (o : Option (List ℕ)). unwrap_or o []) (others n apart.0) in
+    let one : bytes_of n new ≡ bytes_of n old = rw (others n apart.0) in
     let rest : bytes_under new names ≡ bytes_under old names = under_same name old new names others apart.1 in
     λ i. one i ∷ rest i
 
@@ -170,8 +170,7 @@ pub film_stays : {T : Type 0} (whole : Bool) (begun now : CaptureModel) (names :
     → IsFilmOf whole begun now names old.files bytes → IsFilmOf whole begun now names new.files bytes
 film_stays whole begun now names bytes old new name text r apart h film is files told =
     let b = told_before old name text new r files h told in
-    subst (λ (ps : List (List ℕ)). HasTaken begun now ps bytes)
-    (sym (under_same name b.before files names b.others apart)) (film is b.before b.told)
+    rw (← under_same name b.before files names b.others apart) at (film is b.before b.told)
 
 -- a picture that was put and added makes it that of the files with the next name
 pub film_grows : {T : Type 0} (begun now next : CaptureModel) (names : List (List ℕ)) (bytes more : List ℕ)
@@ -182,9 +181,8 @@ pub film_grows : {T : Type 0} (begun now next : CaptureModel) (names : List (Lis
     → IsFilmOf true begun next (names ++ name ∷ []) new.files more
 film_grows begun now next names bytes more old new name ppm done apart h same last is film whole files told =
     let p = put_told name ppm old.files new.files files h.1 told in
-    subst (λ (ps : List (List ℕ)). HasTaken begun next ps more)
-    (sym (put_more name ppm p.before files names p.put apart))
-    (takes_more begun now next (bytes_under p.before names) bytes more ppm same (film refl p.before p.told) last
+    rw (← put_more name ppm p.before files names p.put apart) at (takes_more begun now next (bytes_under p.before
+    names) bytes more ppm same (film refl p.before p.told) last
     is)
 
 -- the names of shots differ from that of the last picture, and from that of a later shot

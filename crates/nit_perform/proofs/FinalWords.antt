@@ -8,7 +8,7 @@ use Rattle.nit_perform.proofs.Basics.{black_or_word, buffer_place, buffer_size, 
 use Rattle.nit_perform.proofs.Basics.{cases_lt, first_session, first_state, frame}
 use Rattle.nit_perform.proofs.Basics.{get_or-map-range_with_len, get_or_past, glass_in, index_at}
 use Rattle.nit_perform.proofs.Basics.{kept_config, ltb-true, nat_lt, negsuc, owner, picture}
-use Rattle.nit_perform.proofs.Basics.{picture_by, pixel, pixel_count, pos, raw_words, replay}
+use Rattle.nit_perform.proofs.Basics.{picture_by, pixel, pixel_count, pos, raw_words}
 use Rattle.nit_perform.proofs.Basics.{replay_from, same_frame, scenery_of, session_in, shown_index}
 use Rattle.nit_perform.proofs.Basics.{slice_index, source_at, source_under, state_now}
 use Rattle.nit_perform.proofs.Basics.{take-append_seam, told_word, word_from, ℤ}
@@ -32,7 +32,7 @@ no_columns : (size : Size) (v : View) (p : Point) → size.w ≡ 0 → shown_ind
 no_columns size v p none =
     let x = buffer_place p.x v.rect.x v.ox in
     let y = buffer_place p.y v.rect.y v.oy in
-    no_index size.w (among x size.w) (among y size.h) (ap (among x) none ∙ none_among x)
+    no_index size.w (among x size.w) (among y size.h) (rw (none, none_among x))
 
 word_under : (o : Option ℕ) (t u i : ℕ) → black_or_word u o ≡ Word t i → (u ≡ t) × (o ≡ Some i)
 word_under None t u i e = absurd cc
@@ -49,9 +49,11 @@ of_a_session sessions p (Some v) t i e =
     elim (cases_lt t (length sessions)) [
       | inl inside ↦ inside
       | inr past ↦
-          let there : session_in sessions v.sid ≡ first_session 0 = ap (session_in sessions) word.0
-          ∙ get_or_past sessions t (first_session 0) past in
-          absurd (some_index _ i (no_columns (buffer_size sessions v.sid) v p (ap (λ (s : Session). s.bw) there))
+          let there : session_in sessions v.sid ≡ first_session 0 = rw (
+            word.0,
+            get_or_past sessions t (first_session 0) past,
+          ) in
+          absurd (some_index _ i (no_columns (buffer_size sessions v.sid) v p (rw there))
           word.1)
     ]
 
@@ -102,19 +104,19 @@ pub finished_frame : (old new : SceneModel Sight) (owns owns' : List Sight) (tab
     → frame (scenery_of (state_now old)) new.raw ≡ frame (scenery_of (state_now old)) (raw_words (state_now old) tables)
 finished_frame old new owns owns' tables more config recorded each have painted =
     last_frame s (glass_in (map (λ g. g) owns)) (glass_in (map (λ g. g) owns')) old.raw new.raw tables
-    (subst (λ (t : State). Painted s entry.Final t (glass_in (map (λ g. g) owns)) (glass_in (map (λ g. g) owns'))
-    old.raw new.raw) later painted) tell
+    (rw later at painted) tell
   where
     s : State
     s = state_now old
 
     later : state_now new ≡ s
-    later = ap (λ (c : Configuration). replay c new.entries) config
-        ∙ ap (λ (j : List Entry). replay old.config j) recorded ∙ more (first_state old.config) old.entries entry.Final
+    later = rw (config, recorded, more (first_state old.config) old.entries entry.Final)
 
     tell : Tell s (glass_in (map (λ g. g) owns)) tables
-    tell t inside = ap (λ (g : Sight). g.words) (itself_at owns t)
-        ∙ have t (subst (λ (n : ℕ). t < n) (as_many_as_clients old.config old.entries ∙ sym each) inside)
+    tell t inside = rw (
+      itself_at owns t,
+      have t (subst (λ (n : ℕ). t < n) (as_many_as_clients old.config old.entries ∙ sym each) inside),
+    )
 
 -- ---- its picture
 
@@ -130,5 +132,4 @@ last_picture s tables size shown_ sized is =
 -- what was written over a whole buffer
 pub written_whole : {X : Type 0} (n : ℕ) (written before : List X) → length written ≡ n
     → take n (written ++ drop (length written) before) ≡ written
-written_whole n written before long = ap (λ (k : ℕ). take k (written ++ drop (length written) before)) (sym long)
-    ∙ take-append_seam written (drop (length written) before)
+written_whole n written before long = rw (← long, take-append_seam written (drop (length written) before))

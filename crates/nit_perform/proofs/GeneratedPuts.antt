@@ -1,8 +1,8 @@
 -- The scripts of a generated run, put one after the other.
-use Rattle.std.proofs.Common.{◌≡◌, ℕ, ◌<◌, zero, suc, ◌+◌, List, [], ◌∷◌, ◌++◌, sym, ap, subst}
+use Rattle.std.proofs.Common.{◌≡◌, ℕ, ◌<◌, zero, suc, ◌+◌, List, [], ◌∷◌, sym, subst}
 use Rattle.std.proofs.Common.{arith, zero-add}
 use Rattle.nit_perform.proofs.Basics.{File, IsAscii, IsUtf8, IsUtf8-from_ascii, PutState, PutsAll}
-use Rattle.nit_perform.proofs.Basics.{PutsNext, client_text, codes, decimal_digit}
+use Rattle.nit_perform.proofs.Basics.{PutsNext, client_text, decimal_digit}
 use Rattle.nit_perform.proofs.Basics.{map-range_with_len_more, puts_more, script_files, script_name}
 
 abbrev script_file : ℕ → ℕ → File
@@ -13,13 +13,13 @@ pub one_script_more : (n c : ℕ) (bytes : List ℕ) (old mid new : PutState) �
     → PutsAll (script_files n c) old mid → PutsNext (script_name c, bytes) mid new
     → PutsAll (script_files n (c + 1)) old new
 one_script_more n c bytes old mid new is puts next =
-    subst (λ (fs : List File). PutsAll fs old new) (sym (map-range_with_len_more (script_file n) 0 c c (zero-add c)))
-    (puts_more (script_files n c) (script_file n c) old mid new puts
-    (subst (λ (b : List ℕ). PutsNext (script_name c, b) mid new) is next))
+    rw (← map-range_with_len_more (script_file n) 0 c c (zero-add c)) at (puts_more (script_files n c) (script_file n
+    c) old mid new puts
+    (rw is at next))
 
 -- the name of a client's script is text
 pub name_bytes : (c : ℕ) → c < 8 → script_name c ≡ 103 ∷ (48 + c) ∷ 46 ∷ 110 ∷ 105 ∷ 116 ∷ []
-name_bytes c small = ap (λ (d : List ℕ). codes "g" ++ d ++ codes ".nit") (decimal_digit c (omega arith))
+name_bytes c small = rw (decimal_digit c (omega arith))
 
 name_ascii : (c : ℕ) → c < 8 → IsAscii (103 ∷ (48 + c) ∷ 46 ∷ 110 ∷ 105 ∷ 116 ∷ [])
 name_ascii c small zero = omega arith

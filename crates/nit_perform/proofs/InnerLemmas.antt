@@ -5,19 +5,19 @@ use Rattle.std.proofs.Common.{subst, inl, inr, arith, nat_lt, add-zero, zero-add
 use Rattle.std.proofs.Common.{append-nil, length-append}
 use Rattle.nit_perform.proofs.Basics.{TakesLast}
 use Rattle.nit_perform.proofs.Basics.{ActorLine, AreRoundsOf, Bad, ByClient, ByUser, Configuration}
-use Rattle.nit_perform.proofs.Basics.{Drawing, Entry, InputLine, IsJournal, IsLegal, IsWhole, Line}
+use Rattle.nit_perform.proofs.Basics.{Drawing, Entry, InputLine, IsJournal, IsLegal, Line}
 use Rattle.nit_perform.proofs.Basics.{LineTurn, NestError, NestModel, NestState, NestsRun, Phases}
 use Rattle.nit_perform.proofs.Basics.{RunFiles, SceneModel, ShotFrame, ShowsEach, Sight, State}
 use Rattle.nit_perform.proofs.Basics.{TakesAll, TakesNext, TakesUnless, TooLong, UnlessMemory}
 use Rattle.nit_perform.proofs.Basics.{action_of, actions_of_turns, after_turn, by_turns}
-use Rattle.nit_perform.proofs.Basics.{calls_to_make, count_by, count_lines, drawn_shot, eq-eqb}
+use Rattle.nit_perform.proofs.Basics.{count_by, count_lines, drawn_shot, eq-eqb}
 use Rattle.nit_perform.proofs.Basics.{first_forbidden, frame, frame_answer, frame_lines, frames_of}
 use Rattle.nit_perform.proofs.Basics.{input_by_user, input_lines_of, is_shot_line, is_too_long}
 use Rattle.nit_perform.proofs.Basics.{last_frame, length-map, lines_of_frames, lt-ltb, ltb-true}
 use Rattle.nit_perform.proofs.Basics.{map-append, most_lines, nest_of, nest_script, opening_drawing}
 use Rattle.nit_perform.proofs.Basics.{phases, raw_words, replay, rounds, scenery_of, script_answer}
 use Rattle.nit_perform.proofs.Basics.{shot_frames_of, shots_after, state_now, sum_by-append}
-use Rattle.nit_perform.proofs.Basics.{sum_by-cons, tables_left, user_actions_to_do}
+use Rattle.nit_perform.proofs.Basics.{sum_by-cons, tables_left}
 use Rattle.nit_nested.specs.declared.error.NestError.TheVariants.{NoMemory}
 use Rattle.nit_rounds.specs.Drawing.{drawn}
 use Rattle.nit_perform.proofs.RunLemmas.{WholeLaw}
@@ -54,16 +54,21 @@ UserOnce = (scripts : List (List Line)) (lines : List InputLine) → input_lines
 shots_counted : UserOnce → (config : Configuration) (scripts : List (List Line)) (lines : List InputLine)
     → length (shot_frames_of config scripts lines) ≡ count_by is_shot_line lines
 unfolding drawn
-shots_counted once config scripts lines = shots_from config scripts (rounds scripts lines) (opening_drawing config)
-    ∙ zero-add (count_by is_shot_line (input_lines_of (rounds scripts lines)))
-    ∙ ap (count_by is_shot_line) (once scripts lines)
+shots_counted once config scripts lines = rw (
+  shots_from config scripts (rounds scripts lines) (opening_drawing
+      config),
+  zero-add (count_by is_shot_line (input_lines_of (rounds scripts lines))),
+  once scripts lines,
+)
 
 pub frames_counted : UserOnce → (i : RunFiles) → length (frames_of i) ≡ count_by is_shot_line i.input + 1
 frames_counted once i =
     let shots = shot_frames_of i.config i.scripts i.input in
-    length-append (map (λ (f : ShotFrame). f.words) shots) (last_frame i ∷ [])
-    ∙ ap (λ (n : ℕ). n + 1) (length-map shots (λ (f : ShotFrame). f.words)
-    ∙ shots_counted once i.config i.scripts i.input)
+    rw (
+      length-append (map (λ (f : ShotFrame). f.words) shots) (last_frame i ∷ []),
+      length-map shots (λ (f : ShotFrame). f.words),
+      shots_counted once i.config i.scripts i.input,
+    )
 
 -- ---- what the nest took
 
@@ -93,7 +98,7 @@ kept : (frames : List (List ℕ)) (old now : NestState) (e : NestError) → old.
 kept [] old now e is takes = takes
 kept (words ∷ rest) old now e is (mid, next, more) =
     let same : mid ≡ old = stays words old mid e is next in
-    kept rest mid now e (ap (λ (s : NestState). s.fault) same ∙ is) more ∙ same
+    kept rest mid now e (rw (same, is)) more ∙ same
   where
     stays : (words : List ℕ) (old mid : NestState) (e : NestError) → old.fault ≡ Some e → TakesNext words old mid
         → mid ≡ old
@@ -105,15 +110,13 @@ kept (words ∷ rest) old now e is (mid, next, more) =
 
 longer : (n : NestModel) (first : List ℕ) (rest : List (List ℕ)) (now : NestModel) (fault : Option NestError)
     → Took (with_frames n (first ∷ [])) rest now fault → Took n (first ∷ rest) now fault
-longer n first rest now None took = took
-    ∙ ap (λ (fs : List (List ℕ)). record n { frames = fs }) (append_assoc n.frames (first ∷ []) rest)
+longer n first rest now None took = rw (took, append_assoc n.frames (first ∷ []) rest)
 longer n first rest now (Some TooLong) took = record {
   before = first ∷ took.before;
   words = took.words;
   behind = took.behind;
-  parts = ap (λ (fs : List (List ℕ)). first ∷ fs) took.parts;
-  answer = subst (λ (fs : List (List ℕ)). frame_answer (record n { frames = fs }) took.words ≡ Err TooLong)
-      (append_assoc n.frames (first ∷ []) took.before) took.answer;
+  parts = rw took.parts;
+  answer = rw (append_assoc n.frames (first ∷ []) took.before) at took.answer;
 }
 longer n first rest now (Some NoMemory) took = tt
 longer n first rest now (Some (Bad line)) took = took
@@ -192,7 +195,7 @@ pub answer_by_length : Counted → (n : NestModel) (own : List Line) → first_f
     → script_answer n own ≡ cond (is_too_long n (own ∷ [])) (Err TooLong) (Ok (nest_script n own))
 answer_by_length counted n own may same =
     rw may (rw (eq-eqb (phases own) (length n.frames) same)
-    (ap (λ (k : ℕ). cond (nat_lt most_lines k) (Err TooLong) (Ok (nest_script n own))) (counted n own same)))
+    (rw (counted n own same)))
 
 -- ---- the run
 
@@ -200,9 +203,8 @@ answer_by_length counted n own may same =
 pub rounds_journal : WholeLaw → (i : RunFiles) (mid last : SceneModel Sight) → mid.config ≡ i.config
     → AreRoundsOf mid.entries i.scripts i.input → TakesLast mid last → IsJournal (by_turns i) last.entries
 rounds_journal whole i mid last config rounds_are taken = record {
-  legal = subst (λ (c : Configuration). IsLegal c last.entries) (taken.config ∙ config) taken.legal;
-  whole = subst (λ (j : List Entry). IsWhole (map calls_to_make i.scripts) (user_actions_to_do i.input) j)
-      (sym taken.recorded) (whole i.scripts i.input mid.entries rounds_are);
+  legal = rw (taken.config ∙ config) at taken.legal;
+  whole = rw (← taken.recorded) at (whole i.scripts i.input mid.entries rounds_are);
   rounds = λ is. (mid.entries, rounds_are, taken.recorded);
 }
 
@@ -235,7 +237,7 @@ taken_all Shows seen takes (f ∷ shots) old new (mid, first, rest) =
 -- and then one more
 pub takes_more : (frames : List (List ℕ)) (words : List ℕ) (old mid new : NestState) → TakesAll frames old mid
     → TakesNext words mid new → TakesAll (frames ++ words ∷ []) old new
-takes_more [] words old mid new same next = (new, subst (λ (s : NestState). TakesNext words s new) same next, refl)
+takes_more [] words old mid new same next = (new, rw same at next, refl)
 takes_more (f ∷ frames) words old mid new (at, first, rest) next =
     (at, first, takes_more frames words at mid new rest next)
 
@@ -277,7 +279,7 @@ module _ (counted : Counted) (i : RunFiles) (own : List Line) (may : first_forbi
 
   answered : (n : NestModel) → n ≡ nest_of i
       → script_answer n own ≡ cond long (Err TooLong) (Ok (nest_script (nest_of i) own))
-  answered n is = ap (λ (m : NestModel). script_answer m own) is ∙ answer_by_length counted (nest_of i) own may same
+  answered n is = rw (is, answer_by_length counted (nest_of i) own may same)
 
   pub script_made : (n : NestModel) → n ≡ nest_of i → (script : List Line) → Ok script ≡ script_answer n own
       → (long ≡ false) × (script ≡ nest_script (nest_of i) own)

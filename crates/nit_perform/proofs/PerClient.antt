@@ -32,14 +32,14 @@ pub one_made : {X : Type 0} (make : ℕ → List Line → ℕ → X) (config : C
 one_made {X = X} make config clients scripts k script other x old new are each inside is before made more =
     let here : script ≡ script_in scripts k = is ∙ get_or_default scripts k script [] inside in
     let client : get_or clients k other ≡ member config k =
-    at_member config clients k other are (subst (λ (n : ℕ). k < n) each inside) in
-    let right : x ≡ make k (script_in scripts k) (donation_of config k) = made
-    ∙ ap (λ (s : List Line). make k s (get_or clients k other).donation) here
-    ∙ ap (λ (c : Member). make k (script_in scripts k) c.donation) client in
-    more ∙ ap (λ (xs : List X). xs ++ x ∷ []) before
-    ∙ ap (λ (y : X). map (λ t. make t (script_in scripts t) (donation_of config t)) (range_with_len 0 k) ++ y ∷ [])
-    right
-    ∙ sym (map-range_with_len_more (λ t. make t (script_in scripts t) (donation_of config t)) 0 k k (zero-add k))
+    at_member config clients k other are (rw each at inside) in
+    let right : x ≡ make k (script_in scripts k) (donation_of config k) = rw (made, here, client) in
+    rw (
+      more,
+      before,
+      right,
+      ← map-range_with_len_more (λ t. make t (script_in scripts t) (donation_of config t)) 0 k k (zero-add k),
+    )
 
 -- the plan in a list of those of the scripts
 pub plan_made : (config : Configuration) (clients : List Member) (scripts : List (List Line)) (plans : List PlanModel)
@@ -56,8 +56,7 @@ plan_made config clients scripts plans k plan other are each of inside is =
 
 pub plans_long : (config : Configuration) (scripts : List (List Line)) (plans : List PlanModel)
     → plans ≡ plans_of config scripts → length plans ≡ length scripts
-plans_long config scripts plans of = ap (λ (ps : List PlanModel). length ps) of
-    ∙ length-map-range_with_len _ 0 (length scripts)
+plans_long config scripts plans of = rw (of, length-map-range_with_len _ 0 (length scripts))
 
 pub inked : (config : Configuration) (scripts : List (List Line)) (plans plans' : List PlanModel) → plans' ≡ plans
     → plans ≡ plans_of config scripts → AreScriptsOf config scripts → All (λ (p : PlanModel). All IsWord p.ink) plans
@@ -65,7 +64,7 @@ pub inked : (config : Configuration) (scripts : List (List Line)) (plans plans' 
 inked config scripts plans plans' same are of words = record {
   configured = of.configured;
   each = plans_long config scripts plans' (same ∙ are) ∙ of.each;
-  words = subst (λ (ps : List PlanModel). All (λ (p : PlanModel). All IsWord p.ink) ps) (sym same) words;
+  words = rw (← same) at words;
 }
 
 -- ---- all of them
@@ -87,7 +86,7 @@ blank_at config scripts t inside =
 
 plan_at : (config : Configuration) (scripts : List (List Line)) (plans : List PlanModel) (t : ℕ)
     → plans ≡ plans_of config scripts → t < length scripts → plan_in plans t ≡ plan_in (plans_of config scripts) t
-plan_at config scripts plans t are inside = ap (λ (ps : List PlanModel). plan_in ps t) are
+plan_at config scripts plans t are inside = rw are
 
 pub set_up : (config : Configuration) (scripts : List (List Line)) (plans : List PlanModel) (glasses owns : List Sight)
     → length scripts ≡ length config.clients → plans ≡ plans_of config scripts → glasses ≡ glasses_of config scripts
@@ -95,8 +94,8 @@ pub set_up : (config : Configuration) (scripts : List (List Line)) (plans : List
     → IsSetUp config scripts plans glasses owns
 set_up config scripts plans glasses owns each plans_are glasses_are owns_are = record {
   sessions = each;
-  plans_each = ap (λ (ps : List PlanModel). length ps) plans_are ∙ length-map-range_with_len _ 0 (length scripts);
-  owns_each = ap (λ (gs : List Sight). length gs) owns_are ∙ length-map-range_with_len _ 0 (length scripts);
+  plans_each = rw (plans_are, length-map-range_with_len _ 0 (length scripts));
+  owns_each = rw (owns_are, length-map-range_with_len _ 0 (length scripts));
   same = glasses_are ∙ sym owns_are;
   planned = λ t inside. plan_at config scripts plans t plans_are inside
       ∙ get_or-map-range_with_len _ 0 (length scripts) t t (record { steps = []; ink = [] }) inside (zero-add t);
@@ -109,18 +108,17 @@ donation_within config t configured inside = (configured.clients t _ inside).don
 
 -- where the glasses are taken as they are
 pub itself_at : (glasses : List Sight) (t : ℕ) → glass_in (map (λ g. g) glasses) t ≡ glass_in glasses t
-itself_at glasses t = ap (λ (gs : List Sight). glass_in gs t) (map-id glasses)
+itself_at glasses t = rw (map-id glasses)
 
 -- a glass with so many words as the session's table
 is_glass : (config : Configuration) (t : ℕ) (words colours : List ℕ) (g : Sight) → g ≡ inked_sight t words colours
     → length words ≡ table_size (donation_of config t) → IsGlass config t g
-is_glass config t words colours g is long = (ap (λ (s : Sight). s.owner) is, ap (λ (s : Sight). s.size) is ∙ long)
+is_glass config t words colours g is long = (rw is, ap (λ (s : Sight). s.size) is ∙ long)
 
 pub glasses_long : (config : Configuration) (scripts : List (List Line)) (glasses : List Sight)
     → length scripts ≡ length config.clients → glasses ≡ glasses_of config scripts
     → length glasses ≡ length config.clients
-glasses_long config scripts glasses each are = ap (λ (gs : List Sight). length gs) are
-    ∙ length-map-range_with_len _ 0 (length scripts) ∙ each
+glasses_long config scripts glasses each are = rw (are, length-map-range_with_len _ 0 (length scripts), each)
 
 pub blank_glass : WordsLaw → (config : Configuration) (scripts : List (List Line)) (glasses : List Sight) (t : ℕ)
     → IsConfiguration config → length scripts ≡ length config.clients → glasses ≡ glasses_of config scripts
@@ -129,8 +127,7 @@ pub blank_glass : WordsLaw → (config : Configuration) (scripts : List (List Li
 blank_glass law config scripts glasses t configured each are inside =
     is_glass config t (words_after (script_in scripts t) (donation_of config t) 0) (ink (script_in scripts t))
     (glass_in (map (λ g. g) glasses) t)
-    (itself_at glasses t ∙ ap (λ (gs : List Sight). glass_in gs t) are
-    ∙ blank_at config scripts t (subst (λ (n : ℕ). t < n) (sym each) inside))
+    (rw (itself_at glasses t, are, blank_at config scripts t (subst (λ (n : ℕ). t < n) (sym each) inside)))
     (law (script_in scripts t) (donation_of config t) 0 (donation_within config t configured inside))
 
 -- ---- at the end
@@ -154,12 +151,12 @@ left_glass words all config scripts owns t configured each are inside =
     is_glass config t (words_left (script_in scripts t) (donation_of config t)) (ink (script_in scripts t))
     (glass_in owns t) (are t inside)
     (left_long words all (script_in scripts t) (donation_of config t)
-    (donation_within config t configured (subst (λ (n : ℕ). t < n) each inside)))
+    (donation_within config t configured (rw each at inside)))
 
 pub left_tables : (config : Configuration) (scripts : List (List Line)) (owns : List Sight)
     → length owns ≡ length scripts → AreLeft config scripts owns → HaveTables owns (tables_left config scripts)
 left_tables config scripts owns each are t inside =
-    ap (λ (g : Sight). g.words) (are t (subst (λ (n : ℕ). t < n) each inside))
+    rw (are t (subst (λ (n : ℕ). t < n) each inside))
 
 -- the last picture may be taken of what a run by rounds leaves, by own glasses that are the same
 pub can_take_last : WordsLaw → DoneLaw → (config : Configuration) (scripts : List (List Line)) (input : List InputLine)

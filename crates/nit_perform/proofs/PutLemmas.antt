@@ -1,10 +1,10 @@
 -- What files that are put one after the other leave: all were put; or those before one, which was refused.
 use Rattle.std.proofs.Common.{◌≡◌, ℕ, true, false, List, [], ◌∷◌, ◌++◌, map, Option, Some, None}
-use Rattle.std.proofs.Common.{Result, Ok, Err, refl, sym, ap, subst, ◌∙◌, append_assoc, inr}
+use Rattle.std.proofs.Common.{Result, Ok, Err, refl, sym, subst, append_assoc, inr}
 use Rattle.nit_perform.proofs.Basics.{AfterPut, AskedAtMost, File, IsPut, PutEach, PutError}
 use Rattle.nit_perform.proofs.Basics.{PutFault, PutFiles, PutIn, PutRefusal, PutState, PutsAll}
 use Rattle.nit_perform.proofs.Basics.{PutsFile, PutsNext, PutsUnless, StoreModel, WriteFaulted}
-use Rattle.nit_perform.proofs.Basics.{also_more, append-nil, asked_also, asking_all, asking_none}
+use Rattle.nit_perform.proofs.Basics.{also_more, append-nil, asking_all, asking_none}
 use Rattle.nit_perform.proofs.Basics.{is_some, none_behind, output_name, put_state_of_run}
 use Rattle.nit_perform.proofs.Basics.{refusal_by, unrefused, with_asked}
 use Rattle.nit_store.specs.declared.store.PutError.TheVariants as put
@@ -38,7 +38,7 @@ PutSo old files new (Some r) = PutUntil old files new r
 
 each_more : (files : List File) (f : File) (old mid new : List File) → PutEach files old mid → IsPut f.0 f.1 mid new
     → PutEach (files ++ f ∷ []) old new
-each_more [] f old mid new h p = (new, subst (λ (o : List File). IsPut f.0 f.1 o new) h p, refl)
+each_more [] f old mid new h p = (new, rw h at p, refl)
 each_more (g ∷ files) f old mid new h p = (h.0, h.1, each_more files f h.0 mid new h.2 p)
 
 pub same_files : (a b : List File) → Some a ≡ Some b → a ≡ b
@@ -51,22 +51,19 @@ files_more files f None (Some m) new h p = absurd cc
 files_more files f (Some o) None new h p = absurd (let e = h.1 in cc)
 files_more files f (Some o) (Some m) new h p =
     let same : m ≡ h.0 = same_files m h.0 h.1 in
-    (p.0, p.1, each_more files f o h.0 p.0 h.2 (subst (λ (k : List File). IsPut f.0 f.1 k p.0) same p.2))
+    (p.0, p.1, each_more files f o h.0 p.0 h.2 (rw same at p.2))
 
 names_more : (files : List File) (f : File) → map (λ (g : File). g.0) (files ++ f ∷ []) ≡ map (λ (g : File). g.0) files
     ++ f.0 ∷ []
 names_more [] f = refl
-names_more (g ∷ files) f = ap (λ (ns : List (List ℕ)). g.0 ∷ ns) (names_more files f)
+names_more (g ∷ files) f = rw (names_more files f)
 
 all_more : {T : Type 0} (first : StoreModel) (files : List File) (mid : StoreModel) (f : File) (new : StoreModel)
     (done : T) → PutAll first files mid → AfterPut {T = T} mid f.0 f.1 new (Ok done)
     → PutAll first (files ++ f ∷ []) new
 all_more first files mid f new done h p = record {
   rest =
-      p.0 ∙ ap (λ (s : StoreModel). record (with_asked s f.0) { files = new.files }) h.rest
-      ∙ ap (λ (o : Option (List (List ℕ))). record first { files = new.files; asked = o })
-      (also_more first.asked (map (λ (g : File). g.0) files) (f.0 ∷ [])
-      ∙ ap (λ (ns : List (List ℕ)). asked_also first.asked ns) (sym (names_more files f)));
+      rw (p.0, h.rest, also_more first.asked (map (λ (g : File). g.0) files) (f.0 ∷ []), ← names_more files f);
   put = files_more files f first.files mid.files new.files h.put p.1;
 }
 
@@ -158,8 +155,7 @@ no_put f old now named is =
     record {
       answer = Err put.NoMemory;
       put = inr refl;
-      kept = ap (λ (n : List ℕ). Some (refused_as n now.error)) named
-          ∙ ap (λ (x : PutError). Some (refused_as f.0 x)) is;
+      kept = rw (named, is);
     }
 
 -- so where none was refused before

@@ -84,13 +84,38 @@ fn film_named<'s, F: Filming, R: Threads + Wait + Sync, S: Store, G: Gate>(
     ensures film { let r = result.reel in IsFilmOf r.whole F.begun r.film.capture
         (picture_names r.count r.ended) (S.shown r.store.now).files r.film.bytes.items }
 {
+    let Reel {
+        store,
+        film,
+        count,
+        ended,
+        whole,
+    } = reel;
     let mut front: FilmStore<'s, S, F> = FilmStore {
-        reel,
+        store,
+        film,
+        count,
+        ended,
+        whole,
         of: PhantomData,
     };
     let clients = scripts.clients.as_slice();
     let ran = run_beside(host, config, clients, &scripts.input, &mut front);
-    let FilmStore { reel, of: _ } = front;
+    let FilmStore {
+        store,
+        film,
+        count,
+        ended,
+        whole,
+        of: _,
+    } = front;
+    let reel = Reel {
+        store,
+        film,
+        count,
+        ended,
+        whole,
+    };
     Reeled { reel, ran }
 }
 

@@ -12,7 +12,7 @@ use nit_rect::NoMemory;
 use nit_report::{gen_config, generate, generated_client_counts, generated_user_counts};
 use nit_run::Scripts;
 use nit_run::laws::headline;
-use nit_setup::{End, Loaded, OneScript, nowhere, read_files, read_run, read_still};
+use nit_setup::{End, OneScript, nowhere, read_files, read_run, read_still};
 use nit_store::Store;
 use nit_store::laws::puts_go_on;
 use std::alloc::Global;
@@ -51,12 +51,12 @@ pub fn turns<S: Store>(alloc: Global, store: &mut S, name: &str) -> Worked
     ensures { Ends (Run false name.now) (S.shown store.old) (S.shown store.new) result }
 {
     headline();
-    let Loaded { config, scripts } = match read_run(alloc, store, name) {
+    let run = match read_run(alloc, store, name) {
         Ok(run) => run,
         Err(stop) => return ended_before_run(alloc, stop),
     };
-    let clients = scripts.clients.as_slice();
-    let Ok(ran) = run_turns(alloc, &config, clients, &scripts.input, store) else {
+    let clients = run.scripts.clients.as_slice();
+    let Ok(ran) = run_turns(alloc, &run.config, clients, &run.scripts.input, store) else {
         return ended_before_run(alloc, nowhere(End::NoMemory));
     };
     Worked::after(ran, clients.len())

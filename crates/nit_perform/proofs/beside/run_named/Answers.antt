@@ -1,5 +1,5 @@
 use Rattle.std.proofs.Common.{rules, ◌++◌, ◌∷◌, [], sym, subst}
-use Rattle.nit_perform.proofs.Lemmas.{AreDone, HasRun, IsDoneUser, OpeningParts, PutState}
+use Rattle.nit_perform.proofs.Lemmas.{HasRun, PutState}
 use Rattle.nit_perform.proofs.Lemmas.{PutsAll, StoreModel, all_done, beside_leaves, ended_as}
 use Rattle.nit_perform.proofs.Lemmas.{events_files}
 use Rattle.nit_perform.proofs.Lemmas.{journal_file, put_state_of_run, setup_in, user_done}
@@ -9,11 +9,10 @@ pub last_picture-scene-requires-clause-done : goal.last_picture-scene-requires-c
 last_picture-scene-requires-clause-done g c =
     let is = sym c.into_room-room.ensures.parts in
     record {
-      clients_done = subst (λ (q : OpeningParts). AreDone q c.run_beside-mine.new.passes.items) is
-          (all_done g.N.Name.parts c.args.opened.room c.args.opened.passes.items c.run_beside-mine.new.passes.items
+      clients_done = rw is at (all_done g.N.Name.parts c.args.opened.room c.args.opened.passes.items
+          c.run_beside-mine.new.passes.items
           c.args.opened.user c.requires.ready c.run_beside-mine.ensures.same c.run_beside-mine.ensures.done);
-      user_done = subst (λ (q : OpeningParts). IsDoneUser q c.run_beside-mine.result.user) is
-          (user_done g.N.Name.parts c.args.opened.user c.run_beside-mine.result.user
+      user_done = rw is at (user_done g.N.Name.parts c.args.opened.user c.run_beside-mine.result.user
           c.requires.ready.user_belongs c.run_beside-mine.ensures.user.shots.same
           c.run_beside-mine.ensures.user.done);
       unended = c.into_room-room.ensures.«open»;

@@ -5,8 +5,7 @@ pub buffers_of-requires : goal.buffers_of-requires
 buffers_of-requires g c =
     record {
       configured = c.requires.runnable.configured;
-      each = ap (λ (ss : List (List Line)). length ss) c.as_slice-clients.ensures.value
-          ∙ c.requires.runnable.scripts;
+      each = rw (c.as_slice-clients.ensures.value, c.requires.runnable.scripts);
     }
 
 pub open_pairs-requires-clause-setting : goal.open_pairs-requires-clause-setting

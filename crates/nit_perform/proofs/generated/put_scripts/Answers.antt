@@ -1,5 +1,5 @@
-use Rattle.std.proofs.Common.{◌∙◌, ◌≡◌, ℕ, arith, refl, subst}
-use Rattle.nit_perform.proofs.Lemmas.{PutsAll, one_script_more, put_state_of_run, script_files}
+use Rattle.std.proofs.Common.{◌∙◌, ◌≡◌, arith, refl}
+use Rattle.nit_perform.proofs.Lemmas.{one_script_more, put_state_of_run}
 use Rattle.nit_perform.proofs.Lemmas.{text_at}
 use Rattle.nit_perform.proofs.generated.put_scripts.Goals as goal
 
@@ -21,6 +21,4 @@ returns g c =
     let low = c.clients-test.false in
     let high = c.clients.auto.client-end in
     let all : c.clients.client ≡ 8 = omega arith in
-    subst (λ (k : ℕ). PutsAll (script_files c.args.number k)
-    (put_state_of_run (g.S.Store.shown c.args.store.now) c.args.fault)
-    (put_state_of_run (g.S.Store.shown c.clients.store) c.clients.refused)) all c.clients.invariant
+    rw all at c.clients.invariant

@@ -1,6 +1,6 @@
-use Rattle.std.proofs.Common.{◌≡◌, ◌∙◌, ◌<◌, ℕ, [], ap, arith, length, map, subst, sym}
-use Rattle.nit_perform.proofs.Lemmas.{Configuration, donation_of, get_or_default, glass_after}
-use Rattle.nit_perform.proofs.Lemmas.{one_made, plan_made, plans_long, range_with_len, script_in}
+use Rattle.std.proofs.Common.{◌≡◌, ◌∙◌, ◌<◌, ℕ, [], ap, arith, length, subst, sym}
+use Rattle.nit_perform.proofs.Lemmas.{Configuration, get_or_default, glass_after}
+use Rattle.nit_perform.proofs.Lemmas.{one_made, plan_made, plans_long, script_in}
 use Rattle.nit_perform.proofs.opening.glasses_of.Goals as goal
 
 pub loop-sid-preserved : goal.loop-sid-preserved
@@ -27,5 +27,4 @@ returns c =
     let all : c.loop-sid.sid ≡ length scripts =
     let long = plans_long c.args.config.now scripts c.args.plans.now c.requires.plans in
     omega (arith, c.loop-sid.auto.sid-end, c.loop-sid-test.false, long) in
-    c.loop-sid.invariant ∙ ap (λ (n : ℕ).
-    map (λ t. glass_after t (script_in scripts t) (donation_of c.args.config.now t) 0) (range_with_len 0 n)) all
+    rw (c.loop-sid.invariant, all)

@@ -1,5 +1,5 @@
-use Rattle.std.proofs.Common.{◌≡◌, ◌+◌, ◌≤◌, ◌∙◌, length, ap, sym, arith}
-use Rattle.nit_perform.proofs.Lemmas.{SceneModel, Sight, actions_of_turns, blank_glass}
+use Rattle.std.proofs.Common.{◌≡◌, ◌+◌, ◌≤◌, ◌∙◌, length, sym, arith}
+use Rattle.nit_perform.proofs.Lemmas.{actions_of_turns, blank_glass}
 use Rattle.nit_perform.proofs.Lemmas.{glasses_long, inked, rounds, set_up}
 use Rattle.nit_perform.proofs.opening.open.Goals as goal
 
@@ -28,17 +28,16 @@ returns c =
     let moves = rounds scripts c.args.input.now in
     let scene = c.in_ok-scene.scene in
     let made = c.in_ok-scene.ensures in
-    let spare : scene.spare ≡ c.line_count-lines.result + 1 = ap (λ (p : SceneModel Sight). p.spare) made in
+    let spare : scene.spare ≡ c.line_count-lines.result + 1 = rw made in
     let few : length (actions_of_turns moves) ≤ length moves = c.each_line_once.ensures.acts moves in
     let lines : length moves ≡ c.line_count-lines.result = c.each_line_once.ensures.count scripts c.args.input.now
     ∙ sym c.line_count-lines.ensures.count in
     record {
       scripts_each = c.requires;
-      configuration = ap (λ (p : SceneModel Sight). p.config) made;
-      entries = ap (λ (p : SceneModel Sight). p.entries) made;
+      configuration = rw made;
+      entries = rw made;
       spare = omega (arith, spare, few, lines);
       set_up = set_up c.args.config.now scripts c.in_ok-plans.plans.items scene.glasses c.in_ok-owns.owns.items
-          c.requires.each c.in_ok-plans.ensures.plans (ap (λ (p : SceneModel Sight). p.glasses) made
-          ∙ c.in_ok-glasses.ensures) c.in_ok-owns.ensures;
+          c.requires.each c.in_ok-plans.ensures.plans (rw (made, c.in_ok-glasses.ensures)) c.in_ok-owns.ensures;
       text = c.in_ok-text.ensures;
     }

@@ -1,11 +1,11 @@
-use Rattle.nit_perform.proofs.Lemmas.{AreFirstClipPasses, ClipPassModel, List, OpeningParts}
-use Rattle.nit_perform.proofs.Lemmas.{RoomModel, ap, length, opened_ready, subst, sym, ◌∙◌}
+use Rattle.nit_perform.proofs.Lemmas.{ClipPassModel, List, OpeningParts}
+use Rattle.nit_perform.proofs.Lemmas.{ap, length, opened_ready, sym, ◌∙◌}
 use Rattle.nit_perform.proofs.pairs.open_pairs.Goals as goal
 
 pub open_clips-requires-clause-unserved : goal.open_clips-requires-clause-unserved
 open_clips-requires-clause-unserved c =
     let o = c.in_ok-opened.ensures.room in
-    record { entries = o.entries; no_clips = ap (λ (q : OpeningParts). q.clips) o.parts_are }
+    record { entries = o.entries; no_clips = rw o.parts_are }
 
 pub open_clips-requires-clause-each : goal.open_clips-requires-clause-each
 open_clips-requires-clause-each c = c.requires.each
@@ -22,5 +22,4 @@ returns-clause-ready c =
     c.args.clips.now c.requires.runnable c.requires.each made.result.room made.result.pairs.items
     made.result.user (made.ensures.room ∙ two.ensures.room) (made.ensures.user ∙ two.ensures.user) (made.ensures.passes
     ∙ two.ensures.passes)
-    (subst (λ (qs : List ClipPassModel). AreFirstClipPasses made.result.room.parts qs) (sym made.ensures.clips)
-    (subst (λ (t : RoomModel). AreFirstClipPasses t.parts clips) (sym made.ensures.room) two.ensures.clips))
+    (rw (← made.ensures.clips) at (rw (← made.ensures.room) at two.ensures.clips))

@@ -1,5 +1,5 @@
-use Rattle.nit_perform.proofs.Lemmas.{Err, List, None, Ok, PutFault, Some, ap, next_goes}
-use Rattle.nit_perform.proofs.Lemmas.{next_stays, put_state_of_run, refl, refused_as, sym, ℕ}
+use Rattle.nit_perform.proofs.Lemmas.{Err, None, Ok, PutFault, Some, next_goes}
+use Rattle.nit_perform.proofs.Lemmas.{next_stays, put_state_of_run, refl, sym}
 use Rattle.nit_perform.proofs.puts.put_next.Goals as goal
 
 pub returns-then-is_some : goal.returns-then-is_some
@@ -21,5 +21,5 @@ returns-in-Err g c =
       answer = Err c.in-Err.error;
       put = c.in-Err.ensures.answer;
       kept =
-          ap (λ (n : List ℕ). Some (refused_as n c.in-Err.error)) c.requires;
+          rw c.requires;
     })

@@ -1,5 +1,5 @@
-use Rattle.std.proofs.Common.{arith, ◌<◌, List, length, not, subst, ap, ◌∙◌}
-use Rattle.nit_perform.proofs.Lemmas.{File, Member, PutsNext, ending_of, events_name, events_text}
+use Rattle.std.proofs.Common.{arith, not, ap, ◌∙◌}
+use Rattle.nit_perform.proofs.Lemmas.{File, PutsNext, ending_of, events_name, events_text}
 use Rattle.nit_perform.proofs.Lemmas.{next_goes, next_stays, one_more_text, put_state_of_run}
 use Rattle.nit_perform.proofs.Lemmas.{session, state_now}
 use Rattle.nit_perform.proofs.texts.put_events.Goals.{then-is_none, else-is_none}
@@ -7,7 +7,7 @@ use Rattle.nit_perform.proofs.texts.put_events.Goals as goal
 
 pub overflow_cast-sid : goal.overflow_cast-sid
 overflow_cast-sid g c =
-    let inside = subst (λ (ms : List Member). c.loop-sid.sid < length ms) c.requires c.loop-sid-test.true in
+    let inside = rw c.requires at c.loop-sid-test.true in
     let few = c.size.ensures.configured.count.1 in
     omega arith
 

@@ -1,8 +1,7 @@
-use Rattle.std.proofs.Common.{◌≡◌, false, ◌∷◌, [], ℕ, List, None, sym, subst, refl}
-use Rattle.nit_top.proofs.Lemmas.{Configuration, InputLine, IsRunnable, Line, Performed, Setup}
-use Rattle.nit_top.proofs.Lemmas.{Still}
-use Rattle.nit_top.proofs.Lemmas.{idle_user, performed_ends, setup_of, still_configuration}
-use Rattle.nit_top.proofs.Lemmas.{still_setup, stopped_ends}
+use Rattle.std.proofs.Common.{◌≡◌, false, ◌∷◌, [], ℕ, List, None, refl}
+use Rattle.nit_top.proofs.Lemmas.{Configuration, InputLine, Line, Still, idle_user, inl}
+use Rattle.nit_top.proofs.Lemmas.{performed_ends, rules, setup_of, still_configuration, still_setup}
+use Rattle.nit_top.proofs.Lemmas.{stopped_ends}
 use Rattle.nit_top.proofs.run.perform.still.Goals as goal
 
 same_setup : (width height : ℕ) (config : Configuration) (lines : List Line) (input : List InputLine)
@@ -26,26 +25,42 @@ returns-in-Err g c =
     c.ended_before_run.ensures.stop
     c.ended_before_run.ensures.journal
 
-pub perform_alone-requires-clause-runnable : goal.perform_alone-requires-clause-runnable
-perform_alone-requires-clause-runnable g c =
+pub run_one-requires-clause-runnable : goal.run_one-requires-clause-runnable
+run_one-requires-clause-runnable g c =
+    let read = c.in-Ok.read in
     let h = c.in-Ok.ensures in
-    subst (λ (s : Setup). IsRunnable s)
-    (sym (same_setup c.args.width c.args.height c.in-Ok.read.config c.in-Ok.read.client c.in-Ok.read.input h.config
-    h.input)) h.read.valid.runnable
+    rw (same_setup c.args.width c.args.height read.config read.client read.input h.config h.input)
+    h.read.valid.runnable
 
-pub perform_alone-requires-clause-alone : goal.perform_alone-requires-clause-alone
-perform_alone-requires-clause-alone g c = (c.in-Ok.read.client, refl, c.in-Ok.ensures.input)
+pub run_one-requires-clause-alone : goal.run_one-requires-clause-alone
+run_one-requires-clause-alone g c = (c.in-Ok.read.client, refl, c.in-Ok.ensures.input)
+
+pub returns-in_default : goal.returns-in_default
+returns-in_default g c =
+    let h = c.in-Ok.ensures in
+    performed_ends (Still c.args.width c.args.height c.args.script.now) (g.S.Store.shown c.args.store.now)
+    (g.S.Store.shown c.read_still.new.store) (g.S.Store.shown c.run_one.new.store)
+    (still_setup c.args.width c.args.height c.in-Ok.read.client) c.ended_before_run-in_default.result
+    (λ s journal files are. refl, λ config. refl) h.read.asked h.read.valid (search rules)
 
 pub returns : goal.returns
 returns g c =
-    let width = c.args.width in
-    let height = c.args.height in
+    let read = c.in-Ok.read in
     let h = c.in-Ok.ensures in
-    let mid = g.S.Store.shown c.read_still.new.store in
-    let new = g.S.Store.shown c.perform_alone.new.store in
-    performed_ends (Still width height c.args.script.now) (g.S.Store.shown c.args.store.now) mid new
-    (still_setup width height c.in-Ok.read.client) c.perform_alone.result (λ s journal files are. refl, λ config. refl)
-    h.read.asked h.read.valid
-    (subst (λ (s : Setup). Performed mid s new c.perform_alone.result)
-    (same_setup width height c.in-Ok.read.config c.in-Ok.read.client c.in-Ok.read.input h.config h.input)
-    c.perform_alone.ensures)
+    let s = still_setup c.args.width c.args.height read.client in
+    let ran = c.in-Ok-run_one.ran in
+    let same = same_setup c.args.width c.args.height read.config read.client read.input h.config h.input in
+    let has = rw same at c.in-Ok-run_one.ensures in
+    performed_ends (Still c.args.width c.args.height c.args.script.now) (g.S.Store.shown c.args.store.now)
+    (g.S.Store.shown c.read_still.new.store) (g.S.Store.shown c.run_one.new.store) s c.after.result
+    (λ s journal files are. refl, λ config. refl) h.read.asked h.read.valid
+    (inl (record {
+      ran = ran;
+      has_run = has;
+      headline = c.headline.ensures s ran.journal.items has.outputs h.read.valid.runnable has.journal has.are;
+      end_is = c.after.ensures.end;
+      name_is = c.after.ensures.name;
+      journal_is = c.after.ensures.journal;
+      clients_are = c.after.ensures.clients;
+      frames_are = c.after.ensures.frames;
+    }))

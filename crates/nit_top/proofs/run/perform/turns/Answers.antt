@@ -1,6 +1,5 @@
-use Rattle.nit_top.proofs.Lemmas.{IsRunnable, Line, List, Performed, Run, false, performed_ends}
-use Rattle.nit_top.proofs.Lemmas.{refl}
-use Rattle.nit_top.proofs.Lemmas.{setup_in, setup_of, stopped_ends, subst, sym, true}
+use Rattle.nit_top.proofs.Lemmas.{Run, false, inl, performed_ends, refl, rules, setup_in}
+use Rattle.nit_top.proofs.Lemmas.{stopped_ends}
 use Rattle.nit_top.proofs.run.perform.turns.Goals as goal
 
 pub returns-in-Err : goal.returns-in-Err
@@ -9,18 +8,35 @@ returns-in-Err g c =
     c.in-Err.stop (c.in-Err.ensures.run false) c.ended_before_run.result c.ended_before_run.ensures.stop
     c.ended_before_run.ensures.journal
 
-pub perform-requires : goal.perform-requires
-perform-requires g c = subst (λ (ss : List (List Line)).
-    IsRunnable (setup_of c.in-Ok.run'.config ss c.in-Ok.run'.scripts.input true false)) (sym c.deref.ensures.value)
-    (c.in-Ok.ensures.run false).valid.runnable
+pub run_turns-requires : goal.run_turns-requires
+run_turns-requires g c = rw c.as_slice-clients.ensures.value (c.in-Ok.ensures.run false).valid.runnable
 
-pub returns-in-Ok : goal.returns-in-Ok
-returns-in-Ok g c =
+pub returns-in_default : goal.returns-in_default
+returns-in_default g c =
+    let r = c.in-Ok.ensures.run false in
+    let mid = g.S.Store.shown c.read_run.new.store in
+    let new = g.S.Store.shown c.run_turns.new.store in
+    performed_ends (Run false c.args.name.now) (g.S.Store.shown c.args.store.now) mid new (setup_in c.in-Ok.run' false)
+    c.ended_before_run-in_default.result (λ s journal files are. refl, λ config. refl) r.asked r.valid (search rules)
+
+pub returns : goal.returns
+returns g c =
     let run = c.in-Ok.run' in
     let r = c.in-Ok.ensures.run false in
     let mid = g.S.Store.shown c.read_run.new.store in
-    let new = g.S.Store.shown c.perform.new.store in
+    let new = g.S.Store.shown c.run_turns.new.store in
+    let ran = c.in-Ok-run_turns.ran in
+    let has = rw c.as_slice-clients.ensures.value at c.in-Ok-run_turns.ensures in
     performed_ends (Run false c.args.name.now) (g.S.Store.shown c.args.store.now) mid new (setup_in run false)
-    c.perform.result (λ s journal files are. refl, λ config. refl) r.asked r.valid
-    (subst (λ (ss : List (List Line)). Performed mid (setup_of run.config ss run.scripts.input true false) new
-    c.perform.result) c.deref.ensures.value c.perform.ensures)
+    c.after.result (λ s journal files are. refl, λ config. refl) r.asked r.valid
+    (inl (record {
+      ran = ran;
+      has_run = has;
+      headline = c.headline.ensures (setup_in run false) ran.journal.items has.outputs r.valid.runnable has.journal
+          has.are;
+      end_is = c.after.ensures.end;
+      name_is = c.after.ensures.name;
+      journal_is = c.after.ensures.journal;
+      clients_are = rw c.as_slice-clients.ensures.value at c.after.ensures.clients;
+      frames_are = c.after.ensures.frames;
+    }))
