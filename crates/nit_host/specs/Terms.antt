@@ -1,7 +1,8 @@
 -- The words that clauses use: those that come from outside, and those of this crate.
 pub use Rattle.nit_host.specs.Below.{Agrees, AreLive, Call, Configuration, CoversChange}
 pub use Rattle.nit_host.specs.Below.{DesktopModel, Device, Entry, IsConfiguration, IsDevice}
-pub use Rattle.nit_host.specs.Below.{IsDonation, IsFrameShown, IsFreeLabel, IsPlace, IsTouched, IsWord}
+pub use Rattle.nit_host.specs.Below.{IsDonation, IsFrameShown, IsFreeLabel, IsPlace, IsTouched}
+pub use Rattle.nit_host.specs.Below.{IsWord}
 pub use Rattle.nit_host.specs.Below.{LiesOn, Member, Mode, Painted, Rectangle, Reply, Routed}
 pub use Rattle.nit_host.specs.Below.{Session, ShowsLabels, Sight, State, Status, after, asks_view}
 pub use Rattle.nit_host.specs.Below.{covers, donation_of, enumerate_from, filled_up, first_state}

@@ -1,5 +1,6 @@
 -- What painting pixels needs, and what it leaves.
-use Rattle.std.specs.Prelude.{◌≡◌, ◌≤◌, ◌*◌, ℕ, Bool, true, List, length, map, All, IfSome, IsSomeAnd}
+use Rattle.std.specs.Prelude.{◌≡◌, ◌≤◌, ◌*◌, ℕ, Bool, true, List, length, map, All, IfSome}
+use Rattle.std.specs.Prelude.{IsSomeAnd}
 use Rattle.nit_repaint.specs.declared.painter.Painter.{Painter}
 use Rattle.nit_repaint.specs.Below.{IsLook, IsPiece, IsWord, Look, Piece, Repainted, Sight}
 use Rattle.nit_repaint.specs.Below.{StackModel, has_pixel, has_slot, source_of_number}

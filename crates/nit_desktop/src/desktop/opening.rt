@@ -47,8 +47,8 @@ impl<G: Glass + Drop> Desktop<G> {
         })
     }
 
-    /// A screen of this configuration with no session open: each is over as if its client had closed
-    /// it, and opens when a client comes. All memory is taken here.
+    /// A screen of this configuration with no session open: each is over as if its client had
+    /// closed it, and opens when a client comes. All memory is taken here.
     pub fn vacant(alloc: Global, config: &Config, glasses: Vec<G>) -> Result<Desktop<G>, NoMemory>
         requires config { IsConfiguration config.now }
         requires glasses { AreGlasses G.sight config.now glasses.items }

@@ -2,8 +2,8 @@
 
 ghost use Rattle.std.specs.Prelude.{◌≡◌, ℕ, ◌*◌, ◌<◌, ◌≤◌, All, IsTrue, Option, false, length, map};
 ghost use Rattle.std.specs.Prelude.{nat_lt, slice_index, true, if◌then◌else◌};
-ghost use Rattle.nit_screen.specs.Terms.{CanShowBy, Flat, IsOnlyCut, IsPartShown, IsServer, IsShown, IsWord};
-ghost use Rattle.nit_screen.specs.Terms.{ShowsBelow, bar_rows, bar_word, draws_labels, frame};
+ghost use Rattle.nit_screen.specs.Terms.{CanShowBy, Flat, IsOnlyCut, IsPartShown, IsServer, IsShown};
+ghost use Rattle.nit_screen.specs.Terms.{IsWord, ShowsBelow, bar_rows, bar_word, draws_labels, frame};
 ghost use Rattle.nit_screen.specs.Terms.{kept_frame, pixel, raw_of, scenery_of, state_of, wanted};
 
 use crate::screen::labels::Labels;

@@ -5,5 +5,6 @@ pub returns-clause-frame : goal.returns-clause-frame
 returns-clause-frame c = λ tables have.
     ap (λ (s : State). frame (scenery_of s) c.load_last.new.self.raw) c.load_last.ensures.ended.same
     ∙ finished_frame c.args.scene.now c.load_last.new.self c.args.owns.now c.load_last.new.owns tables
-    c.one_more_entry.ensures.replayed c.load_last.ensures.ended.added.config c.load_last.ensures.ended.added.recorded c.requires.each have
+    c.one_more_entry.ensures.replayed c.load_last.ensures.ended.added.config c.load_last.ensures.ended.added.recorded
+    c.requires.each have
     c.load_last.ensures.ended.painted

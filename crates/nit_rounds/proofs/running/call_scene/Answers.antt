@@ -18,10 +18,12 @@ returns-clause-done c =
     record {
       config = c.call.ensures.added.config;
       unended = c.call.ensures.«open»;
-      spare = one_taken c.args.scene.now.entries _ _ _ _ c.call.ensures.added.recorded c.call.ensures.added.spare c.requires.spare;
+      spare = one_taken c.args.scene.now.entries _ _ _ _ c.call.ensures.added.recorded c.call.ensures.added.spare
+          c.requires.spare;
       recorded = (c.call.result, c.call.ensures.added.recorded);
       moved = served_moved c.one_more_entry.ensures.replayed c.args.scene.now c.call.new.self c.args.sid
-          c.args.call.now c.call.result _ c.args.own.now c.call.new.own c.call.ensures.added.config c.call.ensures.added.recorded
+          c.args.call.now c.call.result _ c.args.own.now c.call.new.own c.call.ensures.added.config
+          c.call.ensures.added.recorded
           (returns-clause-glasses c) (returns-clause-own c) c.call.ensures.reply c.requires.there.glasses
           c.call.ensures.painted;
     }

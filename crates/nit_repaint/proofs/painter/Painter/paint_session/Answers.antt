@@ -50,7 +50,8 @@ views-preserved-then-not-is_of_session g c =
 
 pub returns : goal.returns
 returns g c = record {
-  painted = all_wanted (source_of_number c.args.stack.now) c.args.stack.now _ c.args.of c.args.part.now c.views.i _ _ _ _
+  painted = all_wanted (source_of_number c.args.stack.now) c.args.stack.now _ c.args.of c.args.part.now c.views.i _ _ _
+      _
       (omega (arith, c.views-test.false, c.len-views.ensures.count)) c.views.invariant.painted;
   kept = c.views.invariant.kept;
 }

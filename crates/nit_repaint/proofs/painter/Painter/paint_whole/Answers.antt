@@ -22,7 +22,8 @@ paint_piece_by-requires-clause-glasses g c =
     let i = c.pieces.invariant.marked in
     record {
       pixels = i.count ∙ c.requires.owns.pixels;
-      held = still_held c.args.stack.now _ _ _ _ i.painted.loads c.pieces.auto.owns i.painted.sights c.requires.owns.held;
+      held = still_held c.args.stack.now _ _ _ _ i.painted.loads c.pieces.auto.owns i.painted.sights
+          c.requires.owns.held;
     }
 
 pub paint_piece_by-requires-clause-piece : goal.paint_piece_by-requires-clause-piece

@@ -17,7 +17,8 @@ show_part-requires g c =
     let e = c.paint_session.ensures in
     let done = part_call g.G.Glass.sight g.G.Glass.rest g.C.Glass.sight g.C.Glass.rest c.args.own.now
     c.paint_session.new.own c.paint_session.new.self c.facts.ensures c.stack-stack.ensures.facts can
-    c.accept-reply.ensures c.self.invariant made.shown made.one c.stack-stack.ensures.stack e.kept.room e.kept.count e.kept.idle
+    c.accept-reply.ensures c.self.invariant made.shown made.one c.stack-stack.ensures.stack e.kept.room e.kept.count
+    e.kept.idle
     e.kept.rest_of_own e.kept.rests c.args.part.now c.requires.on e.painted in
     record { can = done.0; apart = done.1 }
 
@@ -28,7 +29,8 @@ invariant_of-self g c =
     let e = c.paint_session.ensures in
     ((part_call g.G.Glass.sight g.G.Glass.rest g.C.Glass.sight g.C.Glass.rest c.args.own.now c.paint_session.new.own
     c.paint_session.new.self c.facts.ensures c.stack-stack.ensures.facts can c.accept-reply.ensures c.self.invariant
-    made.shown made.one c.stack-stack.ensures.stack e.kept.room e.kept.count e.kept.idle e.kept.rest_of_own e.kept.rests c.args.part.now c.requires.on
+    made.shown made.one c.stack-stack.ensures.stack e.kept.room e.kept.count e.kept.idle e.kept.rest_of_own e.kept.rests
+    c.args.part.now c.requires.on
     e.painted).2
     c.show_part.new.self c.show_part.ensures.flat c.show_part.ensures.labelled).0
 
@@ -40,6 +42,7 @@ returns g c =
     rw (← c.self.view_is) ((part_call g.G.Glass.sight g.G.Glass.rest g.C.Glass.sight g.C.Glass.rest c.args.own.now
     c.paint_session.new.own c.paint_session.new.self c.facts.ensures c.stack-stack.ensures.facts can
     c.accept-reply.ensures c.self.invariant
-    made.shown made.one c.stack-stack.ensures.stack e.kept.room e.kept.count e.kept.idle e.kept.rest_of_own e.kept.rests c.args.part.now c.requires.on
+    made.shown made.one c.stack-stack.ensures.stack e.kept.room e.kept.count e.kept.idle e.kept.rest_of_own e.kept.rests
+    c.args.part.now c.requires.on
     e.painted).2
     c.show_part.new.self c.show_part.ensures.flat c.show_part.ensures.labelled).1

@@ -18,7 +18,8 @@ show_views-requires g c =
     let e = c.paint_changed.ensures in
     (view_call g.G.Glass.sight g.G.Glass.rest g.C.Glass.sight g.C.Glass.rest c.args.own.now c.paint_changed.new.own
     c.paint_changed.new.self c.facts.ensures c.stack-stack.ensures.facts can c.accept-reply.ensures c.self.invariant
-    made.shown made.one c.stack-stack.ensures.stack e.kept.room e.kept.count e.kept.idle e.kept.rest_of_own e.kept.rests c.args.handle
+    made.shown made.one c.stack-stack.ensures.stack e.kept.room e.kept.count e.kept.idle e.kept.rest_of_own e.kept.rests
+    c.args.handle
     c.view_before-was.result.view c.view_before-was.result.place c.view_before-was.result.rect c.requires.on
     view_before.named view_before.place
     view_before.seat e.painted).0
@@ -31,7 +32,8 @@ invariant_of-self g c =
     let e = c.paint_changed.ensures in
     ((view_call g.G.Glass.sight g.G.Glass.rest g.C.Glass.sight g.C.Glass.rest c.args.own.now c.paint_changed.new.own
     c.paint_changed.new.self c.facts.ensures c.stack-stack.ensures.facts can c.accept-reply.ensures c.self.invariant
-    made.shown made.one c.stack-stack.ensures.stack e.kept.room e.kept.count e.kept.idle e.kept.rest_of_own e.kept.rests c.args.handle
+    made.shown made.one c.stack-stack.ensures.stack e.kept.room e.kept.count e.kept.idle e.kept.rest_of_own e.kept.rests
+    c.args.handle
     c.view_before-was.result.view c.view_before-was.result.place c.view_before-was.result.rect c.requires.on
     view_before.named view_before.place
     view_before.seat e.painted).1
@@ -46,7 +48,8 @@ returns g c =
     rw (← c.self.view_is) ((view_call g.G.Glass.sight g.G.Glass.rest g.C.Glass.sight g.C.Glass.rest c.args.own.now
     c.paint_changed.new.own c.paint_changed.new.self c.facts.ensures c.stack-stack.ensures.facts can
     c.accept-reply.ensures c.self.invariant
-    made.shown made.one c.stack-stack.ensures.stack e.kept.room e.kept.count e.kept.idle e.kept.rest_of_own e.kept.rests c.args.handle
+    made.shown made.one c.stack-stack.ensures.stack e.kept.room e.kept.count e.kept.idle e.kept.rest_of_own e.kept.rests
+    c.args.handle
     c.view_before-was.result.view c.view_before-was.result.place c.view_before-was.result.rect c.requires.on
     view_before.named view_before.place
     view_before.seat e.painted).1
