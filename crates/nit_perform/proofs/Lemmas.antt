@@ -40,6 +40,7 @@ pub use Rattle.nit_perform.proofs.PerClient.{at_member, blank_glass, can_take_la
 pub use Rattle.nit_perform.proofs.PerClient.{inked, left_tables, one_made, plan_made}
 pub use Rattle.nit_perform.proofs.PerClient.{plans_long, set_up}
 pub use Rattle.nit_perform.proofs.PutLemmas.{next_goes, next_stays, no_put, no_text, refused_as}
+pub use Rattle.nit_perform.proofs.RoomRunLemmas.{few_words, first_zeros}
 pub use Rattle.nit_perform.proofs.RoomRunLemmas.{all_done, beside_leaves, is_ready, known_whole}
 pub use Rattle.nit_perform.proofs.RoomRunLemmas.{last_is, one_key, setting, setup_in, user_done}
 pub use Rattle.nit_perform.proofs.RunLemmas.{PutsLast, run_leaves}

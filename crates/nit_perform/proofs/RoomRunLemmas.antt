@@ -2,6 +2,11 @@
 use Rattle.std.proofs.Common.{◌≡◌, ◌∙◌, true, false, ℕ, zero, suc, ◌+◌, ◌<◌, List, [], ◌∷◌, ◌++◌}
 use Rattle.std.proofs.Common.{length, length-append, map, take, Some, refl, sym, ap, subst, arith}
 use Rattle.std.proofs.Common.{append_assoc, zero-add}
+use Rattle.std.proofs.lemmas.List.{ext_get_or, get_or-take, length-take-le}
+use Rattle.std.proofs.Common.{get_or, take, ◌≤◌}
+use Rattle.nit_word.proofs.ForCallers.{length-zeros, zero_at}
+use Rattle.nit_perform.specs.Below.{Member, slice_index_or, table_size, zeros}
+use Rattle.nit_perform.proofs.Basics.{script_in}
 use Rattle.nit_perform.proofs.Basics.{All, AreBlank, AreBuffers, AreDone, AreKeysBlank}
 use Rattle.nit_perform.proofs.Basics.{AreNearShots, AreOutputs, Bare, Belongs, Black, BufferName}
 use Rattle.nit_perform.proofs.Basics.{Configuration, Desk, End, Entry, File, HasEnded, HasRun}
@@ -55,6 +60,26 @@ all_push P (z ∷ xs) x all here zero y at = all zero y at
 all_push P (z ∷ xs) x all here (suc k) y at = all_push (λ n. P (suc n)) xs x (λ n w e. all (suc n) w e) here k y at
 
 -- ---- the buffers
+
+-- the first of words that are all 0 are as many zeros
+pub first_zeros : (n m : ℕ) (words : List ℕ) → words ≡ zeros m → n ≤ m
+    → (n ≡ length (take n words)) × (take n words ≡ zeros n)
+first_zeros n m words are few =
+    let long : length words ≡ m = ap (λ (ws : List ℕ). length ws) are ∙ length-zeros m in
+    let taken : length (take n words) ≡ n = length-take-le n words (omega (arith, long, few)) in (
+      sym taken,
+      ext_get_or 0 (take n words) (zeros n) (taken ∙ sym (length-zeros n))
+          (λ i inside. get_or-take n words i 0 (omega (arith, taken, inside))
+          ∙ ap (λ (ws : List ℕ). get_or ws i 0) are ∙ zero_at m i ∙ sym (zero_at n i)),
+    )
+
+-- the table of a client has at most as many words as the largest
+pub few_words : {count : ℕ} (config : Configuration) (clients : List Member) (k : ℕ) (other : Member) (n most : ℕ)
+    → clients ≡ config.clients → count ≡ length config.clients → k < count
+    → n ≡ table_size (slice_index_or clients k other).donation → All (λ m. table_size m.donation ≤ most) clients
+    → n ≤ most
+few_words config clients k other n most are each inside size all =
+    rw size (all k other (omega (arith, ap (λ (ms : List Member). length ms) are, each, inside)))
 
 -- one key more
 pub one_key : (config : Configuration) (scripts : List (List Line)) (k : ℕ) (keys keys' : List End) (key : End)

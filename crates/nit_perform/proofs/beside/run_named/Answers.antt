@@ -11,7 +11,8 @@ last_picture-scene-requires-clause-done g c =
     record {
       clients_done = rw is at (all_done g.N.Name.parts c.args.opened.room c.args.opened.passes.items
           c.run_beside-mine.new.passes.items
-          c.args.opened.user c.requires.ready c.run_beside-mine.ensures.same c.run_beside-mine.ensures.done);
+          c.args.opened.user c.requires.ready c.run_beside-mine.ensures.actors.same
+          c.run_beside-mine.ensures.actors.done);
       user_done = rw is at (user_done g.N.Name.parts c.args.opened.user c.run_beside-mine.result.user
           c.requires.ready.user_belongs c.run_beside-mine.ensures.user.shots.same
           c.run_beside-mine.ensures.user.done);

@@ -12,7 +12,7 @@ take_apart-requires-clause-room g c =
     let a = c.args.actors in
     let back = c.run_beside_clips-mine.new.pairs in
     let long = back_long g.N.Name.parts a.room a.pairs.items back.items a.user c.requires.ready
-    c.run_beside_clips-mine.ensures.same c.run_beside_clips-mine.ensures.done in
+    c.run_beside_clips-mine.ensures.actors.same c.run_beside_clips-mine.ensures.actors.done in
     let none = ap (λ (ps : List PassModel). length ps) c.requires.back.passes in
     let here : vec_len a.passes ≡ length a.passes.items = a.passes.ok.0 in
     let there : vec_len back ≡ length back.items = back.ok.0 in
@@ -24,7 +24,7 @@ take_apart-requires-clause-clips_room g c =
     let a = c.args.actors in
     let back = c.run_beside_clips-mine.new.pairs in
     let long = back_long g.N.Name.parts a.room a.pairs.items back.items a.user c.requires.ready
-    c.run_beside_clips-mine.ensures.same c.run_beside_clips-mine.ensures.done in
+    c.run_beside_clips-mine.ensures.actors.same c.run_beside_clips-mine.ensures.actors.done in
     let none = ap (λ (qs : List ClipPassModel). length qs) c.requires.back.clips in
     let here : vec_len a.clips ≡ length a.clips.items = a.clips.ok.0 in
     let there : vec_len back ≡ length back.items = back.ok.0 in
@@ -42,8 +42,8 @@ last_with_clips-scene-requires-clause-done g c =
     record {
       clients_done = subst (λ (q : OpeningParts). AreDone q c.take_apart.new.passes.items) is
           (subst (λ (ps : List PassModel). AreDone g.N.Name.parts ps) (sym are)
-          (passes_done g.N.Name.parts a.room a.pairs.items back a.user c.requires.ready mine.ensures.same
-          mine.ensures.done));
+          (passes_done g.N.Name.parts a.room a.pairs.items back a.user c.requires.ready mine.ensures.actors.same
+          mine.ensures.actors.done));
       user_done = subst (λ (q : OpeningParts). IsDoneUser q mine.result.user) is
           (user_done g.N.Name.parts a.user mine.result.user c.requires.ready.ready.user_belongs
           mine.ensures.user.shots.same mine.ensures.user.done);
@@ -59,7 +59,7 @@ last_with_clips-scene-requires-clause-clips g c =
     subst (λ (q : OpeningParts). AreDoneClips q c.take_apart.new.clips.items) (sym c.into_room-room.ensures.parts)
     (subst (λ (qs : List ClipPassModel). AreDoneClips g.N.Name.parts qs) (sym are)
     (clips_done g.N.Name.parts a.room a.pairs.items back a.user c.requires.ready
-    c.run_beside_clips-mine.ensures.same c.run_beside_clips-mine.ensures.done))
+    c.run_beside_clips-mine.ensures.actors.same c.run_beside_clips-mine.ensures.actors.done))
 
 pub returns : goal.returns
 returns g c =

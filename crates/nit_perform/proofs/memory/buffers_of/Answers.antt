@@ -1,7 +1,8 @@
 use Rattle.std.proofs.Common.{◌≡◌, ◌∙◌, ◌+◌, ◌<◌, ◌++◌, ◌∷◌, [], ℕ, List, length, map, ap, sym}
 use Rattle.nit_perform.proofs.Lemmas.{BufferName, Configuration, End, Line, Member, at_member}
 use Rattle.nit_perform.proofs.Lemmas.{donation_of, get_or_default, length_push, map_push, new_sight}
-use Rattle.nit_perform.proofs.Lemmas.{one_key, script_in, slice_index_or, subst}
+use Rattle.nit_perform.specs.Below.{zeros}
+use Rattle.nit_perform.proofs.Lemmas.{few_words, first_zeros, one_key, script_in, slice_index_or, subst}
 use Rattle.nit_perform.proofs.memory.buffers_of.Goals as goal
 
 pub loop-sid-preserved : goal.loop-sid-preserved
@@ -18,6 +19,7 @@ loop-sid-preserved c =
     ap (λ (m : Member). m.donation)
     (at_member config c.as_slice-clients.result.now k c.index-clients-sid.result (c.as_slice-clients.ensures.value
     ∙ ap (λ (x : Configuration). x.clients) c.config.view_is) inside) in
+    let paid : ℕ = (slice_index_or c.as_slice-clients.result.now k c.index-clients-sid.result).donation in
     let script : c.index-scripts-sid.result ≡ script_in c.args.scripts.now k = c.index-scripts-sid.is
     ∙ get_or_default c.args.scripts.now k c.index-scripts-sid.result [] c.loop-sid-test.true in
     record {
@@ -30,7 +32,21 @@ loop-sid-preserved c =
           ∙ sym c.in_ok-push.ensures.items;
       blank = one_key config c.args.scripts.now k keys c.push-in-loop-sid.new.self.items key
           c.loop-sid.invariant.keys_are c.loop-sid.invariant.blank
-          (c.in_ok-buffer.ensures.sight ∙ ap (λ (ls : List Line). new_sight k ls _) script
+          (c.in_ok-buffer.ensures.sight ∙ ap (λ (ls : List Line). new_sight k ls paid) script
           ∙ ap (new_sight k (script_in c.args.scripts.now k)) client)
           more;
     }
+
+pub slice_bounds-words-end : goal.slice_bounds-words-end
+slice_bounds-words-end c =
+    (first_zeros _ _ _ (c.deref.ensures.value ∙ c.in_ok-zeros.ensures) (few_words c.args.config.now
+    c.as_slice-clients.result.now c.loop-sid.sid c.index-clients-sid.result _ _ (c.as_slice-clients.ensures.value
+    ∙ ap (λ (x : Configuration). x.clients) c.config.view_is) c.requires.each c.loop-sid-test.true
+    c.table_words.ensures.size c.most_table_words.ensures.all)).0
+
+pub new-requires-clause-words : goal.new-requires-clause-words
+new-requires-clause-words c =
+    (first_zeros _ _ _ (c.deref.ensures.value ∙ c.in_ok-zeros.ensures) (few_words c.args.config.now
+    c.as_slice-clients.result.now c.loop-sid.sid c.index-clients-sid.result _ _ (c.as_slice-clients.ensures.value
+    ∙ ap (λ (x : Configuration). x.clients) c.config.view_is) c.requires.each c.loop-sid-test.true
+    c.table_words.ensures.size c.most_table_words.ensures.all)).1 ∙ ap zeros c.table_words.ensures.size

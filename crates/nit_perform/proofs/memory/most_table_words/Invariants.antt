@@ -1,5 +1,6 @@
 use Rattle.std.proofs.Common.{ℕ, get_or, ◌<◌, ◌≤◌}
-use Rattle.nit_perform.proofs.Lemmas.{Member, most_words, table_size}
+use Rattle.nit_perform.specs.Below.{Member, most_words}
+use Rattle.nit_perform.proofs.Lemmas.{table_size}
 use Rattle.nit_perform.proofs.memory.most_table_words.Given as goal
 
 abbrev pub invariant-loop-sid : goal.invariant-loop-sid

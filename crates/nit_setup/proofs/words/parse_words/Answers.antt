@@ -4,7 +4,9 @@ use Rattle.nit_setup.proofs.Lemmas.{sym, texts}
 use Rattle.nit_setup.proofs.words.parse_words.Goals as goal
 use Rattle.nit_setup.proofs.words.parse_words.Goals.{in_default-via-then-words-lt2}
 use Rattle.nit_setup.proofs.words.parse_words.Goals.{}
+use Rattle.nit_setup.proofs.words.parse_words.Goals.{}
 use Rattle.nit_setup.proofs.words.parse_words.Goals.{in_default-via-else-words-lt2+else-words-lt3+else-words-lt4+else-words-lt5+then-words-lt6}
+use Rattle.nit_setup.proofs.words.parse_words.Goals.{}
 use Rattle.nit_setup.proofs.words.parse_words.Goals.{}
 use Rattle.nit_setup.proofs.words.parse_words.Goals.{in_default-via-else-words-lt2+else-words-lt3+else-words-lt4+else-words-lt5+else-words-lt6+else-words-lt7}
 

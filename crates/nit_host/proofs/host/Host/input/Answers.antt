@@ -14,7 +14,8 @@ abbrev done : (c : goal.After-self-2-1) → WasTold c.args.device c.input-routed
 done c =
     let e = c.input-routed.ensures in
     was_told c.self.inside.desktop c.input-routed.new.self c.self.inside.hollows.items c.args.device
-    c.input-routed.result c.self.inside.last _ c.self.invariant.0 e.routed e.served.state e.served.left e.painted e.served.rests
+    c.input-routed.result c.self.inside.last _ c.self.invariant.0 e.routed e.served.state e.served.left e.painted
+    e.served.rests
     c.clean_pixels_keep_their_source.ensures c.args.self.now c.self.view_is
 
 pub invariant_of-self : goal.invariant_of-self
@@ -29,7 +30,8 @@ invariant_of-self c =
     let kept = seen_input c.shows_the_same-is_same.result d.state d2.state c.args.device c.input-routed.result
     (sheets_of d.glasses) (sheets_of d2.glasses) c.self.inside.changed c.bar_or_screen-before.result
     c.told-after.result c.join_unless-self-inside.result _ e.routed e.delivered
-    c.clean_pixels_keep_their_source.ensures e.served.state same c.bar_or_screen-before.ensures c.told-after.ensures quiet.told
+    c.clean_pixels_keep_their_source.ensures e.served.state same c.bar_or_screen-before.ensures c.told-after.ensures
+    quiet.told
     (λ t. sym bar.mode ∙ quiet.mode t ∙ bar2.mode) (λ t. sym bar.focus ∙ quiet.focus t ∙ bar2.focus)
     c.join_unless-self-inside.ensures c.self.invariant.1 c.self.invariant.2 in
     ((done c).host, kept.0, kept.1)
