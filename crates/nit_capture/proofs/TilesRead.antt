@@ -5,7 +5,7 @@ use Rattle.nit_capture.proofs.Basics.{get_or-set_same, inl, inr, length, length-
 use Rattle.nit_capture.proofs.Basics.{no_word, not, place, range_with_len, run_at, run_bytes, runs}
 use Rattle.nit_capture.proofs.Basics.{slice_index, slice_set, some_pair_parts, tile, tile_at}
 use Rattle.nit_capture.proofs.Basics.{tile_count, tile_pixels}
-use Rattle.std.proofs.Common.{refl, subst, suc, sym, true, zero, ℕ, ◌*◌, ◌++◌, ◌+◌, ◌<◌, ◌^◌, ◌||◌}
+use Rattle.std.proofs.Common.{refl, suc, sym, true, zero, ℕ, ◌*◌, ◌++◌, ◌+◌, ◌<◌, ◌^◌, ◌||◌}
 use Rattle.std.proofs.Common.{◌∙◌, ◌∷◌, ◌≡◌, ◌≤◌, ◌==◌}
 use Rattle.nit_capture.specs.RecordReaders.{pixels_at}
 use Rattle.nit_capture.specs.Tiles.{differs}

@@ -1,5 +1,5 @@
 //! The words of a buffer while its owner's script is drawn on it, as a reader's end shows them.
-ghost use Rattle.std.specs.Prelude.{◌≡◌, ◌<◌};
+ghost use Rattle.std.specs.Prelude.{◌≡◌, ◌+◌};
 ghost use Rattle.nit_plan.specs.Plan.{IsPlanOf};
 ghost use Rattle.nit_plan.specs.Surface.{IsPaintedTo};
 ghost use Rattle.nit_pixels.specs.End.{new_sight};

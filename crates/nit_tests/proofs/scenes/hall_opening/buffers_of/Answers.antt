@@ -22,6 +22,7 @@ loop-sid-preserved c =
     ≡ donation_of config k =
     donation_at config c.as_slice-clients.result.now k c.index-clients-sid.result (c.as_slice-clients.ensures.value
     ∙ ap (λ (x : Configuration). x.clients) c.config.view_is) inside in
+    let paid : ℕ = (slice_index_or c.as_slice-clients.result.now k c.index-clients-sid.result).donation in
     let script : c.index-scripts-sid.result ≡ script_in c.args.scripts.now k = c.index-scripts-sid.is
     ∙ get_or_default c.args.scripts.now k c.index-scripts-sid.result [] c.loop-sid-test.true in
     record {
@@ -34,6 +35,6 @@ loop-sid-preserved c =
           ∙ sym c.in_ok-push.ensures.items;
       blank = one_more (λ n (e : End). e.sight ≡ new_sight n (script_in c.args.scripts.now n) (donation_of config n))
           keys key k _ c.loop-sid.invariant.counted more c.loop-sid.invariant.blank
-          (c.in_ok-buffer.ensures.sight ∙ ap (λ (ls : List Line). new_sight k ls _) script
+          (c.in_ok-buffer.ensures.sight ∙ ap (λ (ls : List Line). new_sight k ls paid) script
           ∙ ap (new_sight k (script_in c.args.scripts.now k)) client);
     }
