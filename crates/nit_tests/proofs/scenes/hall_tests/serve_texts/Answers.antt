@@ -9,7 +9,7 @@ pub serve_all-requires-clause-ready : goal.serve_all-requires-clause-ready
 serve_all-requires-clause-ready g c κs within =
     let config = c.args.config.now in
     let scripts = c.as_slice-clients.result.now in
-    let plans = c.deref-3.result.now in
+    let plans = c.deref-2.result.now in
     let input = c.args.read.now.input in
     let canvases = c.expect-canvases.result.items in
     let clips = c.as_slice-clips.result.now in
