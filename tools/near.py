@@ -2,7 +2,8 @@
 
 A pixel that a call of its owner's loaded last has the very word that the owner's script had left
 there at that call. Each other pixel of a buffer has a word that the script leaves at that place
-after some number of its lines, whichever that is.
+after some number of its lines, whichever that is. It has the same word in all shots until an entry
+makes it dirty: one word has to agree with all that these shots show there.
 """
 from functools import cached_property
 
@@ -35,13 +36,14 @@ def stages_by_place(donation, lines):
 
 class SceneBeside(Scene):
     """The scene along the journal of a run on threads. A pixel has no word where the journal and
-    the scripts do not tell it, and has it again when a call of its owner's loads it."""
+    the scripts do not tell it, and has it again when a call of its owner's loads it. Of a pixel
+    without a word are kept the words that agree with all shots since it was loaded."""
 
     def __init__(self, config, scripts):
         super().__init__(config)
         self.donations = [client["donation"] for client in config["client"]]
         self.scripts, self.left = scripts, [iter(lines) for lines in scripts]
-        self.told = []
+        self.told, self.agreeing = [], {}
 
     @cached_property
     def stages(self):
@@ -70,12 +72,13 @@ class SceneBeside(Scene):
         super().finish()
 
     def word(self, view, column, row):
+        self.agreeing.pop((column, row), None)
         if view and view.session not in self.told and self.place_of(view, column, row):
             return None
         return super().word(view, column, row)
 
     def may_hold(self, view, column, row):
-        """The words of which a pixel holds one."""
+        """The words of which a pixel holds one, whatever the shots show."""
         word = self.raw[row][column]
         if word is not None:
             return {word}
@@ -93,7 +96,21 @@ class SceneBeside(Scene):
             for column in range(self.width):
                 view, at = owners[row][column], len(start) + 3 * (row * self.width + column)
                 word = int.from_bytes(picture[at : at + 3], "big")
-                if all(word != self.pixel(view, labels, column, row, raw)
-                       for raw in self.may_hold(view, column, row)):
-                    return f"the pixel at ({column}, {row}) cannot be {word:06X}"
+                fault = self.fault_of_pixel(view, labels, column, row, word)
+                if fault:
+                    return fault
+        return None
+
+    def fault_of_pixel(self, view, labels, column, row, word):
+        """What is wrong with this word at a pixel of a shot. What agrees with it is kept."""
+        raws = {raw for raw in self.may_hold(view, column, row)
+                if self.pixel(view, labels, column, row, raw) == word}
+        if not raws:
+            return f"the pixel at ({column}, {row}) cannot be {word:06X}"
+        if self.raw[row][column] is None:
+            raws &= self.agreeing.get((column, row), raws)
+            self.agreeing[column, row] = raws
+        if not raws:
+            return (f"the pixel at ({column}, {row}) cannot be {word:06X} "
+                    "after what earlier shots show")
         return None
