@@ -7,7 +7,7 @@ from pathlib import Path
 
 import expected
 import runs
-from cases import Case
+from valid_cases import Case
 
 CONFIGS = {"turns": 1, "run": 1, "audit": 1, "clip": 1, "capture": 1, "nested": 2}
 OTHERS = {"still": slice(3, 4), "audit": slice(2, 3)}

@@ -7,7 +7,6 @@ import unittest
 import zlib
 from html.parser import HTMLParser
 
-import cases
 import expected
 import runs
 import screen
@@ -18,6 +17,7 @@ from page.run import Run
 from page.sources import Fault
 from page.test_scenes import (frames_along, label_files, moving_files, refresh_files, scene_files,
                               setup_from)
+from valid_cases import valid_case
 
 SEEDS = 25
 
@@ -34,7 +34,7 @@ class FramesTest(unittest.TestCase):
         for seed in range(SEEDS):
             rng = random.Random(f"show {seed}")
             kind = rng.choice(["free", "phases"])
-            self.check(expected.setup_of(cases.valid_case(rng, kind)), f"seed {seed}")
+            self.check(expected.setup_of(valid_case(rng, kind)), f"seed {seed}")
 
     def test_frames_of_labels_that_just_fit(self):
         for width in range(8, 24):
@@ -260,7 +260,7 @@ class ReplayTest(unittest.TestCase):
 
     def setup_and_files(self):
         for seed in range(1000):
-            setup = expected.setup_of(cases.valid_case(random.Random(f"replay {seed}"), "free"))
+            setup = expected.setup_of(valid_case(random.Random(f"replay {seed}"), "free"))
             files = expected.outputs_by_turns(setup)
             text = files["journal.txt"]
             if all(word in text for word in (b"shot 1\n", b" done < ", b" > 0 ", b"call 0 event ")):

@@ -1,7 +1,7 @@
 """Scenes that the tests make, and their frames."""
 import expected
 import model
-from cases import Case
+from valid_cases import Case
 
 SCREEN = "[screen]\nwidth = {}\nheight = {}\nbar = {}\n[input]\nscript = 'user.in'\n"
 CLIENT = "[[client]]\nlabel = '{0}'\ndonation = 9999\nscript = '{0}.nit'\n"

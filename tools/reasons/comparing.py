@@ -10,8 +10,9 @@ from pathlib import Path
 
 import model
 import runs
-from cases import BREAKS, pick_title, toml_text, valid_case
+from broken_cases import BREAKS
 from expected import entry_of_device, is_call, text_of
+from valid_cases import pick_title, toml_text, valid_case
 
 from . import calls, commands
 from .edits import MARKS, TOML_MARKS, edited, other_entry, other_statements
