@@ -1,12 +1,12 @@
 -- Passes that are done, and the last picture.
 use Rattle.nit_scene.specs.Screen.{AreGlasses}
-use Rattle.nit_hall.proofs.Basics.{AllServed, AreDone, Bare, Black, Bool, Configuration, End, Entry}
+use Rattle.nit_hall.proofs.Basics.{AllServed, AreDone, Bare, Black, Configuration, End, Entry}
 use Rattle.nit_hall.proofs.Basics.{EntryLaws, Follows, HasMet, HaveInks, IsDonePass, IsGlass}
-use Rattle.nit_hall.proofs.Basics.{no_ink, IsKnownPass, IsLoaded, IsOpen, IsRoom, IsTrue}
+use Rattle.nit_hall.proofs.Basics.{no_ink, IsKnownPass, IsLoaded, IsOpen, IsRoom}
 use Rattle.nit_hall.proofs.Basics.{IsWordOfSource, Line, List, Painted, Painting, PassModel}
 use Rattle.nit_hall.proofs.Basics.{PassRest, PixelSource, RoomModel, SceneModel, Sight, Some, State}
 use Rattle.nit_hall.proofs.Basics.{Word, [], ap, append-nil, ap₂, arith, blank, cases_eq, cases_lt}
-use Rattle.nit_hall.proofs.Basics.{donation_of, drop, eqb-true, false, frame, get_or}
+use Rattle.nit_hall.proofs.Basics.{donation_of, drop, frame, get_or}
 use Rattle.nit_hall.proofs.Basics.{get_or-map-range_with_len, get_or_from_slice_get, get_or_past}
 use Rattle.nit_hall.proofs.Basics.{glass_in, inl, inr, knowing, left_word, length, length-map}
 use Rattle.nit_hall.proofs.Basics.{map, map_over_more, no_sight, option_map, painted_from}
@@ -15,7 +15,7 @@ use Rattle.nit_hall.proofs.Basics.{same_frame, scenery_of, script_in, served, se
 use Rattle.nit_hall.proofs.Basics.{slice_get-get_or, slice_get-map, slice_get_read, slice_index}
 use Rattle.nit_hall.proofs.Basics.{source_at, state_now, subst, table_size, take_all, without_final}
 use Rattle.nit_hall.proofs.Basics.{words_after, words_left, words_left_in, zero_at}
-use Rattle.std.proofs.Common.{suc, sym, take, true, zero, zero-add, ℕ, ◌++◌, ◌+◌, ◌<◌, ◌==◌, ◌||◌}
+use Rattle.std.proofs.Common.{suc, sym, take, zero, zero-add, ℕ, ◌++◌, ◌+◌, ◌<◌}
 use Rattle.std.proofs.Common.{◌∙◌, ◌∷◌, ◌≡◌, ◌≤◌}
 use Rattle.nit_events.specs.declared.entry.Entry.TheVariants as entry
 use Rattle.nit_hall.proofs.FinalEntries.{without-append}

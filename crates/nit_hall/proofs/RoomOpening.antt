@@ -5,7 +5,7 @@ use Rattle.nit_hall.proofs.Basics.{ClipModel, ClipPassModel, Configuration, End,
 use Rattle.nit_hall.proofs.Basics.{HasStages}
 use Rattle.nit_hall.proofs.Basics.{FollowsClips, HaveInks, IfSome, InputLine, IsDonation, IsFirst}
 use Rattle.nit_hall.proofs.Basics.{IsGlass, IsLegalClips, IsNearBy, IsNonDecreasingBy-short, IsPass}
-use Rattle.nit_hall.proofs.Basics.{IsPlanOf, IsRoom, IsSetting, Line, List, Member, OpeningParts}
+use Rattle.nit_hall.proofs.Basics.{IsPlanOf, IsRoom, Line, List, Member, OpeningParts}
 use Rattle.nit_hall.proofs.Basics.{Option, PassModel, PixelSource, PlanModel, RoomModel, ShareModel}
 use Rattle.nit_hall.proofs.Basics.{Sight, Some, [], ap, append_assoc, arith, bare_everywhere}
 use Rattle.nit_hall.proofs.Basics.{bare_word, calls_in, calls_of, cases_lt, clip_calls_in}
@@ -17,7 +17,7 @@ use Rattle.nit_hall.proofs.Basics.{no_sight, none-some, option_map, parts_of, ph
 use Rattle.nit_hall.proofs.Basics.{plan_in, reader_sight, refl, replicate, replicate_more}
 use Rattle.nit_hall.proofs.Basics.{same_Some, script_in, served, slice_get, slice_get-map}
 use Rattle.nit_hall.proofs.Basics.{slice_index, slice_index_or, subst, suc, sum, sum_by-cons, sym}
-use Rattle.nit_hall.proofs.Basics.{table_size, take, take_all, take_at, user_actions_in}
+use Rattle.nit_hall.proofs.Basics.{take, take_all, take_at, user_actions_in}
 use Rattle.nit_hall.proofs.Basics.{with_clip_scripts, words_after}
 use Rattle.std.proofs.Common.{zero, ℕ, ⊎_elim, ◌*◌, ◌++◌, ◌+◌, ◌<◌, ◌∙◌, ◌∷◌, ◌≡◌, ◌≤◌, ◌⊎◌}
 use Rattle.nit_hall.proofs.Basics.{AreLast, entries_in, raws_in}

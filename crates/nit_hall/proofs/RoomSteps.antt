@@ -4,7 +4,7 @@ use Rattle.nit_hall.proofs.Basics.{Follows, HaveInks, IsLegal, IsOpen, IsRoom, I
 use Rattle.nit_hall.proofs.Basics.{Painted, RoomModel, SceneModel, Sight, [], after, ap, arith}
 use Rattle.nit_hall.proofs.Basics.{first_state, inl, length, length-append, phases_ended, refl}
 use Rattle.nit_hall.proofs.Basics.{replay, state_now, subst, sym, without_final, ℕ, ◌∙◌}
-use Rattle.std.proofs.Common.{◌++◌, ◌-◌, ◌∷◌, ◌≡◌, ◌≤◌, ◌⊎◌}
+use Rattle.std.proofs.Common.{◌++◌, ◌∷◌, ◌≡◌, ◌⊎◌}
 use Rattle.nit_hall.proofs.ClipsStay.{clips_same, clips_then}
 use Rattle.nit_hall.proofs.FinalEntries.{open_whole}
 use Rattle.nit_hall.proofs.HistoryLemmas.{GoesOn}
