@@ -17,11 +17,12 @@ pub use Rattle.nit_actor.specs.Terms.{phases_before, phases_left, picture, pixel
 pub use Rattle.nit_actor.specs.Terms.{scenery_of, shot_name, shots, shown, slice_index}
 pub use Rattle.nit_actor.specs.Terms.{slice_index_or, user_actions_from, user_actions_in}
 pub use Rattle.nit_actor.specs.Terms.{user_actions_of, user_actions_to_do, user_phase_left}
-pub use Rattle.nit_actor.specs.Terms.{user_role_of}
-pub use Rattle.nit_hall.proofs.ForCallers.{counted_more, counted_same, actions_line}
+pub use Rattle.nit_actor.specs.Terms.{File, IsHeld, IsHeldPicture, IsHistory, IsPictureAmong}
+pub use Rattle.nit_actor.specs.Terms.{ShowOneHistory, is_dirtied, raw_behind, user_role_of}
+pub use Rattle.nit_hall.proofs.ForCallers.{counted_more, counted_same, actions_line, split_more}
 pub use Rattle.nit_journal.proofs.ForCallers.{actions_of-append, same_throughout}
 pub use Rattle.nit_rounds.proofs.ForCallers.{as_many_files, file_of_a_shot, files_both, no_files}
-pub use Rattle.nit_rounds.proofs.ForCallers.{shots_both}
+pub use Rattle.nit_rounds.proofs.ForCallers.{shots_along, shots_both}
 pub use Rattle.nit_stack.proofs.ForCallers.{drop_at}
 pub use Rattle.nit_store.proofs.ForCallers.{puts_both}
 pub use Rattle.std.proofs.Common.{All, Bool, Contains, IfSome, List, None, Option, Some, [], ap}
@@ -34,4 +35,4 @@ pub use Rattle.std.proofs.lemmas.List.{append-nil, length-map, take_all, take_mo
 pub use Rattle.std.proofs.lemmas.List.Elements.{All-cons, All-push, All-set, Contains-append_left}
 pub use Rattle.std.proofs.lemmas.List.Elements.{Contains-push, filter_map-append}
 pub use Rattle.std.proofs.lemmas.List.Sums.{sum_by-cons, sum_by-take-le}
-pub use Rattle.std.proofs.lemmas.Option.{none-some}
+pub use Rattle.std.proofs.lemmas.Option.{get_or_from_slice_get, none-some}

@@ -1,2 +1,4 @@
 -- What the crates above cite of this crate's proofs.
+pub use Rattle.nit_actor.proofs.HistoryLemmas.{held_still, one_history}
+pub use Rattle.nit_actor.proofs.Shots.{among_more}
 pub use Rattle.nit_actor.proofs.RoleLemmas.{fit_again, fits_belongs, role_at, roles_fit, roles_long}

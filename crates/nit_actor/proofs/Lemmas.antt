@@ -13,4 +13,5 @@ pub use Rattle.nit_actor.proofs.LeastPhases.{all_ended, left_in_all, left_more, 
 pub use Rattle.nit_actor.proofs.LeastPhases.{pair_none}
 pub use Rattle.nit_actor.proofs.Pairs.{pairs_again}
 pub use Rattle.nit_actor.proofs.RoleLemmas.{all_again, same_set}
-pub use Rattle.nit_actor.proofs.Shots.{also, puts_shot, quiet_device, quiet_phase, ready_again}
+pub use Rattle.nit_actor.proofs.Shots.{also, grown_raws, puts_shot, quiet_device, quiet_phase}
+pub use Rattle.nit_actor.proofs.Shots.{ready_again}

@@ -3,6 +3,7 @@ pub mod PhaseCounts
 pub mod Pairs
 pub mod LeastPhases
 pub mod Shots
+pub mod HistoryLemmas
 pub mod IdleUserLemmas
 pub mod ForCallers
 pub mod Basics

@@ -14,7 +14,8 @@ pub use Rattle.nit_hall.specs.ClipPass.{AreTogether, ClipBelongs, ClipPassModel,
 pub use Rattle.nit_hall.specs.ClipPass.{IsAtPhaseEnd, clip_number, clip_phases_before}
 pub use Rattle.nit_hall.specs.Hall.{Tells, TellsShot}
 pub use Rattle.nit_hall.specs.HallCalls.{BelongsAt, UserBelongsAt}
-pub use Rattle.nit_hall.specs.NearWords.{IsNear, IsNearFrame}
+pub use Rattle.nit_hall.specs.History.{IsHistory, raw_behind}
+pub use Rattle.nit_hall.specs.NearWords.{IsNear, IsNearFrame, is_dirtied}
 pub use Rattle.nit_hall.specs.OpeningParts.{OpeningParts}
 pub use Rattle.nit_hall.specs.Pass.{Belongs, HasMetPhase, IsAtDevice, IsAtPhase, IsAtShot}
 pub use Rattle.nit_hall.specs.Pass.{IsAtStroke, IsAtUserPhase, PassModel, UserBelongs}
@@ -42,6 +43,7 @@ pub use Rattle.nit_script.specs.declared.line.Stroke.{Stroke}
 pub use Rattle.nit_stack.specs.Sources.{pixel}
 pub use Rattle.nit_store.specs.Puts.{PutState, PutsAll, PutsNext}
 pub use Rattle.nit_store.specs.Store.{File, StoreModel}
+pub use Rattle.nit_word.specs.Channels.{bare_word}
 pub use Rattle.nit_word.specs.Inks.{IsWord}
 pub use Rattle.nit_word.specs.Sight.{Sight}
 pub use Rattle.std.specs.List.{cons_option, slice_index_or}

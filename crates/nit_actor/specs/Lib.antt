@@ -8,6 +8,7 @@ pub use Rattle.nit_store.specs.Puts
 pub mod Role
 pub mod ClipRole
 pub mod Pictures
+pub mod History
 pub mod UserShots
 pub mod Crew
 pub mod PhasesLeft

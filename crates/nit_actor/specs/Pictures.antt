@@ -1,5 +1,5 @@
 -- The pictures of the shots of a journal that threads made, and which of them were put.
-use Rattle.std.specs.Prelude.{◌≡◌, ℕ, List, ◌++◌}
+use Rattle.std.specs.Prelude.{◌≡◌, ℕ, List, ◌++◌, Some, length, slice_get}
 use Rattle.nit_actor.specs.Below.{AreShotsOf, Configuration, Entry, File, IsNearFrame, Line}
 use Rattle.nit_actor.specs.Below.{OpeningParts, PutState, PutsAll, ShotsBehind, picture, shots}
 
@@ -15,18 +15,26 @@ IsNearPicture config scripts entries bytes =
 abbrev pub AreNearShots : Configuration → List (List Line) → List Entry → List File → Type 0
 AreNearShots config scripts journal files = AreShotsOf (IsNearPicture config scripts) journal files
 
+-- so it is by the one of these lists of raw words that has as many in front of it as there are
+-- entries: the words behind the next entry, which is the shot
+abbrev pub IsPictureAmong : List (List ℕ) → Configuration → List (List Line) → List Entry → List ℕ
+    → Type 0
+IsPictureAmong raws config scripts entries bytes =
+    (near : IsNearPicture config scripts entries bytes)
+    × (slice_get raws (length entries) ≡ Some near.1.0)
+
 -- there are further entries now, and no shot among them
 pub record GrowsQuietly (before after' : List Entry) : Type 0 where
   pub more : List Entry
   pub grown : after' ≡ before ++ more
   pub quiet : shots more ≡ 0
 
--- there are further entries now, and the pictures of the shots among them were put, in order, until
--- a put was refused
-pub record PutsShotsBehind (parts : OpeningParts) (before after' : List Entry) (old new : PutState)
-    : Type 0 where
+-- There are further entries now, and the pictures of the shots among them were put, in order, until
+-- a put was refused. Each is by the raw words behind its shot.
+pub record PutsShotsBehind (parts : OpeningParts) (before after' : List Entry)
+    (raws : List (List ℕ)) (old new : PutState) : Type 0 where
   pub more : List Entry
   pub grown : after' ≡ before ++ more
   pub files : List File
-  pub are : ShotsBehind (IsNearPicture parts.config parts.scripts) before more files
+  pub are : ShotsBehind (IsPictureAmong raws parts.config parts.scripts) before more files
   pub put : PutsAll files old new

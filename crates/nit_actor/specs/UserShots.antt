@@ -4,6 +4,7 @@ use Rattle.nit_actor.specs.Below.{Desk, InputLine, IsSameDesk, OpeningParts, Sto
 use Rattle.nit_actor.specs.Below.{UserBelongs, UserPassModel, picture_length, put_state_of_desk}
 use Rattle.nit_actor.specs.Pictures.{GrowsQuietly, PutsShotsBehind}
 use Rattle.nit_actor.specs.Role.{user_role_of}
+use mathlib.Core.List.{IsPrefix}
 
 -- the user is of this opening, and the desk has room for a frame of its screen and for its picture
 pub record CanShoot {S : Type 0} (parts : OpeningParts) (u : UserPassModel)
@@ -30,11 +31,13 @@ pub record CanTakeTurns {P S : Type 0} (parts : OpeningParts) (IsIn : P → Type
   pub user : CanShoot parts u d
 
 -- The user is in its role, and the pictures of the shots that it came to know were put by the desk,
--- in order, until a put was refused.
+-- in order, until a put was refused. It knows the raw words behind these shots, and those that it
+-- knew.
 pub record TakesShots {S : Type 0} (shown : S → StoreModel) (parts : OpeningParts)
     (u u' : UserPassModel) (d d' : Desk S) : Type 0 where
   pub same : user_role_of u' ≡ user_role_of u
-  pub put : PutsShotsBehind parts u.seen u'.seen
+  pub raws : IsPrefix u.raws u'.raws
+  pub put : PutsShotsBehind parts u.seen u'.seen u'.raws
       (put_state_of_desk (shown d.store.now) d.fault d.tried)
       (put_state_of_desk (shown d'.store.now) d'.fault d'.tried)
   pub desk : IsSameDesk d d'
@@ -56,3 +59,4 @@ pub record IsQuietlyOn (u u' : UserPassModel) : Type 0 where
   pub same : user_role_of u' ≡ user_role_of u
   pub next : u'.next ≡ u.next + 1
   pub seen : GrowsQuietly u.seen u'.seen
+  pub raws : IsPrefix u.raws u'.raws

@@ -100,10 +100,15 @@ fn take_shot<'a, N: Name, R: Wait>(
 ) -> u32
     requires user { UserBelongsAt N.parts IsAtShot user.old }
     requires frame { length frame.old.items ≡ N.parts.config.width * N.parts.config.height }
-    ensures told { TellsShot N.parts user.old.seen result user.new.seen frame.new.items }
+    ensures told { TellsShot N.parts user.old.seen user.old.raws result user.new.seen
+        user.new.raws frame.new.items }
     ensures words { All IsWord frame.new.items }
     ensures frame { length frame.new.items ≡ length frame.old.items }
-    ensures user { user.new ≡ record user.old { next = user.old.next + 1; seen = user.new.seen } }
+    ensures user { user.new ≡ record user.old {
+      next = user.old.next + 1;
+      seen = user.new.seen;
+      raws = user.new.raws;
+    } }
 {
     hall.shoot(rt, user, frame)
 }

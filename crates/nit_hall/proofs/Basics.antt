@@ -37,7 +37,9 @@ pub use Rattle.nit_hall.specs.Terms.{sight_after_line, slice_get, slice_index, s
 pub use Rattle.nit_hall.specs.Terms.{source_at, source_of, state_now, sum, sum_by, table_size, take}
 pub use Rattle.nit_hall.specs.Terms.{to_do, user_actions_from, user_actions_in, user_actions_of}
 pub use Rattle.nit_hall.specs.Terms.{user_actions_to_do, with_clip, with_clip_scripts, with_entry}
+pub use Rattle.nit_hall.specs.Terms.{AreLast, IsHistory, Recorded, entries_in, raw_behind, raws_in}
 pub use Rattle.nit_hall.specs.Terms.{with_words, without_final, words_after, words_at_call}
+pub use Rattle.nit_scene.specs.Scene.{IsAdded}
 pub use Rattle.nit_hall.specs.Terms.{words_left, words_left_in}
 pub use Rattle.nit_journal.proofs.ForCallers.{IsUsers, bare_everywhere, calls_other, calls_own}
 pub use Rattle.nit_journal.proofs.ForCallers.{calls_same, actions_of-append, actions_same}

@@ -8,6 +8,7 @@ use Rattle.nit_hall.proofs.Basics.{clip_script_in, clips_to_make, done, drop, ge
 use Rattle.nit_hall.proofs.Basics.{get_or_from_slice_get, is_clip_phase, length, length-append}
 use Rattle.nit_hall.proofs.Basics.{length-map, map, next_clip, raised, refl, slice_get}
 use Rattle.nit_hall.proofs.Basics.{slice_get_within, slice_index, state_now, subst, take_all}
+use Rattle.nit_hall.proofs.Basics.{entries_in, raws_in}
 use Rattle.nit_hall.proofs.Basics.{user_actions_to_do, with_clip, without_final}
 use Rattle.std.proofs.Common.{sym, take, ℕ, ◌++◌, ◌+◌, ◌-◌, ◌∙◌, ◌∷◌, ◌≡◌}
 use mathlib.Core.List.{IsPrefix}
@@ -48,18 +49,22 @@ pub served_clip : (r r₀ : RoomModel) (q q₀ : ClipPassModel) (book : BookMode
       entries = r.clips.entries ++ record { at = at; sid = q.sid; focus = focus; call = call; reply = reply } ∷ [];
       spare = r.clips.spare - 1;
     }
+    → raws_in book.entries ≡ r.raws
     → ◌≡◌ {A = RoomModel} (record r {
       parts = record r.parts { name = book.name; config = r.scene.config };
       counts = take n book.counts;
       clips = list;
       clip_counts = drop n book.counts;
+      raws = raws_in book.entries;
     }) (with_clip r₀ (clip_entry r₀ q₀ reply))
-served_clip r r₀ q q₀ book list n at focus call reply er eq config name front back at_is focus_is call_is list_is =
+served_clip r r₀ q q₀ book list n at focus call reply er eq config name front back at_is focus_is call_is list_is
+    raws_are =
     (λ i. record r {
       parts = record r.parts { name = name i; config = config i };
       counts = front i;
       clips = list_is i;
       clip_counts = back i;
+      raws = raws_are i;
     })
     ∙ (λ i. with_clip r (record { at = at_is i; sid = q.sid; focus = focus_is i; call = call_is i; reply = reply }))
     ∙ (λ i. with_clip (er i) (clip_entry (er i) (eq i) reply))
@@ -69,8 +74,12 @@ served_clip r r₀ q q₀ book list n at focus call reply er eq config name fron
 -- a clip call was served
 pub clip_pass_call : CallLaws → (q : ClipPassModel) (share share' : ShareModel) → IsClipPass q share → IsAtClip q
     → share'.count ≡ share.count + 1
-    → IsClipPass (record q { next = q.next + 1; number = share'.number; name = share'.name; seen = share'.seen })
-    share'
+    → IsClipPass (record q {
+      next = q.next + 1;
+      number = share'.number;
+      name = share'.name;
+      seen = entries_in share'.seen;
+    }) share'
 clip_pass_call laws q share share' is at count = record {
   number = refl;
   counted = count ∙ ap (λ (n : ℕ). n + 1) is.counted

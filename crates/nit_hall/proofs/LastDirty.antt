@@ -42,6 +42,16 @@ none_behind : (front : List Entry) (e : Entry) (rest : List Entry) → [] ≡ fr
 none_behind [] e rest h = cc
 none_behind (x ∷ xs) e rest h = cc
 
+-- an entry of a list with one more entry is the new one, or stands in the list
+pub split_more : (entries : List Entry) (e : Entry) (front : List Entry) (f : Entry) (rest : List Entry)
+    → entries ++ e ∷ [] ≡ front ++ f ∷ rest
+    → ((front ≡ entries) × (f ≡ e)) ⊎ ((less : List Entry) × (entries ≡ front ++ f ∷ less))
+split_more entries e front f rest parts = elim (places front f rest entries e [] (sym parts)) [
+  | same a b c ↦ inl (a, b)
+  | behind less a b ↦ inr (less, b)
+  | before less a b ↦ absurd (none_behind less f rest a)
+]
+
 -- ---- one more entry
 
 pub not_both : (b : Bool) → b ≡ true → b ≡ false → ⊥

@@ -22,7 +22,10 @@ pub use Rattle.nit_hall.proofs.ClipAlong.{IsKnownClip, clip_counted, clip_met, c
 pub use Rattle.nit_hall.proofs.ClipAlong.{clip_pass_phase, clips_whole, number_is, served_clip}
 pub use Rattle.nit_hall.proofs.ClipsStay.{follow_on}
 pub use Rattle.nit_hall.proofs.CountParts.{back_raised, parts_long}
+pub use Rattle.nit_hall.proofs.Basics.{IsHistory, Recorded, entries_in, raws_in}
 pub use Rattle.nit_hall.proofs.FinalEntries.{open_whole}
+pub use Rattle.nit_hall.proofs.HistoryLemmas.{entries_more, front_of_each, history_then, raws_more}
+pub use Rattle.nit_hall.proofs.HistoryLemmas.{clean_painted, whole_history}
 pub use Rattle.nit_hall.proofs.LastDirty.{last_found, one_last}
 pub use Rattle.nit_hall.proofs.LineLemmas.{line_counted}
 pub use Rattle.nit_hall.proofs.NearLemmas.{near_word}
@@ -48,5 +51,6 @@ pub use Rattle.nit_hall.proofs.ServedCalls.{Found, calls_made, calls_then, found
 pub use Rattle.nit_hall.proofs.ServedCalls.{pass_call, pass_met, room_call, sight_as, still_open}
 pub use Rattle.nit_hall.proofs.ServedCalls.{told_between}
 pub use Rattle.nit_hall.proofs.ServedClips.{FoundClip, follows_then, room_clip, room_left}
+pub use Rattle.nit_hall.proofs.ShotLemmas.{shot_told}
 pub use Rattle.nit_hall.proofs.UserActions.{FoundUser, adds_input, adds_shot, done_input, done_shot}
 pub use Rattle.nit_hall.proofs.UserActions.{found_user, room_action, user_action, user_met}

@@ -7,7 +7,7 @@ use Rattle.nit_hall.proofs.Basics.{calls_in, calls_of, cond, count_by, count_by-
 use Rattle.nit_hall.proofs.Basics.{inl, input_phases_before, is_input_phase, is_phase, length-take}
 use Rattle.nit_hall.proofs.Basics.{option_map, painted_from, phases_before, raised}
 use Rattle.nit_hall.proofs.Basics.{slice_get_within, slice_index, user_actions_in, user_actions_of}
-use Rattle.nit_hall.proofs.Basics.{with_words, without_final, words_after}
+use Rattle.nit_hall.proofs.Basics.{Recorded, with_words, without_final, words_after}
 use Rattle.std.proofs.Common.{inr, length, refl, slice_get, subst, sym, take, true, ℕ, ◌+◌, ◌<◌}
 use Rattle.std.proofs.Common.{◌==◌, ◌∙◌, ◌≡◌, ◌≤◌}
 use Rattle.nit_script.specs.declared.line.Line.TheVariants as line
@@ -41,8 +41,8 @@ NextLine = (p : Painting) (script : List Line) (k : ℕ) (l : Line) → slice_ge
     → painted_from p (take (k + 1) script) ≡ after_line (painted_from p (take k script)) l
 
 -- the end of a phase was served
-pub pass_phase : NextLine → {p : PassModel} {share share' : ShareModel} (name : _) (known known' : List Entry)
-    → IsPass p share → slice_get p.script p.next ≡ Some line.Phase
+pub pass_phase : NextLine → {p : PassModel} {share share' : ShareModel} (name : _) (known : List Recorded)
+    (known' : List Entry) → IsPass p share → slice_get p.script p.next ≡ Some line.Phase
     → share' ≡ record share { count = share.count + 1; seen = known }
     → calls_of p.sid known' ≡ calls_in (take p.next p.script)
     → IsPass (record p { next = p.next + 1; phase = p.phase + 1; name = name; seen = known' }) share'
@@ -106,8 +106,8 @@ pass_stroke p share s sight stand is at painted set =
     }
 
 -- the end of a phase of the user's was served
-pub user_phase : (u : UserPassModel) (share share' : ShareModel) (name : _) (known known' : List Entry)
-    → IsUserPass u share → slice_get u.input u.next ≡ Some inputs.Phase
+pub user_phase : (u : UserPassModel) (share share' : ShareModel) (name : _) (known : List Recorded)
+    (known' : List Entry) (raws : List (List ℕ)) → IsUserPass u share → slice_get u.input u.next ≡ Some inputs.Phase
     → share' ≡ record share { count = share.count + 1; seen = known }
     → user_actions_of known' ≡ user_actions_in (take (u.next + 1) u.input)
     → IsUserPass (record u {
@@ -116,8 +116,9 @@ pub user_phase : (u : UserPassModel) (share share' : ShareModel) (name : _) (kno
       phase = u.phase + 1;
       name = name;
       seen = known';
+      raws = raws;
     }) share'
-user_phase u share share' name known known' is at e actions =
+user_phase u share share' name known known' raws is at e actions =
     record {
       number = refl;
       counted = ap (λ (s : ShareModel). s.count) e ∙ ap (λ (n : ℕ). n + 1) is.counted;
@@ -131,7 +132,7 @@ user_phase u share share' name known known' is at e actions =
 pub room_phase : {r : RoomModel} {sid next : ℕ} {script : List Line} → IsRoom r
     → IsNext r.parts.scripts r.counts sid next script line.Phase → r.phase ≡ phases_before script next
     → let then = after_arrival (length r.parts.scripts) r.phase r.arrived in IsRoom
-    (room_then r r.scene (raised r.counts sid) then.0 then.1)
+    (room_then r r.scene r.raws (raised r.counts sid) then.0 then.1)
 room_phase {r = r} {sid = sid} {next = next} {script = script} room at ready =
     let n = length r.parts.scripts in
     let then = after_arrival n r.phase r.arrived in
@@ -154,7 +155,7 @@ pub room_user_phase : {r : RoomModel} {next : ℕ} → IsRoom r
     → IsUserNext r.parts.scripts r.parts.input r.counts next inputs.Phase
     → r.phase ≡ input_phases_before r.parts.input next
     → let then = after_arrival (length r.parts.scripts) r.phase r.arrived in IsRoom
-    (room_then r r.scene (raised r.counts (length r.parts.scripts)) then.0 then.1)
+    (room_then r r.scene r.raws (raised r.counts (length r.parts.scripts)) then.0 then.1)
 room_user_phase {r = r} {next = next} room at ready =
     let n = length r.parts.scripts in
     let then = after_arrival n r.phase r.arrived in

@@ -1,12 +1,12 @@
 -- Passes that are done, and the last picture.
 use Rattle.nit_scene.specs.Screen.{AreGlasses}
-use Rattle.nit_hall.proofs.Basics.{AllServed, AreDone, Bare, Black, Bool, Configuration, End, Entry}
+use Rattle.nit_hall.proofs.Basics.{AllServed, AreDone, Bare, Black, Configuration, End, Entry}
 use Rattle.nit_hall.proofs.Basics.{EntryLaws, Follows, HasMet, HaveInks, IsDonePass, IsGlass}
-use Rattle.nit_hall.proofs.Basics.{no_ink, IsKnownPass, IsLoaded, IsOpen, IsRoom, IsTrue}
+use Rattle.nit_hall.proofs.Basics.{no_ink, IsKnownPass, IsLoaded, IsOpen, IsRoom}
 use Rattle.nit_hall.proofs.Basics.{IsWordOfSource, Line, List, Painted, Painting, PassModel}
 use Rattle.nit_hall.proofs.Basics.{PassRest, PixelSource, RoomModel, SceneModel, Sight, Some, State}
 use Rattle.nit_hall.proofs.Basics.{Word, [], ap, append-nil, ap₂, arith, blank, cases_eq, cases_lt}
-use Rattle.nit_hall.proofs.Basics.{donation_of, drop, eqb-true, false, frame, get_or}
+use Rattle.nit_hall.proofs.Basics.{donation_of, drop, frame, get_or}
 use Rattle.nit_hall.proofs.Basics.{get_or-map-range_with_len, get_or_from_slice_get, get_or_past}
 use Rattle.nit_hall.proofs.Basics.{glass_in, inl, inr, knowing, left_word, length, length-map}
 use Rattle.nit_hall.proofs.Basics.{map, map_over_more, no_sight, option_map, painted_from}
@@ -15,11 +15,12 @@ use Rattle.nit_hall.proofs.Basics.{same_frame, scenery_of, script_in, served, se
 use Rattle.nit_hall.proofs.Basics.{slice_get-get_or, slice_get-map, slice_get_read, slice_index}
 use Rattle.nit_hall.proofs.Basics.{source_at, state_now, subst, table_size, take_all, without_final}
 use Rattle.nit_hall.proofs.Basics.{words_after, words_left, words_left_in, zero_at}
-use Rattle.std.proofs.Common.{suc, sym, take, true, zero, zero-add, ℕ, ◌++◌, ◌+◌, ◌<◌, ◌==◌, ◌||◌}
+use Rattle.std.proofs.Common.{suc, sym, take, zero, zero-add, ℕ, ◌++◌, ◌+◌, ◌<◌}
 use Rattle.std.proofs.Common.{◌∙◌, ◌∷◌, ◌≡◌, ◌≤◌}
 use Rattle.nit_events.specs.declared.entry.Entry.TheVariants as entry
 use Rattle.nit_hall.proofs.FinalEntries.{without-append}
 use Rattle.nit_hall.proofs.NearLemmas.{AreInks, ink_behind, ink_inside, told_word}
+use Rattle.nit_hall.proofs.HistoryLemmas.{goes_no_further}
 use Rattle.nit_hall.proofs.RoomSteps.{inks_before, room_then, room_grown, near_then}
 use Rattle.nit_scene.specs.Scene.{IsAdded}
 
@@ -223,14 +224,15 @@ booked_still old new recorded = sym (append-nil (without_final old.entries))
 pub room_ended : EntryLaws → {r : RoomModel} {new : SceneModel End} {ps : List PassModel} {glasses' : ℕ → Sight}
     → IsRoom r → IsOpen r.scene.entries → AreKnown r ps → AllServed r.parts.scripts r.parts.input r.counts
     → IsEnded r.scene new (map (λ (q : PassModel). q.sight) ps) glasses'
-    → IsRoom (room_then r new r.counts r.phase r.arrived)
+    → IsRoom (room_then r new r.raws r.counts r.phase r.arrived)
 room_ended laws {r = r} {new = new} room o are all ended =
-    room_grown laws room o ended.added r.counts
+    let same = booked_still r.scene new ended.added.recorded in
+    room_grown laws room o ended.added r.raws r.counts (goes_no_further room ended.added.recorded same)
     (near_then laws room o ended.added (rw room.config (inks_of are)) (λ t call rep same. absurd cc) ended.painted)
     (subst (λ (gs : List End). HaveInks r.scene.config r.parts.scripts gs) (sym ended.same)
     (inks_before laws room o ended.added))
     (subst (λ (js : List Entry). Follows r.parts.scripts r.parts.input r.counts r.phase js)
-    (booked_still r.scene new ended.added.recorded) room.follows) room.phases (inr all)
+    same room.follows) room.phases (inr all)
 
 -- the sights are those of before they met
 pub same_sights : (known : List Entry) (ps₀ : List PassModel) {ps : List PassModel} → ps ≡ map (knowing known) ps₀

@@ -5,7 +5,7 @@ use Rattle.nit_hall.proofs.Basics.{ClipModel, ClipPassModel, Configuration, End,
 use Rattle.nit_hall.proofs.Basics.{HasStages}
 use Rattle.nit_hall.proofs.Basics.{FollowsClips, HaveInks, IfSome, InputLine, IsDonation, IsFirst}
 use Rattle.nit_hall.proofs.Basics.{IsGlass, IsLegalClips, IsNearBy, IsNonDecreasingBy-short, IsPass}
-use Rattle.nit_hall.proofs.Basics.{IsPlanOf, IsRoom, IsSetting, Line, List, Member, OpeningParts}
+use Rattle.nit_hall.proofs.Basics.{IsPlanOf, IsRoom, Line, List, Member, OpeningParts}
 use Rattle.nit_hall.proofs.Basics.{Option, PassModel, PixelSource, PlanModel, RoomModel, ShareModel}
 use Rattle.nit_hall.proofs.Basics.{Sight, Some, [], ap, append_assoc, arith, bare_everywhere}
 use Rattle.nit_hall.proofs.Basics.{bare_word, calls_in, calls_of, cases_lt, clip_calls_in}
@@ -17,9 +17,11 @@ use Rattle.nit_hall.proofs.Basics.{no_sight, none-some, option_map, parts_of, ph
 use Rattle.nit_hall.proofs.Basics.{plan_in, reader_sight, refl, replicate, replicate_more}
 use Rattle.nit_hall.proofs.Basics.{same_Some, script_in, served, slice_get, slice_get-map}
 use Rattle.nit_hall.proofs.Basics.{slice_index, slice_index_or, subst, suc, sum, sum_by-cons, sym}
-use Rattle.nit_hall.proofs.Basics.{table_size, take, take_all, take_at, user_actions_in}
+use Rattle.nit_hall.proofs.Basics.{take, take_all, take_at, user_actions_in}
 use Rattle.nit_hall.proofs.Basics.{with_clip_scripts, words_after}
 use Rattle.std.proofs.Common.{zero, ℕ, ⊎_elim, ◌*◌, ◌++◌, ◌+◌, ◌<◌, ◌∙◌, ◌∷◌, ◌≡◌, ◌≤◌, ◌⊎◌}
+use Rattle.nit_hall.proofs.Basics.{AreLast, entries_in, raws_in}
+use Rattle.nit_hall.proofs.HistoryLemmas.{history_begun, last_begun}
 use Rattle.nit_hall.proofs.LineLemmas.{item_there}
 use Rattle.nit_hall.proofs.NearLemmas.{ink_behind, ink_inside}
 use Rattle.nit_hall.proofs.Phases.{phases_begun}
@@ -84,8 +86,8 @@ pub room_begun : (r : RoomModel) → r.scene.config ≡ r.parts.config
     → r.scene.raw ≡ replicate (r.scene.config.width * r.scene.config.height) bare_word
     → HaveInks r.scene.config r.parts.scripts r.scene.glasses
     → r.counts ≡ replicate (length r.parts.scripts + 1) 0 → r.phase ≡ 0 → r.arrived ≡ 0 → NoClips → r.parts.clips ≡ []
-    → r.clips ≡ record { entries = []; spare = 0 } → r.clip_counts ≡ [] → IsRoom r
-room_begun r config each few empty spare raw inks counts first none no_clips none_is list no_counts =
+    → r.clips ≡ record { entries = []; spare = 0 } → r.clip_counts ≡ [] → r.raws ≡ [] → IsRoom r
+room_begun r config each few empty spare raw inks counts first none no_clips none_is list no_counts no_raws =
     let zeros_ : (k : ℕ) → slice_index r.counts k ≡ 0 = zero_counts (length r.parts.scripts + 1) r.counts counts in
     let long : length r.counts ≡ length r.parts.scripts + 1 = ap length counts
     ∙ length-replicate (length r.parts.scripts + 1) 0 in
@@ -106,6 +108,9 @@ room_begun r config each few empty spare raw inks counts first none no_clips non
           (subst (λ (m : ClipModel). FollowsClips r.parts (replicate (length r.parts.clips) 0) r.scene.entries m)
           ((λ i. record { entries = []; spare = lines_of_clips (none_is i) }) ∙ sym list)
           (clips_begun no_clips r.parts r.scene.entries));
+      history = rw (empty, no_raws) (history_begun r.parts.config);
+      history_ends = λ o. subst (λ (c : Configuration). AreLast c r.raws r.scene.raw) config
+          (rw (no_raws, raw) (last_begun r.scene.config));
     }
 
 -- ---- a pass
@@ -174,7 +179,7 @@ pub pass_at : (name name' : BookName) (config : Configuration) (clients : List M
       script = get_or scripts k script;
       plan = get_or plans k plan;
       donation = (get_or clients k m).donation;
-      seen = share.seen;
+      seen = entries_in share.seen;
     } → p ≡ first_pass (parts_of name config scripts plans input) k c
 pass_at name name' config clients scripts plans input k script plan m share c p hs hp hm ec eh en is =
     let s : get_or scripts k script ≡ script_in scripts k = get_or_default scripts k script [] hs in
@@ -183,7 +188,7 @@ pass_at name name' config clients scripts plans input k script plan m share c p 
     let n : (get_or clients k m).donation ≡ donation_of config k = ap (λ (x : Member). x.donation)
     (get_or_default clients k m nobody hm ∙ ap (λ (ms : List Member). get_or ms k nobody) ec) in
     let named : share.name ≡ name = ap (λ (x : ShareModel). x.name) eh ∙ en in
-    let known : share.seen ≡ [] = ap (λ (x : ShareModel). x.seen) eh in
+    let known : entries_in share.seen ≡ [] = ap (λ (x : ShareModel). entries_in x.seen) eh in
     is ∙ (λ i. record (first_pass (parts_of name config scripts plans input) k c) {
       name = named i;
       script = s i;
@@ -254,7 +259,7 @@ new_clip_pass book scripts k =
       name = book.name;
       script =
           clip_script_in scripts k;
-      seen = book.entries;
+      seen = entries_in book.entries;
     }
 
 pub clip_pass_more : (book : BookModel) (scripts : List (List ClipLine)) (k : ℕ) (qs rs : List ClipPassModel)
@@ -281,6 +286,8 @@ room_with_clips none r scripts room = record {
   room = room.room;
   ended = room.ended;
   clips_follow = clips_begun none (record r.parts { clips = scripts }) r.scene.entries;
+  history = room.history;
+  history_ends = room.history_ends;
 }
 
 pub zeros_behind : (cs : List ℕ) (k : ℕ) → (cs ++ replicate k 0) ++ 0 ∷ [] ≡ cs ++ replicate (k + 1) 0
@@ -292,14 +299,15 @@ pub opened_clips : (r r₀ : RoomModel) (book : BookModel) (counts : List ℕ) (
     → r ≡ r₀ → r.scene.config ≡ r.parts.config → book.name ≡ r.parts.name → length counts ≡ length r.parts.scripts + 1
     → r.counts ≡ take (length r.parts.scripts + 1) counts
     → book.counts ≡ counts ++ replicate (length scripts) 0
-    → list ≡ record { entries = []; spare = lines_of_clips scripts }
+    → list ≡ record { entries = []; spare = lines_of_clips scripts } → raws_in book.entries ≡ r.raws
     → ◌≡◌ {A = RoomModel} (record r {
       parts = record r.parts { name = book.name; config = r.scene.config; clips = scripts };
       counts = take (length r.parts.scripts + 1) book.counts;
       clips = list;
       clip_counts = drop (length r.parts.scripts + 1) book.counts;
+      raws = raws_in book.entries;
     }) (with_clip_scripts r₀ scripts)
-opened_clips r r₀ book counts list scripts er config name long are more list_is =
+opened_clips r r₀ book counts list scripts er config name long are more list_is raws_are =
     let n = length r.parts.scripts + 1 in
     let front : take n book.counts ≡ r.counts = ap (take n) more
     ∙ take_at counts (replicate (length scripts) 0) n long ∙ sym (take_all n counts (omega (arith, long))) ∙ sym are in
@@ -310,5 +318,6 @@ opened_clips r r₀ book counts list scripts er config name long are more list_i
       counts = front i;
       clips = list_is i;
       clip_counts = back i;
+      raws = raws_are i;
     })
     ∙ (λ i. with_clip_scripts (er i) scripts)

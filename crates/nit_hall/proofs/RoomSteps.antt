@@ -4,23 +4,25 @@ use Rattle.nit_hall.proofs.Basics.{Follows, HaveInks, IsLegal, IsOpen, IsRoom, I
 use Rattle.nit_hall.proofs.Basics.{Painted, RoomModel, SceneModel, Sight, [], after, ap, arith}
 use Rattle.nit_hall.proofs.Basics.{first_state, inl, length, length-append, phases_ended, refl}
 use Rattle.nit_hall.proofs.Basics.{replay, state_now, subst, sym, without_final, ℕ, ◌∙◌}
-use Rattle.std.proofs.Common.{◌++◌, ◌-◌, ◌∷◌, ◌≡◌, ◌≤◌, ◌⊎◌}
+use Rattle.std.proofs.Common.{◌++◌, ◌∷◌, ◌≡◌, ◌⊎◌}
 use Rattle.nit_hall.proofs.ClipsStay.{clips_same, clips_then}
 use Rattle.nit_hall.proofs.FinalEntries.{open_whole}
+use Rattle.nit_hall.proofs.HistoryLemmas.{GoesOn}
 use Rattle.nit_hall.proofs.NearLemmas.{AreInks, TellsWords, near_painted}
 use Rattle.nit_hall.proofs.ScriptsFollowed.{entries_within}
 use Rattle.nit_scene.specs.Scene.{CanAdd, IsAdded}
 use mathlib.Core.List.{IsPrefix}
 
--- the room with this scene and these counts, in this phase
-abbrev pub room_then : RoomModel → SceneModel End → List ℕ → ℕ → ℕ → RoomModel
-room_then r scene counts phase arrived =
+-- the room with this scene, these raw words behind each entry and these counts, in this phase
+abbrev pub room_then : RoomModel → SceneModel End → List (List ℕ) → List ℕ → ℕ → ℕ → RoomModel
+room_then r scene raws counts phase arrived =
     record r {
       parts = record r.parts { config = scene.config };
       scene = scene;
       counts = counts;
       phase = phase;
       arrived = arrived;
+      raws = raws;
     }
 
 -- an open room has room for one entry more
@@ -73,13 +75,14 @@ module _ (laws : EntryLaws) {r : RoomModel} {new : SceneModel End} {e : Entry} (
       near_painted laws r.scene.config r.parts.scripts r.scene.entries e (state_now new) glasses glasses' r.scene.raw
       new.raw legal_then (state_later laws added) inks tells painted near_before
 
-  pub room_grown : (counts : List ℕ) → AreNear r.scene.config r.parts.scripts (r.scene.entries ++ e ∷ []) new.raw
+  pub room_grown : (raws : List (List ℕ)) (counts : List ℕ) → GoesOn r.scene.config new raws
+      → AreNear r.scene.config r.parts.scripts (r.scene.entries ++ e ∷ []) new.raw
       → HaveInks r.scene.config r.parts.scripts new.glasses
       → Follows r.parts.scripts r.parts.input counts r.phase (without_final new.entries)
       → IsServedPhase r.phase r.arrived (phases_ended r.parts.scripts r.parts.input counts)
       → IsOpen new.entries ⊎ AllServed r.parts.scripts r.parts.input counts
-      → IsRoom (room_then r new counts r.phase r.arrived)
-  room_grown counts near inks follows phases ended = record {
+      → IsRoom (room_then r new raws counts r.phase r.arrived)
+  room_grown raws counts went near inks follows phases ended = record {
     config = refl;
     legal = added.legal;
     sessions = room.sessions ∙ ap (λ (c : Configuration). length c.clients) (sym room.config ∙ sym added.config);
@@ -92,13 +95,15 @@ module _ (laws : EntryLaws) {r : RoomModel} {new : SceneModel End} {e : Entry} (
         (can_add room o).spare in omega (arith, sum, rec_, sp, left, length-append r.scene.entries (e ∷ []));
     ended = ended;
     clips_follow = clips_then laws.stay r new e room added.config added.recorded;
+    history = rw added.config went.history;
+    history_ends = rw added.config went.ends;
   }
 
 -- one more actor has ended its phase
 pub room_turned : {r : RoomModel} (counts : List ℕ) (phase arrived : ℕ) → IsRoom r → IsOpen r.scene.entries
     → Follows r.parts.scripts r.parts.input counts phase (without_final r.scene.entries)
     → IsServedPhase phase arrived (phases_ended r.parts.scripts r.parts.input counts)
-    → IsRoom (room_then r r.scene counts phase arrived)
+    → IsRoom (room_then r r.scene r.raws counts phase arrived)
 room_turned {r = r} counts phase arrived room o follows phases = record {
   config = refl;
   legal = rw room.config room.legal;
@@ -111,4 +116,6 @@ room_turned {r = r} counts phase arrived room o follows phases = record {
   room = room.room;
   ended = inl o;
   clips_follow = clips_same room;
+  history = rw room.config room.history;
+  history_ends = rw room.config room.history_ends;
 }

@@ -4,10 +4,12 @@ use Rattle.nit_hall.proofs.Basics.{HasMet, IsAtCall, IsOpen, IsPaintedTo, IsPass
 use Rattle.nit_hall.proofs.Basics.{List, OpeningParts, Painted, PassModel, PlanModel, Reply}
 use Rattle.nit_hall.proofs.Basics.{RoomModel, SceneModel, ShareModel, Sight, Some, [], ap, ap₂}
 use Rattle.nit_hall.proofs.Basics.{arith, calls_in, calls_of, calls_own, cases_eq, donation_of}
-use Rattle.nit_hall.proofs.Basics.{eq-eqb, get_or_from_slice_get, glass_in, glasses_of_call, ink_in, script_ink}
+use Rattle.nit_hall.proofs.Basics.{eq-eqb, get_or_from_slice_get, glass_in, glasses_of_call}
+use Rattle.nit_hall.proofs.Basics.{ink_in, script_ink}
 use Rattle.nit_hall.proofs.Basics.{inl, inr, is_phase, is_served, knowing, length, lines_to_call}
 use Rattle.nit_hall.proofs.Basics.{map, ne_eqb, next_call, option_map, phases_before, raised}
 use Rattle.nit_hall.proofs.Basics.{script_in, seen, served, slice_get_within, slice_index}
+use Rattle.nit_hall.proofs.Basics.{IsAdded, Recorded, entries_in}
 use Rattle.nit_hall.proofs.Basics.{state_now, with_words, without_final, words_after, words_at_call}
 use Rattle.std.proofs.Common.{refl, slice_get, subst, sym, take, true, ℕ, ◌++◌, ◌+◌, ◌∙◌, ◌∷◌, ◌≡◌}
 use Rattle.std.proofs.Common.{◌≢◌}
@@ -17,8 +19,9 @@ use Rattle.nit_hall.proofs.LineLemmas.{counted_same, served_counted, calls_front
 use Rattle.nit_hall.proofs.LineLemmas.{line_counted}
 use Rattle.nit_hall.proofs.FinalEntries.{open_whole}
 use Rattle.nit_hall.proofs.NearLemmas.{AreInks, TellsWords, ink_inside}
+use Rattle.nit_hall.proofs.HistoryLemmas.{clean_painted, goes_on}
 use Rattle.nit_hall.proofs.RoomSteps.{inks_before, room_then, room_grown, near_then, booked_more}
-use Rattle.nit_scene.specs.Scene.{IsAdded}
+use Rattle.nit_hall.proofs.RoomSteps.{state_later}
 use Rattle.nit_hall.proofs.ScriptsFollowed.{IsNext, one_left, client_is, script_there, follows_call}
 use Rattle.nit_hall.proofs.Phases.{client_ends, same_phase}
 
@@ -142,7 +145,7 @@ pub room_call : EntryLaws → {r : RoomModel} {new : SceneModel End} {sid next :
     → r.phase ≡ phases_before script next → IsCalled r.scene new sid c rep own own'
     → own.ink ≡ script_ink script (donation_of r.scene.config sid)
     → own.words ≡ Some (words_after script (donation_of r.scene.config sid) (next + 1))
-    → IsRoom (room_then r new (raised r.counts sid) r.phase r.arrived)
+    → IsRoom (room_then r new (r.raws ++ new.raw ∷ []) (raised r.counts sid) r.phase r.arrived)
 room_call laws {r = r} {new = new} {sid = sid} {next = next} {script = script} {c = c} {rep = rep} {own = own}
     {own' = own'} room at ready called inked told =
     let old : SceneModel End = r.scene in
@@ -153,7 +156,9 @@ room_call laws {r = r} {new = new} {sid = sid} {next = next} {script = script} {
     ∙ calls_made r sid next script room at.script_is at.counted in
     let p = called.painted in
     let inks = inks_before laws room was_open called.added in
-    room_grown laws room was_open called.added (raised r.counts sid)
+    room_grown laws room was_open called.added (r.raws ++ new.raw ∷ []) (raised r.counts sid)
+    (goes_on room was_open called.open_is called.added
+    (clean_painted old new (entry.Call sid c rep) (state_later laws called.added) p))
     (near_then laws room was_open called.added
     (inks_of_call old.config scripts (sights old) sid own inks (inked
     ∙ ink_inside old.config scripts sid script _ (slice_get_within scripts sid script at.script_is) (script_there at)
@@ -192,11 +197,17 @@ pub told_between : (p : PassModel) (share : ShareModel) (between : Sight) → Is
     → between.words ≡ Some (words_after p.script p.donation (p.next + 1))
 told_between p share between is set = ap (λ (g : Sight). g.words) set ∙ told_after p is.told
 
-pub pass_call : (p : PassModel) (share : ShareModel) (c : Call) (met : ℕ) (name : _) (known : List Entry)
+pub pass_call : (p : PassModel) (share : ShareModel) (c : Call) (met : ℕ) (name : _) (known : List Recorded)
     (sight : Sight) (stand : _) → IsPass p share → slice_get p.script p.next ≡ Some (line.Call c)
-    → IsLoadedAfter p sight → calls_of p.sid known ≡ calls_in (take (p.next + 1) p.script)
-    → IsPass (record p { next = p.next + 1; met = met; name = name; seen = known; sight = sight; stand = stand })
-    (record { name = name; number = share.number; count = share.count + 1; seen = known })
+    → IsLoadedAfter p sight → calls_of p.sid (entries_in known) ≡ calls_in (take (p.next + 1) p.script)
+    → IsPass (record p {
+      next = p.next + 1;
+      met = met;
+      name = name;
+      seen = entries_in known;
+      sight = sight;
+      stand = stand;
+    }) (record { name = name; number = share.number; count = share.count + 1; seen = known })
 pass_call p share c met name known sight stand is at l knows =
     record {
       number = is.number;
@@ -234,17 +245,18 @@ found {r₀ = r₀} {r = r} {p₀ = p₀} {p = p} call er ep met ec of at ready 
     (subst (λ (x : RoomModel). Found x known (line.Call (next_call known))) (sym (er ∙ met.room)) here))
 
 -- a pass that has met the room knows its calls so far
-pub pass_met : {r r₀ : RoomModel} {p : PassModel} {share share' : ShareModel} (known : List Entry) → IsRoom r → r ≡ r₀
+pub pass_met : {r r₀ : RoomModel} {p : PassModel} {share share' : ShareModel} (known : List Recorded) → IsRoom r
+    → r ≡ r₀
     → Belongs r₀.parts p → IsPass p share → slice_index r.counts share.number ≡ share.count
-    → known ≡ without_final r.scene.entries → share' ≡ record share { seen = known }
-    → IsPass (record p { name = share'.name; seen = share'.seen }) share'
+    → entries_in known ≡ without_final r.scene.entries → share' ≡ record share { seen = known }
+    → IsPass (record p { name = share'.name; seen = entries_in share'.seen }) share'
 pass_met {r = r} {p = p} known room same of is counted book seen_ =
     record {
       number = ap (λ (s : ShareModel). s.number) seen_ ∙ is.number;
       counted = ap (λ (s : ShareModel). s.count) seen_ ∙ is.counted;
       within = is.within;
       phase = is.phase;
-      known = ap (λ (s : ShareModel). calls_of p.sid s.seen) seen_ ∙ ap (calls_of p.sid) book
+      known = ap (λ (s : ShareModel). calls_of p.sid (entries_in s.seen)) seen_ ∙ ap (calls_of p.sid) book
           ∙ calls_made r p.sid p.next p.script room
           (ap (λ (x : RoomModel). slice_get x.parts.scripts p.sid) same ∙ of.script)
           (ap (slice_index r.counts) (sym is.number) ∙ counted ∙ is.counted);

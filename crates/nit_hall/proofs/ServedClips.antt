@@ -192,4 +192,6 @@ module _ (laws : CallLaws) {r : RoomModel} {p : PassModel} {q : ClipPassModel} (
         room = room.room;
         ended = room.ended;
         clips_follow = follows_then;
+        history = room.history;
+        history_ends = room.history_ends;
       }

@@ -5,6 +5,7 @@ use Rattle.nit_hall.proofs.Basics.{RoomModel, Routed, SceneModel, ShareModel, Si
 use Rattle.nit_hall.proofs.Basics.{UserAction, UserBelongs, UserHasMet, UserPassModel, [], ap, ap₂}
 use Rattle.nit_hall.proofs.Basics.{arith, actions_of-append, glass_in, inl, input_phases_before}
 use Rattle.nit_hall.proofs.Basics.{is_input_phase, length, raised, refl, slice_get_within}
+use Rattle.nit_hall.proofs.Basics.{IsAdded, Recorded, entries_in, raws_in, slice_index_or}
 use Rattle.nit_hall.proofs.Basics.{slice_index, state_now, user_actions_of, without_final}
 use Rattle.std.proofs.Common.{slice_get, subst, sym, ℕ, ◌++◌, ◌+◌, ◌-◌, ◌∙◌, ◌∷◌, ◌≡◌}
 use Rattle.nit_events.specs.declared.entry.Entry.TheVariants as entry
@@ -13,9 +14,9 @@ use Rattle.nit_hall.proofs.LineLemmas.{counted_same, actions_line}
 use Rattle.nit_hall.proofs.NearLemmas.{near_more}
 use Rattle.nit_hall.proofs.ScriptsFollowed.{AddsAction, IsUserNext, follows_action}
 use Rattle.nit_hall.proofs.Phases.{same_phase, user_ends}
+use Rattle.nit_hall.proofs.HistoryLemmas.{KeepsClean, clean_painted, goes_on}
 use Rattle.nit_hall.proofs.RoomSteps.{inks_before, booked_more, legal_then, near_before, near_then}
-use Rattle.nit_scene.specs.Scene.{IsAdded}
-use Rattle.nit_hall.proofs.RoomSteps.{room_grown, room_then}
+use Rattle.nit_hall.proofs.RoomSteps.{room_grown, room_then, state_later}
 use Rattle.nit_hall.proofs.PhaseEnds.{actions_known, user_open}
 use Rattle.nit_hall.proofs.ServedCalls.{sights}
 
@@ -32,15 +33,17 @@ pub record IsDone (scripts : List (List Line)) (old new : SceneModel End) (e : E
   pub open_is : IsOpen new.entries
   pub inks : HaveInks old.config scripts new.glasses
   pub near : AreNear old.config scripts (old.entries ++ e ∷ []) new.raw
+  pub keeps : KeepsClean old.config old.entries e old.raw new.raw
 
 pub room_action : EntryLaws → {r : RoomModel} {new : SceneModel End} {next : ℕ} {l : InputLine} {e : Entry} → IsRoom r
     → IsUserNext r.parts.scripts r.parts.input r.counts next l → AddsAction l e
     → r.phase ≡ input_phases_before r.parts.input next → IsDone r.parts.scripts r.scene new e
-    → IsRoom (room_then r new (raised r.counts (length r.parts.scripts)) r.phase r.arrived)
+    → IsRoom (room_then r new (r.raws ++ new.raw ∷ []) (raised r.counts (length r.parts.scripts)) r.phase r.arrived)
 room_action laws {r = r} {new = new} {next = next} {l = l} {e = e} room at adds ready did =
     let was_open : IsOpen r.scene.entries = user_open room at in
     let n = length r.parts.scripts in
-    room_grown laws room was_open did.added (raised r.counts n) did.near did.inks
+    room_grown laws room was_open did.added (r.raws ++ new.raw ∷ []) (raised r.counts n)
+    (goes_on room was_open did.open_is did.added did.keeps) did.near did.inks
     (subst (λ (js : List Entry). Follows r.parts.scripts r.parts.input (raised r.counts n) r.phase js)
     (booked_more was_open did.open_is did.added) (follows_action room.follows at e adds ready))
     (same_phase (user_ends room.follows.each at)
@@ -51,12 +54,13 @@ pub done_input : EntryLaws → {r : RoomModel} {new : SceneModel End} {dev : Dev
     → IsOpen r.scene.entries → IsAdded r.scene new (entry.Input dev routed) → IsOpen new.entries
     → Painted (state_now r.scene) (entry.Input dev routed) (state_now new) (glass_in (sights r.scene))
     (glass_in (sights new)) r.scene.raw new.raw → IsDone r.parts.scripts r.scene new (entry.Input dev routed)
-done_input laws room was added open_is painted =
+done_input laws {r = r} {new = new} {dev = dev} {routed = routed} room was added open_is painted =
     record {
       added = added;
       open_is = open_is;
       inks = λ t. ap (λ (g : Sight). g.ink) (painted.sights t) ∙ inks_before laws room was added t;
       near = near_then laws room was added (inks_before laws room was added) (λ t call rep same. absurd cc) painted;
+      keeps = clean_painted r.scene new (entry.Input dev routed) (state_later laws added) painted;
     }
 
 pub done_shot : EntryLaws → {r : RoomModel} {new : SceneModel End} {number : ℕ} → IsRoom r → IsOpen r.scene.entries
@@ -72,16 +76,19 @@ done_shot laws {r = r} {new = new} {number = number} room was is added open_is =
           (near_more laws r.scene.config r.parts.scripts r.scene.entries (entry.Shot number) r.scene.raw r.scene.raw
           (legal_then laws room was added) (λ k inside dirty. absurd cc) (λ k clean. refl)
           (near_before laws room was added));
+      keeps = λ k clean. ap (λ (p : SceneModel End). slice_index_or p.raw k 0) is;
     }
 
 -- ---- the user's pass
 
 pub user_action : {r : RoomModel} {l : InputLine} {e : Entry} {u : UserPassModel} {share share' : ShareModel} (name : _)
-    (known : List Entry) → IsRoom r → IsUserPass u share → u.input ≡ r.parts.input → slice_get u.input u.next ≡ Some l
+    (known : List Entry) (raws : List (List ℕ)) → IsRoom r → IsUserPass u share → u.input ≡ r.parts.input
+    → slice_get u.input u.next ≡ Some l
     → AddsAction l e → slice_index r.counts (length r.parts.scripts) ≡ u.next → share'.count ≡ share.count + 1
     → known ≡ without_final r.scene.entries ++ e ∷ []
-    → IsUserPass (record u { number = share'.number; next = u.next + 1; name = name; seen = known }) share'
-user_action {r = r} {l = l} {e = e} {u = u} name known room is same at adds counted es ek =
+    → IsUserPass (record u { number = share'.number; next = u.next + 1; name = name; seen = known; raws = raws })
+    share'
+user_action {r = r} {l = l} {e = e} {u = u} name known raws room is same at adds counted es ek =
     record {
       number = refl;
       counted = es ∙ ap (λ (n : ℕ). n + 1) is.counted;
@@ -106,7 +113,7 @@ pub found_user : {r₀ r r' : RoomModel} {u₀ u u' : UserPassModel} (l : InputL
     → UserHasMet r₀ u₀ r' u' → UserBelongs r₀.parts u₀ → slice_get u₀.input u₀.next ≡ Some l → u₀.phase ≡ r₀.phase
     → FoundUser r u l
 found_user {r₀ = r₀} {r = r} {u₀ = u₀} l er eu met of at ready =
-    let known : UserPassModel = record u₀ { seen = without_final r₀.scene.entries } in
+    let known : UserPassModel = record u₀ { seen = without_final r₀.scene.entries; raws = r₀.raws } in
     let here : FoundUser r₀ known l =
     record {
       next_is = record {
@@ -122,15 +129,20 @@ found_user {r₀ = r₀} {r = r} {u₀ = u₀} l er eu met of at ready =
     (subst (λ (x : RoomModel). FoundUser x known l) (sym (er ∙ met.room)) here)
 
 -- the user's pass that has met the room knows the user's entries so far
-pub user_met : {r : RoomModel} {u : UserPassModel} {share share' : ShareModel} (known : List Entry) → IsRoom r
-    → u.input ≡ r.parts.input → slice_index r.counts (length r.parts.scripts) ≡ u.next → IsUserPass u share
-    → share' ≡ record share { seen = known } → known ≡ without_final r.scene.entries
-    → IsUserPass (record u { number = share'.number; name = share'.name; seen = share'.seen }) share'
+pub user_met : {r : RoomModel} {u : UserPassModel} {share share' : ShareModel} (known : List Recorded)
+    → IsRoom r → u.input ≡ r.parts.input → slice_index r.counts (length r.parts.scripts) ≡ u.next → IsUserPass u share
+    → share' ≡ record share { seen = known } → entries_in known ≡ without_final r.scene.entries
+    → IsUserPass (record u {
+      number = share'.number;
+      name = share'.name;
+      seen = entries_in share'.seen;
+      raws = raws_in share'.seen;
+    }) share'
 user_met {u = u} known room same counted is e all = record {
   number = refl;
   counted = ap (λ (s : ShareModel). s.count) e ∙ is.counted;
   within = is.within;
   phase = is.phase;
-  known = ap (λ (s : ShareModel). user_actions_of s.seen) e ∙ ap user_actions_of all
+  known = ap (λ (s : ShareModel). user_actions_of (entries_in s.seen)) e ∙ ap user_actions_of all
       ∙ actions_known u.input room same counted;
 }

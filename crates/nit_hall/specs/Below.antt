@@ -29,7 +29,9 @@ pub use Rattle.nit_journal.specs.StackAfter.{is_accepted}
 pub use Rattle.nit_journal.specs.State.{State, after, first_state, route, session, source_of}
 pub use Rattle.nit_journal.specs.WholeJournals.{Does, IsWhole, Shoots, UserAction, calls_of, done}
 pub use Rattle.nit_journal.specs.WholeJournals.{next_phase, phases_along, to_do, user_actions_of}
-pub use Rattle.nit_ledger.specs.Book.{BookModel, BookName, ShareModel, most_shares, raised}
+pub use Rattle.nit_ledger.specs.Book.{BookModel, BookName, ShareModel, entries_in, most_shares}
+pub use Rattle.nit_ledger.specs.Book.{raised, raws_in}
+pub use Rattle.nit_ledger.specs.declared.view.Recorded.{Recorded}
 pub use Rattle.nit_overlay.specs.Frame.{frame}
 pub use Rattle.nit_paint.specs.Repaint.{IsWordOfSource, no_sight}
 pub use Rattle.nit_pixels.specs.End.{End, new_sight, reader_sight}

@@ -9,12 +9,16 @@ use Rattle.nit_hall.specs.NearWords.{IsNearFrame}
 abbrev pub Tells : List Entry → Entry → List Entry → Type 0
 Tells before e after = (between : List Entry) × (after ≡ (before ++ between) ++ e ∷ [])
 
--- a shot was added so, and these words are a frame of the journal in front of it
-pub record TellsShot (parts : OpeningParts) (before : List Entry) (number : ℕ) (after : List Entry)
-    (words : List ℕ) : Type 0 where
+-- A shot was added so, and these words are a frame of the journal in front of it. The raw words
+-- behind each entry were told so too: behind the shot they are those by which the frame is.
+pub record TellsShot (parts : OpeningParts) (before : List Entry) (before_raws : List (List ℕ))
+    (number : ℕ) (after : List Entry) (raws : List (List ℕ)) (words : List ℕ) : Type 0 where
   pub between : List Entry
   pub told : after ≡ (before ++ between) ++ entry.Shot number ∷ []
   pub near : IsNearFrame parts.config parts.scripts (before ++ between) words
+  pub between_raws : List (List ℕ)
+  pub raws_told : raws ≡ (before_raws ++ between_raws) ++ near.0 ∷ []
+  pub each : length (before_raws ++ between_raws) ≡ length (before ++ between)
 
 -- the size of the screen and the number of clients of this opening
 pub record IsMeasured (parts : OpeningParts) (width height clients : ℕ) : Type 0 where

@@ -8,6 +8,7 @@ use Rattle.nit_hall.specs.Pass.{call_entry, device_entry, sight_after_line}
 use Rattle.nit_hall.specs.ClipPass.{ClipPassModel, ClipBelongs, AreTogether, IsAtClip}
 use Rattle.nit_hall.specs.ClipPass.{IsAtPhaseEnd, next_clip}
 use Rattle.nit_hall.specs.Hall.{Tells, TellsShot}
+use Rattle.nit_hall.specs.History.{IsHistory}
 
 -- ---- what a call needs
 
@@ -59,23 +60,31 @@ pub record ServedClip (parts : OpeningParts) (p : PassModel) (q : ClipPassModel)
   pub pass : p' ≡ record p { met = p.phase; seen = p'.seen }
   pub clip : q' ≡ record q { next = q.next + 1; seen = p'.seen }
 
--- a device event of the user's was done and delivered so
+-- A device event of the user's was done and delivered so. The raw words that it knows are one
+-- history.
 pub record DoneDevice (parts : OpeningParts) (u : UserPassModel) (routed : Routed)
     (u' : UserPassModel) : Type 0 where
   pub told : Tells u.seen (device_entry u routed) u'.seen
   pub legal : IsLegal parts.config u'.seen
-  pub user : u' ≡ record u { next = u.next + 1; seen = u'.seen }
+  pub raws_grow : IsPrefix u.raws u'.raws
+  pub history : IsHistory parts.config u'.seen u'.raws
+  pub user : u' ≡ record u { next = u.next + 1; seen = u'.seen; raws = u'.raws }
 
 -- the user's pass has ended its phase
 pub record UserEndedPhase (parts : OpeningParts) (u u' : UserPassModel) : Type 0 where
   pub grows : IsPrefix u.seen u'.seen
   pub legal : IsLegal parts.config u'.seen
-  pub user : u' ≡ record u { next = u.next + 1; phase = u.phase + 1; seen = u'.seen }
+  pub raws_grow : IsPrefix u.raws u'.raws
+  pub history : IsHistory parts.config u'.seen u'.raws
+  pub user : u'
+      ≡ record u { next = u.next + 1; phase = u.phase + 1; seen = u'.seen; raws = u'.raws }
 
--- a shot with this number was taken, and these words are its picture
+-- A shot with this number was taken, and these words are its picture. The raw words that the user
+-- knows, behind the shot too, are one history.
 pub record DoneShot (parts : OpeningParts) (u : UserPassModel) (number : ℕ) (u' : UserPassModel)
     (words : List ℕ) : Type 0 where
-  pub told : TellsShot parts u.seen number u'.seen words
+  pub told : TellsShot parts u.seen u.raws number u'.seen u'.raws words
   pub legal : IsLegal parts.config u'.seen
+  pub history : IsHistory parts.config u'.seen u'.raws
   pub coloured : All IsWord words
-  pub user : u' ≡ record u { next = u.next + 1; seen = u'.seen }
+  pub user : u' ≡ record u { next = u.next + 1; seen = u'.seen; raws = u'.raws }

@@ -19,12 +19,13 @@ pub record HasMet (r : RoomModel) (p : PassModel) (r' : RoomModel) (p' : PassMod
   pub inked : p.sight.ink ≡ script_ink p.script p.donation
   pub told : p.sight.words ≡ Some (words_after p.script p.donation p.next)
 
--- so of the user's pass
+-- so of the user's pass, which knows the raw words behind its entries too
 pub record UserHasMet (r : RoomModel) (u : UserPassModel) (r' : RoomModel) (u' : UserPassModel)
     : Type 0 where
   pub room : r' ≡ r
-  pub user : u' ≡ record u { seen = without_final r.scene.entries }
+  pub user : u' ≡ record u { seen = without_final r.scene.entries; raws = r.raws }
   pub before : IsPrefix u.seen (without_final r.scene.entries)
+  pub raws_before : IsPrefix u.raws r.raws
   pub counted : slice_index r.counts (length r.parts.scripts) ≡ u.next
 
 -- so of a clip pass, by the room's count of clip calls

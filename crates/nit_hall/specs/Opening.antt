@@ -71,6 +71,7 @@ first_user parts =
       name = parts.name;
       input = parts.input;
       seen = [];
+      raws = [];
     }
 
 -- the pass is the first of this number, with its canvas
@@ -95,6 +96,7 @@ pub record IsFirstRoom (parts : OpeningParts) (canvases : List End) (r : RoomMod
   pub lenses_are : AreSplitOff canvases r.scene.glasses
   pub counts : r.counts ≡ replicate (length parts.scripts + 1) 0
   pub clips_are : (r.clips ≡ record { entries = []; spare = 0 }) × (r.clip_counts ≡ [])
+  pub raws : r.raws ≡ []
   pub phase : (r.phase ≡ 0) × (r.arrived ≡ 0)
 
 -- the room of this setting, a pass for each client in order, and the user's pass: no line is done

@@ -33,7 +33,7 @@ pub record PassModel : Type 0 where
 
 -- The user's pass: its number, which is the number of clients; how many lines of the input script
 -- are done, and how many phases; the name of its room's book, the input script, and the entries
--- that it knows.
+-- that it knows, with the raw words behind each of them.
 pub record UserPassModel : Type 0 where
   pub number : ℕ
   pub next : ℕ
@@ -41,6 +41,7 @@ pub record UserPassModel : Type 0 where
   pub name : BookName
   pub input : List InputLine
   pub seen : List Entry
+  pub raws : List (List ℕ)
 
 -- What holds of every pass: its share has its number, and counts the lines before its next one that
 -- the room serves; what it knows of the journal has exactly its own calls so far; and its words are

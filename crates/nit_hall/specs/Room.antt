@@ -12,13 +12,15 @@ use Rattle.nit_events.specs.declared.entry.Entry.TheVariants as entry
 use Rattle.nit_hall.specs.OpeningParts.{OpeningParts}
 use Rattle.nit_hall.specs.ServedLines.{served, user_actions_in, lines_of_all}
 use Rattle.nit_hall.specs.NearWords.{AreNear}
+use Rattle.nit_hall.specs.History.{AreLast, IsHistory}
 use Rattle.nit_hall.specs.ClipPass.{ClipPassModel, next_clip}
 use Rattle.nit_hall.specs.RoomClips.{FollowsClips}
 
 -- What the room was opened with; its scene, whose glasses are the readers' ends of the clients'
 -- words; how many lines were served for each client in order, and last for the user; the phase that
 -- is served, and how many actors have ended it; the clip list, and how many clip calls were served
--- for each client in order, where there are clip scripts. Phases count from 0.
+-- for each client in order, where there are clip scripts; and the raw words behind each entry but
+-- the last picture. Phases count from 0.
 pub record RoomModel : Type 0 where
   pub parts : OpeningParts
   pub scene : SceneModel End
@@ -27,6 +29,7 @@ pub record RoomModel : Type 0 where
   pub arrived : ℕ
   pub clips : ClipModel
   pub clip_counts : List ℕ
+  pub raws : List (List ℕ)
 
 -- what the readers' ends see
 abbrev pub lenses : SceneModel End → List Sight
@@ -39,7 +42,7 @@ stands scene = map (λ (e : End). e.stand) scene.glasses
 -- ---- the room after a line
 
 -- The room after a line of this actor that put an entry into the journal, with these raw words and
--- readers' ends. All else is as before.
+-- readers' ends, and the raw words stand behind it. All else is as before.
 abbrev pub with_entry : RoomModel → ℕ → Entry → List ℕ → List End → RoomModel
 with_entry r actor e raw glasses =
     record r {
@@ -50,6 +53,7 @@ with_entry r actor e raw glasses =
         glasses = glasses;
       };
       counts = raised r.counts actor;
+      raws = r.raws ++ raw ∷ [];
     }
 
 -- the room after the last picture, with these raw words; all else is as before
@@ -157,8 +161,9 @@ HaveInks config scripts ends =
 -- What holds of every room: its journal is legal and follows the scripts, but for the last picture;
 -- its readers' ends have the inks of the scripts, and each raw word is one that its pixel may hold;
 -- there is room for an entry of each line and for the last picture, which comes only when all lines
--- were served; the phase that is served is the one that the last of its actors are in; and the clip
--- list follows the clip scripts.
+-- were served; the phase that is served is the one that the last of its actors are in; the clip
+-- list follows the clip scripts; and the raw words behind each entry are one history, which goes up
+-- to the raw words now as long as the journal is not ended.
 pub record IsRoom (r : RoomModel) : Type 0 where
   pub config : r.scene.config ≡ r.parts.config
   pub legal : IsLegal r.parts.config r.scene.entries
@@ -173,3 +178,5 @@ pub record IsRoom (r : RoomModel) : Type 0 where
   pub room : length r.scene.entries + r.scene.spare ≡ lines_of_all r.parts.scripts r.parts.input + 1
   pub ended : IsOpen r.scene.entries ⊎ AllServed r.parts.scripts r.parts.input r.counts
   pub clips_follow : FollowsClips r.parts r.clip_counts r.scene.entries r.clips
+  pub history : IsHistory r.parts.config (without_final r.scene.entries) r.raws
+  pub history_ends : IsOpen r.scene.entries → AreLast r.parts.config r.raws r.scene.raw

@@ -4,6 +4,7 @@ use Rattle.nit_hall.specs.Below.{IsLegal, IsOpen}
 use mathlib.Core.List.{IsPrefix}
 use Rattle.nit_hall.specs.OpeningParts.{OpeningParts}
 use Rattle.nit_hall.specs.ServedLines.{served}
+use Rattle.nit_hall.specs.History.{IsHistory}
 use Rattle.nit_hall.specs.Pass.{PassModel, UserPassModel, Belongs, UserBelongs, HasLoaded}
 use Rattle.nit_hall.specs.Pass.{sight_after_line}
 use Rattle.nit_hall.specs.ClipPass.{ClipPassModel, knowing_clip}
@@ -46,13 +47,16 @@ pub record HasServed (r : RoomModel) (p : PassModel) (r' : RoomModel) (p' : Pass
   pub legal : IsLegal r.parts.config r'.scene.entries
   pub unended : IsOpen r'.scene.entries
 
--- so for the user, which has done a device event or a shot
+-- So for the user, which has done a device event or a shot. It knew the raw words behind the
+-- entries that it knew, and now knows those behind all, which are one history.
 pub record HasActed (r : RoomModel) (u : UserPassModel) (r' : RoomModel) (u' : UserPassModel)
     : Type 0 where
-  pub user : u' ≡ record u { next = u.next + 1; seen = r'.scene.entries }
+  pub user : u' ≡ record u { next = u.next + 1; seen = r'.scene.entries; raws = r'.raws }
   pub before : IsPrefix u.seen r.scene.entries
+  pub raws_before : IsPrefix u.raws r.raws
   pub counted : slice_index r.counts (length r.parts.scripts) ≡ u.next
   pub legal : IsLegal r.parts.config r'.scene.entries
+  pub history : IsHistory r.parts.config r'.scene.entries r'.raws
   pub unended : IsOpen r'.scene.entries
 
 -- The pass has ended its phase. It knew a front of the journal, which stays as it was, and now
@@ -70,7 +74,7 @@ pub record HasArrived (r : RoomModel) (p : PassModel) (r' : RoomModel) (p' : Pas
   pub legal : IsLegal r.parts.config r.scene.entries
   pub unended : IsOpen r.scene.entries
 
--- so for the user's pass
+-- so for the user's pass, which now knows the raw words behind all entries too
 pub record UserHasArrived (r : RoomModel) (u : UserPassModel) (r' : RoomModel) (u' : UserPassModel)
     : Type 0 where
   pub room : r' ≡ arrived_one r (length r.parts.scripts)
@@ -78,10 +82,13 @@ pub record UserHasArrived (r : RoomModel) (u : UserPassModel) (r' : RoomModel) (
     next = u.next + 1;
     phase = u.phase + 1;
     seen = r.scene.entries;
+    raws = r.raws;
   }
   pub before : IsPrefix u.seen r.scene.entries
+  pub raws_before : IsPrefix u.raws r.raws
   pub counted : slice_index r.counts (length r.parts.scripts) ≡ u.next
   pub legal : IsLegal r.parts.config r.scene.entries
+  pub history : IsHistory r.parts.config r.scene.entries r.raws
   pub unended : IsOpen r.scene.entries
 
 -- the clip passes know the room's book, of which each knew a front

@@ -30,7 +30,9 @@ pub use Rattle.nit_hall.specs.ClipPass.{AreDoneClips, AreTogether, ClipBelongs, 
 pub use Rattle.nit_hall.specs.ClipPass.{IsAtClip, IsAtClipPhase, IsAtPhaseEnd, IsClipPass}
 pub use Rattle.nit_hall.specs.ClipPass.{IsDoneClip, clip_phases_before, clip_script_in}
 pub use Rattle.nit_hall.specs.ClipPass.{knowing_clip, next_clip}
+pub use Rattle.nit_hall.specs.Below.{Recorded, entries_in, raws_in}
 pub use Rattle.nit_hall.specs.HallCalls.{CanClip}
+pub use Rattle.nit_hall.specs.History.{AreLast, IsHistory, raw_behind}
 pub use Rattle.nit_hall.specs.Meeting.{ClipHasMet, HasMet, UserHasMet}
 pub use Rattle.nit_hall.specs.NearWords.{AreNear, IsLastDirtied, IsNear, IsNearBy, IsNearFrame}
 pub use Rattle.nit_hall.specs.NearWords.{IsLeftAt, IsWordOfScripts, is_dirtied, words_at_call}

@@ -2,7 +2,7 @@
 
 ghost use Rattle.std.specs.Prelude.{◌≡◌, ◌+◌, ◌≤◌, ◌<◌, ◌==◌, length, IfNone, slice_get};
 ghost use Rattle.nit_hall.specs.Terms.{IsAtClip, IsAtClipPhase, clip_phases_before, most_lines};
-ghost use Rattle.nit_hall.specs.Terms.{next_clip};
+ghost use Rattle.nit_hall.specs.Terms.{entries_in, next_clip};
 
 use crate::pass::Pass;
 use nit_clip::laws::calls_of_a_clip_script;
@@ -22,6 +22,7 @@ pub struct ClipPass<'a> {
 }
 
 impl<'a> Model for ClipPass<'a> {
+    ghost use Rattle.nit_ledger.specs.Book.{entries_in};
     ghost use Rattle.nit_hall.specs.ClipPass.{ClipPassModel, IsClipPass};
 
     ghost Value = { ClipPassModel };
@@ -33,7 +34,7 @@ impl<'a> Model for ClipPass<'a> {
       number = q.share.number;
       name = q.share.name;
       script = q.script.now;
-      seen = q.share.seen;
+      seen = entries_in q.share.seen;
     } };
 
     ghost invariant = { λ q. IsClipPass (record {
@@ -43,7 +44,7 @@ impl<'a> Model for ClipPass<'a> {
       number = q.share.number;
       name = q.share.name;
       script = q.script.now;
-      seen = q.share.seen;
+      seen = entries_in q.share.seen;
     }) q.share };
 }
 
@@ -58,7 +59,7 @@ impl<'a> ClipPass<'a> {
           number = share.number;
           name = share.name;
           script = script.entry.now;
-          seen = share.seen;
+          seen = entries_in share.seen;
         } }
     {
         ClipPass {

@@ -193,7 +193,9 @@ impl<'a, N: Name> Hall<'a, N> {
         let mut kept = self
             .moved
             .wait_while(rt, self.room.lock(rt), |kept| !kept.room.ready_user(user));
-        kept.room.shoot(user, out)
+        let room = &mut kept.room;
+        let _near = room.scene();
+        room.shoot(user, out)
     }
 
     /// Waits until the pass is ready, and lets it find its phase served ([`Room::admit`]). It may

@@ -8,6 +8,7 @@ mod entry_laws;
 mod last;
 mod phases;
 mod served;
+mod shown;
 
 ghost use Rattle.std.specs.Prelude.{◌≡◌, ◌+◌, ◌*◌, ◌≤◌, ◌==◌, [], length, replicate};
 ghost use Rattle.nit_hall.specs.Terms.{AreNear, Belongs, HasMet, HaveInks, IsLegal, IsRoom};
@@ -42,6 +43,7 @@ pub struct Room<'a> {
 
 impl<'a> Model for Room<'a> {
     ghost use Rattle.std.specs.Prelude.{◌≡◌, ◌+◌, drop, length, take};
+    ghost use Rattle.nit_ledger.specs.Book.{entries_in, raws_in};
     ghost use Rattle.nit_hall.specs.Room.{RoomModel, IsRoom, without_final};
 
     ghost Value = { RoomModel };
@@ -61,6 +63,7 @@ impl<'a> Model for Room<'a> {
       arrived = r.arrived;
       clips = r.clip;
       clip_counts = drop (length r.parts.scripts.now + 1) r.book.counts;
+      raws = raws_in r.book.entries;
     } };
 
     ghost invariant = { λ r. IsRoom (record {
@@ -78,7 +81,8 @@ impl<'a> Model for Room<'a> {
       arrived = r.arrived;
       clips = r.clip;
       clip_counts = drop (length r.parts.scripts.now + 1) r.book.counts;
-    }) × (r.book.entries ≡ without_final r.scene.entries) };
+      raws = raws_in r.book.entries;
+    }) × (entries_in r.book.entries ≡ without_final r.scene.entries) };
 }
 
 impl<'a> Room<'a> {
@@ -109,6 +113,7 @@ impl<'a> Room<'a> {
           arrived = 0;
           clips = clip;
           clip_counts = [];
+          raws = [];
         } }
     {
         no_clips();

@@ -2,7 +2,8 @@
 
 ghost use Rattle.std.specs.Prelude.{◌≡◌, ◌<◌, ◌≤◌, ◌==◌, [], length, IfNone, slice_get, take};
 ghost use Rattle.nit_hall.specs.Terms.{IsAtDevice, IsDevice, input_phases_before, most_lines};
-ghost use Rattle.nit_hall.specs.Terms.{next_device, user_actions_in, user_actions_of};
+ghost use Rattle.nit_hall.specs.Terms.{entries_in, next_device, raws_in, user_actions_in};
+ghost use Rattle.nit_hall.specs.Terms.{user_actions_of};
 
 use nit_events::Device;
 use nit_ledger::Share;
@@ -20,6 +21,7 @@ pub struct UserPass<'a> {
 }
 
 impl<'a> Model for UserPass<'a> {
+    ghost use Rattle.nit_ledger.specs.Book.{entries_in, raws_in};
     ghost use Rattle.nit_hall.specs.Pass.{UserPassModel, IsUserPass};
 
     ghost Value = { UserPassModel };
@@ -30,7 +32,8 @@ impl<'a> Model for UserPass<'a> {
       phase = u.phase;
       name = u.share.name;
       input = u.input.now;
-      seen = u.share.seen;
+      seen = entries_in u.share.seen;
+      raws = raws_in u.share.seen;
     } };
 
     ghost invariant = { λ u. IsUserPass (record {
@@ -39,7 +42,8 @@ impl<'a> Model for UserPass<'a> {
       phase = u.phase;
       name = u.share.name;
       input = u.input.now;
-      seen = u.share.seen;
+      seen = entries_in u.share.seen;
+      raws = raws_in u.share.seen;
     }) u.share };
 }
 
@@ -53,7 +57,8 @@ impl<'a> UserPass<'a> {
           phase = 0;
           name = share.name;
           input = input.entry.now;
-          seen = share.seen;
+          seen = entries_in share.seen;
+          raws = raws_in share.seen;
         } }
     {
         UserPass {

@@ -1,7 +1,8 @@
 -- Each kind of step keeps the rule of a book.
-use Rattle.nit_ledger.proofs.Basics.{Allows, Bears, BearsShare, BookView, Entry, FitsView, IsBookAt}
-use Rattle.nit_ledger.proofs.Basics.{IsBookRule, IsTokenInStep, Joins, OfBook, OfShare, Spent}
-use Rattle.nit_ledger.proofs.Basics.{Splits, State, StepDone, Token, at_last, at_longer, at_set}
+use Rattle.nit_ledger.proofs.Basics.{Allows, Bears, BearsShare, BookView, FitsView, IsBookAt}
+use Rattle.nit_ledger.proofs.Basics.{IsBookRule, IsTokenInStep, Joins, OfBook, OfShare, Recorded}
+use Rattle.nit_ledger.proofs.Basics.{Spent, Splits, State, StepDone, Token, at_last, at_longer}
+use Rattle.nit_ledger.proofs.Basics.{at_set}
 use Rattle.nit_ledger.proofs.Basics.{book_at_rest, book_with_share, cases_eq, get_or-append_seam}
 use Rattle.nit_ledger.proofs.Basics.{get_or_append_left, keeps, length-set, opening, raised_by}
 use Rattle.nit_ledger.proofs.Basics.{set_else, set_here, step, token}
@@ -52,7 +53,7 @@ unfolding moved
 moved_else holder n to k e = rw ne_eqb
 
 -- the view of another seat is a share's or is spent, and a share's still fits where its number is none that moved
-other_fits : (es es' : List Entry) (cs cs' : List ℕ) (seat : ℕ) (holder holder' : ℕ → ℕ) (j : ℕ) (u : BookView)
+other_fits : (es es' : List Recorded) (cs cs' : List ℕ) (seat : ℕ) (holder holder' : ℕ → ℕ) (j : ℕ) (u : BookView)
     → j ≢ seat
     → ((t : Token) → holder t.number ≡ j → IsTokenInStep es cs t → (holder' t.number ≡ j) × IsTokenInStep es' cs' t)
     → FitsView es cs seat holder j u → FitsView es' cs' seat holder' j u
@@ -96,8 +97,8 @@ by_number holder views m to n hit miss =
     (cases_eq n m)
 
 -- the book's view is at its seat after a step of that seat, where a view is put behind the others
-booked_push : (views : List BookView) (id : ℕ) (v w : BookView) (es : List Entry) (cs : List ℕ) (taken : Option Token)
-    → get_elem? views id ≡ some v
+booked_push : (views : List BookView) (id : ℕ) (v w : BookView) (es : List Recorded) (cs : List ℕ)
+    (taken : Option Token) → get_elem? views id ≡ some v
     → IsBookAt (set views id (OfBook es cs taken) ++ w ∷ []) id es cs
 booked_push views id v w es cs taken at =
     (taken, at_longer (set views id (OfBook es cs taken)) (w ∷ []) id _ (set_here views id _ (at_within views id v at)))
@@ -120,15 +121,15 @@ begins = record {
     one (suc by) v e = absurd (some-ne-none v (sym e))
 
 -- the rule, at the view of the book's seat
-settled : (s : State (Unit {0}) BookView) (kept : IsBookRule s) (id : ℕ) (es : List Entry) (cs : List ℕ)
+settled : (s : State (Unit {0}) BookView) (kept : IsBookRule s) (id : ℕ) (es : List Recorded) (cs : List ℕ)
     (t : Option Token) → get_elem? s.views id ≡ some (OfBook es cs t) → (j : ℕ) (u : BookView)
     → get_elem? s.views j ≡ some u → FitsView es cs id kept.holder j u
 settled s kept id es cs t at j u e =
     let here = kept.fits id (OfBook es cs t) at in
-    subst (λ (y : List Entry × List ℕ × ℕ). FitsView y.0 y.1 y.2 kept.holder j u)
+    subst (λ (y : List Recorded × List ℕ × ℕ). FitsView y.0 y.1 y.2 kept.holder j u)
     (λ i. (sym here.1 i, sym here.2 i, sym here.0 i)) (kept.fits j u e)
 
-opened_part : (es : List Entry) (cs : List ℕ) (holder : ℕ → ℕ) (to j : ℕ) (t : Token) → holder t.number ≡ j
+opened_part : (es : List Recorded) (cs : List ℕ) (holder : ℕ → ℕ) (to j : ℕ) (t : Token) → holder t.number ≡ j
     → IsTokenInStep es cs t → (moved holder (length cs) to t.number ≡ j) × IsTokenInStep es (cs ++ 0 ∷ []) t
 opened_part es cs holder to j t h a =
     let below = a.below in
@@ -143,7 +144,7 @@ opened_part es cs holder to j t h a =
       },
     )
 
-pub opens : (id : ℕ) (es : List Entry) (cs : List ℕ)
+pub opens : (id : ℕ) (es : List Recorded) (cs : List ℕ)
     → Splits IsBookRule id (book_at_rest es cs) (book_at_rest es (cs ++ 0 ∷ [])) (OfShare (token (length cs) 0 es))
 opens id es cs s kept at =
     let w : BookView = book_at_rest es (cs ++ 0 ∷ []) in
@@ -181,13 +182,13 @@ opens id es cs s kept at =
           (elsewhere s.views id (OfBook es cs None) (kept.holder n) n at (λ b. b) was) was));
     }
 
-taken_part : (es : List Entry) (cs : List ℕ) (holder : ℕ → ℕ) (n to from j : ℕ) → holder n ≡ from → j ≢ from
+taken_part : (es : List Recorded) (cs : List ℕ) (holder : ℕ → ℕ) (n to from j : ℕ) → holder n ≡ from → j ≢ from
     → (t : Token) → holder t.number ≡ j → IsTokenInStep es cs t → (moved holder n to t.number ≡ j)
     × IsTokenInStep es cs t
 taken_part es cs holder n to from j is apart t h a =
     (moved_else holder n to t.number (λ q. apart (sym h ∙ ap holder q ∙ is)) ∙ h, a)
 
-pub takes : (id : ℕ) (es : List Entry) (cs : List ℕ) (other : ℕ) (t : Token)
+pub takes : (id : ℕ) (es : List Recorded) (cs : List ℕ) (other : ℕ) (t : Token)
     → Joins IsBookRule id (book_at_rest es cs) other (OfShare t) (book_with_share es cs t) Spent
 takes id es cs other t s kept at apart there =
     let w : BookView = book_with_share es cs t in
@@ -223,7 +224,7 @@ takes id es cs other t s kept at apart there =
           (elsewhere s.views id (OfBook es cs None) (kept.holder n) n at (λ b. b) was) was));
     }
   where
-    last : (views : List BookView) (id : ℕ) (es : List Entry) (cs : List ℕ) (other : ℕ) (t : Token) (holder : ℕ → ℕ)
+    last : (views : List BookView) (id : ℕ) (es : List Recorded) (cs : List ℕ) (other : ℕ) (t : Token) (holder : ℕ → ℕ)
         → ((j : ℕ) (u : BookView) → get_elem? views j ≡ some u → FitsView es cs id holder j u)
         → (holder t.number ≡ other) × IsTokenInStep es cs t → (j : ℕ) (u : BookView)
         → get_elem? (set (set views id (book_with_share es cs t)) other Spent) j ≡ some u
@@ -240,7 +241,7 @@ takes id es cs other t s kept at apart there =
         (at_set views id j (book_with_share es cs t) u x.1))
         (at_set (set views id (book_with_share es cs t)) other j Spent u e)
 
-pub gives : (id : ℕ) (es : List Entry) (cs : List ℕ) (t : Token)
+pub gives : (id : ℕ) (es : List Recorded) (cs : List ℕ) (t : Token)
     → Splits IsBookRule id (book_with_share es cs t) (book_at_rest es cs) (OfShare t)
 gives id es cs t s kept at =
     let w : BookView = book_at_rest es cs in
@@ -273,7 +274,7 @@ gives id es cs t s kept at =
     }
 
 -- another share, after the share n has added entries and counted
-grown_part : (es : List Entry) (cs : List ℕ) (added : List Entry) (risen : ℕ) (holder : ℕ → ℕ) (n id j : ℕ)
+grown_part : (es : List Recorded) (cs : List ℕ) (added : List Recorded) (risen : ℕ) (holder : ℕ → ℕ) (n id j : ℕ)
     → holder n ≡ id → j ≢ id → (t : Token) → holder t.number ≡ j → IsTokenInStep es cs t
     → (holder t.number ≡ j) × IsTokenInStep (es ++ added) (raised_by cs n risen) t
 grown_part es cs added risen holder n id j is apart t h a =
@@ -290,9 +291,9 @@ grown_part es cs added risen holder n id j is apart t h a =
     )
 
 -- the seat that has taken a share in keeps its number
-holding_on : (s : State (Unit {0}) BookView) (kept : IsBookRule s) (id : ℕ) (es : List Entry) (cs : List ℕ) (t : Token)
-    (w : BookView) → get_elem? s.views id ≡ some (OfBook es cs (Some t)) → kept.holder t.number ≡ id → Bears t.number w
-    → (n : ℕ) → n < length cs → BearsShare (set s.views id w) (kept.holder n) n
+holding_on : (s : State (Unit {0}) BookView) (kept : IsBookRule s) (id : ℕ) (es : List Recorded) (cs : List ℕ)
+    (t : Token) (w : BookView) → get_elem? s.views id ≡ some (OfBook es cs (Some t)) → kept.holder t.number ≡ id
+    → Bears t.number w → (n : ℕ) → n < length cs → BearsShare (set s.views id w) (kept.holder n) n
 holding_on s kept id es cs t w at is b n lt =
     ⊎_elim
     (λ (e : n ≡ t.number). subst (λ (k : ℕ). BearsShare (set s.views id w) k n) (sym (ap kept.holder e ∙ is))
@@ -305,11 +306,11 @@ holding_on s kept id es cs t w at is b n lt =
     (cases_eq n t.number)
 
 -- the share that is taken in adds entries and counts
-pub does : (slots id : ℕ) (es : List Entry) (cs : List ℕ) (t : Token) (added : List Entry) (risen : ℕ)
+pub does : (slots id : ℕ) (es : List Recorded) (cs : List ℕ) (t : Token) (added : List Recorded) (risen : ℕ)
     → Allows IsBookRule slots id (book_with_share es cs t, []) 0 (λ n. n)
     (StepDone added risen (step slots 0 0 0 none) (book_with_share es cs t, []))
 does slots id es cs t added risen s kept homes at fits =
-    let es' : List Entry = es ++ added in
+    let es' : List Recorded = es ++ added in
     let cs' : List ℕ = raised_by cs t.number risen in
     let t' : Token = token t.number (t.count + risen) es' in
     let w : BookView = book_with_share es' cs' t' in

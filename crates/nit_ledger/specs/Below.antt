@@ -6,4 +6,5 @@ pub use Rattle.atomic_table.specs.declared.shared.Seat.{Seat}
 pub use Rattle.nit_events.specs.declared.entry.Entry.{Entry}
 pub use Rattle.nit_ledger.specs.declared.view.BookView.{BookView}
 pub use Rattle.nit_ledger.specs.declared.view.BookView.TheVariants.{OfBook, OfShare, Spent}
+pub use Rattle.nit_ledger.specs.declared.view.Recorded.{Recorded}
 pub use Rattle.nit_ledger.specs.declared.view.Token.{Token}

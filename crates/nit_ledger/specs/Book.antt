@@ -1,7 +1,8 @@
 -- What contracts see of a book and of a share.
-use Rattle.std.specs.Prelude.{◌≡◌, ℕ, ◌+◌, ◌<◌, List, length, slice_index, slice_set}
+use Rattle.std.specs.Prelude.{◌≡◌, ℕ, ◌+◌, ◌<◌, List, length, map, slice_index}
+use Rattle.std.specs.Prelude.{slice_set}
 use mathlib.Core.List.{IsPrefix}
-use Rattle.nit_ledger.specs.Below.{Entry, TableId}
+use Rattle.nit_ledger.specs.Below.{Entry, Recorded, TableId}
 
 -- shares of one book
 abbrev pub most_shares : ℕ
@@ -11,10 +12,19 @@ most_shares = 64
 abbrev pub BookName : Type 0
 BookName = TableId
 
--- a book: its name, its entries, and the count of each share that it has made
+-- the journal's entries among these, in order
+abbrev pub entries_in : List Recorded → List Entry
+entries_in recorded = map (λ (r : Recorded). r.entry) recorded
+
+-- the raw words behind each, in order
+abbrev pub raws_in : List Recorded → List (List ℕ)
+raws_in recorded = map (λ (r : Recorded). r.raw) recorded
+
+-- A book: its name, its entries, each with the raw words behind it, and the count of each share
+-- that it has made.
 pub record BookModel : Type 0 where
   pub name : BookName
-  pub entries : List Entry
+  pub entries : List Recorded
   pub counts : List ℕ
 
 -- a share: the name of its book, its number, its count, and the entries that it has seen
@@ -22,7 +32,7 @@ pub record ShareModel : Type 0 where
   pub name : BookName
   pub number : ℕ
   pub count : ℕ
-  pub seen : List Entry
+  pub seen : List Recorded
 
 -- the count at this number has risen by so much
 abbrev pub raised_by : List ℕ → ℕ → ℕ → List ℕ
@@ -34,8 +44,8 @@ raised counts number = raised_by counts number 1
 
 -- a share of this number, count and `seen` is in step with these entries and counts: its number is
 -- below the number of counts, its count is the one there, and it has seen a front of the entries
-pub record IsInStep (entries : List Entry) (counts : List ℕ) (number count : ℕ)
-    (seen : List Entry) : Type 0 where
+pub record IsInStep (entries : List Recorded) (counts : List ℕ) (number count : ℕ)
+    (seen : List Recorded) : Type 0 where
   pub below : number < length counts
   pub counted : slice_index counts number ≡ count
   pub front : IsPrefix seen entries

@@ -2,35 +2,36 @@
 use Rattle.std.specs.Prelude.{◌≡◌, ℕ, ◌+◌, ◌<◌, List, [], ◌∷◌, ◌++◌, length, Option, Some, None}
 use mathlib.Core.Option.{some}
 use lib.ListN.{get_elem?}
-use Rattle.nit_ledger.specs.Below.{BookView, Entry, Me, OfBook, OfShare, Spent, State, Step, Token}
+use Rattle.nit_ledger.specs.Below.{BookView, Me, OfBook, OfShare, Recorded, Spent, State, Step}
+use Rattle.nit_ledger.specs.Below.{Token}
 use Rattle.nit_ledger.specs.Book.{raised_by, IsInStep}
 
 -- what a share knows
-abbrev pub token : ℕ → ℕ → List Entry → Token
+abbrev pub token : ℕ → ℕ → List Recorded → Token
 token number count seen = record { number = number; count = count; seen = seen }
 
 -- a book in which no share is taken in
-abbrev pub book_at_rest : List Entry → List ℕ → BookView
+abbrev pub book_at_rest : List Recorded → List ℕ → BookView
 book_at_rest es cs = OfBook es cs None
 
 -- a book in which this share is taken in
-abbrev pub book_with_share : List Entry → List ℕ → Token → BookView
+abbrev pub book_with_share : List Recorded → List ℕ → Token → BookView
 book_with_share es cs t = OfBook es cs (Some t)
 
 -- the share is in step with these entries and counts
-abbrev pub IsTokenInStep : List Entry → List ℕ → Token → Type 0
+abbrev pub IsTokenInStep : List Recorded → List ℕ → Token → Type 0
 IsTokenInStep es cs t = IsInStep es cs t.number t.count t.seen
 
 -- the share that the book has taken in, if any, is in step, and the book's seat is the holder of
 -- its number
-abbrev pub IsTakenInStep : List Entry → List ℕ → ℕ → (ℕ → ℕ) → Option Token → Type 0
+abbrev pub IsTakenInStep : List Recorded → List ℕ → ℕ → (ℕ → ℕ) → Option Token → Type 0
 IsTakenInStep es cs seat holder None = Unit {0}
 IsTakenInStep es cs seat holder (Some t) = IsTokenInStep es cs t × (holder t.number ≡ seat)
 
 -- What the rule says of the view of the seat `by`: a book's view is that of the one seat and has
 -- the one list of entries and of counts; a share's is that of the holder of its number, and the
 -- share is in step.
-abbrev pub FitsView : List Entry → List ℕ → ℕ → (ℕ → ℕ) → ℕ → BookView → Type 0
+abbrev pub FitsView : List Recorded → List ℕ → ℕ → (ℕ → ℕ) → ℕ → BookView → Type 0
 FitsView es cs seat holder by (OfBook e c t) =
     (by ≡ seat) × (e ≡ es) × (c ≡ cs) × IsTakenInStep es cs seat holder t
 FitsView es cs seat holder by (OfShare t) = (holder t.number ≡ by) × IsTokenInStep es cs t
@@ -48,7 +49,7 @@ abbrev pub BearsShare : List BookView → ℕ → ℕ → Type 0
 BearsShare views by n = (v : BookView) × (get_elem? views by ≡ some v) × Bears n v
 
 -- the view of this seat is a book's, with these entries and counts
-abbrev pub IsBookAt : List BookView → ℕ → List Entry → List ℕ → Type 0
+abbrev pub IsBookAt : List BookView → ℕ → List Recorded → List ℕ → Type 0
 IsBookAt views seat es cs =
     (taken : Option Token) × (get_elem? views seat ≡ some (OfBook es cs taken))
 
@@ -57,7 +58,7 @@ IsBookAt views seat es cs =
 -- no number has two shares. The holder of each number below the number of counts has the share of
 -- that number. The one word is 0.
 pub record IsBookRule (s : State (Unit {0}) BookView) : Type 0 where
-  pub entries : List Entry
+  pub entries : List Recorded
   pub counts : List ℕ
   pub seat : ℕ
   pub holder : ℕ → ℕ
@@ -107,7 +108,7 @@ share_in Spent = Spent
 
 -- the share that is taken in was in step; entries are added, its count and the book's count at its
 -- number rise, and it has seen all entries; where none is taken in, nothing changes
-abbrev pub ShareChanged : List Entry → ℕ → BookView → BookView → Type 0
+abbrev pub ShareChanged : List Recorded → ℕ → BookView → BookView → Type 0
 ShareChanged added risen (OfBook es cs (Some t)) w =
     (w ≡ book_with_share (es ++ added) (raised_by cs t.number risen)
     (token t.number (t.count + risen) (es ++ added))) × IsTokenInStep es cs t
@@ -116,7 +117,7 @@ ShareChanged added risen (OfShare t) w = w ≡ OfShare t
 ShareChanged added risen Spent w = w ≡ Spent
 
 -- what a step tells, in which the share that is taken in does this
-abbrev pub StepDone : List Entry → ℕ → Step (Unit {0}) → Me (Unit {0}) BookView → ℕ
+abbrev pub StepDone : List Recorded → ℕ → Step (Unit {0}) → Me (Unit {0}) BookView → ℕ
     → Me (Unit {0}) BookView → Type 0
 StepDone added risen step before n after = ShareChanged added risen before.0 after.0
     × (after.1 ≡ before.1)

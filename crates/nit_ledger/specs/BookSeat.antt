@@ -1,6 +1,6 @@
 -- What is seen of the seats of a book and of a share.
 use Rattle.std.specs.Prelude.{◌≡◌, ℕ, ◌<◌, List, [], Option, Some, None}
-use Rattle.nit_ledger.specs.Below.{BookView, Entry, OfBook, OfShare, Seat, TableId, Token}
+use Rattle.nit_ledger.specs.Below.{BookView, OfBook, OfShare, Recorded, Seat, TableId, Token}
 use Rattle.nit_ledger.specs.Book.{BookName, BookModel, ShareModel}
 use Rattle.nit_ledger.specs.BookRule.{token, token_of, book_at_rest, book_with_share}
 
@@ -8,7 +8,7 @@ use Rattle.nit_ledger.specs.BookRule.{token, token_of, book_at_rest, book_with_s
 abbrev pub BookSeat : Type 0
 BookSeat = Seat (Unit {0}) BookView
 
-abbrev pub entries_of : BookView → List Entry
+abbrev pub entries_of : BookView → List Recorded
 entries_of (OfBook es cs t) = es
 entries_of other = []
 
@@ -21,7 +21,7 @@ taken_of (OfBook es cs (Some t)) = t
 taken_of other = token 0 0 []
 
 -- the entries that the book's seat knows
-abbrev pub entries_at : BookSeat → List Entry
+abbrev pub entries_at : BookSeat → List Recorded
 entries_at s = entries_of s.me.0
 
 -- the counts that the book's seat knows

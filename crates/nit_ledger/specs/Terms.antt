@@ -1,6 +1,6 @@
 -- The words that clauses use: those that come from outside, and those of this crate.
 pub use Rattle.nit_ledger.specs.Below.{Allows, BookView, Entry, Joins, Me, OfBook, OfShare, Spent}
-pub use Rattle.nit_ledger.specs.Below.{Splits, State, Token, keeps, opening, step}
+pub use Rattle.nit_ledger.specs.Below.{Recorded, Splits, State, Token, keeps, opening, step}
 pub use Rattle.nit_ledger.specs.Book.{IsShareOf, most_shares, raised, raised_by}
 pub use Rattle.nit_ledger.specs.BookRule.{Bears, BearsShare, FitsView, IsBookAt, IsBookRule}
 pub use Rattle.nit_ledger.specs.BookRule.{IsTokenInStep, StepDone, book_after_split, book_at_rest}

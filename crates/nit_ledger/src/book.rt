@@ -12,8 +12,17 @@ use nit_rect::NoMemory;
 use std::alloc::Global;
 use std::marker::{Brand, Model};
 
-/// Entries that only grow, and a count for each share. It is seen as its name, the list of its
-/// entries and the list of its counts, one for each share that it has made.
+/// What has raw words: a list of them that contracts alone know. An entry is added with those
+/// behind it.
+pub trait HasRaw {
+    ghost use Rattle.std.specs.Prelude.{ℕ, List};
+
+    ghost raw: { Self → List ℕ };
+}
+
+/// Entries that only grow, each with the raw words behind it, and a count for each share. It is
+/// seen as its name, the list of its entries and the list of its counts, one for each share that it
+/// has made.
 #[derive(Drop)]
 pub struct Book {
     pages: Pages,
@@ -58,19 +67,19 @@ impl Book {
         }
     }
 
-    /// Adds an entry, which the share counts. The share is of this book. After it the share has
-    /// seen all entries.
-    pub fn append(&mut self, share: &mut Share, e: &Entry)
+    /// Adds an entry, which the share counts, with the raw words of `shown` behind it. The share is
+    /// of this book. After it the share has seen all entries.
+    pub fn append<R: HasRaw>(&mut self, share: &mut Share, e: &Entry, shown: &R)
         requires { share.old.name ≡ self.old.name }
         ensures book { self.new ≡ record self.old {
-          entries = self.old.entries ++ e.now ∷ [];
+          entries = self.old.entries ++ record { entry = e.now; raw = R.raw shown.now } ∷ [];
           counts = raised self.old.counts share.old.number;
         } }
         ensures share { share.new
             ≡ record share.old { count = share.old.count + 1; seen = self.new.entries } }
         ensures before { IsShareOf self.old share.old }
     {
-        self.add::<Brand>(share, e);
+        self.add::<Brand, R>(share, e, shown);
     }
 
     /// The share counts, and no entry is added. The share is of this book. After it the share has
@@ -96,12 +105,13 @@ impl Book {
         self.turn::<Looking>(share);
     }
 
-    /// Adds the entry that the call picks.
-    fn add<X: AddedEntry>(&mut self, share: &mut Share, e: &Entry)
+    /// Adds the entry that the call picks, with the raw words that it picks.
+    fn add<X: AddedEntry, R: HasRaw>(&mut self, share: &mut Share, e: &Entry, shown: &R)
         requires name { share.old.name ≡ self.old.name }
         requires entry { e.now ≡ X.entry }
+        requires raw { R.raw shown.now ≡ X.raw }
         ensures book { self.new ≡ record self.old {
-          entries = self.old.entries ++ e.now ∷ [];
+          entries = self.old.entries ++ record { entry = e.now; raw = R.raw shown.now } ∷ [];
           counts = raised self.old.counts share.old.number;
         } }
         ensures share { share.new
@@ -109,6 +119,7 @@ impl Book {
         ensures before { IsShareOf self.old share.old }
     {
         let _ = e;
+        let _ = shown;
         self.turn::<Adding<X>>(share);
     }
 

@@ -1,4 +1,5 @@
-//! A book of journal entries that only grows, and shares of it that go to other threads.
+//! A book of journal entries that only grows, each with the raw words of the screen behind it, and
+//! shares of it that go to other threads.
 //!
 //! A [`Book`] stands behind a lock. Each actor holds a [`Share`], which remembers its number, how
 //! often it has counted, and the entries that the book had when the share last met it. When a share
@@ -18,5 +19,5 @@ mod steps;
 mod turn;
 mod view;
 
-pub use book::Book;
+pub use book::{Book, HasRaw};
 pub use share::Share;

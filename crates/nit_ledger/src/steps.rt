@@ -39,9 +39,9 @@ impl Split<BookView> for Carries {
 /// After it the share has seen all entries.
 pub(crate) trait Deed {
     ghost use Rattle.std.specs.Prelude.{ℕ, List};
-    ghost use Rattle.nit_events.specs.declared.entry.Entry.{Entry};
+    ghost use Rattle.nit_ledger.specs.declared.view.Recorded.{Recorded};
 
-    ghost added: { List Entry };
+    ghost added: { List Recorded };
 
     ghost risen: { ℕ };
 }
@@ -55,17 +55,23 @@ impl<D: Deed> Play<(), BookView> for Does<D> {
     ghost then = { StepDone D.added D.risen };
 }
 
-/// An entry. Each call that adds one picks it.
+/// An entry, and the raw words behind it. Each call that adds one picks both.
 pub(crate) trait AddedEntry {
+    ghost use Rattle.std.specs.Prelude.{ℕ, List};
     ghost use Rattle.nit_events.specs.declared.entry.Entry.{Entry};
 
     ghost entry: { Entry };
+
+    ghost raw: { List ℕ };
 }
 
 impl AddedEntry for Brand {
+    ghost use Rattle.std.specs.Prelude.{[]};
     ghost use Rattle.nit_events.specs.declared.entry.Entry.TheVariants.{Final};
 
     ghost entry = { Final };
+
+    ghost raw = { [] };
 }
 
 /// One entry is added, and counted.
@@ -74,7 +80,7 @@ pub(crate) struct Adding<X: AddedEntry>(PhantomData<X>);
 impl<X: AddedEntry> Deed for Adding<X> {
     ghost use Rattle.std.specs.Prelude.{[], ◌∷◌};
 
-    ghost added = { X.entry ∷ [] };
+    ghost added = { record { entry = X.entry; raw = X.raw } ∷ [] };
 
     ghost risen = { 1 };
 }

@@ -7,6 +7,13 @@ use std::collections::LinkedList;
 /// The table of a book: one word, which never changes, and a view for the book and for each share.
 pub(crate) type Pages = Table<(), BookView, (), BookRule, Global>;
 
+/// An entry of a book: one of the journal, and the raw words of the screen behind it. No value of
+/// it is made.
+pub struct Recorded {
+    pub entry: Entry,
+    pub raw: LinkedList<u32>,
+}
+
 /// What a share knows. No value of it is made.
 pub struct Token {
     /// Which share of the book it is.
@@ -14,13 +21,13 @@ pub struct Token {
     /// How often it has counted.
     pub count: u64,
     /// The entries that the book had when the share last met it.
-    pub seen: LinkedList<Entry>,
+    pub seen: LinkedList<Recorded>,
 }
 
 /// What a seat of the book's table knows. No value of it is made.
 pub enum BookView {
     /// The book: its entries, the count of each share, and the share that is taken in.
-    OfBook(LinkedList<Entry>, LinkedList<u64>, Option<Token>),
+    OfBook(LinkedList<Recorded>, LinkedList<u64>, Option<Token>),
     /// A share.
     OfShare(Token),
     /// Nothing: the share that it knew was taken in.

@@ -1,6 +1,7 @@
 -- What lemmas use: the words of clauses, the library's lemmas, and those of the crates below.
 pub use Rattle.nit_actor.proofs.ForCallers.{fit_again, fits_belongs, role_at, roles_fit, roles_long}
-pub use Rattle.nit_rounds.proofs.ForCallers.{files_both, no_files}
+pub use Rattle.nit_actor.proofs.ForCallers.{among_more, one_history}
+pub use Rattle.nit_rounds.proofs.ForCallers.{files_both, no_files, shots_along}
 pub use Rattle.nit_hall.proofs.ForCallers.{actions_done, told_word}
 pub use Rattle.nit_journal.proofs.ForCallers.{as_many_as_clients, actions_of-append, kept_config}
 pub use Rattle.nit_journal.proofs.ForCallers.{same_throughout}
@@ -9,6 +10,7 @@ pub use Rattle.nit_perform.specs.Below.{Desk, OpenedRounds}
 pub use Rattle.nit_perform.specs.LastPicture.{TakesLast}
 pub use Rattle.nit_perform.specs.Terms.{ActorLine, AfterPut, All, AllByRecursion, AreAllDone}
 pub use Rattle.nit_perform.specs.Terms.{AreBlank, AreInkedPlans, AreScriptsOf, CanTakeLast}
+pub use Rattle.nit_perform.specs.Terms.{IsKnownHistory, IsPictureAmong}
 pub use Rattle.nit_perform.specs.Terms.{HasEnded, IsRoundsOpening, IsRunOf, put_state_at}
 pub use Rattle.nit_perform.specs.Terms.{AreBuffers, AreClipsOf, AreDone, AreDoneClips}
 pub use Rattle.nit_perform.specs.Terms.{AreFirstClipPasses, AreKeysBlank, AreNearShots, AreOutputs}

@@ -235,7 +235,11 @@ clips_leave parts first mid new ran fault text has (list, is_list, told) put = r
   is_journal = record { legal = has.journal.legal; whole = has.journal.whole; rounds = has.journal.rounds };
   frames_are = has.frames;
   outputs = has.outputs;
-  are = (has.are.0, record { by_rounds = has.are.1.by_rounds; beside = has.are.1.beside }, has.are.2);
+  are = (
+    has.are.0,
+    record { by_rounds = has.are.1.by_rounds; beside = has.are.1.beside; history = has.are.1.history },
+    has.are.2,
+  );
   file = (clips_name, clip_text list);
   file_is = (list, is_list, refl);
   puts = puts_more has.outputs (clips_name, clip_text list) (unrefused first) (put_state_of_run mid ran.fault)

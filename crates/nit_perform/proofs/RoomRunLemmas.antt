@@ -11,7 +11,9 @@ use Rattle.nit_perform.proofs.Basics.{All, AreBlank, AreBuffers, AreDone, AreKey
 use Rattle.nit_perform.proofs.Basics.{AreNearShots, AreOutputs, Bare, Belongs, Black, BufferName}
 use Rattle.nit_perform.proofs.Basics.{Configuration, Desk, End, Entry, File, HasEnded, HasRun}
 use Rattle.nit_perform.proofs.Basics.{InputLine, SceneModel, put_state_at}
-use Rattle.nit_perform.proofs.Basics.{IsDoneUser, IsJournal, IsKnownWhole, IsNearPicture}
+use Rattle.nit_perform.proofs.Basics.{IsDoneUser, IsJournal, IsKnownHistory, IsKnownWhole}
+use Rattle.nit_perform.proofs.Basics.{IsNearPicture, IsPictureAmong, among_more, one_history}
+use Rattle.nit_perform.proofs.Basics.{shots_along}
 use Rattle.nit_perform.proofs.Basics.{IsOpen, IsOpening, IsReady, IsSetting, IsWhole, Line}
 use Rattle.nit_perform.proofs.Basics.{OpeningParts, PassModel, PixelSource, PlanModel}
 use Rattle.nit_perform.proofs.Basics.{PutsAll, PutsShotsBehind, Ran, Role, RoomModel}
@@ -241,13 +243,14 @@ true_false : true ≡ false → ⊥
 true_false e = cc
 
 pub beside_leaves : {S : Type 0} (shown : S → StoreModel) (parts : OpeningParts) (known known' : List Entry)
-    (first new : StoreModel) (scene : SceneModel End) {desk left : Desk S} (ran : Ran)
-    → known ≡ [] → PutsShotsBehind parts known known' (unrefused first) (put_state_at shown desk)
-    → HasEnded shown parts known' scene desk left
+    (raws : List (List ℕ)) (first new : StoreModel) (scene : SceneModel End) {desk left : Desk S} (ran : Ran)
+    → known ≡ [] → PutsShotsBehind parts known known' raws (unrefused first) (put_state_at shown desk)
+    → HasEnded shown parts known' raws scene desk left
     → PutsAll (events_files scene.config scene.entries ++ journal_file scene.entries ∷ []) (put_state_at shown left)
     (put_state_of_run new ran.fault)
     → ran.journal.items ≡ scene.entries → ran.frames ≡ shots scene.entries + 1 → HasRun first (setup_in parts) new ran
-beside_leaves shown parts known known' first new scene {desk = desk} {left = left} ran none puts ended texts is frames =
+beside_leaves shown parts known known' raws first new scene {desk = desk} {left = left} ran none puts ended texts is
+    frames =
     let s = setup_in parts in
     let texts' = subst (λ (k : Configuration). PutsAll (events_files k journal ++ journal_file journal ∷ [])
     (put_state_at shown left) (put_state_of_run new ran.fault)) ended.config texts in
@@ -257,8 +260,16 @@ beside_leaves shown parts known known' first new scene {desk = desk} {left = lef
           (record { legal = ended.legal; whole = ended.whole; rounds = λ alone. absurd (true_false alone) });
       frames = frames ∙ ap (λ (es : List Entry). shots es + 1) (sym is);
       outputs = outputs;
-      are = subst (λ (es : List Entry). AreOutputs s es outputs) (sym is)
-          (puts.files, record { by_rounds = λ alone. absurd (true_false alone); beside = λ together. near }, refl);
+      are = subst (λ (es : List Entry). AreOutputs s es outputs) (sym is) (
+        puts.files,
+        record {
+          by_rounds = λ alone. absurd (true_false alone);
+          beside = λ together. near;
+          history = λ together. one_history parts.config parts.scripts h.entries journal h.all puts.files h.history
+              h.ended among_all;
+        },
+        refl,
+      );
       puts = puts_both puts.files ((final_name, final_picture s journal) ∷ text_files s journal) (unrefused first)
           (put_state_at shown desk) (put_state_of_run new ran.fault) puts.put
           (put_state_at shown left, ended.put, texts');
@@ -271,15 +282,25 @@ beside_leaves shown parts known known' first new scene {desk = desk} {left = lef
     rest = ended.known.0
 
     Pic : List Entry → List ℕ → Type 0
-    Pic = IsNearPicture parts.config parts.scripts
+    Pic = IsPictureAmong raws parts.config parts.scripts
+
+    h : IsKnownHistory parts.config raws journal
+    h = ended.history
 
     shown_then : ShotsBehind Pic [] known' puts.files
     shown_then = subst (λ (es : List Entry). ShotsBehind Pic [] es puts.files)
         (sym (puts.grown ∙ ap (λ (es : List Entry). es ++ puts.more) none))
         (subst (λ (es : List Entry). ShotsBehind Pic es puts.more puts.files) none puts.are)
 
-    near : AreNearShots parts.config parts.scripts journal puts.files
-    near = subst (λ (es : List Entry). ShotsBehind Pic [] es puts.files) (sym ended.known.1)
+    among : ShotsBehind Pic [] journal puts.files
+    among = subst (λ (es : List Entry). ShotsBehind Pic [] es puts.files) (sym ended.known.1)
         (subst (λ (fs : List File). ShotsBehind Pic [] (known' ++ rest) fs) (append-nil puts.files)
         (files_both Pic [] known' rest puts.files [] shown_then
         (no_files Pic known' rest (no_shots rest ended.known.2))))
+
+    near : AreNearShots parts.config parts.scripts journal puts.files
+    near = shots_along Pic (IsNearPicture parts.config parts.scripts) [] journal puts.files
+        (λ front rest n bytes is pic. pic.0) among
+
+    among_all : ShotsBehind (IsPictureAmong h.all parts.config parts.scripts) [] journal puts.files
+    among_all = among_more parts [] journal puts.files raws h.all h.front among

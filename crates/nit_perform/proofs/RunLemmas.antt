@@ -55,7 +55,11 @@ run_leaves s start mid last owns first new at final ran whole more alone none be
       outputs = outputs;
       are = subst (λ (j : List Entry). AreOutputs s j outputs) (sym journal) (
         files,
-        record { by_rounds = λ is. refl; beside = λ together. absurd (not_both (sym alone ∙ together)) },
+        record {
+          by_rounds = λ is. refl;
+          beside = λ together. absurd (not_both (sym alone ∙ together));
+          history = λ together. absurd (not_both (sym alone ∙ together));
+        },
         sym (ap (λ (made : List File). made ++ outputs) none),
       );
       puts = all_puts;

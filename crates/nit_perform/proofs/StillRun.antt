@@ -88,19 +88,20 @@ IdleDoes = (lines : List Line) → user_actions_to_do (idle_user lines) ≡ []
 
 -- what holds of an opening holds of one that is equal
 pub ended_as : {S : Type 0} {shown : S → StoreModel} {parts parts' : OpeningParts} {seen : List Entry}
-    {s : SceneModel End} {old new : Desk S} → parts ≡ parts' → HasEnded shown parts seen s old new
-    → HasEnded shown parts' seen s old new
-ended_as {shown = shown} {seen = seen} {s = s} {old = old} {new = new} same ended =
-    subst (λ (q : OpeningParts). HasEnded shown q seen s old new) same ended
+    {raws : List (List ℕ)} {s : SceneModel End} {old new : Desk S} → parts ≡ parts'
+    → HasEnded shown parts seen raws s old new → HasEnded shown parts' seen raws s old new
+ended_as {shown = shown} {seen = seen} {raws = raws} {s = s} {old = old} {new = new} same ended =
+    subst (λ (q : OpeningParts). HasEnded shown q seen raws s old new) same ended
 
 pub alone_leaves : OneClient → IdleDoes → UserOnce
-    → {S : Type 0} (shown : S → StoreModel) (parts : OpeningParts) (seen : List Entry) (first new : StoreModel)
-    (scene : SceneModel End) {desk left : Desk S} (fault : Option PutFault) (ran : Ran)
-    → IsAlone parts.scripts parts.input → length parts.config.clients ≡ 1 → HasEnded shown parts seen scene desk left
+    → {S : Type 0} (shown : S → StoreModel) (parts : OpeningParts) (seen : List Entry) (raws : List (List ℕ))
+    (first new : StoreModel) (scene : SceneModel End) {desk left : Desk S} (fault : Option PutFault) (ran : Ran)
+    → IsAlone parts.scripts parts.input → length parts.config.clients ≡ 1
+    → HasEnded shown parts seen raws scene desk left
     → put_state_at shown desk ≡ unrefused first → put_state_of_run new fault ≡ put_state_at shown left
     → IsRunOf scene.entries fault ran
     → HasRun first (setup_of parts.config parts.scripts parts.input false false) new ran
-alone_leaves one_client idle once shown parts seen first new scene {desk = desk} fault ran (script, are, quiet) one
+alone_leaves one_client idle once shown parts seen raws first new scene {desk = desk} fault ran (script, are, quiet) one
     ended begun put left_is =
     record {
       journal = subst (λ (es : List Entry). IsJournal s es) (sym left_is.journal_is)
@@ -113,6 +114,7 @@ alone_leaves one_client idle once shown parts seen first new scene {desk = desk}
           by_rounds = λ together. sym (ap (map shot_file) no_shots);
           beside =
               λ together. absurd (false_true together);
+          history = λ together. absurd (false_true together);
         },
         refl,
       );

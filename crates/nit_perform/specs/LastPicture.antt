@@ -6,7 +6,9 @@ use Rattle.nit_perform.specs.Below.{PutsNext}
 use Rattle.nit_perform.specs.Below.{RoomModel, SceneModel, Sight, StoreModel, UserPassModel}
 use Rattle.nit_perform.specs.Below.{calls_to_make, final_name, final_picture, glass_in}
 use Rattle.nit_perform.specs.Below.{picture_length, put_state_of_desk, setup_of, user_actions_to_do}
+use Rattle.nit_perform.specs.Below.{IsHistory}
 use Rattle.nit_perform.specs.RoomRun.{IsKnownWhole}
+use mathlib.Core.List.{IsPrefix}
 use Rattle.nit_events.specs.declared.entry.Entry.TheVariants as entry
 
 -- ---- by the sessions' own glasses
@@ -42,14 +44,26 @@ pub record HasPictureRoom {S : Type 0} (config : Configuration) (desk : Desk S) 
 abbrev pub put_state_at : {S : Type 0} → (S → StoreModel) → Desk S → PutState
 put_state_at shown desk = put_state_of_desk (shown desk.store.now) desk.fault desk.tried
 
+-- the raw words that the user knew are the first of those behind all entries but the last picture,
+-- which are one history
+pub record IsKnownHistory (config : Configuration) (raws : List (List ℕ)) (journal : List Entry)
+    : Type 0 where
+  pub all : List (List ℕ)
+  pub front : IsPrefix raws all
+  pub entries : List Entry
+  pub ended : journal ≡ entries ++ entry.Final ∷ []
+  pub history : IsHistory config entries all
+
 -- The scene that a run of this opening leaves has a whole journal, of which the user has seen all
 -- of its own entries, and the desk has put its last picture.
 pub record HasEnded {S : Type 0} (shown : S → StoreModel) (parts : OpeningParts)
-    (seen : List Entry) (s : SceneModel End) (old new : Desk S) : Type 0 where
+    (seen : List Entry) (raws : List (List ℕ)) (s : SceneModel End) (old new : Desk S)
+    : Type 0 where
   pub config : s.config ≡ parts.config
   pub legal : IsLegal parts.config s.entries
   pub whole : IsWhole (map calls_to_make parts.scripts) (user_actions_to_do parts.input) s.entries
   pub known : IsKnownWhole seen s.entries
+  pub history : IsKnownHistory parts.config raws s.entries
   pub put : PutsNext (
     final_name,
     final_picture (setup_of parts.config parts.scripts parts.input true true) s.entries,

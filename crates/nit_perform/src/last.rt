@@ -6,7 +6,7 @@ ghost use Rattle.nit_perform.specs.Terms.{HasPictureRoom, HaveTables, IsClipList
 ghost use Rattle.nit_perform.specs.Terms.{IsWhole, IsWord, PutsNext, TakesLast, calls_to_make};
 ghost use Rattle.nit_perform.specs.Terms.{clips_setup_in, final_name, frame, picture_by};
 ghost use Rattle.nit_perform.specs.Terms.{picture_length, put_state_of_desk, raw_words, scenery_of};
-ghost use Rattle.nit_perform.specs.Terms.{state_now, user_actions_to_do, words_left_in};
+ghost use Rattle.nit_perform.specs.Terms.{IsHistory, state_now, user_actions_to_do, words_left_in};
 ghost use mathlib.Core.List.{IsPrefix};
 ghost use Rattle.nit_events.specs.declared.entry.Entry.TheVariants as entry;
 
@@ -58,8 +58,8 @@ pub fn take_last(scene: &mut Scene<Inked>, owns: &mut [Inked])
 pub fn last_picture<'a, S: Store>(actors: Opened<'a>, desk: &mut Desk<S>) -> Scene<Lens<'a>>
     requires done { AreAllDone actors.room actors.passes.items actors.user }
     requires desk { HasPictureRoom actors.room.parts.config desk.old }
-    ensures { HasEnded S.shown actors.entry.room.parts actors.entry.user.seen result
-        desk.old desk.new }
+    ensures { HasEnded S.shown actors.entry.room.parts actors.entry.user.seen
+        actors.entry.user.raws result desk.old desk.new }
 {
     let Opened {
         mut room,
@@ -82,7 +82,7 @@ pub fn last_with_clips<'a, S: Store>(
     requires clips { AreDoneClips actors.opened.room.parts actors.clips.items }
     requires desk { HasPictureRoom actors.opened.room.parts.config desk.old }
     ensures ended { HasEnded S.shown actors.entry.opened.room.parts actors.entry.opened.user.seen
-        result.0 desk.old desk.new }
+        actors.entry.opened.user.raws result.0 desk.old desk.new }
     ensures list { IsClipListText (clips_setup_in actors.entry.opened.room.parts)
         result.0.entries result.1 }
 {
@@ -109,7 +109,8 @@ fn end_with_picture<'a, S: Store>(
     requires done { AreAllDone room.old passes.old.items user.old }
     requires desk { HasPictureRoom room.old.parts.config desk.old }
     ensures parts { room.new.parts ≡ room.old.parts }
-    ensures ended { HasEnded S.shown room.old.parts user.old.seen room.new.scene desk.old desk.new }
+    ensures ended { HasEnded S.shown room.old.parts user.old.seen user.old.raws room.new.scene
+        desk.old desk.new }
 {
     one_more_entry();
     let (width, height) = room.scene().size();
@@ -139,6 +140,8 @@ fn end_room<'a>(
     ensures words { All IsWord out.new.items }
     ensures size { length out.new.items ≡ length out.old.items }
     ensures user_before { IsPrefix user.old.seen room.old.scene.entries }
+    ensures raws_before { IsPrefix user.old.raws room.old.raws }
+    ensures history { IsHistory room.old.parts.config room.old.scene.entries room.old.raws }
 {
     room.finish(passes, user, out)
 }

@@ -1,7 +1,7 @@
 -- The files of the shots of some entries.
 use Rattle.nit_rounds.proofs.Basics.{Entry, File, List, ShotsBehind, Some, [], ap, append-nil}
 use Rattle.nit_rounds.proofs.Basics.{arith, length, refl, shot_name, shots, slice_get}
-use Rattle.std.proofs.Common.{suc, ℕ, ◌++◌, ◌∙◌, ◌∷◌, ◌≡◌, append_assoc}
+use Rattle.std.proofs.Common.{suc, sym, ℕ, ◌++◌, ◌∙◌, ◌∷◌, ◌≡◌, append_assoc}
 use Rattle.nit_events.specs.declared.entry.Entry.TheVariants as entry
 
 abbrev Picturing : Type 1
@@ -40,6 +40,29 @@ files_both Pic front (entry.Shot n ∷ es) fs files more (bytes, others, is, pic
   pic,
   files_both Pic (front ++ entry.Shot n ∷ []) es fs others more rest
       (rw (← behind front es (entry.Shot n)) at are),
+)
+
+-- what holds of the picture of each shot, by one reading of pictures, holds by another that follows from it there
+pub shots_along : (Pic Other : Picturing) (front es : List Entry) (files : List File)
+    → ((known rest : List Entry) (n : ℕ) (bytes : List ℕ) → front ++ es ≡ known ++ entry.Shot n ∷ rest → Pic known bytes
+    → Other known bytes) → ShotsBehind Pic front es files → ShotsBehind Other front es files
+shots_along Pic Other front [] files each are = are
+shots_along Pic Other front (entry.Call s c r ∷ es) files each are =
+    shots_along Pic Other (front ++ entry.Call s c r ∷ []) es files
+    (λ known rest n bytes is. each known rest n bytes (sym (behind front es (entry.Call s c r)) ∙ is)) are
+shots_along Pic Other front (entry.Input dev routed ∷ es) files each are =
+    shots_along Pic Other (front ++ entry.Input dev routed ∷ []) es files
+    (λ known rest n bytes is. each known rest n bytes (sym (behind front es (entry.Input dev routed)) ∙ is)) are
+shots_along Pic Other front (entry.Final ∷ es) files each are =
+    shots_along Pic Other (front ++ entry.Final ∷ []) es files
+    (λ known rest n bytes is. each known rest n bytes (sym (behind front es entry.Final) ∙ is)) are
+shots_along Pic Other front (entry.Shot n ∷ es) files each (bytes, others, is, pic, rest) = (
+  bytes,
+  others,
+  is,
+  each front es n bytes refl pic,
+  shots_along Pic Other (front ++ entry.Shot n ∷ []) es others
+      (λ known more m bs parts. each known more m bs (sym (behind front es (entry.Shot n)) ∙ parts)) rest,
 )
 
 -- there are as many as shots

@@ -11,6 +11,7 @@ pub use Rattle.nit_run.specs.Terms.{Drawing, Ends, Entry, Event, File, FitsCall,
 pub use Rattle.nit_run.specs.Terms.{FitsDevice, FitsEntry, FitsEvent, FitsInputLine, FitsItem}
 pub use Rattle.nit_run.specs.Terms.{FitsLine, FitsReply, Flat, Front, Gets, Global}
 pub use Rattle.nit_run.specs.Terms.{HasDifferentNames, HasPicture, HoldsAtEnd, HoldsAtShot}
+pub use Rattle.nit_run.specs.Terms.{IsHeldPicture, ShowOneHistory, ShowsOneHistory}
 pub use Rattle.nit_run.specs.Terms.{HoldsByWay, InputLine, InputState, IsClickOn, IsCode}
 pub use Rattle.nit_run.specs.Terms.{IsDrawnPicture, IsJournal, IsLegal, IsLive, IsMeant, IsNear}
 pub use Rattle.nit_run.specs.Terms.{IsNearFrame, IsNearPicture, IsOpen, IsRunnable, Item, Kill}

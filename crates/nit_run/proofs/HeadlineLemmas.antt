@@ -145,7 +145,7 @@ has_picture count each config files name bytes s word is has = (
   shows count each s word,
 )
 
-contains_at : {X : Type 0} (xs : List X) (k : ℕ) (x : X) → slice_get xs k ≡ Some x → Contains xs x
+pub contains_at : {X : Type 0} (xs : List X) (k : ℕ) (x : X) → slice_get xs k ≡ Some x → Contains xs x
 contains_at xs k x e = (k, slice_get_within xs k x e, get_or_from_slice_get xs k x x e)
 
 contains_map : {X : Type 0} (f : ℕ → X) (n k : ℕ) → k < n → Contains (map f (range_with_len 0 n)) (f k)
@@ -216,7 +216,7 @@ module _ (s : Setup) (journal : List Entry) (outputs : List File) (j : IsJournal
   among_own f has = subst (λ (fs : List File). Contains fs f) (sym are.2) (Contains-append_right s.made own f has)
 
   -- a file among the shots, the last picture, or a text, is among all
-  among_shots : (f : File) → Contains shot_list f → Contains outputs f
+  pub among_shots : (f : File) → Contains shot_list f → Contains outputs f
   among_shots f has = among_own f (Contains-append_left shot_list (last_file ∷ text_files s journal) f has)
 
   the_last : Contains outputs last_file

@@ -5,6 +5,7 @@ pub mod FileNames
 pub mod ForCallers
 pub mod GeneratedTexts
 pub mod HeadlineLemmas
+pub mod HistoryShown
 pub mod JournalsFit
 pub mod MachinesFit
 pub mod NoShots

@@ -11,7 +11,7 @@ use Rattle.nit_run.specs.Below.{final_name, flat_map, is_accepted, is_button, is
 use Rattle.nit_run.specs.Below.{is_mode_key, journal_text, member, own_machine, owner_of, picture}
 use Rattle.nit_run.specs.Below.{pixel, pixel_count, point, projection, replay, replies_to}
 use Rattle.nit_run.specs.Below.{scenery_of, script_in, serve, shot_name, shots, shown, taken, to}
-use Rattle.nit_run.specs.Below.{under_pointer}
+use Rattle.nit_run.specs.Below.{IsHeld, under_pointer}
 use Rattle.nit_run.specs.Setup.{Setup}
 use Rattle.nit_run.specs.Outputs.{AreOutputs, IsJournal, ending_of, events_name, journal_file}
 use Rattle.nit_run.specs.Outputs.{raw_word, tables_left}
@@ -157,6 +157,20 @@ HoldsByWay true s before k w = IsNear s.config s.scripts before k w
 abbrev pub HoldsAtShot : Setup → List Entry → ℕ → ℕ → Type 0
 HoldsAtShot s before k w = HoldsByWay s.beside s before k w
 
+-- The shots of a run beside each other show one history of raw words.
+pub record ShowsOneHistory (s : Setup) (journal : List Entry) (outputs : List File) : Type 0 where
+  -- what each pixel holds behind the first n entries of the journal
+  pub held : ℕ → ℕ → ℕ
+  -- at first it is the bare word, and a pixel that an entry does not make dirty holds behind it
+  -- what it held before it
+  pub is_held : IsHeld s.config journal held
+  -- each shot shows of each pixel the word that is held there when it is taken, which is one that
+  -- the entries before it allow
+  pub shots_show : (front rest : List Entry) (number : ℕ)
+      → journal ≡ front ++ entry.Shot number ∷ rest
+      → HasPicture s.config outputs (shot_name number) (replay s.config front)
+      (λ k w. (w ≡ held (length front) k) × HoldsAtShot s front k w)
+
 -- the word that a pixel holds in the last picture: that of the bare screen, 0, or the one that the
 -- script of its session leaves at its source
 abbrev pub HoldsAtEnd : Setup → List Entry → ℕ → ℕ → Type 0
@@ -194,6 +208,9 @@ pub record Headline (s : Setup) (journal : List Entry) (outputs : List File) : T
   pub shots_show : (front rest : List Entry) (number : ℕ)
       → journal ≡ front ++ entry.Shot number ∷ rest
       → HasPicture s.config outputs (shot_name number) (replay s.config front) (HoldsAtShot s front)
+  -- where the clients are beside each other, all shots show one history of the words that pixels
+  -- hold: a pixel that no entry between two shots makes dirty has one word for both
+  pub one_history : s.beside ≡ true → ShowsOneHistory s journal outputs
   -- final.ppm shows the state at the end, with the words that the scripts leave
   pub final_shows :
       HasPicture s.config outputs final_name (replay s.config journal) (HoldsAtEnd s journal)

@@ -19,6 +19,7 @@ pub use Rattle.nit_rounds.specs.RoundsRun
 pub use Rattle.nit_rounds.specs.Drawing
 pub use Rattle.nit_rounds.specs.Shots
 pub use Rattle.nit_actor.specs.Pictures
+pub use Rattle.nit_actor.specs.History
 pub use Rattle.nit_hall.specs.NearWords
 pub use Rattle.nit_journal.specs.Projection
 pub use Rattle.nit_journal.specs.Reach

@@ -38,6 +38,8 @@ pub use Rattle.nit_run.specs.Below.{unless, unreceived, user_actions_from, user_
 pub use Rattle.nit_run.specs.Below.{user_actions_to_do, user_script, view_left, view_need}
 pub use Rattle.nit_run.specs.Below.{with_asked, with_held, words_of, xray_key, xray_mode, ◌orelse◌}
 pub use Rattle.nit_run.specs.Headline.{AreTexts, HasPicture, Headline, HoldsAtEnd, HoldsAtShot}
+pub use Rattle.nit_run.specs.Below.{IsHeld, IsHeldPicture, ShowOneHistory}
+pub use Rattle.nit_run.specs.Headline.{ShowsOneHistory}
 pub use Rattle.nit_run.specs.Headline.{HoldsByWay, IsClickOn, IsMeant, ShowsBy, events_among}
 pub use Rattle.nit_run.specs.Headline.{focus_after}
 pub use Rattle.nit_run.specs.OutputNames.{label_text}

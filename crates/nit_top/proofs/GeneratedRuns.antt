@@ -119,7 +119,7 @@ module _ (n : ℕ) (old : StoreModel) where
       → AreOutputs s journal (generated_files n ++ outputs)
   outputs_too journal outputs are = (
     are.0,
-    record { by_rounds = are.1.by_rounds; beside = are.1.beside },
+    record { by_rounds = are.1.by_rounds; beside = are.1.beside; history = are.1.history },
     ap (λ (files : List File). generated_files n ++ files) are.2,
   )
 

@@ -150,7 +150,8 @@ journal_of s x journal j = record { legal = j.legal; whole = j.whole; rounds = j
 
 outputs_of : (s : Setup) (x : Option RunFiles) (journal : List Entry) (files : List File) → AreOutputs s journal files
     → AreOutputs (record s { inner = x }) journal files
-outputs_of s x journal files are = (are.0, record { by_rounds = are.1.by_rounds; beside = are.1.beside }, are.2)
+outputs_of s x journal files are =
+    (are.0, record { by_rounds = are.1.by_rounds; beside = are.1.beside; history = are.1.history }, are.2)
 
 pub runnable_of : (s : Setup) (x : Option RunFiles) → IsRunnable s → IsRunnable (record s { inner = x })
 runnable_of s x r = record {

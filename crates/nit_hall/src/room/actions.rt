@@ -9,6 +9,7 @@ ghost use Rattle.nit_events.specs.declared.entry.Entry.TheVariants as entry;
 
 use crate::room::Room;
 use crate::room::entry_laws::one_more;
+use crate::room::shown::Shown;
 use crate::user::UserPass;
 use nit_events::{Entry, Routed};
 
@@ -37,7 +38,8 @@ impl<'a> Room<'a> {
         let dev = user.next_device();
         let routed = self.scene.input(dev);
         let entry = Entry::Input { dev, routed };
-        self.book.append(&mut user.share, &entry);
+        self.book
+            .append(&mut user.share, &entry, &Shown { scene: &self.scene });
         user.next += 1;
         routed
     }
@@ -62,7 +64,8 @@ impl<'a> Room<'a> {
         let _few = user.input.lines().len();
         let number = self.scene.shot(out);
         let entry = Entry::Shot { number };
-        self.book.append(&mut user.share, &entry);
+        self.book
+            .append(&mut user.share, &entry, &Shown { scene: &self.scene });
         user.next += 1;
         number
     }

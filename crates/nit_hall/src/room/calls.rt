@@ -9,6 +9,7 @@ ghost use Rattle.nit_hall.specs.Terms.{with_entry};
 use crate::pass::Pass;
 use crate::room::Room;
 use crate::room::entry_laws::one_more;
+use crate::room::shown::Shown;
 use nit_events::{Entry, Reply};
 use nit_plan::stroke;
 
@@ -49,7 +50,8 @@ impl<'a> Room<'a> {
             call,
             reply,
         };
-        self.book.append(&mut pass.share, &entry);
+        self.book
+            .append(&mut pass.share, &entry, &Shown { scene: &self.scene });
         pass.next += 1;
         reply
     }

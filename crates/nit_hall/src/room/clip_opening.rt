@@ -2,9 +2,9 @@
 
 ghost use Rattle.std.specs.Prelude.{◌≡◌, ◌+◌, ◌≤◌, ◌++◌, ℕ, IfOk, Some};
 ghost use Rattle.nit_hall.specs.Terms.{AreFirstClipPasses, ClipPassModel, IsUnserved};
-ghost use Rattle.nit_hall.specs.Terms.{clip_script_in, length, lines_of_clips, most_clips};
-ghost use Rattle.nit_hall.specs.Terms.{most_sessions, most_shares, replicate, slice_get};
-ghost use Rattle.nit_hall.specs.Terms.{with_clip_scripts};
+ghost use Rattle.nit_hall.specs.Terms.{clip_script_in, entries_in, length, lines_of_clips};
+ghost use Rattle.nit_hall.specs.Terms.{most_clips, most_sessions, most_shares, replicate};
+ghost use Rattle.nit_hall.specs.Terms.{slice_get, with_clip_scripts};
 
 use crate::clip_pass::ClipPass;
 use crate::opening::Opened;
@@ -87,7 +87,7 @@ fn clip_passes<'a>(
           number = length book.old.counts + k;
           name = book.old.name;
           script = clip_script_in scripts.entry.now k;
-          seen = book.old.entries;
+          seen = entries_in book.old.entries;
         }) }
 {
     let mut passes = Vec::with_capacity(alloc, scripts.len())?;

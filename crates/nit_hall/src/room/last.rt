@@ -2,8 +2,9 @@
 
 ghost use Rattle.std.specs.Prelude.{◌≡◌, ℕ, ◌*◌, All, length, map, slice_get, Some};
 ghost use mathlib.Core.List.{IsPrefix};
-ghost use Rattle.nit_hall.specs.Terms.{AreDone, IsDonePass, IsDoneUser, IsKnownPass, IsLegal};
-ghost use Rattle.nit_hall.specs.Terms.{IsOpen, IsWhole, IsWord, Painted, PassModel, calls_to_make};
+ghost use Rattle.nit_hall.specs.Terms.{AreDone, IsDonePass, IsDoneUser, IsHistory, IsKnownPass};
+ghost use Rattle.nit_hall.specs.Terms.{IsLegal, IsOpen, IsWhole, IsWord, Painted, PassModel};
+ghost use Rattle.nit_hall.specs.Terms.{calls_to_make};
 ghost use Rattle.nit_hall.specs.Terms.{frame, glass_in, knowing, rest_of, scenery_of, state_now};
 ghost use Rattle.nit_hall.specs.Terms.{user_actions_to_do, with_final, without_final};
 ghost use Rattle.nit_hall.specs.Terms.{words_left_in};
@@ -18,7 +19,8 @@ use nit_plan::laws::one_more_line;
 impl<'a> Room<'a> {
     /// Takes the last picture: loads every pixel again through the passes, one for each client in
     /// order, sets `out`, which has a word for each pixel, to the frame, and ends the journal. All
-    /// passes and the user's are of this room's opening and done, and the journal is not ended.
+    /// passes and the user's are of this room's opening and done, and the journal is not ended. The
+    /// user's knows the raw words behind all entries, which are one history.
     pub fn finish(&mut self, passes: &mut [Pass<'a>], user: &mut UserPass<'a>, out: &mut [u32])
         requires passes { AreDone self.old.parts passes.old }
         requires user { IsDoneUser self.old.parts user.old }
@@ -36,7 +38,10 @@ impl<'a> Room<'a> {
         ensures user_before { IsPrefix user.old.seen self.old.scene.entries }
         ensures passes { map rest_of passes.new
             ≡ map (λ (p : PassModel). rest_of (knowing self.old.scene.entries p)) passes.old }
-        ensures user { user.new ≡ record user.old { seen = self.old.scene.entries } }
+        ensures user { user.new
+            ≡ record user.old { seen = self.old.scene.entries; raws = self.old.raws } }
+        ensures raws_before { IsPrefix user.old.raws self.old.raws }
+        ensures history { IsHistory self.old.parts.config self.old.scene.entries self.old.raws }
         ensures painted { Painted (state_now self.old.scene) entry.Final (state_now self.new.scene)
             (glass_in (map (λ (p : PassModel). p.sight) passes.old))
             (glass_in (map (λ (p : PassModel). p.sight) passes.new))

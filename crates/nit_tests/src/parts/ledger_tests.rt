@@ -1,7 +1,19 @@
 //! A book and two shares of it.
 
 use nit_events::{Call, Entry, Reply};
-use nit_ledger::Book;
+use nit_ledger::{Book, HasRaw};
+
+/// A screen of one pixel. Contracts see its raw word behind an entry.
+#[derive(Drop)]
+struct OnePixel {
+    word: u32,
+}
+
+impl HasRaw for OnePixel {
+    ghost use Rattle.std.specs.Prelude.{[], ◌∷◌};
+
+    ghost raw = { λ s. s.word ∷ [] };
+}
 
 #[test]
 fn two_shares_append_count_and_meet(rt: HostRuntime) {
@@ -18,10 +30,12 @@ fn two_shares_append_count_and_meet(rt: HostRuntime) {
         call: Call::Close,
         reply: Reply::Closed,
     };
-    book.append(&mut first, &viewed);
-    book.append(&mut second, &closed);
+    let before = OnePixel { word: 0 };
+    let after = OnePixel { word: 7 };
+    book.append(&mut first, &viewed, &before);
+    book.append(&mut second, &closed, &after);
     book.count(&mut first);
-    book.append(&mut first, &Entry::Final);
+    book.append(&mut first, &Entry::Final, &after);
     book.meet(&mut second);
     can_be_sent(&first);
     can_be_sent(&book);

@@ -5,7 +5,7 @@ pub returns : goal.returns
 returns g c =
     let u = c.args.user.now in
     let is = c.user_next.ensures.user in
-    quiet_device u c.user_next.new.user (next_device u) c.user_next.result
+    quiet_device u c.user_next.new.user (next_device u) c.user_next.result c.user_next.ensures.raws_grow
     (record {
       same = ap user_role_of is;
       next = ap (λ (v : UserPassModel). v.next) is;

@@ -5,7 +5,7 @@ pub returns : goal.returns
 returns g c =
     let u = c.args.user.now in
     let is = c.arrive_user.ensures.user in
-    quiet_phase u c.arrive_user.new.user
+    quiet_phase u c.arrive_user.new.user c.arrive_user.ensures.raws_grow
     (record {
       same = ap user_role_of is;
       next = ap (λ (v : UserPassModel). v.next) is;

@@ -1,4 +1,5 @@
-use Rattle.nit_actor.proofs.Lemmas.{UserPassModel, ap, length, puts_shot, user_role_of, ◌∙◌}
+use Rattle.nit_actor.proofs.Lemmas.{UserPassModel, ap, grown_raws, length, puts_shot, user_role_of}
+use Rattle.nit_actor.proofs.Lemmas.{◌∙◌}
 use Rattle.nit_actor.proofs.user.shoot.Goals as goal
 
 pub returns : goal.returns
@@ -11,6 +12,7 @@ returns g c =
       next = next;
       shots = record {
         same = same;
+        raws = grown_raws t.ensures.told;
         put = puts_shot g.N.Name.parts c.args.user.now t.new.user t.result c.size-width.result.0
             c.size-width.result.1 t.new.frame.items _ _
             (record {

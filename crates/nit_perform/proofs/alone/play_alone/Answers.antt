@@ -19,5 +19,5 @@ returns g c =
     subst (λ (m : StoreModel). HasRun first s m ran) (search rules)
     (subst (λ (m : StoreModel). HasRun first s m ran) (sym c.leave_pictures.ensures.stays)
     (alone_leaves c.one_client_goes_by_rounds.ensures c.idle_user_does_nothing.ensures c.each_line_once.ensures.user
-    shown parts c.do_all.new.user.seen first new scene fault ran c.requires.ready.alone
+    shown parts c.do_all.new.user.seen c.do_all.new.user.raws first new scene fault ran c.requires.ready.alone
     c.requires.ready.one_client ended refl c.leave_desk-store.ensures.puts left))

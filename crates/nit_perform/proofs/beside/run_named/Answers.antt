@@ -32,6 +32,6 @@ returns g c =
     PutsAll (events_files scene.config scene.entries ++ journal_file scene.entries ∷ []) o
     (put_state_of_run new ran.fault)) c.leave_desk-store.ensures.puts c.leave_texts.ensures.puts in
     subst (λ (last : StoreModel). HasRun (shown c.args.store.now) (setup_in parts) last ran) (search rules)
-    (beside_leaves shown parts c.args.opened.user.seen user.seen (shown c.args.store.now) new scene ran
+    (beside_leaves shown parts c.args.opened.user.seen user.seen user.raws (shown c.args.store.now) new scene ran
     c.requires.ready.fresh c.run_beside-mine.ensures.user.shots.put ended texts c.leave_texts.ensures.journal
     c.leave_texts.ensures.frames)

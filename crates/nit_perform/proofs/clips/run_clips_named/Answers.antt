@@ -77,7 +77,7 @@ returns g c =
     let texts = subst (λ (o : PutState).
     PutsAll (events_files scene.config scene.entries ++ journal_file scene.entries ∷ []) o
     (put_state_of_run mid ran.fault)) c.leave_desk-store.ensures.puts c.leave_texts-ran.ensures.puts in
-    let has = beside_leaves shown parts c.args.actors.user.seen user.seen first mid scene ran
+    let has = beside_leaves shown parts c.args.actors.user.seen user.seen user.raws first mid scene ran
     c.requires.ready.ready.fresh c.run_beside_clips-mine.ensures.user.shots.put ended texts
     c.leave_texts-ran.ensures.journal c.leave_texts-ran.ensures.frames in
     let told : IsClipListText s ran.journal.items list =

@@ -17,6 +17,13 @@ returns-clause-ended g c =
       known = known_whole r.parts.scripts u.input u.next u.seen r.scene.entries entries
           c.end_room.ensures.user_before c.end_room.ensures.recorded c.next-known.ensures.known user.ended
           (rw (← user.belongs.input) at c.end_room.ensures.whole);
+      history = record {
+        all = r.raws;
+        front = c.end_room.ensures.raws_before;
+        entries = r.scene.entries;
+        ended = c.end_room.ensures.recorded;
+        history = c.end_room.ensures.history;
+      };
       put = rw (last_is c.one_more_entry.ensures.replayed r.parts r.scene.config r.scene.entries
           c.end_room.new.room.scene.entries
           c.size-width.result out (picture c.size-width.result.0 c.size-width.result.1 out) c.scene.ensures.config

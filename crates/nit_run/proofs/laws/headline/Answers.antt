@@ -2,7 +2,7 @@ use Rattle.std.proofs.Common.{◌≡◌, ◌∙◌, ◌++◌, ◌∷◌, [], ℕ
 use Rattle.nit_run.proofs.Lemmas.{Entry, IsLegal, NearLaws, Reply, after, calls_to_make, done}
 use Rattle.nit_run.proofs.Lemmas.{end_shows, events_among, events_taken, files_counted, first_state}
 use Rattle.nit_run.proofs.Lemmas.{focus_by_call, focus_by_click, get_or-map, length-map, meant}
-use Rattle.nit_run.proofs.Lemmas.{replay, shot_shows, shots, texts_tell}
+use Rattle.nit_run.proofs.Lemmas.{history_shows, replay, shot_shows, shots, texts_tell}
 use Rattle.nit_events.specs.declared.call.Reply.TheVariants as reply
 use Rattle.nit_events.specs.declared.entry.Entry.TheVariants as entry
 use Rattle.nit_run.proofs.laws.headline.Goals as goal
@@ -72,6 +72,7 @@ returns c = λ s journal outputs runnable j are.
       };
       shots_show = shot_shows s journal outputs j are law fronts c.frame_pixels.ensures.count
           c.frame_pixels.ensures.each near;
+      one_history = history_shows s journal outputs j are c.frame_pixels.ensures.count c.frame_pixels.ensures.each;
       final_shows = end_shows s journal outputs j are c.frame_pixels.ensures.count c.frame_pixels.ensures.each
           (c.configuration_stays.ensures.configuration config journal);
       texts = texts_tell s journal outputs j are c.machines_stand_alone.ensures

@@ -14,7 +14,11 @@ turns_put : (i : RunFiles) (journal : List Entry) → (files : List File) × Are
 turns_put i journal =
     let shots : List File = shots_of i.config i.scripts i.input in
     let are : AreShots (by_turns i) journal shots =
-    record { by_rounds = λ is. refl; beside = λ together. absurd (not_both together) } in
+    record {
+      by_rounds = λ is. refl;
+      beside = λ together. absurd (not_both together);
+      history = λ together. absurd (not_both together);
+    } in
     (shots ++ (final_name, final_picture (by_turns i) journal) ∷ text_files (by_turns i) journal, (shots, are, refl))
 
 pub returns-clause-told : goal.returns-clause-told

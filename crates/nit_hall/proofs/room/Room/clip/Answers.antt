@@ -4,7 +4,7 @@ use Rattle.nit_hall.proofs.Lemmas.{JournalModel, List, PassModel, RoomModel, Sha
 use Rattle.nit_hall.proofs.Lemmas.{back_raised, clip_answer, clip_counted, clip_pass_call}
 use Rattle.nit_hall.proofs.Lemmas.{clipboard_of, follows_then, next_clip, number_is, open_whole}
 use Rattle.nit_hall.proofs.Lemmas.{room_clip, room_left, served_clip, slice_index, state_now}
-use Rattle.nit_hall.proofs.Lemmas.{take-set-le, without_final}
+use Rattle.nit_hall.proofs.Lemmas.{entries_in, front_of_each, raws_in, take-set-le, without_final}
 use mathlib.Core.List.{IsPrefix}
 use Rattle.nit_hall.proofs.room.Room.clip.Goals as goal
 use Rattle.nit_hall.proofs.room.Room.clip.Goals.{After-entries, After-serve-reply}
@@ -46,7 +46,7 @@ answered_at c =
     ((c.focus.ensures ∙ ap (λ (r : RoomModel). (state_now r.scene).input.focus) er) i)
     (ap (λ (q : ClipPassModel). q.sid) c.clip.view_is i) (c.next_clip-call.ensures.call i))
 
-booked_at : (c : After-serve-reply) → c.self.inside.book.entries ≡ c.args.self.now.scene.entries
+booked_at : (c : After-serve-reply) → entries_in c.self.inside.book.entries ≡ c.args.self.now.scene.entries
 booked_at c = c.self.invariant.1
     ∙ ap (λ (r : RoomModel). without_final r.scene.entries) (c.self.view_is ∙ c.meet.ensures.room)
     ∙ open_whole _ c.requires.«open»
@@ -66,6 +66,7 @@ returns-clause-room c =
     (slice_index c.self.inside.book.counts c.clip.inside.share.number + 1) (omega (arith, number)))
     (ap (drop n) counts ∙ back_raised n c.clip.inside.sid c.clip.inside.share.number c.self.inside.book.counts number)
     at c.focus.ensures call c.serve-reply.ensures.recorded
+    (ap (λ (b : BookModel). raws_in b.entries) c.count.ensures.book)
 
 pub invariant_of-self : goal.invariant_of-self
 invariant_of-self c =
@@ -73,7 +74,7 @@ invariant_of-self c =
       subst IsRoom (sym (returns-clause-room c))
           (room_clip c.one_more_call.ensures (room_at d) (found_at (goal.at.invariant_of-self c).After-entries)
           c.serve-reply.result (answered_at d)),
-      ap (λ (b : BookModel). b.entries) c.count.ensures.book ∙ c.self.invariant.1,
+      ap (λ (b : BookModel). entries_in b.entries) c.count.ensures.book ∙ c.self.invariant.1,
     )
 
 pub invariant_of-clip : goal.invariant_of-clip
@@ -91,7 +92,8 @@ returns-clause-clip c =
     let share = c.count.ensures.share in
     let number = ap (λ (s : ShareModel). s.number) share ∙ ap (λ (q : ClipPassModel). q.number) c.clip.view_is in
     let name = ap (λ (s : ShareModel). s.name) share ∙ ap (λ (q : ClipPassModel). q.name) c.clip.view_is in
-    let known = ap (λ (s : ShareModel). s.seen) share ∙ booked_at (goal.at.returns-clause-clip c).After-serve-reply in
+    let known = ap (λ (s : ShareModel). entries_in s.seen) share
+    ∙ booked_at (goal.at.returns-clause-clip c).After-serve-reply in
     λ i. let q : ClipPassModel = c.clip.view_is i in
     record q { next = q.next + 1; number = number i; name = name i; seen = known i }
 
@@ -102,7 +104,7 @@ returns-clause-before c = subst (λ (js : List Entry). IsPrefix c.args.pass.now.
 pub returns-clause-clip_before : goal.returns-clause-clip_before
 returns-clause-clip_before c =
     rw (← booked_at (goal.at.returns-clause-clip_before c).After-serve-reply, ← c.clip.view_is)
-    c.count.ensures.before.front
+    (front_of_each (λ r. r.entry) _ _ c.count.ensures.before.front)
 
 pub returns-clause-counted : goal.returns-clause-counted
 returns-clause-counted c = (found_at (goal.at.returns-clause-counted c).After-entries).clip_counted

@@ -1,4 +1,5 @@
-use Rattle.nit_hall.proofs.Lemmas.{arith, get_or-take, length, pass_counted, pass_met}
+use Rattle.nit_hall.proofs.Lemmas.{arith, front_of_each, get_or-take, length, pass_counted}
+use Rattle.nit_hall.proofs.Lemmas.{pass_met}
 use Rattle.nit_hall.proofs.Lemmas.{slice_get_within}
 use Rattle.std.proofs.Common.{rules, ◌+◌, ◌<◌, ◌∙◌}
 use Rattle.nit_hall.proofs.room.Room.meet.Goals as goal
@@ -21,7 +22,8 @@ returns c =
     record {
       room = search rules;
       pass = search rules;
-      before = search rules;
+      before = rw (← c.pass.view_is, ← c.self.view_is, ← c.self.invariant.1)
+          (front_of_each (λ r. r.entry) _ _ c.meet.ensures.before.front);
       counted = rw (← c.self.view_is, ← c.pass.view_is)
           (pass_counted c.self.inside.book.counts is of c.meet.ensures.before.counted);
       owner = rw (← c.pass.view_is) is.owner;

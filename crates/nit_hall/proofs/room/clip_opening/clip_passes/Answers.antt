@@ -1,7 +1,8 @@
 use Rattle.std.proofs.Common.{List, [], ap, arith, length, length-append, replicate, ℕ, ◌++◌, ◌+◌}
 use Rattle.std.proofs.Common.{◌∙◌, ◌∷◌, ◌≡◌}
 use Rattle.nit_hall.proofs.Lemmas.{BookModel, ShareModel, clip_pass_more, clip_script_in}
-use Rattle.nit_hall.proofs.Lemmas.{get_or_default, length-replicate, new_clip_pass, zeros_behind}
+use Rattle.nit_hall.proofs.Lemmas.{entries_in, get_or_default, length-replicate, new_clip_pass}
+use Rattle.nit_hall.proofs.Lemmas.{zeros_behind}
 use Rattle.nit_hall.proofs.room.clip_opening.clip_passes.Goals as goal
 
 pub scripts-preserved : goal.scripts-preserved
@@ -14,7 +15,8 @@ scripts-preserved c =
     let number = ap (λ (x : ShareModel). x.number) s.share ∙ ap (λ (b : BookModel). length b.counts) i.book_is
     ∙ length-append counts (replicate k 0) ∙ ap (λ (n : ℕ). length counts + n) (length-replicate k 0) in
     let name = ap (λ (x : ShareModel). x.name) s.share ∙ ap (λ (b : BookModel). b.name) i.book_is in
-    let seen = ap (λ (x : ShareModel). x.seen) s.share ∙ ap (λ (b : BookModel). b.entries) i.book_is in
+    let seen = ap (λ (x : ShareModel). entries_in x.seen) s.share
+    ∙ ap (λ (b : BookModel). entries_in b.entries) i.book_is in
     let script : c.script-item.result ≡ clip_script_in c.args.scripts.now k = c.script-item.is
     ∙ get_or_default c.args.scripts.now k c.script-item.result [] (omega arith) in
     let is : c.new.result ≡ new_clip_pass c.args.book.now c.args.scripts.now k = c.new.ensures

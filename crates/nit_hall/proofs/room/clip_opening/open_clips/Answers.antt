@@ -1,6 +1,6 @@
 use Rattle.std.proofs.Common.{[], ap, length, refl, subst, sym, ◌+◌, ◌∙◌, ◌≡◌}
 use Rattle.nit_hall.proofs.Lemmas.{BookModel, IsRoom, RoomModel, clip_script_in, opened_clips}
-use Rattle.nit_hall.proofs.Lemmas.{parts_long, room_with_clips, without_final}
+use Rattle.nit_hall.proofs.Lemmas.{entries_in, parts_long, raws_in, room_with_clips, without_final}
 use Rattle.nit_hall.proofs.room.clip_opening.open_clips.Goals as goal
 
 pub invariant_of-room : goal.invariant_of-room
@@ -13,10 +13,10 @@ invariant_of-room c =
     let book = c.in_ok-clips.ensures.book in
     let is = opened_clips _ c.args.opened.room c.clip_passes.new.book c.room.inside.book.counts c.in_ok-clip.clip
     c.args.scripts.now c.room.view_is refl (ap (λ (b : BookModel). b.name) book) long refl
-    (ap (λ (b : BookModel). b.counts) book) list in (
+    (ap (λ (b : BookModel). b.counts) book) list (ap (λ (b : BookModel). raws_in b.entries) book) in (
       subst IsRoom (sym is) (room_with_clips c.no_clips.ensures c.args.opened.room c.args.scripts.now
           (subst IsRoom c.room.view_is c.room.invariant.0)),
-      ap (λ (b : BookModel). b.entries) book ∙ c.room.invariant.1,
+      ap (λ (b : BookModel). entries_in b.entries) book ∙ c.room.invariant.1,
     )
 
 pub returns-clause-room : goal.returns-clause-room
@@ -29,7 +29,7 @@ returns-clause-room c =
     let book = c.in_ok-clips.ensures.book in
     opened_clips _ c.args.opened.room c.clip_passes.new.book c.room.inside.book.counts c.in_ok-clip.clip
     c.args.scripts.now c.room.view_is refl (ap (λ (b : BookModel). b.name) book) long refl
-    (ap (λ (b : BookModel). b.counts) book) list
+    (ap (λ (b : BookModel). b.counts) book) list (ap (λ (b : BookModel). raws_in b.entries) book)
 
 pub returns-clause-clips : goal.returns-clause-clips
 returns-clause-clips c =

@@ -1,0 +1,65 @@
+-- One history of raw words along a whole journal, and its shots.
+use Rattle.nit_actor.proofs.Basics.{Configuration, Entry, File, IsHeld, IsHeldPicture, IsHistory}
+use Rattle.nit_actor.proofs.Basics.{IsPictureAmong, Line, List, ShotsBehind, ShowOneHistory, [], ap}
+use Rattle.nit_actor.proofs.Basics.{append-nil, append_assoc, get_or_from_slice_get, is_dirtied}
+use Rattle.nit_actor.proofs.Basics.{length, length-append, arith, raw_behind, refl, shots_along}
+use Rattle.nit_actor.proofs.Basics.{slice_index_or, split_more, subst, suc, sym, ℕ, ◌∙◌, inl, inr}
+use Rattle.std.proofs.Common.{false, ◌*◌, ◌++◌, ◌<◌, ◌∷◌, ◌≡◌}
+use Rattle.nit_events.specs.declared.entry.Entry.TheVariants as entry
+
+-- raw words behind all entries but the last picture, which makes each pixel dirty, are held along the journal
+held_along : (config : Configuration) (entries journal : List Entry) (raws : List (List ℕ))
+    → IsHistory config entries raws → journal ≡ entries ++ entry.Final ∷ [] → IsHeld config journal (raw_behind raws)
+held_along config entries journal raws is ended = record {
+  first = λ k. refl;
+  clean = λ front e rest k parts inside clean. elim (split_more entries entry.Final front e rest (sym ended ∙ parts)) [
+    | inl (here, same) ↦ absurd (final_dirty front e k same clean)
+    | inr (less, before) ↦ is.clean front e less k before inside clean
+  ];
+}
+  where
+    final_dirty : (front : List Entry) (e : Entry) (k : ℕ) → e ≡ entry.Final → is_dirtied config front e k ≡ false → ⊥
+    final_dirty front e k same clean =
+        let dirty : is_dirtied config front entry.Final k ≡ false = subst (λ (x : Entry). is_dirtied config front x k
+        ≡ false) same clean in cc
+
+pub one_history : (config : Configuration) (scripts : List (List Line)) (entries journal : List Entry)
+    (raws : List (List ℕ)) (files : List File) → IsHistory config entries raws → journal ≡ entries ++ entry.Final ∷ []
+    → ShotsBehind (IsPictureAmong raws config scripts) [] journal files → ShowOneHistory config scripts journal files
+one_history config scripts entries journal raws files is ended are =
+    let held = held_along config entries journal raws is ended in
+    record {
+      held = raw_behind raws;
+      is_held = held;
+      shown = shots_along (IsPictureAmong raws config scripts) (IsHeldPicture (raw_behind raws) config scripts) []
+          journal files (λ known rest n bytes parts pic. (
+            pic.0,
+            λ k inside. sym (ap (λ (ws : List ℕ). slice_index_or ws k 0)
+                (get_or_from_slice_get raws (length known) pic.0.1.0 [] pic.1))
+                ∙ held.clean known (entry.Shot n) rest k parts inside refl,
+          )) are;
+    }
+
+-- ---- what stays
+
+-- a pixel that no entry of some makes dirty holds behind them what it held before them
+pub held_still : (config : Configuration) (journal : List Entry) (held : ℕ → ℕ → ℕ) → IsHeld config journal held
+    → (front between rest : List Entry) (k : ℕ) → journal ≡ (front ++ between) ++ rest
+    → k < config.width * config.height
+    → ((before : List Entry) (e : Entry) (more : List Entry) → between ≡ before ++ e ∷ more
+    → is_dirtied config (front ++ before) e k ≡ false)
+    → held (length (front ++ between)) k ≡ held (length front) k
+held_still config journal held is front [] rest k parts inside clean =
+    ap (λ (js : List Entry). held (length js) k) (append-nil front)
+held_still config journal held is front (e ∷ between) rest k parts inside clean =
+    let on : (front ++ e ∷ []) ++ between ≡ front ++ e ∷ between = append_assoc front (e ∷ []) between in
+    let here : is_dirtied config front e k ≡ false =
+    subst (λ (js : List Entry). is_dirtied config js e k ≡ false) (append-nil front) (clean [] e between refl) in
+    let long : length (front ++ e ∷ []) ≡ suc (length front) = omega (arith, length-append front (e ∷ [])) in
+    ap (λ (js : List Entry). held (length js) k) (sym on)
+    ∙ held_still config journal held is (front ++ e ∷ []) between rest k
+    (parts ∙ ap (λ (js : List Entry). js ++ rest) (sym on)) inside
+    (λ before f more split. subst (λ (js : List Entry). is_dirtied config js f k ≡ false)
+    (sym (append_assoc front (e ∷ []) before)) (clean (e ∷ before) f more (ap (λ (js : List Entry). e ∷ js) split)))
+    ∙ ap (λ (n : ℕ). held n k) long
+    ∙ is.clean front e (between ++ rest) k (parts ∙ append_assoc front (e ∷ between) rest) inside here

@@ -1,0 +1,32 @@
+-- One history of raw words, and the pictures of a journal's shots that show it. Pixels count from
+-- 0, row by row from the top.
+use Rattle.std.specs.Prelude.{◌≡◌, ℕ, suc, ◌*◌, ◌<◌, false, List, ◌∷◌, ◌++◌, length}
+use Rattle.nit_actor.specs.Below.{AreShotsOf, Configuration, Entry, File, Line, bare_word}
+use Rattle.nit_actor.specs.Below.{is_dirtied, slice_index_or}
+use Rattle.nit_actor.specs.Pictures.{IsNearPicture}
+
+-- What each pixel holds behind the first n entries of a journal, `held n k`: at first the bare
+-- word; and a pixel that an entry does not make dirty holds behind it the word that it held before
+-- it.
+pub record IsHeld (config : Configuration) (journal : List Entry) (held : ℕ → ℕ → ℕ) : Type 0 where
+  pub first : (k : ℕ) → held 0 k ≡ bare_word
+  pub clean : (front : List Entry) (e : Entry) (rest : List Entry) (k : ℕ)
+      → journal ≡ front ++ e ∷ rest → k < config.width * config.height
+      → is_dirtied config front e k ≡ false
+      → held (suc (length front)) k ≡ held (length front) k
+
+-- the bytes are a picture that these entries allow, by the words that are held behind them
+abbrev pub IsHeldPicture : (ℕ → ℕ → ℕ) → Configuration → List (List Line) → List Entry → List ℕ
+    → Type 0
+IsHeldPicture held config scripts entries bytes =
+    (near : IsNearPicture config scripts entries bytes)
+    × ((k : ℕ) → k < config.width * config.height
+    → slice_index_or near.1.0 k 0 ≡ held (length entries) k)
+
+-- There is one history of raw words, and the files are those of the shots of a journal, in order:
+-- each is a picture that the entries before its shot allow, by the words that are held then.
+pub record ShowOneHistory (config : Configuration) (scripts : List (List Line))
+    (journal : List Entry) (files : List File) : Type 0 where
+  pub held : ℕ → ℕ → ℕ
+  pub is_held : IsHeld config journal held
+  pub shown : AreShotsOf (IsHeldPicture held config scripts) journal files

@@ -1,0 +1,50 @@
+-- The shots of a run beside others show one history of raw words.
+use Rattle.std.proofs.Common.{◌≡◌, ◌∙◌, ◌*◌, ℕ, true, [], List, ◌∷◌, ◌++◌, ◌<◌, length, sym, ap}
+use Rattle.std.proofs.Common.{subst}
+use Rattle.nit_run.proofs.Basics.{AreOutputs, AreShotsOf, Configuration, Contains, Entry, File}
+use Rattle.nit_run.proofs.Basics.{HasPicture, HoldsAtShot, HoldsByWay, IsHeldPicture, IsJournal}
+use Rattle.nit_run.proofs.Basics.{Setup, ShowOneHistory, ShowsOneHistory, file_of_a_shot, pixel}
+use Rattle.nit_run.proofs.Basics.{pixel_count, replay, same_throughout, scenery_of, shot_name}
+use Rattle.nit_run.proofs.Basics.{shots, shown, slice_index_or}
+use Rattle.nit_run.proofs.HeadlineLemmas.{FrameCount, FrameEach, among_shots, contains_at}
+use Rattle.nit_events.specs.declared.entry.Entry.TheVariants as entry
+
+pub history_shows : (s : Setup) (journal : List Entry) (outputs : List File) → IsJournal s journal
+    → AreOutputs s journal outputs → FrameCount → FrameEach → s.beside ≡ true → ShowsOneHistory s journal outputs
+history_shows s journal outputs j are count each together = record {
+  held = one.held;
+  is_held = one.is_held;
+  shots_show = shot;
+}
+  where
+    one : ShowOneHistory s.config s.scripts journal are.0
+    one = are.1.history together
+
+    Pic : List Entry → List ℕ → Type 0
+    Pic = IsHeldPicture one.held s.config s.scripts
+
+    shot : (front rest : List Entry) (number : ℕ) → journal ≡ front ++ entry.Shot number ∷ rest
+        → HasPicture s.config outputs (shot_name number) (replay s.config front)
+        (λ k w. (w ≡ one.held (length front) k) × HoldsAtShot s front k w)
+    shot front rest number parts =
+        let t = replay s.config front in
+        let (bytes, there, ((words, (raw, near, frame_is), is), by_held)) =
+        file_of_a_shot Pic [] front rest number are.0
+        (subst (λ (es : List Entry). AreShotsOf Pic es are.0) parts one.shown) in
+        let same : t.config ≡ s.config = same_throughout s.config front in (
+          words,
+          subst (λ (b : List ℕ). Contains outputs (shot_name number, b)) is
+              (among_shots s journal outputs j are (shot_name number, bytes)
+              (contains_at are.0 (shots front) (shot_name number, bytes) there)),
+          record {
+            count = ap (λ (ws : List ℕ). length ws) frame_is ∙ count (scenery_of t) raw;
+            each = λ k inside. (
+              slice_index_or raw k 0,
+              (
+                by_held k (subst (λ (c : Configuration). k < c.width * c.height) same inside),
+                subst (λ b. HoldsByWay b s front k (slice_index_or raw k 0)) (sym together) (near k inside),
+              ),
+              ap (λ (ws : List ℕ). slice_index_or ws k 0) frame_is ∙ each (scenery_of t) raw k inside,
+            );
+          },
+        )
