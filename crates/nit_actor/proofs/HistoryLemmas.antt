@@ -5,6 +5,7 @@ use Rattle.nit_actor.proofs.Basics.{append-nil, append_assoc, get_or_from_slice_
 use Rattle.nit_actor.proofs.Basics.{length, length-append, arith, raw_behind, refl, shots_along}
 use Rattle.nit_actor.proofs.Basics.{slice_index_or, split_more, subst, suc, sym, ℕ, ◌∙◌, inl, inr}
 use Rattle.std.proofs.Common.{false, ◌*◌, ◌++◌, ◌<◌, ◌∷◌, ◌≡◌}
+use Rattle.nit_hall.proofs.ForCallers.{not_both}
 use Rattle.nit_events.specs.declared.entry.Entry.TheVariants as entry
 
 -- raw words behind all entries but the last picture, which makes each pixel dirty, are held along the journal
@@ -20,8 +21,8 @@ held_along config entries journal raws is ended = record {
   where
     final_dirty : (front : List Entry) (e : Entry) (k : ℕ) → e ≡ entry.Final → is_dirtied config front e k ≡ false → ⊥
     final_dirty front e k same clean =
-        let dirty : is_dirtied config front entry.Final k ≡ false = subst (λ (x : Entry). is_dirtied config front x k
-        ≡ false) same clean in cc
+        not_both (is_dirtied config front entry.Final k) refl
+        (subst (λ (x : Entry). is_dirtied config front x k ≡ false) same clean)
 
 pub one_history : (config : Configuration) (scripts : List (List Line)) (entries journal : List Entry)
     (raws : List (List ℕ)) (files : List File) → IsHistory config entries raws → journal ≡ entries ++ entry.Final ∷ []

@@ -103,11 +103,11 @@ both_arrived n phase arrived one has = ap (λ (x : ℕ). after_arrival x phase a
     ∙ ap (λ (x : ℕ). after_arrival 1 phase x) has
 
 pub phase_ended : (r r1 r2 : RoomModel) (p p' : PassModel) (u u' : UserPassModel) (n m : ℕ) (seen known : List Entry)
-    → StepTogether r p u → slice_get p.script p.next ≡ Some line.Phase
+    (raws : List (List ℕ)) → StepTogether r p u → slice_get p.script p.next ≡ Some line.Phase
     → r1 ≡ arrived_one r n → r2 ≡ arrived_one r1 m
     → p' ≡ record p { next = p.next + 1; phase = p.phase + 1; seen = seen }
-    → u' ≡ record u { next = u.next + 1; phase = u.phase + 1; seen = known } → StepOn r p u r2 p' u'
-phase_ended r r1 r2 p p' u u' n m seen known s at is_first is_second passed user_passed =
+    → u' ≡ record u { next = u.next + 1; phase = u.phase + 1; seen = known; raws = raws } → StepOn r p u r2 p' u'
+phase_ended r r1 r2 p p' u u' n m seen known raws s at is_first is_second passed user_passed =
     let rooms : r2 ≡ arrived_one (arrived_one r n) m = is_second ∙ ap (λ (x : RoomModel). arrived_one x m) is_first in
     let first = one_arrived (length r.parts.scripts) r.phase r.arrived s.one s.arrived in
     let then = both_arrived (length r.parts.scripts) (arrived_one r n).phase (arrived_one r n).arrived s.one
