@@ -1,6 +1,6 @@
 -- A run of one client whose user does nothing: its beginning, and what it leaves.
 use Rattle.std.proofs.Common.{◌≡◌, ◌∙◌, true, false, ◌+◌, ◌<◌, List, [], ◌∷◌, ◌++◌, length, map}
-use Rattle.std.proofs.Common.{Option, Some, refl, sym, ap, subst, arith}
+use Rattle.std.proofs.Common.{Option, Some, refl, sym, ap, subst, arith, ℕ}
 use Rattle.nit_perform.proofs.Basics.{AreOutputs, AreRoundsOf, Belongs, Configuration, Desk, End}
 use Rattle.nit_perform.proofs.Basics.{Entry, File, HasEnded, HasRun, InputLine, IsAlone, IsJournal}
 use Rattle.nit_perform.proofs.Basics.{IsLegal, IsOpening, IsReady, IsReadyAlone, IsRunOf, IsWhole}
