@@ -4,4 +4,4 @@ use Rattle.nit_desktop.specs.Below.{Colours, Sight}
 
 abbrev pub blank_sight : ℕ → ℕ → Sight
 blank_sight owner size =
-    record { owner = owner; size = size; ink = Colours []; words = None; log = None }
+    record { owner = owner; size = size; ink = Colours []; stages = None; words = None; log = None }

@@ -65,6 +65,7 @@ word_loaded owner size words sight i w view all few place is =
     subst (λ (s : Sight). IsLoaded s i w) view (record {
       fits = subst IsWord (sym is) (at_any words i all);
       inked = inked (w == 0) refl told;
+      stage = tt;
       told = told;
     })
   where

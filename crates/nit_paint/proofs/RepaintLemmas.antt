@@ -43,7 +43,7 @@ since before after loads Bare w e h = h
 since before after loads Black w e h = h
 since before after loads (Word t i) w e h =
     let was : IsLoaded (seen (before t) (loads t)) i w = subst (λ (x : Sight). IsLoaded x i w) (e t) h in
-    record { fits = was.fits; inked = was.inked; told = was.told }
+    record { fits = was.fits; inked = was.inked; stage = was.stage; told = was.told }
 
 pub among_first : (a b : ℕ → List (ℕ × ℕ)) (s : PixelSource) (w : ℕ) → IsAmongLoads a s w
     → IsAmongLoads (λ t. a t ++ b t) s w

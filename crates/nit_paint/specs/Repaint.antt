@@ -8,7 +8,7 @@ use Rattle.nit_paint.specs.Below.{bare_word, seen}
 
 -- the sight where there is no glass
 abbrev pub no_sight : Sight
-no_sight = record { owner = 0; size = 0; ink = Colours []; words = None; log = None }
+no_sight = record { owner = 0; size = 0; ink = Colours []; stages = None; words = None; log = None }
 
 -- the glasses of all sessions, with this one for one of them
 abbrev pub with_glass : (ℕ → Sight) → ℕ → Sight → ℕ → Sight

@@ -1,6 +1,6 @@
 -- The seat of a table that was just made.
-use Rattle.nit_pixels.proofs.Basics.{Identity, IsOwners, PixelSeat, length-zeros, new_sight}
-use Rattle.nit_pixels.proofs.Basics.{Stages, option_map, owner_view, owners_script, sight_of, table_size}
+use Rattle.nit_pixels.proofs.Basics.{Identity, IsOwners, PixelSeat, Stages, length-zeros, new_sight}
+use Rattle.nit_pixels.proofs.Basics.{option_map, owner_view, owners_script, sight_of, table_size}
 use Rattle.std.proofs.Common.{Some, [], ap, length, subst, sym, ℕ, ◌<◌, ◌∙◌, ◌≡◌}
 
 pub first_sight : (identity : Identity) (s : PixelSeat) → s.table_id.words ≡ table_size identity.donation
@@ -10,6 +10,7 @@ first_sight identity s size me = λ i. record {
   owner = (me i).0.owner;
   size = size i;
   ink = Stages (me i).0.stages;
+  stages = (me i).0.agreed;
   words = (me i).0.words;
   log = Some (me i).0.log;
 }

@@ -14,17 +14,19 @@ pub record End : Type 0 where
   pub stand : Standing
 
 -- the owner's sight of a new buffer: a word for each place of the session's table, each of which is
--- 0, the ink of the owner's script, and nothing was loaded
+-- 0, the ink of the owner's script, no stages, and nothing was loaded
 abbrev pub new_sight : ℕ → List Line → ℕ → Sight
 new_sight owner script donation =
     record {
       owner = owner;
       size = table_size donation;
       ink = script_ink script donation;
+      stages = None;
       words = Some (zeros (table_size donation));
       log = Some [];
     }
 
--- a new reader's sight of an owner's buffer: no words are told, and nothing was loaded
+-- a new reader's sight of an owner's buffer: no stages are known, no words are told, and nothing
+-- was loaded
 abbrev pub reader_sight : Sight → Sight
-reader_sight sight = record sight { words = None; log = Some [] }
+reader_sight sight = record sight { stages = None; words = None; log = Some [] }

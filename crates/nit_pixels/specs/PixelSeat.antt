@@ -1,6 +1,6 @@
 -- What is seen of a seat of the words.
 use Rattle.std.specs.Prelude.{◌≡◌, ◌<◌, [], length, Some, None}
-use Rattle.nit_pixels.specs.Below.{PixelView, Seat, Sight, Stages, option_map}
+use Rattle.nit_pixels.specs.Below.{PixelView, Seat, Sight, Stages, TableId, option_map}
 use Rattle.nit_pixels.specs.End.{End}
 
 -- a seat of the words
@@ -14,6 +14,7 @@ sight_of s =
       owner = s.me.0.owner;
       size = s.table_id.words;
       ink = Stages s.me.0.stages;
+      stages = s.me.0.agreed;
       words = s.me.0.words;
       log = Some s.me.0.log;
     }
@@ -21,6 +22,10 @@ sight_of s =
 -- what an end with this seat is seen as
 abbrev pub end_of : PixelSeat → End
 end_of s = record { sight = sight_of s; stand = record { buffer = s.table_id; seat = s.id } }
+
+-- the seat is of this table, which has a word
+abbrev pub IsSeatOf : TableId → PixelSeat → Type 0
+IsSeatOf table s = (s.table_id ≡ table) × (0 < table.words)
 
 -- an owner's seat: there is a word, and its view tells all of them
 abbrev pub IsOwners : PixelSeat → Type 0

@@ -6,8 +6,8 @@ use atomic_table::Seat;
 use nit_word::Glass;
 use std::marker::Model;
 
-/// A reader's end of a buffer, seen as its sight, which tells a log and no words, and as the buffer
-/// and the seat that it has. It can be sent to another thread.
+/// A reader's end of a buffer, seen as its sight, which tells a log and no words, and the stages
+/// where it watches, and as the buffer and the seat that it has. It can be sent to another thread.
 #[derive(Drop)]
 pub struct Lens<'a> {
     pub(crate) words: &'a Words,

@@ -8,6 +8,10 @@
 //! its lines, and no contract says after which. Both are a `Glass` and keep a log of their loads
 //! that contracts alone know.
 //!
+//! A canvas and one lens, which [`Canvas::watch`] makes, agree on a list of [`Stages`] of which one
+//! has what stands at each place now. The canvas stores at a place only what these have there, and
+//! the lens loads no other word, until [`Canvas::agree`] has both agree on other stages.
+//!
 //! Each load and each store is one atomic step on one word. Only [`PixelBuffer::new`] takes memory,
 //! and no call waits for another thread.
 //!
@@ -19,8 +23,10 @@ mod canvas;
 mod lens;
 mod standing;
 mod steps;
+mod watching;
 
 pub use buffer::{Key, PixelBuffer};
 pub use canvas::Canvas;
 pub use lens::Lens;
 pub use standing::Standing;
+pub use watching::Stages;

@@ -2,9 +2,11 @@
 pub use Rattle.nit_journal.proofs.ForCallers.{as_its_calls_have_it, first_none, holds_of}
 pub use Rattle.nit_journal.proofs.ForCallers.{second_none, within_quota, within_reserve}
 pub use Rattle.nit_plan.specs.Terms.{AllByRecursion, Buffer, Call, Check, Close, Configuration}
-pub use Rattle.nit_plan.specs.Terms.{AreInkedBetween, Colours, Destroy, Entry, Event, Expect, Fill}
-pub use Rattle.nit_plan.specs.Terms.{FitsLine, HasStages, Ink, IsInked, IsLineInked, IsOfColours}
-pub use Rattle.nit_plan.specs.Terms.{IsStrokeInked, Stages, script_ink, stages_from}
+pub use Rattle.nit_plan.specs.Terms.{Colours, Destroy, Entry, Event, Expect, Fill, FitsLine}
+pub use Rattle.nit_plan.specs.Terms.{HasStage, HasStages, Ink, IsAmong, IsInked, IsLineInked}
+pub use Rattle.nit_plan.specs.Terms.{IsOfColours, IsStrokeInked, MayHold, MayHoldBetween, Stages}
+pub use Rattle.nit_plan.specs.Terms.{is_among, range_with_len, script_ink, stages_from}
+pub use Rattle.nit_plan.specs.Terms.{stages_within}
 pub use Rattle.nit_plan.specs.Terms.{IsPaintedTo, IsWord, Line, List, Nothing, Painting, PlanModel}
 pub use Rattle.nit_plan.specs.Terms.{Reply, Session, Sight, Size, Status, Step, Stroke, Take, Taken}
 pub use Rattle.nit_plan.specs.Terms.{TellsAll, Upgrade, View, [], accepted, accepts, after_calls}

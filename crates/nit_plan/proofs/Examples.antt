@@ -2,7 +2,7 @@
 use Rattle.std.proofs.Common.{List, [], refl, take, ℕ, ◌∷◌, ◌≡◌}
 use Rattle.nit_plan.proofs.Basics.{Buffer, Check, Close, Expect, Fill, Line, Nothing, Step, Take}
 use Rattle.nit_plan.proofs.Basics.{Taken, View, calls_in, calls_to_make, ink, plan_of_script}
-use Rattle.nit_plan.proofs.Basics.{words_left}
+use Rattle.nit_plan.proofs.Basics.{map, stages_within, words_left}
 use Rattle.nit_journal.specs.Session.{serve}
 use Rattle.nit_plan.specs.Strokes.{cleared, stroked}
 use Rattle.nit_word.specs.Zeros.{zeros}
@@ -45,6 +45,14 @@ called = refl
 
 plain_calls : calls_in (take 5 script) ≡ Buffer 2 1 ∷ View ∷ []
 plain_calls = refl
+
+-- the first two words after two and after three lines of the same script; from three to two there are none
+parts : map (take 2) (stages_within script 512 2 3) ≡ (0 ∷ 0 ∷ []) ∷ (0 ∷ 8 ∷ []) ∷ []
+unfolding serve zeros stroked cleared
+parts = refl
+
+none_between : stages_within script 512 3 2 ≡ []
+none_between = refl
 
 abbrev step : ℕ → ℕ → Expect → Step
 step w h e = record { w = w; h = h; expect = e }

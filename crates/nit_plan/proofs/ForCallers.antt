@@ -3,5 +3,6 @@ pub use Rattle.nit_plan.proofs.Lines.{buffer_size, line_here}
 pub use Rattle.nit_plan.proofs.Places.{above, none_begun, row_added, rows_done, whole}
 pub use Rattle.nit_plan.proofs.ScriptSession.{calls_done}
 pub use Rattle.nit_plan.proofs.InkedWords.{word_inked}
-pub use Rattle.nit_plan.proofs.Stages.{has_stages, left_by_some, stage_fits}
+pub use Rattle.nit_plan.proofs.Stages.{has_stages, left_by_some, stage_fits, stage_within}
+pub use Rattle.nit_plan.proofs.Stages.{within_only}
 pub use Rattle.nit_plan.proofs.Sights.{alike, changed, for_any, unchanged}

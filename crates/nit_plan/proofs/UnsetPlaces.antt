@@ -4,7 +4,8 @@ use Rattle.nit_plan.proofs.Basics.{column_and_row, cond, drop, false, get_or, ge
 use Rattle.nit_plan.proofs.Basics.{get_or-drop, get_or-eq_default, is_set_by, is_stroked, length}
 use Rattle.nit_plan.proofs.Basics.{length-zeros, nat_tests, place_colour, slice_get, slice_index}
 use Rattle.nit_plan.proofs.Basics.{static, step_of, stroked, word_at, words_after, words_by_step}
-use Rattle.nit_plan.proofs.Basics.{HasStages, Ink, IsInked, IsLineInked, subst, zeros}
+use Rattle.nit_plan.proofs.Basics.{HasStage, HasStages, IsAmong, IsLineInked, MayHold, Sight}
+use Rattle.nit_plan.proofs.Basics.{get_or_append_left, subst, zero_at, zeros}
 use Rattle.std.proofs.Common.{nat_lt, refl, sym, true, ℕ, ◌%◌, ◌&&◌, ◌*◌, ◌+◌, ◌-◌, ◌/◌, ◌∙◌, ◌≡◌}
 use Rattle.std.proofs.Common.{◌<◌, ◌≤◌}
 use Rattle.nit_plan.specs.Strokes.{cleared}
@@ -14,6 +15,7 @@ use Rattle.nit_script.specs.declared.line.Line.TheVariants as line
 use Rattle.nit_plan.proofs.Lines.{IsAt, words_next}
 use Rattle.nit_plan.proofs.LineWords.{in_table}
 use Rattle.nit_plan.proofs.Places.{stroke_set, stroked_long, whole}
+use Rattle.nit_plan.proofs.Sights.{for_told}
 
 none_stroked : (w h : ℕ) (s : Stroke) (n : ℕ) → (nat_lt (n % w) w && nat_lt (n / w) h && is_stroked s (n % w) (n / w))
     ≡ false → whole w h s n ≡ false
@@ -65,7 +67,25 @@ line_stays script donation k n l here outside =
     ap (λ (ws : List ℕ). slice_index ws n) (sym (words_next script donation k l step here refl))
     ∙ step_stays l step (words_after script donation k) n outside
 
--- ---- a line whose words the ink has
+-- ---- a line whose words the ink and the known stages have
+
+-- the words that a line leaves may be stored
+left_may_hold : (sight : Sight) (script : List Line) (donation k : ℕ) → HasStages script donation sight.ink
+    → HasStage sight (words_after script donation k) → (n : ℕ)
+    → MayHold sight n (slice_index (words_after script donation k) n)
+left_may_hold sight script donation k has known n = (
+  has k n,
+  for_told (λ stages. (i : ℕ) → IsAmong stages i (slice_index (words_after script donation k) i))
+      (λ stages. IsAmong stages n (slice_index (words_after script donation k) n)) sight.stages (λ stages each. each n)
+      known,
+)
+
+-- a word of a new buffer is 0
+cleared_sets : (w h : ℕ) (words : List ℕ) (n : ℕ) → n < w * h → slice_index (cleared w h words) n ≡ 0
+unfolding cleared
+cleared_sets w h words n inside =
+    get_or_append_left (zeros (w * h)) (drop (w * h) words) 0 n (omega (arith, length-zeros (w * h)))
+    ∙ zero_at (w * h) n
 
 -- a word that a stroke sets has the stroke's colour
 stroke_sets : (w h : ℕ) (s : Stroke) (words : List ℕ) (n : ℕ) → whole w h s n ≡ true → w * h ≤ length words
@@ -75,15 +95,24 @@ stroke_sets w h s words n inside room =
     ap (λ (ws : List ℕ). get_or ws n 0) (stroke_set w h s words) ∙ word_at (whole w h s) (place_colour w s) words n told
     ∙ ap (λ b. cond b (place_colour w s n) (get_or words n 0)) inside
 
-pub line_inked : (ink : Ink) (script : List Line) (donation k : ℕ) (l : Line) (step : Step) → donation ≤ 8388608
-    → HasStages script donation ink → IsAt script donation k l step → IsLineInked ink step l
-line_inked ink script donation k (line.Call c) step most has at = tt
-line_inked ink script donation k line.Phase step most has at = tt
-line_inked ink script donation k (line.Stroke s) step most has at = λ n inside.
+pub line_inked : (sight : Sight) (script : List Line) (donation k : ℕ) (l : Line) (step : Step) → donation ≤ 8388608
+    → HasStages script donation sight.ink → HasStage sight (words_after script donation (k + 1))
+    → IsAt script donation k l step → IsLineInked sight step l
+line_inked sight script donation k (line.Call (Buffer w h)) step most has next at = λ took n first inside.
+    let words : List ℕ = words_after script donation k in
+    subst (MayHold sight n)
+    (ap (λ (ws : List ℕ). slice_index ws n)
+    (sym (words_next script donation k (line.Call (Buffer w h)) step at.here at.is))
+    ∙ ap (λ b. slice_index (cond b (cleared step.w step.h words) words) n) took
+    ∙ cleared_sets step.w step.h words n inside)
+    (left_may_hold sight script donation (k + 1) has next n)
+line_inked sight script donation k (line.Call other) step most has next at = tt
+line_inked sight script donation k line.Phase step most has next at = tt
+line_inked sight script donation k (line.Stroke s) step most has next at = λ n inside.
     let words : List ℕ = words_after script donation k in
     let room : step.w * step.h ≤ length words =
     omega (arith, at.sized.inside, (in_table script donation k most).long) in
-    subst (IsInked ink n)
+    subst (MayHold sight n)
     (ap (λ (ws : List ℕ). slice_index ws n) (sym (words_next script donation k (line.Stroke s) step at.here at.is))
     ∙ stroke_sets step.w step.h s words n inside room)
-    (has (k + 1) n)
+    (left_may_hold sight script donation (k + 1) has next n)

@@ -28,12 +28,14 @@ pub use Rattle.nit_script.specs.declared.line.Stroke.TheVariants.{Check, Fill}
 pub use Rattle.nit_slots.specs.Account.{IsDonation, buffer_left, buffer_need, room, view_left}
 pub use Rattle.nit_slots.specs.Table.{last_handle}
 pub use Rattle.nit_stack.specs.Sources.{Size}
-pub use Rattle.nit_word.specs.Inks.{AreInkedBetween, Colours, Ink, IsInked, IsOfColours, IsWord}
-pub use Rattle.nit_word.specs.Inks.{Stages}
-pub use Rattle.nit_word.specs.Sight.{Sight, TellsAll, inked_sight, stored}
+pub use Rattle.nit_word.specs.Inks.{Colours, Ink, IsAmong, IsInked, IsOfColours, IsWord, Stages}
+pub use Rattle.nit_word.specs.Inks.{is_among}
+pub use Rattle.nit_word.specs.Sight.{HasStage, MayHold, MayHoldBetween, Sight, TellsAll}
+pub use Rattle.nit_word.specs.Sight.{inked_sight, stored}
 pub use Rattle.nit_word.specs.Updates.{in_turn, is_between, set_where, with_words}
 pub use Rattle.nit_word.specs.Zeros.{zeros}
-pub use Rattle.std.specs.List.{AllByRecursion, enumerate_from, flat_map, list_any, slice_get}
+pub use Rattle.std.specs.List.{AllByRecursion, enumerate_from, flat_map, list_any, range_with_len}
+pub use Rattle.std.specs.List.{slice_get}
 pub use Rattle.std.specs.Option.{option_map}
 pub use Rattle.std.specs.Prelude.{List, [], slice_index, slice_index_or, take, ℕ}
 pub use Rattle.std.specs.Result.{OnOk}

@@ -1,8 +1,9 @@
 -- What a script alone says of each of its lines: the size of the buffer after it, and what is
 -- answered to it while the session is live.
-use Rattle.std.specs.Prelude.{◌≡◌, ℕ, nat_lt, Bool, ◌&&◌, false, List, [], ◌∷◌, if◌then◌else◌}
-use Rattle.nit_plan.specs.Below.{Buffer, Call, Expect, Ink, Line, Reply, Session, Status, Step}
-use Rattle.nit_plan.specs.Below.{Take}
+use Rattle.std.specs.Prelude.{◌≡◌, ℕ, ◌*◌, nat_lt, Bool, ◌&&◌, false, IsTrue, List, [], ◌∷◌}
+use Rattle.std.specs.Prelude.{if◌then◌else◌}
+use Rattle.nit_plan.specs.Below.{Buffer, Call, Expect, Line, MayHoldBetween, Reply, Session, Sight}
+use Rattle.nit_plan.specs.Below.{Status, Step, Take}
 use Rattle.nit_plan.specs.Below.{first_session, is_accepted, serve}
 use Rattle.nit_events.specs.declared.event.Status.TheVariants as status
 use Rattle.nit_script.specs.declared.line.Line.TheVariants as line
@@ -64,10 +65,14 @@ words_by_step (line.Call (Buffer w h)) step words =
 words_by_step (line.Stroke s) step words = stroked (record { w = step.w; h = step.h }) s words
 words_by_step other step words = words
 
--- each word that the line sets to a colour may have it
-abbrev pub IsLineInked : Ink → Step → Line → Type 0
-IsLineInked ink step (line.Stroke s) = IsStrokeInked ink (record { w = step.w; h = step.h }) s
-IsLineInked ink step other = Unit {0}
+-- at each place that the line sets, its word there may be stored: 0 at those of a new buffer, if
+-- the `buffer` line is accepted, and its colours at those of a stroke
+abbrev pub IsLineInked : Sight → Step → Line → Type 0
+IsLineInked sight step (line.Call (Buffer w h)) =
+    IsTrue (accepts step.expect) → MayHoldBetween sight 0 (step.w * step.h) (λ n. 0)
+IsLineInked sight step (line.Stroke s) =
+    IsStrokeInked sight (record { w = step.w; h = step.h }) s
+IsLineInked sight step other = Unit {0}
 
 -- the line sets the word of the place in column i and row j of the buffer: an accepted `buffer`
 -- line sets all places of the new buffer, a stroke those that the buffer and its rectangle have,

@@ -1,10 +1,10 @@
 -- What a script alone says: its session, its colours, and the words that it leaves. The words do
 -- not depend on what happens to the session in a run.
-use Rattle.std.specs.Prelude.{ℕ, List, [], ◌∷◌, fold, take, if◌then◌else◌}
+use Rattle.std.specs.Prelude.{ℕ, ◌+◌, ◌-◌, List, [], ◌∷◌, fold, map, take, if◌then◌else◌}
 use Rattle.nit_plan.specs.Below.{Buffer, Call, Check, Fill, Ink, IsInked, Line, Reply, Session}
 use Rattle.nit_plan.specs.Below.{Size}
-use Rattle.nit_plan.specs.Below.{Stages, first_session, flat_map, is_accepted, serve, slice_index}
-use Rattle.nit_plan.specs.Below.{zeros}
+use Rattle.nit_plan.specs.Below.{Stages, first_session, flat_map, is_accepted, range_with_len}
+use Rattle.nit_plan.specs.Below.{serve, slice_index, zeros}
 use Rattle.nit_script.specs.declared.line.Line.TheVariants as line
 use Rattle.nit_plan.specs.Strokes.{stroked, cleared}
 pub use Rattle.nit_slots.specs.Account.{table_size}
@@ -61,6 +61,11 @@ words_left script donation = (painted_from (blank donation) script).words
 abbrev pub stages_from : Painting → List Line → List (List ℕ)
 stages_from p [] = p.words ∷ []
 stages_from p (l ∷ rest) = p.words ∷ stages_from (after_line p l) rest
+
+-- the words that so many lines of a script leave, for each number of lines from `from` to `to`
+abbrev pub stages_within : List Line → ℕ → ℕ → ℕ → List (List ℕ)
+stages_within script donation from to =
+    map (words_after script donation) (range_with_len from (to + 1 - from))
 
 -- the ink of a script whose session opens with this donation: each place may have what one of the
 -- lines leaves there

@@ -1,6 +1,7 @@
 -- The words that clauses use: those that come from outside, and those of this crate.
-pub use Rattle.nit_plan.specs.Below.{AllByRecursion, AreInkedBetween, Buffer, Call, Check, Close}
-pub use Rattle.nit_plan.specs.Below.{Colours, Configuration, Ink, IsOfColours, Stages}
+pub use Rattle.nit_plan.specs.Below.{AllByRecursion, Buffer, Call, Check, Close}
+pub use Rattle.nit_plan.specs.Below.{Colours, Configuration, HasStage, Ink, IsAmong, IsOfColours}
+pub use Rattle.nit_plan.specs.Below.{MayHold, MayHoldBetween, Stages, is_among, range_with_len}
 pub use Rattle.nit_plan.specs.Below.{Destroy, Entry, Event, Expect, Fill, FitsLine, FitsStroke}
 pub use Rattle.nit_plan.specs.Below.{IsDonation, IsInked, IsWord, Line, List, Nothing, OnOk, Reply}
 pub use Rattle.nit_plan.specs.Below.{Session, Sight, Size, Status, Step, Stroke, Take, Taken}
@@ -17,7 +18,7 @@ pub use Rattle.nit_plan.specs.Plan.{IsLineInked, IsPlanOf, PlanModel, accepts, e
 pub use Rattle.nit_plan.specs.Plan.{is_set_by}
 pub use Rattle.nit_plan.specs.Plan.{plan_of_script, session_after, step_of, steps_from}
 pub use Rattle.nit_plan.specs.Plan.{words_by_step}
-pub use Rattle.nit_plan.specs.ScriptWords.{HasStages, script_ink, stages_from}
+pub use Rattle.nit_plan.specs.ScriptWords.{HasStages, script_ink, stages_from, stages_within}
 pub use Rattle.nit_plan.specs.ScriptWords.{Painting, after_line, blank, colours, ink, painted_from}
 pub use Rattle.nit_plan.specs.ScriptWords.{session_of_script, session_size, static, table_size}
 pub use Rattle.nit_plan.specs.ScriptWords.{words_after, words_after_call, words_left}

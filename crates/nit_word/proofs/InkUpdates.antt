@@ -59,7 +59,7 @@ pub sight_changed : (change : List ℕ → List ℕ) (owner : ℕ) (words now in
     → inked_sight owner words ink ≡ g → now ≡ change words → length now ≡ length words
     → inked_sight owner now ink ≡ with_words change g
 sight_changed change owner words now ink g view is long =
-    ap₂ (λ n ws. record { owner = owner; size = n; ink = Colours ink; words = Some ws; log = None }) long is
+    ap₂ (λ n ws. record (inked_sight owner ws ink) { size = n }) long is
     ∙ ap (with_words change) view
 
 -- the colours of an ink that has colours alone

@@ -9,14 +9,14 @@ use native.Mathlib.Decide.{ℕ_discrete}
 
 -- no load, and one list of loads after another
 pub seen_none : (s : Sight) → s ≡ seen s []
-seen_none s = λ i. record { owner = s.owner; size = s.size; ink = s.ink; words = s.words; log = same s.log i }
+seen_none s = λ i. record s { log = same s.log i }
   where
     same : (o : Option (List (ℕ × ℕ))) → o ≡ option_map (λ log. log ++ []) o
     same None = refl
     same (Some l) = ap Some (sym (append-nil l))
 
 pub seen_twice : (s : Sight) (a b : List (ℕ × ℕ)) → seen (seen s a) b ≡ seen s (a ++ b)
-seen_twice s a b = λ i. record { owner = s.owner; size = s.size; ink = s.ink; words = s.words; log = same s.log i }
+seen_twice s a b = λ i. record s { log = same s.log i }
   where
     same : (o : Option (List (ℕ × ℕ))) → option_map (λ log. log ++ b) (option_map (λ log. log ++ a) o)
         ≡ option_map (λ log. log ++ (a ++ b)) o
@@ -27,10 +27,11 @@ seen_twice s a b = λ i. record { owner = s.owner; size = s.size; ink = s.ink; w
 pub loaded_before : (g now : Sight) (loads : List (ℕ × ℕ)) (i w : ℕ) → now ≡ seen g loads → IsLoaded now i w
     → IsLoaded g i w
 loaded_before g now loads i w is loaded = let h =
-    subst (λ (s : Sight). IsLoaded s i w) is loaded in record { fits = h.fits; inked = h.inked; told = h.told }
+    subst (λ (s : Sight). IsLoaded s i w) is loaded in
+    record { fits = h.fits; inked = h.inked; stage = h.stage; told = h.told }
 
 pub loaded_after : (g : Sight) (loads : List (ℕ × ℕ)) (i w : ℕ) → IsLoaded g i w → IsLoaded (seen g loads) i w
-loaded_after g loads i w h = record { fits = h.fits; inked = h.inked; told = h.told }
+loaded_after g loads i w h = record { fits = h.fits; inked = h.inked; stage = h.stage; told = h.told }
 
 -- the places and words of a row with one more word
 more_places : (from : ℕ) (xs : List ℕ) (x : ℕ) → enumerate_from from (xs ++ x ∷ []) ≡ enumerate_from from xs

@@ -37,6 +37,7 @@ place_loaded owner words ink i w fit inked room is =
     let here : IsOfColours ink w = rw is (inked i 0 room) in record {
       fits = inked_fits ink w fit here;
       inked = here;
+      stage = tt;
       told = is;
     }
 

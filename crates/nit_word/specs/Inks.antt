@@ -12,10 +12,18 @@ pub data Ink : Type 0 where
   Colours : (colours : List ℕ) → Ink
   Stages : (stages : List (List ℕ)) → Ink
 
+-- whether one of these lists of words has the word at this place
+abbrev pub is_among : List (List ℕ) → ℕ → ℕ → Bool
+is_among stages i w = list_any (λ words. slice_index words i == w) stages
+
+-- one of these lists of words has the word at this place
+abbrev pub IsAmong : List (List ℕ) → ℕ → ℕ → Type 0
+IsAmong stages i w = IsTrue (is_among stages i w)
+
 -- whether the ink has the word at this place
 abbrev pub has_at : Ink → ℕ → ℕ → Bool
 has_at (Colours colours) i w = list_any (λ y. y == w) colours
-has_at (Stages stages) i w = list_any (λ words. slice_index words i == w) stages
+has_at (Stages stages) i w = is_among stages i w
 
 -- whether the word is 0, or the ink has it at this place
 abbrev pub is_inked : Ink → ℕ → ℕ → Bool

@@ -1,9 +1,10 @@
 -- The words that clauses use: those that come from outside, and those of this crate.
 pub use Rattle.nit_word.specs.Below.{enumerate_from, list_any, option_map, slice_index}
 pub use Rattle.nit_word.specs.Channels.{dim, tint}
-pub use Rattle.nit_word.specs.Inks.{AreInkedBetween, Colours, Ink, IsInked, IsOfColours, IsWord}
-pub use Rattle.nit_word.specs.Inks.{Stages}
-pub use Rattle.nit_word.specs.Sight.{IsLoaded, IsLoadedRow, Sight, TellsAll, inked_sight}
+pub use Rattle.nit_word.specs.Inks.{AreInkedBetween, Colours, Ink, IsAmong, IsInked, IsOfColours}
+pub use Rattle.nit_word.specs.Inks.{IsWord, Stages}
+pub use Rattle.nit_word.specs.Sight.{HasStage, IsLoaded, IsLoadedRow, MayHold, MayHoldBetween}
+pub use Rattle.nit_word.specs.Sight.{Sight, TellsAll, inked_sight, with_stages}
 pub use Rattle.nit_word.specs.Sight.{plain_sight, plain_stored, seen, stored, told_at}
 pub use Rattle.nit_word.specs.Updates.{in_turn, is_between, set_where, with_words}
 pub use Rattle.nit_word.specs.Zeros.{filled_up, zeros}

@@ -1,5 +1,5 @@
-use Rattle.nit_pixels.proofs.Lemmas.{ap, arith, first_owns, first_sight, length}
-use Rattle.nit_pixels.proofs.Lemmas.{length-zeros, new_sight, opens, table_size, ◌∙◌}
+use Rattle.nit_pixels.proofs.Lemmas.{ap, arith, first_owns, first_sight, length, length-zeros}
+use Rattle.nit_pixels.proofs.Lemmas.{new_sight, opens, table_size, ◌∙◌}
 use Rattle.nit_pixels.proofs.buffer.PixelBuffer.new.Goals as goal
 
 pub of_words-requires : goal.of_words-requires
