@@ -30,7 +30,9 @@ pub use Rattle.nit_hall.specs.Terms.{knowing, knowing_clip, left_after, left_wor
 pub use Rattle.nit_hall.specs.Terms.{lines_of_all, lines_of_clips, lines_to_call, map, nat_le}
 pub use Rattle.nit_hall.specs.Terms.{new_sight, next_call, next_clip, next_device, next_phase}
 pub use Rattle.nit_hall.specs.Terms.{no_sight, option_map, painted_from, parts_of, phases_along}
-pub use Rattle.nit_hall.specs.Terms.{phases_before, phases_ended, pixel, pixel_count, plan_in}
+pub use Rattle.nit_hall.specs.Terms.{phases_at_shot, phases_before, phases_ended, pixel, pixel_count}
+pub use Rattle.nit_hall.specs.Terms.{HasLoaded, is_accepted, lenses, plan_in, serve, session}
+pub use Rattle.nit_hall.specs.Terms.{stands, with_final}
 pub use Rattle.nit_hall.specs.Terms.{raised, range_with_len, reader_sight, replay, replicate}
 pub use Rattle.nit_hall.specs.Terms.{rest_of, scenery_of, script_in, seen, served, shots}
 pub use Rattle.nit_hall.specs.Terms.{sight_after_line, slice_get, slice_index, slice_index_or}
@@ -41,12 +43,20 @@ pub use Rattle.nit_hall.specs.Terms.{AreLast, IsHistory, Recorded, entries_in, r
 pub use Rattle.nit_hall.specs.Terms.{with_words, without_final, words_after, words_at_call}
 pub use Rattle.nit_scene.specs.Scene.{IsAdded}
 pub use Rattle.nit_hall.specs.Terms.{words_left, words_left_in}
-pub use Rattle.nit_journal.proofs.ForCallers.{IsUsers, bare_everywhere, calls_other, calls_own}
+pub use Rattle.nit_hall.specs.Terms.{AreAgreed, AreBegun, AreWatching, BufferName, CanAgree}
+pub use Rattle.nit_hall.specs.Terms.{HasAdmitted, HasStage, HasStretch, IsAmong, IsLeftThen}
+pub use Rattle.nit_hall.specs.Terms.{IsWatching, MayHaveDone, buffers_of, first_stretch, in_line}
+pub use Rattle.nit_hall.specs.Terms.{line_stages, stages_within, stretch, stretch_end, stretch_from}
+pub use Rattle.nit_hall.specs.Terms.{strokes_in_front, told_words, watching_sight, with_end_stages}
+pub use Rattle.nit_hall.specs.Terms.{with_room_stages, with_stages}
+pub use Rattle.nit_journal.proofs.ForCallers.{IsUsers, as_many, as_many_as_clients}
+pub use Rattle.nit_journal.proofs.ForCallers.{bare_everywhere, calls_of-append, calls_other}
+pub use Rattle.nit_journal.proofs.ForCallers.{calls_own}
 pub use Rattle.nit_journal.proofs.ForCallers.{calls_same, actions_of-append, actions_same}
 pub use Rattle.nit_journal.proofs.ForCallers.{phases_call}
 pub use Rattle.nit_journal.proofs.ForCallers.{phases_action, phases_final, same_config}
 pub use Rattle.nit_overlay.proofs.ForCallers.{same_frame}
-pub use Rattle.nit_plan.proofs.ForCallers.{calls_done, has_stages, left_by_some}
+pub use Rattle.nit_plan.proofs.ForCallers.{calls_done, has_stages, stage_within, within_only}
 pub use Rattle.nit_word.proofs.ForCallers.{no_ink, zero_at}
 pub use Rattle.std.proofs.Common.{Bool, IfSome, None, [], ap, append_assoc, ap₂, arith, cond, drop}
 pub use Rattle.std.proofs.Common.{false, filter, get_or, get_or-set_other, get_or-set_same, inl}

@@ -1,9 +1,9 @@
 -- A clip list beside a journal that grows.
-use Rattle.std.proofs.Common.{List, [], subst, sym, ℕ, ◌++◌, ◌∷◌, ◌≡◌, ◌≤◌}
+use Rattle.std.proofs.Common.{List, [], subst, sym, ℕ, ◌++◌, ◌∙◌, ◌∷◌, ◌≡◌, ◌≤◌}
 use Rattle.nit_hall.proofs.Basics.{AllByRecursion, AreInPhases, Call, ClipCall, ClipEntry}
 use Rattle.nit_hall.proofs.Basics.{ClipModel, Configuration, End, Entry, FollowsClips, IsLegalClips}
 use Rattle.nit_hall.proofs.Basics.{IsRoom, IsThere, OpeningParts, RoomModel, SceneModel, UserAction}
-use Rattle.nit_hall.proofs.Basics.{before_final}
+use Rattle.nit_hall.proofs.Basics.{BufferName, before_final, buffers_of}
 
 -- what the laws of clip lists say of one more entry
 pub record ListLaws : Type 0 where
@@ -36,16 +36,31 @@ follow_on laws parts counts entries e clips f = record {
   room = f.room;
 }
 
--- the parts of a room with this configuration
-abbrev pub parts_with : RoomModel → Configuration → OpeningParts
-parts_with r config = record r.parts { config = config }
+-- the parts of a room with the configuration and the buffers of this scene
+abbrev pub parts_with : RoomModel → SceneModel End → OpeningParts
+parts_with r scene = record r.parts { config = scene.config; buffers = buffers_of scene.glasses }
 
-pub clips_same : {r : RoomModel} → IsRoom r
-    → FollowsClips (parts_with r r.scene.config) r.clip_counts r.scene.entries r.clips
-clips_same {r = r} room = subst (λ (c : Configuration). FollowsClips (parts_with r c) r.clip_counts r.scene.entries
-    r.clips) (sym room.config) room.clips_follow
+-- the clip list has nothing to do with the buffers
+other_buffers : (parts : OpeningParts) (buffers : List BufferName) (counts : List ℕ) (entries : List Entry)
+    (clips : ClipModel) → FollowsClips parts counts entries clips
+    → FollowsClips (record parts { buffers = buffers }) counts entries clips
+other_buffers parts buffers counts entries clips f = record {
+  legal = f.legal;
+  each = f.each;
+  calls = f.calls;
+  few = f.few;
+  in_phases = f.in_phases;
+  room = f.room;
+}
+
+pub clips_same : {r : RoomModel} (scene : SceneModel End) → scene.config ≡ r.scene.config → IsRoom r
+    → FollowsClips (parts_with r scene) r.clip_counts r.scene.entries r.clips
+clips_same {r = r} scene same room =
+    other_buffers (record r.parts { config = scene.config }) (buffers_of scene.glasses) r.clip_counts r.scene.entries
+    r.clips (subst (λ (c : Configuration). FollowsClips (record r.parts { config = c }) r.clip_counts r.scene.entries
+    r.clips) (sym (same ∙ room.config)) room.clips_follow)
 
 pub clips_then : ClipsStay → (r : RoomModel) (new : SceneModel End) (e : Entry) → IsRoom r → new.config ≡ r.scene.config
-    → new.entries ≡ r.scene.entries ++ e ∷ [] → FollowsClips (parts_with r new.config) r.clip_counts new.entries r.clips
+    → new.entries ≡ r.scene.entries ++ e ∷ [] → FollowsClips (parts_with r new) r.clip_counts new.entries r.clips
 clips_then stay r new e room config recorded =
-    rw (config, recorded) (stay (parts_with r r.scene.config) r.clip_counts r.scene.entries e r.clips (clips_same room))
+    rw recorded (stay (parts_with r new) r.clip_counts r.scene.entries e r.clips (clips_same new config room))

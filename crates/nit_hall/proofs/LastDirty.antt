@@ -90,7 +90,7 @@ module _ (config : Configuration) (journal : List Entry) (e : Entry) (k : ℕ) (
   ]
 
   -- and stays the last one then
-  last_more : is_dirtied config journal e k ≡ false → IsLastDirtied config journal k front f rest
+  pub last_more : is_dirtied config journal e k ≡ false → IsLastDirtied config journal k front f rest
       → IsLastDirtied config (journal ++ e ∷ []) k front f (rest ++ e ∷ [])
   last_more clean last =
       record {
@@ -103,6 +103,15 @@ module _ (config : Configuration) (journal : List Entry) (e : Entry) (k : ℕ) (
           | before less a b ↦ absurd (none_behind less g more a)
         ];
       }
+
+-- an entry that makes the pixel dirty is the last one then
+pub one_more_last : (config : Configuration) (journal : List Entry) (e : Entry) (k : ℕ)
+    → is_dirtied config journal e k ≡ true → IsLastDirtied config (journal ++ e ∷ []) k journal e []
+one_more_last config journal e k is = record {
+  split = refl;
+  dirty_here = is;
+  clean_behind = λ between f more h. absurd (none_behind between f more h);
+}
 
 -- ---- there is one
 
@@ -127,12 +136,7 @@ none_more config journal e k clean none front f rest at = elim (places front f r
 found_more : (config : Configuration) (journal : List Entry) (e : Entry) (k : ℕ) → NoneDirties config journal k
     ⊎ OneIsLast config journal k → NoneDirties config (journal ++ e ∷ []) k ⊎ OneIsLast config (journal ++ e ∷ []) k
 found_more config journal e k found = elim (cases_Bool (is_dirtied config journal e k)) [
-  | inl is ↦ inr (
-    journal,
-    e,
-    [],
-    record { split = refl; dirty_here = is; clean_behind = λ between f more h. absurd (none_behind between f more h) },
-  )
+  | inl is ↦ inr (journal, e, [], one_more_last config journal e k is)
   | inr clean ↦ ⊎_elim
       (λ (none : NoneDirties config journal k). inl (none_more config journal e k clean none))
       (λ (one : OneIsLast config journal k).

@@ -1,42 +1,51 @@
 -- What each pixel may hold, after one more entry.
 use Rattle.nit_hall.proofs.Basics.{AreNear, Bare, Black, Call, Configuration, Entry, EntryLaws}
-use Rattle.nit_hall.proofs.Basics.{IfSome, IsInked, IsLegal, IsNear, IsNearBy, IsWordOfScripts}
+use Rattle.nit_hall.proofs.Basics.{IfSome, IsLegal, IsNear, IsNearBy, IsWordOfScripts}
 use Rattle.nit_hall.proofs.Basics.{IsWordOfSource, Line, List, None, Option, Painted, PixelSource}
 use Rattle.nit_hall.proofs.Basics.{Reply, Sight, Some, State, Word, [], after, ap, cases_Bool}
-use Rattle.nit_hall.proofs.Basics.{Colours, Ink, IsLeftAt, arith, cases_lt, donation_of, false}
-use Rattle.nit_hall.proofs.Basics.{first_state, ink_in, inl, inr, is_dirtied, left_by_some, length}
-use Rattle.nit_hall.proofs.Basics.{nat_tests, no_ink, pixel, refl, script_ink, table_size, zero_at}
+use Rattle.nit_hall.proofs.Basics.{Colours, IsLoaded, MayHaveDone, arith, donation_of, false}
+use Rattle.nit_hall.proofs.Basics.{first_state, ink_in, inl, inr, is_dirtied, length, words_after}
+use Rattle.nit_hall.proofs.Basics.{nat_tests, pixel, refl, script_ink}
 use Rattle.nit_hall.proofs.Basics.{pixel_count, replay, same_config, script_in, shots, slice_index}
 use Rattle.nit_hall.proofs.Basics.{slice_index_or, source_at, source_of, subst, sym, words_at_call}
 use Rattle.std.proofs.Common.{nat_lt, true, ℕ, ◌*◌, ◌++◌, ◌+◌, ◌<◌, ◌∙◌, ◌∷◌, ◌≡◌, ◌≤◌}
 use Rattle.nit_events.specs.declared.entry.Entry.TheVariants as entry
-use Rattle.nit_hall.proofs.LastDirty.{last_is_last, last_before}
+use Rattle.nit_hall.proofs.LastDirty.{last_is_last, last_before, last_more, one_more_last}
 
 -- ---- one more entry
 
 -- a pixel that the next entry leaves clean may hold what it might before
-near_still : (config : Configuration) (scripts : List (List Line)) (journal : List Entry) (e : Entry) (k : ℕ)
-    (source : PixelSource) (w : ℕ) → is_dirtied config journal e k ≡ false
-    → IsNearBy config scripts journal k source w → IsNearBy config scripts (journal ++ e ∷ []) k source w
-near_still config scripts journal e k Bare w clean near = near
-near_still config scripts journal e k Black w clean near = near
-near_still config scripts journal e k (Word t i) w clean near =
+near_still : (config : Configuration) (scripts : List (List Line)) (ended : ℕ) (journal : List Entry) (e : Entry)
+    (k : ℕ) (source : PixelSource) (w : ℕ) → is_dirtied config journal e k ≡ false
+    → IsNearBy config scripts ended journal k source w → IsNearBy config scripts ended (journal ++ e ∷ []) k source w
+near_still config scripts ended journal e k Bare w clean near = near
+near_still config scripts ended journal e k Black w clean near = near
+near_still config scripts ended journal e k (Word t i) w clean near =
     record {
-      left = near.left;
+      left = let l = near.left in record {
+        front = l.front;
+        last = l.last;
+        rest = l.rest ++ e ∷ [];
+        is_last = last_more config journal e k l.front l.last l.rest clean l.is_last;
+        lines = l.lines;
+        done = l.done;
+        word = l.word;
+      };
       exact = λ front call r rest last. let before =
           last_before config journal e k front (entry.Call t call r) rest clean last in near.exact front call r before.0
           before.1;
     }
 
-pub near_more : EntryLaws → (config : Configuration) (scripts : List (List Line)) (journal : List Entry) (e : Entry)
+pub near_more : EntryLaws → (config : Configuration) (scripts : List (List Line)) (ended : ℕ) (journal : List Entry)
+    (e : Entry)
     (raw raw' : List ℕ)
     → IsLegal config (journal ++ e ∷ [])
     → ((k : ℕ) → k < pixel_count (replay config journal) → is_dirtied config journal e k ≡ true
-    → IsNearBy config scripts (journal ++ e ∷ []) k (source_at (after (replay config journal) e) k)
+    → IsNearBy config scripts ended (journal ++ e ∷ []) k (source_at (after (replay config journal) e) k)
     (slice_index_or raw' k 0))
     → ((k : ℕ) → is_dirtied config journal e k ≡ false → slice_index_or raw' k 0 ≡ slice_index_or raw k 0)
-    → AreNear config scripts journal raw → AreNear config scripts (journal ++ e ∷ []) raw'
-near_more laws config scripts journal e raw raw' legal loaded others near k on_screen =
+    → AreNear config scripts ended journal raw → AreNear config scripts ended (journal ++ e ∷ []) raw'
+near_more laws config scripts ended journal e raw raw' legal loaded others near k on_screen =
     let s : State = replay config journal in
     let now : replay config (journal ++ e ∷ []) ≡ after s e = laws.more (first_state config) journal e in
     let count : pixel_count (replay config (journal ++ e ∷ [])) ≡ pixel_count s = ap pixel_count now
@@ -47,17 +56,44 @@ near_more laws config scripts journal e raw raw' legal loaded others near k on_s
     ∙ ap (λ (c : Configuration). source_of (after s e) (pixel c.width k)) (same_config s e) in
     let w : ℕ = slice_index_or raw' k 0 in
     elim (cases_Bool (is_dirtied config journal e k)) [
-      | inl is ↦ subst (λ (x : State). IsNearBy config scripts (journal ++ e ∷ []) k (source_at x k) w) (sym now)
+      | inl is ↦ subst (λ (x : State). IsNearBy config scripts ended (journal ++ e ∷ []) k (source_at x k) w) (sym now)
           (loaded k inside is)
       | inr clean ↦
           let source : source_at (replay config (journal ++ e ∷ [])) k ≡ source_at s k = at
           ∙ laws.keeps s (0 + shots journal) e (pixel s.config.width k)
           (laws.agrees (first_state config) 0 journal e legal) clean in
-          subst (λ (x : ℕ). IsNear config scripts (journal ++ e ∷ []) k x) (sym (others k clean))
-          (subst (λ (x : PixelSource). IsNearBy config scripts (journal ++ e ∷ []) k x (slice_index_or raw k 0))
+          subst (λ (x : ℕ). IsNear config scripts ended (journal ++ e ∷ []) k x) (sym (others k clean))
+          (subst (λ (x : PixelSource). IsNearBy config scripts ended (journal ++ e ∷ []) k x (slice_index_or raw k 0))
           (sym source)
-          (near_still config scripts journal e k (source_at s k) (slice_index_or raw k 0) clean (near k inside)))
+          (near_still config scripts ended journal e k (source_at s k) (slice_index_or raw k 0) clean (near k inside)))
     ]
+
+-- when more phases are ended a pixel may hold what it might before
+pub near_later : (config : Configuration) (scripts : List (List Line)) (ended later : ℕ) (journal : List Entry)
+    (raw : List ℕ) → ended ≤ later → AreNear config scripts ended journal raw → AreNear config scripts later journal raw
+near_later config scripts ended later journal raw risen near k inside =
+    go (source_at (replay config journal) k) (slice_index_or raw k 0) (near k inside)
+  where
+    go : (source : PixelSource) (w : ℕ) → IsNearBy config scripts ended journal k source w
+        → IsNearBy config scripts later journal k source w
+    go Bare w held = held
+    go Black w held = held
+    go (Word t i) w held =
+        record {
+          left = let l = held.left in record {
+            front = l.front;
+            last = l.last;
+            rest = l.rest;
+            is_last = l.is_last;
+            lines = l.lines;
+            done = record {
+              calls = l.done.calls;
+              phases = λ still_open. let p = l.done.phases still_open in omega (arith, p, risen);
+            };
+            word = l.word;
+          };
+          exact = held.exact;
+        }
 
 -- ---- what glasses give
 
@@ -77,18 +113,11 @@ pub ink_behind : (config : Configuration) (scripts : List (List Line)) (t : ℕ)
 ink_behind config scripts t past =
     let is : nat_lt t (length scripts) ≡ false = grind (arith, nat_tests) in rw is refl
 
--- what the ink of a session has at a place is what its script has left there
-left_there : (config : Configuration) (scripts : List (List Line)) (t i w : ℕ) → IsInked (ink_in config scripts t) i w
-    → IsLeftAt config scripts t i w
-left_there config scripts t i w inked = elim (cases_lt t (length scripts)) [
-  | inl inside ↦ left_by_some (script_in scripts t) (donation_of config t) i w
-      (subst (λ (x : Ink). IsInked x i w) (sym (ink_inside config scripts t _ _ inside refl refl)) inked)
-  | inr past ↦ (
-    0,
-    no_ink i w (subst (λ (x : Ink). IsInked x i w) (sym (ink_behind config scripts t past)) inked)
-        ∙ sym (zero_at (table_size (donation_of config t)) i),
-  )
-]
+-- what is loaded through a session's glass behind the next entry was left by lines that it may have done
+abbrev pub ShowsThen : Configuration → List (List Line) → ℕ → List Entry → Entry → (ℕ → Sight) → Type 0
+ShowsThen config scripts ended journal e glasses = (t i w : ℕ) → IsLoaded (glasses t) i w
+    → (n : ℕ) × MayHaveDone scripts ended t (journal ++ e ∷ []) n
+    × (w ≡ slice_index (words_after (script_in scripts t) (donation_of config t) n) i)
 
 -- where the entry is a call, the caller's glass tells the words of its script
 abbrev pub TellsWords : Configuration → List (List Line) → List Entry → Entry → (ℕ → Sight) → Type 0
@@ -101,15 +130,23 @@ told_word None words i w is told = absurd cc
 told_word (Some ws) words i w is told = let same : ws ≡ words = cc in told ∙ ap (λ (x : List ℕ). slice_index x i) same
 
 -- what the glasses give a pixel that the next entry makes dirty is a word that it may hold then
-held_near : (config : Configuration) (scripts : List (List Line)) (journal : List Entry) (e : Entry) (glasses : ℕ
-    → Sight) (k : ℕ) (source : PixelSource) (w : ℕ) → is_dirtied config journal e k ≡ true
-    → AreInks config scripts glasses → TellsWords config scripts journal e glasses → IsWordOfSource glasses source w
-    → IsNearBy config scripts (journal ++ e ∷ []) k source w
-held_near config scripts journal e glasses k Bare w is inks tells held = held
-held_near config scripts journal e glasses k Black w is inks tells held = held
-held_near config scripts journal e glasses k (Word t i) w is inks tells held =
+held_near : (config : Configuration) (scripts : List (List Line)) (ended : ℕ) (journal : List Entry) (e : Entry)
+    (glasses : ℕ → Sight) (k : ℕ) (source : PixelSource) (w : ℕ) → is_dirtied config journal e k ≡ true
+    → ShowsThen config scripts ended journal e glasses → TellsWords config scripts journal e glasses
+    → IsWordOfSource glasses source w → IsNearBy config scripts ended (journal ++ e ∷ []) k source w
+held_near config scripts ended journal e glasses k Bare w is shows tells held = held
+held_near config scripts ended journal e glasses k Black w is shows tells held = held
+held_near config scripts ended journal e glasses k (Word t i) w is shows tells held =
     record {
-      left = left_there config scripts t i w (subst (λ (x : Ink). IsInked x i w) (inks t) held.inked);
+      left = let n = shows t i w held in record {
+        front = journal;
+        last = e;
+        rest = [];
+        is_last = one_more_last config journal e k is;
+        lines = n.0;
+        done = n.1;
+        word = n.2;
+      };
       exact = λ front call r rest last.
           let at = last_is_last config journal e k front (entry.Call t call r) rest is last in
           told_word (glasses t).words (words_at_call config scripts t front) i w (tells t call r at.1
@@ -117,25 +154,25 @@ held_near config scripts journal e glasses k (Word t i) w is inks tells held =
     }
 
 -- an entry that loads its dirty pixels by such glasses
-pub near_painted : EntryLaws → (config : Configuration) (scripts : List (List Line)) (journal : List Entry) (e : Entry)
-    (s' : State) (glasses glasses' : ℕ → Sight) (raw raw' : List ℕ)
-    → IsLegal config (journal ++ e ∷ []) → s' ≡ after (replay config journal) e → AreInks config scripts glasses
-    → TellsWords config scripts journal e glasses
-    → Painted (replay config journal) e s' glasses glasses' raw raw' → AreNear config scripts journal raw
-    → AreNear config scripts (journal ++ e ∷ []) raw'
-near_painted laws config scripts journal e s' glasses glasses' raw raw' legal now inks tells painted near =
+pub near_painted : EntryLaws → (config : Configuration) (scripts : List (List Line)) (ended : ℕ)
+    (journal : List Entry) (e : Entry) (s' : State) (glasses glasses' : ℕ → Sight) (raw raw' : List ℕ)
+    → IsLegal config (journal ++ e ∷ []) → s' ≡ after (replay config journal) e
+    → ShowsThen config scripts ended journal e glasses → TellsWords config scripts journal e glasses
+    → Painted (replay config journal) e s' glasses glasses' raw raw' → AreNear config scripts ended journal raw
+    → AreNear config scripts ended (journal ++ e ∷ []) raw'
+near_painted laws config scripts ended journal e s' glasses glasses' raw raw' legal now shows tells painted near =
     let s : State = replay config journal in
     let p : Painted s e (after s e) glasses glasses' raw raw' = rw now at painted in
-    near_more laws config scripts journal e raw raw' legal
-    (λ k inside is. held_near config scripts journal e glasses k (source_at (after s e) k) (slice_index_or raw' k 0) is
-    inks tells (p.marked k inside is).0)
+    near_more laws config scripts ended journal e raw raw' legal
+    (λ k inside is. held_near config scripts ended journal e glasses k (source_at (after s e) k)
+    (slice_index_or raw' k 0) is shows tells (p.marked k inside is).0)
     (λ k clean. p.others k (λ _. clean)) near
 
 -- ---- what the scripts alone say of it
 
-pub near_word : (config : Configuration) (scripts : List (List Line)) (journal : List Entry) (k : ℕ)
-    (source : PixelSource) (w : ℕ) → IsNearBy config scripts journal k source w
+pub near_word : (config : Configuration) (scripts : List (List Line)) (ended : ℕ) (journal : List Entry) (k : ℕ)
+    (source : PixelSource) (w : ℕ) → IsNearBy config scripts ended journal k source w
     → IsWordOfScripts config scripts source w
-near_word config scripts journal k Bare w near = near
-near_word config scripts journal k Black w near = near
-near_word config scripts journal k (Word t i) w near = near.left
+near_word config scripts ended journal k Bare w near = near
+near_word config scripts ended journal k Black w near = near
+near_word config scripts ended journal k (Word t i) w near = (near.left.lines, near.left.word)

@@ -1,5 +1,5 @@
 -- What a room's counts are for a pass, and what they are when its count has risen.
-use Rattle.nit_hall.proofs.Basics.{Belongs, IsPass, IsUserPass, Line, List, OpeningParts, PassModel}
+use Rattle.nit_hall.proofs.Basics.{Belongs, End, IsPass, IsUserPass, Line, List, OpeningParts, PassModel}
 use Rattle.nit_hall.proofs.Basics.{ShareModel, UserPassModel, ap, arith, drop, drop-set-lt}
 use Rattle.nit_hall.proofs.Basics.{get_or-take, length, raised, served, slice_get_within}
 use Rattle.nit_hall.proofs.Basics.{slice_index, sym, take, ℕ, ◌∙◌}
@@ -9,7 +9,8 @@ use Rattle.nit_hall.proofs.ScriptsFollowed.{IsNext, client_is}
 
 -- ---- a client's
 
-pub pass_counted : {parts : OpeningParts} {p : PassModel} {share : ShareModel} (counts : List ℕ) → IsPass p share
+pub pass_counted : {parts : OpeningParts} {p : PassModel} {share : ShareModel} {spare : End} (counts : List ℕ)
+    → IsPass p share spare
     → Belongs parts p → slice_index counts share.number ≡ share.count
     → slice_index (take (length parts.scripts + 1) counts) p.sid ≡ length (served (take p.next p.script))
 pass_counted {parts = parts} {p = p} counts is of counted =

@@ -17,6 +17,8 @@ use Rattle.nit_hall.proofs.LineLemmas.{actions_line, no_more_calls}
 use Rattle.nit_hall.proofs.Phases.{client_ends, user_ends, phase_ended, ended_long}
 use Rattle.nit_hall.proofs.ScriptsFollowed.{IsNext, IsUserNext, follows_phase, follows_user_phase}
 use Rattle.nit_hall.proofs.RoomSteps.{room_then, room_turned}
+use Rattle.nit_hall.proofs.Stretches.{stretch_begun, stretch_on}
+use Rattle.nit_hall.proofs.Basics.{End, stretch, with_stages}
 use Rattle.nit_hall.proofs.ServedCalls.{still_open}
 
 -- ---- phases
@@ -41,11 +43,11 @@ NextLine = (p : Painting) (script : List Line) (k : ℕ) (l : Line) → slice_ge
     → painted_from p (take (k + 1) script) ≡ after_line (painted_from p (take k script)) l
 
 -- the end of a phase was served
-pub pass_phase : NextLine → {p : PassModel} {share share' : ShareModel} (name : _) (known : List Recorded)
-    (known' : List Entry) → IsPass p share → slice_get p.script p.next ≡ Some line.Phase
+pub pass_phase : NextLine → {p : PassModel} {share share' : ShareModel} {spare : End} (name : _)
+    (known : List Recorded) (known' : List Entry) → IsPass p share spare → slice_get p.script p.next ≡ Some line.Phase
     → share' ≡ record share { count = share.count + 1; seen = known }
     → calls_of p.sid known' ≡ calls_in (take p.next p.script)
-    → IsPass (record p { next = p.next + 1; phase = p.phase + 1; name = name; seen = known' }) share'
+    → IsPass (record p { next = p.next + 1; phase = p.phase + 1; name = name; seen = known' }) share' spare
 pass_phase next {p = p} name known known' is at e knows =
     let h = is.painted in
     let told : p.sight.words ≡ Some (words_after p.script p.donation (p.next + 1)) = is.told
@@ -68,30 +70,43 @@ pass_phase next {p = p} name known known' is at e knows =
       };
       inked = is.inked;
       told = told;
+      not_ahead = let m = is.not_ahead in omega (arith, m);
+      agreed = is.agreed;
+      stretch = λ same. absurd (let m = is.not_ahead in omega (arith, m, same));
+      spare_owner = is.spare_owner;
+      spare_size = is.spare_size;
     })
 
--- the pass found a phase served
-pub pass_admitted : (p : PassModel) (share : ShareModel) (met : ℕ) → IsPass p share
-    → IsPass (record p { met = met }) share
-pass_admitted p share met is =
-    record {
+-- the pass found its phase served, and agrees on a stretch from its next line on
+pub pass_admitted : (p : PassModel) (share : ShareModel) (spare : End) (met : ℕ) (sight : Sight) → IsPass p share spare
+    → met ≡ p.phase → sight ≡ with_stages (stretch p.script p.donation p.next) p.sight
+    → IsPass (record p { met = met; sight = sight }) share spare
+pass_admitted p share spare met sight is served_ at =
+    rw at (record {
       number = is.number;
       counted = is.counted;
       within = is.within;
       phase = is.phase;
       known = is.known;
       owner = is.owner;
-      painted = is.painted;
+      painted = let h = is.painted in
+          record { opens = h.opens; planned = h.planned; ink = h.ink; size = h.size; words = h.words };
       inked = is.inked;
       told = is.told;
-    }
+      not_ahead = omega (arith, served_);
+      agreed = refl;
+      stretch = λ same. stretch_begun p.script p.donation p.next _ refl;
+      spare_owner = is.spare_owner;
+      spare_size = is.spare_size;
+    })
 
 -- a stroke was made
-pub pass_stroke : (p : PassModel) (share : ShareModel) (s : Stroke) (sight : Sight) (stand : _) → IsPass p share
-    → slice_get p.script p.next ≡ Some (line.Stroke s) → IsPaintedTo p.script p.donation p.plan (p.next + 1) sight
+pub pass_stroke : (p : PassModel) (share : ShareModel) (spare : End) (s : Stroke) (sight : Sight) (stand : _)
+    → IsPass p share spare → slice_get p.script p.next ≡ Some (line.Stroke s)
+    → IsPaintedTo p.script p.donation p.plan (p.next + 1) sight
     → sight ≡ with_words (λ words. words_after p.script p.donation (p.next + 1)) p.sight
-    → IsPass (record p { next = p.next + 1; sight = sight; stand = stand }) share
-pass_stroke p share s sight stand is at painted set =
+    → IsPass (record p { next = p.next + 1; sight = sight; stand = stand }) share spare
+pass_stroke p share spare s sight stand is at painted set =
     record {
       number = is.number;
       counted = is.counted ∙ sym (unserved_line p.script p.next (line.Stroke s) at refl);
@@ -103,6 +118,11 @@ pass_stroke p share s sight stand is at painted set =
       inked = ap (λ (g : Sight). g.ink) set ∙ is.inked;
       told = ap (λ (g : Sight). g.words) set ∙ ap (option_map (λ words. words_after p.script p.donation (p.next + 1)))
           is.told;
+      not_ahead = is.not_ahead;
+      agreed = rw set is.agreed;
+      stretch = λ same. rw set (stretch_on p.script p.donation p.next p.sight.stages s at (is.stretch same));
+      spare_owner = is.spare_owner;
+      spare_size = is.spare_size ∙ sym (ap (λ (g : Sight). g.size) set);
     }
 
 -- the end of a phase of the user's was served
@@ -136,7 +156,7 @@ pub room_phase : {r : RoomModel} {sid next : ℕ} {script : List Line} → IsRoo
 room_phase {r = r} {sid = sid} {next = next} {script = script} room at ready =
     let n = length r.parts.scripts in
     let then = after_arrival n r.phase r.arrived in
-    room_turned (raised r.counts sid) then.0 then.1 room (still_open room at)
+    room_turned (raised r.counts sid) then.0 then.1 room (still_open room at) (not_back n r.phase r.arrived)
     (follows_phase room.follows at then.0 refl (not_back n r.phase r.arrived))
     (phase_ended n (ended_long r.parts.scripts r.parts.input r.counts room.follows.each)
     (client_ends r.parts.input room.follows.each at) (sym ready)
@@ -159,7 +179,7 @@ pub room_user_phase : {r : RoomModel} {next : ℕ} → IsRoom r
 room_user_phase {r = r} {next = next} room at ready =
     let n = length r.parts.scripts in
     let then = after_arrival n r.phase r.arrived in
-    room_turned (raised r.counts n) then.0 then.1 room (user_open room at)
+    room_turned (raised r.counts n) then.0 then.1 room (user_open room at) (not_back n r.phase r.arrived)
     (follows_user_phase room.follows at then.0 refl (not_back n r.phase r.arrived))
     (phase_ended n (ended_long r.parts.scripts r.parts.input r.counts room.follows.each)
     (user_ends room.follows.each at) (sym ready)

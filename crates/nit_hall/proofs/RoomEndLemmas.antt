@@ -18,10 +18,14 @@ use Rattle.nit_hall.proofs.Basics.{words_after, words_left, words_left_in, zero_
 use Rattle.std.proofs.Common.{suc, sym, take, zero, zero-add, ℕ, ◌++◌, ◌+◌, ◌<◌}
 use Rattle.std.proofs.Common.{◌∙◌, ◌∷◌, ◌≡◌, ◌≤◌}
 use Rattle.nit_events.specs.declared.entry.Entry.TheVariants as entry
-use Rattle.nit_hall.proofs.FinalEntries.{without-append}
+use Rattle.nit_hall.proofs.FinalEntries.{open_whole, without-append}
 use Rattle.nit_hall.proofs.NearLemmas.{AreInks, ink_behind, ink_inside, told_word}
+use Rattle.nit_hall.proofs.Basics.{AreWatching, Call, calls_in, calls_of, calls_of-append}
+use Rattle.nit_hall.proofs.NearLemmas.{ShowsThen}
+use Rattle.nit_hall.proofs.RoomSteps.{inks_before, legal_then, near_then, room_grown, room_then}
+use Rattle.nit_hall.proofs.ServedCalls.{calls_made}
+use Rattle.nit_hall.proofs.WatchedWords.{lens_shows, told_shows}
 use Rattle.nit_hall.proofs.HistoryLemmas.{goes_no_further}
-use Rattle.nit_hall.proofs.RoomSteps.{inks_before, room_then, room_grown, near_then}
 use Rattle.nit_scene.specs.Scene.{IsAdded}
 
 -- ---- a list that is changed in place
@@ -221,6 +225,47 @@ pub booked_still : (old new : SceneModel End) → new.entries ≡ old.entries ++
 booked_still old new recorded = sym (append-nil (without_final old.entries))
     ∙ sym (without-append old.entries (entry.Final ∷ [])) ∙ ap without_final (sym recorded)
 
+-- a journal with the last picture is not open
+not_open : (es : List Entry) → IsOpen (es ++ entry.Final ∷ []) → ⊥
+not_open [] o = o
+not_open (entry.Call sid c r ∷ es) o = not_open es o
+not_open (entry.Input dev routed ∷ es) o = not_open es o
+not_open (entry.Shot number ∷ es) o = not_open es o
+not_open (entry.Final ∷ es) o = o
+
+-- what the passes show in the last picture was left by all their lines
+ends_show : EntryLaws → {r : RoomModel} {new : SceneModel End} {ps : List PassModel} → IsRoom r
+    → IsOpen r.scene.entries → AreKnown r ps → IsAdded r.scene new entry.Final
+    → ShowsThen r.scene.config r.parts.scripts r.phase r.scene.entries entry.Final
+    (glass_in (map (λ (q : PassModel). q.sight) ps))
+ends_show laws {r = r} {ps = ps} room o are added t i w loaded = elim (cases_lt t (length r.parts.scripts)) [
+  | inl inside ↦
+      let there = pass_there t are inside in
+      let p = there.p in
+      let script : script_in r.parts.scripts t ≡ p.script = there.script in
+      let paid : p.donation ≡ donation_of r.scene.config t = there.is.belongs.donation
+      ∙ ap (donation_of r.parts.config) there.is.number
+      ∙ ap (λ (c : Configuration). donation_of c t) (sym room.config) in
+      let made : calls_of t (r.scene.entries ++ entry.Final ∷ []) ≡ calls_in (take p.next p.script) =
+      calls_of-append t r.scene.entries (entry.Final ∷ []) ∙ append-nil (calls_of t r.scene.entries)
+      ∙ ap (calls_of t) (sym (open_whole r.scene.entries o))
+      ∙ calls_made r t p.next p.script room
+      (ap (slice_get r.parts.scripts) (sym there.is.number) ∙ there.is.belongs.script) there.known.counted in
+      told_shows r.scene.config r.parts.scripts r.phase (r.scene.entries ++ entry.Final ∷ []) t p.next _
+      (ap (λ (g : Sight). g.words) there.sight ∙ there.known.told
+      ∙ ap₂ (λ (ls : List Line) (d : ℕ). Some (words_after ls d p.next)) (sym script) paid)
+      (record {
+        calls = ap (λ (ls : List Line). length (calls_in (take p.next ls))) script
+            ∙ ap (λ (cs : List Call). length cs) (sym made);
+        phases = λ still. absurd (not_open r.scene.entries still);
+      }) i w loaded
+  | inr past ↦ lens_shows r.scene.config r.parts.scripts r.phase r.scene.entries entry.Final t _
+      (legal_then laws room o added)
+      (room.sessions ∙ ap (λ (c : Configuration). length c.clients) (sym room.config))
+      (rw room.config (inks_of are t))
+      (λ inside. absurd (omega (arith, inside, past))) refl i w loaded
+]
+
 pub room_ended : EntryLaws → {r : RoomModel} {new : SceneModel End} {ps : List PassModel} {glasses' : ℕ → Sight}
     → IsRoom r → IsOpen r.scene.entries → AreKnown r ps → AllServed r.parts.scripts r.parts.input r.counts
     → IsEnded r.scene new (map (λ (q : PassModel). q.sight) ps) glasses'
@@ -228,9 +273,14 @@ pub room_ended : EntryLaws → {r : RoomModel} {new : SceneModel End} {ps : List
 room_ended laws {r = r} {new = new} room o are all ended =
     let same = booked_still r.scene new ended.added.recorded in
     room_grown laws room o ended.added r.raws r.counts (goes_no_further room ended.added.recorded same)
-    (near_then laws room o ended.added (rw room.config (inks_of are)) (λ t call rep same. absurd cc) ended.painted)
+    (near_then laws room o ended.added (ends_show laws room o are ended.added) (λ t call rep same. absurd cc)
+    ended.painted)
     (subst (λ (gs : List End). HaveInks r.scene.config r.parts.scripts gs) (sym ended.same)
     (inks_before laws room o ended.added))
+    (subst (λ (gs : List End). AreWatching r.parts.scripts r.scene.config (without_final new.entries) r.phase gs)
+    (sym ended.same) (rw room.config (subst
+    (λ (js : List Entry). AreWatching r.parts.scripts r.parts.config js r.phase r.scene.glasses)
+    (booked_still r.scene new ended.added.recorded) room.watching)))
     (subst (λ (js : List Entry). Follows r.parts.scripts r.parts.input r.counts r.phase js)
     same room.follows) room.phases (inr all)
 

@@ -14,7 +14,7 @@ use Rattle.nit_hall.proofs.Basics.{get_or, get_or-replicate, get_or_default, get
 use Rattle.nit_hall.proofs.Basics.{get_or_past, glass_in, has_stages, inl, inr, length, length-map}
 use Rattle.nit_hall.proofs.Basics.{length-replicate, lines_of_all, lines_of_clips, map, new_sight}
 use Rattle.nit_hall.proofs.Basics.{no_sight, none-some, option_map, parts_of, phases_before, pixel}
-use Rattle.nit_hall.proofs.Basics.{plan_in, reader_sight, refl, replicate, replicate_more}
+use Rattle.nit_hall.proofs.Basics.{plan_in, refl, replicate, replicate_more}
 use Rattle.nit_hall.proofs.Basics.{same_Some, script_in, served, slice_get, slice_get-map}
 use Rattle.nit_hall.proofs.Basics.{slice_index, slice_index_or, subst, suc, sum, sum_by-cons, sym}
 use Rattle.nit_hall.proofs.Basics.{take, take_all, take_at, user_actions_in}
@@ -23,13 +23,16 @@ use Rattle.std.proofs.Common.{zero, ℕ, ⊎_elim, ◌*◌, ◌++◌, ◌+◌, �
 use Rattle.nit_hall.proofs.Basics.{AreLast, entries_in, raws_in}
 use Rattle.nit_hall.proofs.HistoryLemmas.{history_begun, last_begun}
 use Rattle.nit_hall.proofs.LineLemmas.{item_there}
+use Rattle.nit_hall.proofs.Basics.{AreAgreed, AreBegun, AreWatching, BufferName, stretch, watching_sight}
+use Rattle.nit_hall.proofs.Basics.{slice_get_within, with_stages}
 use Rattle.nit_hall.proofs.NearLemmas.{ink_behind, ink_inside}
+use Rattle.nit_hall.proofs.Stretches.{stretch_begun}
 use Rattle.nit_hall.proofs.Phases.{phases_begun}
 
 pub near_begun : (config : Configuration) (scripts : List (List Line))
-    → AreNear config scripts [] (replicate (config.width * config.height) bare_word)
+    → AreNear config scripts 0 [] (replicate (config.width * config.height) bare_word)
 near_begun config scripts k inside =
-    subst (λ (x : PixelSource). IsNearBy config scripts [] k x
+    subst (λ (x : PixelSource). IsNearBy config scripts 0 [] k x
     (slice_index_or (replicate (config.width * config.height) bare_word) k 0))
     (sym (bare_everywhere config (pixel config.width k)))
     (get_or-replicate (config.width * config.height) k bare_word 0 inside)
@@ -85,9 +88,10 @@ pub room_begun : (r : RoomModel) → r.scene.config ≡ r.parts.config
     → r.scene.spare ≡ lines_of_all r.parts.scripts r.parts.input + 1
     → r.scene.raw ≡ replicate (r.scene.config.width * r.scene.config.height) bare_word
     → HaveInks r.scene.config r.parts.scripts r.scene.glasses
+    → AreWatching r.parts.scripts r.scene.config [] 0 r.scene.glasses
     → r.counts ≡ replicate (length r.parts.scripts + 1) 0 → r.phase ≡ 0 → r.arrived ≡ 0 → NoClips → r.parts.clips ≡ []
     → r.clips ≡ record { entries = []; spare = 0 } → r.clip_counts ≡ [] → r.raws ≡ [] → IsRoom r
-room_begun r config each few empty spare raw inks counts first none no_clips none_is list no_counts no_raws =
+room_begun r config each few empty spare raw inks watching counts first none no_clips none_is list no_counts no_raws =
     let zeros_ : (k : ℕ) → slice_index r.counts k ≡ 0 = zero_counts (length r.parts.scripts + 1) r.counts counts in
     let long : length r.counts ≡ length r.parts.scripts + 1 = ap length counts
     ∙ length-replicate (length r.parts.scripts + 1) 0 in
@@ -99,8 +103,9 @@ room_begun r config each few empty spare raw inks counts first none no_clips non
       follows = rw (empty, first) (follows_begun r.parts.scripts r.parts.input r.counts long zeros_);
       phases = rw (first, none) (phases_begun r.parts.scripts r.parts.input r.counts long zeros_);
       inks = rw (← config) inks;
-      near = subst (λ (c : Configuration). AreNear c r.parts.scripts r.scene.entries r.scene.raw) config
-          (rw (empty, raw) (near_begun r.scene.config r.parts.scripts));
+      watching = rw (← config, empty, first) watching;
+      near = subst (λ (c : Configuration). AreNear c r.parts.scripts r.phase r.scene.entries r.scene.raw) config
+          (rw (empty, raw, first) (near_begun r.scene.config r.parts.scripts));
       room = let n = ap length empty in omega (arith, n, spare);
       ended = inl (rw empty tt);
       clips_follow = subst (λ (cs : List ℕ). FollowsClips r.parts cs r.scene.entries r.clips)
@@ -115,10 +120,12 @@ room_begun r config each few empty spare raw inks counts first none no_clips non
 
 -- ---- a pass
 
-pub pass_begun : (p : PassModel) (share : ShareModel) → IsDonation p.donation → IsPlanOf p.script p.donation p.plan
-    → p.sight ≡ new_sight p.sid p.script p.donation → p.next ≡ 0 → p.phase ≡ 0 → p.seen ≡ []
-    → share.number ≡ p.sid → share.count ≡ 0 → IsPass p share
-pass_begun p share opens of is none first empty number count =
+pub pass_begun : (p : PassModel) (share : ShareModel) (spare : End) → IsDonation p.donation
+    → IsPlanOf p.script p.donation p.plan
+    → p.sight ≡ with_stages (stretch p.script p.donation 0) (new_sight p.sid p.script p.donation) → p.next ≡ 0
+    → p.phase ≡ 0 → p.met ≡ 0 → p.seen ≡ [] → share.number ≡ p.sid → share.count ≡ 0 → spare.sight.owner ≡ p.sid
+    → spare.sight.size ≡ p.sight.size → IsPass p share spare
+pass_begun p share spare opens of is none first met empty number count owner size =
     let told : p.sight.words ≡ Some (words_after p.script p.donation p.next) = ap (λ (g : Sight). g.words) is
     ∙ ap (λ (n : ℕ). Some (words_after p.script p.donation n)) (sym none) in
     record {
@@ -139,11 +146,16 @@ pass_begun p share opens of is none first empty number count =
       };
       inked = ap (λ (g : Sight). g.ink) is;
       told = told;
+      not_ahead = omega (arith, met);
+      agreed = rw is refl;
+      stretch = λ same. rw (none, is) (stretch_begun p.script p.donation 0 _ refl);
+      spare_owner = owner;
+      spare_size = size;
     }
 
 -- ---- passes one after the other
 
-get_push : {A : Type 0} (xs : List A) (k : ℕ) (x y : A) → slice_get (xs ++ y ∷ []) k ≡ Some x
+pub get_push : {A : Type 0} (xs : List A) (k : ℕ) (x y : A) → slice_get (xs ++ y ∷ []) k ≡ Some x
     → (slice_get xs k ≡ Some x) ⊎ ((k ≡ length xs) × (y ≡ x))
 get_push [] zero x y e = inr (refl, same_Some y x e)
 get_push [] (suc k) x y e = absurd (none-some x e)
@@ -168,33 +180,50 @@ each_more parts canvases k ps qs p c pushed long at is all j q e =
     (subst (λ (y : PassModel). IsFirst parts canvases k y) x.1 (c, at, is)))
     (get_push ps j q p (ap (λ (xs : List PassModel). slice_get xs j) (sym pushed) ∙ e))
 
+-- the donation of the client of this number, in the configuration's clients
+pub donation_at : (config : Configuration) (clients : List Member) (k : ℕ) (m : Member) → clients ≡ config.clients
+    → k < length clients → (get_or clients k m).donation ≡ donation_of config k
+donation_at config clients k m is inside =
+    let nobody : Member = record { label = []; donation = 0; script = []; layer = 0; clicks = false } in
+    ap (λ (x : Member). x.donation)
+    (get_or_default clients k m nobody inside ∙ ap (λ (ms : List Member). get_or ms k nobody) is)
+
 -- the pass of a client, by what stands at its number
 pub pass_at : (name name' : BookName) (config : Configuration) (clients : List Member) (scripts : List (List Line))
-    (plans : List PlanModel) (input : List InputLine) (k : ℕ) (script : List Line) (plan : PlanModel) (m : Member)
-    (share : ShareModel) (c : End) (p : PassModel)
+    (plans : List PlanModel) (buffers : List BufferName) (input : List InputLine) (k : ℕ) (script : List Line)
+    (plan : PlanModel) (m : Member)
+    (share : ShareModel) (c x : End) (blank : Sight) (p : PassModel)
+    → x ≡ c → c.sight ≡ with_stages (stretch (script_in scripts k) (donation_of config k) 0) blank
     → k < length scripts → k < length plans → k < length clients → clients ≡ config.clients
     → share ≡ record { name = name'; number = k; count = 0; seen = [] } → name' ≡ name
-    → p ≡ record (first_pass (parts_of name config scripts plans input) k c) {
+    → p ≡ record (first_pass (parts_of name config scripts plans buffers input) k c) {
       name = share.name;
       script = get_or scripts k script;
       plan = get_or plans k plan;
       donation = (get_or clients k m).donation;
       seen = entries_in share.seen;
-    } → p ≡ first_pass (parts_of name config scripts plans input) k c
-pass_at name name' config clients scripts plans input k script plan m share c p hs hp hm ec eh en is =
+      sight = x.sight;
+      stand = x.stand;
+    } → p ≡ first_pass (parts_of name config scripts plans buffers input) k c
+pass_at name name' config clients scripts plans buffers input k script plan m share c x blank p ex begun hs hp hm ec
+    eh en
+    is =
     let s : get_or scripts k script ≡ script_in scripts k = get_or_default scripts k script [] hs in
     let q : get_or plans k plan ≡ plan_in plans k = get_or_default plans k plan (record { steps = []; ink = [] }) hp in
-    let nobody : Member = record { label = []; donation = 0; script = []; layer = 0; clicks = false } in
-    let n : (get_or clients k m).donation ≡ donation_of config k = ap (λ (x : Member). x.donation)
-    (get_or_default clients k m nobody hm ∙ ap (λ (ms : List Member). get_or ms k nobody) ec) in
+    let n : (get_or clients k m).donation ≡ donation_of config k = donation_at config clients k m ec hm in
     let named : share.name ≡ name = ap (λ (x : ShareModel). x.name) eh ∙ en in
     let known : entries_in share.seen ≡ [] = ap (λ (x : ShareModel). entries_in x.seen) eh in
-    is ∙ (λ i. record (first_pass (parts_of name config scripts plans input) k c) {
+    let first = stretch (script_in scripts k) (donation_of config k) 0 in
+    let agreed : x.sight ≡ with_stages first c.sight = ap (λ (e : End). e.sight) ex ∙ begun
+    ∙ sym (ap (with_stages first) begun) in
+    is ∙ (λ i. record (first_pass (parts_of name config scripts plans buffers input) k c) {
       name = named i;
       script = s i;
       plan = q i;
       donation = n i;
       seen = known i;
+      sight = agreed i;
+      stand = ap (λ (e : End). e.stand) ex i;
     })
 
 -- one more count of 0
@@ -205,25 +234,26 @@ zeros_push n m cs ds is all more = is ∙ ap (λ (xs : List ℕ). xs ++ 0 ∷ []
 -- ---- the readers' ends
 
 lens_at : (config : Configuration) (scripts : List (List Line)) (canvases lenses : List End) (t : ℕ)
-    → AreBlank config scripts canvases → AreSplitOff canvases lenses → t < length config.clients
+    → AreBlank config scripts canvases → AreSplitOff config scripts canvases lenses → t < length config.clients
     → glass_in (map (λ (e : End). e.sight) lenses) t
-    ≡ reader_sight (new_sight t (script_in scripts t) (donation_of config t))
+    ≡ watching_sight (stretch (script_in scripts t) (donation_of config t) 0)
+    (new_sight t (script_in scripts t) (donation_of config t))
 lens_at config scripts canvases lenses t b are h =
     let at = item_there canvases t (let n = b.canvas_each in omega (arith, n, h)) in
-    ap (λ (gs : List Sight). glass_in gs t) are.sights
-    ∙ get_or_from_slice_get (map (λ (e : End). reader_sight e.sight) canvases) t (reader_sight at.0.sight) no_sight
-    (slice_get-map (λ (e : End). reader_sight e.sight) canvases t
-    ∙ ap (λ (o : Option End). option_map (λ (e : End). reader_sight e.sight) o) at.1)
-    ∙ ap reader_sight (b.blank t at.0 at.1)
+    let here = item_there lenses t (let n = b.canvas_each in let m = are.each in omega (arith, n, m, h)) in
+    get_or_from_slice_get (map (λ (e : End). e.sight) lenses) t here.0.sight no_sight
+    (slice_get-map (λ (e : End). e.sight) lenses t
+    ∙ ap (λ (o : Option End). option_map (λ (e : End). e.sight) o) here.1)
+    ∙ are.sights t at.0 here.0 at.1 here.1
+    ∙ ap (watching_sight (stretch (script_in scripts t) (donation_of config t) 0)) (b.blank t at.0 at.1)
 
 lens_each : (config : Configuration) (scripts : List (List Line)) (canvases lenses : List End)
-    → AreBlank config scripts canvases → AreSplitOff canvases lenses → length lenses ≡ length config.clients
-lens_each config scripts canvases lenses b are = sym (length-map lenses (λ (e : End). e.sight))
-    ∙ ap (λ (gs : List Sight). length gs) are.sights ∙ length-map canvases (λ (e : End). reader_sight e.sight)
-    ∙ b.canvas_each
+    → AreBlank config scripts canvases → AreSplitOff config scripts canvases lenses
+    → length lenses ≡ length config.clients
+lens_each config scripts canvases lenses b are = are.each ∙ b.canvas_each
 
 pub lens_glasses : (config : Configuration) (scripts : List (List Line)) (canvases lenses : List End)
-    → AreBlank config scripts canvases → AreSplitOff canvases lenses
+    → AreBlank config scripts canvases → AreSplitOff config scripts canvases lenses
     → AreGlasses (λ (e : End). e.sight) config lenses
 lens_glasses config scripts canvases lenses b are = record {
   each = lens_each config scripts canvases lenses b are;
@@ -232,8 +262,8 @@ lens_glasses config scripts canvases lenses b are = record {
 }
 
 pub lens_inks : (config : Configuration) (scripts : List (List Line)) (canvases lenses : List End)
-    → length scripts ≡ length config.clients → AreBlank config scripts canvases → AreSplitOff canvases lenses
-    → HaveInks config scripts lenses
+    → length scripts ≡ length config.clients → AreBlank config scripts canvases
+    → AreSplitOff config scripts canvases lenses → HaveInks config scripts lenses
 lens_inks config scripts canvases lenses sessions b are t = elim (cases_lt t (length config.clients)) [
   | inl inside ↦ ap (λ (g : Sight). g.ink) (lens_at config scripts canvases lenses t b are inside)
       ∙ ink_inside config scripts t _ _ (omega (arith, sessions, inside)) refl refl
@@ -245,6 +275,29 @@ lens_inks config scripts canvases lenses sessions b are t = elim (cases_lt t (le
       ap (λ (g : Sight). g.ink) none
       ∙ ink_behind config scripts t (omega (arith, sessions, past))
 ]
+
+-- the readers' ends know the first stretch
+pub lenses_watch : (config : Configuration) (scripts : List (List Line)) (canvases lenses : List End)
+    → length scripts ≡ length config.clients → AreBlank config scripts canvases
+    → AreSplitOff config scripts canvases lenses → AreWatching scripts config [] 0 lenses
+lenses_watch config scripts canvases lenses sessions b are t inside = record {
+  since = 0;
+  stages_are = ap (λ (g : Sight). g.stages)
+      (lens_at config scripts canvases lenses t b are (omega (arith, sessions, inside)));
+  behind = refl;
+  begun = omega arith;
+}
+
+-- a canvas that was blank and agrees on the first stretch
+pub begun_canvases : (config : Configuration) (scripts : List (List Line)) (before after' : List End)
+    → AreBlank config scripts before → AreAgreed config scripts before after' → AreBegun config scripts after'
+begun_canvases config scripts before after' b are = record {
+  canvas_each = are.each ∙ b.canvas_each;
+  begun = λ k c at.
+      let was = item_there before k (let n = are.each in omega (arith, n, slice_get_within after' k c at)) in
+      ap (λ (e : End). e.sight) (are.agreed k was.0 c was.1 at)
+      ∙ ap (with_stages (stretch (script_in scripts k) (donation_of config k) 0)) (b.blank k was.0 was.1);
+}
 
 -- ---- clip passes
 
@@ -282,6 +335,7 @@ room_with_clips none r scripts room = record {
   follows = room.follows;
   phases = room.phases;
   inks = room.inks;
+  watching = room.watching;
   near = room.near;
   room = room.room;
   ended = room.ended;

@@ -2,13 +2,18 @@
 use Rattle.nit_hall.proofs.Basics.{AllServed, AreNear, Configuration, End, Entry, EntryLaws}
 use Rattle.nit_hall.proofs.Basics.{Follows, HaveInks, IsLegal, IsOpen, IsRoom, IsServedPhase, List}
 use Rattle.nit_hall.proofs.Basics.{Painted, RoomModel, SceneModel, Sight, [], after, ap, arith}
-use Rattle.nit_hall.proofs.Basics.{first_state, inl, length, length-append, phases_ended, refl}
+use Rattle.nit_hall.proofs.Basics.{buffers_of, first_state, inl, length, length-append, phases_ended, refl}
 use Rattle.nit_hall.proofs.Basics.{replay, state_now, subst, sym, without_final, ℕ, ◌∙◌}
-use Rattle.std.proofs.Common.{◌++◌, ◌∷◌, ◌≡◌, ◌⊎◌}
+use Rattle.std.proofs.Common.{◌++◌, ◌∷◌, ◌≡◌, ◌≤◌, ◌⊎◌}
 use Rattle.nit_hall.proofs.ClipsStay.{clips_same, clips_then}
 use Rattle.nit_hall.proofs.FinalEntries.{open_whole}
 use Rattle.nit_hall.proofs.HistoryLemmas.{GoesOn}
-use Rattle.nit_hall.proofs.NearLemmas.{AreInks, TellsWords, near_painted}
+use Rattle.nit_hall.proofs.EndStages.{sights_of}
+use Rattle.nit_hall.proofs.NearLemmas.{ShowsThen, TellsWords, near_later, near_painted}
+use Rattle.nit_hall.proofs.WatchedWords.{WasLeft, lens_shows}
+use Rattle.nit_hall.proofs.Basics.{AreWatching, Call, IsLoaded, IsWatching, Line, Some, append-nil}
+use Rattle.nit_hall.proofs.Basics.{calls_of, calls_of-append, donation_of, glass_in, script_in, stretch}
+use Rattle.std.proofs.Common.{◌<◌}
 use Rattle.nit_hall.proofs.ScriptsFollowed.{entries_within}
 use Rattle.nit_scene.specs.Scene.{CanAdd, IsAdded}
 use mathlib.Core.List.{IsPrefix}
@@ -17,7 +22,7 @@ use mathlib.Core.List.{IsPrefix}
 abbrev pub room_then : RoomModel → SceneModel End → List (List ℕ) → List ℕ → ℕ → ℕ → RoomModel
 room_then r scene raws counts phase arrived =
     record r {
-      parts = record r.parts { config = scene.config };
+      parts = record r.parts { config = scene.config; buffers = buffers_of scene.glasses };
       scene = scene;
       counts = counts;
       phase = phase;
@@ -60,29 +65,65 @@ module _ (laws : EntryLaws) {r : RoomModel} {new : SceneModel End} {e : Entry} (
   pub legal_then : IsLegal r.scene.config (r.scene.entries ++ e ∷ [])
   legal_then = rw (added.config, added.recorded) at added.legal
 
-  pub near_before : AreNear r.scene.config r.parts.scripts r.scene.entries r.scene.raw
+  pub near_before : AreNear r.scene.config r.parts.scripts r.phase r.scene.entries r.scene.raw
   near_before = rw room.config room.near
 
   pub inks_before : HaveInks r.scene.config r.parts.scripts r.scene.glasses
   inks_before = rw room.config room.inks
 
+  -- what is loaded through a session's own reader's end was left by lines that it may have done
+  pub lenses_show : (t : ℕ) → calls_of t (e ∷ []) ≡ [] → (i w : ℕ)
+      → IsLoaded (glass_in (sights_of r.scene.glasses) t) i w
+      → WasLeft r.scene.config r.parts.scripts r.phase t (r.scene.entries ++ e ∷ []) i w
+  lenses_show t none i w loaded = lens_shows r.scene.config r.parts.scripts r.phase r.scene.entries e t _ legal_then
+      (room.sessions ∙ ap (λ (c : Configuration). length c.clients) (sym room.config)) (inks_before t)
+      (λ inside. rw (room.config, ← open_whole r.scene.entries o) (room.watching t inside)) none i w loaded
+
+  -- the reader's end of a session that knows the stages that it knew is where it was, if the entry is no call of it
+  pub watching_other : (t : ℕ) → t < length r.parts.scripts → IsOpen new.entries
+      → (glass_in (sights_of new.glasses) t).stages ≡ (glass_in (sights_of r.scene.glasses) t).stages
+      → calls_of t (e ∷ []) ≡ []
+      → IsWatching (script_in r.parts.scripts t) (donation_of r.scene.config t)
+      (length (calls_of t (without_final new.entries))) r.phase (glass_in (sights_of new.glasses) t)
+  watching_other t inside is same none =
+      let w = room.watching t inside in
+      let calls : calls_of t (without_final new.entries) ≡ calls_of t (without_final r.scene.entries) =
+      ap (calls_of t) (sym (booked_more o is added)) ∙ calls_of-append t (without_final r.scene.entries) (e ∷ [])
+      ∙ ap (λ (cs : List Call). calls_of t (without_final r.scene.entries) ++ cs) none ∙ append-nil _ in
+      record {
+        since = w.since;
+        stages_are = same ∙ w.stages_are ∙ ap (λ (c : Configuration).
+            Some (stretch (script_in r.parts.scripts t) (donation_of c t) w.since)) (sym room.config);
+        behind = w.behind ∙ sym (ap (λ (cs : List Call). length cs) calls);
+        begun = w.begun;
+      }
+
   -- each pixel that the entry marks is loaded by these glasses
-  pub near_then : {glasses glasses' : ℕ → Sight} → AreInks r.scene.config r.parts.scripts glasses
+  pub near_then : {glasses glasses' : ℕ → Sight}
+      → ShowsThen r.scene.config r.parts.scripts r.phase r.scene.entries e glasses
       → TellsWords r.scene.config r.parts.scripts r.scene.entries e glasses
       → Painted (state_now r.scene) e (state_now new) glasses glasses' r.scene.raw new.raw
-      → AreNear r.scene.config r.parts.scripts (r.scene.entries ++ e ∷ []) new.raw
-  near_then {glasses = glasses} {glasses' = glasses'} inks tells painted =
-      near_painted laws r.scene.config r.parts.scripts r.scene.entries e (state_now new) glasses glasses' r.scene.raw
-      new.raw legal_then (state_later laws added) inks tells painted near_before
+      → AreNear r.scene.config r.parts.scripts r.phase (r.scene.entries ++ e ∷ []) new.raw
+  near_then {glasses = glasses} {glasses' = glasses'} shows tells painted =
+      near_painted laws r.scene.config r.parts.scripts r.phase r.scene.entries e (state_now new) glasses glasses'
+      r.scene.raw new.raw legal_then (state_later laws added) shows tells painted near_before
+
+  -- the readers' ends know what they did, where each session for which the entry is a call is left out
+  pub watching_still : IsOpen new.entries
+      → ((t : ℕ) → (glass_in (sights_of new.glasses) t).stages ≡ (glass_in (sights_of r.scene.glasses) t).stages)
+      → ((t : ℕ) → calls_of t (e ∷ []) ≡ [])
+      → AreWatching r.parts.scripts r.scene.config (without_final new.entries) r.phase new.glasses
+  watching_still is same none t inside = watching_other t inside is (same t) (none t)
 
   pub room_grown : (raws : List (List ℕ)) (counts : List ℕ) → GoesOn r.scene.config new raws
-      → AreNear r.scene.config r.parts.scripts (r.scene.entries ++ e ∷ []) new.raw
+      → AreNear r.scene.config r.parts.scripts r.phase (r.scene.entries ++ e ∷ []) new.raw
       → HaveInks r.scene.config r.parts.scripts new.glasses
+      → AreWatching r.parts.scripts r.scene.config (without_final new.entries) r.phase new.glasses
       → Follows r.parts.scripts r.parts.input counts r.phase (without_final new.entries)
       → IsServedPhase r.phase r.arrived (phases_ended r.parts.scripts r.parts.input counts)
       → IsOpen new.entries ⊎ AllServed r.parts.scripts r.parts.input counts
       → IsRoom (room_then r new raws counts r.phase r.arrived)
-  room_grown raws counts went near inks follows phases ended = record {
+  room_grown raws counts went near inks watching follows phases ended = record {
     config = refl;
     legal = added.legal;
     sessions = room.sessions ∙ ap (λ (c : Configuration). length c.clients) (sym room.config ∙ sym added.config);
@@ -90,6 +131,7 @@ module _ (laws : EntryLaws) {r : RoomModel} {new : SceneModel End} {e : Entry} (
     follows = follows;
     phases = phases;
     inks = rw added.config inks;
+    watching = rw added.config watching;
     near = rw (added.config, added.recorded) near;
     room = let sum = room.room in let rec_ = ap length added.recorded in let sp = added.spare in let left =
         (can_add room o).spare in omega (arith, sum, rec_, sp, left, length-append r.scene.entries (e ∷ []));
@@ -99,12 +141,26 @@ module _ (laws : EntryLaws) {r : RoomModel} {new : SceneModel End} {e : Entry} (
     history_ends = rw added.config went.ends;
   }
 
+-- when more phases are ended the readers' ends know what they did
+pub watching_later : (scripts : List (List Line)) (config : Configuration) (entries : List Entry) (ended later : ℕ)
+    (ends : List End) → ended ≤ later → AreWatching scripts config entries ended ends
+    → AreWatching scripts config entries later ends
+watching_later scripts config entries ended later ends risen watching t inside =
+    let w = watching t inside in
+    record {
+      since = w.since;
+      stages_are = w.stages_are;
+      behind = w.behind;
+      begun = let b = w.begun in omega (arith, b, risen);
+    }
+
 -- one more actor has ended its phase
 pub room_turned : {r : RoomModel} (counts : List ℕ) (phase arrived : ℕ) → IsRoom r → IsOpen r.scene.entries
+    → r.phase ≤ phase
     → Follows r.parts.scripts r.parts.input counts phase (without_final r.scene.entries)
     → IsServedPhase phase arrived (phases_ended r.parts.scripts r.parts.input counts)
     → IsRoom (room_then r r.scene r.raws counts phase arrived)
-room_turned {r = r} counts phase arrived room o follows phases = record {
+room_turned {r = r} counts phase arrived room o risen follows phases = record {
   config = refl;
   legal = rw room.config room.legal;
   sessions = room.sessions ∙ ap (λ (c : Configuration). length c.clients) (sym room.config);
@@ -112,10 +168,13 @@ room_turned {r = r} counts phase arrived room o follows phases = record {
   follows = follows;
   phases = phases;
   inks = rw room.config room.inks;
-  near = rw room.config room.near;
+  watching = rw room.config (watching_later r.parts.scripts r.parts.config (without_final r.scene.entries) r.phase phase
+      r.scene.glasses risen room.watching);
+  near = rw room.config (near_later r.parts.config r.parts.scripts r.phase phase r.scene.entries r.scene.raw risen
+      room.near);
   room = room.room;
   ended = inl o;
-  clips_follow = clips_same room;
+  clips_follow = clips_same r.scene refl room;
   history = rw room.config room.history;
   history_ends = rw room.config room.history_ends;
 }

@@ -18,11 +18,18 @@ use Rattle.nit_script.specs.declared.line.Line.TheVariants as line
 use Rattle.nit_hall.proofs.LineLemmas.{counted_same, served_counted, calls_front, calls_line}
 use Rattle.nit_hall.proofs.LineLemmas.{line_counted}
 use Rattle.nit_hall.proofs.FinalEntries.{open_whole}
-use Rattle.nit_hall.proofs.NearLemmas.{AreInks, TellsWords, ink_inside}
+use Rattle.nit_hall.proofs.Basics.{AreWatching, HaveInks, IsLoaded, IsWatching, stretch}
+use Rattle.nit_hall.proofs.Basics.{with_end_stages, with_stages}
+use Rattle.nit_hall.proofs.EndStages.{other_end, own_end, same_ink}
+use Rattle.nit_hall.proofs.NearLemmas.{AreInks, ShowsThen, TellsWords}
+use Rattle.nit_hall.proofs.RoomSteps.{booked_more, inks_before, lenses_show, near_then, room_grown}
+use Rattle.nit_hall.proofs.RoomSteps.{room_then, watching_other}
+use Rattle.nit_hall.proofs.Stretches.{stretch_begun}
+use Rattle.nit_hall.proofs.WatchedWords.{WasLeft, told_shows}
+use Rattle.std.proofs.Common.{◌<◌}
 use Rattle.nit_hall.proofs.HistoryLemmas.{clean_painted, goes_on}
-use Rattle.nit_hall.proofs.RoomSteps.{inks_before, room_then, room_grown, near_then, booked_more}
 use Rattle.nit_hall.proofs.RoomSteps.{state_later}
-use Rattle.nit_hall.proofs.ScriptsFollowed.{IsNext, one_left, client_is, script_there, follows_call}
+use Rattle.nit_hall.proofs.ScriptsFollowed.{IsNext, one_left, client_is, follows_call}
 use Rattle.nit_hall.proofs.Phases.{client_ends, same_phase}
 
 -- ---- before it
@@ -63,10 +70,10 @@ calls_then {r = r} {sid = sid} {next = next} {script = script} {c = c} rep room 
 
 -- ---- the glasses of a call
 
-own_there : (glasses : List Sight) (sid : ℕ) (own : Sight) → glasses_of_call glasses sid own sid ≡ own
+pub own_there : (glasses : List Sight) (sid : ℕ) (own : Sight) → glasses_of_call glasses sid own sid ≡ own
 own_there glasses sid own = rw (eq-eqb sid sid refl) refl
 
-other_there : (glasses : List Sight) (sid : ℕ) (own : Sight) (t : ℕ) → t ≢ sid → glasses_of_call glasses sid own t
+pub other_there : (glasses : List Sight) (sid : ℕ) (own : Sight) (t : ℕ) → t ≢ sid → glasses_of_call glasses sid own t
     ≡ glass_in glasses t
 other_there glasses sid own t ne = rw (ne_eqb t sid ne) refl
 
@@ -140,36 +147,134 @@ phase_same : (script : List Line) (k : ℕ) (c : Call) → slice_get script k �
     → phases_before script (k + 1) ≡ phases_before script k
 phase_same script k c at = counted_same is_phase script k (line.Call c) at refl
 
-pub room_call : EntryLaws → {r : RoomModel} {new : SceneModel End} {sid next : ℕ} {script : List Line} {c : Call}
-    {rep : Reply} {own own' : Sight} → IsRoom r → IsNext r.parts.scripts r.counts sid next script (line.Call c)
-    → r.phase ≡ phases_before script next → IsCalled r.scene new sid c rep own own'
-    → own.ink ≡ script_ink script (donation_of r.scene.config sid)
-    → own.words ≡ Some (words_after script (donation_of r.scene.config sid) (next + 1))
-    → IsRoom (room_then r new (r.raws ++ new.raw ∷ []) (raised r.counts sid) r.phase r.arrived)
-room_call laws {r = r} {new = new} {sid = sid} {next = next} {script = script} {c = c} {rep = rep} {own = own}
-    {own' = own'} room at ready called inked told =
-    let old : SceneModel End = r.scene in
-    let scripts = r.parts.scripts in
-    let was_open : IsOpen old.entries = still_open room at in
-    let made : calls_of sid old.entries ≡ calls_in (take next script) =
-    ap (calls_of sid) (sym (open_whole old.entries was_open))
-    ∙ calls_made r sid next script room at.script_is at.counted in
-    let p = called.painted in
-    let inks = inks_before laws room was_open called.added in
-    room_grown laws room was_open called.added (r.raws ++ new.raw ∷ []) (raised r.counts sid)
-    (goes_on room was_open called.open_is called.added
-    (clean_painted old new (entry.Call sid c rep) (state_later laws called.added) p))
-    (near_then laws room was_open called.added
-    (inks_of_call old.config scripts (sights old) sid own inks (inked
-    ∙ ink_inside old.config scripts sid script _ (slice_get_within scripts sid script at.script_is) (script_there at)
-    refl))
-    (tells old.config scripts (sights old) old.entries sid next script c rep own at.script_is at.line_is made told) p)
-    (inks_after old.config scripts (sights old) (sights new) sid own own' inks (λ t.
-    (p.loads t, p.sights t)) called.idle)
-    (subst (λ (js : List Entry). Follows scripts r.parts.input (raised r.counts sid) r.phase js)
-    (booked_more was_open called.open_is called.added) (follows_call rep room.follows at ready))
-    (same_phase (client_ends r.parts.input room.follows.each at) (phase_same script next c at.line_is) room.phases)
-    (inl called.open_is)
+-- the scene where the end of this client knows these stages
+abbrev pub scene_with : SceneModel End → ℕ → List (List ℕ) → SceneModel End
+scene_with scene sid stages = record scene { glasses = with_end_stages sid stages scene.glasses }
+
+-- what is added to such a scene is added to the scene, also where that end knows others then
+pub added_with : {old new : SceneModel End} {e : Entry} (sid : ℕ) (before then : List (List ℕ))
+    → IsAdded (scene_with old sid before) new e → IsAdded old (scene_with new sid then) e
+added_with sid before then a = record {
+  recorded = a.recorded;
+  spare = a.spare;
+  config = a.config;
+  legal = a.legal;
+  alone = a.alone;
+  raw = a.raw;
+}
+
+-- The client's end knows the stages of the line before the call, and those of the stretch behind it afterwards.
+module _ (laws : EntryLaws) {r : RoomModel} {called : SceneModel End} {sid next : ℕ} {script : List Line} {c : Call}
+    {rep : Reply} {own own' : Sight} (stages : List (List ℕ)) (room : IsRoom r)
+    (at : IsNext r.parts.scripts r.counts sid next script (line.Call c))
+    (ready : r.phase ≡ phases_before script next)
+    (did : IsCalled (scene_with r.scene sid stages) called sid c rep own own')
+    (told : own.words ≡ Some (words_after script (donation_of r.scene.config sid) (next + 1))) where
+  abbrev pub later : SceneModel End
+  later = scene_with called sid (stretch script (donation_of r.scene.config sid) (next + 1))
+
+  was_open : IsOpen r.scene.entries
+  was_open = still_open room at
+
+  added : IsAdded r.scene later (entry.Call sid c rep)
+  added = added_with sid stages (stretch script (donation_of r.scene.config sid) (next + 1)) did.added
+
+  there : script_in r.parts.scripts sid ≡ script
+  there = get_or_from_slice_get r.parts.scripts sid script [] at.script_is
+
+  made : calls_of sid r.scene.entries ≡ calls_in (take next script)
+  made = ap (calls_of sid) (sym (open_whole r.scene.entries was_open))
+      ∙ calls_made r sid next script room at.script_is at.counted
+
+  made_then : calls_of sid (r.scene.entries ++ entry.Call sid c rep ∷ []) ≡ calls_in (take (next + 1) script)
+  made_then = ap (λ (js : List Entry). calls_of sid (js ++ entry.Call sid c rep ∷ []))
+      (sym (open_whole r.scene.entries was_open)) ∙ calls_then rep room at
+
+  ended_then : phases_before script (next + 1) ≡ r.phase
+  ended_then = phase_same script next c at.line_is ∙ sym ready
+
+  told_there : own.words ≡ Some (words_after (script_in r.parts.scripts sid) (donation_of r.scene.config sid)
+      (next + 1))
+  told_there = told
+      ∙ ap (λ (ls : List Line). Some (words_after ls (donation_of r.scene.config sid) (next + 1))) (sym there)
+
+  no_other_call : (t : ℕ) → t ≢ sid → calls_of t (entry.Call sid c rep ∷ []) ≡ []
+  no_other_call t ne = rw (ne_eqb sid t (λ e. ne (sym e))) refl
+
+  other_glass : (t : ℕ) → t ≢ sid → glasses_of_call (sights (scene_with r.scene sid stages)) sid own t
+      ≡ glass_in (sights r.scene) t
+  other_glass t ne = other_there (sights (scene_with r.scene sid stages)) sid own t ne
+      ∙ other_end sid stages r.scene.glasses t ne
+
+  shows : ShowsThen r.scene.config r.parts.scripts r.phase r.scene.entries (entry.Call sid c rep)
+      (glasses_of_call (sights (scene_with r.scene sid stages)) sid own)
+  shows t i w loaded = elim (cases_eq t sid) [
+    | inl e ↦ subst (λ (x : ℕ). WasLeft r.scene.config r.parts.scripts r.phase x
+        (r.scene.entries ++ entry.Call sid c rep ∷ []) i w) (sym e)
+        (told_shows r.scene.config r.parts.scripts r.phase _ sid (next + 1) own told_there (record {
+          calls = ap (λ (ls : List Line). length (calls_in (take (next + 1) ls))) there
+              ∙ ap (λ (cs : List Call). length cs) (sym made_then);
+          phases = λ still. let p = ended_then in let same = ap (λ (ls : List Line). phases_before ls
+              (next + 1)) there in
+              omega (arith, p, same);
+        }) i w (subst (λ (g : Sight). IsLoaded g i w) (ap (glasses_of_call (sights
+        (scene_with r.scene sid stages)) sid own) e
+        ∙ own_there (sights (scene_with r.scene sid stages)) sid own) loaded))
+    | inr ne ↦ lenses_show laws room was_open added t (no_other_call t ne) i w
+        (subst (λ (g : Sight). IsLoaded g i w) (other_glass t ne) loaded)
+  ]
+
+  later_inks : own.ink ≡ script_ink script (donation_of r.scene.config sid)
+      → HaveInks r.scene.config r.parts.scripts later.glasses
+  later_inks inked t =
+      same_ink sid (stretch script (donation_of r.scene.config sid) (next + 1)) called.glasses t
+      ∙ inks_after r.scene.config r.parts.scripts (sights (scene_with r.scene sid stages)) (sights called) sid own own'
+      (λ x. same_ink sid stages r.scene.glasses x ∙ inks_before laws room was_open added x)
+      (λ x. (did.painted.loads x, did.painted.sights x)) did.idle t
+
+  other_stages : (t : ℕ) → t ≢ sid
+      → (glass_in (sights later) t).stages ≡ (glass_in (sights r.scene) t).stages
+  other_stages t ne = ap (λ (g : Sight). g.stages)
+      (other_end sid (stretch script (donation_of r.scene.config sid) (next + 1)) called.glasses t ne
+      ∙ sym (other_there (sights called) sid own' t ne) ∙ did.painted.sights t)
+      ∙ ap (λ (g : Sight). g.stages) (other_glass t ne)
+
+  watching_then : sid < length called.glasses → AreWatching r.parts.scripts r.scene.config
+      (without_final later.entries) r.phase later.glasses
+  watching_then many t inside = elim (cases_eq t sid) [
+    | inl e ↦ subst (λ (x : ℕ). IsWatching (script_in r.parts.scripts x) (donation_of r.scene.config x)
+        (length (calls_of x (without_final later.entries))) r.phase (glass_in (sights later) x)) (sym e)
+        (record {
+          since = next + 1;
+          stages_are = ap (λ (g : Sight). g.stages) (own_end sid _ called.glasses many)
+              ∙ ap (λ (ls : List Line). Some (stretch ls (donation_of r.scene.config sid) (next + 1))) (sym there);
+          behind = ap (λ (ls : List Line). length (calls_in (take (next + 1) ls))) there
+              ∙ ap (λ (cs : List Call). length cs) (sym made_then
+              ∙ ap (calls_of sid) (sym did.added.recorded ∙ sym (open_whole called.entries did.open_is)));
+          begun = let p = ended_then in let same = ap (λ (ls : List Line). phases_before ls (next + 1)) there in
+              omega (arith, p, same);
+        })
+    | inr ne ↦ watching_other laws room was_open added t inside did.open_is (other_stages t ne) (no_other_call t ne)
+  ]
+
+  pub room_call : sid < length called.glasses → own.ink ≡ script_ink script (donation_of r.scene.config sid)
+      → IsRoom (room_then r later (r.raws ++ later.raw ∷ []) (raised r.counts sid) r.phase r.arrived)
+  room_call many inked =
+      room_grown laws room was_open added (r.raws ++ later.raw ∷ []) (raised r.counts sid)
+      (goes_on room was_open did.open_is added
+      (clean_painted r.scene later (entry.Call sid c rep) (state_later laws added) did.painted))
+      (near_then laws room was_open added shows
+      (tells r.scene.config r.parts.scripts (sights
+      (scene_with r.scene sid stages)) r.scene.entries sid next script c rep
+      own at.script_is at.line_is made told) did.painted)
+      (later_inks inked) (watching_then many)
+      (subst (λ (js : List Entry). Follows r.parts.scripts r.parts.input (raised r.counts sid) r.phase js)
+      (booked_more was_open did.open_is added) (follows_call rep room.follows at ready))
+      (same_phase (client_ends r.parts.input room.follows.each at) ended_same room.phases)
+      (inl did.open_is)
+    where
+      ended_same : phases_before script (next + 1) ≡ phases_before script next
+      ended_same = phase_same script next c at.line_is
 
 -- ---- the pass after it
 
@@ -179,12 +284,20 @@ still_painted : (script : List Line) (donation k : ℕ) (plan : PlanModel) (s : 
 still_painted script donation k plan s loads h =
     record { opens = h.opens; planned = h.planned; ink = h.ink; size = h.size; words = h.words }
 
+-- and so does one that knows other stages
+pub staged : (script : List Line) (donation k : ℕ) (plan : PlanModel) (s : Sight) (stages : List (List ℕ))
+    → IsPaintedTo script donation plan k s → IsPaintedTo script donation plan k (with_stages stages s)
+staged script donation k plan s stages h =
+    record { opens = h.opens; planned = h.planned; ink = h.ink; size = h.size; words = h.words }
+
 -- the sight after the line, and after what the call loaded
 pub record IsLoadedAfter (p : PassModel) (sight : Sight) : Type 0 where
   pub between : Sight
   pub loads : List (ℕ × ℕ)
   pub painted : IsPaintedTo p.script p.donation p.plan (p.next + 1) between
-  pub set : between ≡ with_words (λ words. words_after p.script p.donation (p.next + 1)) p.sight
+  pub stages : List (List ℕ)
+  pub set : between ≡ with_stages stages
+      (with_words (λ words. words_after p.script p.donation (p.next + 1)) p.sight)
   pub seen_is : sight ≡ seen between loads
 
 told_after : (p : PassModel) → p.sight.words ≡ Some (words_after p.script p.donation p.next)
@@ -192,23 +305,25 @@ told_after : (p : PassModel) → p.sight.words ≡ Some (words_after p.script p.
     ≡ Some (words_after p.script p.donation (p.next + 1))
 told_after p told = ap (option_map (λ words. words_after p.script p.donation (p.next + 1))) told
 
-pub told_between : (p : PassModel) (share : ShareModel) (between : Sight) → IsPass p share
-    → between ≡ with_words (λ words. words_after p.script p.donation (p.next + 1)) p.sight
+pub told_between : (p : PassModel) (share : ShareModel) (spare : End) (between : Sight) → IsPass p share spare
+    → (stages : List (List ℕ))
+    → between ≡ with_stages stages (with_words (λ words. words_after p.script p.donation (p.next + 1)) p.sight)
     → between.words ≡ Some (words_after p.script p.donation (p.next + 1))
-told_between p share between is set = ap (λ (g : Sight). g.words) set ∙ told_after p is.told
+told_between p share spare between is stages set = ap (λ (g : Sight). g.words) set ∙ told_after p is.told
 
-pub pass_call : (p : PassModel) (share : ShareModel) (c : Call) (met : ℕ) (name : _) (known : List Recorded)
-    (sight : Sight) (stand : _) → IsPass p share → slice_get p.script p.next ≡ Some (line.Call c)
-    → IsLoadedAfter p sight → calls_of p.sid (entries_in known) ≡ calls_in (take (p.next + 1) p.script)
+pub pass_call : (p : PassModel) (share : ShareModel) (spare : End) (c : Call) (met : ℕ) (name : _)
+    (known : List Recorded) (sight : Sight) (stand : _) → IsPass p share spare
+    → slice_get p.script p.next ≡ Some (line.Call c) → IsLoadedAfter p sight → met ≡ p.phase
+    → calls_of p.sid (entries_in known) ≡ calls_in (take (p.next + 1) p.script)
     → IsPass (record p {
       next = p.next + 1;
       met = met;
       name = name;
       seen = entries_in known;
-      sight = sight;
+      sight = with_stages (stretch p.script p.donation (p.next + 1)) sight;
       stand = stand;
-    }) (record { name = name; number = share.number; count = share.count + 1; seen = known })
-pass_call p share c met name known sight stand is at l knows =
+    }) (record { name = name; number = share.number; count = share.count + 1; seen = known }) spare
+pass_call p share spare c met name known sight stand is at l served_ knows =
     record {
       number = is.number;
       counted = ap (λ (n : ℕ). n + 1) is.counted ∙ sym (served_counted p.script p.next (line.Call c) at refl);
@@ -216,10 +331,17 @@ pass_call p share c met name known sight stand is at l knows =
       phase = is.phase ∙ sym (phase_same p.script p.next c at);
       known = knows;
       owner = ap (λ (g : Sight). g.owner) (l.seen_is) ∙ ap (λ (g : Sight). g.owner) l.set ∙ is.owner;
-      painted = subst (λ (g : Sight). IsPaintedTo p.script p.donation p.plan (p.next + 1) g) (sym l.seen_is)
-          (still_painted p.script p.donation (p.next + 1) p.plan l.between l.loads l.painted);
+      painted = staged p.script p.donation (p.next + 1) p.plan _ _
+          (subst (λ (g : Sight). IsPaintedTo p.script p.donation p.plan (p.next + 1) g) (sym l.seen_is)
+          (still_painted p.script p.donation (p.next + 1) p.plan l.between l.loads l.painted));
       inked = ap (λ (g : Sight). g.ink) l.seen_is ∙ ap (λ (g : Sight). g.ink) l.set ∙ is.inked;
       told = ap (λ (g : Sight). g.words) l.seen_is ∙ ap (λ (g : Sight). g.words) l.set ∙ told_after p is.told;
+      not_ahead = omega (arith, served_);
+      agreed = refl;
+      stretch = λ same. stretch_begun p.script p.donation (p.next + 1) _ refl;
+      spare_owner = is.spare_owner;
+      spare_size = is.spare_size
+          ∙ sym (ap (λ (g : Sight). g.size) l.seen_is ∙ ap (λ (g : Sight). g.size) l.set);
     }
 
 -- ---- what a call finds
@@ -245,11 +367,10 @@ found {r₀ = r₀} {r = r} {p₀ = p₀} {p = p} call er ep met ec of at ready 
     (subst (λ (x : RoomModel). Found x known (line.Call (next_call known))) (sym (er ∙ met.room)) here))
 
 -- a pass that has met the room knows its calls so far
-pub pass_met : {r r₀ : RoomModel} {p : PassModel} {share share' : ShareModel} (known : List Recorded) → IsRoom r
-    → r ≡ r₀
-    → Belongs r₀.parts p → IsPass p share → slice_index r.counts share.number ≡ share.count
+pub pass_met : {r r₀ : RoomModel} {p : PassModel} {share share' : ShareModel} {spare : End} (known : List Recorded)
+    → IsRoom r → r ≡ r₀ → Belongs r₀.parts p → IsPass p share spare → slice_index r.counts share.number ≡ share.count
     → entries_in known ≡ without_final r.scene.entries → share' ≡ record share { seen = known }
-    → IsPass (record p { name = share'.name; seen = entries_in share'.seen }) share'
+    → IsPass (record p { name = share'.name; seen = entries_in share'.seen }) share' spare
 pass_met {r = r} {p = p} known room same of is counted book seen_ =
     record {
       number = ap (λ (s : ShareModel). s.number) seen_ ∙ is.number;
@@ -264,6 +385,11 @@ pass_met {r = r} {p = p} known room same of is counted book seen_ =
       painted = is.painted;
       inked = is.inked;
       told = is.told;
+      not_ahead = is.not_ahead;
+      agreed = is.agreed;
+      stretch = is.stretch;
+      spare_owner = is.spare_owner;
+      spare_size = is.spare_size;
     }
 
 -- ---- the clauses of a call

@@ -188,6 +188,7 @@ module _ (laws : CallLaws) {r : RoomModel} {p : PassModel} {q : ClipPassModel} (
         follows = room.follows;
         phases = room.phases;
         inks = room.inks;
+        watching = room.watching;
         near = room.near;
         room = room.room;
         ended = room.ended;

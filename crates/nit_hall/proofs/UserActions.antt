@@ -16,7 +16,7 @@ use Rattle.nit_hall.proofs.ScriptsFollowed.{AddsAction, IsUserNext, follows_acti
 use Rattle.nit_hall.proofs.Phases.{same_phase, user_ends}
 use Rattle.nit_hall.proofs.HistoryLemmas.{KeepsClean, clean_painted, goes_on}
 use Rattle.nit_hall.proofs.RoomSteps.{inks_before, booked_more, legal_then, near_before, near_then}
-use Rattle.nit_hall.proofs.RoomSteps.{room_grown, room_then, state_later}
+use Rattle.nit_hall.proofs.RoomSteps.{lenses_show, room_grown, room_then, state_later, watching_still}
 use Rattle.nit_hall.proofs.PhaseEnds.{actions_known, user_open}
 use Rattle.nit_hall.proofs.ServedCalls.{sights}
 
@@ -28,22 +28,25 @@ pub adds_shot : {number : ℕ} → AddsAction inputs.Shot (entry.Shot number)
 adds_shot = record { no_phase = refl; action_is = refl; no_call = λ t. refl; is_users = λ clients user. refl }
 
 -- what the scene promises of an entry of the user's
-pub record IsDone (scripts : List (List Line)) (old new : SceneModel End) (e : Entry) : Type 0 where
+pub record IsDone (scripts : List (List Line)) (ended : ℕ) (old new : SceneModel End) (e : Entry)
+    : Type 0 where
   pub added : IsAdded old new e
   pub open_is : IsOpen new.entries
   pub inks : HaveInks old.config scripts new.glasses
-  pub near : AreNear old.config scripts (old.entries ++ e ∷ []) new.raw
+  pub watching : (t : ℕ) → (glass_in (sights new) t).stages ≡ (glass_in (sights old) t).stages
+  pub near : AreNear old.config scripts ended (old.entries ++ e ∷ []) new.raw
   pub keeps : KeepsClean old.config old.entries e old.raw new.raw
 
 pub room_action : EntryLaws → {r : RoomModel} {new : SceneModel End} {next : ℕ} {l : InputLine} {e : Entry} → IsRoom r
     → IsUserNext r.parts.scripts r.parts.input r.counts next l → AddsAction l e
-    → r.phase ≡ input_phases_before r.parts.input next → IsDone r.parts.scripts r.scene new e
+    → r.phase ≡ input_phases_before r.parts.input next → IsDone r.parts.scripts r.phase r.scene new e
     → IsRoom (room_then r new (r.raws ++ new.raw ∷ []) (raised r.counts (length r.parts.scripts)) r.phase r.arrived)
 room_action laws {r = r} {new = new} {next = next} {l = l} {e = e} room at adds ready did =
     let was_open : IsOpen r.scene.entries = user_open room at in
     let n = length r.parts.scripts in
     room_grown laws room was_open did.added (r.raws ++ new.raw ∷ []) (raised r.counts n)
     (goes_on room was_open did.open_is did.added did.keeps) did.near did.inks
+    (watching_still laws room was_open did.added did.open_is did.watching (λ t. adds.no_call t))
     (subst (λ (js : List Entry). Follows r.parts.scripts r.parts.input (raised r.counts n) r.phase js)
     (booked_more was_open did.open_is did.added) (follows_action room.follows at e adds ready))
     (same_phase (user_ends room.follows.each at)
@@ -53,27 +56,32 @@ room_action laws {r = r} {new = new} {next = next} {l = l} {e = e} room at adds 
 pub done_input : EntryLaws → {r : RoomModel} {new : SceneModel End} {dev : Device} {routed : Routed} → IsRoom r
     → IsOpen r.scene.entries → IsAdded r.scene new (entry.Input dev routed) → IsOpen new.entries
     → Painted (state_now r.scene) (entry.Input dev routed) (state_now new) (glass_in (sights r.scene))
-    (glass_in (sights new)) r.scene.raw new.raw → IsDone r.parts.scripts r.scene new (entry.Input dev routed)
+    (glass_in (sights new)) r.scene.raw new.raw
+    → IsDone r.parts.scripts r.phase r.scene new (entry.Input dev routed)
 done_input laws {r = r} {new = new} {dev = dev} {routed = routed} room was added open_is painted =
     record {
       added = added;
       open_is = open_is;
       inks = λ t. ap (λ (g : Sight). g.ink) (painted.sights t) ∙ inks_before laws room was added t;
-      near = near_then laws room was added (inks_before laws room was added) (λ t call rep same. absurd cc) painted;
+      watching = λ t. ap (λ (g : Sight). g.stages) (painted.sights t);
+      near = near_then laws room was added (λ t. lenses_show laws room was added t refl) (λ t call rep same. absurd cc)
+          painted;
       keeps = clean_painted r.scene new (entry.Input dev routed) (state_later laws added) painted;
     }
 
 pub done_shot : EntryLaws → {r : RoomModel} {new : SceneModel End} {number : ℕ} → IsRoom r → IsOpen r.scene.entries
     → new ≡ record r.scene { entries = r.scene.entries ++ entry.Shot number ∷ []; spare = r.scene.spare - 1 }
     → IsAdded r.scene new (entry.Shot number) → IsOpen new.entries
-    → IsDone r.parts.scripts r.scene new (entry.Shot number)
+    → IsDone r.parts.scripts r.phase r.scene new (entry.Shot number)
 done_shot laws {r = r} {new = new} {number = number} room was is added open_is =
     record {
       added = added;
       open_is = open_is;
       inks = λ t. ap (λ (p : SceneModel End). (glass_in (sights p) t).ink) is ∙ inks_before laws room was added t;
+      watching = λ t. ap (λ (p : SceneModel End). (glass_in (sights p) t).stages) is;
       near = rw (ap (λ (p : SceneModel End). p.raw) is)
-          (near_more laws r.scene.config r.parts.scripts r.scene.entries (entry.Shot number) r.scene.raw r.scene.raw
+          (near_more laws r.scene.config r.parts.scripts r.phase r.scene.entries
+          (entry.Shot number) r.scene.raw r.scene.raw
           (legal_then laws room was added) (λ k inside dirty. absurd cc) (λ k clean. refl)
           (near_before laws room was added));
       keeps = λ k clean. ap (λ (p : SceneModel End). slice_index_or p.raw k 0) is;

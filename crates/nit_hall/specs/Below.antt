@@ -34,13 +34,13 @@ pub use Rattle.nit_ledger.specs.Book.{raised, raws_in}
 pub use Rattle.nit_ledger.specs.declared.view.Recorded.{Recorded}
 pub use Rattle.nit_overlay.specs.Frame.{frame}
 pub use Rattle.nit_paint.specs.Repaint.{IsWordOfSource, no_sight}
-pub use Rattle.nit_pixels.specs.End.{End, new_sight, reader_sight}
+pub use Rattle.nit_pixels.specs.End.{BufferName, End, new_sight, reader_sight}
 pub use Rattle.nit_pixels.specs.declared.standing.Standing.{Standing}
 pub use Rattle.nit_plan.specs.Calls.{calls_from, calls_in, calls_to_make, user_actions_from}
 pub use Rattle.nit_plan.specs.Calls.{user_actions_to_do}
 pub use Rattle.nit_plan.specs.Plan.{IsPlanOf, PlanModel}
 pub use Rattle.nit_plan.specs.ScriptWords.{HasStages, Painting, after_line, blank, painted_from}
-pub use Rattle.nit_plan.specs.ScriptWords.{script_ink}
+pub use Rattle.nit_plan.specs.ScriptWords.{script_ink, stages_within}
 pub use Rattle.nit_plan.specs.ScriptWords.{table_size, words_after, words_left}
 pub use Rattle.nit_plan.specs.SessionLists.{plan_in, script_in}
 pub use Rattle.nit_plan.specs.Surface.{IsPaintedTo}
@@ -61,8 +61,8 @@ pub use Rattle.nit_script.specs.declared.line.Stroke.{Stroke}
 pub use Rattle.nit_slots.specs.Account.{IsDonation}
 pub use Rattle.nit_stack.specs.Sources.{Bare, Black, PixelSource, Word, pixel}
 pub use Rattle.nit_word.specs.Channels.{bare_word}
-pub use Rattle.nit_word.specs.Inks.{Colours, Ink, IsInked, IsWord}
-pub use Rattle.nit_word.specs.Sight.{IsLoaded, Sight, seen}
+pub use Rattle.nit_word.specs.Inks.{Colours, Ink, IsAmong, IsInked, IsWord}
+pub use Rattle.nit_word.specs.Sight.{HasStage, IsLoaded, Sight, seen, told_words, with_stages}
 pub use Rattle.nit_word.specs.Updates.{with_words}
 pub use Rattle.std.specs.List.{AllByRecursion, range_with_len}
 pub use Rattle.std.specs.List.Sorted.{IsNonDecreasing}

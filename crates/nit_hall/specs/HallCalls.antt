@@ -1,10 +1,11 @@
 -- What a call over the lock needs of an actor's pass, and what it leaves of it.
 use Rattle.std.specs.Prelude.{◌≡◌, ℕ, ◌+◌, All, List}
 use Rattle.nit_hall.specs.Below.{ClipReply, IsClipAnswer, IsLegal, IsWord, Reply, Routed, replay}
+use Rattle.nit_hall.specs.Below.{with_stages}
 use mathlib.Core.List.{IsPrefix}
 use Rattle.nit_hall.specs.OpeningParts.{OpeningParts}
 use Rattle.nit_hall.specs.Pass.{PassModel, UserPassModel, Belongs, UserBelongs, HasLoaded}
-use Rattle.nit_hall.specs.Pass.{call_entry, device_entry, sight_after_line}
+use Rattle.nit_hall.specs.Pass.{call_entry, device_entry, sight_after_line, stretch_from}
 use Rattle.nit_hall.specs.ClipPass.{ClipPassModel, ClipBelongs, AreTogether, IsAtClip}
 use Rattle.nit_hall.specs.ClipPass.{IsAtPhaseEnd, next_clip}
 use Rattle.nit_hall.specs.Hall.{Tells, TellsShot}
@@ -51,13 +52,27 @@ pub record EndedPhase (parts : OpeningParts) (p p' : PassModel) : Type 0 where
   pub legal : IsLegal parts.config p'.seen
   pub pass : p' ≡ record p { next = p.next + 1; phase = p.phase + 1; seen = p'.seen }
 
+-- The pass has found its phase served, and knows what it did and maybe more, all of it legal.
+pub record Admitted (parts : OpeningParts) (p p' : PassModel) : Type 0 where
+  pub grows : IsPrefix p.seen p'.seen
+  pub legal : IsLegal parts.config p'.seen
+  pub pass : p' ≡ record p {
+    met = p.phase;
+    seen = p'.seen;
+    sight = with_stages (stretch_from p p.next) p.sight;
+  }
+
 -- A clip call was answered by the focus that is there behind all that the passes know now.
 pub record ServedClip (parts : OpeningParts) (p : PassModel) (q : ClipPassModel) (reply : ClipReply)
     (p' : PassModel) (q' : ClipPassModel) : Type 0 where
   pub answer : IsClipAnswer (replay parts.config p'.seen).input.focus q.sid (next_clip q) reply
   pub grows : IsPrefix p.seen p'.seen
   pub legal : IsLegal parts.config p'.seen
-  pub pass : p' ≡ record p { met = p.phase; seen = p'.seen }
+  pub pass : p' ≡ record p {
+    met = p.phase;
+    seen = p'.seen;
+    sight = with_stages (stretch_from p p.next) p.sight;
+  }
   pub clip : q' ≡ record q { next = q.next + 1; seen = p'.seen }
 
 -- A device event of the user's was done and delivered so. The raw words that it knows are one

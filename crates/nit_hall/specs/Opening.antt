@@ -1,10 +1,12 @@
 -- What a room is opened with, and what it and its passes are then.
 use Rattle.std.specs.Prelude.{◌≡◌, ℕ, ◌+◌, ◌*◌, ◌<◌, List, [], length, map, replicate}
-use Rattle.nit_hall.specs.Below.{BookName, Configuration, End, InputLine, IsConfiguration, IsPlanOf}
+use Rattle.nit_hall.specs.Below.{BookName, BufferName, Configuration, End, InputLine}
+use Rattle.nit_hall.specs.Below.{IsConfiguration, IsPlanOf}
 use Rattle.nit_hall.specs.Below.{Line, PlanModel, Some, bare_word, donation_of, new_sight, plan_in}
-use Rattle.nit_hall.specs.Below.{reader_sight, script_in, slice_get}
+use Rattle.nit_hall.specs.Below.{script_in, slice_get, with_stages}
 use Rattle.nit_hall.specs.OpeningParts.{OpeningParts}
 use Rattle.nit_hall.specs.ServedLines.{lines_of_all}
+use Rattle.nit_hall.specs.Stretch.{stretch, watching_sight}
 use Rattle.nit_hall.specs.Pass.{PassModel, UserPassModel}
 use Rattle.nit_hall.specs.Room.{RoomModel}
 
@@ -24,27 +26,55 @@ pub record AreBlank (config : Configuration) (scripts : List (List Line)) (canva
   pub blank : (k : ℕ) (c : End) → slice_get canvases k ≡ Some c
       → c.sight ≡ new_sight k (script_in scripts k) (donation_of config k)
 
--- the configuration, a setting of it, and a blank canvas for each client
+-- the buffers that these ends are of
+abbrev pub buffers_of : List End → List BufferName
+buffers_of ends = map (λ (e : End). e.stand.buffer) ends
+
+-- each canvas agrees with its reader's end on the first stretch of its client; all else is as
+-- before
+pub record AreAgreed (config : Configuration) (scripts : List (List Line))
+    (before after : List End) : Type 0 where
+  pub each : length after ≡ length before
+  pub buffers : buffers_of after ≡ buffers_of before
+  pub agreed : (k : ℕ) (c c' : End) → slice_get before k ≡ Some c → slice_get after k ≡ Some c'
+      → c' ≡ record c {
+        sight = with_stages (stretch (script_in scripts k) (donation_of config k) 0) c.sight;
+      }
+
+-- there is a canvas for each client, in order, that was blank and agrees on the first stretch
+pub record AreBegun (config : Configuration) (scripts : List (List Line)) (canvases : List End)
+    : Type 0 where
+  pub canvas_each : length canvases ≡ length config.clients
+  pub begun : (k : ℕ) (c : End) → slice_get canvases k ≡ Some c
+      → c.sight ≡ with_stages (stretch (script_in scripts k) (donation_of config k) 0)
+      (new_sight k (script_in scripts k) (donation_of config k))
+
+-- the configuration, a setting of it, and a canvas for each client that agrees on its first stretch
 pub record CanOpen (config : Configuration) (scripts : List (List Line)) (plans : List PlanModel)
     (canvases : List End) : Type 0 where
   pub config_is : IsConfiguration config
   pub setting : IsSetting config scripts plans
-  pub canvases_are : AreBlank config scripts canvases
+  pub canvases_are : AreBegun config scripts canvases
 
 -- the parts of an opening without clip scripts
-abbrev pub parts_of : BookName → Configuration → List (List Line) → List PlanModel → List InputLine
-    → OpeningParts
-parts_of name config scripts plans input =
+abbrev pub parts_of : BookName → Configuration → List (List Line) → List PlanModel
+    → List BufferName → List InputLine → OpeningParts
+parts_of name config scripts plans buffers input =
     record {
       name = name;
       config = config;
       scripts = scripts;
       plans = plans;
+      buffers = buffers;
       input = input;
       clips = [];
     }
 
--- the pass of this number, of which no line is done
+-- the first stretch of the client of this number
+abbrev pub first_stretch : OpeningParts → ℕ → List (List ℕ)
+first_stretch parts k = stretch (script_in parts.scripts k) (donation_of parts.config k) 0
+
+-- the pass of this number, of which no line is done: it agrees with the room on its first stretch
 abbrev pub first_pass : OpeningParts → ℕ → End → PassModel
 first_pass parts k canvas =
     record {
@@ -57,7 +87,7 @@ first_pass parts k canvas =
       plan = plan_in parts.plans k;
       donation = donation_of parts.config k;
       seen = [];
-      sight = canvas.sight;
+      sight = with_stages (first_stretch parts k) canvas.sight;
       stand = canvas.stand;
     }
 
@@ -79,10 +109,15 @@ abbrev pub IsFirst : OpeningParts → List End → ℕ → PassModel → Type 0
 IsFirst parts canvases k p =
     (canvas : End) × (slice_get canvases k ≡ Some canvas) × (p ≡ first_pass parts k canvas)
 
--- each reader's end is one of the canvas at its number, with nothing loaded yet
-pub record AreSplitOff (canvases ends : List End) : Type 0 where
-  pub sights : map (λ (e : End). e.sight) ends ≡ map (λ (e : End). reader_sight e.sight) canvases
-  pub buffers : map (λ (e : End). e.stand.buffer) ends ≡ map (λ (e : End). e.stand.buffer) canvases
+-- each reader's end is one of the canvas at its number, with nothing loaded yet, and knows the
+-- first stretch of its client
+pub record AreSplitOff (config : Configuration) (scripts : List (List Line))
+    (canvases ends : List End) : Type 0 where
+  pub each : length ends ≡ length canvases
+  pub sights : (k : ℕ) (c e : End) → slice_get canvases k ≡ Some c → slice_get ends k ≡ Some e
+      → e.sight
+      ≡ watching_sight (stretch (script_in scripts k) (donation_of config k) 0) c.sight
+  pub buffers : buffers_of ends ≡ buffers_of canvases
 
 -- The room of these parts before its first entry: the journal is empty, with room for an entry of
 -- each line and for the last picture; every pixel holds the bare word; nothing was served, the
@@ -93,7 +128,7 @@ pub record IsFirstRoom (parts : OpeningParts) (canvases : List End) (r : RoomMod
   pub entries : r.scene.entries ≡ []
   pub spare : r.scene.spare ≡ lines_of_all parts.scripts parts.input + 1
   pub raw : r.scene.raw ≡ replicate (parts.config.width * parts.config.height) bare_word
-  pub lenses_are : AreSplitOff canvases r.scene.glasses
+  pub lenses_are : AreSplitOff parts.config parts.scripts canvases r.scene.glasses
   pub counts : r.counts ≡ replicate (length parts.scripts + 1) 0
   pub clips_are : (r.clips ≡ record { entries = []; spare = 0 }) × (r.clip_counts ≡ [])
   pub raws : r.raws ≡ []
@@ -103,7 +138,8 @@ pub record IsFirstRoom (parts : OpeningParts) (canvases : List End) (r : RoomMod
 pub record IsOpening (config : Configuration) (scripts : List (List Line)) (plans : List PlanModel)
     (input : List InputLine) (canvases : List End) (r : RoomModel) (ps : List PassModel)
     (u : UserPassModel) : Type 0 where
-  pub room : IsFirstRoom (parts_of r.parts.name config scripts plans input) canvases r
+  pub room : IsFirstRoom
+      (parts_of r.parts.name config scripts plans (buffers_of canvases) input) canvases r
   pub each : length ps ≡ length scripts
   pub passes : (k : ℕ) (p : PassModel) → slice_get ps k ≡ Some p → IsFirst r.parts canvases k p
   pub user : u ≡ first_user r.parts

@@ -1,10 +1,10 @@
 -- What contracts see of a client's pass and of the user's.
-use Rattle.std.specs.Prelude.{◌≡◌, ℕ, ◌+◌, ◌≤◌, List, length, take, slice_get, Option, Some}
-use Rattle.nit_hall.specs.Below.{BookName, Call, Device, Entry, InputLine, IsPaintedTo, Line}
+use Rattle.std.specs.Prelude.{◌≡◌, ℕ, ◌+◌, ◌≤◌, List, length, take, slice_get, Option, Some, IsSome}
+use Rattle.nit_hall.specs.Below.{BookName, Call, Device, End, Entry, InputLine, IsPaintedTo, Line}
 use Rattle.nit_hall.specs.Below.{PlanModel, Reply, Routed, ShareModel, Sight, Standing, Stroke}
 use Rattle.nit_hall.specs.Below.{calls_in, calls_of, donation_of, no_sight, script_ink, seen}
 use Rattle.nit_hall.specs.Below.{user_actions_of}
-use Rattle.nit_hall.specs.Below.{with_words, words_after}
+use Rattle.nit_hall.specs.Below.{with_stages, with_words, words_after}
 use Rattle.nit_events.specs.declared.call.Call.TheVariants as call
 use Rattle.nit_events.specs.declared.device.Device.TheVariants as device
 use Rattle.nit_events.specs.declared.entry.Entry.TheVariants as entry
@@ -12,6 +12,7 @@ use Rattle.nit_script.specs.declared.line.Line.TheVariants as line
 use Rattle.nit_script.specs.declared.line.InputLine.TheVariants as input
 use Rattle.nit_hall.specs.ServedLines.{served, user_actions_in, phases_before, input_phases_before}
 use Rattle.nit_hall.specs.OpeningParts.{OpeningParts}
+use Rattle.nit_hall.specs.Stretch.{HasStretch, line_stages, stretch}
 
 -- A client's pass: its number, how many lines of its script are done, and how many phases; the
 -- phase
@@ -45,8 +46,11 @@ pub record UserPassModel : Type 0 where
 
 -- What holds of every pass: its share has its number, and counts the lines before its next one that
 -- the room serves; what it knows of the journal has exactly its own calls so far; and its words are
--- those that the lines before its next one leave, with its script's ink.
-pub record IsPass (p : PassModel) (share : ShareModel) : Type 0 where
+-- those that the lines before its next one leave, with its script's ink. Its end agrees with the
+-- room's on some stages; where the pass has found its phase served, these have what the lines leave
+-- up to the next one that the room serves. The end that it holds in the place of the room's, while
+-- it agrees, is of the same table.
+pub record IsPass (p : PassModel) (share : ShareModel) (spare : End) : Type 0 where
   pub number : share.number ≡ p.sid
   pub counted : share.count ≡ length (served (take p.next p.script))
   pub within : p.next ≤ length p.script
@@ -56,6 +60,11 @@ pub record IsPass (p : PassModel) (share : ShareModel) : Type 0 where
   pub painted : IsPaintedTo p.script p.donation p.plan p.next p.sight
   pub inked : p.sight.ink ≡ script_ink p.script p.donation
   pub told : p.sight.words ≡ Some (words_after p.script p.donation p.next)
+  pub not_ahead : p.met ≤ p.phase
+  pub agreed : IsSome p.sight.stages
+  pub stretch : p.met ≡ p.phase → HasStretch p.script p.donation p.next p.sight.stages
+  pub spare_owner : spare.sight.owner ≡ p.sid
+  pub spare_size : spare.sight.size ≡ p.sight.size
 
 -- What holds of the user's pass: its share has its number, and counts all lines before its next
 -- one, since the room serves each of them; and what it knows of the journal has exactly its own
@@ -102,9 +111,19 @@ call_entry p r = entry.Call p.sid (next_call p) r
 abbrev pub sight_after_line : PassModel → Sight
 sight_after_line p = with_words (λ words. words_after p.script p.donation (p.next + 1)) p.sight
 
--- the sight after some loads: a told log has them at its end, and all else is as before
+-- the sight where the pass agrees with the room on what its next line, a call, leaves
+abbrev pub in_line : PassModel → Sight → Sight
+in_line p sight = with_stages (line_stages p.script p.donation p.next) sight
+
+-- the stages of the strokes from line k of the pass's script on
+abbrev pub stretch_from : PassModel → ℕ → List (List ℕ)
+stretch_from p k = stretch p.script p.donation k
+
+-- the sight after some loads, with other stages: a told log has the loads at its end, and all else
+-- is as before
 abbrev pub HasLoaded : Sight → Sight → Type 0
-HasLoaded before after = (loads : List (ℕ × ℕ)) × (after ≡ seen before loads)
+HasLoaded before after =
+    (loads : List (ℕ × ℕ)) × (after ≡ record (seen before loads) { stages = after.stages })
 
 -- the device event of a line; any other line has none
 abbrev pub device_of_line : Option InputLine → Device
@@ -139,6 +158,7 @@ pub record Belongs (parts : OpeningParts) (p : PassModel) : Type 0 where
   pub script : slice_get parts.scripts p.sid ≡ Some p.script
   pub plan : slice_get parts.plans p.sid ≡ Some p.plan
   pub donation : p.donation ≡ donation_of parts.config p.sid
+  pub buffer : slice_get parts.buffers p.sid ≡ Some p.stand.buffer
 
 -- the user's pass has the name of this opening, and its input script
 pub record UserBelongs (parts : OpeningParts) (u : UserPassModel) : Type 0 where

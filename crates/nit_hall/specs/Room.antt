@@ -1,5 +1,6 @@
 -- What contracts see of a room, and what holds of it.
-use Rattle.std.specs.Prelude.{◌≡◌, ◌⊎◌, ℕ, ◌+◌, ◌-◌, ◌<◌, ◌≤◌, ◌==◌, if◌then◌else◌, List, [], ◌∷◌}
+use Rattle.std.specs.Prelude.{◌≡◌, ◌⊎◌, ℕ, zero, suc, ◌+◌, ◌-◌, ◌<◌, ◌≤◌, ◌==◌, if◌then◌else◌, List}
+use Rattle.std.specs.Prelude.{[], ◌∷◌}
 use Rattle.std.specs.Prelude.{◌++◌, nat_lt, length, map, sum, take, count_by, slice_index}
 use Rattle.nit_hall.specs.Below.{ClipEntry, ClipModel, ClipReply, Colours, Configuration, End}
 use Rattle.nit_hall.specs.Below.{Entry, Ink, InputLine, IsLegal, script_ink}
@@ -7,11 +8,12 @@ use Rattle.nit_hall.specs.Below.{IsNonDecreasing, IsOpen, Line, SceneModel, Sigh
 use Rattle.nit_hall.specs.Below.{calls_in, calls_of, calls_to_make, glass_in, donation_of}
 use Rattle.nit_hall.specs.Below.{is_input_phase}
 use Rattle.nit_hall.specs.Below.{is_phase, most_sessions, phases_along, raised, script_in}
-use Rattle.nit_hall.specs.Below.{state_now, user_actions_of, user_actions_to_do}
+use Rattle.nit_hall.specs.Below.{state_now, user_actions_of, user_actions_to_do, with_stages}
 use Rattle.nit_events.specs.declared.entry.Entry.TheVariants as entry
 use Rattle.nit_hall.specs.OpeningParts.{OpeningParts}
 use Rattle.nit_hall.specs.ServedLines.{served, user_actions_in, lines_of_all}
 use Rattle.nit_hall.specs.NearWords.{AreNear}
+use Rattle.nit_hall.specs.Stretch.{IsWatching}
 use Rattle.nit_hall.specs.History.{AreLast, IsHistory}
 use Rattle.nit_hall.specs.ClipPass.{ClipPassModel, next_clip}
 use Rattle.nit_hall.specs.RoomClips.{FollowsClips}
@@ -54,6 +56,20 @@ with_entry r actor e raw glasses =
       };
       counts = raised r.counts actor;
       raws = r.raws ++ raw ∷ [];
+    }
+
+-- the readers' ends where that of this client knows these stages; all else is as before
+abbrev pub with_end_stages : ℕ → List (List ℕ) → List End → List End
+with_end_stages sid stages [] = []
+with_end_stages zero stages (e ∷ rest) =
+    record e { sight = with_stages stages e.sight } ∷ rest
+with_end_stages (suc n) stages (e ∷ rest) = e ∷ with_end_stages n stages rest
+
+-- the room where the reader's end of this client knows these stages
+abbrev pub with_room_stages : RoomModel → ℕ → List (List ℕ) → RoomModel
+with_room_stages r sid stages =
+    record r {
+      scene = record r.scene { glasses = with_end_stages sid stages r.scene.glasses };
     }
 
 -- the room after the last picture, with these raw words; all else is as before
@@ -158,12 +174,19 @@ abbrev pub HaveInks : Configuration → List (List Line) → List End → Type 0
 HaveInks config scripts ends =
     (t : ℕ) → (glass_in (map (λ (e : End). e.sight) ends) t).ink ≡ ink_in config scripts t
 
+-- the reader's end of each client is in a stretch of its script, behind the calls that it has made
+abbrev pub AreWatching : List (List Line) → Configuration → List Entry → ℕ → List End → Type 0
+AreWatching scripts config entries phase ends =
+    (t : ℕ) → t < length scripts
+    → IsWatching (script_in scripts t) (donation_of config t) (length (calls_of t entries)) phase
+    (glass_in (map (λ (e : End). e.sight) ends) t)
+
 -- What holds of every room: its journal is legal and follows the scripts, but for the last picture;
--- its readers' ends have the inks of the scripts, and each raw word is one that its pixel may hold;
--- there is room for an entry of each line and for the last picture, which comes only when all lines
--- were served; the phase that is served is the one that the last of its actors are in; the clip
--- list follows the clip scripts; and the raw words behind each entry are one history, which goes up
--- to the raw words now as long as the journal is not ended.
+-- its readers' ends have the inks of the scripts and know a stretch of each, and each raw word is
+-- one that its pixel may hold; there is room for an entry of each line and for the last picture,
+-- which comes only when all lines were served; the phase that is served is the one that the last of
+-- its actors are in; the clip list follows the clip scripts; and the raw words behind each entry
+-- are one history, which goes up to the raw words now as long as the journal is not ended.
 pub record IsRoom (r : RoomModel) : Type 0 where
   pub config : r.scene.config ≡ r.parts.config
   pub legal : IsLegal r.parts.config r.scene.entries
@@ -174,7 +197,9 @@ pub record IsRoom (r : RoomModel) : Type 0 where
   pub phases : IsServedPhase r.phase r.arrived
       (phases_ended r.parts.scripts r.parts.input r.counts)
   pub inks : HaveInks r.parts.config r.parts.scripts r.scene.glasses
-  pub near : AreNear r.parts.config r.parts.scripts r.scene.entries r.scene.raw
+  pub watching : AreWatching r.parts.scripts r.parts.config (without_final r.scene.entries) r.phase
+      r.scene.glasses
+  pub near : AreNear r.parts.config r.parts.scripts r.phase r.scene.entries r.scene.raw
   pub room : length r.scene.entries + r.scene.spare ≡ lines_of_all r.parts.scripts r.parts.input + 1
   pub ended : IsOpen r.scene.entries ⊎ AllServed r.parts.scripts r.parts.input r.counts
   pub clips_follow : FollowsClips r.parts r.clip_counts r.scene.entries r.clips

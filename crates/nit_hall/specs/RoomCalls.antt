@@ -1,14 +1,14 @@
 -- What a call of a room needs of an actor's pass, and what it leaves of the pass and the journal.
 use Rattle.std.specs.Prelude.{◌≡◌, ℕ, ◌+◌, List, length, map, take, slice_get, slice_index, Some}
-use Rattle.nit_hall.specs.Below.{IsLegal, IsOpen}
+use Rattle.nit_hall.specs.Below.{IsLegal, IsOpen, with_stages}
 use mathlib.Core.List.{IsPrefix}
 use Rattle.nit_hall.specs.OpeningParts.{OpeningParts}
 use Rattle.nit_hall.specs.ServedLines.{served}
 use Rattle.nit_hall.specs.History.{IsHistory}
 use Rattle.nit_hall.specs.Pass.{PassModel, UserPassModel, Belongs, UserBelongs, HasLoaded}
-use Rattle.nit_hall.specs.Pass.{sight_after_line}
+use Rattle.nit_hall.specs.Pass.{sight_after_line, stretch_from}
 use Rattle.nit_hall.specs.ClipPass.{ClipPassModel, knowing_clip}
-use Rattle.nit_hall.specs.Room.{RoomModel, arrived_one, without_final}
+use Rattle.nit_hall.specs.Room.{RoomModel, arrived_one, with_room_stages, without_final}
 
 -- ---- what a call needs
 
@@ -42,10 +42,25 @@ pub record HasServed (r : RoomModel) (p : PassModel) (r' : RoomModel) (p' : Pass
     sight = p'.sight;
   }
   pub sight : HasLoaded (sight_after_line p) p'.sight
+  pub agreed : p'.sight.stages ≡ Some (stretch_from p (p.next + 1))
   pub before : IsPrefix p.seen r.scene.entries
   pub counted : slice_index r.counts p.sid ≡ length (served (take p.next p.script))
   pub legal : IsLegal r.parts.config r'.scene.entries
   pub unended : IsOpen r'.scene.entries
+
+-- The pass has found its phase served. It knew a front of the book, and now knows all of it; and it
+-- and the room's end of its words agree on the strokes from its next line on.
+pub record HasAdmitted (r : RoomModel) (p : PassModel) (r' : RoomModel) (p' : PassModel)
+    : Type 0 where
+  pub room : r' ≡ with_room_stages r p.sid (stretch_from p p.next)
+  pub pass : p' ≡ record p {
+    met = p.phase;
+    seen = without_final r.scene.entries;
+    sight = with_stages (stretch_from p p.next) p.sight;
+  }
+  pub before : IsPrefix p.seen (without_final r.scene.entries)
+  pub counted : slice_index r.counts p.sid ≡ length (served (take p.next p.script))
+  pub legal : IsLegal r.parts.config r.scene.entries
 
 -- So for the user, which has done a device event or a shot. It knew the raw words behind the
 -- entries that it knew, and now knows those behind all, which are one history.

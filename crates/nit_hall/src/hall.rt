@@ -5,7 +5,8 @@ ghost use Rattle.nit_hall.specs.Below.{IsOpen, most_height, most_width};
 ghost use Rattle.nit_hall.specs.Pass.{Belongs, IsAtCall, IsAtDevice, IsAtPhase, IsAtShot};
 ghost use Rattle.nit_hall.specs.Pass.{IsAtUserPhase};
 ghost use Rattle.nit_hall.specs.Hall.{IsMeasured};
-ghost use Rattle.nit_hall.specs.HallCalls.{BelongsAt, CanClip, DoneDevice, DoneShot, EndedPhase};
+ghost use Rattle.nit_hall.specs.HallCalls.{Admitted, BelongsAt, CanClip, DoneDevice, DoneShot};
+ghost use Rattle.nit_hall.specs.HallCalls.{EndedPhase};
 ghost use Rattle.nit_hall.specs.HallCalls.{ServedCall, ServedClip, UserBelongsAt, UserEndedPhase};
 
 use crate::clip_pass::ClipPass;
@@ -34,6 +35,7 @@ impl Name for Brand {
       config = record { width = 0; height = 0; bar = false; input = []; clients = [] };
       scripts = [];
       plans = [];
+      buffers = [];
       input = [];
       clips = [];
     } };
@@ -199,13 +201,14 @@ impl<'a, N: Name> Hall<'a, N> {
     }
 
     /// Waits until the pass is ready, and lets it find its phase served ([`Room::admit`]). It may
-    /// make the strokes of this phase then, and they wait for nobody.
+    /// make the strokes of this phase then, and they wait for nobody. What it then knows of the
+    /// journal is legal.
     pub fn wait_ready<R: Wait>(&self, rt: &R, pass: &mut Pass<'a>)
         requires belongs { Belongs N.parts pass.old }
-        ensures { pass.new ≡ record pass.old { met = pass.old.phase } }
+        ensures { Admitted N.parts pass.old pass.new }
     {
         let kept = self.room.lock(rt);
-        let kept = self
+        let mut kept = self
             .moved
             .wait_while(rt, kept, |kept| !kept.room.ready(pass));
         kept.room.admit(pass);

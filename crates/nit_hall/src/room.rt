@@ -1,6 +1,7 @@
 //! The room: one event is one call of it.
 
 mod actions;
+mod agreeing;
 mod calls;
 mod clip_opening;
 mod clips;
@@ -11,13 +12,17 @@ mod served;
 mod shown;
 
 ghost use Rattle.std.specs.Prelude.{◌≡◌, ◌+◌, ◌*◌, ◌≤◌, ◌==◌, [], length, replicate};
-ghost use Rattle.nit_hall.specs.Terms.{AreNear, Belongs, HasMet, HaveInks, IsLegal, IsRoom};
+ghost use Rattle.nit_hall.specs.Terms.{AreNear, AreWatching, Belongs, HasAdmitted, HasMet};
+ghost use Rattle.nit_hall.specs.Terms.{HaveInks};
+ghost use Rattle.nit_hall.specs.Terms.{IsLegal, IsRoom, buffers_of};
 ghost use Rattle.nit_hall.specs.Terms.{UserBelongs, UserHasMet, bare_word, lines_of_all};
 ghost use Rattle.nit_hall.specs.Terms.{most_height, most_sessions, most_width};
 
 use crate::parts::Parts;
 use crate::pass::Pass;
 use crate::user::UserPass;
+use agreeing::agree_on_stretch;
+pub(crate) use agreeing::{LineOf, agree_first};
 pub use clip_opening::{ClipOpened, open_clips};
 use nit_clip::laws::no_clips;
 use nit_clip::{Clip, ClipScript};
@@ -43,6 +48,7 @@ pub struct Room<'a> {
 
 impl<'a> Model for Room<'a> {
     ghost use Rattle.std.specs.Prelude.{◌≡◌, ◌+◌, drop, length, take};
+    ghost use Rattle.nit_hall.specs.Opening.{buffers_of};
     ghost use Rattle.nit_ledger.specs.Book.{entries_in, raws_in};
     ghost use Rattle.nit_hall.specs.Room.{RoomModel, IsRoom, without_final};
 
@@ -54,6 +60,7 @@ impl<'a> Model for Room<'a> {
         config = r.scene.config;
         scripts = r.parts.scripts.now;
         plans = r.parts.plans.now;
+        buffers = buffers_of r.scene.glasses;
         input = r.parts.input.now;
         clips = r.clips.now;
       };
@@ -72,6 +79,7 @@ impl<'a> Model for Room<'a> {
         config = r.scene.config;
         scripts = r.parts.scripts.now;
         plans = r.parts.plans.now;
+        buffers = buffers_of r.scene.glasses;
         input = r.parts.input.now;
         clips = r.clips.now;
       };
@@ -96,6 +104,7 @@ impl<'a> Room<'a> {
         requires room { scene.spare ≡ lines_of_all parts.scripts.now parts.input.now + 1 }
         requires raw { scene.raw ≡ replicate (scene.config.width * scene.config.height) bare_word }
         requires inks { HaveInks scene.config parts.scripts.now scene.glasses }
+        requires watching { AreWatching parts.scripts.now scene.config [] 0 scene.glasses }
         requires counts { book.counts ≡ replicate (length parts.scripts.now + 1) 0 }
         requires clip { clip ≡ record { entries = []; spare = 0 } }
         ensures { result ≡ record {
@@ -104,6 +113,7 @@ impl<'a> Room<'a> {
             config = scene.entry.config;
             scripts = parts.entry.scripts.now;
             plans = parts.entry.plans.now;
+            buffers = buffers_of scene.entry.glasses;
             input = parts.entry.input.now;
             clips = [];
           };
@@ -135,14 +145,17 @@ impl<'a> Room<'a> {
         pass.phase == self.phase
     }
 
-    /// Lets the pass find its phase served: it may make the strokes of this phase then. The pass is
-    /// ready.
-    #[tactic(auto, using(crate::proofs::PhaseEnds::pass_admitted))]
-    pub fn admit(&self, pass: &mut Pass<'a>)
-        requires belongs { Belongs self.now.parts pass.old }
-        requires ready { pass.old.phase ≡ self.now.phase }
-        ensures { pass.new ≡ record pass.old { met = pass.old.phase } }
+    /// Lets the pass find its phase served: it may make the strokes of this phase then, up to its
+    /// next line that the room serves. On these the pass and the room's end of its words agree. The
+    /// pass is ready.
+    pub fn admit(&mut self, pass: &mut Pass<'a>)
+        requires belongs { Belongs self.old.parts pass.old }
+        requires ready { pass.old.phase ≡ self.old.phase }
+        ensures { HasAdmitted self.old pass.old self.new pass.new }
     {
+        self.meet(pass);
+        let at = pass.at_line();
+        agree_on_stretch(&mut self.scene, &at, &mut pass.canvas, &mut pass.spare);
         pass.met = self.served();
     }
 
@@ -174,8 +187,8 @@ impl<'a> Room<'a> {
         ensures scene { result.now ≡ self.now.scene }
         ensures config { self.now.scene.config ≡ self.now.parts.config }
         ensures legal { IsLegal self.now.parts.config self.now.scene.entries }
-        ensures near { AreNear self.now.parts.config self.now.parts.scripts self.now.scene.entries
-            self.now.scene.raw }
+        ensures near { AreNear self.now.parts.config self.now.parts.scripts self.now.phase
+            self.now.scene.entries self.now.scene.raw }
         ensures kept { IsRoom self.now }
     {
         &self.scene

@@ -2,6 +2,7 @@
 
 ghost use Rattle.std.specs.Prelude.{◌≡◌, ◌+◌, length, map, slice_index, take};
 ghost use mathlib.Core.List.{IsPrefix};
+ghost use Rattle.nit_hall.specs.Terms.{stretch_from, with_room_stages, with_stages};
 ghost use Rattle.nit_hall.specs.Terms.{AreDoneClips, CallLaws, CanClip, ClipBelongs, ClipHasMet};
 ghost use Rattle.nit_hall.specs.Terms.{HaveMet, IsLegal, IsLegalClips, IsOpen, IsWholeClips};
 ghost use Rattle.nit_hall.specs.Terms.{calls_to_make, clip_answer, clip_calls_in, clip_entry};
@@ -25,9 +26,14 @@ impl<'a> Room<'a> {
         requires open { IsOpen self.old.scene.entries }
         ensures reply { result ≡ clip_answer (clipboard_of self.old.clips.entries)
             (state_now self.old.scene).input.focus clip.old.sid (next_clip clip.old) }
-        ensures room { self.new ≡ with_clip self.old (clip_entry self.old clip.old result) }
-        ensures pass { pass.new
-            ≡ record pass.old { met = pass.old.phase; seen = self.old.scene.entries } }
+        ensures room { self.new ≡ with_clip
+            (with_room_stages self.old pass.old.sid (stretch_from pass.old pass.old.next))
+            (clip_entry self.old clip.old result) }
+        ensures pass { pass.new ≡ record pass.old {
+          met = pass.old.phase;
+          seen = self.old.scene.entries;
+          sight = with_stages (stretch_from pass.old pass.old.next) pass.old.sight;
+        } }
         ensures clip { clip.new
             ≡ record clip.old { next = clip.old.next + 1; seen = self.old.scene.entries } }
         ensures before { IsPrefix pass.old.seen self.old.scene.entries }
@@ -40,7 +46,6 @@ impl<'a> Room<'a> {
     {
         one_more_call();
         let _ended = pass.phase();
-        self.meet(pass);
         self.admit(pass);
         let call = clip.next_clip();
         self.book.count(&mut clip.share);

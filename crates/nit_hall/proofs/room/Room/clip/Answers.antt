@@ -3,14 +3,20 @@ use Rattle.nit_hall.proofs.Lemmas.{BookModel, ClipPassModel, Entry, FoundClip, I
 use Rattle.nit_hall.proofs.Lemmas.{JournalModel, List, PassModel, RoomModel, ShareModel, arith}
 use Rattle.nit_hall.proofs.Lemmas.{back_raised, clip_answer, clip_counted, clip_pass_call}
 use Rattle.nit_hall.proofs.Lemmas.{clipboard_of, follows_then, next_clip, number_is, open_whole}
+use Rattle.nit_hall.proofs.Basics.{stretch_from, with_room_stages, with_stages}
 use Rattle.nit_hall.proofs.Lemmas.{room_clip, room_left, served_clip, slice_index, state_now}
 use Rattle.nit_hall.proofs.Lemmas.{entries_in, front_of_each, raws_in, take-set-le, without_final}
 use mathlib.Core.List.{IsPrefix}
 use Rattle.nit_hall.proofs.room.Room.clip.Goals as goal
 use Rattle.nit_hall.proofs.room.Room.clip.Goals.{After-entries, After-serve-reply}
 
+-- the room that has admitted the client's pass
+admitted : RoomModel → PassModel → RoomModel
+admitted r p = with_room_stages r p.sid (stretch_from p p.next)
+
 -- the room and both passes before the line, as the call finds them
-found_at : (c : After-entries) → FoundClip c.args.self.now c.args.pass.now c.args.clip.now
+found_at : (c : After-entries) → FoundClip (admitted c.args.self.now c.args.pass.now) c.args.pass.now c.args.clip.now
+unfolding admitted
 found_at c =
     let r = c.requires in
     record {
@@ -21,45 +27,49 @@ found_at c =
       phase_end = r.clip.phase_end;
       next_is = r.clip.next;
       open_is = r.«open»;
-      counted = c.meet.ensures.counted;
-      clip_counted = clip_counted c.self.inside.book.counts (c.self.view_is ∙ c.meet.ensures.room) c.clip.view_is
+      counted = c.admit.ensures.counted;
+      clip_counted = clip_counted c.self.inside.book.counts (c.self.view_is ∙ c.admit.ensures.room) c.clip.view_is
           c.clip.invariant r.clip.clip_belongs refl c.count.ensures.before.counted;
       phase_is = c.phase-ended.ensures.ended;
       clip_phase_is = rw (← c.clip.view_is) c.clip.invariant.phase;
     }
 
 pub serve-reply-requires-clause-room : goal.serve-reply-requires-clause-room
+unfolding admitted
 serve-reply-requires-clause-room c =
-    let er = c.self.view_is ∙ c.meet.ensures.room in
+    let er = c.self.view_is ∙ c.admit.ensures.room in
     subst (λ (r : RoomModel). 1 ≤ r.clips.spare) (sym er)
     (room_left c.one_more_call.ensures (subst IsRoom er c.self.invariant.0)
     (found_at (goal.at.serve-reply-requires-clause-room c).After-entries))
 
-room_at : (c : After-serve-reply) → IsRoom c.args.self.now
-room_at c = subst IsRoom (c.self.view_is ∙ c.meet.ensures.room) c.self.invariant.0
+room_at : (c : After-serve-reply) → IsRoom (admitted c.args.self.now c.args.pass.now)
+unfolding admitted
+room_at c = subst IsRoom (c.self.view_is ∙ c.admit.ensures.room) c.self.invariant.0
 
 answered_at : (c : After-serve-reply) → c.serve-reply.result ≡ clip_answer (clipboard_of c.args.self.now.clips.entries)
     (state_now c.args.self.now.scene).input.focus c.args.clip.now.sid (next_clip c.args.clip.now)
 answered_at c =
-    let er = c.self.view_is ∙ c.meet.ensures.room in
+    let er = c.self.view_is ∙ c.admit.ensures.room in
     c.serve-reply.ensures.reply ∙ (λ i. clip_answer (clipboard_of (er i).clips.entries)
     ((c.focus.ensures ∙ ap (λ (r : RoomModel). (state_now r.scene).input.focus) er) i)
     (ap (λ (q : ClipPassModel). q.sid) c.clip.view_is i) (c.next_clip-call.ensures.call i))
 
 booked_at : (c : After-serve-reply) → entries_in c.self.inside.book.entries ≡ c.args.self.now.scene.entries
 booked_at c = c.self.invariant.1
-    ∙ ap (λ (r : RoomModel). without_final r.scene.entries) (c.self.view_is ∙ c.meet.ensures.room)
+    ∙ ap (λ (r : RoomModel). without_final r.scene.entries) (c.self.view_is ∙ c.admit.ensures.room)
     ∙ open_whole _ c.requires.«open»
 
 pub returns-clause-room : goal.returns-clause-room
+unfolding admitted
 returns-clause-room c =
-    let er = c.self.view_is ∙ c.meet.ensures.room in
+    let er = c.self.view_is ∙ c.admit.ensures.room in
     let n = length c.self.inside.parts.scripts.now + 1 in
     let number = number_is er c.clip.view_is c.clip.invariant c.requires.clip.clip_belongs in
     let call = c.next_clip-call.ensures.call ∙ ap next_clip (sym c.clip.view_is) in
     let at = ap length (c.entries.ensures ∙ ap (λ (j : JournalModel). j.entries) c.journal.ensures.entries) in
     let counts = ap (λ (b : BookModel). b.counts) c.count.ensures.book in
-    served_clip _ c.args.self.now _ c.args.clip.now c.count.new.self c.serve-reply.new.self n _ c.focus.result
+    served_clip _ (admitted c.args.self.now c.args.pass.now) _ c.args.clip.now c.count.new.self c.serve-reply.new.self
+    n _ c.focus.result
     c.next_clip-call.result c.serve-reply.result er c.clip.view_is refl
     (ap (λ (b : BookModel). b.name) c.count.ensures.book)
     (ap (take n) counts ∙ take-set-le n c.self.inside.book.counts c.clip.inside.share.number
@@ -69,6 +79,7 @@ returns-clause-room c =
     (ap (λ (b : BookModel). raws_in b.entries) c.count.ensures.book)
 
 pub invariant_of-self : goal.invariant_of-self
+unfolding admitted
 invariant_of-self c =
     let d = (goal.at.invariant_of-self c).After-serve-reply in (
       subst IsRoom (sym (returns-clause-room c))
@@ -83,9 +94,11 @@ invariant_of-clip c = clip_pass_call c.one_more_call.ensures _ _ c.count.new.sha
 
 pub returns-clause-pass : goal.returns-clause-pass
 returns-clause-pass c =
-    c.admit.ensures ∙ ap (λ (p : PassModel). record p { met = p.phase }) c.meet.ensures.pass
-    ∙ ap (λ (js : List Entry). record c.args.pass.now { met = c.args.pass.now.phase; seen = js })
-    (open_whole _ c.requires.«open»)
+    c.admit.ensures.pass ∙ ap (λ (js : List Entry). record c.args.pass.now {
+      met = c.args.pass.now.phase;
+      seen = js;
+      sight = with_stages (stretch_from c.args.pass.now c.args.pass.now.next) c.args.pass.now.sight;
+    }) (open_whole _ c.requires.«open»)
 
 pub returns-clause-clip : goal.returns-clause-clip
 returns-clause-clip c =
@@ -99,7 +112,7 @@ returns-clause-clip c =
 
 pub returns-clause-before : goal.returns-clause-before
 returns-clause-before c = subst (λ (js : List Entry). IsPrefix c.args.pass.now.seen js) (open_whole _ c.requires.«open»)
-    c.meet.ensures.before
+    c.admit.ensures.before
 
 pub returns-clause-clip_before : goal.returns-clause-clip_before
 returns-clause-clip_before c =
@@ -107,9 +120,11 @@ returns-clause-clip_before c =
     (front_of_each (λ r. r.entry) _ _ c.count.ensures.before.front)
 
 pub returns-clause-counted : goal.returns-clause-counted
+unfolding admitted
 returns-clause-counted c = (found_at (goal.at.returns-clause-counted c).After-entries).clip_counted
 
 pub returns-clause-legal_clips : goal.returns-clause-legal_clips
+unfolding admitted
 returns-clause-legal_clips c =
     let d = (goal.at.returns-clause-legal_clips c).After-serve-reply in
     subst (λ (r : RoomModel). IsLegalClips c.args.self.now.parts.config c.args.self.now.scene.entries r.clips.entries)

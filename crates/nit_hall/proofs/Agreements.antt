@@ -1,0 +1,177 @@
+-- A room, and the ends of a client's words that agree.
+use Rattle.nit_hall.proofs.Basics.{Belongs, BufferName, Call, CanAgree, End, IsGlass, IsPass, IsRoom, Line}
+use Rattle.nit_hall.proofs.Basics.{List, Option, PassModel, RoomModel, ShareModel, Sight, Some, [], ap, arith}
+use Rattle.nit_hall.proofs.Basics.{Configuration, Entry, HasMet, OpeningParts, knowing}
+use Rattle.nit_hall.proofs.Basics.{IsWatching, buffers_of, calls_in, calls_of, cases_eq, donation_of}
+use Rattle.nit_hall.proofs.Basics.{get_or_from_slice_get, glass_in, inl, inr, length, map, no_sight, none-some}
+use Rattle.nit_hall.proofs.Basics.{option_map, phases_before, refl, same_Some, script_in, served, slice_get}
+use Rattle.nit_hall.proofs.Basics.{slice_get-map, slice_get_within, slice_index, stretch, subst, sym, table_size}
+use Rattle.nit_hall.proofs.Basics.{take, with_room_stages, without_final, ℕ, ◌∙◌}
+use Rattle.std.proofs.Common.{IsSome, suc, zero, ◌<◌, ◌∷◌, ◌≡◌}
+use Rattle.nit_hall.proofs.Basics.{SceneModel, with_end_stages}
+use Rattle.nit_hall.proofs.EndStages.{other_end, own_end, same_buffers, same_ink, same_stands}
+use Rattle.nit_hall.proofs.EndStages.{sights_of}
+use Rattle.nit_hall.proofs.ServedCalls.{calls_made}
+
+-- the reader's end of a client, which is of its buffer
+pub record HasEnd (ends : List End) (sid : ℕ) (buffer : BufferName) : Type 0 where
+  pub lens : End
+  pub there : slice_get ends sid ≡ Some lens
+  pub of_buffer : lens.stand.buffer ≡ buffer
+
+pub end_of_buffer : (ends : List End) (sid : ℕ) (buffer : BufferName)
+    → slice_get (buffers_of ends) sid ≡ Some buffer → HasEnd ends sid buffer
+end_of_buffer [] sid buffer at = absurd (none-some buffer at)
+end_of_buffer (e ∷ rest) zero buffer at = record { lens = e; there = refl; of_buffer = same_Some _ _ at }
+end_of_buffer (e ∷ rest) (suc n) buffer at = let h = end_of_buffer rest n buffer at in
+    record { lens = h.lens; there = h.there; of_buffer = h.of_buffer }
+
+-- the sight of the end there
+sight_at : (ends : List End) (sid : ℕ) (e : End) → slice_get ends sid ≡ Some e → glass_in (sights_of ends) sid ≡ e.sight
+sight_at ends sid e at = get_or_from_slice_get (sights_of ends) sid e.sight no_sight
+    (slice_get-map (λ (e : End). e.sight) ends sid ∙ ap (option_map (λ (e : End). e.sight)) at)
+
+-- a client's pass can agree with the room that it belongs to
+pub can_agree : {r : RoomModel} {p : PassModel} {share : ShareModel} (spare : End) → IsRoom r → Belongs r.parts p
+    → IsPass p share spare → r.parts.buffers ≡ buffers_of r.scene.glasses
+    → CanAgree r.scene p.sid (record { sight = p.sight; stand = p.stand }) spare
+can_agree {r = r} {p = p} spare room of is buffers =
+    let here = end_of_buffer r.scene.glasses p.sid p.stand.buffer (ap (λ bs. slice_get bs p.sid) (sym buffers)
+    ∙ of.buffer) in
+    let inside = slice_get_within r.parts.scripts p.sid p.script of.script in
+    let sight = sight_at r.scene.glasses p.sid here.lens here.there in
+    let watch = room.watching p.sid inside in
+    record {
+      session = let n = room.sessions in let c = ap (λ c. length c.clients) room.config in omega (arith, inside, n, c);
+      lens = here.lens;
+      there = here.there;
+      buffer = here.of_buffer;
+      knows = subst (λ (o : Option (List (List ℕ))). IsSome o)
+          (sym watch.stages_are ∙ ap (λ (g : Sight). g.stages) sight) refl;
+      agreed = is.agreed;
+      spare_fits = (
+        is.spare_owner,
+        is.spare_size ∙ is.painted.size ∙ ap table_size (of.donation
+            ∙ ap (λ c. donation_of c p.sid) (sym room.config)),
+      );
+    }
+
+-- and behind a call, in which the two agreed on these stages
+pub can_agree_again : {scene called : SceneModel End} {sid : ℕ} {canvas canvas' spare : End} (stages : List (List ℕ))
+    → CanAgree scene sid canvas spare → called.config ≡ scene.config
+    → map (λ (e : End). e.stand) called.glasses ≡ map (λ (e : End). e.stand) (with_end_stages sid stages scene.glasses)
+    → glass_in (sights_of called.glasses) sid ≡ glass_in (sights_of (with_end_stages sid stages scene.glasses)) sid
+    → canvas'.stand.buffer ≡ canvas.stand.buffer → IsSome canvas'.sight.stages → CanAgree called sid canvas' spare
+can_agree_again {scene = scene} {called = called} {sid = sid} {canvas = canvas} {spare = spare} stages can config rests
+    idle buffer agreed =
+    let buffers : buffers_of called.glasses ≡ buffers_of scene.glasses =
+    same_buffers _ _ (rests ∙ same_stands sid stages scene.glasses) in
+    let here = end_of_buffer called.glasses sid canvas.stand.buffer (ap (λ bs. slice_get bs sid) buffers
+    ∙ slice_get-map (λ (e : End). e.stand.buffer) scene.glasses sid
+    ∙ ap (option_map (λ (e : End). e.stand.buffer)) can.there ∙ ap (λ (b : BufferName). Some b) can.buffer) in
+    let many = slice_get_within scene.glasses sid can.lens can.there in
+    record {
+      session = let s = can.session in let n = ap (λ (c : Configuration). length c.clients) config in omega
+          (arith, s, n);
+      lens = here.lens;
+      there = here.there;
+      buffer = here.of_buffer ∙ sym buffer;
+      knows = subst (λ (g : Sight). IsSome g.stages) (sym (sym (sight_at called.glasses sid here.lens here.there)
+          ∙ idle ∙ own_end sid stages scene.glasses many)) refl;
+      agreed = agreed;
+      spare_fits = subst (λ (c : Configuration). IsGlass c sid spare.sight) (sym config) can.spare_fits;
+    }
+
+-- the room when a pass was admitted: its end of the client's words knows the stretch from the next line on
+pub room_admitted : {r : RoomModel} {sid : ℕ} {script : List Line} (next : ℕ) → IsRoom r
+    → slice_get r.parts.scripts sid ≡ Some script → slice_index r.counts sid ≡ length (served (take next script))
+    → phases_before script next ≡ r.phase → sid < length r.scene.glasses
+    → IsRoom (with_room_stages r sid (stretch script (donation_of r.parts.config sid) next))
+room_admitted {r = r} {sid = sid} {script = script} next room at counted ready many =
+    let stages = stretch script (donation_of r.parts.config sid) next in
+    let there : script_in r.parts.scripts sid ≡ script = get_or_from_slice_get r.parts.scripts sid script [] at in
+    let made = calls_made r sid next script room at counted in
+    record {
+      config = room.config;
+      legal = room.legal;
+      sessions = room.sessions;
+      clients = room.clients;
+      follows = room.follows;
+      phases = room.phases;
+      inks = λ t. same_ink sid stages r.scene.glasses t ∙ room.inks t;
+      watching = λ t inside. elim (cases_eq t sid) [
+        | inl e ↦ subst (λ (x : ℕ). IsWatching (script_in r.parts.scripts x) (donation_of r.parts.config x)
+            (length (calls_of x (without_final r.scene.entries))) r.phase
+            (glass_in (sights_of (with_room_stages r sid stages).scene.glasses) x)) (sym e) (record {
+              since = next;
+              stages_are = ap (λ (g : Sight). g.stages) (own_end sid stages r.scene.glasses many)
+                  ∙ ap (λ (ls : List Line). Some (stretch ls (donation_of r.parts.config sid) next)) (sym there);
+              behind = ap (λ (ls : List Line). length (calls_in (take next ls))) there
+                  ∙ ap (λ (cs : List Call). length cs) (sym made);
+              begun = let same = ap (λ (ls : List Line). phases_before ls next) there in omega (arith, same, ready);
+            })
+        | inr ne ↦
+            let w = room.watching t inside in
+            record {
+              since = w.since;
+              stages_are = ap (λ (g : Sight). g.stages) (other_end sid stages r.scene.glasses t ne) ∙ w.stages_are;
+              behind = w.behind;
+              begun = w.begun;
+            }
+      ];
+      near = room.near;
+      room = room.room;
+      ended = room.ended;
+      clips_follow = room.clips_follow;
+      history = room.history;
+      history_ends = room.history_ends;
+    }
+
+-- ---- a pass that has met the room
+
+belongs_knowing : {parts : OpeningParts} {p : PassModel} (known : List Entry) → Belongs parts p
+    → Belongs parts (knowing known p)
+belongs_knowing known of = record {
+  name = of.name;
+  script = of.script;
+  plan = of.plan;
+  donation = of.donation;
+  buffer = of.buffer;
+}
+
+-- the room and the pass when they have met: the pass belongs to the room, its lines are counted, and it is in the phase
+-- that is served
+pub record IsMet (r : RoomModel) (p : PassModel) : Type 0 where
+  pub belongs : Belongs r.parts p
+  pub counted : slice_index r.counts p.sid ≡ length (served (take p.next p.script))
+  pub phase : p.phase ≡ r.phase
+
+pub room_and_pass_met : {r₀ r r' : RoomModel} {p₀ p p' : PassModel} → r ≡ r' → p ≡ p' → HasMet r₀ p₀ r' p'
+    → Belongs r₀.parts p₀ → p₀.phase ≡ r₀.phase → IsMet r p
+room_and_pass_met {r₀ = r₀} {p₀ = p₀} er ep met of ready =
+    rw (er ∙ met.room, ep ∙ met.pass) (record {
+      belongs = belongs_knowing (without_final r₀.scene.entries) of;
+      counted = met.counted;
+      phase = ready;
+    })
+
+-- ---- the room and its scene
+
+-- the room whose scene has an end that knows other stages, part by part
+pub staged_room : (r : RoomModel) (scene' : SceneModel End) (sid : ℕ) (stages : List (List ℕ))
+    → r.scene.config ≡ r.parts.config → r.parts.buffers ≡ buffers_of r.scene.glasses
+    → scene' ≡ record r.scene { glasses = with_end_stages sid stages r.scene.glasses }
+    → ◌≡◌ {A = RoomModel} (record r {
+      parts = record r.parts { config = scene'.config; buffers = buffers_of scene'.glasses };
+      scene = scene';
+    }) (with_room_stages r sid stages)
+staged_room r scene' sid stages config buffers is =
+    let same : buffers_of (with_end_stages sid stages r.scene.glasses) ≡ buffers_of r.scene.glasses =
+    same_buffers _ _ (same_stands sid stages r.scene.glasses) in
+    λ i. record r {
+      parts = record r.parts {
+        config = (ap (λ (s : SceneModel End). s.config) is ∙ config) i;
+        buffers = (ap (λ (s : SceneModel End). buffers_of s.glasses) is ∙ same ∙ sym buffers) i;
+      };
+      scene = is i;
+    }

@@ -1,0 +1,112 @@
+-- What serving a call leaves, by what the scene's call did.
+use Rattle.nit_hall.proofs.Basics.{Call, End, Entry, HasLoaded, List, Painted, PassModel, Reply, RoomModel}
+use Rattle.nit_hall.proofs.Basics.{SceneModel, Sight, Some, ap, arith, call_entry, cases_eq, false}
+use Rattle.nit_hall.proofs.Basics.{glass_in, glasses_of_call, in_line, inl, inr, is_accepted, length, length-map}
+use Rattle.nit_hall.proofs.Basics.{lenses, map, next_call, serve, session, sight_after_line, stands}
+use Rattle.nit_hall.proofs.Basics.{state_now, stretch_from, subst, sym, with_end_stages, with_stages, ℕ, ◌∙◌}
+use Rattle.nit_hall.proofs.Basics.{knowing, line_stages, refl}
+use Rattle.std.proofs.Common.{◌+◌, ◌<◌, ◌≡◌}
+use Rattle.nit_hall.proofs.EndStages.{as_long, other_end, own_end, same_stands, stages_again}
+use Rattle.nit_hall.proofs.ServedCalls.{IsCalled, other_there, own_seen, own_there, scene_with, sights}
+
+-- what a scene promises of a call
+pub record CallDid (old called : SceneModel End) (sid : ℕ) (c : Call) (r : Reply) (own own' : Sight) : Type 0 where
+  pub is : IsCalled old called sid c r own own'
+  pub reply_is : r ≡ (serve (session (state_now old) sid) c).reply
+  pub rests : map (λ (e : End). e.stand) called.glasses ≡ map (λ (e : End). e.stand) old.glasses
+  pub refused : is_accepted r ≡ false → (state_now called ≡ state_now old) × (called.raw ≡ old.raw)
+      × (called.glasses ≡ old.glasses) × (own' ≡ own)
+
+-- what the room promises of it, with this scene and this sight of the pass behind it
+pub record ServedClauses (r : RoomModel) (p : PassModel) (scene' : SceneModel End) (sight' : Sight) (reply : Reply)
+    : Type 0 where
+  pub reply_is : reply ≡ (serve (session (state_now r.scene) p.sid) (next_call p)).reply
+  pub painted : Painted (state_now r.scene) (call_entry p reply) (state_now scene')
+      (glasses_of_call (lenses r.scene) p.sid (in_line p (sight_after_line p)))
+      (glasses_of_call (lenses scene') p.sid (in_line p sight')) r.scene.raw scene'.raw
+  pub idle : glass_in (lenses scene') p.sid
+      ≡ with_stages (stretch_from p (p.next + 1)) (glass_in (lenses r.scene) p.sid)
+  pub stand_still : stands scene' ≡ stands r.scene
+  pub refused : is_accepted reply ≡ false → (state_now scene' ≡ state_now r.scene) × (scene'.raw ≡ r.scene.raw)
+      × (scene'.glasses ≡ with_end_stages p.sid (stretch_from p (p.next + 1)) r.scene.glasses)
+      × (sight' ≡ with_stages (stretch_from p (p.next + 1)) (sight_after_line p))
+  pub loaded : HasLoaded (sight_after_line p) sight'
+  pub agreed : sight'.stages ≡ Some (stretch_from p (p.next + 1))
+
+-- the caller's own glass stands in the place of the reader's end that knows other stages
+same_glasses : (scene : SceneModel End) (sid : ℕ) (stages : List (List ℕ)) (own : Sight)
+    → glasses_of_call (sights (scene_with scene sid stages)) sid own ≡ glasses_of_call (sights scene) sid own
+same_glasses scene sid stages own = λ i t. each t i
+  where
+    each : (t : ℕ) → glasses_of_call (sights (scene_with scene sid stages)) sid own t
+        ≡ glasses_of_call (sights scene) sid own t
+    each t = elim (cases_eq t sid) [
+      | inl e ↦ subst (λ (x : ℕ). glasses_of_call (sights (scene_with scene sid stages)) sid own x
+          ≡ glasses_of_call (sights scene) sid own x) (sym e)
+          (own_there (sights (scene_with scene sid stages)) sid own ∙ sym (own_there (sights scene) sid own))
+      | inr ne ↦ other_there (sights (scene_with scene sid stages)) sid own t ne
+          ∙ other_end sid stages scene.glasses t ne ∙ sym (other_there (sights scene) sid own t ne)
+    ]
+
+served_so : (r : RoomModel) (p : PassModel) (called : SceneModel End) (rep : Reply) (own' : Sight)
+    → p.sid < length r.scene.glasses
+    → CallDid (scene_with r.scene p.sid (line_stages p.script p.donation p.next)) called p.sid (next_call p) rep
+    (in_line p (sight_after_line p)) own'
+    → ServedClauses r p (scene_with called p.sid (stretch_from p (p.next + 1)))
+    (with_stages (stretch_from p (p.next + 1)) own') rep
+served_so r p called rep own' many did =
+    let line = line_stages p.script p.donation p.next in
+    let behind = stretch_from p (p.next + 1) in
+    let own = in_line p (sight_after_line p) in
+    let saw = own_seen (sights (scene_with r.scene p.sid line)) (sights called) p.sid own own'
+    (λ t. (did.is.painted.loads t, did.is.painted.sights t)) in
+    let again : in_line p own' ≡ own' = ap (in_line p) saw.1 ∙ sym saw.1 in
+    let there : p.sid < length called.glasses =
+    let n = ap (λ (xs : List _). length xs) did.rests in
+    let a = length-map called.glasses (λ (e : End). e.stand) in
+    let b = length-map (with_end_stages p.sid line r.scene.glasses) (λ (e : End). e.stand) in
+    let d = as_long p.sid line r.scene.glasses in omega (arith, many, n, a, b, d) in
+    record {
+      reply_is = did.reply_is;
+      painted = subst (λ (f : ℕ → Sight). Painted (state_now r.scene) (call_entry p rep) (state_now called) f
+          (glasses_of_call (lenses (scene_with called p.sid behind)) p.sid (in_line p own')) r.scene.raw called.raw)
+          (same_glasses r.scene p.sid line own)
+          (subst (λ (f : ℕ → Sight). Painted (state_now r.scene) (call_entry p rep) (state_now called)
+          (glasses_of_call (sights (scene_with r.scene p.sid line)) p.sid own) f r.scene.raw called.raw)
+          (sym (same_glasses called p.sid behind own')
+          ∙ ap (glasses_of_call (sights (scene_with called p.sid behind)) p.sid) (sym again)) did.is.painted);
+      idle = own_end p.sid behind called.glasses there
+          ∙ ap (with_stages behind) (did.is.idle ∙ own_end p.sid line r.scene.glasses many);
+      stand_still = same_stands p.sid behind called.glasses ∙ did.rests ∙ same_stands p.sid line r.scene.glasses;
+      refused = λ no. let x = did.refused no in (
+        x.0,
+        x.1,
+        ap (with_end_stages p.sid behind) x.2 ∙ stages_again p.sid behind line r.scene.glasses,
+        ap (with_stages behind) x.3,
+      );
+      loaded = (saw.0, ap (with_stages behind) saw.1);
+      agreed = refl;
+    }
+
+-- so for the scene and the sight that stand there
+pub served_clauses : {r : RoomModel} {p : PassModel} {called scene' : SceneModel End} {rep : Reply}
+    {own own' sight' : Sight} (c : Call)
+    → c ≡ next_call p → own ≡ in_line p (sight_after_line p) → p.sid < length r.scene.glasses
+    → CallDid (scene_with r.scene p.sid (line_stages p.script p.donation p.next)) called p.sid c rep own own'
+    → scene' ≡ scene_with called p.sid (stretch_from p (p.next + 1))
+    → sight' ≡ with_stages (stretch_from p (p.next + 1)) own' → ServedClauses r p scene' sight' rep
+served_clauses {r = r} {p = p} {called = called} {rep = rep} {own' = own'} c call own_is many did scene_is sight_is =
+    rw (scene_is, sight_is) (served_so r p called rep own' many (rw (call, own_is) at did))
+
+-- what a pass knows has no part in it
+pub before_it_knew : {r : RoomModel} {p : PassModel} {scene' : SceneModel End} {sight' : Sight} {rep : Reply}
+    (known : List Entry) → ServedClauses r (knowing known p) scene' sight' rep → ServedClauses r p scene' sight' rep
+before_it_knew known s = record {
+  reply_is = s.reply_is;
+  painted = s.painted;
+  idle = s.idle;
+  stand_still = s.stand_still;
+  refused = s.refused;
+  loaded = s.loaded;
+  agreed = s.agreed;
+}

@@ -1,0 +1,110 @@
+-- What a reader's end shows, by the stretch of its script that it knows.
+use Rattle.nit_hall.proofs.Basics.{Call, Configuration, Entry, IfSome, IsAmong, IsLegal}
+use Rattle.nit_hall.specs.Below.{LegalFrom}
+use Rattle.nit_hall.proofs.Basics.{IsLoaded, IsWatching, Line, List, MayHaveDone, Option, Sight}
+use Rattle.nit_hall.proofs.Basics.{Some, State, [], after, ap, arith, as_many, calls_in, calls_of, first_state}
+use Rattle.nit_hall.proofs.Basics.{get_or_past}
+use Rattle.nit_hall.proofs.Basics.{length, ne_eqb, phases_before, refl, slice_index, stretch, stretch_end}
+use Rattle.nit_hall.proofs.Basics.{subst, sym, take, within_only, words_after, ℕ, ◌∙◌}
+use Rattle.std.proofs.Common.{◌+◌, ◌<◌, ◌∷◌, ◌≡◌, ◌≤◌}
+use Rattle.nit_events.specs.declared.entry.Entry.TheVariants as entry
+use Rattle.nit_hall.proofs.Stretches.{stretch_same}
+use Rattle.nit_hall.proofs.NearLemmas.{ink_behind, told_word}
+use Rattle.nit_hall.proofs.Basics.{Ink, IsInked, append-nil, as_many_as_clients, calls_of-append}
+use Rattle.nit_hall.proofs.Basics.{cases_lt, donation_of, ink_in, inl, inr, no_ink, script_in, table_size, zero_at}
+use Rattle.std.proofs.Common.{◌++◌}
+
+-- a word of the table that was left by a number of lines that end so many phases at most, and of
+-- which so many are calls
+pub record IsLeftBy (script : List Line) (donation made ended i w : ℕ) : Type 0 where
+  pub lines : ℕ
+  pub calls : length (calls_in (take lines script)) ≡ made
+  pub phases : phases_before script lines ≤ ended
+  pub word : w ≡ slice_index (words_after script donation lines) i
+
+-- what was loaded through such an end was left by the lines of its stretch
+pub left_by_stretch : (script : List Line) (donation made ended i w : ℕ) (g : Sight)
+    → IsWatching script donation made ended g → IsLoaded g i w → IsLeftBy script donation made ended i w
+left_by_stretch script donation made ended i w g watch loaded =
+    let stage : IsAmong (stretch script donation watch.since) i w =
+    subst (λ (o : Option (List (List ℕ))). IfSome o (λ stages. IsAmong stages i w)) watch.stages_are loaded.stage in
+    let n = within_only script donation watch.since (stretch_end script watch.since) i w stage in
+    let same = stretch_same script watch.since n.0 n.1 n.2 in
+    let phases = same.1 in
+    let begun = watch.begun in
+    record {
+      lines = n.0;
+      calls = ap length same.0 ∙ watch.behind;
+      phases = omega (arith, phases, begun);
+      word = n.3;
+    }
+
+-- ---- a session that there is not makes no call
+
+no_calls_from : (s : State) (taken t : ℕ) (entries : List Entry) → length s.sessions ≤ t → LegalFrom s taken entries
+    → calls_of t entries ≡ []
+no_calls_from s taken t [] past legal = refl
+no_calls_from s taken t (entry.Call sid call r ∷ rest) past legal =
+    let inside = legal.0.0 in
+    rw (ne_eqb sid t (λ e. omega (arith, e, inside, past)))
+    (no_calls_from (after s (entry.Call sid call r)) taken t rest
+    (let same = as_many s (entry.Call sid call r) in omega (arith, same, past)) legal.1)
+no_calls_from s taken t (entry.Input dev routed ∷ rest) past legal =
+    no_calls_from (after s (entry.Input dev routed)) taken t rest
+    (let same = as_many s (entry.Input dev routed) in omega (arith, same, past)) legal.1
+no_calls_from s taken t (entry.Shot number ∷ rest) past legal = no_calls_from s (taken + 1) t rest past legal.1
+no_calls_from s taken t (entry.Final ∷ rest) past legal = ap (calls_of t) legal
+
+pub no_calls : (config : Configuration) (t : ℕ) (entries : List Entry) → length (first_state config).sessions ≤ t
+    → IsLegal config entries → calls_of t entries ≡ []
+no_calls config t entries past legal = no_calls_from (first_state config) 0 t entries past legal
+
+-- ---- what is shown of a session behind the next entry
+
+-- what was loaded was left by lines that the session may have done behind these entries
+abbrev pub WasLeft : Configuration → List (List Line) → ℕ → ℕ → List Entry → ℕ → ℕ → Type 0
+WasLeft config scripts ended t entries i w = (n : ℕ) × MayHaveDone scripts ended t entries n
+    × (w ≡ slice_index (words_after (script_in scripts t) (donation_of config t) n) i)
+
+-- through the reader's end of a session, behind an entry that is no call of it
+pub lens_shows : (config : Configuration) (scripts : List (List Line)) (ended : ℕ) (entries : List Entry) (e : Entry)
+    (t : ℕ) (g : Sight) → IsLegal config (entries ++ e ∷ []) → length scripts ≡ length config.clients
+    → g.ink ≡ ink_in config scripts t
+    → (t < length scripts
+    → IsWatching (script_in scripts t) (donation_of config t) (length (calls_of t entries)) ended g)
+    → calls_of t (e ∷ []) ≡ [] → (i w : ℕ) → IsLoaded g i w → WasLeft config scripts ended t (entries ++ e ∷ []) i w
+lens_shows config scripts ended entries e t g legal sessions inked watch none i w loaded =
+    elim (cases_lt t (length scripts)) [
+      | inl inside ↦ let l = left_by_stretch _ _ _ _ i w g (watch inside) loaded in (
+        l.lines,
+        record {
+          calls = l.calls ∙ sym (ap (λ (cs : List Call). length cs) (calls_of-append t entries (e ∷ [])
+              ∙ ap (λ (cs : List Call). calls_of t entries ++ cs) none ∙ append-nil (calls_of t entries)));
+          phases = λ still_open. l.phases;
+        },
+        l.word,
+      )
+      | inr past ↦
+          let no_script : script_in scripts t ≡ [] = past_script scripts t past in
+          let zero_ : w ≡ 0 = no_ink i w (subst (λ (x : Ink). IsInked x i w)
+          (inked ∙ sym (ink_behind config scripts t past)) loaded.inked) in
+          let silent = no_calls config t (entries ++ e ∷ []) (let n = as_many_as_clients config [] in
+          omega (arith, n, sessions, past)) legal in (
+            0,
+            record {
+              calls = sym (ap (λ (cs : List Call). length cs) silent);
+              phases = λ still_open. omega arith;
+            },
+            zero_ ∙ sym (zero_at (table_size (donation_of config t)) i),
+          )
+    ]
+  where
+    past_script : (scripts : List (List Line)) (t : ℕ) → length scripts ≤ t → script_in scripts t ≡ []
+    past_script scripts t past = get_or_past scripts t [] past
+
+-- through a glass that tells what so many lines have left
+pub told_shows : (config : Configuration) (scripts : List (List Line)) (ended : ℕ) (entries : List Entry) (t n : ℕ)
+    (g : Sight) → g.words ≡ Some (words_after (script_in scripts t) (donation_of config t) n)
+    → MayHaveDone scripts ended t entries n → (i w : ℕ) → IsLoaded g i w → WasLeft config scripts ended t entries i w
+told_shows config scripts ended entries t n g told may i w loaded =
+    (n, may, told_word g.words (words_after (script_in scripts t) (donation_of config t) n) i w told loaded.told)
