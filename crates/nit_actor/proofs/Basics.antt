@@ -18,7 +18,8 @@ pub use Rattle.nit_actor.specs.Terms.{scenery_of, shot_name, shots, shown, slice
 pub use Rattle.nit_actor.specs.Terms.{slice_index_or, user_actions_from, user_actions_in}
 pub use Rattle.nit_actor.specs.Terms.{user_actions_of, user_actions_to_do, user_phase_left}
 pub use Rattle.nit_actor.specs.Terms.{File, IsHeld, IsHeldPicture, IsHistory, IsPictureAmong}
-pub use Rattle.nit_actor.specs.Terms.{ShowOneHistory, is_dirtied, raw_behind, user_role_of}
+pub use Rattle.nit_actor.specs.Terms.{AreOfOneHistory, StaysClean, is_dirtied, raw_behind}
+pub use Rattle.nit_actor.specs.Terms.{user_role_of}
 pub use Rattle.nit_hall.proofs.ForCallers.{counted_more, counted_same, actions_line, split_more}
 pub use Rattle.nit_journal.proofs.ForCallers.{actions_of-append, same_throughout}
 pub use Rattle.nit_rounds.proofs.ForCallers.{as_many_files, file_of_a_shot, files_both, no_files}

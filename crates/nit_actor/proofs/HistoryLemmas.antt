@@ -1,6 +1,6 @@
 -- One history of raw words along a whole journal, and its shots.
-use Rattle.nit_actor.proofs.Basics.{Configuration, Entry, File, IsHeld, IsHeldPicture, IsHistory}
-use Rattle.nit_actor.proofs.Basics.{IsPictureAmong, Line, List, ShotsBehind, ShowOneHistory, [], ap}
+use Rattle.nit_actor.proofs.Basics.{Configuration, Entry, File, InputLine, IsHeld, IsHeldPicture, IsHistory}
+use Rattle.nit_actor.proofs.Basics.{IsPictureAmong, Line, List, ShotsBehind, AreOfOneHistory, [], ap}
 use Rattle.nit_actor.proofs.Basics.{append-nil, append_assoc, get_or_from_slice_get, is_dirtied}
 use Rattle.nit_actor.proofs.Basics.{length, length-append, arith, raw_behind, refl, shots_along}
 use Rattle.nit_actor.proofs.Basics.{slice_index_or, split_more, subst, suc, sym, ℕ, ◌∙◌, inl, inr}
@@ -24,16 +24,18 @@ held_along config entries journal raws is ended = record {
         not_both (is_dirtied config front entry.Final k) refl
         (subst (λ (x : Entry). is_dirtied config front x k ≡ false) same clean)
 
-pub one_history : (config : Configuration) (scripts : List (List Line)) (entries journal : List Entry)
-    (raws : List (List ℕ)) (files : List File) → IsHistory config entries raws → journal ≡ entries ++ entry.Final ∷ []
-    → ShotsBehind (IsPictureAmong raws config scripts) [] journal files → ShowOneHistory config scripts journal files
-one_history config scripts entries journal raws files is ended are =
+pub one_history : (config : Configuration) (scripts : List (List Line)) (input : List InputLine)
+    (entries journal : List Entry) (raws : List (List ℕ)) (files : List File) → IsHistory config entries raws
+    → journal ≡ entries ++ entry.Final ∷ []
+    → ShotsBehind (IsPictureAmong raws config scripts input) [] journal files
+    → AreOfOneHistory config scripts input journal files
+one_history config scripts input entries journal raws files is ended are =
     let held = held_along config entries journal raws is ended in
     record {
       held = raw_behind raws;
       is_held = held;
-      shown = shots_along (IsPictureAmong raws config scripts) (IsHeldPicture (raw_behind raws) config scripts) []
-          journal files (λ known rest n bytes parts pic. (
+      shown = shots_along (IsPictureAmong raws config scripts input)
+          (IsHeldPicture (raw_behind raws) config scripts input) [] journal files (λ known rest n bytes parts pic. (
             pic.0,
             λ k inside. sym (ap (λ (ws : List ℕ). slice_index_or ws k 0)
                 (get_or_from_slice_get raws (length known) pic.0.1.0 [] pic.1))

@@ -47,10 +47,22 @@ roles_long ps qs e = same_long role_of ps qs e
 -- ---- of one opening
 
 pub role_fits : (parts : OpeningParts) (p : PassModel) → Belongs parts p → IsRoleIn parts (role_of p)
-role_fits parts p b = record { name = b.name; script = b.script; plan = b.plan; donation = b.donation }
+role_fits parts p b = record {
+  name = b.name;
+  script = b.script;
+  plan = b.plan;
+  donation = b.donation;
+  buffer = b.buffer;
+}
 
 pub fits_belongs : (parts : OpeningParts) (p : PassModel) → IsRoleIn parts (role_of p) → Belongs parts p
-fits_belongs parts p r = record { name = r.name; script = r.script; plan = r.plan; donation = r.donation }
+fits_belongs parts p r = record {
+  name = r.name;
+  script = r.script;
+  plan = r.plan;
+  donation = r.donation;
+  buffer = r.buffer;
+}
 
 pub roles_fit : (parts : OpeningParts) (ps : List PassModel) → All (λ (p : PassModel). Belongs parts p) ps
     → All (λ (p : PassModel). IsRoleIn parts (role_of p)) ps

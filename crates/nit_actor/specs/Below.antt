@@ -21,12 +21,13 @@ pub use Rattle.nit_hall.specs.Pass.{Belongs, HasMetPhase, IsAtDevice, IsAtPhase,
 pub use Rattle.nit_hall.specs.Pass.{IsAtStroke, IsAtUserPhase, PassModel, UserBelongs}
 pub use Rattle.nit_hall.specs.Pass.{UserPassModel, call_of_line, next_device, sight_after_line}
 pub use Rattle.nit_hall.specs.Room.{RoomModel, after_arrival, arrived_one}
-pub use Rattle.nit_hall.specs.ServedLines.{phases_before, user_actions_in}
+pub use Rattle.nit_hall.specs.ServedLines.{phases_at_shot, phases_before, user_actions_in}
 pub use Rattle.nit_journal.specs.Replay.{IsOpen, replay, shots}
 pub use Rattle.nit_journal.specs.WholeJournals.{Action, Calls, UserAction, action_of}
 pub use Rattle.nit_journal.specs.WholeJournals.{user_actions_of}
 pub use Rattle.nit_ledger.specs.Book.{BookName}
 pub use Rattle.nit_overlay.specs.Frame.{shown}
+pub use Rattle.nit_pixels.specs.End.{BufferName}
 pub use Rattle.nit_plan.specs.Calls.{calls_in, user_actions_from, user_actions_to_do}
 pub use Rattle.nit_plan.specs.Plan.{PlanModel}
 pub use Rattle.nit_report.specs.Picture.{picture, picture_length}

@@ -52,11 +52,15 @@ pub record PairIsThrough (p : PassModel) (q : ClipPassModel) (p' : PassModel) (q
   pub clip_done : q'.next ≡ length q'.script
   pub together : GoTogether p' q'
 
--- Only clip calls were done: the pass stands where it stood, and may know more, and the clip pass
--- is further on in its phase.
+-- Only clip calls were done: the pass stands where it stood, and may know more and agree on other
+-- stages, and the clip pass is further on in its phase.
 pub record DidClips (parts : OpeningParts) (p : PassModel) (q : ClipPassModel) (p' : PassModel)
     (q' : ClipPassModel) : Type 0 where
-  pub pass : p' ≡ record p { met = p'.met; seen = p'.seen }
+  pub pass : p' ≡ record p {
+    met = p'.met;
+    seen = p'.seen;
+    sight = record p.sight { stages = p'.sight.stages };
+  }
   pub clip : q' ≡ record q { next = q'.next; seen = q'.seen }
   pub pair : IsPairIn parts p' q'
 

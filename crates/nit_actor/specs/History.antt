@@ -1,8 +1,8 @@
 -- One history of raw words, and the pictures of a journal's shots that show it. Pixels count from
 -- 0, row by row from the top.
 use Rattle.std.specs.Prelude.{◌≡◌, ℕ, suc, ◌*◌, ◌<◌, false, List, ◌∷◌, ◌++◌, length}
-use Rattle.nit_actor.specs.Below.{AreShotsOf, Configuration, Entry, File, Line, bare_word}
-use Rattle.nit_actor.specs.Below.{is_dirtied, slice_index_or}
+use Rattle.nit_actor.specs.Below.{AreShotsOf, Configuration, Entry, File, InputLine, Line}
+use Rattle.nit_actor.specs.Below.{bare_word, is_dirtied, slice_index_or}
 use Rattle.nit_actor.specs.Pictures.{IsNearPicture}
 
 -- What each pixel holds behind the first n entries of a journal, `held n k`: at first the bare
@@ -15,18 +15,25 @@ pub record IsHeld (config : Configuration) (journal : List Entry) (held : ℕ �
       → is_dirtied config front e k ≡ false
       → held (suc (length front)) k ≡ held (length front) k
 
--- the bytes are a picture that these entries allow, by the words that are held behind them
-abbrev pub IsHeldPicture : (ℕ → ℕ → ℕ) → Configuration → List (List Line) → List Entry → List ℕ
-    → Type 0
-IsHeldPicture held config scripts entries bytes =
-    (near : IsNearPicture config scripts entries bytes)
+-- none of these entries, which stand behind this front of a journal, makes the pixel dirty
+abbrev pub StaysClean : Configuration → List Entry → List Entry → ℕ → Type 0
+StaysClean config front between k = (before : List Entry) (e : Entry) (more : List Entry)
+    → between ≡ before ++ e ∷ more → is_dirtied config (front ++ before) e k ≡ false
+
+-- the bytes are a picture that these entries allow at the next shot of this input script, by the
+-- words that are held behind them
+abbrev pub IsHeldPicture : (ℕ → ℕ → ℕ) → Configuration → List (List Line) → List InputLine
+    → List Entry → List ℕ → Type 0
+IsHeldPicture held config scripts input entries bytes =
+    (near : IsNearPicture config scripts input entries bytes)
     × ((k : ℕ) → k < config.width * config.height
     → slice_index_or near.1.0 k 0 ≡ held (length entries) k)
 
 -- There is one history of raw words, and the files are those of the shots of a journal, in order:
--- each is a picture that the entries before its shot allow, by the words that are held then.
-pub record ShowOneHistory (config : Configuration) (scripts : List (List Line))
-    (journal : List Entry) (files : List File) : Type 0 where
+-- each is a picture that the entries before its shot allow at this shot of the input script, by the
+-- words that are held then.
+pub record AreOfOneHistory (config : Configuration) (scripts : List (List Line))
+    (input : List InputLine) (journal : List Entry) (files : List File) : Type 0 where
   pub held : ℕ → ℕ → ℕ
   pub is_held : IsHeld config journal held
-  pub shown : AreShotsOf (IsHeldPicture held config scripts) journal files
+  pub shown : AreShotsOf (IsHeldPicture held config scripts input) journal files

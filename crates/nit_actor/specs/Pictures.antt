@@ -1,26 +1,31 @@
 -- The pictures of the shots of a journal that threads made, and which of them were put.
 use Rattle.std.specs.Prelude.{◌≡◌, ℕ, List, ◌++◌, Some, length, slice_get}
-use Rattle.nit_actor.specs.Below.{AreShotsOf, Configuration, Entry, File, IsNearFrame, Line}
-use Rattle.nit_actor.specs.Below.{OpeningParts, PutState, PutsAll, ShotsBehind, picture, shots}
+use Rattle.nit_actor.specs.Below.{AreShotsOf, Configuration, Entry, File, InputLine, IsNearFrame}
+use Rattle.nit_actor.specs.Below.{Line, OpeningParts, PutState, PutsAll, ShotsBehind}
+use Rattle.nit_actor.specs.Below.{phases_at_shot, picture, shots}
 
 -- The bytes are the picture of a frame of the state that these entries lead to, in which each pixel
--- holds a word that it may hold after them.
-abbrev pub IsNearPicture : Configuration → List (List Line) → List Entry → List ℕ → Type 0
-IsNearPicture config scripts entries bytes =
-    (words : List ℕ) × IsNearFrame config scripts entries words
+-- holds a word that it may hold after them, at the next shot of this input script.
+abbrev pub IsNearPicture : Configuration → List (List Line) → List InputLine → List Entry → List ℕ
+    → Type 0
+IsNearPicture config scripts input entries bytes =
+    (words : List ℕ)
+    × IsNearFrame config scripts (phases_at_shot input (shots entries)) entries words
     × (bytes ≡ picture config.width config.height words)
 
 -- the files are those of the shots of a journal, in order, and each is a picture that the entries
--- before its shot allow
-abbrev pub AreNearShots : Configuration → List (List Line) → List Entry → List File → Type 0
-AreNearShots config scripts journal files = AreShotsOf (IsNearPicture config scripts) journal files
+-- before its shot allow at this shot of the input script
+abbrev pub AreNearShots : Configuration → List (List Line) → List InputLine → List Entry
+    → List File → Type 0
+AreNearShots config scripts input journal files =
+    AreShotsOf (IsNearPicture config scripts input) journal files
 
 -- so it is by the one of these lists of raw words that has as many in front of it as there are
 -- entries: the words behind the next entry, which is the shot
-abbrev pub IsPictureAmong : List (List ℕ) → Configuration → List (List Line) → List Entry → List ℕ
-    → Type 0
-IsPictureAmong raws config scripts entries bytes =
-    (near : IsNearPicture config scripts entries bytes)
+abbrev pub IsPictureAmong : List (List ℕ) → Configuration → List (List Line) → List InputLine
+    → List Entry → List ℕ → Type 0
+IsPictureAmong raws config scripts input entries bytes =
+    (near : IsNearPicture config scripts input entries bytes)
     × (slice_get raws (length entries) ≡ Some near.1.0)
 
 -- there are further entries now, and no shot among them
@@ -36,5 +41,6 @@ pub record PutsShotsBehind (parts : OpeningParts) (before after' : List Entry)
   pub more : List Entry
   pub grown : after' ≡ before ++ more
   pub files : List File
-  pub are : ShotsBehind (IsPictureAmong raws parts.config parts.scripts) before more files
+  pub are : ShotsBehind (IsPictureAmong raws parts.config parts.scripts parts.input) before more
+      files
   pub put : PutsAll files old new

@@ -1,15 +1,17 @@
 -- Who an actor is and what it has to do. No line that it does changes this.
 use Rattle.std.specs.Prelude.{◌≡◌, ◌+◌, ℕ, All, List, length, map, slice_get, Some}
-use Rattle.nit_actor.specs.Below.{BookName, InputLine, Line, OpeningParts, PassModel, PlanModel}
-use Rattle.nit_actor.specs.Below.{UserPassModel, donation_of}
+use Rattle.nit_actor.specs.Below.{BookName, BufferName, InputLine, Line, OpeningParts, PassModel}
+use Rattle.nit_actor.specs.Below.{PlanModel, UserPassModel, donation_of}
 
--- a client's: its number, the name of its room's book, its script, the plan of it, and its donation
+-- a client's: its number, the name of its room's book, its script, the plan of it, its donation,
+-- and the buffer of its words
 pub record Role : Type 0 where
   pub sid : ℕ
   pub name : BookName
   pub script : List Line
   pub plan : PlanModel
   pub donation : ℕ
+  pub buffer : BufferName
 
 -- the role of a client's pass
 abbrev pub role_of : PassModel → Role
@@ -19,6 +21,7 @@ role_of p = record {
   script = p.script;
   plan = p.plan;
   donation = p.donation;
+  buffer = p.stand.buffer;
 }
 
 -- the next line of the pass is this one
@@ -57,3 +60,4 @@ pub record IsRoleIn (parts : OpeningParts) (r : Role) : Type 0 where
   pub script : slice_get parts.scripts r.sid ≡ Some r.script
   pub plan : slice_get parts.plans r.sid ≡ Some r.plan
   pub donation : r.donation ≡ donation_of parts.config r.sid
+  pub buffer : slice_get parts.buffers r.sid ≡ Some r.buffer

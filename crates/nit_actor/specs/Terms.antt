@@ -10,7 +10,8 @@ pub use Rattle.nit_actor.specs.Below.{UserBelongsAt, UserPassModel, action_of, a
 pub use Rattle.nit_actor.specs.Below.{arrived_one, call_of_line, calls_in, clip_phases}
 pub use Rattle.nit_actor.specs.Below.{clip_phases_before, cons_option, is_clip_phase, is_phase}
 pub use Rattle.nit_actor.specs.Below.{next_device, phases}
-pub use Rattle.nit_actor.specs.Below.{phases_before, picture, pixel, pixel_count, replay}
+pub use Rattle.nit_actor.specs.Below.{phases_at_shot, phases_before, picture, pixel, pixel_count}
+pub use Rattle.nit_actor.specs.Below.{replay}
 pub use Rattle.nit_actor.specs.Below.{scenery_of, shot_name, shots, shown, sight_after_line}
 pub use Rattle.nit_actor.specs.Below.{slice_index, slice_index_or, user_actions_from}
 pub use Rattle.nit_actor.specs.Below.{user_actions_in, user_actions_of, user_actions_to_do}
@@ -23,7 +24,7 @@ pub use Rattle.nit_actor.specs.IdleUser.{actions_to_be, idle_user}
 pub use Rattle.nit_actor.specs.PhasesLeft.{IsLeastOf, NoneIsBefore, lesser, pair_phase_left}
 pub use Rattle.nit_actor.specs.PhasesLeft.{phase_left, phases_left, user_phase_left}
 pub use Rattle.nit_actor.specs.Below.{IsHistory, bare_word, is_dirtied, raw_behind}
-pub use Rattle.nit_actor.specs.History.{IsHeld, IsHeldPicture, ShowOneHistory}
+pub use Rattle.nit_actor.specs.History.{AreOfOneHistory, IsHeld, IsHeldPicture, StaysClean}
 pub use Rattle.nit_actor.specs.Pictures.{AreNearShots, IsNearPicture, IsPictureAmong}
 pub use Rattle.nit_actor.specs.Pictures.{PutsShotsBehind}
 pub use Rattle.nit_actor.specs.Role.{AreThrough, IsAtLine, IsOneOn, IsRoleIn, IsThrough, Role}

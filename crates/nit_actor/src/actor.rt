@@ -132,7 +132,11 @@ fn wait_for_stroke<'a, N: Name, R: Wait>(
     line: &Line,
 )
     requires belongs { Belongs N.parts pass.old }
-    ensures pass { pass.new ≡ record pass.old { met = pass.new.met } }
+    ensures pass { pass.new ≡ record pass.old {
+      met = pass.new.met;
+      seen = pass.new.seen;
+      sight = pass.new.sight;
+    } }
     ensures stroke { (stroke : Stroke) → line.now ≡ lines.Stroke stroke → HasMetPhase pass.new }
 {
     if matches!(line, Line::Stroke(_)) && !pass.has_met_phase() {

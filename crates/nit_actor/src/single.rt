@@ -3,7 +3,7 @@
 ghost use Rattle.std.specs.Prelude.{◌≡◌, ◌+◌, ◌++◌, drop, length, map};
 ghost use Rattle.nit_actor.specs.Terms.{AloneOn, AreAlone, Belongs, Calls, IsAtLine, IsAtPhase};
 ghost use Rattle.nit_actor.specs.Terms.{IsAtStroke, IsOpen, IsThrough, StepOn, StepTogether};
-ghost use Rattle.nit_actor.specs.Terms.{action_of, calls_in, sight_after_line, user_role_of};
+ghost use Rattle.nit_actor.specs.Terms.{action_of, calls_in, user_role_of};
 
 use nit_hall::{Pass, Room, UserPass};
 use nit_script::Line;
@@ -43,18 +43,25 @@ fn do_line<'a>(room: &mut Room<'a>, pass: &mut Pass<'a>, user: &mut UserPass<'a>
     }
 }
 
-/// The client makes its next line, which is a stroke, in the phase that is served.
-fn stroke<'a>(room: &Room<'a>, pass: &mut Pass<'a>)
-    requires belongs { Belongs room.now.parts pass.old }
+/// The client makes its next line, which is a stroke, in the phase that is served. It finds its
+/// phase served first, where it has not yet: then it and the room agree on other stages.
+fn stroke<'a>(room: &mut Room<'a>, pass: &mut Pass<'a>)
+    requires belongs { Belongs room.old.parts pass.old }
     requires next { IsAtStroke pass.old }
-    requires ready { pass.old.phase ≡ room.now.phase }
-    ensures { pass.new ≡ record pass.old {
+    requires ready { pass.old.phase ≡ room.old.phase }
+    ensures room { room.new ≡ record room.old {
+      scene = record room.old.scene { glasses = room.new.scene.glasses };
+    } }
+    ensures pass { pass.new ≡ record pass.old {
       next = pass.old.next + 1;
-      met = pass.old.phase;
-      sight = sight_after_line pass.old;
+      met = pass.new.met;
+      seen = pass.new.seen;
+      sight = pass.new.sight;
     } }
 {
-    room.admit(pass);
+    if !pass.has_met_phase() {
+        room.admit(pass);
+    }
     pass.stroke();
 }
 

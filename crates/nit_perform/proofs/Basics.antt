@@ -10,7 +10,7 @@ pub use Rattle.nit_perform.specs.Below.{Desk, OpenedRounds}
 pub use Rattle.nit_perform.specs.LastPicture.{TakesLast}
 pub use Rattle.nit_perform.specs.Terms.{ActorLine, AfterPut, All, AllByRecursion, AreAllDone}
 pub use Rattle.nit_perform.specs.Terms.{AreBlank, AreInkedPlans, AreScriptsOf, CanTakeLast}
-pub use Rattle.nit_perform.specs.Terms.{IsKnownHistory, IsPictureAmong}
+pub use Rattle.nit_perform.specs.Terms.{IsKnownHistory, IsPictureAmong, buffers_of}
 pub use Rattle.nit_perform.specs.Terms.{HasEnded, IsRoundsOpening, IsRunOf, put_state_at}
 pub use Rattle.nit_perform.specs.Terms.{AreBuffers, AreClipsOf, AreDone, AreDoneClips}
 pub use Rattle.nit_perform.specs.Terms.{AreFirstClipPasses, AreKeysBlank, AreNearShots, AreOutputs}
@@ -80,6 +80,7 @@ pub use Rattle.nit_store.proofs.ForCallers.{none_behind, puts_both, puts_more}
 pub use Rattle.std.proofs.Common.{Err, List, None, Ok, Some, ap, arith, length, map, refl, subst}
 pub use Rattle.std.proofs.Common.{sym, ℕ, ◌∙◌}
 pub use Rattle.std.proofs.Math.Seq.{take-append_seam}
+pub use Rattle.std.proofs.lemmas.Option.{slice_get-map}
 pub use Rattle.std.proofs.lemmas.Bool.{and_parts, cases_Bool, cases_lt, eq-eqb, lt-ltb, ltb-true}
 pub use Rattle.std.proofs.lemmas.Bool.Decides.{nat_tests}
 pub use Rattle.std.proofs.lemmas.Fmt.{decimal_digit}

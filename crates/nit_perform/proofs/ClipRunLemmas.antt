@@ -74,7 +74,13 @@ module _ (config : Configuration) (scripts : List (List Line)) (plans : List Pla
   scripts_are = ap (λ (q : OpeningParts). q.scripts) o.room.parts_are
 
   belongs_too : (p : PassModel) → Belongs r.parts p → Belongs room.parts p
-  belongs_too p b = record { name = b.name; script = b.script; plan = b.plan; donation = b.donation }
+  belongs_too p b = record {
+    name = b.name;
+    script = b.script;
+    plan = b.plan;
+    donation = b.donation;
+    buffer = b.buffer;
+  }
 
   ready_too : IsReady room.parts room (map pass_of pairs) u
   ready_too = subst (λ (qs : List PassModel). IsReady room.parts room qs u) (sym passes_are) (record {

@@ -63,7 +63,7 @@ pictures_under s journal outputs are old new texts beside made legal few puts =
     let words : List File = events_files s.config journal ++ journal_file journal ∷ [] in
     let parts : outputs ≡ files ++ last ∷ words = rw (are.2, made, with_texts s journal texts) in
     let all : PutEach (files ++ last ∷ words) old new = rw parts at puts in
-    let counted = numbered (IsNearPicture s.config s.scripts) (first_state s.config) 0 [] journal files legal
+    let counted = numbered (IsNearPicture s.config s.scripts s.input) (first_state s.config) 0 [] journal files legal
     (are.1.beside beside) in
     let long : length files ≡ shots journal = counted.1 in
     let none : NoShots (last ∷ words) =

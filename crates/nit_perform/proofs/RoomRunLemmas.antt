@@ -30,7 +30,7 @@ use Rattle.nit_perform.proofs.Basics.{roles_long, same_throughout, scenery_of, s
 use Rattle.nit_perform.proofs.Basics.{slice_get, slice_index_or, source_at, table_size, tables_left}
 use Rattle.nit_perform.proofs.Basics.{take_all, text_files, unrefused, user_actions_in}
 use Rattle.nit_perform.proofs.Basics.{user_actions_of, user_actions_to_do, user_role_of, word_from}
-use Rattle.nit_perform.proofs.Basics.{words_left_in, words_of}
+use Rattle.nit_perform.proofs.Basics.{buffers_of, option_map, slice_get-map, words_left_in, words_of}
 use mathlib.Core.List.{IsPrefix}
 use Rattle.nit_perform.proofs.FinalWords.{OneMore}
 use Rattle.nit_perform.proofs.PerClient.{plans_long}
@@ -100,14 +100,17 @@ module _ (config : Configuration) (scripts : List (List Line)) (plans : List Pla
     (sessions : length scripts ≡ length config.clients) (plans_each : length plans ≡ length scripts)
     (o : IsOpening config scripts plans input canvases r ps u) where
   abbrev parts : OpeningParts
-  parts = parts_of r.parts.name config scripts plans input
+  parts = parts_of r.parts.name config scripts plans (buffers_of canvases) input
 
-  first_belongs : (k : ℕ) → k < length scripts → (canvas : End) → Belongs parts (first_pass parts k canvas)
-  first_belongs k inside canvas = record {
+  first_belongs : (k : ℕ) → k < length scripts → (canvas : End) → slice_get canvases k ≡ Some canvas
+      → Belongs parts (first_pass parts k canvas)
+  first_belongs k inside canvas at = record {
     name = refl;
     script = get_at scripts k [] inside;
     plan = get_at plans k (record { steps = []; ink = [] }) (omega (arith, inside, plans_each));
     donation = refl;
+    buffer = slice_get-map (λ (e : End). e.stand.buffer) canvases k
+        ∙ ap (option_map (λ (e : End). e.stand.buffer)) at;
   }
 
   pub is_ready : IsReady r.parts r ps u
@@ -122,7 +125,7 @@ module _ (config : Configuration) (scripts : List (List Line)) (plans : List Pla
         subst (λ (q : OpeningParts). Belongs q (slice_index_or ps k d)) (sym o.room.parts_are)
         (subst (λ (p : PassModel). Belongs parts p)
         (sym (first.2 ∙ ap (λ (q : OpeningParts). first_pass q k first.0) o.room.parts_are))
-        (first_belongs k (omega (arith, inside, each)) first.0));
+        (first_belongs k (omega (arith, inside, each)) first.0 first.1));
     numbers = λ k p at. ap (λ (q : PassModel). q.sid) (o.passes k p at).2;
     user_belongs = subst (λ (v : UserPassModel). UserBelongs r.parts v) (sym o.user)
         (record { number = refl; name = refl; input = refl });
@@ -265,7 +268,8 @@ beside_leaves shown parts known known' raws first new scene {desk = desk} {left 
         record {
           by_rounds = λ alone. absurd (true_false alone);
           beside = λ together. near;
-          history = λ together. one_history parts.config parts.scripts h.entries journal h.all puts.files h.history
+          history = λ together. one_history parts.config parts.scripts parts.input h.entries journal h.all puts.files
+              h.history
               h.ended among_all;
         },
         refl,
@@ -282,7 +286,7 @@ beside_leaves shown parts known known' raws first new scene {desk = desk} {left 
     rest = ended.known.0
 
     Pic : List Entry → List ℕ → Type 0
-    Pic = IsPictureAmong raws parts.config parts.scripts
+    Pic = IsPictureAmong raws parts.config parts.scripts parts.input
 
     h : IsKnownHistory parts.config raws journal
     h = ended.history
@@ -298,9 +302,9 @@ beside_leaves shown parts known known' raws first new scene {desk = desk} {left 
         (files_both Pic [] known' rest puts.files [] shown_then
         (no_files Pic known' rest (no_shots rest ended.known.2))))
 
-    near : AreNearShots parts.config parts.scripts journal puts.files
-    near = shots_along Pic (IsNearPicture parts.config parts.scripts) [] journal puts.files
+    near : AreNearShots parts.config parts.scripts parts.input journal puts.files
+    near = shots_along Pic (IsNearPicture parts.config parts.scripts parts.input) [] journal puts.files
         (λ front rest n bytes is pic. pic.0) among
 
-    among_all : ShotsBehind (IsPictureAmong h.all parts.config parts.scripts) [] journal puts.files
+    among_all : ShotsBehind (IsPictureAmong h.all parts.config parts.scripts parts.input) [] journal puts.files
     among_all = among_more parts [] journal puts.files raws h.all h.front among

@@ -4,7 +4,7 @@ pub use Rattle.nit_rounds.specs.Drawing.{Drawing, PutsShots, after_turn, drawn, 
 pub use Rattle.nit_rounds.specs.Drawing.{opening_drawing, picture_of, shot_frames_of, shots_after}
 pub use Rattle.nit_rounds.specs.Drawing.{shots_of, word_from, words_of}
 pub use Rattle.nit_actor.specs.IdleUser.{StepTogether, idle_user}
-pub use Rattle.nit_actor.specs.History.{ShowOneHistory}
+pub use Rattle.nit_actor.specs.History.{AreOfOneHistory}
 pub use Rattle.nit_actor.specs.Pictures.{AreNearShots, IsNearPicture, IsPictureAmong}
 pub use Rattle.nit_actor.specs.Pictures.{PutsShotsBehind}
 pub use Rattle.nit_actor.specs.Role.{Role, UserRole, role_of, user_role_of}
@@ -37,7 +37,8 @@ pub use Rattle.nit_hall.specs.ClipOpening.{AreFirstClipPasses, first_clip_pass, 
 pub use Rattle.nit_hall.specs.ClipPass.{AreDoneClips, ClipBelongs, ClipPassModel, IsDoneClip}
 pub use Rattle.nit_hall.specs.ClipPass.{clip_number}
 pub use Rattle.nit_hall.specs.History.{IsHistory}
-pub use Rattle.nit_hall.specs.Opening.{AreBlank, IsOpening, IsSetting, first_pass, parts_of}
+pub use Rattle.nit_hall.specs.Opening.{AreBlank, IsOpening, IsSetting, buffers_of, first_pass}
+pub use Rattle.nit_hall.specs.Opening.{parts_of}
 pub use Rattle.nit_hall.specs.OpeningParts.{OpeningParts}
 pub use Rattle.nit_hall.specs.Pass.{AreDone, Belongs, IsDoneUser, PassModel, UserBelongs}
 pub use Rattle.nit_hall.specs.Pass.{UserPassModel}

@@ -63,7 +63,7 @@ pub use Rattle.nit_perform.specs.FilmStore.{CanFilm, HasTaken, IsFilmOf, bytes_u
 pub use Rattle.nit_perform.specs.FilmStore.{picture_names}
 pub use Rattle.nit_perform.specs.InnerRun.{NestState, NestsRun, TakesAll, TakesNext, TakesUnless}
 pub use Rattle.nit_perform.specs.LastPicture.{AreAllDone, CanTakeLast, HasEnded, HasPictureRoom}
-pub use Rattle.nit_perform.specs.Below.{IsHistory, IsPictureAmong, ShowOneHistory}
+pub use Rattle.nit_perform.specs.Below.{IsHistory, IsPictureAmong, AreOfOneHistory, buffers_of}
 pub use Rattle.nit_perform.specs.LastPicture.{IsKnownHistory, TakesLast, put_state_at}
 pub use Rattle.nit_perform.specs.RoomRun.{AreBuffers, AreKeysBlank, IsAlone, IsKnownWhole, IsMemory}
 pub use Rattle.nit_perform.specs.RoomRun.{IsReady, IsReadyAlone, IsSupplied}

@@ -14,7 +14,7 @@ pub use Rattle.nit_rounds.specs.Terms.{ByClient}
 pub use Rattle.nit_rounds.specs.Terms.{ByUser, Call, Calls, Client, Configuration, Device, Does}
 pub use Rattle.nit_rounds.specs.Terms.{Drawing, Entry, File, Fill, FitsInto, HasTurn, InputLine}
 pub use Rattle.nit_rounds.specs.Terms.{IsAtTurn, IsBehind, IsBehindBy, IsButFor, IsConfiguration}
-pub use Rattle.nit_rounds.specs.Terms.{IsDonation, IsDrawn, IsDrawnPicture, IsGlass, Colours}
+pub use Rattle.nit_rounds.specs.Terms.{HasStage, IsDonation, IsDrawn, IsDrawnPicture, IsGlass}
 pub use Rattle.nit_rounds.specs.Terms.{IsLegal, IsLoaded, IsMember, IsMoved, IsNonDecreasing}
 pub use Rattle.nit_rounds.specs.Terms.{IsOpen, IsPaintedTo, IsPlanOf, IsPlanned, IsRawOf}
 pub use Rattle.nit_rounds.specs.Terms.{IsRecorded, IsRoundsRun, IsSetUp, IsShowing, IsTrue}

@@ -13,7 +13,7 @@ pub use Rattle.nit_rounds.proofs.Counts.{as_many_as_lines, few_acts}
 pub use Rattle.nit_rounds.proofs.DrawnAsReplayed.{as_replayed}
 pub use Rattle.nit_rounds.proofs.EntryEffects.{input_moved, served_moved, shot_moved}
 pub use Rattle.nit_rounds.proofs.FirstPlaces.{kept_first, left_first_of}
-pub use Rattle.nit_rounds.proofs.LineOnGlass.{after_stroke, fits, painted_to, step_there}
+pub use Rattle.nit_rounds.proofs.LineOnGlass.{after_stroke, fits, no_stages, painted_to, step_there}
 pub use Rattle.nit_rounds.proofs.LineRecords.{as_found, behind_still, call_done, can_call}
 pub use Rattle.nit_rounds.proofs.LineRecords.{glasses_still, none_done, one_taken, shot_done}
 pub use Rattle.nit_rounds.proofs.LinesDone.{client_done, client_lines, user_done, user_lines}

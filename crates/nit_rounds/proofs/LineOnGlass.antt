@@ -1,8 +1,8 @@
 -- A line of a script, done on the own glass of its session.
 use Rattle.nit_rounds.proofs.Basics.{BufferArea, FitsInto, IsDonation, IsPaintedTo, IsPlanOf, Line}
-use Rattle.nit_rounds.proofs.Basics.{Colours, List, word_inked}
-use Rattle.nit_rounds.proofs.Basics.{None, PlanModel, Sight, Some, Step, ap, ap₂, arith, false}
-use Rattle.nit_rounds.proofs.Basics.{get_or, get_or_from_slice_get, glass_after, ink, is_set_by}
+use Rattle.nit_rounds.proofs.Basics.{HasStage, List, word_inked}
+use Rattle.nit_rounds.proofs.Basics.{PlanModel, Sight, Some, Step, ap, ap₂, arith, false}
+use Rattle.nit_rounds.proofs.Basics.{get_or, get_or_from_slice_get, glass_after, is_set_by}
 use Rattle.nit_rounds.proofs.Basics.{mul-le-mul_right, plan_of_script, refl, slice_index, static}
 use Rattle.nit_rounds.proofs.Basics.{step_of, table_size, with_words, words_after}
 use Rattle.std.proofs.Common.{length, slice_get, ℕ, ◌%◌, ◌*◌, ◌+◌, ◌/◌, ◌∙◌, ◌≡◌, ◌≤◌}
@@ -24,10 +24,10 @@ painted_to long t script donation k plan g opens of is =
       words = refl;
     })
 
--- the glass of so many words
-abbrev sized : ℕ → List Line → List ℕ → ℕ → Sight
-sized t script words size =
-    record { owner = t; size = size; ink = Colours (ink script); words = Some words; log = None }
+-- the own glass knows no stages
+pub no_stages : (t : ℕ) (script : List Line) (donation k : ℕ) (g : Sight) (words : List ℕ)
+    → g ≡ glass_after t script donation k → HasStage g words
+no_stages t script donation k g words is = rw is tt
 
 pub after_stroke : AreLong → (t : ℕ) (script : List Line) (donation k : ℕ) (g g' : Sight) → IsDonation donation
     → g ≡ glass_after t script donation k → g' ≡ with_words (λ words. words_after script donation (k + 1)) g

@@ -2,8 +2,7 @@
 use Rattle.nit_rounds.proofs.Basics.{AreBehind, BufferArea, Bool, IsBehind, IsBehindBy, IsButFor}
 use Rattle.nit_rounds.proofs.Basics.{IsDonation, Line, List, None, Option, SceneModel, Sight, Some}
 use Rattle.nit_rounds.proofs.Basics.{Stale, Step, ap, cases_lt, cond, ext_get_or, false}
-use Rattle.nit_rounds.proofs.Basics.{Colours}
-use Rattle.nit_rounds.proofs.Basics.{get_or-set_same, get_or_past, glass_after, glass_in, ink}
+use Rattle.nit_rounds.proofs.Basics.{get_or-set_same, get_or_past, glass_after, glass_in}
 use Rattle.nit_rounds.proofs.Basics.{inl, inr, is_in_area, is_number_in, is_set_by}
 use Rattle.nit_rounds.proofs.Basics.{is_stale, length, length-set, no_sight, or_parts, refl}
 use Rattle.nit_rounds.proofs.Basics.{same_Some, set, set-set, set_long, set_where, slice_get}
@@ -137,10 +136,6 @@ pub still_fits : (stale : Option Stale) (sid : ℕ) (there own : Sight) (size : 
     → IsBehind stale sid there own → IfSome stale (FitsInto size)
 still_fits None sid there own size same behind = tt
 still_fits (Some a) sid there own size same behind = subst (λ (n : ℕ). FitsInto n a) same behind.fits
-
-sized : ℕ → List Line → List ℕ → ℕ → Sight
-sized t script words size =
-    record { owner = t; size = size; ink = Colours (ink script); words = Some words; log = None }
 
 -- a line that sets no word
 pub nothing_drawn : AreLong → StayElsewhere → (t : ℕ) (script : List Line) (donation k : ℕ) (l : Line)

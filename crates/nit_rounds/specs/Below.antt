@@ -60,8 +60,9 @@ pub use Rattle.nit_store.specs.Puts.{PutRefusal, PutState, PutsAll, PutsFile, Pu
 pub use Rattle.nit_store.specs.Store.{File, StoreModel}
 pub use Rattle.nit_store.specs.declared.store.PutError.{PutError}
 pub use Rattle.nit_word.specs.Channels.{bare_word}
-pub use Rattle.nit_word.specs.Inks.{Colours, IsWord}
-pub use Rattle.nit_word.specs.Sight.{IsLoaded, Sight, inked_sight, seen, told_at, told_words}
+pub use Rattle.nit_word.specs.Inks.{IsWord}
+pub use Rattle.nit_word.specs.Sight.{HasStage, IsLoaded, Sight, inked_sight, seen, told_at}
+pub use Rattle.nit_word.specs.Sight.{told_words}
 pub use Rattle.nit_word.specs.Updates.{is_between, set_where, with_words}
 pub use Rattle.nit_word.specs.Zeros.{zeros}
 pub use Rattle.std.specs.Fmt.{decimal}

@@ -3,7 +3,7 @@ pub use Rattle.nit_rounds.specs.Below.{Action, Acts, AllByRecursion, AreRaw, Buf
 pub use Rattle.nit_rounds.specs.Below.{Black}
 pub use Rattle.nit_rounds.specs.Below.{Buffer, Call, Calls, Client, Configuration, Device, Does}
 pub use Rattle.nit_rounds.specs.Below.{Entry, File, Fill, FitsInputLine, InputLine, IsConfiguration}
-pub use Rattle.nit_rounds.specs.Below.{IsDevice, IsDonation, Colours, IsGlass, IsLegal, IsLoaded}
+pub use Rattle.nit_rounds.specs.Below.{HasStage, IsDevice, IsDonation, IsGlass, IsLegal, IsLoaded}
 pub use Rattle.nit_rounds.specs.Below.{IsMember, IsNonDecreasing, IsOpen, IsPaintedTo, IsPlanOf}
 pub use Rattle.nit_rounds.specs.Below.{IsRawOf, IsTrue, IsUtf8, IsWhole, IsWord, IsWordOfSource}
 pub use Rattle.nit_rounds.specs.Below.{LegalFrom, Line, MatchBool, Motion, None, Option, Painted}

@@ -11,7 +11,7 @@ pub use Rattle.nit_run.specs.Terms.{Drawing, Ends, Entry, Event, File, FitsCall,
 pub use Rattle.nit_run.specs.Terms.{FitsDevice, FitsEntry, FitsEvent, FitsInputLine, FitsItem}
 pub use Rattle.nit_run.specs.Terms.{FitsLine, FitsReply, Flat, Front, Gets, Global}
 pub use Rattle.nit_run.specs.Terms.{HasDifferentNames, HasPicture, HoldsAtEnd, HoldsAtShot}
-pub use Rattle.nit_run.specs.Terms.{IsHeldPicture, ShowOneHistory, ShowsOneHistory}
+pub use Rattle.nit_run.specs.Terms.{IsHeldPicture, AreOfOneHistory, ShowsOneHistory}
 pub use Rattle.nit_run.specs.Terms.{HoldsByWay, InputLine, InputState, IsClickOn, IsCode}
 pub use Rattle.nit_run.specs.Terms.{IsDrawnPicture, IsJournal, IsLegal, IsLive, IsMeant, IsNear}
 pub use Rattle.nit_run.specs.Terms.{IsNearFrame, IsNearPicture, IsOpen, IsRunnable, Item, Kill}
@@ -37,8 +37,8 @@ pub use Rattle.nit_run.specs.Terms.{is_held, is_key, is_mode_key, is_phase, is_p
 pub use Rattle.nit_run.specs.Terms.{is_same, is_shot_line, is_side, is_title, items_to}
 pub use Rattle.nit_run.specs.Terms.{journal_file, kill_button, kill_key, kill_mode, killing}
 pub use Rattle.nit_run.specs.Terms.{leaving, letting_go, member, moving, opening_drawing}
-pub use Rattle.nit_run.specs.Terms.{option_map, owner, owner_of, picture_of, pixel, pixel_count}
-pub use Rattle.nit_run.specs.Terms.{point, pointer_after, press, pressing, projection}
+pub use Rattle.nit_run.specs.Terms.{option_map, owner, owner_of, phases_at_shot, picture_of, pixel}
+pub use Rattle.nit_run.specs.Terms.{pixel_count, point, pointer_after, press, pressing, projection}
 pub use Rattle.nit_run.specs.Terms.{range_with_len, raw_word, receive, received, refusal, release}
 pub use Rattle.nit_run.specs.Terms.{replay, replay_from, replies_to, rounds, route, routed_as}
 pub use Rattle.nit_run.specs.Terms.{routing, scenery_of, session, shot_file, shot_name, shots}

@@ -3,7 +3,7 @@ use Rattle.std.proofs.Common.{◌≡◌, ◌∙◌, ◌*◌, ℕ, true, [], List
 use Rattle.std.proofs.Common.{subst}
 use Rattle.nit_run.proofs.Basics.{AreOutputs, AreShotsOf, Configuration, Contains, Entry, File}
 use Rattle.nit_run.proofs.Basics.{HasPicture, HoldsAtShot, HoldsByWay, IsHeldPicture, IsJournal}
-use Rattle.nit_run.proofs.Basics.{Setup, ShowOneHistory, ShowsOneHistory, file_of_a_shot, pixel}
+use Rattle.nit_run.proofs.Basics.{Setup, AreOfOneHistory, ShowsOneHistory, file_of_a_shot, pixel}
 use Rattle.nit_run.proofs.Basics.{pixel_count, replay, same_throughout, scenery_of, shot_name}
 use Rattle.nit_run.proofs.Basics.{shots, shown, slice_index_or}
 use Rattle.nit_run.proofs.HeadlineLemmas.{FrameCount, FrameEach, among_shots, contains_at}
@@ -17,11 +17,11 @@ history_shows s journal outputs j are count each together = record {
   shots_show = shot;
 }
   where
-    one : ShowOneHistory s.config s.scripts journal are.0
+    one : AreOfOneHistory s.config s.scripts s.input journal are.0
     one = are.1.history together
 
     Pic : List Entry → List ℕ → Type 0
-    Pic = IsHeldPicture one.held s.config s.scripts
+    Pic = IsHeldPicture one.held s.config s.scripts s.input
 
     shot : (front rest : List Entry) (number : ℕ) → journal ≡ front ++ entry.Shot number ∷ rest
         → HasPicture s.config outputs (shot_name number) (replay s.config front)

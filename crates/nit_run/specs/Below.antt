@@ -3,7 +3,7 @@ pub use Rattle.nit_rounds.specs.Drawing.{Drawing, after_turn, drawn, frame_of, o
 pub use Rattle.nit_rounds.specs.Drawing.{picture_of, shot_frames_of, shots_after, shots_of}
 pub use Rattle.nit_rounds.specs.Drawing.{word_from, words_of}
 pub use Rattle.nit_actor.specs.IdleUser.{idle_user}
-pub use Rattle.nit_actor.specs.History.{IsHeld, IsHeldPicture, ShowOneHistory}
+pub use Rattle.nit_actor.specs.History.{IsHeld, IsHeldPicture, AreOfOneHistory}
 pub use Rattle.nit_actor.specs.Pictures.{AreNearShots, IsNearPicture}
 pub use Rattle.nit_rounds.specs.Rounds.{rounds}
 pub use Rattle.nit_rounds.specs.RoundsRun.{final_name, picture_name, shot_name}
@@ -46,6 +46,7 @@ pub use Rattle.nit_events.specs.declared.event.Routed.{Routed}
 pub use Rattle.nit_events.specs.declared.event.Status.{Status}
 pub use Rattle.nit_glyph.specs.Texts.{is_title}
 pub use Rattle.nit_hall.specs.NearWords.{IsNear, IsNearFrame}
+pub use Rattle.nit_hall.specs.ServedLines.{phases_at_shot}
 pub use Rattle.nit_journal.specs.Deliveries.{IsLive}
 pub use Rattle.nit_journal.specs.Presses.{IsDown}
 pub use Rattle.nit_journal.specs.Projection.{Calls, Gets, Observation, after_observations, alone}

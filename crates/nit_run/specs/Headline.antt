@@ -8,8 +8,9 @@ use Rattle.nit_run.specs.Below.{Observation, ReadsJournal, Reply, Routed, State,
 use Rattle.nit_run.specs.Below.{TellsLeave, Xray, alone, alone_machine, calls_of, calls_to_make}
 use Rattle.nit_run.specs.Below.{deliveries_of, donation_of, done, drawn_by_shot, events_text}
 use Rattle.nit_run.specs.Below.{final_name, flat_map, is_accepted, is_button, is_held, is_key}
-use Rattle.nit_run.specs.Below.{is_mode_key, journal_text, member, own_machine, owner_of, picture}
-use Rattle.nit_run.specs.Below.{pixel, pixel_count, point, projection, replay, replies_to}
+use Rattle.nit_run.specs.Below.{is_mode_key, journal_text, member, own_machine, owner_of}
+use Rattle.nit_run.specs.Below.{phases_at_shot, picture, pixel, pixel_count, point, projection}
+use Rattle.nit_run.specs.Below.{replay, replies_to}
 use Rattle.nit_run.specs.Below.{scenery_of, script_in, serve, shot_name, shots, shown, taken, to}
 use Rattle.nit_run.specs.Below.{IsHeld, under_pointer}
 use Rattle.nit_run.specs.Setup.{Setup}
@@ -146,13 +147,16 @@ HasPicture config files name s MayHold =
 
 -- A word that a pixel may hold when a shot is taken behind these entries. By rounds it is the one
 -- that the rounds have drawn there by then. Beside each other it is one that the entries allow: one
--- that the script of the session whose word it shows leaves at that place after some number of its
--- lines; and where the last entry that made the pixel dirty is a call of that session, the one that
--- the script had left there with that call.
+-- that the script of the session whose word it shows had left at that place after a number of its
+-- lines that has just as many calls as the session had made when the pixel was last made dirty, and
+-- that ends no phase which had not been ended when the shot was taken. Where the last entry that
+-- made the pixel dirty is a call of that session, it is the one that the script had left there with
+-- that call.
 abbrev pub HoldsByWay : Bool → Setup → List Entry → ℕ → ℕ → Type 0
 HoldsByWay false s before k w =
     w ≡ (drawn_by_shot s.config s.scripts s.input (shots before)).word k
-HoldsByWay true s before k w = IsNear s.config s.scripts before k w
+HoldsByWay true s before k w =
+    IsNear s.config s.scripts (phases_at_shot s.input (shots before)) before k w
 
 abbrev pub HoldsAtShot : Setup → List Entry → ℕ → ℕ → Type 0
 HoldsAtShot s before k w = HoldsByWay s.beside s before k w

@@ -6,7 +6,7 @@ use Rattle.nit_run.specs.Below.{IsLegal, IsWhole, Line, Session, Sight, State, c
 use Rattle.nit_run.specs.Below.{donation_of, events_text, final_name, glass_in, journal_text}
 use Rattle.nit_run.specs.Below.{member, picture_of, range_with_len, replay, script_in, session}
 use Rattle.nit_run.specs.Below.{shots_of, source_at, user_actions_to_do, word_from, words_left}
-use Rattle.nit_run.specs.Below.{ShowOneHistory, words_of}
+use Rattle.nit_run.specs.Below.{AreOfOneHistory, words_of}
 use Rattle.nit_run.specs.Setup.{Setup}
 use Rattle.nit_events.specs.declared.entry.Entry.TheVariants as entry
 
@@ -87,11 +87,11 @@ text_files s journal =
 
 -- The files of the shots. By rounds they are those that the configuration and the scripts alone
 -- draw. Beside each other, each shows the state that the entries before its shot lead to, by words
--- that its pixels may hold then; and all show one history of such words.
+-- that its pixels may hold at this shot; and all show one history of such words.
 pub record AreShots (s : Setup) (journal : List Entry) (files : List File) : Type 0 where
   pub by_rounds : s.beside ≡ false → files ≡ shots_of s.config s.scripts s.input
-  pub beside : s.beside ≡ true → AreNearShots s.config s.scripts journal files
-  pub history : s.beside ≡ true → ShowOneHistory s.config s.scripts journal files
+  pub beside : s.beside ≡ true → AreNearShots s.config s.scripts s.input journal files
+  pub history : s.beside ≡ true → AreOfOneHistory s.config s.scripts s.input journal files
 
 -- The files that a run puts, in order: those that are made before it, one for each shot, shot-1.ppm
 -- and so on, then final.ppm, and then the texts.

@@ -27,7 +27,8 @@ pub use Rattle.nit_run.specs.Below.{is_mode_key, is_phase, is_place, is_rectangl
 pub use Rattle.nit_run.specs.Below.{is_shot_line, is_side, is_title, items_to, kill_button}
 pub use Rattle.nit_run.specs.Below.{kill_key, kill_mode, killing, leaving, letting_go, member}
 pub use Rattle.nit_run.specs.Below.{most_height, most_width, moving, opening_drawing, option_map}
-pub use Rattle.nit_run.specs.Below.{owner, owner_of, picture, picture_of, pixel, pixel_count, point}
+pub use Rattle.nit_run.specs.Below.{owner, owner_of, phases_at_shot, picture, picture_of, pixel}
+pub use Rattle.nit_run.specs.Below.{pixel_count, point}
 pub use Rattle.nit_run.specs.Below.{pointer_after, press, pressing, projection, range_with_len}
 pub use Rattle.nit_run.specs.Below.{receive, received, refusal, release, replay, replay_from}
 pub use Rattle.nit_run.specs.Below.{replies_to, rounds, route, routed_as, routing, scenery_of}
@@ -38,7 +39,7 @@ pub use Rattle.nit_run.specs.Below.{unless, unreceived, user_actions_from, user_
 pub use Rattle.nit_run.specs.Below.{user_actions_to_do, user_script, view_left, view_need}
 pub use Rattle.nit_run.specs.Below.{with_asked, with_held, words_of, xray_key, xray_mode, ◌orelse◌}
 pub use Rattle.nit_run.specs.Headline.{AreTexts, HasPicture, Headline, HoldsAtEnd, HoldsAtShot}
-pub use Rattle.nit_run.specs.Below.{IsHeld, IsHeldPicture, ShowOneHistory}
+pub use Rattle.nit_run.specs.Below.{IsHeld, IsHeldPicture, AreOfOneHistory}
 pub use Rattle.nit_run.specs.Headline.{ShowsOneHistory}
 pub use Rattle.nit_run.specs.Headline.{HoldsByWay, IsClickOn, IsMeant, ShowsBy, events_among}
 pub use Rattle.nit_run.specs.Headline.{focus_after}

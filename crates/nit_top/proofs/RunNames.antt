@@ -113,7 +113,8 @@ module _ (s : Setup) (runnable : IsRunnable s) (journal : List Entry) (j : IsJou
       by : (b : Bool) → s.beside ≡ b → Numbered 1 are.0 × (length are.0 ≡ shots journal)
       by false alone = numbered _ (first_state s.config) 0 [] journal are.0 j.legal
           (drawn_along s journal files j are alone law fronts)
-      by true together = numbered (IsNearPicture s.config s.scripts) (first_state s.config) 0 [] journal are.0 j.legal
+      by true together = numbered (IsNearPicture s.config s.scripts s.input)
+          (first_state s.config) 0 [] journal are.0 j.legal
           (are.1.beside together)
 
   module _ (added : List File) (more : IsMore added) where

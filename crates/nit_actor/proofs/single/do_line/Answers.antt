@@ -22,13 +22,16 @@ returns-in-Call c =
 pub returns-in-Stroke : goal.returns-in-Stroke
 returns-in-Stroke c =
     let at = at_line _ _ _ c.requires.next c.in-Stroke.is in
+    let e = c.stroke.ensures in
+    let entries = ap (λ (r : RoomModel). r.scene.entries) e.room in
     record {
-      on = step_on c.args.room.now c.args.room.now c.args.pass.now c.stroke.new.pass c.args.user.now _ _ _ _
-          c.requires.alone.step at refl refl refl refl c.stroke.ensures;
+      on = step_on c.args.room.now c.stroke.new.room c.args.pass.now c.stroke.new.pass c.args.user.now _ _ _ _
+          c.requires.alone.step at refl (ap (λ (r : RoomModel). r.parts) e.room)
+          (ap (λ (r : RoomModel). r.phase) e.room) (ap (λ (r : RoomModel). r.arrived) e.room) e.pass;
       unended = search rules;
-      recorded = nothing_recorded c.args.room.now.scene.entries c.args.room.now.scene.entries c.args.pass.now
-          c.stroke.new.pass (line.Stroke c.in-Stroke.field-0) at (λ ls. refl) refl
-          (ap (λ (p : PassModel). role_of p) c.stroke.ensures) (ap (λ (p : PassModel). p.next) c.stroke.ensures);
+      recorded = nothing_recorded c.args.room.now.scene.entries c.stroke.new.room.scene.entries c.args.pass.now
+          c.stroke.new.pass (line.Stroke c.in-Stroke.field-0) at (λ ls. refl) entries
+          (ap (λ (p : PassModel). role_of p) e.pass) (ap (λ (p : PassModel). p.next) e.pass);
     }
 
 pub returns-in-Phase : goal.returns-in-Phase

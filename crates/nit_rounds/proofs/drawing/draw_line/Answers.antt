@@ -1,5 +1,6 @@
 use Rattle.nit_rounds.proofs.Lemmas.{after_stroke, as_but, donation_of, drawn_but, fits, glass_in}
-use Rattle.nit_rounds.proofs.Lemmas.{Sight, ap, is_stale, line_here, nothing_drawn, painted_to}
+use Rattle.nit_rounds.proofs.Lemmas.{Sight, ap, is_stale, line_here, no_stages, nothing_drawn}
+use Rattle.nit_rounds.proofs.Lemmas.{painted_to}
 use Rattle.nit_rounds.proofs.Lemmas.{step_there, still_fits, sym, ℕ, ◌∙◌}
 use Rattle.nit_rounds.proofs.drawing.draw_line.Goals as goal
 
@@ -11,6 +12,16 @@ stroke-requires-clause-before c =
       d,
       painted_to c.buffer_within_table.ensures.words a.part.sid a.part.script.now d a.line a.part.plan.now _
           draw.donation draw.plan draw.own,
+    )
+
+pub stroke-requires-clause-next : goal.stroke-requires-clause-next
+stroke-requires-clause-next c =
+    let a = c.args in
+    let before = stroke-requires-clause-before c in (
+      before.0,
+      before.1,
+      no_stages a.part.sid a.part.script.now (donation_of a.scene.now.config a.part.sid) a.line _ _
+          c.requires.draw.own,
     )
 
 pub add-requires-clause-earlier : goal.add-requires-clause-earlier
