@@ -1,10 +1,10 @@
 -- What a room is opened with, client by client.
 use Rattle.std.proofs.Common.{◌≡◌, ◌∙◌, ℕ, zero, suc, ◌<◌, List, [], ◌∷◌, ◌++◌, All, inl, inr}
 use Rattle.std.proofs.Common.{length, length-append, map, get_or, Some, refl, sym, ap, subst, arith}
-use Rattle.std.specs.Prelude.{slice_get, slice_index_or}
+use Rattle.std.specs.Prelude.{option_map, slice_get, slice_index_or}
 use Rattle.std.proofs.lemmas.List.{get_or_append_left, get_or_default, get_or_push, length-map}
 use Rattle.std.proofs.lemmas.Option.{get_or_from_slice_get, slice_get-get_or, slice_get_cases}
-use Rattle.std.proofs.lemmas.Option.{slice_get_within}
+use Rattle.std.proofs.lemmas.Option.{slice_get-map, slice_get_within}
 use Rattle.nit_script.specs.declared.line.Line.{Line}
 use Rattle.nit_script.specs.declared.line.InputLine.{InputLine}
 use Rattle.nit_config.specs.declared.config.Member.{Member}
@@ -16,7 +16,7 @@ use Rattle.nit_clip.specs.declared.line.ClipLine.{ClipLine}
 use Rattle.nit_hall.specs.OpeningParts.{OpeningParts}
 use Rattle.nit_hall.specs.Pass.{PassModel, UserPassModel, Belongs, UserBelongs}
 use Rattle.nit_hall.specs.ClipPass.{AreDoneClips, ClipBelongs, ClipPassModel, clip_number}
-use Rattle.nit_hall.specs.Opening.{IsOpening, first_pass, first_user}
+use Rattle.nit_hall.specs.Opening.{IsOpening, buffers_of, first_pass, first_user}
 use Rattle.nit_hall.specs.ClipOpening.{AreFirstClipPasses, first_clip_pass, with_clip_scripts}
 use Rattle.nit_hall.specs.Room.{RoomModel}
 use Rattle.nit_actor.specs.ClipRole.{ClipRole, GoTogether, IsPairIn, PairRole, clip_role_of}
@@ -103,8 +103,8 @@ open_room config scripts plans input canvases clips r₀ r ps₀ ps u₀ u qs pl
       config = config;
       scripts = scripts;
       plans = plans;
-      input =
-          input;
+      buffers = buffers_of canvases;
+      input = input;
       clips = clips;
     } in
     let are : r.parts ≡ parts = ap (λ (x : RoomModel). x.parts) er
@@ -129,6 +129,8 @@ open_room config scripts plans input canvases clips r₀ r ps₀ ps u₀ u qs pl
             plan = slice_get-get_or plans k (record { steps = []; ink = [] })
                 (omega (arith, inside, each, long, plans_each));
             donation = refl;
+            buffer = slice_get-map (λ (e : End). e.stand.buffer) canvases k
+                ∙ ap (option_map (λ (e : End). e.stand.buffer)) here.1;
           }));
       user_belongs = subst (λ (q : OpeningParts). UserBelongs q u) (sym are)
           (subst (λ (v : UserPassModel). UserBelongs parts v) (sym (eu ∙ o.user ∙ ap first_user o.room.parts_are))

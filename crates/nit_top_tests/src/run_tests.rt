@@ -163,12 +163,15 @@ holds events-b.txt EVENTS
 holds journal.txt JOURNAL
 whole JOURNAL
 
-case one client paints, green beside the place that another one uncovers, and the user takes shots
+case one client paints, and green only beside what another uncovers, or after all shots
 words run, storm.toml
 file storm.toml STORM_CONFIG
 file a.nit PAINTER
+more a.nit =phase\nfill 0 0 64 48 00FF00\n
 file b.nit CALLER
+more b.nit =phase\n
 file storm.in 20 =shot\n
+more storm.in =phase\n
 ends 0 =nitpicker: clients 2 entries 2027 frames 21\n
 asked STORM_NAMES
 there STORM_NAMES
@@ -213,7 +216,7 @@ is shot-19.ppm among .KRB
 is shot-20.ppm long 9229
 is shot-20.ppm among .KRB
 is final.ppm long 9229
-is final.ppm among B
+is final.ppm among G
 sessions 2
 
 "#;

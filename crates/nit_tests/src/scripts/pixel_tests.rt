@@ -1,17 +1,19 @@
 //! The words of a buffer while its owner's script is drawn on it, as a reader's end shows them.
-ghost use Rattle.std.specs.Prelude.{◌≡◌, ◌+◌};
+ghost use Rattle.std.specs.Prelude.{◌≡◌, ◌+◌, ◌<◌, ◌∷◌, [], IsSome, None};
 ghost use Rattle.nit_plan.specs.Plan.{IsPlanOf};
 ghost use Rattle.nit_plan.specs.Surface.{IsPaintedTo};
 ghost use Rattle.nit_pixels.specs.End.{new_sight};
+ghost use Rattle.nit_word.specs.Sight.{told_words};
 ghost use Rattle.nit_word.specs.Zeros.{zeros};
 
 use crate::checks::{must, same};
-use nit_pixels::{Canvas, Lens, PixelBuffer};
+use nit_pixels::{Canvas, Lens, PixelBuffer, Stages};
 use nit_plan::laws::{ink_of_a_script, no_line_done};
 use nit_plan::{Plan, plan_of, stroke};
 use nit_script::{Client, parse_client};
 use nit_word::Glass;
 use std::alloc::Global;
+use std::marker::Brand;
 use std::process::Abort;
 use std::thread::join;
 
@@ -72,6 +74,24 @@ fn a_reader_beside_the_owner_sees_each_colour_at_its_places(rt: HostRuntime) {
     must(&rt, "0, or the colour of the place", fine);
 }
 
+#[test]
+fn a_watching_reader_sees_what_was_agreed_on(rt: HostRuntime) {
+    let client = script(&rt, rt.alloc(), DOT);
+    let plan = plan_of(rt.alloc(), &client, DONATION).expect(&rt, "a plan");
+    let zeros = blank(&rt, rt.alloc(), WORDS);
+    let (buffer, key) = PixelBuffer::new(rt.alloc(), 0, &client, DONATION, &zeros).expect(
+        &rt, "memory",
+    );
+    let mut canvas = buffer.canvas(key);
+    begun(&client, &plan, &canvas);
+    do_line(&rt, &mut canvas, &client, &plan, 0);
+    do_line(&rt, &mut canvas, &client, &plan, 1);
+    let mut lens = canvas.watch();
+    let drawn = lens.load(1);
+    clear_watched::<Brand>(&mut canvas, &mut lens);
+    same(&rt, "word 1", &[drawn, lens.load(1)], &[RED, 0]);
+}
+
 /// The script that the text spells.
 fn script(rt: &impl Abort, alloc: Global, text: &str) -> Client {
     parse_client(alloc, text.as_bytes()).expect(rt, "a script")
@@ -89,24 +109,42 @@ fn blank(rt: &impl Abort, alloc: Global, count: usize) -> Vec<u64>
 fn begun(client: &Client, plan: &Plan, canvas: &Canvas)
     requires plan { IsPlanOf client.now 16384 plan.now }
     requires canvas { canvas.now.sight ≡ new_sight 0 client.now 16384 }
-    ensures { IsPaintedTo client.now 16384 plan.now 0 canvas.now.sight }
+    ensures painted { IsPaintedTo client.now 16384 plan.now 0 canvas.now.sight }
+    ensures free { canvas.now.sight.stages ≡ None }
 {
     no_line_done();
     ink_of_a_script();
 }
 
-/// Does the line of this number, which the script must have.
+/// Does the line of this number, which the script must have, on a canvas that knows no stages.
 fn do_line(rt: &impl Abort, canvas: &mut Canvas, client: &Client, plan: &Plan, line: usize)
-    requires { IsPaintedTo client.now 16384 plan.now line canvas.old.sight }
-    ensures { IsPaintedTo client.now 16384 plan.now (line + 1) canvas.new.sight }
+    requires painted { IsPaintedTo client.now 16384 plan.now line canvas.old.sight }
+    requires free { canvas.old.sight.stages ≡ None }
+    ensures painted { IsPaintedTo client.now 16384 plan.now (line + 1) canvas.new.sight }
+    ensures size { canvas.new.sight.size ≡ canvas.old.sight.size }
+    ensures free { canvas.new.sight.stages ≡ None }
 {
     must(rt, "a line", line < client.lines().len());
     stroke(canvas, client, plan, line);
 }
 
-/// Does all lines of the script.
+/// The canvas and the lens agree that each word stays or becomes 0, and word 1 does.
+fn clear_watched<'a, X: Stages>(canvas: &mut Canvas<'a>, lens: &mut Lens<'a>)
+    requires stages { X.stages ≡ told_words canvas.old.sight.words ∷ [] ∷ [] }
+    requires place { 1 < canvas.old.sight.size }
+    requires buffer { lens.old.stand.buffer ≡ canvas.old.stand.buffer }
+    requires watches { IsSome lens.old.sight.stages }
+    requires watched { IsSome canvas.old.sight.stages }
+    ensures { lens.new.sight.size ≡ lens.old.sight.size }
+{
+    canvas.agree::<X>(lens);
+    canvas.store(1, 0);
+}
+
+/// Does all lines of the script on a canvas that knows no stages.
 fn draw(canvas: Canvas, client: &Client, plan: &Plan)
-    requires { IsPaintedTo client.now 16384 plan.now 0 canvas.sight }
+    requires painted { IsPaintedTo client.now 16384 plan.now 0 canvas.sight }
+    requires free { canvas.sight.stages ≡ None }
 {
     let mut canvas = canvas;
     for line in 0..client.lines().len() {

@@ -1,5 +1,5 @@
 //! Plans of scripts, and what their strokes leave.
-ghost use Rattle.std.specs.Prelude.{◌≡◌, Some, IfOk};
+ghost use Rattle.std.specs.Prelude.{◌≡◌, None, Some, IfOk};
 ghost use Rattle.nit_slots.specs.Account.{IsDonation};
 ghost use Rattle.nit_plan.specs.ScriptWords.{words_after, words_left};
 ghost use Rattle.nit_plan.specs.Surface.{IsPaintedTo};
@@ -198,10 +198,11 @@ fn strokes(alloc: Global, client: &Client, donation: u32) -> Result<Inked, NoMem
     Ok(glass)
 }
 
-/// Does all lines of the script on a glass on which none is done.
+/// Does all lines of the script on a glass on which none is done and that knows no stages.
 fn do_lines(glass: &mut Inked, client: &Client, plan: &Plan, donation: u32)
     requires told { glass.old.words ≡ Some (words_after client.now donation 0) }
     requires before { IsPaintedTo client.now donation plan.now 0 glass.old }
+    requires stages { glass.old.stages ≡ None }
     ensures { glass.new.words ≡ Some (words_left client.now donation) }
 {
     for line in 0..client.lines().len() {
