@@ -2,9 +2,12 @@
 
 A pixel that a call of its owner's loaded last has the very word that the owner's script had left
 there at that call. Each other pixel of a buffer has a word that the script leaves at that place
-after some number of its lines, whichever that is. It has the same word in all shots until an entry
-makes it dirty: one word has to agree with all that these shots show there.
+after a number of its lines: just as many of these are calls as its client had made when the pixel
+was loaded, and they end no more phases than the input script does in front of the shot. It has the
+same word in all shots until an entry makes it dirty: one word has to agree with all that these
+shots show there.
 """
+from bisect import bisect_left, bisect_right
 from functools import cached_property
 
 from expected import is_call
@@ -12,43 +15,62 @@ from model import Drawing
 from screen import Scene, header
 
 
-class Kept(dict):
-    """The words of a table, and for each place all words that ever stood there."""
+class Changes:
+    """For each place of a table the numbers of the lines that change its word, and these words. All
+    words are 0 after no line, and a line sets a place once at most."""
 
     def __init__(self):
-        super().__init__()
-        self.ever = {}
+        self.line, self.by_place = 0, {}
 
     def __setitem__(self, place, word):
-        super().__setitem__(place, word)
-        self.ever.setdefault(place, {0}).add(word)
+        numbers, words = self.by_place.setdefault(place, ([0], [0]))
+        if word != words[-1]:
+            numbers.append(self.line)
+            words.append(word)
 
 
-def stages_by_place(donation, lines):
-    """For each place that a script sets, the words that it leaves there after 0, 1, .. or all of
-    its lines. A line sets a place once at most, and any other place keeps its 0."""
-    drawing = Drawing(donation)
-    drawing.words = Kept()
-    for line in lines:
-        drawing.do(line)
-    return drawing.words.ever
+class Stages:
+    """What stands at each place after 0, 1, .. or all lines of a script, and how many of these
+    lines are calls and end phases."""
+
+    def __init__(self, donation, lines):
+        self.calls, self.phases, self.changes = [0], [0], Changes()
+        drawing = Drawing(donation)
+        drawing.words = self.changes
+        for line in lines:
+            self.changes.line += 1
+            drawing.do(line)
+            self.calls.append(self.calls[-1] + is_call(line))
+            self.phases.append(self.phases[-1] + (line == "phase"))
+
+    def words_at(self, place, made, ended):
+        """The words that stand there after numbers of lines of which just so many are calls, and
+        which end so many phases at most."""
+        least = bisect_left(self.calls, made)
+        behind = min(bisect_right(self.calls, made), bisect_right(self.phases, ended))
+        if behind <= least:
+            return set()
+        numbers, words = self.changes.by_place.get(place, ([0], [0]))
+        return set(words[bisect_right(numbers, least) - 1 : bisect_left(numbers, behind)])
 
 
 class SceneBeside(Scene):
     """The scene along the journal of a run on threads. A pixel has no word where the journal and
     the scripts do not tell it, and has it again when a call of its owner's loads it. Of a pixel
-    without a word are kept the words that agree with all shots since it was loaded."""
+    without a word are kept how many calls its client had made when it was loaded, and the words
+    that agree with all shots since then."""
 
     def __init__(self, config, scripts):
         super().__init__(config)
         self.donations = [client["donation"] for client in config["client"]]
         self.scripts, self.left = scripts, [iter(lines) for lines in scripts]
+        self.made, self.made_at = [0 for _ in scripts], {}
         self.told, self.agreeing = [], {}
 
     @cached_property
     def stages(self):
-        """What may stand at each place of each client. It is worked out for the first shot."""
-        return [stages_by_place(*pair) for pair in zip(self.donations, self.scripts)]
+        """The stages of each client. They are worked out for the first shot."""
+        return [Stages(*pair) for pair in zip(self.donations, self.scripts)]
 
     def draw(self, who):
         """Does the lines of a client's script up to its next call, or all that are left."""
@@ -59,6 +81,7 @@ class SceneBeside(Scene):
 
     def call(self, who, line):
         self.draw(who)
+        self.made[who] += 1
         self.told = [self.sessions[who]]
         reply = super().call(who, line)
         self.told = []
@@ -74,20 +97,24 @@ class SceneBeside(Scene):
     def word(self, view, column, row):
         self.agreeing.pop((column, row), None)
         if view and view.session not in self.told and self.place_of(view, column, row):
+            self.made_at[column, row] = self.made[self.sessions.index(view.session)]
             return None
         return super().word(view, column, row)
 
-    def may_hold(self, view, column, row):
-        """The words of which a pixel holds one, whatever the shots show."""
+    def may_hold(self, view, column, row, ended):
+        """The words of which a pixel holds one in a shot with so many ended phases in front of it,
+        whatever the shots show."""
         word = self.raw[row][column]
         if word is not None:
             return {word}
         x, y = self.place_of(view, column, row)
         stages = self.stages[self.sessions.index(view.session)]
-        return stages.get(y * view.session.size[0] + x, {0})
+        place = y * view.session.size[0] + x
+        return stages.words_at(place, self.made_at[column, row], ended)
 
-    def fault_of_shot(self, picture):
-        """What is wrong with a picture that is taken here, if something is."""
+    def fault_of_shot(self, picture, ended):
+        """What is wrong with a picture that is taken here, if something is. In front of it the
+        input script ends so many phases."""
         start, size = header(self.width, self.height), 3 * self.width * self.height
         if picture[: len(start)] != start or len(picture) != len(start) + size:
             return "it is no picture of this screen"
@@ -96,19 +123,20 @@ class SceneBeside(Scene):
             for column in range(self.width):
                 view, at = owners[row][column], len(start) + 3 * (row * self.width + column)
                 word = int.from_bytes(picture[at : at + 3], "big")
-                fault = self.fault_of_pixel(view, labels, column, row, word)
+                raws = {raw for raw in self.may_hold(view, column, row, ended)
+                        if self.pixel(view, labels, column, row, raw) == word}
+                fault = self.fault_of_pixel(column, row, raws, word)
                 if fault:
                     return fault
         return None
 
-    def fault_of_pixel(self, view, labels, column, row, word):
-        """What is wrong with this word at a pixel of a shot. What agrees with it is kept."""
-        raws = {raw for raw in self.may_hold(view, column, row)
-                if self.pixel(view, labels, column, row, raw) == word}
+    def fault_of_pixel(self, column, row, raws, word):
+        """What is wrong with this word at a pixel of a shot, which shows it where the pixel holds
+        one of these. Those that agree with all shots are kept."""
         if not raws:
             return f"the pixel at ({column}, {row}) cannot be {word:06X}"
         if self.raw[row][column] is None:
-            raws &= self.agreeing.get((column, row), raws)
+            raws = raws & self.agreeing.get((column, row), raws)
             self.agreeing[column, row] = raws
         if not raws:
             return (f"the pixel at ({column}, {row}) cannot be {word:06X} "

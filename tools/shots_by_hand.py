@@ -12,70 +12,108 @@ FIRST = ["fill 0 0 4 1 FFFFFF", "buffer 4 1", "fill 0 0 4 1 FF0000", "view", "pl
          "fill 0 0 2 1 00FF00", "buffer 2 40", "fill 2 0 9 1 0000FF"]
 SECOND = ["buffer 2 1", "fill 0 0 2 1 FFFF00", "view", "place 1 1 0 2 1", "destroy 1"]
 
-# The first client's `place` loads all four pixels, red by then. The second one's `destroy`
-# loads the two in the middle, whatever the first one has drawn by then.
-JOURNAL = ["call 0 done < buffer 4 1", "call 0 handle 1 < view", "call 0 done < place 1 0 0 4 1",
-           "call 1 done < buffer 2 1", "call 1 handle 1 < view", "call 1 done < place 1 1 0 2 1",
-           "call 0 out-of-quota 640 256 < buffer 2 40", "call 1 done < destroy 1", "shot 1",
-           "final"]
-RIGHT = ["RRRR", "RGBR", "RGRR", "RRBR", "RKKR", "RKBR"]
+# Here blue is of the second phase.
+PHASED = [*FIRST[:-1], "phase", FIRST[-1]]
 
-# Each of these but `RYBR` has nothing but black and colours of the first client's script.
-WRONG = {
-    "RBBR": "shot 1: the pixel at (1, 0) cannot be 0000FF",
-    "RGGR": "shot 1: the pixel at (2, 0) cannot be 00FF00",
-    "RWBR": "shot 1: the pixel at (1, 0) cannot be FFFFFF",
-    "RGWR": "shot 1: the pixel at (2, 0) cannot be FFFFFF",
-    "RYBR": "shot 1: the pixel at (1, 0) cannot be FFFF00",
-    "GGBR": "shot 1: the pixel at (0, 0) cannot be 00FF00",
-    "RGBK": "shot 1: the pixel at (3, 0) cannot be 000000",
+# Here the second buffer is accepted, with white in the left half before it.
+CLEARED = [*FIRST[:5], "fill 0 0 2 1 FFFFFF", "buffer 4 1", "fill 2 0 9 1 0000FF", FIRST[5]]
+
+# The first client's `place` loads all four pixels, red by then. The second one's `destroy` loads
+# the two in the middle, whatever the first one has drawn by then: in front of its next call or
+# behind that.
+OPENING = ["call 0 done < buffer 4 1", "call 0 handle 1 < view", "call 0 done < place 1 0 0 4 1",
+           "call 1 done < buffer 2 1", "call 1 handle 1 < view", "call 1 done < place 1 1 0 2 1"]
+DESTROYED = "call 1 done < destroy 1"
+REFUSED, ACCEPTED = "call 0 out-of-quota 640 256 < buffer 2 40", "call 0 done < buffer 4 1"
+IN_FRONT, BEHIND = [*OPENING, DESTROYED], [*OPENING, REFUSED, DESTROYED]
+
+
+def cannot(column, letter, shot=1, more=""):
+    return f"shot {shot}: the pixel at ({column}, 0) cannot be {COLOURS[letter]}{more}"
+
+
+# Each of these but `RYBR` has nothing but black and colours of the first client's script. In the
+# left half red is from before its last call; in front of that blue is from behind its next one.
+SHOTS_BEHIND = {
+    "RGBR": None, "RGRR": None, "RRBR": cannot(1, "R"), "RKBR": cannot(1, "K"),
+    "RGKR": cannot(2, "K"), "RBBR": cannot(1, "B"), "RGGR": cannot(2, "G"), "RWBR": cannot(1, "W"),
+    "RGWR": cannot(2, "W"), "RYBR": cannot(1, "Y"), "GGBR": cannot(0, "G"), "RGBK": cannot(3, "K"),
     "RGB": "shot 1: it is no picture of this screen",
 }
+SHOTS_IN_FRONT = {"RRRR": None, "RGRR": None, "RGBR": cannot(2, "B"), "RKRR": cannot(1, "K")}
+SHOTS_OF_FIRST_PHASE = {"RGRR": None, "RGBR": cannot(2, "B"), "RRRR": cannot(1, "R")}
+SHOTS_OF_SECOND_PHASE = {"RGRR": None, "RGBR": None, "RRRR": cannot(1, "R")}
+SHOTS_BEFORE_CLEARED = {"RRRR": None, "RWRR": None, "RKRR": cannot(1, "K"), "RWKR": cannot(2, "K")}
+SHOTS_OF_CLEARED = {"KKKK": None, "KKBK": None, "KGBK": None,
+                    "KWKK": cannot(1, "W"), "KKRK": cannot(2, "R")}
 
-# Two shots, and whether the second client makes one pixel dirty between them, the left one in the
-# middle, with a view that goes again. Each of these shots but `RBBR` would be right by itself.
-ANEW = ["view", "place 2 1 0 1 1", "destroy 2"]
-BETWEEN = ["call 1 handle 2 < view", "call 1 done < place 2 1 0 1 1", "call 1 done < destroy 2"]
-RIGHT_PAIRS = [("RGBR", "RGBR", False), ("RKRR", "RKRR", False), ("RGBR", "RRBR", True)]
-WRONG_PAIRS = {
-    ("RGBR", "RRBR", False):
-        "shot 2: the pixel at (1, 0) cannot be FF0000 after what earlier shots show",
-    ("RGBR", "RRRR", True):
-        "shot 2: the pixel at (2, 0) cannot be FF0000 after what earlier shots show",
-    ("RGBR", "RBBR", False): "shot 2: the pixel at (1, 0) cannot be 0000FF",
-}
+# Two shots. Where nothing between them loads the pixel again it has one word for both.
+EARLIER = " after what earlier shots show"
+PAIRS = {"RGRR RGRR": None, "RGBR RGBR": None, "RGRR RGGR": cannot(2, "G", 2),
+         "RGRR RGBR": cannot(2, "B", 2, EARLIER), "RGBR RGRR": cannot(2, "R", 2, EARLIER)}
+PAIRS_ANEW = PAIRS | {"RGRR RGBR": None, "RGBR RGRR": None}
+PAIRS_OF_PHASES = PAIRS | {"RGBR RGBR": cannot(2, "B"), "RGBR RGRR": cannot(2, "B")}
+PAIRS_OF_PHASES_ANEW = PAIRS_OF_PHASES | {"RGRR RGBR": None}
+PAIRS_BESIDE_A_CALL = {"RGRR RGRR": None, "RGRR RGBR": None, "RGRR RGKR": cannot(2, "K", 2),
+                       "RRRR RRBR": None, "RRRR RGBR": cannot(1, "G", 2, EARLIER)}
+
+
+def anew(column):
+    """Lines of the second client's that make one pixel dirty, with a view that goes again, and what
+    they put into the journal."""
+    lines = ["view", f"place 2 {column} 0 1 1", "destroy 2"]
+    replies = ["handle 2", "done", "done"]
+    return lines, [f"call 1 {reply} < {line}" for reply, line in zip(replies, lines)]
+
+
+def runs_of_one_shot():
+    """Each run's scripts and journal, with shots and what is wrong with them."""
+    early, late = [*SECOND, "phase"], [*SECOND[:-1], "phase", SECOND[-1]]
+    yield [FIRST, SECOND], ["shot"], [*BEHIND, "shot 1"], SHOTS_BEHIND
+    yield [FIRST, SECOND], ["shot"], [*IN_FRONT, REFUSED, "shot 1"], SHOTS_IN_FRONT
+    yield [PHASED, early], ["shot", "phase"], [*BEHIND, "shot 1"], SHOTS_OF_FIRST_PHASE
+    yield [PHASED, late], ["phase", "shot"], [*BEHIND, "shot 1"], SHOTS_OF_SECOND_PHASE
+    yield [CLEARED, SECOND], ["shot"], [*IN_FRONT, "shot 1", ACCEPTED], SHOTS_BEFORE_CLEARED
+    yield [CLEARED, SECOND], ["shot"], [*OPENING, ACCEPTED, DESTROYED, "shot 1"], SHOTS_OF_CLEARED
+
+
+def runs_of_two_shots():
+    """So of runs with two shots."""
+    shots, phases = ["shot", "shot"], ["shot", "phase", "shot"]
+    journal = [*BEHIND, "shot 1", "shot 2"]
+    yield [FIRST, SECOND], shots, journal, PAIRS
+    yield [PHASED, [*SECOND, "phase"]], phases, journal, PAIRS_OF_PHASES
+    for column, pairs, pairs_of_phases in (
+            (1, PAIRS, PAIRS_OF_PHASES), (2, PAIRS_ANEW, PAIRS_OF_PHASES_ANEW)):
+        lines, entries = anew(column)
+        journal = [*BEHIND, "shot 1", *entries, "shot 2"]
+        yield [FIRST, SECOND + lines], shots, journal, pairs
+        yield [PHASED, [*SECOND, "phase", *lines]], phases, journal, pairs_of_phases
+    lines, entries = anew(2)
+    journal = [*IN_FRONT, "shot 1", REFUSED, *entries, "shot 2"]
+    yield [FIRST, SECOND + lines], shots, journal, PAIRS_BESIDE_A_CALL
 
 
 def picture(letters):
     return header(4, 1) + bytes.fromhex("".join(COLOURS[letter] for letter in letters))
 
 
-def files_with(journal, *shots):
+def files_with(journal, shots):
     """The files of a run with this journal, with these shots."""
     end = text_of(["lost 0", "left 0", "state live"])
     pictures = {f"shot-{number}.ppm": picture(shot) for number, shot in enumerate(shots, 1)}
     return pictures | {"final.ppm": picture("GGBB"), "events-a.txt": end, "events-b.txt": end,
-                       "journal.txt": text_of(journal)}
-
-
-def runs_by_hand():
-    """Each run's second script, its journal, its shots, and what is wrong with them."""
-    for shot, wrong in [(shot, None) for shot in RIGHT] + list(WRONG.items()):
-        yield SECOND, JOURNAL, [shot], wrong
-    for pair, wrong in [(pair, None) for pair in RIGHT_PAIRS] + list(WRONG_PAIRS.items()):
-        *shots, is_dirty = pair
-        between = BETWEEN if is_dirty else []
-        second = SECOND + ANEW if is_dirty else SECOND
-        yield second, [*JOURNAL[:-1], *between, "shot 2", "final"], shots, wrong
+                       "journal.txt": text_of([*journal, "final"])}
 
 
 def faults(fuzz):
     """Where tools/fuzz calls right shots wrong, or wrong ones anything but what they are."""
-    for second, journal, shots, wrong in runs_by_hand():
-        setup, said = Setup(CONFIG, [FIRST, second], ["shot"] * len(shots)), None
-        try:
-            fuzz.check_journal(setup, files_with(journal, *shots))
-        except fuzz.Fault as fault:
-            said = str(fault)
-        if said != wrong:
-            yield f"tools/fuzz: of the shots {' '.join(shots)} it says {said!r} and not {wrong!r}"
+    for clients, user, journal, rows in [*runs_of_one_shot(), *runs_of_two_shots()]:
+        for shots, wrong in rows.items():
+            said = None
+            try:
+                fuzz.check_journal(Setup(CONFIG, clients, user), files_with(journal, shots.split()))
+            except fuzz.Fault as fault:
+                said = str(fault)
+            if said != wrong:
+                yield f"tools/fuzz: of the shots {shots} it says {said!r} and not {wrong!r}"
