@@ -15,7 +15,7 @@ held_along config entries journal raws is ended = record {
   first = λ k. refl;
   clean = λ front e rest k parts inside clean. elim (split_more entries entry.Final front e rest (sym ended ∙ parts)) [
     | inl (here, same) ↦ absurd (final_dirty front e k same clean)
-    | inr (less, before) ↦ is.clean front e less k before inside clean
+    | inr (less, before) ↦ is.held.clean front e less k before inside clean
   ];
 }
   where

@@ -14,7 +14,7 @@ pub use Rattle.nit_hall.specs.ClipPass.{AreTogether, ClipBelongs, ClipPassModel,
 pub use Rattle.nit_hall.specs.ClipPass.{IsAtPhaseEnd, clip_number, clip_phases_before}
 pub use Rattle.nit_hall.specs.Hall.{Tells, TellsShot}
 pub use Rattle.nit_hall.specs.HallCalls.{BelongsAt, UserBelongsAt}
-pub use Rattle.nit_hall.specs.History.{IsHistory, raw_behind}
+pub use Rattle.nit_hall.specs.History.{IsHeld, IsHistory, raw_behind}
 pub use Rattle.nit_hall.specs.NearWords.{IsNear, IsNearFrame, is_dirtied}
 pub use Rattle.nit_hall.specs.OpeningParts.{OpeningParts}
 pub use Rattle.nit_hall.specs.Pass.{Belongs, HasMetPhase, IsAtDevice, IsAtPhase, IsAtShot}

@@ -1,19 +1,9 @@
 -- One history of raw words, and the pictures of a journal's shots that show it. Pixels count from
 -- 0, row by row from the top.
-use Rattle.std.specs.Prelude.{◌≡◌, ℕ, suc, ◌*◌, ◌<◌, false, List, ◌∷◌, ◌++◌, length}
-use Rattle.nit_actor.specs.Below.{AreShotsOf, Configuration, Entry, File, InputLine, Line}
-use Rattle.nit_actor.specs.Below.{bare_word, is_dirtied, slice_index_or}
+use Rattle.std.specs.Prelude.{◌≡◌, ℕ, ◌*◌, ◌<◌, false, List, ◌∷◌, ◌++◌, length}
+use Rattle.nit_actor.specs.Below.{AreShotsOf, Configuration, Entry, File, InputLine, IsHeld, Line}
+use Rattle.nit_actor.specs.Below.{is_dirtied, slice_index_or}
 use Rattle.nit_actor.specs.Pictures.{IsNearPicture}
-
--- What each pixel holds behind the first n entries of a journal, `held n k`: at first the bare
--- word; and a pixel that an entry does not make dirty holds behind it the word that it held before
--- it.
-pub record IsHeld (config : Configuration) (journal : List Entry) (held : ℕ → ℕ → ℕ) : Type 0 where
-  pub first : (k : ℕ) → held 0 k ≡ bare_word
-  pub clean : (front : List Entry) (e : Entry) (rest : List Entry) (k : ℕ)
-      → journal ≡ front ++ e ∷ rest → k < config.width * config.height
-      → is_dirtied config front e k ≡ false
-      → held (suc (length front)) k ≡ held (length front) k
 
 -- none of these entries, which stand behind this front of a journal, makes the pixel dirty
 abbrev pub StaysClean : Configuration → List Entry → List Entry → ℕ → Type 0

@@ -23,8 +23,8 @@ pub use Rattle.nit_actor.specs.IdleUser.{AloneOn, AreAlone, StepOn, StepTogether
 pub use Rattle.nit_actor.specs.IdleUser.{actions_to_be, idle_user}
 pub use Rattle.nit_actor.specs.PhasesLeft.{IsLeastOf, NoneIsBefore, lesser, pair_phase_left}
 pub use Rattle.nit_actor.specs.PhasesLeft.{phase_left, phases_left, user_phase_left}
-pub use Rattle.nit_actor.specs.Below.{IsHistory, bare_word, is_dirtied, raw_behind}
-pub use Rattle.nit_actor.specs.History.{AreOfOneHistory, IsHeld, IsHeldPicture, StaysClean}
+pub use Rattle.nit_actor.specs.Below.{IsHeld, IsHistory, bare_word, is_dirtied, raw_behind}
+pub use Rattle.nit_actor.specs.History.{AreOfOneHistory, IsHeldPicture, StaysClean}
 pub use Rattle.nit_actor.specs.Pictures.{AreNearShots, IsNearPicture, IsPictureAmong}
 pub use Rattle.nit_actor.specs.Pictures.{PutsShotsBehind}
 pub use Rattle.nit_actor.specs.Role.{AreThrough, IsAtLine, IsOneOn, IsRoleIn, IsThrough, Role}

@@ -2,7 +2,7 @@
 use Rattle.nit_hall.proofs.Basics.{Belongs, BufferName, Call, CanAgree, End, IsGlass, IsPass, IsRoom, Line}
 use Rattle.nit_hall.proofs.Basics.{List, Option, PassModel, RoomModel, ShareModel, Sight, Some, [], ap, arith}
 use Rattle.nit_hall.proofs.Basics.{Configuration, Entry, HasMet, OpeningParts, knowing}
-use Rattle.nit_hall.proofs.Basics.{IsWatching, buffers_of, calls_in, calls_of, cases_eq, donation_of}
+use Rattle.nit_hall.proofs.Basics.{KnowsStretch, buffers_of, calls_in, calls_of, cases_eq, donation_of}
 use Rattle.nit_hall.proofs.Basics.{get_or_from_slice_get, glass_in, inl, inr, length, map, no_sight, none-some}
 use Rattle.nit_hall.proofs.Basics.{option_map, phases_before, refl, same_Some, script_in, served, slice_get}
 use Rattle.nit_hall.proofs.Basics.{slice_get-map, slice_get_within, slice_index, stretch, subst, sym, table_size}
@@ -100,7 +100,7 @@ room_admitted {r = r} {sid = sid} {script = script} next room at counted ready m
       phases = room.phases;
       inks = λ t. same_ink sid stages r.scene.glasses t ∙ room.inks t;
       watching = λ t inside. elim (cases_eq t sid) [
-        | inl e ↦ subst (λ (x : ℕ). IsWatching (script_in r.parts.scripts x) (donation_of r.parts.config x)
+        | inl e ↦ subst (λ (x : ℕ). KnowsStretch (script_in r.parts.scripts x) (donation_of r.parts.config x)
             (length (calls_of x (without_final r.scene.entries))) r.phase
             (glass_in (sights_of (with_room_stages r sid stages).scene.glasses) x)) (sym e) (record {
               since = next;

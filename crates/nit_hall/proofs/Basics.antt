@@ -45,7 +45,7 @@ pub use Rattle.nit_scene.specs.Scene.{IsAdded}
 pub use Rattle.nit_hall.specs.Terms.{words_left, words_left_in}
 pub use Rattle.nit_hall.specs.Terms.{AreAgreed, AreBegun, AreWatching, BufferName, CanAgree}
 pub use Rattle.nit_hall.specs.Terms.{HasAdmitted, HasStage, HasStretch, IsAmong, IsLeftThen}
-pub use Rattle.nit_hall.specs.Terms.{IsWatching, MayHaveDone, buffers_of, first_stretch, in_line}
+pub use Rattle.nit_hall.specs.Terms.{KnowsStretch, MayHaveDone, buffers_of, first_stretch, in_line}
 pub use Rattle.nit_hall.specs.Terms.{line_stages, stages_within, stretch, stretch_end, stretch_from}
 pub use Rattle.nit_hall.specs.Terms.{strokes_in_front, told_words, watching_sight, with_end_stages}
 pub use Rattle.nit_hall.specs.Terms.{with_room_stages, with_stages}

@@ -67,13 +67,6 @@ stages_again zero stages before (e ∷ rest) = refl
 stages_again (suc n) stages before (e ∷ rest) =
     ap (λ (es : List End). e ∷ es) (stages_again n stages before rest)
 
--- the end there, and the one with the stages
-pub end_there : (sid : ℕ) (stages : List (List ℕ)) (ends : List End) (e : End) → slice_get ends sid ≡ Some e
-    → slice_get (with_end_stages sid stages ends) sid ≡ Some (end_with stages e)
-end_there sid stages [] e at = absurd cc
-end_there zero stages (x ∷ rest) e at = ap (λ (y : End). Some (end_with stages y)) (same_Some x e at)
-end_there (suc n) stages (x ∷ rest) e at = end_there n stages rest e at
-
 -- an end that is taken out, comes to know the stages, and is put back
 pub put_back : (sid : ℕ) (stages : List (List ℕ)) (ends : List End) (e spare : End) → slice_get ends sid ≡ Some e
     → set (set ends sid spare) sid (end_with stages e) ≡ with_end_stages sid stages ends

@@ -30,7 +30,13 @@ behind_new raws raw k = ap (λ (ws : List ℕ). slice_index_or ws k 0) (get_or-a
 
 pub history_begun : (config : Configuration) → IsHistory config [] []
 history_begun config =
-    record { each = refl; clean = λ front e rest k parts inside clean. absurd (none front e rest parts) }
+    record {
+      each = refl;
+      held = record {
+        first = λ k. refl;
+        clean = λ front e rest k parts inside clean. absurd (none front e rest parts);
+      };
+    }
   where
     none : (front : List Entry) (e : Entry) (rest : List Entry) → [] ≡ front ++ e ∷ rest → ⊥
     none [] e rest parts = cc
@@ -53,22 +59,25 @@ module _ (config : Configuration) (entries : List Entry) (e : Entry) (raws : Lis
       let all : List (List ℕ) = raws ++ raw' ∷ [] in
       record {
         each = omega (arith, each, length-append raws (raw' ∷ []), length-append entries (e ∷ []));
-        clean = λ front f rest k parts inside clean. elim (split_more entries e front f rest parts) [
-          | inl (here, same) ↦
-              let n : length front ≡ length raws = ap length here ∙ sym each in
-              ap (λ (m : ℕ). raw_behind all (suc m) k) n ∙ behind_new raws raw' k
-              ∙ others k (subst (λ (js : List Entry). is_dirtied config js e k ≡ false) here
-              (subst (λ (x : Entry). is_dirtied config front x k ≡ false) same clean))
-              ∙ last k inside ∙ sym (behind_front raws (raw' ∷ []) (length raws) k (omega arith))
-              ∙ ap (λ (m : ℕ). raw_behind all m k) (sym n)
-          | inr (less, before) ↦
-              let many = ap length before in
-              behind_front raws (raw' ∷ []) (suc (length front)) k
-              (omega (arith, each, many, length-append front (f ∷ less)))
-              ∙ is.clean front f less k before inside clean
-              ∙ sym (behind_front raws (raw' ∷ []) (length front) k
-              (omega (arith, each, many, length-append front (f ∷ less))))
-        ];
+        held = record {
+          first = λ k. refl;
+          clean = λ front f rest k parts inside clean. elim (split_more entries e front f rest parts) [
+            | inl (here, same) ↦
+                let n : length front ≡ length raws = ap length here ∙ sym each in
+                ap (λ (m : ℕ). raw_behind all (suc m) k) n ∙ behind_new raws raw' k
+                ∙ others k (subst (λ (js : List Entry). is_dirtied config js e k ≡ false) here
+                (subst (λ (x : Entry). is_dirtied config front x k ≡ false) same clean))
+                ∙ last k inside ∙ sym (behind_front raws (raw' ∷ []) (length raws) k (omega arith))
+                ∙ ap (λ (m : ℕ). raw_behind all m k) (sym n)
+            | inr (less, before) ↦
+                let many = ap length before in
+                behind_front raws (raw' ∷ []) (suc (length front)) k
+                (omega (arith, each, many, length-append front (f ∷ less)))
+                ∙ is.held.clean front f less k before inside clean
+                ∙ sym (behind_front raws (raw' ∷ []) (length front) k
+                (omega (arith, each, many, length-append front (f ∷ less))))
+          ];
+        };
       }
 
   pub last_more : AreLast config (raws ++ raw' ∷ []) raw'

@@ -48,8 +48,7 @@ pub use Rattle.nit_scene.specs.Scene.{IsAdded}
 pub use Rattle.nit_hall.proofs.RoomSteps.{state_later}
 pub use Rattle.nit_hall.proofs.ScriptsFollowed.{calls_front_of, actions_front_of, whole}
 pub use Rattle.nit_hall.proofs.ServedCalls.{Found, calls_made, calls_then, found, next_at, own_seen}
-pub use Rattle.nit_hall.proofs.ServedCalls.{pass_call, pass_met, room_call, sight_as, still_open}
-pub use Rattle.nit_hall.proofs.ServedCalls.{told_between}
+pub use Rattle.nit_hall.proofs.ServedCalls.{pass_call, pass_met, room_call, still_open}
 pub use Rattle.nit_hall.proofs.ServedClips.{FoundClip, follows_then, room_clip, room_left}
 pub use Rattle.nit_hall.proofs.ShotLemmas.{phase_at_shot, shot_told}
 pub use Rattle.nit_hall.proofs.UserActions.{FoundUser, adds_input, adds_shot, done_input, done_shot}
@@ -58,15 +57,14 @@ pub use Rattle.nit_hall.proofs.Basics.{AreAgreed, AreBegun, AreWatching, CanAgre
 pub use Rattle.nit_hall.proofs.Basics.{IsAmong, buffers_of, donation_of, line_stages, script_in}
 pub use Rattle.nit_hall.proofs.Basics.{stages_within, stretch, stretch_end, stretch_from, told_words}
 pub use Rattle.nit_hall.proofs.Basics.{watching_sight, with_end_stages, with_room_stages, with_stages}
-pub use Rattle.nit_hall.proofs.EndStages.{as_long, end_there, end_with, other_end, own_end, put_back}
+pub use Rattle.nit_hall.proofs.EndStages.{as_long, end_with, other_end, own_end, put_back}
 pub use Rattle.nit_hall.proofs.EndStages.{same_buffers, same_stands, set_there, stages_again}
 pub use Rattle.nit_hall.proofs.Basics.{SceneModel, same_Some}
 pub use Rattle.nit_hall.proofs.Agreements.{IsMet, can_agree, can_agree_again, room_admitted}
 pub use Rattle.nit_hall.proofs.Agreements.{room_and_pass_met, staged_room}
-pub use Rattle.nit_hall.proofs.OpeningCanvases.{AgreeSoFar, all_agree, all_split_off, blank_at}
+pub use Rattle.nit_hall.proofs.OpeningCanvases.{AgreeSoFar, all_agree, blank_at}
 pub use Rattle.nit_hall.proofs.OpeningCanvases.{first_before, none_agree, one_agrees}
 pub use Rattle.nit_hall.proofs.LineServed.{CallDid, ServedClauses, before_it_knew, served_clauses}
 pub use Rattle.nit_hall.proofs.ServedCalls.{added_with, scene_with}
-pub use Rattle.nit_hall.proofs.PhaseEnds.{pass_admitted}
 pub use Rattle.nit_hall.proofs.RoomOpening.{begun_canvases, donation_at, lenses_watch}
 pub use Rattle.nit_hall.proofs.Stretches.{stretch_begun, stroke_staged}

@@ -107,14 +107,6 @@ all_agree config scripts k before now lenses all so = record {
       so.agreed j c c' (let inside = slice_get_within before j c at in omega (arith, inside, all)) at at';
 }
 
-pub all_split_off : (config : Configuration) (scripts : List (List Line)) (k : ℕ) (before now lenses : List End)
-    → length before ≡ k → AgreeSoFar config scripts k before now lenses → AreSplitOff config scripts before lenses
-all_split_off config scripts k before now lenses all so = record {
-  each = so.counted ∙ sym all;
-  sights = so.sights;
-  buffers = so.buffers ∙ ap buffers_of (take_all k before (omega (arith, all)));
-}
-
 -- a canvas that is blank is so by its owner's number
 pub blank_at : (config : Configuration) (scripts : List (List Line)) (canvases : List End) (k : ℕ) (c : End)
     (script : List Line) (paid : ℕ) → AreBlank config scripts canvases → slice_get canvases k ≡ Some c

@@ -77,29 +77,6 @@ pass_phase next {p = p} name known known' is at e knows =
       spare_size = is.spare_size;
     })
 
--- the pass found its phase served, and agrees on a stretch from its next line on
-pub pass_admitted : (p : PassModel) (share : ShareModel) (spare : End) (met : ℕ) (sight : Sight) → IsPass p share spare
-    → met ≡ p.phase → sight ≡ with_stages (stretch p.script p.donation p.next) p.sight
-    → IsPass (record p { met = met; sight = sight }) share spare
-pass_admitted p share spare met sight is served_ at =
-    rw at (record {
-      number = is.number;
-      counted = is.counted;
-      within = is.within;
-      phase = is.phase;
-      known = is.known;
-      owner = is.owner;
-      painted = let h = is.painted in
-          record { opens = h.opens; planned = h.planned; ink = h.ink; size = h.size; words = h.words };
-      inked = is.inked;
-      told = is.told;
-      not_ahead = omega (arith, served_);
-      agreed = refl;
-      stretch = λ same. stretch_begun p.script p.donation p.next _ refl;
-      spare_owner = is.spare_owner;
-      spare_size = is.spare_size;
-    })
-
 -- a stroke was made
 pub pass_stroke : (p : PassModel) (share : ShareModel) (spare : End) (s : Stroke) (sight : Sight) (stand : _)
     → IsPass p share spare → slice_get p.script p.next ≡ Some (line.Stroke s)

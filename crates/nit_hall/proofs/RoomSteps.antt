@@ -11,7 +11,7 @@ use Rattle.nit_hall.proofs.HistoryLemmas.{GoesOn}
 use Rattle.nit_hall.proofs.EndStages.{sights_of}
 use Rattle.nit_hall.proofs.NearLemmas.{ShowsThen, TellsWords, near_later, near_painted}
 use Rattle.nit_hall.proofs.WatchedWords.{WasLeft, lens_shows}
-use Rattle.nit_hall.proofs.Basics.{AreWatching, Call, IsLoaded, IsWatching, Line, Some, append-nil}
+use Rattle.nit_hall.proofs.Basics.{AreWatching, Call, IsLoaded, KnowsStretch, Line, Some, append-nil}
 use Rattle.nit_hall.proofs.Basics.{calls_of, calls_of-append, donation_of, glass_in, script_in, stretch}
 use Rattle.std.proofs.Common.{◌<◌}
 use Rattle.nit_hall.proofs.ScriptsFollowed.{entries_within}
@@ -83,7 +83,7 @@ module _ (laws : EntryLaws) {r : RoomModel} {new : SceneModel End} {e : Entry} (
   pub watching_other : (t : ℕ) → t < length r.parts.scripts → IsOpen new.entries
       → (glass_in (sights_of new.glasses) t).stages ≡ (glass_in (sights_of r.scene.glasses) t).stages
       → calls_of t (e ∷ []) ≡ []
-      → IsWatching (script_in r.parts.scripts t) (donation_of r.scene.config t)
+      → KnowsStretch (script_in r.parts.scripts t) (donation_of r.scene.config t)
       (length (calls_of t (without_final new.entries))) r.phase (glass_in (sights_of new.glasses) t)
   watching_other t inside is same none =
       let w = room.watching t inside in

@@ -18,7 +18,7 @@ use Rattle.nit_script.specs.declared.line.Line.TheVariants as line
 use Rattle.nit_hall.proofs.LineLemmas.{counted_same, served_counted, calls_front, calls_line}
 use Rattle.nit_hall.proofs.LineLemmas.{line_counted}
 use Rattle.nit_hall.proofs.FinalEntries.{open_whole}
-use Rattle.nit_hall.proofs.Basics.{AreWatching, HaveInks, IsLoaded, IsWatching, stretch}
+use Rattle.nit_hall.proofs.Basics.{AreWatching, HaveInks, IsLoaded, KnowsStretch, stretch}
 use Rattle.nit_hall.proofs.Basics.{with_end_stages, with_stages}
 use Rattle.nit_hall.proofs.EndStages.{other_end, own_end, same_ink}
 use Rattle.nit_hall.proofs.NearLemmas.{AreInks, ShowsThen, TellsWords}
@@ -76,15 +76,6 @@ own_there glasses sid own = rw (eq-eqb sid sid refl) refl
 pub other_there : (glasses : List Sight) (sid : ℕ) (own : Sight) (t : ℕ) → t ≢ sid → glasses_of_call glasses sid own t
     ≡ glass_in glasses t
 other_there glasses sid own t ne = rw (ne_eqb t sid ne) refl
-
-inks_of_call : (config : Configuration) (scripts : List (List Line)) (glasses : List Sight) (sid : ℕ) (own : Sight)
-    → AreInks config scripts (glass_in glasses) → own.ink ≡ ink_in config scripts sid
-    → AreInks config scripts (glasses_of_call glasses sid own)
-inks_of_call config scripts glasses sid own inks is t = elim (cases_eq t sid) [
-  | inl e ↦ subst (λ (x : ℕ). (glasses_of_call glasses sid own x).ink ≡ ink_in config scripts x) (sym e)
-      (ap (λ (g : Sight). g.ink) (own_there glasses sid own) ∙ is)
-  | inr ne ↦ ap (λ (g : Sight). g.ink) (other_there glasses sid own t ne) ∙ inks t
-]
 
 -- what was loaded in the call is not told
 abbrev pub WereSeen : List Sight → List Sight → ℕ → Sight → Sight → Type 0
@@ -242,7 +233,7 @@ module _ (laws : EntryLaws) {r : RoomModel} {called : SceneModel End} {sid next 
   watching_then : sid < length called.glasses → AreWatching r.parts.scripts r.scene.config
       (without_final later.entries) r.phase later.glasses
   watching_then many t inside = elim (cases_eq t sid) [
-    | inl e ↦ subst (λ (x : ℕ). IsWatching (script_in r.parts.scripts x) (donation_of r.scene.config x)
+    | inl e ↦ subst (λ (x : ℕ). KnowsStretch (script_in r.parts.scripts x) (donation_of r.scene.config x)
         (length (calls_of x (without_final later.entries))) r.phase (glass_in (sights later) x)) (sym e)
         (record {
           since = next + 1;
@@ -304,12 +295,6 @@ told_after : (p : PassModel) → p.sight.words ≡ Some (words_after p.script p.
     → (with_words (λ words. words_after p.script p.donation (p.next + 1)) p.sight).words
     ≡ Some (words_after p.script p.donation (p.next + 1))
 told_after p told = ap (option_map (λ words. words_after p.script p.donation (p.next + 1))) told
-
-pub told_between : (p : PassModel) (share : ShareModel) (spare : End) (between : Sight) → IsPass p share spare
-    → (stages : List (List ℕ))
-    → between ≡ with_stages stages (with_words (λ words. words_after p.script p.donation (p.next + 1)) p.sight)
-    → between.words ≡ Some (words_after p.script p.donation (p.next + 1))
-told_between p share spare between is stages set = ap (λ (g : Sight). g.words) set ∙ told_after p is.told
 
 pub pass_call : (p : PassModel) (share : ShareModel) (spare : End) (c : Call) (met : ℕ) (name : _)
     (known : List Recorded) (sight : Sight) (stand : _) → IsPass p share spare
@@ -391,11 +376,3 @@ pass_met {r = r} {p = p} known room same of is counted book seen_ =
       spare_owner = is.spare_owner;
       spare_size = is.spare_size;
     }
-
--- ---- the clauses of a call
-
--- the caller's glass has loaded some words in the call
-pub sight_as : (sid : ℕ) (own own₀ own' : Sight) (old new : List Sight) → own ≡ own₀ → WereSeen old new sid own own'
-    → (loads : List (ℕ × ℕ)) × (own' ≡ seen own₀ loads)
-sight_as sid own own₀ own' old new same were = let saw =
-    own_seen old new sid own own' were in (saw.0, saw.1 ∙ ap (λ (g : Sight). seen g saw.0) same)

@@ -41,17 +41,6 @@ stroke_there script k n from to =
     let at : k + (n - k) ≡ n = omega (arith, from) in
     (there.0, ap (slice_get script) (sym at) ∙ sym (dropped_get script k (n - k)) ∙ there.1)
 
--- at a line that the room serves a stretch is over
-pub ends_here : (script : List Line) (k : ℕ) (l : Line) → slice_get script k ≡ Some l → is_served l ≡ true
-    → stretch_end script k ≡ k
-ends_here script k l at is = ap (λ (ls : List Line). k + strokes_in_front ls) (drop_line script k l at)
-    ∙ none l is
-  where
-    none : (l : Line) → is_served l ≡ true → k + strokes_in_front (l ∷ drop (k + 1) script) ≡ k
-    none (line.Call c) is = omega arith
-    none line.Phase is = omega arith
-    none (line.Stroke s) is = absurd cc
-
 -- behind a stroke it ends where it did before
 pub ends_behind : (script : List Line) (k : ℕ) (s : Stroke) → slice_get script k ≡ Some (line.Stroke s)
     → stretch_end script k ≡ stretch_end script (k + 1)

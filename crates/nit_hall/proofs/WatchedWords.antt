@@ -1,7 +1,7 @@
 -- What a reader's end shows, by the stretch of its script that it knows.
 use Rattle.nit_hall.proofs.Basics.{Call, Configuration, Entry, IfSome, IsAmong, IsLegal}
 use Rattle.nit_hall.specs.Below.{LegalFrom}
-use Rattle.nit_hall.proofs.Basics.{IsLoaded, IsWatching, Line, List, MayHaveDone, Option, Sight}
+use Rattle.nit_hall.proofs.Basics.{IsLoaded, KnowsStretch, Line, List, MayHaveDone, Option, Sight}
 use Rattle.nit_hall.proofs.Basics.{Some, State, [], after, ap, arith, as_many, calls_in, calls_of, first_state}
 use Rattle.nit_hall.proofs.Basics.{get_or_past}
 use Rattle.nit_hall.proofs.Basics.{length, ne_eqb, phases_before, refl, slice_index, stretch, stretch_end}
@@ -24,7 +24,7 @@ pub record IsLeftBy (script : List Line) (donation made ended i w : ℕ) : Type 
 
 -- what was loaded through such an end was left by the lines of its stretch
 pub left_by_stretch : (script : List Line) (donation made ended i w : ℕ) (g : Sight)
-    → IsWatching script donation made ended g → IsLoaded g i w → IsLeftBy script donation made ended i w
+    → KnowsStretch script donation made ended g → IsLoaded g i w → IsLeftBy script donation made ended i w
 left_by_stretch script donation made ended i w g watch loaded =
     let stage : IsAmong (stretch script donation watch.since) i w =
     subst (λ (o : Option (List (List ℕ))). IfSome o (λ stages. IsAmong stages i w)) watch.stages_are loaded.stage in
@@ -71,7 +71,7 @@ pub lens_shows : (config : Configuration) (scripts : List (List Line)) (ended : 
     (t : ℕ) (g : Sight) → IsLegal config (entries ++ e ∷ []) → length scripts ≡ length config.clients
     → g.ink ≡ ink_in config scripts t
     → (t < length scripts
-    → IsWatching (script_in scripts t) (donation_of config t) (length (calls_of t entries)) ended g)
+    → KnowsStretch (script_in scripts t) (donation_of config t) (length (calls_of t entries)) ended g)
     → calls_of t (e ∷ []) ≡ [] → (i w : ℕ) → IsLoaded g i w → WasLeft config scripts ended t (entries ++ e ∷ []) i w
 lens_shows config scripts ended entries e t g legal sessions inked watch none i w loaded =
     elim (cases_lt t (length scripts)) [

@@ -1,5 +1,5 @@
 -- What a call over the lock needs of an actor's pass, and what it leaves of it.
-use Rattle.std.specs.Prelude.{◌≡◌, ℕ, ◌+◌, All, List}
+use Rattle.std.specs.Prelude.{◌≡◌, ℕ, ◌+◌, All, List, Some}
 use Rattle.nit_hall.specs.Below.{ClipReply, IsClipAnswer, IsLegal, IsWord, Reply, Routed, replay}
 use Rattle.nit_hall.specs.Below.{with_stages}
 use mathlib.Core.List.{IsPrefix}
@@ -37,7 +37,8 @@ pub record CanClip (parts : OpeningParts) (p : PassModel) (q : ClipPassModel) : 
 -- ---- what it leaves
 
 -- A client's call was served with this reply: the last entry that the pass knows is the call, all
--- that it knows is legal, and it has loaded some of its words behind the line.
+-- that it knows is legal, and it has loaded some of its words behind the line. It and the room's
+-- end of its words agree on the strokes behind the line.
 pub record ServedCall (parts : OpeningParts) (p : PassModel) (reply : Reply) (p' : PassModel)
     : Type 0 where
   pub told : Tells p.seen (call_entry p reply) p'.seen
@@ -45,6 +46,7 @@ pub record ServedCall (parts : OpeningParts) (p : PassModel) (reply : Reply) (p'
   pub pass : p'
       ≡ record p { next = p.next + 1; met = p.phase; seen = p'.seen; sight = p'.sight }
   pub sight : HasLoaded (sight_after_line p) p'.sight
+  pub agreed : p'.sight.stages ≡ Some (stretch_from p (p.next + 1))
 
 -- the pass has ended its phase, and knows what it did and maybe more, all of it legal
 pub record EndedPhase (parts : OpeningParts) (p p' : PassModel) : Type 0 where

@@ -10,15 +10,21 @@ abbrev pub raw_behind : List (List ℕ) → ℕ → ℕ → ℕ
 raw_behind raws zero k = bare_word
 raw_behind raws (suc n) k = slice_index_or (slice_index_or raws n []) k 0
 
--- Behind each entry there are raw words, in order. A pixel that an entry does not make dirty holds
--- behind it the word that it held before it.
+-- What each pixel holds behind the first n entries of a journal, `held n k`: at first the bare
+-- word; and a pixel that an entry does not make dirty holds behind it the word that it held before
+-- it.
+pub record IsHeld (config : Configuration) (journal : List Entry) (held : ℕ → ℕ → ℕ) : Type 0 where
+  pub first : (k : ℕ) → held 0 k ≡ bare_word
+  pub clean : (front : List Entry) (e : Entry) (rest : List Entry) (k : ℕ)
+      → journal ≡ front ++ e ∷ rest → k < config.width * config.height
+      → is_dirtied config front e k ≡ false
+      → held (suc (length front)) k ≡ held (length front) k
+
+-- behind each entry there are raw words, in order, which are held along them
 pub record IsHistory (config : Configuration) (entries : List Entry) (raws : List (List ℕ))
     : Type 0 where
   pub each : length raws ≡ length entries
-  pub clean : (front : List Entry) (e : Entry) (rest : List Entry) (k : ℕ)
-      → entries ≡ front ++ e ∷ rest → k < config.width * config.height
-      → is_dirtied config front e k ≡ false
-      → raw_behind raws (suc (length front)) k ≡ raw_behind raws (length front) k
+  pub held : IsHeld config entries (raw_behind raws)
 
 -- each pixel holds now what it held behind the last entry
 abbrev pub AreLast : Configuration → List (List ℕ) → List ℕ → Type 0

@@ -13,7 +13,7 @@ use Rattle.nit_events.specs.declared.entry.Entry.TheVariants as entry
 use Rattle.nit_hall.specs.OpeningParts.{OpeningParts}
 use Rattle.nit_hall.specs.ServedLines.{served, user_actions_in, lines_of_all}
 use Rattle.nit_hall.specs.NearWords.{AreNear}
-use Rattle.nit_hall.specs.Stretch.{IsWatching}
+use Rattle.nit_hall.specs.Stretch.{KnowsStretch}
 use Rattle.nit_hall.specs.History.{AreLast, IsHistory}
 use Rattle.nit_hall.specs.ClipPass.{ClipPassModel, next_clip}
 use Rattle.nit_hall.specs.RoomClips.{FollowsClips}
@@ -178,7 +178,7 @@ HaveInks config scripts ends =
 abbrev pub AreWatching : List (List Line) → Configuration → List Entry → ℕ → List End → Type 0
 AreWatching scripts config entries phase ends =
     (t : ℕ) → t < length scripts
-    → IsWatching (script_in scripts t) (donation_of config t) (length (calls_of t entries)) phase
+    → KnowsStretch (script_in scripts t) (donation_of config t) (length (calls_of t entries)) phase
     (glass_in (map (λ (e : End). e.sight) ends) t)
 
 -- What holds of every room: its journal is legal and follows the scripts, but for the last picture;

@@ -32,7 +32,7 @@ pub use Rattle.nit_hall.specs.ClipPass.{IsDoneClip, clip_phases_before, clip_scr
 pub use Rattle.nit_hall.specs.ClipPass.{knowing_clip, next_clip}
 pub use Rattle.nit_hall.specs.Below.{Recorded, entries_in, raws_in}
 pub use Rattle.nit_hall.specs.HallCalls.{CanClip}
-pub use Rattle.nit_hall.specs.History.{AreLast, IsHistory, raw_behind}
+pub use Rattle.nit_hall.specs.History.{AreLast, IsHeld, IsHistory, raw_behind}
 pub use Rattle.nit_hall.specs.Meeting.{ClipHasMet, HasMet, UserHasMet}
 pub use Rattle.nit_hall.specs.NearWords.{AreNear, IsLastDirtied, IsNear, IsNearBy, IsNearFrame}
 pub use Rattle.nit_hall.specs.NearWords.{IsLeftAt, IsWordOfScripts, is_dirtied, words_at_call}
@@ -65,5 +65,5 @@ pub use Rattle.nit_hall.specs.Opening.{AreAgreed, AreBegun, buffers_of, first_st
 pub use Rattle.nit_hall.specs.Pass.{in_line, stretch_from}
 pub use Rattle.nit_hall.specs.RoomCalls.{HasAdmitted}
 pub use Rattle.nit_hall.specs.Room.{AreWatching, with_end_stages, with_room_stages}
-pub use Rattle.nit_hall.specs.Stretch.{HasStretch, IsWatching, line_stages, stretch, stretch_end}
+pub use Rattle.nit_hall.specs.Stretch.{HasStretch, KnowsStretch, line_stages, stretch, stretch_end}
 pub use Rattle.nit_hall.specs.Stretch.{strokes_in_front, watching_sight}

@@ -2,6 +2,7 @@
 pub use Rattle.atomic_table.proofs.Lists.{at_set}
 pub use Rattle.nit_pixels.specs.Terms.{AgreesAt, AllByRecursion, Allows, End, FitsLine, HaveWords}
 pub use Rattle.nit_pixels.specs.Terms.{Identity, IsAmong, IsInked, IsOwners, IsPixelRule, IsViewOf}
+pub use Rattle.nit_pixels.specs.Terms.{IsZeroBehind}
 pub use Rattle.nit_pixels.specs.Terms.{IsWatching, Joins, List, LoadStep, MayHold, None, PixelSeat}
 pub use Rattle.nit_pixels.specs.Terms.{PixelView, SeatState, Some, Splits, Stages, StoreStep, []}
 pub use Rattle.nit_pixels.specs.Terms.{agreeing, agreeing_as, keeps, new_sight, opening, option_map}
@@ -9,6 +10,6 @@ pub use Rattle.nit_pixels.specs.Terms.{owner_view, owners_script, reader_view, s
 pub use Rattle.nit_pixels.specs.Terms.{step, table_size, told_words, unagreed, view_loaded}
 pub use Rattle.nit_pixels.specs.Terms.{view_stored, watching_view, zeros}
 pub use Rattle.nit_plan.proofs.ForCallers.{stage_fits}
-pub use Rattle.nit_word.proofs.ForCallers.{length-zeros, zero_inked}
+pub use Rattle.nit_word.proofs.ForCallers.{length-zeros, zero_at, zero_inked}
 pub use Rattle.std.proofs.Common.{IfSome, IsSome, Option, ap, arith, get_or, inl, inr, length}
 pub use Rattle.std.proofs.Common.{rules, subst, sym, ◌∙◌}

@@ -1,7 +1,8 @@
 -- The seat of a table that was just made.
-use Rattle.nit_pixels.proofs.Basics.{Identity, IsOwners, PixelSeat, Stages, length-zeros, new_sight}
+use Rattle.nit_pixels.proofs.Basics.{Identity, IfSome, IsOwners, IsZeroBehind, PixelSeat, SeatState}
+use Rattle.nit_pixels.proofs.Basics.{Stages, length-zeros, new_sight, zero_at}
 use Rattle.nit_pixels.proofs.Basics.{option_map, owner_view, owners_script, sight_of, table_size}
-use Rattle.std.proofs.Common.{Some, [], ap, length, subst, sym, ℕ, ◌<◌, ◌∙◌, ◌≡◌}
+use Rattle.std.proofs.Common.{Some, [], ap, length, slice_index, subst, sym, ℕ, ◌<◌, ◌∙◌, ◌≡◌}
 
 pub first_sight : (identity : Identity) (s : PixelSeat) → s.table_id.words ≡ table_size identity.donation
     → s.me ≡ (owner_view identity, [])
@@ -23,3 +24,8 @@ first_owns identity s size me some = (
       ∙ ap (λ (n : ℕ). Some n) (length-zeros (table_size identity.donation) ∙ sym size),
   ap (λ m. m.1) me,
 )
+
+pub first_zero : (identity : Identity) (s : PixelSeat) → s.me ≡ (owner_view identity, []) → IsZeroBehind 0 s
+first_zero identity s me =
+    subst (λ (m : SeatState). IfSome m.0.words (λ words. (i : ℕ) → 0 < i → slice_index words i ≡ 0)) (sym me)
+    (λ i _. zero_at (table_size identity.donation) i)

@@ -10,7 +10,8 @@ pub use Rattle.nit_script.specs.Spelling.{FitsLine}
 pub use Rattle.nit_script.specs.declared.line.Line.{Line}
 pub use Rattle.nit_slots.specs.Account.{IsDonation}
 pub use Rattle.nit_word.specs.Inks.{IsAmong, IsInked, IsWord, Stages}
-pub use Rattle.nit_word.specs.Sight.{HasStage, MayHold, Sight, stored, told_words, with_stages}
+pub use Rattle.nit_word.specs.Sight.{HasStage, HaveWords, MayHold, Sight, stored, told_words}
+pub use Rattle.nit_word.specs.Sight.{with_stages}
 pub use Rattle.nit_word.specs.Zeros.{zeros}
 pub use Rattle.std.specs.List.{AllByRecursion}
 pub use Rattle.std.specs.Option.{option_map}

@@ -1,9 +1,10 @@
 -- The rule of the pixel words, and what each kind of step does to the view of the seat that makes
 -- it.
 use Rattle.std.specs.Prelude.{◌≡◌, ℕ, List, [], ◌∷◌, ◌++◌, Option, Some, None, IfSome, IsSome}
-use Rattle.nit_pixels.specs.Below.{AllByRecursion, FitsLine, Identity, IsAmong, IsInked, IsWord}
-use Rattle.nit_pixels.specs.Below.{Line, Me, PixelView, Stages, State, Step, blank, option_map}
-use Rattle.nit_pixels.specs.Below.{slice_index, slice_set, stages_from, table_size, zeros}
+use Rattle.nit_pixels.specs.Below.{AllByRecursion, FitsLine, HaveWords, Identity, IsAmong}
+use Rattle.nit_pixels.specs.Below.{IsInked, IsWord, Line, Me, PixelView, Stages, State, Step}
+use Rattle.nit_pixels.specs.Below.{blank, option_map, slice_index, slice_set, stages_from}
+use Rattle.nit_pixels.specs.Below.{table_size, zeros}
 use mathlib.Core.Option.{some}
 use lib.ListN.{get_elem?}
 
@@ -62,10 +63,6 @@ view_stored view i w =
 -- the view is a reader's that agrees on stages with the owner's
 abbrev pub IsWatching : PixelView → Type 0
 IsWatching view = (view.words ≡ None) × IsSome view.agreed
-
--- at each place one of the stages has the word that stands there
-abbrev pub HaveWords : List (List ℕ) → List ℕ → Type 0
-HaveWords stages words = (i : ℕ) → IsAmong stages i (slice_index words i)
 
 -- What the rule says of the stages that the view of the seat j agrees on, by whether the view tells
 -- words, and by these stages: only the first view tells words, and only one other agrees on stages,

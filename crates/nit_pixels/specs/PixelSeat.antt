@@ -1,6 +1,6 @@
 -- What is seen of a seat of the words.
-use Rattle.std.specs.Prelude.{◌≡◌, ◌<◌, [], length, Some, None}
-use Rattle.nit_pixels.specs.Below.{PixelView, Seat, Sight, Stages, TableId, option_map}
+use Rattle.std.specs.Prelude.{◌≡◌, ℕ, ◌<◌, [], length, IfSome, Some, None}
+use Rattle.nit_pixels.specs.Below.{PixelView, Seat, Sight, Stages, TableId, option_map, slice_index}
 use Rattle.nit_pixels.specs.End.{End}
 
 -- a seat of the words
@@ -32,6 +32,10 @@ abbrev pub IsOwners : PixelSeat → Type 0
 IsOwners s =
     (0 < s.table_id.words)
     × (option_map (λ words. length words) s.me.0.words ≡ Some s.table_id.words) × (s.me.1 ≡ [])
+
+-- of the words that the seat's view tells, those behind this place are 0
+abbrev pub IsZeroBehind : ℕ → PixelSeat → Type 0
+IsZeroBehind last s = IfSome s.me.0.words (λ words. (i : ℕ) → last < i → slice_index words i ≡ 0)
 
 -- a reader's seat: its view tells no words
 abbrev pub IsReaders : PixelSeat → Type 0

@@ -37,13 +37,13 @@ pub struct Key {
 
 impl Model for Key {
     ghost use Rattle.nit_pixels.specs.End.{End};
-    ghost use Rattle.nit_pixels.specs.PixelSeat.{end_of, IsOwners};
+    ghost use Rattle.nit_pixels.specs.PixelSeat.{end_of, IsOwners, IsZeroBehind};
 
     ghost Value = { End };
 
     ghost view = { λ k. end_of k.seat };
 
-    ghost invariant = { λ k. IsOwners k.seat };
+    ghost invariant = { λ k. IsOwners k.seat × IsZeroBehind 0 k.seat };
 }
 
 impl PixelBuffer {
@@ -85,6 +85,7 @@ impl PixelBuffer {
         Canvas {
             words: &self.table.shared,
             seat: key.seat,
+            last_set: 0,
         }
     }
 }

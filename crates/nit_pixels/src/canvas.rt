@@ -18,18 +18,21 @@ use std::marker::{Brand, Model};
 pub struct Canvas<'a> {
     pub(crate) words: &'a Words,
     pub(crate) seat: Seat<(), PixelView>,
+    /// The words behind this place were never set.
+    pub(crate) last_set: usize,
 }
 
 impl<'a> Model for Canvas<'a> {
     ghost use Rattle.std.specs.Prelude.{◌≡◌};
     ghost use Rattle.nit_pixels.specs.End.{End};
-    ghost use Rattle.nit_pixels.specs.PixelSeat.{end_of, IsOwners};
+    ghost use Rattle.nit_pixels.specs.PixelSeat.{end_of, IsOwners, IsZeroBehind};
 
     ghost Value = { End };
 
     ghost view = { λ c. end_of c.seat };
 
-    ghost invariant = { λ c. IsOwners c.seat × (c.seat.table_id ≡ c.words.now.table_id) };
+    ghost invariant = { λ c. IsOwners c.seat × (c.seat.table_id ≡ c.words.now.table_id)
+        × IsZeroBehind c.last_set c.seat };
 }
 
 impl<'a> Canvas<'a> {
@@ -92,6 +95,7 @@ impl<'a> Canvas<'a> {
         ensures { self.new ≡ record self.old { sight = stored self.old.sight i w } }
     {
         self.words.store::<Stores>(&mut self.seat, i, w as u64);
+        self.last_set = self.last_set.max(i);
     }
 }
 
@@ -110,5 +114,13 @@ impl<'a> Glass for Canvas<'a> {
 impl<'a> Surface for Canvas<'a> {
     fn store(&mut self, i: usize, w: u32) {
         Canvas::store(self, i, w);
+    }
+
+    fn unset_from(&self, end: usize) -> usize {
+        if self.last_set < end {
+            self.last_set + 1
+        } else {
+            end
+        }
     }
 }

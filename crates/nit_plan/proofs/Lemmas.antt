@@ -13,10 +13,10 @@ pub use Rattle.nit_plan.proofs.Places.{above, corner_left, no_place, none_begun,
 pub use Rattle.nit_plan.proofs.Places.{even_inked, odd_inked, row_even, row_inked, row_odd}
 pub use Rattle.nit_plan.proofs.Places.{rows_done, stroke_set}
 pub use Rattle.nit_plan.proofs.ScriptSession.{calls_done, static_called, static_in_a_run}
-pub use Rattle.nit_plan.proofs.Sights.{alike, changed, for_any, for_told, unchanged}
+pub use Rattle.nit_plan.proofs.Sights.{alike, changed, for_any, for_both, unchanged}
 pub use Rattle.nit_plan.proofs.StepLemmas.{IsPlannedTo, all_steps, each_sized, planned_more}
 pub use Rattle.nit_plan.proofs.StepLemmas.{step_at, steps_long}
 pub use Rattle.nit_plan.proofs.Stages.{has_stages, left_by_some, stage_fits, stage_within}
 pub use Rattle.nit_plan.proofs.Stages.{within_only}
 pub use Rattle.nit_plan.proofs.UnsetPlaces.{line_inked, line_stays}
-pub use Rattle.nit_plan.proofs.Zeros.{all_cleared}
+pub use Rattle.nit_plan.proofs.Zeros.{all_cleared, rest_unset}

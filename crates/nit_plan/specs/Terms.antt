@@ -25,4 +25,4 @@ pub use Rattle.nit_plan.specs.ScriptWords.{words_after, words_after_call, words_
 pub use Rattle.nit_plan.specs.Strokes.{IsStrokeInked, cleared, is_in_area, is_stroked, is_within}
 pub use Rattle.nit_plan.specs.Strokes.{place_colour}
 pub use Rattle.nit_plan.specs.Strokes.{stroke_colour, stroked, word_after_stroke}
-pub use Rattle.nit_plan.specs.Surface.{IsPaintedTo}
+pub use Rattle.nit_plan.specs.Surface.{AreZeroBetween, IsPaintedTo}

@@ -80,7 +80,7 @@ fn user_line<V: Viewer>(scene: &mut Scene<Inked>, line: &InputLine, viewer: &mut
 /// A turn of the rounds of these scripts.
 #[derive(Clone, Copy)]
 struct PartsTurn<'a> {
-    parts: Parts<'a>,
+    parts: &'a Parts<'a>,
     turn: Turn,
 }
 
@@ -92,21 +92,24 @@ fn do_turn<V: Viewer>(
     stale: Option<Stale>,
     next: PartsTurn<'_>,
 ) -> Option<Stale>
-    requires planned { IsPlanned scene.old.config next.parts.scripts.now next.parts.plans.now }
+    requires planned { IsPlanned scene.old.config next.parts.now.scripts.now
+        next.parts.now.plans.now }
     requires behind { AreBehind stale scene.old.glasses owns.old }
     requires next { (before : SceneModel Sight) × (m : LineTurn) × (left : List LineTurn)
         × (first : V)
-        × IsShowing V.fits V.shows next.parts.scripts.now next.parts.input.now before
+        × IsShowing V.fits V.shows next.parts.now.scripts.now next.parts.now.input.now before
         (settled scene.old owns.old) owns.old (m ∷ left) first viewer.old
         × (turn_of m ≡ next.turn)
-        × (length (actions_of_turns (rounds next.parts.scripts.now next.parts.input.now))
+        × (length (actions_of_turns (rounds next.parts.now.scripts.now next.parts.now.input.now))
         ≤ before.spare) }
     ensures behind { AreBehind result scene.new.glasses owns.new }
     ensures way { (before : SceneModel Sight) (m : LineTurn) (left : List LineTurn) (first : V)
-        → IsShowing V.fits V.shows next.entry.parts.scripts.now next.entry.parts.input.now before
+        → IsShowing V.fits V.shows next.entry.parts.now.scripts.now
+        next.entry.parts.now.input.now before
         (settled scene.old owns.old) owns.old (m ∷ left) first viewer.old
         → turn_of m ≡ next.entry.turn
-        → IsShowing V.fits V.shows next.entry.parts.scripts.now next.entry.parts.input.now before
+        → IsShowing V.fits V.shows next.entry.parts.now.scripts.now
+        next.entry.parts.now.input.now before
         (settled scene.new owns.new) owns.new left first viewer.new }
 {
     lines_done();
@@ -161,7 +164,11 @@ pub fn run_viewed<V: Viewer>(
     let mut turns = Turns::new(parts.scripts, parts.input);
     let mut stale = None;
     'lines: while let Some(turn) = turns.next() {
-        stale = do_turn(scene, owns, viewer, stale, PartsTurn { parts, turn });
+        let next = PartsTurn {
+            parts: &parts,
+            turn,
+        };
+        stale = do_turn(scene, owns, viewer, stale, next);
     }
     settle(scene, owns, stale);
     let _ = scene.journal();

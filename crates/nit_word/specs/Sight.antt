@@ -5,9 +5,9 @@ use Rattle.std.specs.Prelude.{Option, None, Some, IfSome}
 use Rattle.nit_word.specs.Below.{option_map}
 use Rattle.nit_word.specs.Inks.{Colours, Ink, IsAmong, IsInked, IsWord, Stages}
 
--- The number of the owner, how many words there are, and the ink; where the glass knows it, lists of
--- words of which one has what now stands at each place; the words where the glass tells them; and
--- each load's place and word, oldest first, where the glass tells them.
+-- The number of the owner, how many words there are, and the ink; where the glass knows it, lists
+-- of words of which one has what now stands at each place; the words where the glass tells them;
+-- and each load's place and word, oldest first, where the glass tells them.
 pub record Sight : Type 0 where
   pub owner : ℕ
   pub size : ℕ
@@ -50,10 +50,13 @@ seen sight loads = record sight { log = option_map (λ log. log ++ loads) sight.
 abbrev pub with_stages : List (List ℕ) → Sight → Sight
 with_stages stages sight = record sight { stages = Some stages }
 
--- the words are of the stages, where the glass knows any: each word is had by one of them
+-- each of the words is had, at its place, by one of the stages
+abbrev pub HaveWords : List (List ℕ) → List ℕ → Type 0
+HaveWords stages words = (i : ℕ) → IsAmong stages i (slice_index words i)
+
+-- the words are of the stages, where the glass knows any
 abbrev pub HasStage : Sight → List ℕ → Type 0
-HasStage sight words =
-    IfSome sight.stages (λ stages. (i : ℕ) → IsAmong stages i (slice_index words i))
+HasStage sight words = IfSome sight.stages (λ stages. HaveWords stages words)
 
 -- w may be stored at place i: it is 0 or what the ink has there, and of the stages, where the glass
 -- knows any

@@ -3,8 +3,8 @@ pub use Rattle.nit_word.specs.Below.{enumerate_from, list_any, option_map, slice
 pub use Rattle.nit_word.specs.Channels.{dim, tint}
 pub use Rattle.nit_word.specs.Inks.{AreInkedBetween, Colours, Ink, IsAmong, IsInked, IsOfColours}
 pub use Rattle.nit_word.specs.Inks.{IsWord, Stages}
-pub use Rattle.nit_word.specs.Sight.{HasStage, IsLoaded, IsLoadedRow, MayHold, MayHoldBetween}
-pub use Rattle.nit_word.specs.Sight.{Sight, TellsAll, inked_sight, with_stages}
+pub use Rattle.nit_word.specs.Sight.{HasStage, HaveWords, IsLoaded, IsLoadedRow, MayHold}
+pub use Rattle.nit_word.specs.Sight.{MayHoldBetween, Sight, TellsAll, inked_sight, with_stages}
 pub use Rattle.nit_word.specs.Sight.{plain_sight, plain_stored, seen, stored, told_at}
 pub use Rattle.nit_word.specs.Updates.{in_turn, is_between, set_where, with_words}
 pub use Rattle.nit_word.specs.Zeros.{filled_up, zeros}

@@ -43,7 +43,7 @@ client_line-requires-clause-draw g c =
     let t = settled_turn c.turns_tell.ensures.client c.lines_done.ensures.client _ _ _ before c.args.scene.now s _ m
     left _ _ c.requires.planned p.way c.settle_others-stale.ensures.scene (is ∙ c.in-Client.is) room in
     let donation = donation_of s.config sid in
-    let script = get_or_default c.args.next.parts.scripts.now sid [] c.index-parts-sid.result t.in_scripts in
+    let script = get_or_default c.args.next.parts.now.scripts.now sid [] c.index-parts-sid.result t.in_scripts in
     record {
       there = record {
         session = t.session;
@@ -51,7 +51,7 @@ client_line-requires-clause-draw g c =
       };
       line = rw script at t.here;
       donation = t.donation;
-      plan = rw script at (rw (get_or_default c.args.next.parts.plans.now sid _ c.index-parts-sid-in-Client.result
+      plan = rw script at (rw (get_or_default c.args.next.parts.now.plans.now sid _ c.index-parts-sid-in-Client.result
           t.in_plans) at t.plan);
       own = rw (get_or_default c.args.owns.now sid _ no_sight t.in_owns, t.own, script);
       behind = rw (← get_or_default c.args.owns.now sid no_sight _ t.in_owns) c.settle_others-stale.ensures.behind;
@@ -64,7 +64,7 @@ client_line-requires-clause-spare g c =
     c.settle_others-stale.new.scene _ m left _ _ c.requires.planned p.way c.settle_others-stale.ensures.scene
     (is ∙ c.in-Client.is) room in
     λ call found. t.spare call (rw (
-      get_or_default c.args.next.parts.scripts.now c.in-Client.sid []
+      get_or_default c.args.next.parts.now.scripts.now c.in-Client.sid []
           c.index-parts-sid.result t.in_scripts,
       found,
     ))
@@ -92,7 +92,7 @@ returns-in-Client-clause-way g c before m left first p is =
     let p' = rw (← there) at p in
     let move = clients_move c.turns_tell.ensures.client c.lines_done.ensures.client _ _ before _ _ m left _ _ p'.way
     (is ∙ c.in-Client.is) in
-    let script = get_or_default c.args.next.parts.scripts.now sid c.index-parts-sid.result [] move.inside in
+    let script = get_or_default c.args.next.parts.now.scripts.now sid c.index-parts-sid.result [] move.inside in
     let here = ap (λ (ls : List Line). slice_get ls c.in-Client.line) script ∙ move.here in
     let does = c.client_line.ensures.done move.l here in
     after_client g.V.Viewer.fits g.V.Viewer.shows _ _ before (settled mid owns) (settled new (set owns sid own')) owns _
@@ -123,7 +123,8 @@ user_line-requires-clause-can g c =
     let t = users_turn c.turns_tell.ensures.user c.lines_done.ensures.user _ _ before c.args.scene.now _ _ m left _
     p.way c.settle.ensures (is ∙ c.in-User.is) room in
     let inside = rw (← c.lines.ensures.value) at t.here in
-    t.can _ (read_same c.args.next.parts.input.now c.lines.result.now c.in-User.line _ c.lines.ensures.value t.here)
+    t.can _
+    (read_same c.args.next.parts.now.input.now c.lines.result.now c.in-User.line _ c.lines.ensures.value t.here)
     (each_at FitsInputLine c.lines.result.now c.in-User.line _ inside c.lines.ensures.fits)
 
 pub returns-in-User-clause-way : goal.returns-in-User-clause-way
@@ -132,17 +133,18 @@ returns-in-User-clause-way g c before m left first p is =
     let new = c.user_line.new.scene in
     let last = c.user_line.new.viewer in
     let Way = λ (s : SceneModel Sight) (ms : List LineTurn). IsShowing g.V.Viewer.fits g.V.Viewer.shows
-    c.args.next.parts.scripts.now c.args.next.parts.input.now before s owns ms first in
+    c.args.next.parts.now.scripts.now c.args.next.parts.now.input.now before s owns ms first in
     let p' = rw (← c.settle.ensures) at p in
     let (before', m', left', first', q, is', room) = c.requires.next in
     let t = users_turn c.turns_tell.ensures.user c.lines_done.ensures.user _ _ before' c.args.scene.now _ _ m' left' _
     q.way c.settle.ensures (is' ∙ c.in-User.is) room in
-    let same = read_same c.args.next.parts.input.now c.lines.result.now c.in-User.line _ c.lines.ensures.value t.here in
+    let same = read_same c.args.next.parts.now.input.now c.lines.result.now c.in-User.line _ c.lines.ensures.value
+    t.here in
     let move = users_move c.turns_tell.ensures.user c.lines_done.ensures.user _ _ before _ _ m left _ p'.way
     (is ∙ c.in-User.is) in
     let does = c.user_line.ensures in
     let glasses = does.done.glasses ∙ ap (λ (s : SceneModel Sight). s.glasses) c.settle.ensures in
     rw (ap (λ (gs : List Sight). record new { glasses = gs }) glasses) at (after_user g.V.Viewer.fits
     g.V.Viewer.shows _ _ before c.settle.new.scene new owns m left _ first _ _ p'
-    (move.doing ∙ ap ByUser (found_here c.args.next.parts.input.now c.in-User.line move.l _ move.here same))
+    (move.doing ∙ ap ByUser (found_here c.args.next.parts.now.input.now c.in-User.line move.l _ move.here same))
     does.done does.shown does.viewer)

@@ -1,5 +1,5 @@
-use Rattle.nit_pixels.proofs.Lemmas.{ap, arith, first_owns, first_sight, length, length-zeros}
-use Rattle.nit_pixels.proofs.Lemmas.{new_sight, opens, table_size, ◌∙◌}
+use Rattle.nit_pixels.proofs.Lemmas.{ap, arith, first_owns, first_sight, first_zero, length}
+use Rattle.nit_pixels.proofs.Lemmas.{length-zeros, new_sight, opens, table_size, ◌∙◌}
 use Rattle.nit_pixels.proofs.buffer.PixelBuffer.new.Goals as goal
 
 pub of_words-requires : goal.of_words-requires
@@ -10,8 +10,10 @@ pub invariant_of-result : goal.invariant_of-result
 invariant_of-result c =
     let made = c.in_ok-table.ensures in
     let size = ap (λ z. z.words) made.2 ∙ made.0 ∙ ap length c.requires.words
-    ∙ length-zeros (table_size c.args.donation) in
-    first_owns _ c.in_ok-table.seat size made.4 (omega (arith, c.requires.donation))
+    ∙ length-zeros (table_size c.args.donation) in (
+      first_owns _ c.in_ok-table.seat size made.4 (omega (arith, c.requires.donation)),
+      first_zero _ c.in_ok-table.seat made.4,
+    )
 
 pub returns-clause-sight : goal.returns-clause-sight
 returns-clause-sight c =
