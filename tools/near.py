@@ -3,9 +3,9 @@
 A pixel that a call of its owner's loaded last has the very word that the owner's script had left
 there at that call. Each other pixel of a buffer has a word that the script leaves at that place
 after a number of its lines: just as many of these are calls as its client had made when the pixel
-was loaded, and they end no more phases than the input script does in front of the shot. It has the
-same word in all shots until an entry makes it dirty: one word has to agree with all that these
-shots show there.
+was loaded, and none is of a later phase than the entry for which it was loaded. It has the same
+word in all shots until an entry makes it dirty: one word has to agree with all that these shots
+show there.
 """
 from bisect import bisect_left, bisect_right
 from functools import cached_property
@@ -43,11 +43,11 @@ class Stages:
             self.calls.append(self.calls[-1] + is_call(line))
             self.phases.append(self.phases[-1] + (line == "phase"))
 
-    def words_at(self, place, made, ended):
+    def words_at(self, place, made, phase):
         """The words that stand there after numbers of lines of which just so many are calls, and
-        which end so many phases at most."""
+        none is of a later phase."""
         least = bisect_left(self.calls, made)
-        behind = min(bisect_right(self.calls, made), bisect_right(self.phases, ended))
+        behind = min(bisect_right(self.calls, made), bisect_right(self.phases, phase))
         if behind <= least:
             return set()
         numbers, words = self.changes.by_place.get(place, ([0], [0]))
@@ -57,14 +57,14 @@ class Stages:
 class SceneBeside(Scene):
     """The scene along the journal of a run on threads. A pixel has no word where the journal and
     the scripts do not tell it, and has it again when a call of its owner's loads it. Of a pixel
-    without a word are kept how many calls its client had made when it was loaded, and the words
-    that agree with all shots since then."""
+    without a word are kept how many calls its client had made when it was loaded and in which
+    phase, as the actors tell it, and the words that agree with all shots since then."""
 
-    def __init__(self, config, scripts):
+    def __init__(self, config, scripts, actors):
         super().__init__(config)
         self.donations = [client["donation"] for client in config["client"]]
         self.scripts, self.left = scripts, [iter(lines) for lines in scripts]
-        self.made, self.made_at = [0 for _ in scripts], {}
+        self.actors, self.made, self.loaded_at = actors, [0 for _ in scripts], {}
         self.told, self.agreeing = [], {}
 
     @cached_property
@@ -97,24 +97,23 @@ class SceneBeside(Scene):
     def word(self, view, column, row):
         self.agreeing.pop((column, row), None)
         if view and view.session not in self.told and self.place_of(view, column, row):
-            self.made_at[column, row] = self.made[self.sessions.index(view.session)]
+            made = self.made[self.sessions.index(view.session)]
+            self.loaded_at[column, row] = made, self.actors.phase
             return None
         return super().word(view, column, row)
 
-    def may_hold(self, view, column, row, ended):
-        """The words of which a pixel holds one in a shot with so many ended phases in front of it,
-        whatever the shots show."""
+    def may_hold(self, view, column, row):
+        """The words of which a pixel holds one, whatever the shots show."""
         word = self.raw[row][column]
         if word is not None:
             return {word}
         x, y = self.place_of(view, column, row)
         stages = self.stages[self.sessions.index(view.session)]
         place = y * view.session.size[0] + x
-        return stages.words_at(place, self.made_at[column, row], ended)
+        return stages.words_at(place, *self.loaded_at[column, row])
 
-    def fault_of_shot(self, picture, ended):
-        """What is wrong with a picture that is taken here, if something is. In front of it the
-        input script ends so many phases."""
+    def fault_of_shot(self, picture):
+        """What is wrong with a picture that is taken here, if something is."""
         start, size = header(self.width, self.height), 3 * self.width * self.height
         if picture[: len(start)] != start or len(picture) != len(start) + size:
             return "it is no picture of this screen"
@@ -123,7 +122,7 @@ class SceneBeside(Scene):
             for column in range(self.width):
                 view, at = owners[row][column], len(start) + 3 * (row * self.width + column)
                 word = int.from_bytes(picture[at : at + 3], "big")
-                raws = {raw for raw in self.may_hold(view, column, row, ended)
+                raws = {raw for raw in self.may_hold(view, column, row)
                         if self.pixel(view, labels, column, row, raw) == word}
                 fault = self.fault_of_pixel(column, row, raws, word)
                 if fault:

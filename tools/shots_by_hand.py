@@ -52,7 +52,8 @@ EARLIER = " after what earlier shots show"
 PAIRS = {"RGRR RGRR": None, "RGBR RGBR": None, "RGRR RGGR": cannot(2, "G", 2),
          "RGRR RGBR": cannot(2, "B", 2, EARLIER), "RGBR RGRR": cannot(2, "R", 2, EARLIER)}
 PAIRS_ANEW = PAIRS | {"RGRR RGBR": None, "RGBR RGRR": None}
-PAIRS_OF_PHASES = PAIRS | {"RGBR RGBR": cannot(2, "B"), "RGBR RGRR": cannot(2, "B")}
+PAIRS_OF_PHASES = PAIRS | {"RGBR RGBR": cannot(2, "B"), "RGBR RGRR": cannot(2, "B"),
+                           "RGRR RGBR": cannot(2, "B", 2)}
 PAIRS_OF_PHASES_ANEW = PAIRS_OF_PHASES | {"RGRR RGBR": None}
 PAIRS_BESIDE_A_CALL = {"RGRR RGRR": None, "RGRR RGBR": None, "RGRR RGKR": cannot(2, "K", 2),
                        "RRRR RRBR": None, "RRRR RGBR": cannot(1, "G", 2, EARLIER)}
@@ -72,6 +73,7 @@ def runs_of_one_shot():
     yield [FIRST, SECOND], ["shot"], [*BEHIND, "shot 1"], SHOTS_BEHIND
     yield [FIRST, SECOND], ["shot"], [*IN_FRONT, REFUSED, "shot 1"], SHOTS_IN_FRONT
     yield [PHASED, early], ["shot", "phase"], [*BEHIND, "shot 1"], SHOTS_OF_FIRST_PHASE
+    yield [PHASED, early], ["phase", "shot"], [*BEHIND, "shot 1"], SHOTS_OF_FIRST_PHASE
     yield [PHASED, late], ["phase", "shot"], [*BEHIND, "shot 1"], SHOTS_OF_SECOND_PHASE
     yield [CLEARED, SECOND], ["shot"], [*IN_FRONT, "shot 1", ACCEPTED], SHOTS_BEFORE_CLEARED
     yield [CLEARED, SECOND], ["shot"], [*OPENING, ACCEPTED, DESTROYED, "shot 1"], SHOTS_OF_CLEARED

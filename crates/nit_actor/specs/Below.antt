@@ -21,7 +21,7 @@ pub use Rattle.nit_hall.specs.Pass.{Belongs, HasMetPhase, IsAtDevice, IsAtPhase,
 pub use Rattle.nit_hall.specs.Pass.{IsAtStroke, IsAtUserPhase, PassModel, UserBelongs}
 pub use Rattle.nit_hall.specs.Pass.{UserPassModel, call_of_line, next_device, sight_after_line}
 pub use Rattle.nit_hall.specs.Room.{RoomModel, after_arrival, arrived_one}
-pub use Rattle.nit_hall.specs.ServedLines.{phases_at_shot, phases_before, user_actions_in}
+pub use Rattle.nit_hall.specs.ServedLines.{phases_before, user_actions_in}
 pub use Rattle.nit_journal.specs.Replay.{IsOpen, replay, shots}
 pub use Rattle.nit_journal.specs.WholeJournals.{Action, Calls, UserAction, action_of}
 pub use Rattle.nit_journal.specs.WholeJournals.{user_actions_of}

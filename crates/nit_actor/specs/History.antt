@@ -10,8 +10,7 @@ abbrev pub StaysClean : Configuration → List Entry → List Entry → ℕ → 
 StaysClean config front between k = (before : List Entry) (e : Entry) (more : List Entry)
     → between ≡ before ++ e ∷ more → is_dirtied config (front ++ before) e k ≡ false
 
--- the bytes are a picture that these entries allow at the next shot of this input script, by the
--- words that are held behind them
+-- the bytes are a picture that these entries allow, by the words that are held behind them
 abbrev pub IsHeldPicture : (ℕ → ℕ → ℕ) → Configuration → List (List Line) → List InputLine
     → List Entry → List ℕ → Type 0
 IsHeldPicture held config scripts input entries bytes =
@@ -20,8 +19,7 @@ IsHeldPicture held config scripts input entries bytes =
     → slice_index_or near.1.0 k 0 ≡ held (length entries) k)
 
 -- There is one history of raw words, and the files are those of the shots of a journal, in order:
--- each is a picture that the entries before its shot allow at this shot of the input script, by the
--- words that are held then.
+-- each is a picture that the entries before its shot allow, by the words that are held then.
 pub record AreOfOneHistory (config : Configuration) (scripts : List (List Line))
     (input : List InputLine) (journal : List Entry) (files : List File) : Type 0 where
   pub held : ℕ → ℕ → ℕ

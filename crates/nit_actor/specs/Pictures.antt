@@ -2,19 +2,19 @@
 use Rattle.std.specs.Prelude.{◌≡◌, ℕ, List, ◌++◌, Some, length, slice_get}
 use Rattle.nit_actor.specs.Below.{AreShotsOf, Configuration, Entry, File, InputLine, IsNearFrame}
 use Rattle.nit_actor.specs.Below.{Line, OpeningParts, PutState, PutsAll, ShotsBehind}
-use Rattle.nit_actor.specs.Below.{phases_at_shot, picture, shots}
+use Rattle.nit_actor.specs.Below.{picture, shots}
 
 -- The bytes are the picture of a frame of the state that these entries lead to, in which each pixel
--- holds a word that it may hold after them, at the next shot of this input script.
+-- holds a word that it may hold after them.
 abbrev pub IsNearPicture : Configuration → List (List Line) → List InputLine → List Entry → List ℕ
     → Type 0
 IsNearPicture config scripts input entries bytes =
     (words : List ℕ)
-    × IsNearFrame config scripts (phases_at_shot input (shots entries)) entries words
+    × IsNearFrame config scripts input entries words
     × (bytes ≡ picture config.width config.height words)
 
 -- the files are those of the shots of a journal, in order, and each is a picture that the entries
--- before its shot allow at this shot of the input script
+-- before its shot allow
 abbrev pub AreNearShots : Configuration → List (List Line) → List InputLine → List Entry
     → List File → Type 0
 AreNearShots config scripts input journal files =

@@ -10,7 +10,7 @@ pub use Rattle.nit_actor.specs.Below.{UserBelongsAt, UserPassModel, action_of, a
 pub use Rattle.nit_actor.specs.Below.{arrived_one, call_of_line, calls_in, clip_phases}
 pub use Rattle.nit_actor.specs.Below.{clip_phases_before, cons_option, is_clip_phase, is_phase}
 pub use Rattle.nit_actor.specs.Below.{next_device, phases}
-pub use Rattle.nit_actor.specs.Below.{phases_at_shot, phases_before, picture, pixel, pixel_count}
+pub use Rattle.nit_actor.specs.Below.{phases_before, picture, pixel, pixel_count}
 pub use Rattle.nit_actor.specs.Below.{replay}
 pub use Rattle.nit_actor.specs.Below.{scenery_of, shot_name, shots, shown, sight_after_line}
 pub use Rattle.nit_actor.specs.Below.{slice_index, slice_index_or, user_actions_from}

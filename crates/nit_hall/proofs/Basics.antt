@@ -30,7 +30,7 @@ pub use Rattle.nit_hall.specs.Terms.{knowing, knowing_clip, left_after, left_wor
 pub use Rattle.nit_hall.specs.Terms.{lines_of_all, lines_of_clips, lines_to_call, map, nat_le}
 pub use Rattle.nit_hall.specs.Terms.{new_sight, next_call, next_clip, next_device, next_phase}
 pub use Rattle.nit_hall.specs.Terms.{no_sight, option_map, painted_from, parts_of, phases_along}
-pub use Rattle.nit_hall.specs.Terms.{phases_at_shot, phases_before, phases_ended, pixel, pixel_count}
+pub use Rattle.nit_hall.specs.Terms.{phase_of_entry, phases_before, phases_ended, pixel, pixel_count}
 pub use Rattle.nit_hall.specs.Terms.{HasLoaded, is_accepted, lenses, plan_in, serve, session}
 pub use Rattle.nit_hall.specs.Terms.{stands, with_final}
 pub use Rattle.nit_hall.specs.Terms.{raised, range_with_len, reader_sight, replay, replicate}

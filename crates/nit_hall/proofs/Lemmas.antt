@@ -50,7 +50,7 @@ pub use Rattle.nit_hall.proofs.ScriptsFollowed.{calls_front_of, actions_front_of
 pub use Rattle.nit_hall.proofs.ServedCalls.{Found, calls_made, calls_then, found, next_at, own_seen}
 pub use Rattle.nit_hall.proofs.ServedCalls.{pass_call, pass_met, room_call, still_open}
 pub use Rattle.nit_hall.proofs.ServedClips.{FoundClip, follows_then, room_clip, room_left}
-pub use Rattle.nit_hall.proofs.ShotLemmas.{phase_at_shot, shot_told}
+pub use Rattle.nit_hall.proofs.ShotLemmas.{shot_told}
 pub use Rattle.nit_hall.proofs.UserActions.{FoundUser, adds_input, adds_shot, done_input, done_shot}
 pub use Rattle.nit_hall.proofs.UserActions.{found_user, room_action, user_action, user_met}
 pub use Rattle.nit_hall.proofs.Basics.{AreAgreed, AreBegun, AreWatching, CanAgree, HasStage, HasStretch}

@@ -1,11 +1,11 @@
 -- What each pixel may hold, after one more entry.
 use Rattle.nit_hall.proofs.Basics.{AreNear, Bare, Black, Call, Configuration, Entry, EntryLaws}
-use Rattle.nit_hall.proofs.Basics.{IfSome, IsLegal, IsNear, IsNearBy, IsWordOfScripts}
+use Rattle.nit_hall.proofs.Basics.{IfSome, InputLine, IsLegal, IsNear, IsNearBy, IsOpen, IsWordOfScripts}
 use Rattle.nit_hall.proofs.Basics.{IsWordOfSource, Line, List, None, Option, Painted, PixelSource}
 use Rattle.nit_hall.proofs.Basics.{Reply, Sight, Some, State, Word, [], after, ap, cases_Bool}
 use Rattle.nit_hall.proofs.Basics.{Colours, IsLoaded, MayHaveDone, arith, donation_of, false}
 use Rattle.nit_hall.proofs.Basics.{first_state, ink_in, inl, inr, is_dirtied, length, words_after}
-use Rattle.nit_hall.proofs.Basics.{nat_tests, pixel, refl, script_ink}
+use Rattle.nit_hall.proofs.Basics.{nat_tests, phase_of_entry, pixel, refl, script_ink}
 use Rattle.nit_hall.proofs.Basics.{pixel_count, replay, same_config, script_in, shots, slice_index}
 use Rattle.nit_hall.proofs.Basics.{slice_index_or, source_at, source_of, subst, sym, words_at_call}
 use Rattle.std.proofs.Common.{nat_lt, true, ℕ, ◌*◌, ◌++◌, ◌+◌, ◌<◌, ◌∙◌, ◌∷◌, ◌≡◌, ◌≤◌}
@@ -15,12 +15,12 @@ use Rattle.nit_hall.proofs.LastDirty.{last_is_last, last_before, last_more, one_
 -- ---- one more entry
 
 -- a pixel that the next entry leaves clean may hold what it might before
-near_still : (config : Configuration) (scripts : List (List Line)) (ended : ℕ) (journal : List Entry) (e : Entry)
-    (k : ℕ) (source : PixelSource) (w : ℕ) → is_dirtied config journal e k ≡ false
-    → IsNearBy config scripts ended journal k source w → IsNearBy config scripts ended (journal ++ e ∷ []) k source w
-near_still config scripts ended journal e k Bare w clean near = near
-near_still config scripts ended journal e k Black w clean near = near
-near_still config scripts ended journal e k (Word t i) w clean near =
+near_still : (config : Configuration) (scripts : List (List Line)) (input : List InputLine) (journal : List Entry)
+    (e : Entry) (k : ℕ) (source : PixelSource) (w : ℕ) → is_dirtied config journal e k ≡ false
+    → IsNearBy config scripts input journal k source w → IsNearBy config scripts input (journal ++ e ∷ []) k source w
+near_still config scripts input journal e k Bare w clean near = near
+near_still config scripts input journal e k Black w clean near = near
+near_still config scripts input journal e k (Word t i) w clean near =
     record {
       left = let l = near.left in record {
         front = l.front;
@@ -36,16 +36,15 @@ near_still config scripts ended journal e k (Word t i) w clean near =
           before.1;
     }
 
-pub near_more : EntryLaws → (config : Configuration) (scripts : List (List Line)) (ended : ℕ) (journal : List Entry)
-    (e : Entry)
-    (raw raw' : List ℕ)
+pub near_more : EntryLaws → (config : Configuration) (scripts : List (List Line)) (input : List InputLine)
+    (journal : List Entry) (e : Entry) (raw raw' : List ℕ)
     → IsLegal config (journal ++ e ∷ [])
     → ((k : ℕ) → k < pixel_count (replay config journal) → is_dirtied config journal e k ≡ true
-    → IsNearBy config scripts ended (journal ++ e ∷ []) k (source_at (after (replay config journal) e) k)
+    → IsNearBy config scripts input (journal ++ e ∷ []) k (source_at (after (replay config journal) e) k)
     (slice_index_or raw' k 0))
     → ((k : ℕ) → is_dirtied config journal e k ≡ false → slice_index_or raw' k 0 ≡ slice_index_or raw k 0)
-    → AreNear config scripts ended journal raw → AreNear config scripts ended (journal ++ e ∷ []) raw'
-near_more laws config scripts ended journal e raw raw' legal loaded others near k on_screen =
+    → AreNear config scripts input journal raw → AreNear config scripts input (journal ++ e ∷ []) raw'
+near_more laws config scripts input journal e raw raw' legal loaded others near k on_screen =
     let s : State = replay config journal in
     let now : replay config (journal ++ e ∷ []) ≡ after s e = laws.more (first_state config) journal e in
     let count : pixel_count (replay config (journal ++ e ∷ [])) ≡ pixel_count s = ap pixel_count now
@@ -56,44 +55,17 @@ near_more laws config scripts ended journal e raw raw' legal loaded others near 
     ∙ ap (λ (c : Configuration). source_of (after s e) (pixel c.width k)) (same_config s e) in
     let w : ℕ = slice_index_or raw' k 0 in
     elim (cases_Bool (is_dirtied config journal e k)) [
-      | inl is ↦ subst (λ (x : State). IsNearBy config scripts ended (journal ++ e ∷ []) k (source_at x k) w) (sym now)
+      | inl is ↦ subst (λ (x : State). IsNearBy config scripts input (journal ++ e ∷ []) k (source_at x k) w) (sym now)
           (loaded k inside is)
       | inr clean ↦
           let source : source_at (replay config (journal ++ e ∷ [])) k ≡ source_at s k = at
           ∙ laws.keeps s (0 + shots journal) e (pixel s.config.width k)
           (laws.agrees (first_state config) 0 journal e legal) clean in
-          subst (λ (x : ℕ). IsNear config scripts ended (journal ++ e ∷ []) k x) (sym (others k clean))
-          (subst (λ (x : PixelSource). IsNearBy config scripts ended (journal ++ e ∷ []) k x (slice_index_or raw k 0))
+          subst (λ (x : ℕ). IsNear config scripts input (journal ++ e ∷ []) k x) (sym (others k clean))
+          (subst (λ (x : PixelSource). IsNearBy config scripts input (journal ++ e ∷ []) k x (slice_index_or raw k 0))
           (sym source)
-          (near_still config scripts ended journal e k (source_at s k) (slice_index_or raw k 0) clean (near k inside)))
+          (near_still config scripts input journal e k (source_at s k) (slice_index_or raw k 0) clean (near k inside)))
     ]
-
--- when more phases are ended a pixel may hold what it might before
-pub near_later : (config : Configuration) (scripts : List (List Line)) (ended later : ℕ) (journal : List Entry)
-    (raw : List ℕ) → ended ≤ later → AreNear config scripts ended journal raw → AreNear config scripts later journal raw
-near_later config scripts ended later journal raw risen near k inside =
-    go (source_at (replay config journal) k) (slice_index_or raw k 0) (near k inside)
-  where
-    go : (source : PixelSource) (w : ℕ) → IsNearBy config scripts ended journal k source w
-        → IsNearBy config scripts later journal k source w
-    go Bare w held = held
-    go Black w held = held
-    go (Word t i) w held =
-        record {
-          left = let l = held.left in record {
-            front = l.front;
-            last = l.last;
-            rest = l.rest;
-            is_last = l.is_last;
-            lines = l.lines;
-            done = record {
-              calls = l.done.calls;
-              phases = λ still_open. let p = l.done.phases still_open in omega (arith, p, risen);
-            };
-            word = l.word;
-          };
-          exact = held.exact;
-        }
 
 -- ---- what glasses give
 
@@ -129,14 +101,19 @@ pub told_word : (o : Option (List ℕ)) (words : List ℕ) (i w : ℕ) → o ≡
 told_word None words i w is told = absurd cc
 told_word (Some ws) words i w is told = let same : ws ≡ words = cc in told ∙ ap (λ (x : List ℕ). slice_index x i) same
 
+-- the phase that is served is not behind that of the entry, as long as there is no last picture
+abbrev pub IsInPhase : List (List Line) → List InputLine → ℕ → List Entry → Entry → Type 0
+IsInPhase scripts input phase journal e = IsOpen (journal ++ e ∷ []) → phase ≤ phase_of_entry scripts input journal e
+
 -- what the glasses give a pixel that the next entry makes dirty is a word that it may hold then
-held_near : (config : Configuration) (scripts : List (List Line)) (ended : ℕ) (journal : List Entry) (e : Entry)
-    (glasses : ℕ → Sight) (k : ℕ) (source : PixelSource) (w : ℕ) → is_dirtied config journal e k ≡ true
-    → ShowsThen config scripts ended journal e glasses → TellsWords config scripts journal e glasses
-    → IsWordOfSource glasses source w → IsNearBy config scripts ended (journal ++ e ∷ []) k source w
-held_near config scripts ended journal e glasses k Bare w is shows tells held = held
-held_near config scripts ended journal e glasses k Black w is shows tells held = held
-held_near config scripts ended journal e glasses k (Word t i) w is shows tells held =
+held_near : (config : Configuration) (scripts : List (List Line)) (input : List InputLine) (phase : ℕ)
+    (journal : List Entry) (e : Entry) (glasses : ℕ → Sight) (k : ℕ) (source : PixelSource) (w : ℕ)
+    → is_dirtied config journal e k ≡ true → IsInPhase scripts input phase journal e
+    → ShowsThen config scripts phase journal e glasses → TellsWords config scripts journal e glasses
+    → IsWordOfSource glasses source w → IsNearBy config scripts input (journal ++ e ∷ []) k source w
+held_near config scripts input phase journal e glasses k Bare w is served_ shows tells held = held
+held_near config scripts input phase journal e glasses k Black w is served_ shows tells held = held
+held_near config scripts input phase journal e glasses k (Word t i) w is served_ shows tells held =
     record {
       left = let n = shows t i w held in record {
         front = journal;
@@ -144,7 +121,10 @@ held_near config scripts ended journal e glasses k (Word t i) w is shows tells h
         rest = [];
         is_last = one_more_last config journal e k is;
         lines = n.0;
-        done = n.1;
+        done = record {
+          calls = n.1.calls;
+          phases = λ still. let few = n.1.phases still in let here = served_ still in omega (arith, few, here);
+        };
         word = n.2;
       };
       exact = λ front call r rest last.
@@ -154,25 +134,27 @@ held_near config scripts ended journal e glasses k (Word t i) w is shows tells h
     }
 
 -- an entry that loads its dirty pixels by such glasses
-pub near_painted : EntryLaws → (config : Configuration) (scripts : List (List Line)) (ended : ℕ)
-    (journal : List Entry) (e : Entry) (s' : State) (glasses glasses' : ℕ → Sight) (raw raw' : List ℕ)
+pub near_painted : EntryLaws → (config : Configuration) (scripts : List (List Line)) (input : List InputLine)
+    (phase : ℕ) (journal : List Entry) (e : Entry) (s' : State) (glasses glasses' : ℕ → Sight) (raw raw' : List ℕ)
     → IsLegal config (journal ++ e ∷ []) → s' ≡ after (replay config journal) e
-    → ShowsThen config scripts ended journal e glasses → TellsWords config scripts journal e glasses
-    → Painted (replay config journal) e s' glasses glasses' raw raw' → AreNear config scripts ended journal raw
-    → AreNear config scripts ended (journal ++ e ∷ []) raw'
-near_painted laws config scripts ended journal e s' glasses glasses' raw raw' legal now shows tells painted near =
+    → IsInPhase scripts input phase journal e
+    → ShowsThen config scripts phase journal e glasses → TellsWords config scripts journal e glasses
+    → Painted (replay config journal) e s' glasses glasses' raw raw' → AreNear config scripts input journal raw
+    → AreNear config scripts input (journal ++ e ∷ []) raw'
+near_painted laws config scripts input phase journal e s' glasses glasses' raw raw' legal now served_ shows tells
+    painted near =
     let s : State = replay config journal in
     let p : Painted s e (after s e) glasses glasses' raw raw' = rw now at painted in
-    near_more laws config scripts ended journal e raw raw' legal
-    (λ k inside is. held_near config scripts ended journal e glasses k (source_at (after s e) k)
-    (slice_index_or raw' k 0) is shows tells (p.marked k inside is).0)
+    near_more laws config scripts input journal e raw raw' legal
+    (λ k inside is. held_near config scripts input phase journal e glasses k (source_at (after s e) k)
+    (slice_index_or raw' k 0) is served_ shows tells (p.marked k inside is).0)
     (λ k clean. p.others k (λ _. clean)) near
 
 -- ---- what the scripts alone say of it
 
-pub near_word : (config : Configuration) (scripts : List (List Line)) (ended : ℕ) (journal : List Entry) (k : ℕ)
-    (source : PixelSource) (w : ℕ) → IsNearBy config scripts ended journal k source w
+pub near_word : (config : Configuration) (scripts : List (List Line)) (input : List InputLine) (journal : List Entry)
+    (k : ℕ) (source : PixelSource) (w : ℕ) → IsNearBy config scripts input journal k source w
     → IsWordOfScripts config scripts source w
-near_word config scripts ended journal k Bare w near = near
-near_word config scripts ended journal k Black w near = near
-near_word config scripts ended journal k (Word t i) w near = (near.left.lines, near.left.word)
+near_word config scripts input journal k Bare w near = near
+near_word config scripts input journal k Black w near = near
+near_word config scripts input journal k (Word t i) w near = (near.left.lines, near.left.word)

@@ -273,8 +273,8 @@ pub room_ended : EntryLaws → {r : RoomModel} {new : SceneModel End} {ps : List
 room_ended laws {r = r} {new = new} room o are all ended =
     let same = booked_still r.scene new ended.added.recorded in
     room_grown laws room o ended.added r.raws r.counts (goes_no_further room ended.added.recorded same)
-    (near_then laws room o ended.added (ends_show laws room o are ended.added) (λ t call rep same. absurd cc)
-    ended.painted)
+    (near_then laws room o ended.added (λ still. absurd (not_open r.scene.entries still))
+    (ends_show laws room o are ended.added) (λ t call rep same. absurd cc) ended.painted)
     (subst (λ (gs : List End). HaveInks r.scene.config r.parts.scripts gs) (sym ended.same)
     (inks_before laws room o ended.added))
     (subst (λ (gs : List End). AreWatching r.parts.scripts r.scene.config (without_final new.entries) r.phase gs)

@@ -29,10 +29,10 @@ use Rattle.nit_hall.proofs.NearLemmas.{ink_behind, ink_inside}
 use Rattle.nit_hall.proofs.Stretches.{stretch_begun}
 use Rattle.nit_hall.proofs.Phases.{phases_begun}
 
-pub near_begun : (config : Configuration) (scripts : List (List Line))
-    → AreNear config scripts 0 [] (replicate (config.width * config.height) bare_word)
-near_begun config scripts k inside =
-    subst (λ (x : PixelSource). IsNearBy config scripts 0 [] k x
+pub near_begun : (config : Configuration) (scripts : List (List Line)) (input : List InputLine)
+    → AreNear config scripts input [] (replicate (config.width * config.height) bare_word)
+near_begun config scripts input k inside =
+    subst (λ (x : PixelSource). IsNearBy config scripts input [] k x
     (slice_index_or (replicate (config.width * config.height) bare_word) k 0))
     (sym (bare_everywhere config (pixel config.width k)))
     (get_or-replicate (config.width * config.height) k bare_word 0 inside)
@@ -104,8 +104,8 @@ room_begun r config each few empty spare raw inks watching counts first none no_
       phases = rw (first, none) (phases_begun r.parts.scripts r.parts.input r.counts long zeros_);
       inks = rw (← config) inks;
       watching = rw (← config, empty, first) watching;
-      near = subst (λ (c : Configuration). AreNear c r.parts.scripts r.phase r.scene.entries r.scene.raw) config
-          (rw (empty, raw, first) (near_begun r.scene.config r.parts.scripts));
+      near = subst (λ (c : Configuration). AreNear c r.parts.scripts r.parts.input r.scene.entries r.scene.raw) config
+          (rw (empty, raw) (near_begun r.scene.config r.parts.scripts r.parts.input));
       room = let n = ap length empty in omega (arith, n, spare);
       ended = inl (rw empty tt);
       clips_follow = subst (λ (cs : List ℕ). FollowsClips r.parts cs r.scene.entries r.clips)

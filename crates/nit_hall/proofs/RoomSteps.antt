@@ -9,7 +9,7 @@ use Rattle.nit_hall.proofs.ClipsStay.{clips_same, clips_then}
 use Rattle.nit_hall.proofs.FinalEntries.{open_whole}
 use Rattle.nit_hall.proofs.HistoryLemmas.{GoesOn}
 use Rattle.nit_hall.proofs.EndStages.{sights_of}
-use Rattle.nit_hall.proofs.NearLemmas.{ShowsThen, TellsWords, near_later, near_painted}
+use Rattle.nit_hall.proofs.NearLemmas.{IsInPhase, ShowsThen, TellsWords, near_painted}
 use Rattle.nit_hall.proofs.WatchedWords.{WasLeft, lens_shows}
 use Rattle.nit_hall.proofs.Basics.{AreWatching, Call, IsLoaded, KnowsStretch, Line, Some, append-nil}
 use Rattle.nit_hall.proofs.Basics.{calls_of, calls_of-append, donation_of, glass_in, script_in, stretch}
@@ -65,7 +65,7 @@ module _ (laws : EntryLaws) {r : RoomModel} {new : SceneModel End} {e : Entry} (
   pub legal_then : IsLegal r.scene.config (r.scene.entries ++ e ∷ [])
   legal_then = rw (added.config, added.recorded) at added.legal
 
-  pub near_before : AreNear r.scene.config r.parts.scripts r.phase r.scene.entries r.scene.raw
+  pub near_before : AreNear r.scene.config r.parts.scripts r.parts.input r.scene.entries r.scene.raw
   near_before = rw room.config room.near
 
   pub inks_before : HaveInks r.scene.config r.parts.scripts r.scene.glasses
@@ -99,14 +99,14 @@ module _ (laws : EntryLaws) {r : RoomModel} {new : SceneModel End} {e : Entry} (
       }
 
   -- each pixel that the entry marks is loaded by these glasses
-  pub near_then : {glasses glasses' : ℕ → Sight}
+  pub near_then : {glasses glasses' : ℕ → Sight} → IsInPhase r.parts.scripts r.parts.input r.phase r.scene.entries e
       → ShowsThen r.scene.config r.parts.scripts r.phase r.scene.entries e glasses
       → TellsWords r.scene.config r.parts.scripts r.scene.entries e glasses
       → Painted (state_now r.scene) e (state_now new) glasses glasses' r.scene.raw new.raw
-      → AreNear r.scene.config r.parts.scripts r.phase (r.scene.entries ++ e ∷ []) new.raw
-  near_then {glasses = glasses} {glasses' = glasses'} shows tells painted =
-      near_painted laws r.scene.config r.parts.scripts r.phase r.scene.entries e (state_now new) glasses glasses'
-      r.scene.raw new.raw legal_then (state_later laws added) shows tells painted near_before
+      → AreNear r.scene.config r.parts.scripts r.parts.input (r.scene.entries ++ e ∷ []) new.raw
+  near_then {glasses = glasses} {glasses' = glasses'} served_ shows tells painted =
+      near_painted laws r.scene.config r.parts.scripts r.parts.input r.phase r.scene.entries e (state_now new) glasses
+      glasses' r.scene.raw new.raw legal_then (state_later laws added) served_ shows tells painted near_before
 
   -- the readers' ends know what they did, where each session for which the entry is a call is left out
   pub watching_still : IsOpen new.entries
@@ -116,7 +116,7 @@ module _ (laws : EntryLaws) {r : RoomModel} {new : SceneModel End} {e : Entry} (
   watching_still is same none t inside = watching_other t inside is (same t) (none t)
 
   pub room_grown : (raws : List (List ℕ)) (counts : List ℕ) → GoesOn r.scene.config new raws
-      → AreNear r.scene.config r.parts.scripts r.phase (r.scene.entries ++ e ∷ []) new.raw
+      → AreNear r.scene.config r.parts.scripts r.parts.input (r.scene.entries ++ e ∷ []) new.raw
       → HaveInks r.scene.config r.parts.scripts new.glasses
       → AreWatching r.parts.scripts r.scene.config (without_final new.entries) r.phase new.glasses
       → Follows r.parts.scripts r.parts.input counts r.phase (without_final new.entries)
@@ -170,8 +170,7 @@ room_turned {r = r} counts phase arrived room o risen follows phases = record {
   inks = rw room.config room.inks;
   watching = rw room.config (watching_later r.parts.scripts r.parts.config (without_final r.scene.entries) r.phase phase
       r.scene.glasses risen room.watching);
-  near = rw room.config (near_later r.parts.config r.parts.scripts r.phase phase r.scene.entries r.scene.raw risen
-      room.near);
+  near = rw room.config room.near;
   room = room.room;
   ended = inl o;
   clips_follow = clips_same r.scene refl room;

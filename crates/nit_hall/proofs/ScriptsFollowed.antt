@@ -2,12 +2,12 @@
 use Rattle.nit_hall.proofs.Basics.{AllServed, Call, Entry, Follows, InputLine, IsNonDecreasing}
 use Rattle.nit_hall.proofs.Basics.{IsUsers, IsWhole, Line, List, Reply, Some, UserAction, [], ap}
 use Rattle.nit_hall.proofs.Basics.{append-nil, ap₂, arith, calls_done, calls_in, calls_of}
-use Rattle.nit_hall.proofs.Basics.{calls_other, calls_own, calls_same, calls_to_make, cases_eq}
+use Rattle.nit_hall.proofs.Basics.{calls_other, calls_own, calls_same, calls_to_make, cases_eq, eq-eqb}
 use Rattle.nit_hall.proofs.Basics.{count_by-le-length, actions_of-append, actions_same, done, drop}
 use Rattle.nit_hall.proofs.Basics.{false, get_or-set_other, get_or-set_same, get_or_from_slice_get}
 use Rattle.nit_hall.proofs.Basics.{inl, input_phases_before, inr, is_input_phase, is_served, length}
 use Rattle.nit_hall.proofs.Basics.{length-append, length-filter, length-map, length-set}
-use Rattle.nit_hall.proofs.Basics.{lines_of_all, map, next_phase, phases_along, phases_before}
+use Rattle.nit_hall.proofs.Basics.{lines_of_all, map, next_phase, phase_of_entry, phases_along, phases_before}
 use Rattle.nit_hall.proofs.Basics.{phases_call, phases_action, phases_final, raised, script_in}
 use Rattle.nit_hall.proofs.Basics.{served, slice_get_within, slice_index, sum, sum_by-cons}
 use Rattle.nit_hall.proofs.Basics.{sum_by-set, take-append-drop, take_all, to_do, user_actions_in}
@@ -138,6 +138,16 @@ module _ {scripts : List (List Line)} {input : List InputLine} {counts : List �
       })
       (rises (phases_along (map calls_to_make scripts) (user_actions_to_do input) entries) phase phase' up f.phases)
 
+-- a call is put in the phase that is served
+pub phase_of_next : {scripts : List (List Line)} {input : List InputLine} {counts : List ℕ} {phase : ℕ}
+    {entries : List Entry} {sid next : ℕ} {script : List Line} {c : Call} (r : Reply)
+    → Follows scripts input counts phase entries → IsNext scripts counts sid next script (line.Call c)
+    → phase ≡ phases_before script next → phase_of_entry scripts input entries (entry.Call sid c r) ≡ phase
+phase_of_next {sid = sid} {next = next} {script = script} {c = c} r f at ready =
+    ap₂ (λ (cs : List Call) (xs : List (ℕ × Call)). next_phase (drop (length cs) xs))
+    (f.calls sid (client_is at) ∙ calls_so_far at) (ap calls_to_make (script_there at))
+    ∙ phase_of_call script 0 next c at.line_is ∙ (let e = ready in omega arith)
+
 -- a call was served
 pub follows_call : {scripts : List (List Line)} {input : List InputLine} {counts : List ℕ} {phase : ℕ}
     {entries : List Entry} {sid next : ℕ} {script : List Line} {c : Call} (r : Reply)
@@ -147,9 +157,8 @@ pub follows_call : {scripts : List (List Line)} {input : List InputLine} {counts
 follows_call {scripts = scripts} {input = input} {phase = phase} {entries = entries} {sid = sid} {next = next}
     {script = script} {c = c} r f at ready =
     let at_phase : next_phase (drop (length (calls_of sid entries)) (to_do (map calls_to_make scripts) sid)) ≡ phase =
-    ap₂ (λ (cs : List Call) (xs : List (ℕ × Call)). next_phase (drop (length cs) xs))
-    (f.calls sid (client_is at) ∙ calls_so_far at) (made_of scripts sid ∙ ap calls_to_make (script_there at))
-    ∙ phase_of_call script 0 next c at.line_is ∙ (let e = ready in omega arith) in
+    ap (λ (xs : List (ℕ × Call)). next_phase (drop (length (calls_of sid entries)) xs)) (made_of scripts sid)
+    ∙ phase_of_next r f at ready in
     follows_line f at phase (entries ++ entry.Call sid c r ∷ [])
     (record {
       own = calls_own sid entries c r;
@@ -163,6 +172,16 @@ follows_call {scripts = scripts} {input = input} {phase = phase} {entries = entr
     (again (phases_along (map calls_to_make scripts) (user_actions_to_do input) entries) phase f.phases))
 
 -- ---- the user's line
+
+-- an entry that is no call is put in the phase of the user's next action
+phase_of_users : (scripts : List (List Line)) (input : List InputLine) (entries : List Entry) (e : Entry)
+    → ((t : ℕ) → calls_of t (e ∷ []) ≡ []) → phase_of_entry scripts input entries e
+    ≡ next_phase (drop (length (user_actions_of entries)) (user_actions_to_do input))
+phase_of_users scripts input entries (entry.Call sid c r) none =
+    let here : c ∷ [] ≡ [] = rw (eq-eqb sid sid refl) at (none sid) in absurd cc
+phase_of_users scripts input entries (entry.Input dev routed) none = refl
+phase_of_users scripts input entries (entry.Shot number) none = refl
+phase_of_users scripts input entries entry.Final none = refl
 
 -- the user's next line, as the room finds it
 pub record IsUserNext (scripts : List (List Line)) (input : List InputLine) (counts : List ℕ) (next : ℕ) (l : InputLine)
@@ -205,12 +224,19 @@ module _ {scripts : List (List Line)} {input : List InputLine} {counts : List �
         omega (arith, sum_raised counts (length scripts) (let k = f.each in omega arith), least, more);
   }
 
+  -- the user's action is put in the phase that is served
+  pub phase_of_action_next : (e : Entry) → AddsAction l e → phase ≡ input_phases_before input next
+      → phase_of_entry scripts input entries e ≡ phase
+  phase_of_action_next e adds ready =
+      phase_of_users scripts input entries e adds.no_call
+      ∙ ap (λ (ds : List UserAction). next_phase (drop (length ds) (user_actions_to_do input))) actions_so_far
+      ∙ phase_of_action input 0 next l at.line_is adds.no_phase ∙ (let r = ready in omega arith)
+
   pub follows_action : (e : Entry) → AddsAction l e → phase ≡ input_phases_before input next
       → Follows scripts input (raised counts (length scripts)) phase (entries ++ e ∷ [])
   follows_action e adds ready =
       let at_phase : next_phase (drop (length (user_actions_of entries)) (user_actions_to_do input)) ≡ phase =
-      ap (λ (ds : List UserAction). next_phase (drop (length ds) (user_actions_to_do input))) actions_so_far
-      ∙ phase_of_action input 0 next l at.line_is adds.no_phase ∙ (let r = ready in omega arith) in
+      sym (phase_of_users scripts input entries e adds.no_call) ∙ phase_of_action_next e adds ready in
       follows_user_line phase (entries ++ e ∷ []) (λ t. calls_same t entries e (adds.no_call t))
       (actions_of-append entries (e ∷ []) ∙ ap (λ (ds : List UserAction). user_actions_of entries ++ ds) adds.action_is)
       (omega (arith, length-append entries (e ∷ [])))

@@ -21,7 +21,7 @@ use Rattle.nit_hall.proofs.FinalEntries.{open_whole}
 use Rattle.nit_hall.proofs.Basics.{AreWatching, HaveInks, IsLoaded, KnowsStretch, stretch}
 use Rattle.nit_hall.proofs.Basics.{with_end_stages, with_stages}
 use Rattle.nit_hall.proofs.EndStages.{other_end, own_end, same_ink}
-use Rattle.nit_hall.proofs.NearLemmas.{AreInks, ShowsThen, TellsWords}
+use Rattle.nit_hall.proofs.NearLemmas.{AreInks, IsInPhase, ShowsThen, TellsWords}
 use Rattle.nit_hall.proofs.RoomSteps.{booked_more, inks_before, lenses_show, near_then, room_grown}
 use Rattle.nit_hall.proofs.RoomSteps.{room_then, watching_other}
 use Rattle.nit_hall.proofs.Stretches.{stretch_begun}
@@ -30,6 +30,8 @@ use Rattle.std.proofs.Common.{◌<◌}
 use Rattle.nit_hall.proofs.HistoryLemmas.{clean_painted, goes_on}
 use Rattle.nit_hall.proofs.RoomSteps.{state_later}
 use Rattle.nit_hall.proofs.ScriptsFollowed.{IsNext, one_left, client_is, follows_call}
+use Rattle.nit_hall.proofs.ScriptsFollowed.{phase_of_next}
+use Rattle.nit_hall.proofs.Basics.{phase_of_entry}
 use Rattle.nit_hall.proofs.Phases.{client_ends, same_phase}
 
 -- ---- before it
@@ -184,6 +186,13 @@ module _ (laws : EntryLaws) {r : RoomModel} {called : SceneModel End} {sid next 
   ended_then : phases_before script (next + 1) ≡ r.phase
   ended_then = phase_same script next c at.line_is ∙ sym ready
 
+  in_phase : IsInPhase r.parts.scripts r.parts.input r.phase r.scene.entries (entry.Call sid c rep)
+  in_phase still =
+      let here : phase_of_entry r.parts.scripts r.parts.input r.scene.entries (entry.Call sid c rep) ≡ r.phase =
+      subst (λ (js : List Entry). phase_of_entry r.parts.scripts r.parts.input js (entry.Call sid c rep) ≡ r.phase)
+      (open_whole r.scene.entries was_open) (phase_of_next rep room.follows at ready) in
+      omega (arith, here)
+
   told_there : own.words ≡ Some (words_after (script_in r.parts.scripts sid) (donation_of r.scene.config sid)
       (next + 1))
   told_there = told
@@ -254,7 +263,7 @@ module _ (laws : EntryLaws) {r : RoomModel} {called : SceneModel End} {sid next 
       room_grown laws room was_open added (r.raws ++ later.raw ∷ []) (raised r.counts sid)
       (goes_on room was_open did.open_is added
       (clean_painted r.scene later (entry.Call sid c rep) (state_later laws added) did.painted))
-      (near_then laws room was_open added shows
+      (near_then laws room was_open added in_phase shows
       (tells r.scene.config r.parts.scripts (sights
       (scene_with r.scene sid stages)) r.scene.entries sid next script c rep
       own at.script_is at.line_is made told) did.painted)

@@ -4,15 +4,16 @@ use Rattle.nit_hall.proofs.Basics.{InputLine, IsOpen, IsRoom, IsUserPass, Line, 
 use Rattle.nit_hall.proofs.Basics.{RoomModel, Routed, SceneModel, ShareModel, Sight, Some}
 use Rattle.nit_hall.proofs.Basics.{UserAction, UserBelongs, UserHasMet, UserPassModel, [], ap, ap₂}
 use Rattle.nit_hall.proofs.Basics.{arith, actions_of-append, glass_in, inl, input_phases_before}
-use Rattle.nit_hall.proofs.Basics.{is_input_phase, length, raised, refl, slice_get_within}
+use Rattle.nit_hall.proofs.Basics.{is_input_phase, length, phase_of_entry, raised, refl, slice_get_within}
+use Rattle.nit_hall.proofs.FinalEntries.{open_whole}
 use Rattle.nit_hall.proofs.Basics.{IsAdded, Recorded, entries_in, raws_in, slice_index_or}
 use Rattle.nit_hall.proofs.Basics.{slice_index, state_now, user_actions_of, without_final}
 use Rattle.std.proofs.Common.{slice_get, subst, sym, ℕ, ◌++◌, ◌+◌, ◌-◌, ◌∙◌, ◌∷◌, ◌≡◌}
 use Rattle.nit_events.specs.declared.entry.Entry.TheVariants as entry
 use Rattle.nit_script.specs.declared.line.InputLine.TheVariants as inputs
 use Rattle.nit_hall.proofs.LineLemmas.{counted_same, actions_line}
-use Rattle.nit_hall.proofs.NearLemmas.{near_more}
-use Rattle.nit_hall.proofs.ScriptsFollowed.{AddsAction, IsUserNext, follows_action}
+use Rattle.nit_hall.proofs.NearLemmas.{IsInPhase, near_more}
+use Rattle.nit_hall.proofs.ScriptsFollowed.{AddsAction, IsUserNext, follows_action, phase_of_action_next}
 use Rattle.nit_hall.proofs.Phases.{same_phase, user_ends}
 use Rattle.nit_hall.proofs.HistoryLemmas.{KeepsClean, clean_painted, goes_on}
 use Rattle.nit_hall.proofs.RoomSteps.{inks_before, booked_more, legal_then, near_before, near_then}
@@ -28,18 +29,18 @@ pub adds_shot : {number : ℕ} → AddsAction inputs.Shot (entry.Shot number)
 adds_shot = record { no_phase = refl; action_is = refl; no_call = λ t. refl; is_users = λ clients user. refl }
 
 -- what the scene promises of an entry of the user's
-pub record IsDone (scripts : List (List Line)) (ended : ℕ) (old new : SceneModel End) (e : Entry)
+pub record IsDone (scripts : List (List Line)) (input : List InputLine) (old new : SceneModel End) (e : Entry)
     : Type 0 where
   pub added : IsAdded old new e
   pub open_is : IsOpen new.entries
   pub inks : HaveInks old.config scripts new.glasses
   pub watching : (t : ℕ) → (glass_in (sights new) t).stages ≡ (glass_in (sights old) t).stages
-  pub near : AreNear old.config scripts ended (old.entries ++ e ∷ []) new.raw
+  pub near : AreNear old.config scripts input (old.entries ++ e ∷ []) new.raw
   pub keeps : KeepsClean old.config old.entries e old.raw new.raw
 
 pub room_action : EntryLaws → {r : RoomModel} {new : SceneModel End} {next : ℕ} {l : InputLine} {e : Entry} → IsRoom r
     → IsUserNext r.parts.scripts r.parts.input r.counts next l → AddsAction l e
-    → r.phase ≡ input_phases_before r.parts.input next → IsDone r.parts.scripts r.phase r.scene new e
+    → r.phase ≡ input_phases_before r.parts.input next → IsDone r.parts.scripts r.parts.input r.scene new e
     → IsRoom (room_then r new (r.raws ++ new.raw ∷ []) (raised r.counts (length r.parts.scripts)) r.phase r.arrived)
 room_action laws {r = r} {new = new} {next = next} {l = l} {e = e} room at adds ready did =
     let was_open : IsOpen r.scene.entries = user_open room at in
@@ -53,26 +54,39 @@ room_action laws {r = r} {new = new} {next = next} {l = l} {e = e} room at adds 
     (counted_same is_input_phase r.parts.input next l at.line_is adds.no_phase) room.phases)
     (inl did.open_is)
 
-pub done_input : EntryLaws → {r : RoomModel} {new : SceneModel End} {dev : Device} {routed : Routed} → IsRoom r
+-- the user's next action is put in the phase that is served
+action_in_phase : {r : RoomModel} {next : ℕ} {l : InputLine} {e : Entry} → IsRoom r → IsOpen r.scene.entries
+    → IsUserNext r.parts.scripts r.parts.input r.counts next l → AddsAction l e
+    → r.phase ≡ input_phases_before r.parts.input next
+    → IsInPhase r.parts.scripts r.parts.input r.phase r.scene.entries e
+action_in_phase {r = r} {e = e} room was at adds ready still =
+    let here : phase_of_entry r.parts.scripts r.parts.input r.scene.entries e ≡ r.phase =
+    subst (λ (js : List Entry). phase_of_entry r.parts.scripts r.parts.input js e ≡ r.phase)
+    (open_whole r.scene.entries was) (phase_of_action_next room.follows at e adds ready) in
+    omega (arith, here)
+
+pub done_input : EntryLaws → {r : RoomModel} {new : SceneModel End} {next : ℕ} {dev : Device} {routed : Routed}
+    → IsRoom r → IsUserNext r.parts.scripts r.parts.input r.counts next (inputs.Device dev)
+    → r.phase ≡ input_phases_before r.parts.input next
     → IsOpen r.scene.entries → IsAdded r.scene new (entry.Input dev routed) → IsOpen new.entries
     → Painted (state_now r.scene) (entry.Input dev routed) (state_now new) (glass_in (sights r.scene))
     (glass_in (sights new)) r.scene.raw new.raw
-    → IsDone r.parts.scripts r.phase r.scene new (entry.Input dev routed)
-done_input laws {r = r} {new = new} {dev = dev} {routed = routed} room was added open_is painted =
+    → IsDone r.parts.scripts r.parts.input r.scene new (entry.Input dev routed)
+done_input laws {r = r} {new = new} {dev = dev} {routed = routed} room at ready was added open_is painted =
     record {
       added = added;
       open_is = open_is;
       inks = λ t. ap (λ (g : Sight). g.ink) (painted.sights t) ∙ inks_before laws room was added t;
       watching = λ t. ap (λ (g : Sight). g.stages) (painted.sights t);
-      near = near_then laws room was added (λ t. lenses_show laws room was added t refl) (λ t call rep same. absurd cc)
-          painted;
+      near = near_then laws room was added (action_in_phase room was at adds_input ready)
+          (λ t. lenses_show laws room was added t refl) (λ t call rep same. absurd cc) painted;
       keeps = clean_painted r.scene new (entry.Input dev routed) (state_later laws added) painted;
     }
 
 pub done_shot : EntryLaws → {r : RoomModel} {new : SceneModel End} {number : ℕ} → IsRoom r → IsOpen r.scene.entries
     → new ≡ record r.scene { entries = r.scene.entries ++ entry.Shot number ∷ []; spare = r.scene.spare - 1 }
     → IsAdded r.scene new (entry.Shot number) → IsOpen new.entries
-    → IsDone r.parts.scripts r.phase r.scene new (entry.Shot number)
+    → IsDone r.parts.scripts r.parts.input r.scene new (entry.Shot number)
 done_shot laws {r = r} {new = new} {number = number} room was is added open_is =
     record {
       added = added;
@@ -80,7 +94,7 @@ done_shot laws {r = r} {new = new} {number = number} room was is added open_is =
       inks = λ t. ap (λ (p : SceneModel End). (glass_in (sights p) t).ink) is ∙ inks_before laws room was added t;
       watching = λ t. ap (λ (p : SceneModel End). (glass_in (sights p) t).stages) is;
       near = rw (ap (λ (p : SceneModel End). p.raw) is)
-          (near_more laws r.scene.config r.parts.scripts r.phase r.scene.entries
+          (near_more laws r.scene.config r.parts.scripts r.parts.input r.scene.entries
           (entry.Shot number) r.scene.raw r.scene.raw
           (legal_then laws room was added) (λ k inside dirty. absurd cc) (λ k clean. refl)
           (near_before laws room was added));

@@ -1,24 +1,21 @@
 -- What an actor is told over the lock and beside it.
 use Rattle.std.specs.Prelude.{◌≡◌, ℕ, ◌≤◌, List, [], ◌∷◌, ◌++◌, length}
-use Rattle.nit_hall.specs.Below.{Entry, most_height, most_width, shots}
+use Rattle.nit_hall.specs.Below.{Entry, most_height, most_width}
 use Rattle.nit_events.specs.declared.entry.Entry.TheVariants as entry
 use Rattle.nit_hall.specs.OpeningParts.{OpeningParts}
 use Rattle.nit_hall.specs.NearWords.{IsNearFrame}
-use Rattle.nit_hall.specs.ServedLines.{phases_at_shot}
 
 -- the entry was added to all that had been known, and to what others had added since
 abbrev pub Tells : List Entry → Entry → List Entry → Type 0
 Tells before e after = (between : List Entry) × (after ≡ (before ++ between) ++ e ∷ [])
 
--- A shot was added so, and these words are a frame of the journal in front of it, when as many
--- phases were ended as the input script ends in front of it. The raw words behind each entry were
--- told so too: behind the shot they are those by which the frame is.
+-- A shot was added so, and these words are a frame of the journal in front of it. The raw words
+-- behind each entry were told so too: behind the shot they are those by which the frame is.
 pub record TellsShot (parts : OpeningParts) (before : List Entry) (before_raws : List (List ℕ))
     (number : ℕ) (after : List Entry) (raws : List (List ℕ)) (words : List ℕ) : Type 0 where
   pub between : List Entry
   pub told : after ≡ (before ++ between) ++ entry.Shot number ∷ []
-  pub near : IsNearFrame parts.config parts.scripts
-      (phases_at_shot parts.input (shots (before ++ between))) (before ++ between) words
+  pub near : IsNearFrame parts.config parts.scripts parts.input (before ++ between) words
   pub between_raws : List (List ℕ)
   pub raws_told : raws ≡ (before_raws ++ between_raws) ++ near.0 ∷ []
   pub each : length (before_raws ++ between_raws) ≡ length (before ++ between)

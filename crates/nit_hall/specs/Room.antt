@@ -199,7 +199,7 @@ pub record IsRoom (r : RoomModel) : Type 0 where
   pub inks : HaveInks r.parts.config r.parts.scripts r.scene.glasses
   pub watching : AreWatching r.parts.scripts r.parts.config (without_final r.scene.entries) r.phase
       r.scene.glasses
-  pub near : AreNear r.parts.config r.parts.scripts r.phase r.scene.entries r.scene.raw
+  pub near : AreNear r.parts.config r.parts.scripts r.parts.input r.scene.entries r.scene.raw
   pub room : length r.scene.entries + r.scene.spare ≡ lines_of_all r.parts.scripts r.parts.input + 1
   pub ended : IsOpen r.scene.entries ⊎ AllServed r.parts.scripts r.parts.input r.counts
   pub clips_follow : FollowsClips r.parts r.clip_counts r.scene.entries r.clips

@@ -29,15 +29,6 @@ phases_before script k = count_by is_phase (take k script)
 abbrev pub input_phases_before : List InputLine → ℕ → ℕ
 input_phases_before script k = count_by is_input_phase (take k script)
 
--- how many phases of the input script end in front of its shot of number n, counted from 0; all of
--- them where it has no such shot
-abbrev pub phases_at_shot : List InputLine → ℕ → ℕ
-phases_at_shot [] n = 0
-phases_at_shot (input.Phase ∷ rest) n = suc (phases_at_shot rest n)
-phases_at_shot (input.Shot ∷ rest) zero = 0
-phases_at_shot (input.Shot ∷ rest) (suc n) = phases_at_shot rest n
-phases_at_shot (input.Device d ∷ rest) n = phases_at_shot rest n
-
 -- how many lines a script has up to its n-th call, that one counted; all of them where it has fewer
 -- calls
 abbrev pub lines_to_call : ℕ → List Line → ℕ

@@ -54,13 +54,13 @@ pub use Rattle.nit_hall.specs.RoomClips.{FollowsClips, lines_of_clips}
 pub use Rattle.nit_hall.specs.RoomEnd.{IsKnownPass, left_word, words_left_in}
 pub use Rattle.nit_hall.specs.RoomLaws.{CallLaws, EntryLaws}
 pub use Rattle.nit_hall.specs.ServedLines.{input_phases_before, is_served, lines_of_all}
-pub use Rattle.nit_hall.specs.ServedLines.{lines_to_call, phases_at_shot, phases_before, served}
+pub use Rattle.nit_hall.specs.ServedLines.{lines_to_call, phases_before, served}
 pub use Rattle.nit_hall.specs.ServedLines.{user_actions_in}
 pub use Rattle.nit_hall.specs.declared.pass.PassRest.{PassRest}
 pub use Rattle.nit_hall.specs.Agreeing.{CanAgree}
 pub use Rattle.nit_hall.specs.Below.{BufferName, HasStage, IsAmong, stages_within, told_words}
 pub use Rattle.nit_hall.specs.Below.{with_stages}
-pub use Rattle.nit_hall.specs.NearWords.{IsLeftThen, MayHaveDone}
+pub use Rattle.nit_hall.specs.NearWords.{IsLeftThen, MayHaveDone, phase_of_entry}
 pub use Rattle.nit_hall.specs.Opening.{AreAgreed, AreBegun, buffers_of, first_stretch}
 pub use Rattle.nit_hall.specs.Pass.{in_line, stretch_from}
 pub use Rattle.nit_hall.specs.RoomCalls.{HasAdmitted}

@@ -187,7 +187,7 @@ impl<'a> Room<'a> {
         ensures scene { result.now ≡ self.now.scene }
         ensures config { self.now.scene.config ≡ self.now.parts.config }
         ensures legal { IsLegal self.now.parts.config self.now.scene.entries }
-        ensures near { AreNear self.now.parts.config self.now.parts.scripts self.now.phase
+        ensures near { AreNear self.now.parts.config self.now.parts.scripts self.now.parts.input
             self.now.scene.entries self.now.scene.raw }
         ensures kept { IsRoom self.now }
     {

@@ -37,7 +37,7 @@ pub use Rattle.nit_run.specs.Terms.{is_held, is_key, is_mode_key, is_phase, is_p
 pub use Rattle.nit_run.specs.Terms.{is_same, is_shot_line, is_side, is_title, items_to}
 pub use Rattle.nit_run.specs.Terms.{journal_file, kill_button, kill_key, kill_mode, killing}
 pub use Rattle.nit_run.specs.Terms.{leaving, letting_go, member, moving, opening_drawing}
-pub use Rattle.nit_run.specs.Terms.{option_map, owner, owner_of, phases_at_shot, picture_of, pixel}
+pub use Rattle.nit_run.specs.Terms.{option_map, owner, owner_of, picture_of, pixel}
 pub use Rattle.nit_run.specs.Terms.{pixel_count, point, pointer_after, press, pressing, projection}
 pub use Rattle.nit_run.specs.Terms.{range_with_len, raw_word, receive, received, refusal, release}
 pub use Rattle.nit_run.specs.Terms.{replay, replay_from, replies_to, rounds, route, routed_as}

@@ -18,7 +18,7 @@ use Rattle.nit_run.proofs.Basics.{focus_after, frame, get_or-map-range_with_len}
 use Rattle.nit_run.proofs.Basics.{get_or_from_slice_get, is_accepted, is_button, is_key}
 use Rattle.nit_run.proofs.Basics.{is_mode_key, journal_file, length-append}
 use Rattle.nit_run.proofs.Basics.{length-map-range_with_len, length_push, map-append, member}
-use Rattle.nit_run.proofs.Basics.{option_map, owner_of, phases_at_shot, picture_of, pixel}
+use Rattle.nit_run.proofs.Basics.{option_map, owner_of, picture_of, pixel}
 use Rattle.nit_run.proofs.Basics.{pixel_count, point}
 use Rattle.nit_run.proofs.Basics.{projection, range_with_len, raw_word, replay, rounds, route}
 use Rattle.nit_run.proofs.Basics.{same_throughout, scenery_of, session, shot_name, shots, shots_of}
@@ -174,11 +174,12 @@ pub record NearLaws : Type 0 where
       → AreNearShots config scripts input (front ++ entry.Shot number ∷ rest) files
       → (bytes : List ℕ) × (slice_get files (shots front) ≡ Some (shot_name number, bytes))
       × IsNearPicture config scripts input front bytes
-  pub count : (config : Configuration) (scripts : List (List Line)) (ended : ℕ) (journal : List Entry) (words : List ℕ)
-      → IsNearFrame config scripts ended journal words → length words ≡ pixel_count (replay config journal)
-  pub each : (config : Configuration) (scripts : List (List Line)) (ended : ℕ) (journal : List Entry) (words : List ℕ)
-      (k : ℕ) → IsNearFrame config scripts ended journal words → k < pixel_count (replay config journal)
-      → (w : ℕ) × IsNear config scripts ended journal k w
+  pub count : (config : Configuration) (scripts : List (List Line)) (input : List InputLine) (journal : List Entry)
+      (words : List ℕ) → IsNearFrame config scripts input journal words
+      → length words ≡ pixel_count (replay config journal)
+  pub each : (config : Configuration) (scripts : List (List Line)) (input : List InputLine) (journal : List Entry)
+      (words : List ℕ) (k : ℕ) → IsNearFrame config scripts input journal words
+      → k < pixel_count (replay config journal) → (w : ℕ) × IsNear config scripts input journal k w
       × (slice_index words k ≡ shown (scenery_of (replay config journal)) (pixel config.width k) w)
 
 -- what the law of machines says
@@ -248,7 +249,6 @@ module _ (s : Setup) (journal : List Entry) (outputs : List File) (j : IsJournal
       → HasPicture s.config outputs (shot_name number) (replay s.config front) (HoldsByWay true s front)
   near_shows together near front rest number parts =
       let t = replay s.config front in
-      let ended = phases_at_shot s.input (shots front) in
       let (bytes, there, (words, frame_is, is)) =
       near.files s.config s.scripts s.input front rest number shot_list
       (subst (λ (es : List Entry). AreNearShots s.config s.scripts s.input es shot_list) parts
@@ -258,9 +258,9 @@ module _ (s : Setup) (journal : List Entry) (outputs : List File) (j : IsJournal
             (among_shots (shot_name number, bytes)
             (contains_at shot_list (shots front) (shot_name number, bytes) there)),
         record {
-          count = near.count s.config s.scripts ended front words frame_is;
+          count = near.count s.config s.scripts s.input front words frame_is;
           each = λ k inside.
-              let (w, may, shows_it) = near.each s.config s.scripts ended front words k frame_is inside in (
+              let (w, may, shows_it) = near.each s.config s.scripts s.input front words k frame_is inside in (
                 w,
                 may,
                 shows_it ∙ ap (λ (c : Configuration). shown (scenery_of t) (pixel c.width k) w)

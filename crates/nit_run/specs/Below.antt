@@ -47,7 +47,6 @@ pub use Rattle.nit_events.specs.declared.event.Routed.{Routed}
 pub use Rattle.nit_events.specs.declared.event.Status.{Status}
 pub use Rattle.nit_glyph.specs.Texts.{is_title}
 pub use Rattle.nit_hall.specs.NearWords.{IsNear, IsNearFrame}
-pub use Rattle.nit_hall.specs.ServedLines.{phases_at_shot}
 pub use Rattle.nit_journal.specs.Deliveries.{IsLive}
 pub use Rattle.nit_journal.specs.Presses.{IsDown}
 pub use Rattle.nit_journal.specs.Projection.{Calls, Gets, Observation, after_observations, alone}

@@ -9,7 +9,7 @@ use Rattle.nit_run.specs.Below.{TellsLeave, Xray, alone, alone_machine, calls_of
 use Rattle.nit_run.specs.Below.{deliveries_of, donation_of, done, drawn_by_shot, events_text}
 use Rattle.nit_run.specs.Below.{final_name, flat_map, is_accepted, is_button, is_held, is_key}
 use Rattle.nit_run.specs.Below.{is_mode_key, journal_text, member, own_machine, owner_of}
-use Rattle.nit_run.specs.Below.{phases_at_shot, picture, pixel, pixel_count, point, projection}
+use Rattle.nit_run.specs.Below.{picture, pixel, pixel_count, point, projection}
 use Rattle.nit_run.specs.Below.{replay, replies_to}
 use Rattle.nit_run.specs.Below.{scenery_of, script_in, serve, shot_name, shots, shown, taken, to}
 use Rattle.nit_run.specs.Below.{IsHeld, under_pointer}
@@ -149,14 +149,12 @@ HasPicture config files name s MayHold =
 -- that the rounds have drawn there by then. Beside each other it is one that the entries allow: one
 -- that the script of the session whose word it shows had left at that place after a number of its
 -- lines that has just as many calls as the session had made when the pixel was last made dirty, and
--- that ends no phase which had not been ended when the shot was taken. Where the last entry that
--- made the pixel dirty is a call of that session, it is the one that the script had left there with
--- that call.
+-- none of a later phase than the entry that made it so. Where that entry is a call of that session,
+-- it is the one that the script had left there with that call.
 abbrev pub HoldsByWay : Bool → Setup → List Entry → ℕ → ℕ → Type 0
 HoldsByWay false s before k w =
     w ≡ (drawn_by_shot s.config s.scripts s.input (shots before)).word k
-HoldsByWay true s before k w =
-    IsNear s.config s.scripts (phases_at_shot s.input (shots before)) before k w
+HoldsByWay true s before k w = IsNear s.config s.scripts s.input before k w
 
 abbrev pub HoldsAtShot : Setup → List Entry → ℕ → ℕ → Type 0
 HoldsAtShot s before k w = HoldsByWay s.beside s before k w

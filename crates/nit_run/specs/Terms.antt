@@ -27,7 +27,7 @@ pub use Rattle.nit_run.specs.Below.{is_mode_key, is_phase, is_place, is_rectangl
 pub use Rattle.nit_run.specs.Below.{is_shot_line, is_side, is_title, items_to, kill_button}
 pub use Rattle.nit_run.specs.Below.{kill_key, kill_mode, killing, leaving, letting_go, member}
 pub use Rattle.nit_run.specs.Below.{most_height, most_width, moving, opening_drawing, option_map}
-pub use Rattle.nit_run.specs.Below.{owner, owner_of, phases_at_shot, picture, picture_of, pixel}
+pub use Rattle.nit_run.specs.Below.{owner, owner_of, picture, picture_of, pixel}
 pub use Rattle.nit_run.specs.Below.{pixel_count, point}
 pub use Rattle.nit_run.specs.Below.{pointer_after, press, pressing, projection, range_with_len}
 pub use Rattle.nit_run.specs.Below.{receive, received, refusal, release, replay, replay_from}

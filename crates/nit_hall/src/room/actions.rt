@@ -4,7 +4,7 @@ ghost use Rattle.std.specs.Prelude.{◌≡◌, ◌+◌, ◌*◌, All, false, len
 ghost use Rattle.nit_hall.specs.Terms.{HasActed, IsAtDevice, IsAtShot, IsNearFrame, IsWord};
 ghost use Rattle.nit_hall.specs.Terms.{Painted, UserIsReadyAt, deliveries_of, device_entry, frame};
 ghost use Rattle.nit_hall.specs.Terms.{glass_in, kills, lenses, next_device, route, routed_as};
-ghost use Rattle.nit_hall.specs.Terms.{phases_at_shot, scenery_of, shots, stands, state_now};
+ghost use Rattle.nit_hall.specs.Terms.{scenery_of, shots, stands, state_now};
 ghost use Rattle.nit_hall.specs.Terms.{with_entry};
 ghost use Rattle.nit_events.specs.declared.entry.Entry.TheVariants as entry;
 
@@ -46,17 +46,15 @@ impl<'a> Room<'a> {
     }
 
     /// Does the user's next line, which is `shot`: sets `out`, which has a word for each pixel, to
-    /// the frame. Gives the number of the shot, from 1. As many phases are ended as the input
-    /// script ends in front of it. The user's pass is of this room's opening and ready.
+    /// the frame. Gives the number of the shot, from 1. The user's pass is of this room's opening
+    /// and ready.
     pub fn shoot(&mut self, user: &mut UserPass<'a>, out: &mut [u32]) -> u32
         requires user { UserIsReadyAt self.old.parts self.old.phase IsAtShot user.old }
         requires out { length out.old ≡ self.old.parts.config.width * self.old.parts.config.height }
         ensures number { result ≡ shots self.old.scene.entries + 1 }
         ensures frame { out.new ≡ frame (scenery_of (state_now self.old.scene)) self.old.scene.raw }
-        ensures phase { self.old.phase
-            ≡ phases_at_shot self.old.parts.input (shots self.old.scene.entries) }
-        ensures near { IsNearFrame self.old.parts.config self.old.parts.scripts self.old.phase
-            self.old.scene.entries out.new }
+        ensures near { IsNearFrame self.old.parts.config self.old.parts.scripts
+            self.old.parts.input self.old.scene.entries out.new }
         ensures words { All IsWord out.new }
         ensures room { self.new ≡ with_entry self.old (length self.old.parts.scripts)
             (entry.Shot result) self.old.scene.raw self.old.scene.glasses }
