@@ -17,8 +17,8 @@ use Rattle.nit_hall.proofs.LineLemmas.{actions_line, no_more_calls}
 use Rattle.nit_hall.proofs.Phases.{client_ends, user_ends, phase_ended, ended_long}
 use Rattle.nit_hall.proofs.ScriptsFollowed.{IsNext, IsUserNext, follows_phase, follows_user_phase}
 use Rattle.nit_hall.proofs.RoomSteps.{room_then, room_turned}
-use Rattle.nit_hall.proofs.Stretches.{stretch_begun, stretch_on}
-use Rattle.nit_hall.proofs.Basics.{End, stretch, with_stages}
+use Rattle.nit_hall.proofs.Stretches.{stretch_on}
+use Rattle.nit_hall.proofs.Basics.{End}
 use Rattle.nit_hall.proofs.ServedCalls.{still_open}
 
 -- ---- phases

@@ -5,7 +5,7 @@ use Rattle.nit_hall.proofs.Basics.{List, OpeningParts, Painted, PassModel, PlanM
 use Rattle.nit_hall.proofs.Basics.{RoomModel, SceneModel, ShareModel, Sight, Some, [], ap, ap₂}
 use Rattle.nit_hall.proofs.Basics.{arith, calls_in, calls_of, calls_own, cases_eq, donation_of}
 use Rattle.nit_hall.proofs.Basics.{eq-eqb, get_or_from_slice_get, glass_in, glasses_of_call}
-use Rattle.nit_hall.proofs.Basics.{ink_in, script_ink}
+use Rattle.nit_hall.proofs.Basics.{script_ink}
 use Rattle.nit_hall.proofs.Basics.{inl, inr, is_phase, is_served, knowing, length, lines_to_call}
 use Rattle.nit_hall.proofs.Basics.{map, ne_eqb, next_call, option_map, phases_before, raised}
 use Rattle.nit_hall.proofs.Basics.{script_in, seen, served, slice_get_within, slice_index}

@@ -5,7 +5,7 @@ use Rattle.nit_rounds.proofs.Basics.{cases_lt, donation_of, get_or_past}
 use Rattle.nit_rounds.proofs.Basics.{glass_after, glass_in, inl, inr, length, no_sight, script_in}
 use Rattle.nit_rounds.proofs.Basics.{slice_index, table_size, tables_after, word_from, words_after}
 use Rattle.nit_rounds.proofs.Basics.{zero_at, zeros}
-use Rattle.std.proofs.Common.{refl, suc, true, zero, ℕ, ◌<◌, ◌==◌, ◌||◌, ◌≡◌}
+use Rattle.std.proofs.Common.{refl, suc, zero, ℕ, ◌<◌, ◌≡◌}
 
 -- ---- words
 

@@ -1,4 +1,4 @@
-use Rattle.std.proofs.Common.{List, [], ap, arith, length, refl, set, ◌∙◌}
+use Rattle.std.proofs.Common.{List, [], ap, arith, refl, set, ◌∙◌}
 use Rattle.std.proofs.Common.{slice_get}
 use Rattle.nit_rounds.proofs.Lemmas.{ByClient, ByUser, FitsInputLine}
 use Rattle.nit_rounds.proofs.Lemmas.{IsShowing, Line, LineTurn}
