@@ -3,9 +3,9 @@ use Rattle.std.proofs.Common.{◌≡◌, ◌∙◌, ◌*◌, ℕ, true, [], List
 use Rattle.std.proofs.Common.{subst}
 use Rattle.nit_run.proofs.Basics.{AreOutputs, AreShotsOf, Configuration, Contains, Entry, File}
 use Rattle.nit_run.proofs.Basics.{HasPicture, HoldsAtShot, HoldsByWay, IsHeldPicture, IsJournal}
-use Rattle.nit_run.proofs.Basics.{Setup, AreOfOneHistory, ShowsOneHistory, file_of_a_shot, pixel}
-use Rattle.nit_run.proofs.Basics.{pixel_count, replay, same_throughout, scenery_of, shot_name}
-use Rattle.nit_run.proofs.Basics.{shots, shown, slice_index_or}
+use Rattle.nit_run.proofs.Basics.{Setup, AreOfOneHistory, ShowsOneHistory, file_of_a_shot}
+use Rattle.nit_run.proofs.Basics.{replay, same_throughout, scenery_of, shot_name}
+use Rattle.nit_run.proofs.Basics.{shots, slice_index_or}
 use Rattle.nit_run.proofs.HeadlineLemmas.{FrameCount, FrameEach, among_shots, contains_at}
 use Rattle.nit_events.specs.declared.entry.Entry.TheVariants as entry
 
