@@ -12,18 +12,18 @@ use nit_scene::Scene;
 use nit_script::Line;
 use nit_word::Inked;
 
-/// Does what the line of this number of the script draws, on the session's own glass, and gives
-/// what is stale then. Nothing is stale but of this session. The plan is that of the script with
-/// the session's opening donation.
+/// Does what the line of this number of the script draws, on the session's own glass, which is
+/// stale then. Nothing is stale but of this session. The plan is that of the script with the
+/// session's opening donation.
 pub(crate) fn draw_line(
     scene: &mut Scene<Inked>,
     own: &mut Inked,
     part: ClientPart<'_>,
     line: usize,
-    stale: Option<Stale>,
-) -> Option<Stale>
-    requires draw { CanDraw scene.old part line stale own.old }
-    ensures drawn { HasDrawn scene.old scene.new part.entry line result own.new }
+    stale: &mut Option<Stale>,
+)
+    requires draw { CanDraw scene.old part line stale.old own.old }
+    ensures drawn { HasDrawn scene.old scene.new part.entry line stale.new own.new }
     ensures scene { scene.new ≡ record scene.old {
       glasses = slice_set scene.old.glasses part.entry.sid
           (glass_in scene.new.glasses part.entry.sid);
@@ -34,7 +34,7 @@ pub(crate) fn draw_line(
     step_of_a_line();
     other_places_stay();
     if !may_draw(&part.script.lines()[line]) {
-        return stale;
+        return;
     }
     stroke(own, part.script, part.plan, line);
     let step = part.plan.steps()[line];
@@ -44,7 +44,7 @@ pub(crate) fn draw_line(
         w: step.w,
         area,
     };
-    Some(add(scene, own, stale, later))
+    *stale = Some(add(scene, own, *stale, later));
 }
 
 /// Whether the line may set words of the session's buffer.

@@ -28,22 +28,22 @@ use nit_script::{InputLine, Line};
 use nit_store::Store;
 use nit_word::Inked;
 
-/// Does the line of this number of a client's script, and gives what is stale then, of its session
-/// alone. What it draws is made on the session's own glass; then a call is a call of the scene, by
+/// Does the line of this number of a client's script. Nothing is stale but of its session. What it
+/// draws is made on the session's own glass; then a call is a call of the scene, by
 /// the own glass.
 fn client_line(
     scene: &mut Scene<Inked>,
     own: &mut Inked,
     part: ClientPart<'_>,
     line: usize,
-    stale: Option<Stale>,
-) -> Option<Stale>
-    requires draw { CanDraw scene.old part line stale own.old }
+    stale: &mut Option<Stale>,
+)
+    requires draw { CanDraw scene.old part line stale.old own.old }
     requires quiet { AreQuietBut part.sid scene.old.glasses }
     requires spare { (call : CallOf) → slice_get part.script.now line ≡ Some (lines.Call call)
         → 1 ≤ scene.old.spare }
     requires open { IsOpen scene.old.entries }
-    ensures drawn { HasDrawn scene.old scene.new part.entry line result own.new }
+    ensures drawn { HasDrawn scene.old scene.new part.entry line stale.new own.new }
     ensures glasses { scene.new.glasses
         ≡ slice_set scene.old.glasses part.entry.sid (glass_in scene.new.glasses part.entry.sid) }
     ensures done { (l : Line) → slice_get part.entry.script.now line ≡ Some l
@@ -51,11 +51,10 @@ fn client_line(
 {
     buffer_within_table();
     one_more_entry();
-    let stale = draw_line(scene, own, part, line, stale);
+    draw_line(scene, own, part, line, stale);
     if let Line::Call(call) = &part.script.lines()[line] {
         let _ = scene.call(part.sid, call, own);
     }
-    stale
 }
 
 /// Does a line of the input script: what a device did and a shot are events of the scene. No glass
@@ -84,17 +83,17 @@ struct PartsTurn<'a> {
     turn: Turn,
 }
 
-/// Does the line of a turn, and gives what is stale then.
+/// Does the line of a turn.
 fn do_turn<V: Viewer>(
     scene: &mut Scene<Inked>,
     owns: &mut [Inked],
     viewer: &mut V,
-    stale: Option<Stale>,
+    stale: &mut Option<Stale>,
     next: PartsTurn<'_>,
-) -> Option<Stale>
+)
     requires planned { IsPlanned scene.old.config next.parts.now.scripts.now
         next.parts.now.plans.now }
-    requires behind { AreBehind stale scene.old.glasses owns.old }
+    requires behind { AreBehind stale.old scene.old.glasses owns.old }
     requires next { (before : SceneModel Sight) × (m : LineTurn) × (left : List LineTurn)
         × (first : V)
         × IsShowing V.fits V.shows next.parts.now.scripts.now next.parts.now.input.now before
@@ -102,7 +101,7 @@ fn do_turn<V: Viewer>(
         × (turn_of m ≡ next.turn)
         × (length (actions_of_turns (rounds next.parts.now.scripts.now next.parts.now.input.now))
         ≤ before.spare) }
-    ensures behind { AreBehind result scene.new.glasses owns.new }
+    ensures behind { AreBehind stale.new scene.new.glasses owns.new }
     ensures way { (before : SceneModel Sight) (m : LineTurn) (left : List LineTurn) (first : V)
         → IsShowing V.fits V.shows next.entry.parts.now.scripts.now
         next.entry.parts.now.input.now before
@@ -118,17 +117,17 @@ fn do_turn<V: Viewer>(
     let PartsTurn { parts, turn } = next;
     match turn {
         Turn::Client { sid, line } => {
-            let stale = settle_others(scene, owns, stale, sid);
+            settle_others(scene, owns, stale, sid);
             let own = &mut owns[sid as usize];
             let script = &parts.scripts[sid as usize];
             let plan = &parts.plans[sid as usize];
             let part = ClientPart { sid, script, plan };
-            client_line(scene, own, part, line, stale)
+            client_line(scene, own, part, line, stale);
         }
         Turn::User { line } => {
-            settle(scene, owns, stale);
+            settle(scene, owns, *stale);
             user_line(scene, &parts.input.lines()[line], viewer);
-            None
+            *stale = None;
         }
     }
 }
@@ -168,7 +167,7 @@ pub fn run_viewed<V: Viewer>(
             parts: &parts,
             turn,
         };
-        stale = do_turn(scene, owns, viewer, stale, next);
+        do_turn(scene, owns, viewer, &mut stale, next);
     }
     settle(scene, owns, stale);
     let _ = scene.journal();

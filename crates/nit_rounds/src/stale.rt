@@ -87,25 +87,25 @@ pub(crate) fn settle(scene: &mut Scene<Inked>, owns: &[Inked], stale: Option<Sta
     }
 }
 
-/// Copies what is stale of other sessions, and gives what is stale of this one.
+/// Copies what is stale of other sessions. Nothing is stale then but of this one.
 pub(crate) fn settle_others(
     scene: &mut Scene<Inked>,
     owns: &[Inked],
-    stale: Option<Stale>,
+    stale: &mut Option<Stale>,
     sid: u32,
-) -> Option<Stale>
+)
     requires each { length owns.now ≡ length scene.old.config.clients }
-    requires behind { AreBehind stale scene.old.glasses owns.now }
+    requires behind { AreBehind stale.old scene.old.glasses owns.now }
     ensures scene { scene.new ≡ record scene.old { glasses = scene.new.glasses } }
     ensures others { slice_set scene.new.glasses sid (glass_in owns.now sid) ≡ owns.now }
-    ensures behind { IsBehind result sid (glass_in scene.new.glasses sid) (glass_in owns.now sid) }
+    ensures behind { IsBehind stale.new sid (glass_in scene.new.glasses sid)
+        (glass_in owns.now sid) }
 {
-    let Some(a) = stale else {
-        return None;
+    let Some(a) = *stale else {
+        return;
     };
-    if a.sid == sid {
-        return stale;
+    if a.sid != sid {
+        settle(scene, owns, *stale);
+        *stale = None;
     }
-    settle(scene, owns, stale);
-    None
 }

@@ -31,7 +31,7 @@ add-requires-clause-earlier c =
     let draw = c.requires.draw in
     let drawn = c.stroke.ensures.sight d (painted_to c.buffer_within_table.ensures.words a.part.sid a.part.script.now d
     a.line a.part.plan.now _ draw.donation draw.plan draw.own) in
-    still_fits a.stale a.part.sid (glass_in a.scene.now.glasses a.part.sid) a.own.now _
+    still_fits a.stale.now a.part.sid (glass_in a.scene.now.glasses a.part.sid) a.own.now _
     (sym (ap (λ (g : Sight). g.size) drawn)) draw.behind
 
 pub returns-clause-drawn : goal.returns-clause-drawn
@@ -77,9 +77,9 @@ add-requires-clause-but c =
     (c.stroke.ensures.sight d (painted_to long a.part.sid a.part.script.now d a.line a.part.plan.now _ opens
     c.requires.draw.plan c.requires.draw.own)) in
     drawn_but long c.other_places_stay.ensures a.part.sid a.part.script.now d a.line c.index-lines-line-2.result _ _
-    (is_stale a.stale) (glass_in a.scene.now.glasses a.part.sid) _ _ opens here step
+    (is_stale a.stale.now) (glass_in a.scene.now.glasses a.part.sid) _ _ opens here step
     c.area_set-area.ensures.places c.requires.draw.own now
-    (as_but a.part.sid a.part.script.now d a.line a.stale _ _ c.requires.draw.own c.requires.draw.behind)
+    (as_but a.part.sid a.part.script.now d a.line a.stale.now _ _ c.requires.draw.own c.requires.draw.behind)
 
 pub returns-then-not-may_draw-clause-drawn : goal.returns-then-not-may_draw-clause-drawn
 returns-then-not-may_draw-clause-drawn c =

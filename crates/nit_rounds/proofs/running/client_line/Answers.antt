@@ -6,11 +6,11 @@ use Rattle.nit_rounds.proofs.running.client_line.Goals as goal
 
 pub call-requires : goal.call-requires
 call-requires c =
-    let drawn = c.draw_line-stale.ensures in
+    let drawn = c.draw_line.ensures in
     let here = line_here c.args.part.script.now c.lines.result.now c.args.line c.index-lines-line.result
     c.lines.ensures.value c.requires.draw.line c.index-lines-line.is in
-    let can = can_call c.buffer_within_table.ensures.words c.args.scene.now c.draw_line-stale.new.scene
-    c.args.part.sid c.args.part.script.now _ _ c.draw_line-stale.new.own drawn.scene c.requires.draw.there
+    let can = can_call c.buffer_within_table.ensures.words c.args.scene.now c.draw_line.new.scene
+    c.args.part.sid c.args.part.script.now _ _ c.draw_line.new.own drawn.scene c.requires.draw.there
     c.requires.draw.donation drawn.drawn.own c.requires.quiet (c.requires.spare _ (here ∙ ap Some c.in-Call.is))
     c.requires.«open» in
     record {
@@ -25,22 +25,22 @@ returns-in-Call c =
     let here = line_here c.args.part.script.now c.lines.result.now c.args.line c.index-lines-line.result
     c.lines.ensures.value c.requires.draw.line c.index-lines-line.is in
     let found = here ∙ ap Some c.in-Call.is in
-    let mid = c.draw_line-stale.new.scene in
-    let drawn = c.draw_line-stale.ensures in
+    let mid = c.draw_line.new.scene in
+    let drawn = c.draw_line.ensures in
     let can = can_call c.buffer_within_table.ensures.words c.args.scene.now mid sid c.args.part.script.now _ _
-    c.draw_line-stale.new.own drawn.scene c.requires.draw.there c.requires.draw.donation drawn.drawn.own
+    c.draw_line.new.own drawn.scene c.requires.draw.there c.requires.draw.donation drawn.drawn.own
     c.requires.quiet (c.requires.spare _ found) c.requires.«open» in
     let new = c.call.new.self in
     let served = c.call.ensures in
     let p = served.painted in
-    let own = same_own mid.glasses new.glasses sid c.draw_line-stale.new.own c.call.new.own can.quiet_own
+    let own = same_own mid.glasses new.glasses sid c.draw_line.new.own c.call.new.own can.quiet_own
     (λ t. (p.loads t, p.sights t)) in
-    let glasses = same_glasses (λ _. tt) mid.glasses new.glasses sid c.draw_line-stale.new.own c.call.new.own can.quiet
+    let glasses = same_glasses (λ _. tt) mid.glasses new.glasses sid c.draw_line.new.own c.call.new.own can.quiet
     (λ t. (p.loads t, p.sights t)) served.idle served.rests in
     record {
       drawn = record {
         own = own ∙ drawn.drawn.own;
-        behind = behind_still c.draw_line-stale.result sid mid new c.draw_line-stale.new.own c.call.new.own glasses own
+        behind = behind_still c.draw_line.new.stale sid mid new c.draw_line.new.own c.call.new.own glasses own
             drawn.drawn.behind;
       };
       glasses = glasses_still sid c.args.scene.now mid new glasses drawn.scene;
@@ -51,7 +51,7 @@ returns-in-Call c =
             spare = one_taken mid.entries _ _ _ _ served.added.recorded served.added.spare can.spare;
             recorded = (c.call.result, served.added.recorded);
             moved = served_moved c.one_more_entry.ensures.replayed mid new sid c.in-Call.call c.call.result _
-                c.draw_line-stale.new.own c.call.new.own served.added.config served.added.recorded glasses own
+                c.draw_line.new.own c.call.new.own served.added.config served.added.recorded glasses own
                 served.reply
                 can.there.glasses served.painted;
           }));
@@ -61,12 +61,12 @@ pub returns-in_default : goal.returns-in_default
 returns-in_default c =
     let here = line_here c.args.part.script.now c.lines.result.now c.args.line c.index-lines-line.result
     c.lines.ensures.value c.requires.draw.line c.index-lines-line.is in
-    let is = c.draw_line-stale.ensures.scene in
+    let is = c.draw_line.ensures.scene in
     record {
-      drawn = c.draw_line-stale.ensures.drawn;
+      drawn = c.draw_line.ensures.drawn;
       glasses = cc is;
       done = as_found c.args.part.script.now c.args.line c.args.part.sid c.index-lines-line.result c.args.scene.now
-          c.draw_line-stale.new.scene c.draw_line-stale.new.own here
-          (none_done c.args.part.sid c.index-lines-line.result c.args.scene.now c.draw_line-stale.new.scene _
-          c.draw_line-stale.new.own (λ call e. c.in_default.not-Call _ e) is c.requires.«open»);
+          c.draw_line.new.scene c.draw_line.new.own here
+          (none_done c.args.part.sid c.index-lines-line.result c.args.scene.now c.draw_line.new.scene _
+          c.draw_line.new.own (λ call e. c.in_default.not-Call _ e) is c.requires.«open»);
     }

@@ -15,7 +15,7 @@ pub bounds-owns-sid : goal.bounds-owns-sid
 bounds-owns-sid g c =
     let (before, m, left, first, p, is, room) = c.requires.next in
     let t = settled_turn c.turns_tell.ensures.client c.lines_done.ensures.client _ _ _ before c.args.scene.now
-    c.settle_others-stale.new.scene _ m left _ _ c.requires.planned p.way c.settle_others-stale.ensures.scene
+    c.settle_others.new.scene _ m left _ _ c.requires.planned p.way c.settle_others.ensures.scene
     (is ∙ c.in-Client.is) room in
     t.in_owns
 
@@ -23,7 +23,7 @@ pub bounds-parts-sid : goal.bounds-parts-sid
 bounds-parts-sid g c =
     let (before, m, left, first, p, is, room) = c.requires.next in
     let t = settled_turn c.turns_tell.ensures.client c.lines_done.ensures.client _ _ _ before c.args.scene.now
-    c.settle_others-stale.new.scene _ m left _ _ c.requires.planned p.way c.settle_others-stale.ensures.scene
+    c.settle_others.new.scene _ m left _ _ c.requires.planned p.way c.settle_others.ensures.scene
     (is ∙ c.in-Client.is) room in
     t.in_scripts
 
@@ -31,37 +31,37 @@ pub bounds-parts-sid-in-Client : goal.bounds-parts-sid-in-Client
 bounds-parts-sid-in-Client g c =
     let (before, m, left, first, p, is, room) = c.requires.next in
     let t = settled_turn c.turns_tell.ensures.client c.lines_done.ensures.client _ _ _ before c.args.scene.now
-    c.settle_others-stale.new.scene _ m left _ _ c.requires.planned p.way c.settle_others-stale.ensures.scene
+    c.settle_others.new.scene _ m left _ _ c.requires.planned p.way c.settle_others.ensures.scene
     (is ∙ c.in-Client.is) room in
     t.in_plans
 
 pub client_line-requires-clause-draw : goal.client_line-requires-clause-draw
 client_line-requires-clause-draw g c =
     let (before, m, left, first, p, is, room) = c.requires.next in
-    let s = c.settle_others-stale.new.scene in
+    let s = c.settle_others.new.scene in
     let sid = c.in-Client.sid in
     let t = settled_turn c.turns_tell.ensures.client c.lines_done.ensures.client _ _ _ before c.args.scene.now s _ m
-    left _ _ c.requires.planned p.way c.settle_others-stale.ensures.scene (is ∙ c.in-Client.is) room in
+    left _ _ c.requires.planned p.way c.settle_others.ensures.scene (is ∙ c.in-Client.is) room in
     let donation = donation_of s.config sid in
     let script = get_or_default c.args.next.parts.now.scripts.now sid [] c.index-parts-sid.result t.in_scripts in
     record {
       there = record {
         session = t.session;
-        glasses = as_many s.glasses c.args.owns.now sid _ c.settle_others-stale.ensures.others t.in_owns;
+        glasses = as_many s.glasses c.args.owns.now sid _ c.settle_others.ensures.others t.in_owns;
       };
       line = rw script at t.here;
       donation = t.donation;
       plan = rw script at (rw (get_or_default c.args.next.parts.now.plans.now sid _ c.index-parts-sid-in-Client.result
           t.in_plans) at t.plan);
       own = rw (get_or_default c.args.owns.now sid _ no_sight t.in_owns, t.own, script);
-      behind = rw (← get_or_default c.args.owns.now sid no_sight _ t.in_owns) c.settle_others-stale.ensures.behind;
+      behind = rw (← get_or_default c.args.owns.now sid no_sight _ t.in_owns) c.settle_others.ensures.behind;
     }
 
 pub client_line-requires-clause-spare : goal.client_line-requires-clause-spare
 client_line-requires-clause-spare g c =
     let (before, m, left, first, p, is, room) = c.requires.next in
     let t = settled_turn c.turns_tell.ensures.client c.lines_done.ensures.client _ _ _ before c.args.scene.now
-    c.settle_others-stale.new.scene _ m left _ _ c.requires.planned p.way c.settle_others-stale.ensures.scene
+    c.settle_others.new.scene _ m left _ _ c.requires.planned p.way c.settle_others.ensures.scene
     (is ∙ c.in-Client.is) room in
     λ call found. t.spare call (rw (
       get_or_default c.args.next.parts.now.scripts.now c.in-Client.sid []
@@ -73,22 +73,22 @@ pub returns-in-Client-clause-behind : goal.returns-in-Client-clause-behind
 returns-in-Client-clause-behind g c =
     let (before, m, left, first, p, is, room) = c.requires.next in
     let t = settled_turn c.turns_tell.ensures.client c.lines_done.ensures.client _ _ _ before c.args.scene.now
-    c.settle_others-stale.new.scene _ m left _ _ c.requires.planned p.way c.settle_others-stale.ensures.scene
+    c.settle_others.new.scene _ m left _ _ c.requires.planned p.way c.settle_others.ensures.scene
     (is ∙ c.in-Client.is) room in
-    behind_again c.client_line.result c.settle_others-stale.new.scene.glasses c.client_line.new.scene.glasses
+    behind_again c.client_line.new.stale c.settle_others.new.scene.glasses c.client_line.new.scene.glasses
     c.args.owns.now _ c.in-Client.sid _ c.client_line.new.own t.in_owns
-    c.settle_others-stale.ensures.others c.client_line.ensures.glasses refl c.client_line.ensures.drawn.behind
+    c.settle_others.ensures.others c.client_line.ensures.glasses refl c.client_line.ensures.drawn.behind
 
 pub returns-in-Client-clause-way : goal.returns-in-Client-clause-way
 returns-in-Client-clause-way g c before m left first p is =
-    let mid = c.settle_others-stale.new.scene in
+    let mid = c.settle_others.new.scene in
     let new = c.client_line.new.scene in
     let owns = c.args.owns.now in
     let own' = c.client_line.new.own in
     let sid = c.in-Client.sid in
-    let all = all_own mid.glasses new.glasses owns (set owns sid own') sid _ own' c.settle_others-stale.ensures.others
+    let all = all_own mid.glasses new.glasses owns (set owns sid own') sid _ own' c.settle_others.ensures.others
     c.client_line.ensures.glasses refl in
-    let there = ap (λ (s : SceneModel Sight). settled s owns) c.settle_others-stale.ensures.scene in
+    let there = ap (λ (s : SceneModel Sight). settled s owns) c.settle_others.ensures.scene in
     let p' = rw (← there) at p in
     let move = clients_move c.turns_tell.ensures.client c.lines_done.ensures.client _ _ before _ _ m left _ _ p'.way
     (is ∙ c.in-Client.is) in

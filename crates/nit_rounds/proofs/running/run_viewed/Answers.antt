@@ -19,7 +19,7 @@ lines-preserved g c =
     let front = front_move c.lines.turns c.next.new.self c.next.result c.in-Some.turn c.next.ensures.turn
     c.next.ensures.left c.in-Some.is in
     record {
-      behind = c.do_turn-stale.ensures.behind;
-      way = c.do_turn-stale.ensures.way c.args.scene.now front.0 c.next.new.self c.args.viewer.now
+      behind = c.do_turn.ensures.behind;
+      way = c.do_turn.ensures.way c.args.scene.now front.0 c.next.new.self c.args.viewer.now
           (rw front.1 at c.lines.invariant.way) front.2;
     }
