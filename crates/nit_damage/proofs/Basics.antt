@@ -1,6 +1,6 @@
 -- What lemmas use: the words of clauses, the library's lemmas, and those of the crates below.
 pub use Rattle.nit_damage.specs.Terms.{CoversBoth, CutterModel, FitsJobs, FitsStack, HasPixels}
-pub use Rattle.nit_damage.specs.Terms.{IfSome, IsApart, IsCut, IsCutStep, IsDivided, IsJob}
+pub use Rattle.nit_damage.specs.Terms.{IfSome, IsApart, IsCut, IsCutStep, IsSkip, IsDivided, IsJob}
 pub use Rattle.nit_damage.specs.Terms.{IsOnScreen, IsPieceOf, IsScreenRectangle, IsScreenSize}
 pub use Rattle.nit_damage.specs.Terms.{IsStack, IsTrue, Job, LiesIn, MatchOption, NoPair, Piece}
 pub use Rattle.nit_damage.specs.Terms.{Point, Rectangle, SlotView, StackModel, Strips, ViewRef}

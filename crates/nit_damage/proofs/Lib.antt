@@ -1,5 +1,6 @@
 pub mod Views
 pub mod Screen
+pub mod Skips
 pub mod Jobs
 pub mod RectangleCuts
 pub mod CutterSteps

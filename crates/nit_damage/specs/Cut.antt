@@ -4,7 +4,7 @@ use Rattle.std.specs.Prelude.{Option, IfSome, MatchOption}
 use Rattle.nit_damage.specs.Below.{CoversBoth, HasPixels, IsApart, Job, Piece, Point, Rectangle}
 use Rattle.nit_damage.specs.Below.{StackModel, covers, times}
 use Rattle.nit_damage.specs.Damage.{once}
-use Rattle.nit_damage.specs.Cutter.{FitsJobs, IsPieceOf, job_at, job_to_come, jobs_to_come}
+use Rattle.nit_damage.specs.Cutter.{FitsJobs, IsJob, IsPieceOf, job_at, job_to_come, jobs_to_come}
 use Rattle.nit_damage.specs.Cutter.{piece_times, weight, weight_of}
 
 -- How often rectangles have the pixel, together.
@@ -35,3 +35,10 @@ pub record IsCutStep (from : ℕ) (s : StackModel) (j : Job) (old new : List Job
   pub piece : IfSome result (IsPieceOf s)
   pub fewer : weight (length s.views) new
       < weight (length s.views) old + weight_of (length s.views) j
+
+-- A rectangle's next view is further back, behind views that have no pixel in common with it: it
+-- fits where it did, comes as often, and what it may still give is no more.
+pub record IsSkip (s : StackModel) (j j' : Job) : Type 0 where
+  pub fits : (k : ℕ) → IsJob s k j → IsJob s k j'
+  pub count : (from : ℕ) (p : Point) → job_to_come from s p j ≡ job_to_come from s p j'
+  pub no_more : weight_of (length s.views) j' ≤ weight_of (length s.views) j

@@ -7,7 +7,7 @@ pub use Rattle.nit_damage.specs.Below.{has_slot, in_bar, is_slot, most_slots, op
 pub use Rattle.nit_damage.specs.Below.{option_map_or, owner_in, place_of, point, position_or_len}
 pub use Rattle.nit_damage.specs.Below.{rectangle, same_slot, seat_owner, slice_get, slot_view_in}
 pub use Rattle.nit_damage.specs.Below.{spans, times, view_ref}
-pub use Rattle.nit_damage.specs.Cut.{IsCut, IsCutStep, times_all}
+pub use Rattle.nit_damage.specs.Cut.{IsCut, IsCutStep, IsSkip, times_all}
 pub use Rattle.nit_damage.specs.Cutter.{CutterModel, FitsJobs, FitsStack, IsJob, IsPieceOf}
 pub use Rattle.nit_damage.specs.Cutter.{bar_part, begun_cutter, job_at, job_to_come, jobs_to_come}
 pub use Rattle.nit_damage.specs.Cutter.{part_below_bar, piece_times, pieces_left, to_come, weight}

@@ -1,9 +1,10 @@
 //! One cut.
 
 ghost use Rattle.std.specs.Prelude.{◌≡◌, ◌+◌, ◌++◌, ◌*◌, ◌≤◌, ◌<◌, [], length, map, vec_capacity};
-ghost use Rattle.std.specs.Prelude.{IfSome, MatchOption};
-ghost use Rattle.nit_damage.specs.Terms.{FitsJobs, HasPixels, IsCut, IsCutStep, IsJob, IsPieceOf};
-ghost use Rattle.nit_damage.specs.Terms.{IsScreenRectangle, Point, job_at, jobs_to_come};
+ghost use Rattle.std.specs.Prelude.{IfSome, MatchOption, true};
+ghost use Rattle.nit_damage.specs.Terms.{FitsJobs, HasPixels, IsApart, IsCut, IsCutStep, IsJob};
+ghost use Rattle.nit_damage.specs.Terms.{IsPieceOf, IsScreenRectangle, IsSkip, Point, job_at};
+ghost use Rattle.nit_damage.specs.Terms.{jobs_to_come};
 ghost use Rattle.nit_damage.specs.Terms.{piece_times, weight, with_pixels};
 
 use nit_rect::Rect;
@@ -47,6 +48,7 @@ pub(crate) fn cut_next(jobs: &mut Vec<Job>, job: Job, from: u32, stack: &Stack) 
     ensures room { vec_capacity jobs.new ≡ vec_capacity jobs.old }
     ensures step { IsCutStep from stack.now job jobs.old.items jobs.new.items result }
 {
+    let job = skip_apart(job, stack);
     if job.at >= stack.len() {
         return Some(Piece {
             rect: job.rect,
@@ -64,6 +66,28 @@ pub(crate) fn cut_next(jobs: &mut Vec<Job>, job: Job, from: u32, stack: &Stack) 
         rect: part,
         owner: Some(v),
     })
+}
+
+/// The rectangle with its next view at the first place, from where it was, whose view has a pixel
+/// in common with it, or behind the last view.
+fn skip_apart(job: Job, stack: &Stack) -> Job
+    ensures { IsSkip stack.now job result }
+{
+    let mut job = job;
+    'views: while job.at < stack.len() {
+        if !is_apart(job.rect, stack.rect(stack.at(job.at))) {
+            return job;
+        }
+        job.at += 1;
+    }
+    job
+}
+
+/// Whether two rectangles have no pixel in common.
+fn is_apart(rect: Rect, by: Rect) -> bool
+    ensures { result ≡ true → IsApart rect by }
+{
+    rect.meet(&by).area() == 0
 }
 
 /// Puts in what is left of a rectangle of the screen where another is cut out, with the next view
