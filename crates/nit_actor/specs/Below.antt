@@ -19,7 +19,7 @@ pub use Rattle.nit_hall.specs.NearWords.{IsNear, IsNearFrame, is_dirtied}
 pub use Rattle.nit_hall.specs.OpeningParts.{OpeningParts}
 pub use Rattle.nit_hall.specs.Pass.{Belongs, HasMetPhase, IsAtDevice, IsAtPhase, IsAtShot}
 pub use Rattle.nit_hall.specs.Pass.{IsAtStroke, IsAtUserPhase, PassModel, UserBelongs}
-pub use Rattle.nit_hall.specs.Pass.{UserPassModel, call_of_line, next_device, sight_after_line}
+pub use Rattle.nit_hall.specs.Pass.{UserPassModel, call_of_line, next_device}
 pub use Rattle.nit_hall.specs.Room.{RoomModel, after_arrival, arrived_one}
 pub use Rattle.nit_hall.specs.ServedLines.{phases_before, user_actions_in}
 pub use Rattle.nit_journal.specs.Replay.{IsOpen, replay, shots}

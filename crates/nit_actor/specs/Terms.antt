@@ -12,15 +12,13 @@ pub use Rattle.nit_actor.specs.Below.{clip_phases_before, cons_option, is_clip_p
 pub use Rattle.nit_actor.specs.Below.{next_device, phases}
 pub use Rattle.nit_actor.specs.Below.{phases_before, picture, pixel, pixel_count}
 pub use Rattle.nit_actor.specs.Below.{replay}
-pub use Rattle.nit_actor.specs.Below.{scenery_of, shot_name, shots, shown, sight_after_line}
+pub use Rattle.nit_actor.specs.Below.{scenery_of, shot_name, shots, shown}
 pub use Rattle.nit_actor.specs.Below.{slice_index, slice_index_or, user_actions_from}
 pub use Rattle.nit_actor.specs.Below.{user_actions_in, user_actions_of, user_actions_to_do}
 pub use Rattle.nit_actor.specs.ClipRole.{DidClips, GoTogether, IsPairIn, IsPairRoleIn, PairIsOneOn}
 pub use Rattle.nit_actor.specs.ClipRole.{PairIsAt, PairIsThrough, PairRole, clip_role_of}
 pub use Rattle.nit_actor.specs.ClipRole.{pair_role_of}
 pub use Rattle.nit_actor.specs.Crew.{CrewCanRun, CrewHasRun, HasPlaceFor, IsSameCrew, IsStarted}
-pub use Rattle.nit_actor.specs.IdleUser.{AloneOn, AreAlone, StepOn, StepTogether}
-pub use Rattle.nit_actor.specs.IdleUser.{actions_to_be, idle_user}
 pub use Rattle.nit_actor.specs.PhasesLeft.{IsLeastOf, NoneIsBefore, lesser, pair_phase_left}
 pub use Rattle.nit_actor.specs.PhasesLeft.{phase_left, phases_left, user_phase_left}
 pub use Rattle.nit_actor.specs.Below.{IsHeld, IsHistory, bare_word, is_dirtied, raw_behind}

@@ -34,7 +34,8 @@ pub record HasStretch (script : List Line) (donation next : ℕ) (stages : Optio
 
 -- A reader's end knows a stretch of the script: it begins behind so many calls, in this phase or an
 -- earlier one.
-pub record KnowsStretch (script : List Line) (donation made phase : ℕ) (sight : Sight) : Type 0 where
+pub record KnowsStretch (script : List Line) (donation made phase : ℕ) (sight : Sight)
+    : Type 0 where
   pub since : ℕ
   pub stages_are : sight.stages ≡ Some (stretch script donation since)
   pub behind : length (calls_in (take since script)) ≡ made

@@ -156,15 +156,6 @@ opened_ready config scripts plans input canvases r ps u setting o clips runnable
     (subst (λ (w : UserPassModel). IsReadyWithClips (with_clip_scripts r clips).parts (with_clip_scripts r clips)
     pairs w) (sym user) ready)
 
--- and its setup
-pub opened_setup : (config : Configuration) (scripts : List (List Line)) (plans : List PlanModel)
-    (input : List InputLine) (canvases : List End) (r : RoomModel) (ps : List PassModel) (u : UserPassModel)
-    → IsOpening config scripts plans input canvases r ps u → (clips : List (List ClipLine)) (s : RoomModel)
-    → s ≡ with_clip_scripts r clips → clips_setup_in s.parts ≡ clips_setup config scripts input clips
-opened_setup config scripts plans input canvases r ps u o clips s room =
-    ap (λ (t : RoomModel). clips_setup_in t.parts) room
-    ∙ ap (λ (q : OpeningParts). clips_setup q.config q.scripts q.input clips) o.room.parts_are
-
 -- ---- the pairs come back done
 
 abbrev role_of_pair : Pair → PairRole

@@ -11,6 +11,5 @@ pub mod PerClient
 pub mod PutLemmas
 pub mod RoomRunLemmas
 pub mod RunLemmas
-pub mod StillRun
 pub mod Basics
 pub mod Lemmas

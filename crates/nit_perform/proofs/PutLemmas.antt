@@ -129,9 +129,6 @@ all_put first files new puts = rest_put files [] first (unrefused first) new ref
 
 -- ---- one put of a run
 
-abbrev pub refused_as : List ℕ → PutError → PutRefusal
-refused_as name error = record { name = name; error = error }
-
 pub none_is : (o : Option PutFault) → is_some o ≡ false → o ≡ None
 none_is None e = refl
 none_is (Some x) e = absurd cc

@@ -143,12 +143,6 @@ setting config scripts plans sessions are = record {
       ∙ get_or-map-range_with_len _ 0 (length scripts) k k (record { steps = []; ink = [] }) inside (zero-add k);
 }
 
-pub blank_ends : (config : Configuration) (scripts : List (List Line)) (buffers : List BufferName)
-    (keys canvases : List End) → AreBuffers config scripts buffers keys → canvases ≡ keys
-    → AreBlank config scripts canvases
-blank_ends config scripts buffers keys canvases b are =
-    subst (λ (es : List End). AreBlank config scripts es) (sym are) (record { canvas_each = b.each; blank = b.blank })
-
 -- ---- the passes come back done
 
 pub all_done : (parts : OpeningParts) (r : RoomModel) (ps qs : List PassModel) (u : UserPassModel)
@@ -244,6 +238,13 @@ last_is more parts config entries journal size out text same sized ended shown b
 
 true_false : true ≡ false → ⊥
 true_false e = cc
+
+-- what holds of an opening holds of one that is equal
+pub ended_as : {S : Type 0} {shown : S → StoreModel} {parts parts' : OpeningParts} {seen : List Entry}
+    {raws : List (List ℕ)} {s : SceneModel End} {old new : Desk S} → parts ≡ parts'
+    → HasEnded shown parts seen raws s old new → HasEnded shown parts' seen raws s old new
+ended_as {shown = shown} {seen = seen} {raws = raws} {s = s} {old = old} {new = new} same ended =
+    subst (λ (q : OpeningParts). HasEnded shown q seen raws s old new) same ended
 
 pub beside_leaves : {S : Type 0} (shown : S → StoreModel) (parts : OpeningParts) (known known' : List Entry)
     (raws : List (List ℕ)) (first new : StoreModel) (scene : SceneModel End) {desk left : Desk S} (ran : Ran)

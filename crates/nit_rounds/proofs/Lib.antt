@@ -28,7 +28,6 @@ pub mod RoundWalks
 pub mod WholeRounds
 pub mod ShotFileLemmas
 pub mod ShotFiles
-pub mod OneClient
 pub mod ForCallers
 pub mod Basics
 pub mod Lemmas

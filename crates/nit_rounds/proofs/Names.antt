@@ -8,8 +8,3 @@ name_is_text n small =
     IsUtf8-append (codes "shot-") (decimal n ++ codes ".ppm") (IsUtf8-from_ascii (codes "shot-") (search rules))
     (IsUtf8-append (decimal n) (codes ".ppm") (IsUtf8-from_ascii (decimal n) (IsAscii-decimal n (omega arith)))
     (IsUtf8-from_ascii (codes ".ppm") (search rules)))
-
-pub name_in_pieces : (n : ℕ) (first second third : List ℕ) → first ≡ codes "shot-" → second ≡ first ++ decimal n
-    → third ≡ second ++ codes ".ppm" → third ≡ shot_name n
-name_in_pieces n first second third one two three =
-    rw (three, two, one, append_assoc (codes "shot-") (decimal n) (codes ".ppm"))

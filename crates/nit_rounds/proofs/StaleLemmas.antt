@@ -14,42 +14,6 @@ use Rattle.nit_rounds.proofs.LineOnGlass.{AreLong, StayElsewhere}
 
 -- ---- words
 
--- fewer words may differ
-pub but_fewer : (p q : ℕ → Bool) (there own : Sight) → ((n : ℕ) → q n ≡ false → p n ≡ false) → IsButFor p there own
-    → IsButFor q there own
-but_fewer p q there own fewer b = record {
-  old = b.old;
-  now = b.now;
-  is = b.is;
-  told = b.told;
-  long = b.long;
-  same =
-      λ n not. b.same n (fewer n not);
-}
-
--- the words of a larger area, where one has all words of the other
-without_first : (p q : ℕ → Bool) → ((n : ℕ) → p n ≡ true → q n ≡ true) → (n : ℕ) → q n ≡ false → (p n || q n) ≡ false
-without_first p q within n not = go (p n) refl
-  where
-    go : (b : Bool) → p n ≡ b → (b || q n) ≡ false
-    go true is = absurd (let e = within n is in cc)
-    go false is = not
-
-without_second : (p q : ℕ → Bool) → ((n : ℕ) → q n ≡ true → p n ≡ true) → (n : ℕ) → p n ≡ false → (p n || q n) ≡ false
-without_second p q within n not = go (q n) refl
-  where
-    go : (b : Bool) → q n ≡ b → (p n || b) ≡ false
-    go true is = absurd (let e = within n is in cc)
-    go false is = rw not refl
-
-pub but_second : (p q : ℕ → Bool) (there own : Sight) → ((n : ℕ) → p n ≡ true → q n ≡ true)
-    → IsButFor (λ n. p n || q n) there own → IsButFor q there own
-but_second p q there own within b = but_fewer (λ n. p n || q n) q there own (without_first p q within) b
-
-pub but_first : (p q : ℕ → Bool) (there own : Sight) → ((n : ℕ) → q n ≡ true → p n ≡ true)
-    → IsButFor (λ n. p n || q n) there own → IsButFor p there own
-but_first p q there own within b = but_fewer (λ n. p n || q n) p there own (without_second p q within) b
-
 -- equal glasses
 pub but_none : (there own : Sight) (words : List ℕ) → there ≡ own → own.words ≡ Some words
     → IsButFor (λ n. false) there own

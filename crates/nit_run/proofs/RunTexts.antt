@@ -6,7 +6,3 @@ use Rattle.nit_run.proofs.Basics.{Entry, Setup, events_files, journal_file, text
 pub with_texts : (s : Setup) (journal : List Entry) → s.texts ≡ true
     → text_files s journal ≡ events_files s.config journal ++ journal_file journal ∷ []
 with_texts s journal is = ap (λ (b : Bool). cond b (events_files s.config journal ++ journal_file journal ∷ []) []) is
-
-pub without_texts : (s : Setup) (journal : List Entry) → s.texts ≡ false → text_files s journal ≡ []
-without_texts s journal is = ap (λ (b : Bool). cond b (events_files s.config journal ++ journal_file journal ∷ []) [])
-    is

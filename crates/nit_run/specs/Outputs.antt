@@ -87,7 +87,7 @@ text_files s journal =
 
 -- The files of the shots. By rounds they are those that the configuration and the scripts alone
 -- draw. Beside each other, each shows the state that the entries before its shot lead to, by words
--- that its pixels may hold at this shot; and all show one history of such words.
+-- that its pixels may hold after these; and all show one history of such words.
 pub record AreShots (s : Setup) (journal : List Entry) (files : List File) : Type 0 where
   pub by_rounds : s.beside ≡ false → files ≡ shots_of s.config s.scripts s.input
   pub beside : s.beside ≡ true → AreNearShots s.config s.scripts s.input journal files

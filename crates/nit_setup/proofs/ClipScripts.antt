@@ -8,13 +8,6 @@ use Rattle.nit_setup.proofs.Basics.{IsNameOf, clip_name, fits_push, length_push,
 use Rattle.nit_setup.proofs.Basics.{with_asked, wrong_clip}
 use Rattle.nit_setup.proofs.ScriptsRead.{told_so_both, zip_more}
 
-pub no_clip_read : (wanted : Option ℕ) (old : StoreModel) → AreClipsRead wanted old [] [] old
-no_clip_read wanted old = record { asked = asking_none old; count = refl; right = tt; valid = none old.files }
-  where
-    none : (told : Option (List File)) → IfSome told (λ files. AreClipScripts files wanted [] [])
-    none None = tt
-    none (Some files) = tt
-
 pub one_more_clip_read : (wanted : Option ℕ) (old : StoreModel) (scripts : List (List ℕ)) (clips : List (List ClipLine))
     (mid : StoreModel) (script : List ℕ) (lines : List ClipLine) (new : StoreModel)
     → AreClipsRead wanted old scripts clips mid

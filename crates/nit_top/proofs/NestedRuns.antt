@@ -104,9 +104,6 @@ module _ (once : UserOnce) (o i : RunFiles) (own : List Line) (is_outer : IsOute
   pub own_counts : phases own ≡ length (frames_of i)
   own_counts = first_counts o i own begun.0 begun.1 is_outer no_other
 
-  pub own_may : first_forbidden 1 own ≡ None
-  own_may = first_may o.scripts own begun.0 begun.1 is_outer.may
-
   pub they_fit : (inner : List ℕ) → is_too_long (nest_of i) (own ∷ []) ≡ false → misfit inner o i ≡ None
   they_fit inner short = by_length inner o i false no_other
       (ap (λ (ss : List (List Line)). is_too_long (nest_of i) ss) begun.1 ∙ short)
