@@ -2,7 +2,7 @@
 use Rattle.std.proofs.Common.{Bool, ap, ap₂, arith, false, inl, inr, refl, sym, true, ℕ, ◌&&◌, ◌*◌}
 use Rattle.std.proofs.Common.{◌+◌, ◌-◌, ◌<◌, ◌∙◌, ◌≡◌, ◌⊎◌, if◌then◌else◌, ◌+ℤ◌, ◌≤ℤ◌}
 use Rattle.nit_rect.proofs.Basics.{CoversBoth, HasPixels, IsApart, LiesIn, Point, Rectangle}
-use Rattle.nit_rect.proofs.Basics.{and_parts, covers, empty_rectangle, int_le, ints, pos, rectangle}
+use Rattle.nit_rect.proofs.Basics.{and_parts, covers, int_le, ints, pos, rectangle}
 use Rattle.nit_rect.proofs.Basics.{spans, times, times_among, ℤ}
 use mathlib.Core.Logic.{dite}
 use native.Mathlib.Decide.{ℕ_discrete, dec_lt}
@@ -25,10 +25,6 @@ and_false false = refl
 pub covers_none : (r : Rectangle) (p : Point) → (r.w ≡ 0) ⊎ (r.h ≡ 0) → covers r p ≡ false
 covers_none r p (inl none) = rw (none, no_place r.x p.x) refl
 covers_none r p (inr none) = rw (none, no_place r.y p.y) (and_false (spans r.x r.w p.x))
-
--- what has no pixels may as well be nothing
-pub both_nothing : (a b r : Rectangle) → CoversBoth a b r → (r.w ≡ 0) ⊎ (r.h ≡ 0) → CoversBoth a b empty_rectangle
-both_nothing a b r both none p = covers_none empty_rectangle p (inl refl) ∙ sym (covers_none r p none) ∙ both p
 
 abbrev corner : Rectangle → Point
 corner r = record { x = r.x; y = r.y }

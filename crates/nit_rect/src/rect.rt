@@ -64,8 +64,7 @@ impl Rect {
         ensures both { CoversBoth self.now r.now result }
         ensures none { IsApart self.now r.now → result ≡ empty_rectangle }
     {
-        let columns = self.columns().meet(r.columns());
-        let rows = self.rows().meet(r.rows());
+        let (columns, rows) = self.common(r);
         if columns.long == 0 || rows.long == 0 {
             return Rect {
                 x: 0,
@@ -75,6 +74,24 @@ impl Rect {
             };
         }
         of_spans(columns, rows)
+    }
+
+    /// Whether no pixel lies in both.
+    pub fn is_apart(&self, r: &Rect) -> bool
+        ensures { IsTrue result ↔ IsApart self.now r.now }
+    {
+        let (columns, rows) = self.common(r);
+        columns.long == 0 || rows.long == 0
+    }
+
+    /// The columns that both have, and the rows.
+    fn common(&self, r: &Rect) -> (Span, Span)
+        ensures { CoversBoth self.now r.now
+            (rectangle result.0.from result.1.from result.0.long result.1.long) }
+    {
+        let columns = self.columns().meet(r.columns());
+        let rows = self.rows().meet(r.rows());
+        (columns, rows)
     }
 
     /// Whether `r` covers every pixel of this rectangle. One without pixels is inside all others.

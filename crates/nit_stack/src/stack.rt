@@ -284,6 +284,15 @@ impl Stack {
         self.slots[v.0 as usize].rect
     }
 
+    /// The session of a view.
+    pub fn session(&self, v: ViewRef) -> u32
+        requires { has_slot v.0 self.now.views ≡ true }
+        ensures { (i : ℕ) → slice_get (map view_ref self.now.views) i ≡ Some v
+            → option_map (λ s. s.view.sid) (slice_get self.now.views i) ≡ Some result }
+    {
+        self.slots[v.0 as usize].sid
+    }
+
     /// The record of a view.
     pub fn view(&self, v: ViewRef) -> View
         requires { has_slot v.0 self.now.views ≡ true }
