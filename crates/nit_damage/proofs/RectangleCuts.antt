@@ -12,7 +12,7 @@ use Rattle.std.proofs.Common.{false, get_or, length, length-append, map, refl, s
 use Rattle.std.proofs.Common.{true, ℕ, ◌&&◌, ◌*◌, ◌++◌, ◌+◌, ◌<◌, ◌||◌, ◌∙◌, ◌≡◌, ◌≤◌}
 use Rattle.nit_damage.proofs.Jobs.{all_have_pixels, at_most_one, cut_in_front, fits_append, lighter}
 use Rattle.nit_damage.proofs.Jobs.{rest_to_come, rest_weighs, same_times}
-use Rattle.nit_damage.proofs.Views.{covered_less, covered_more, covered_none}
+use Rattle.nit_damage.proofs.Views.{covered_less, covered_more, covered_none, rect_is}
 
 -- what both cover lies in the first
 pub both_lie : (a b both : Rectangle) → CoversBoth a b both → LiesIn both a
@@ -218,8 +218,3 @@ next_view s j v by old new both fits job at rect cut =
             subst (λ (r : Rectangle). IsCut (j.at + 1) j.rect r old new both) (sym same) cut;
       },
     )
-  where
-    rect_is : (o : Option SlotView) (x : SlotView) (r : Rectangle) → o ≡ Some x
-        → option_map (λ (a : SlotView). a.view.rect) o ≡ Some r → x.view.rect ≡ r
-    rect_is None x r e f = cc
-    rect_is (Some y) x r e f = cc

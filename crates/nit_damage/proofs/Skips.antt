@@ -1,18 +1,16 @@
 -- Views that have no pixel in common with a rectangle, passed over.
-use Rattle.std.proofs.Common.{Bool, List, Option, Some, None, add-zero, ap, arith, cond, drop, false}
-use Rattle.std.proofs.Common.{length, map, refl, sym, take, true, ℕ, ◌&&◌, ◌+◌, ◌<◌, ◌||◌, ◌∙◌, ◌≡◌, ◌≤◌}
-use Rattle.nit_damage.proofs.Basics.{IsApart, IsCutStep, IsJob, IsSkip, Job, Piece, Point, Rectangle}
-use Rattle.nit_damage.proofs.Basics.{SlotView, StackModel, ViewRef, covered, covers, job_at}
-use Rattle.nit_damage.proofs.Basics.{job_to_come, jobs_to_come, once, option_map, slice_get}
-use Rattle.nit_damage.proofs.Basics.{slice_get_within, slot_at, slot_view_covers, times, view_ref}
-use Rattle.nit_damage.proofs.Basics.{piece_times}
+use Rattle.std.proofs.Common.{Bool, List, Option, Some, None, add-zero, ap, arith, cond, drop}
+use Rattle.std.proofs.Common.{false, length, map, refl, sym, take, true, ℕ, ◌&&◌, ◌+◌, ◌<◌, ◌||◌}
+use Rattle.std.proofs.Common.{◌∙◌, ◌≡◌, ◌≤◌}
+use Rattle.nit_damage.proofs.Basics.{IsApart, IsCutStep, IsJob, IsSkip, Job, Piece, Point}
+use Rattle.nit_damage.proofs.Basics.{Rectangle, SlotView, StackModel, ViewRef, covered, covers}
+use Rattle.nit_damage.proofs.Basics.{job_at, job_to_come, jobs_to_come, once, option_map}
+use Rattle.nit_damage.proofs.Basics.{piece_times, slice_get, slice_get_within, slot_at}
+use Rattle.nit_damage.proofs.Basics.{slot_view_covers, times, view_ref}
 use mathlib.Core.Logic.{dite}
 use native.Mathlib.Decide.{dec_lt}
 use Rattle.nit_damage.proofs.Jobs.{cut_in_front, lighter}
-use Rattle.nit_damage.proofs.Views.{covered_less, covered_more, covered_none}
-
-pub skip_none : (s : StackModel) (j : Job) → IsSkip s j j
-skip_none s j = record { fits = λ k is. is; count = λ from p. refl; no_more = omega arith }
+use Rattle.nit_damage.proofs.Views.{covered_less, covered_more, covered_none, rect_is}
 
 pub skip_both : (s : StackModel) (i j k : Job) → IsSkip s i j → IsSkip s j k → IsSkip s i k
 skip_both s i j k one more = record {
@@ -59,11 +57,6 @@ pub skip_next : (s : StackModel) (j : Job) (v : ViewRef) (by : Rectangle)
 skip_next s j v by at rect apart =
     let found = slot_at s.views j.at v at in
     skip_view s j found.0 found.1 (rw (rect_is (slice_get s.views j.at) found.0 by found.1 rect) apart)
-  where
-    rect_is : (o : Option SlotView) (x : SlotView) (r : Rectangle) → o ≡ Some x
-        → option_map (λ (a : SlotView). a.view.rect) o ≡ Some r → x.view.rect ≡ r
-    rect_is None x r e f = cc
-    rect_is (Some y) x r e f = cc
 
 -- what is cut of the rectangle behind these views is cut of it
 pub skipped : (from : ℕ) (s : StackModel) (j j' : Job) (old new : List Job) (result : Option Piece)

@@ -1,8 +1,8 @@
 -- The views that cover a pixel.
-use Rattle.nit_damage.proofs.Basics.{NoPair, Point, SlotView, StackModel, covered, eqb-true}
-use Rattle.nit_damage.proofs.Basics.{found_fails, has_slot, in_bar, is_behind, is_slot}
-use Rattle.nit_damage.proofs.Basics.{option_map_or, owner_in, place_of, position_or_len, same_slot}
-use Rattle.nit_damage.proofs.Basics.{slice_get, slot_view_covers, slot_view_in}
+use Rattle.nit_damage.proofs.Basics.{NoPair, Point, Rectangle, SlotView, StackModel, covered}
+use Rattle.nit_damage.proofs.Basics.{eqb-true, found_fails, has_slot, in_bar, is_behind, is_slot}
+use Rattle.nit_damage.proofs.Basics.{option_map, option_map_or, owner_in, place_of, position_or_len}
+use Rattle.nit_damage.proofs.Basics.{same_slot, slice_get, slot_view_covers, slot_view_in}
 use Rattle.std.proofs.Common.{Bool, List, None, Option, Some, [], add-one, ap, arith, cond, drop}
 use Rattle.std.proofs.Common.{false, find, not, refl, subst, suc, sym, take, true, zero, ℕ, ◌&&◌}
 use Rattle.std.proofs.Common.{◌+◌, ◌<◌, ◌==◌, ◌||◌, ◌∙◌, ◌∷◌, ◌≡◌, ◌≤◌}
@@ -154,3 +154,9 @@ owned_by_none s k p gone = go (in_bar s.bar p)
     go : (b : Bool) → option_map_or (is_slot k) (cond b None (find (slot_view_covers p) s.views)) false ≡ false
     go true = refl
     go false = found (find (slot_view_covers p) s.views) refl
+
+-- the rectangle of a view that stands at a place
+pub rect_is : (o : Option SlotView) (x : SlotView) (r : Rectangle) → o ≡ Some x
+    → option_map (λ (a : SlotView). a.view.rect) o ≡ Some r → x.view.rect ≡ r
+rect_is None x r e f = cc
+rect_is (Some y) x r e f = cc

@@ -1,10 +1,9 @@
 //! One cut.
 
 ghost use Rattle.std.specs.Prelude.{◌≡◌, ◌+◌, ◌++◌, ◌*◌, ◌≤◌, ◌<◌, [], length, map, vec_capacity};
-ghost use Rattle.std.specs.Prelude.{IfSome, MatchOption, true};
-ghost use Rattle.nit_damage.specs.Terms.{FitsJobs, HasPixels, IsApart, IsCut, IsCutStep, IsJob};
-ghost use Rattle.nit_damage.specs.Terms.{IsPieceOf, IsScreenRectangle, IsSkip, Point, job_at};
-ghost use Rattle.nit_damage.specs.Terms.{jobs_to_come};
+ghost use Rattle.std.specs.Prelude.{IfSome, MatchOption};
+ghost use Rattle.nit_damage.specs.Terms.{FitsJobs, HasPixels, IsCut, IsCutStep, IsJob, IsPieceOf};
+ghost use Rattle.nit_damage.specs.Terms.{IsScreenRectangle, IsSkip, Point, job_at, jobs_to_come};
 ghost use Rattle.nit_damage.specs.Terms.{piece_times, weight, with_pixels};
 
 use nit_rect::Rect;
@@ -75,19 +74,12 @@ fn skip_apart(job: Job, stack: &Stack) -> Job
 {
     let mut job = job;
     'views: while job.at < stack.len() {
-        if !is_apart(job.rect, stack.rect(stack.at(job.at))) {
+        if !job.rect.is_apart(&stack.rect(stack.at(job.at))) {
             return job;
         }
         job.at += 1;
     }
     job
-}
-
-/// Whether two rectangles have no pixel in common.
-fn is_apart(rect: Rect, by: Rect) -> bool
-    ensures { result ≡ true → IsApart rect by }
-{
-    rect.meet(&by).area() == 0
 }
 
 /// Puts in what is left of a rectangle of the screen where another is cut out, with the next view

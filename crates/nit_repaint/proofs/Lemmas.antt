@@ -22,5 +22,5 @@ pub use Rattle.nit_repaint.proofs.ViewChangeLemmas.{changes, moves_above, moves_
 pub use Rattle.nit_repaint.proofs.OneViewGone.{gone_change}
 pub use Rattle.nit_repaint.proofs.ViewsInFront.{stands_nowhere, stands_there}
 pub use Rattle.nit_repaint.proofs.WantedLemmas.{all_wanted, comes_as, none_wanted, one_wanted}
-pub use Rattle.nit_repaint.proofs.WantedLemmas.{part_of_session, seat_here, seat_set, seat_there}
+pub use Rattle.nit_repaint.proofs.WantedLemmas.{part_of_session, seat_here, seat_session, seat_set, seat_there}
 pub use Rattle.nit_repaint.proofs.WantedLemmas.{seat_unset, wanted_here}

@@ -162,13 +162,18 @@ wanted_here s view sid part p own =
     ap (λ (t : ℕ). wants part (size_of s.sizes t) view p) own
     ∙ ap (λ (b : Bool). b && wants part (size_of s.sizes sid) view p) (sym (eq-eqb view.sid sid own))
 
+-- the session of a view that stands at a place
+pub seat_session : (o : Option SlotView) (x : SlotView) (sid : ℕ) → o ≡ Some x
+    → option_map (λ (a : SlotView). a.view.sid) o ≡ Some sid → x.view.sid ≡ sid
+seat_session None x sid e f = cc
+seat_session (Some y) x sid e f = cc
+
 -- a view of another session
-pub seat_unset : (s : StackModel) (view : View) (x : SlotView) (sid : ℕ) (part : Option Rectangle) (p : Point)
-    → (view.sid ≡ sid → ⊥) → x.view ≡ view
-    → (owner_passes (is_slot x.slot) s p && is_wanted sid part s p x) ≡ false
-seat_unset s view x sid part p other same =
+pub seat_unset : (s : StackModel) (x : SlotView) (sid : ℕ) (part : Option Rectangle) (p : Point)
+    → (x.view.sid ≡ sid → ⊥) → (owner_passes (is_slot x.slot) s p && is_wanted sid part s p x) ≡ false
+seat_unset s x sid part p other =
     ap (λ (b : Bool). owner_passes (is_slot x.slot) s p && (b && wants part (size_of s.sizes sid) x.view p))
-    (ap (λ (v : View). v.sid == sid) same ∙ ne_eqb view.sid sid other)
+    (ne_eqb x.view.sid sid other)
     ∙ nothing (owner_passes (is_slot x.slot) s p) (wants part (size_of s.sizes sid) x.view p)
   where
     nothing : (b c : Bool) → (b && (false && c)) ≡ false

@@ -56,10 +56,10 @@ pub(crate) fn begin_seat(
         ≡ false }
 {
     let v = stack.at(i);
-    let view = stack.view(v);
-    if view.sid != of {
+    if stack.session(v) != of {
         return false;
     }
+    let view = stack.view(v);
     let rect = shown_rect(stack, &view, part);
     cutter.begin_owned(stack, v, rect);
     true

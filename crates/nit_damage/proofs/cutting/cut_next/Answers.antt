@@ -1,6 +1,5 @@
-use Rattle.nit_damage.proofs.Lemmas.{None, Some, arith, bare, given, hidden, next_view, on_screen}
-use Rattle.nit_damage.proofs.Lemmas.{past, skipped}
-use Rattle.std.proofs.Common.{length}
+use Rattle.nit_damage.proofs.Lemmas.{None, Some, arith, bare, given, hidden, length, next_view}
+use Rattle.nit_damage.proofs.Lemmas.{on_screen, past, skipped}
 use Rattle.nit_damage.proofs.cutting.cut_next.Goals as goal
 
 pub returns-then-job-len-clause-step : goal.returns-then-job-len-clause-step
