@@ -1,7 +1,7 @@
 ghost use Rattle.std.specs.Prelude.{◌≡◌, ◌+◌, ◌-◌, ◌*◌, ◌<◌, ◌≤◌, OnOk, IfErr};
 ghost use Rattle.nit_slots.specs.Terms.{IsAccount, IsDonation, IsShort, buffer_left, buffer_need};
-ghost use Rattle.nit_slots.specs.Terms.{first_account, most_side, most_views, room, upgraded};
-ghost use Rattle.nit_slots.specs.Terms.{view_left, view_need, view_slots};
+ghost use Rattle.nit_slots.specs.Terms.{first_account, most_side, most_views, most_words, room};
+ghost use Rattle.nit_slots.specs.Terms.{table_size, upgraded, view_left, view_need, view_slots};
 
 use crate::need::Need;
 use nit_rect::MOST_UNITS;
@@ -32,6 +32,16 @@ pub fn view_slots(donation: u32) -> u32
     ensures { result ≡ view_slots donation }
 {
     MOST_VIEWS.min(room(donation) / VIEW_UNITS)
+}
+
+/// The number of words that a session of this opening donation can ever pay for, one for each 8
+/// units of its room: 64..=1048576.
+pub fn table_size(donation: u32) -> u32
+    requires { IsDonation donation }
+    ensures size { result ≡ table_size donation }
+    ensures range { (1 ≤ result) × (result ≤ most_words) }
+{
+    room(donation) / WORD_UNITS
 }
 
 /// What a session has and what it uses of it: the donation and the reserve in units, the number of

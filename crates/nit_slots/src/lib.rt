@@ -18,7 +18,7 @@ mod need;
 mod slots;
 mod table;
 
-pub use account::{Account, MOST_VIEWS, room, view_slots};
+pub use account::{Account, MOST_VIEWS, room, table_size, view_slots};
 pub use need::Need;
 pub use slots::Slots;
 pub use table::Table;
