@@ -1,7 +1,7 @@
 -- The seat of a table that was just made.
 use Rattle.nit_pixels.proofs.Basics.{Identity, IfSome, IsOwners, IsZeroBehind, PixelSeat, SeatState}
-use Rattle.nit_pixels.proofs.Basics.{Stages, length-zeros, new_sight, zero_at}
-use Rattle.nit_pixels.proofs.Basics.{option_map, owner_view, owners_script, sight_of, table_size}
+use Rattle.nit_pixels.proofs.Basics.{Stages, length-zeros, new_sight, option_map, owner_view}
+use Rattle.nit_pixels.proofs.Basics.{owners_script, sight_of, table_size, zero_at}
 use Rattle.std.proofs.Common.{Some, [], ap, length, slice_index, subst, sym, ℕ, ◌<◌, ◌∙◌, ◌≡◌}
 
 pub first_sight : (identity : Identity) (s : PixelSeat) → s.table_id.words ≡ table_size identity.donation

@@ -1,10 +1,10 @@
 -- The rule of the pixel words, and what each kind of step does to the view of the seat that makes
 -- it.
 use Rattle.std.specs.Prelude.{◌≡◌, ℕ, List, [], ◌∷◌, ◌++◌, Option, Some, None, IfSome, IsSome}
-use Rattle.nit_pixels.specs.Below.{AllByRecursion, FitsLine, HaveWords, Identity, IsAmong}
-use Rattle.nit_pixels.specs.Below.{IsInked, IsWord, Line, Me, PixelView, Stages, State, Step}
-use Rattle.nit_pixels.specs.Below.{blank, option_map, slice_index, slice_set, stages_from}
-use Rattle.nit_pixels.specs.Below.{table_size, zeros}
+use Rattle.nit_pixels.specs.Below.{AllByRecursion, FitsLine, HaveWords, Identity, IsAmong, IsInked}
+use Rattle.nit_pixels.specs.Below.{IsWord, Line, Me, PixelView, Stages, State, Step, blank}
+use Rattle.nit_pixels.specs.Below.{option_map, slice_index, slice_set, stages_from, table_size}
+use Rattle.nit_pixels.specs.Below.{zeros}
 use mathlib.Core.Option.{some}
 use lib.ListN.{get_elem?}
 

@@ -1,9 +1,10 @@
 //! A buffer of pixel words, and the right to be its owner.
 ghost use Rattle.std.specs.Prelude.{◌≡◌, IfOk};
-ghost use Rattle.nit_pixels.specs.Terms.{IsDonation, new_sight, table_size, zeros};
+ghost use Rattle.nit_pixels.specs.Terms.{IsDonation, new_sight};
 
 use crate::canvas::Canvas;
 use crate::steps::{Identity, PixelRule, PixelView};
+use crate::zeros::zero_words;
 use atomic_table::{Seat, Table};
 use nit_rect::NoMemory;
 use nit_script::Client;
@@ -48,9 +49,8 @@ impl Model for Key {
 
 impl PixelBuffer {
     /// A buffer of this owner, whose session opens with this donation and has this script, and its
-    /// one key. It has as many words as the session's table, which are those that are lent here,
-    /// all 0. At each place of it may stand what the lines of the script leave there. Only this
-    /// call takes memory.
+    /// one key. It has as many words as the session can ever pay for, all 0. At each place of it
+    /// may stand what the lines of the script leave there. Only this call takes memory.
     ///
     /// # Errors
     ///
@@ -60,10 +60,8 @@ impl PixelBuffer {
         owner: u32,
         script: &Client,
         donation: u32,
-        words: &[u64],
     ) -> Result<(PixelBuffer, Key), NoMemory>
-        requires donation { IsDonation donation }
-        requires words { words.now ≡ zeros (table_size donation) }
+        requires { IsDonation donation }
         ensures sight { IfOk result (λ made. made.1.sight ≡ new_sight owner script.now donation) }
         ensures key { IfOk result (λ made. made.1.stand.buffer ≡ made.0) }
     {
@@ -73,6 +71,7 @@ impl PixelBuffer {
             script: Snapshot::of(script),
             donation,
         };
+        let words = zero_words(donation);
         let (table, seat) = Table::of_words(alloc, words, &identity)?;
         Ok((PixelBuffer { table }, Key { seat }))
     }

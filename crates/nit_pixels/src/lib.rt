@@ -24,6 +24,7 @@ mod lens;
 mod standing;
 mod steps;
 mod watching;
+mod zeros;
 
 pub use buffer::{Key, PixelBuffer};
 pub use canvas::Canvas;

@@ -1,0 +1,12 @@
+use Rattle.std.proofs.Common.{ap, ◌∙◌}
+use Rattle.std.proofs.lemmas.List.{take-replicate}
+use Rattle.nit_word.specs.Zeros.{zeros}
+use lib.ListN.{take}
+use Rattle.nit_pixels.proofs.zeros.zero_words.Goals as goal
+
+pub returns : goal.returns
+unfolding zeros
+returns c =
+    let count = c.table_size-count.result in
+    let size = c.table_size-count.ensures in
+    ap (take count) c.all.ensures ∙ take-replicate count 1048576 0 size.range.1 ∙ ap zeros size.size
