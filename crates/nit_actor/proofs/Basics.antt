@@ -1,17 +1,17 @@
 -- What lemmas use: the words of clauses, the library's lemmas, and those of the crates below.
-pub use Rattle.nit_actor.specs.Terms.{Action, Belongs, Call, Calls, CanShoot}
+pub use Rattle.nit_actor.specs.Terms.{Action, AreAlone, Belongs, Call, Calls, CanShoot}
 pub use Rattle.nit_actor.specs.Terms.{ClipPassModel, Configuration, Desk, Device, DidClips, Entry}
 pub use Rattle.nit_actor.specs.Terms.{GoTogether, InputLine, IsAtClipPhase, IsAtPhase, IsAtPhaseEnd}
 pub use Rattle.nit_actor.specs.Terms.{IsLeastOf, IsNearPicture, IsOneOn, IsPairIn, IsPairRoleIn}
 pub use Rattle.nit_actor.specs.Terms.{IsQuietlyOn, IsRoleIn, Line, NoneIsBefore, OpeningParts, Pair}
 pub use Rattle.nit_actor.specs.Terms.{PairIsOneOn, PairIsThrough, PairRole, PassModel, PutState}
 pub use Rattle.nit_actor.specs.Terms.{PutsNext, PutsShotsBehind, Reply, Role, RoomModel, Routed}
-pub use Rattle.nit_actor.specs.Terms.{ShotsBehind, Sight, StoreModel}
+pub use Rattle.nit_actor.specs.Terms.{ShotsBehind, Sight, StepOn, StepTogether, StoreModel}
 pub use Rattle.nit_actor.specs.Terms.{TakesShots, Tells, TellsShot, UserAction, UserBelongs}
-pub use Rattle.nit_actor.specs.Terms.{UserPassModel, UserRole, action_of}
+pub use Rattle.nit_actor.specs.Terms.{UserPassModel, UserRole, action_of, actions_to_be}
 pub use Rattle.nit_actor.specs.Terms.{after_arrival, arrived_one, call_of_line, calls_in}
 pub use Rattle.nit_actor.specs.Terms.{clip_phases, clip_phases_before, clip_role_of, cons_option}
-pub use Rattle.nit_actor.specs.Terms.{is_clip_phase, is_phase, lesser, next_device}
+pub use Rattle.nit_actor.specs.Terms.{idle_user, is_clip_phase, is_phase, lesser, next_device}
 pub use Rattle.nit_actor.specs.Terms.{pair_phase_left, pair_role_of, phase_left, phases}
 pub use Rattle.nit_actor.specs.Terms.{phases_before, phases_left, picture, pixel, replay, role_of}
 pub use Rattle.nit_actor.specs.Terms.{scenery_of, shot_name, shots, shown, slice_index}

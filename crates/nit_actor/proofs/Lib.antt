@@ -4,6 +4,7 @@ pub mod Pairs
 pub mod LeastPhases
 pub mod Shots
 pub mod HistoryLemmas
+pub mod IdleUserLemmas
 pub mod ForCallers
 pub mod Basics
 pub mod Lemmas

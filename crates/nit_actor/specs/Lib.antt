@@ -12,5 +12,6 @@ pub mod History
 pub mod UserShots
 pub mod Crew
 pub mod PhasesLeft
+pub mod IdleUser
 pub mod Below
 pub mod Terms

@@ -19,6 +19,8 @@ pub use Rattle.nit_actor.specs.ClipRole.{DidClips, GoTogether, IsPairIn, IsPairR
 pub use Rattle.nit_actor.specs.ClipRole.{PairIsAt, PairIsThrough, PairRole, clip_role_of}
 pub use Rattle.nit_actor.specs.ClipRole.{pair_role_of}
 pub use Rattle.nit_actor.specs.Crew.{CrewCanRun, CrewHasRun, HasPlaceFor, IsSameCrew, IsStarted}
+pub use Rattle.nit_actor.specs.IdleUser.{AloneOn, AreAlone, StepOn, StepTogether}
+pub use Rattle.nit_actor.specs.IdleUser.{actions_to_be, idle_user}
 pub use Rattle.nit_actor.specs.PhasesLeft.{IsLeastOf, NoneIsBefore, lesser, pair_phase_left}
 pub use Rattle.nit_actor.specs.PhasesLeft.{phase_left, phases_left, user_phase_left}
 pub use Rattle.nit_actor.specs.Below.{IsHeld, IsHistory, bare_word, is_dirtied, raw_behind}

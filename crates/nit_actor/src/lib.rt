@@ -17,6 +17,11 @@
 //! clip script too. They do a client's clip calls of a phase when its own next line ends the phase,
 //! or behind its last line.
 //!
+//! # Alone
+//!
+//! [`run_alone`] does the lines of one client, on a room without a lock. The user only ends phases
+//! with it.
+//!
 //! The tests are `scenes/hall_tests` of `nit_tests`, and `gate_tests` of `nit_top_tests`.
 #![tactic(auto)]
 
@@ -27,6 +32,7 @@ mod gate;
 pub mod laws;
 mod mine;
 mod pair;
+mod single;
 mod user;
 
 pub use actor::run_actor;
@@ -35,3 +41,4 @@ pub use crew::Unstarted;
 pub use gate::{Gate, GatedHall, Open};
 pub use mine::{run_mine, run_mine_clips};
 pub use pair::{Pair, run_clips};
+pub use single::run_alone;

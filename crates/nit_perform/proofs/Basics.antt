@@ -17,12 +17,12 @@ pub use Rattle.nit_perform.specs.Terms.{AreFirstClipPasses, AreKeysBlank, AreNea
 pub use Rattle.nit_perform.specs.Terms.{AreRoundsOf, AskedAtMost, Bad, Bare, Belongs, Black}
 pub use Rattle.nit_perform.specs.Terms.{BufferName, ByClient, ByUser, CaptureModel, ClipBelongs}
 pub use Rattle.nit_perform.specs.Terms.{ClipLine, ClipPassModel, ClipRole, Configuration, Drawing}
-pub use Rattle.nit_perform.specs.Terms.{End, Entry, File, Global, HasFilmed, HasPlayed, HasRun, HasRunClips}
-pub use Rattle.nit_perform.specs.Terms.{HasTaken, HaveTables, IfOk, InputLine, IsAscii}
+pub use Rattle.nit_perform.specs.Terms.{End, Entry, File, Global, HasFilmed, HasRun, HasRunClips}
+pub use Rattle.nit_perform.specs.Terms.{HasTaken, HaveTables, IfOk, InputLine, IsAlone, IsAscii}
 pub use Rattle.nit_perform.specs.Terms.{IsClipListText, IsConfiguration, IsDoneClip, IsDoneUser}
 pub use Rattle.nit_perform.specs.Terms.{IsFilmOf, IsGlass, IsJournal, IsKnownWhole, IsLegal}
 pub use Rattle.nit_perform.specs.Terms.{IsNearPicture, IsOpen, IsOpening, IsPairIn, IsPlanOf, IsPut}
-pub use Rattle.nit_perform.specs.Terms.{IsReady, IsReadyWithClips, IsRoundsRun}
+pub use Rattle.nit_perform.specs.Terms.{IsReady, IsReadyAlone, IsReadyWithClips, IsRoundsRun}
 pub use Rattle.nit_perform.specs.Terms.{IsRunnable, IsSetUp, IsSetting, IsUtf8, IsWhole, IsWord}
 pub use Rattle.nit_perform.specs.Terms.{IsWordOfSource, JournalModel, Line, LineTurn, Member}
 pub use Rattle.nit_perform.specs.Terms.{NestError, NestModel, NestState, NestsRun, NoMemory}
@@ -32,7 +32,7 @@ pub use Rattle.nit_perform.specs.Terms.{PutFault, PutFiles, PutIn, PutRefusal, P
 pub use Rattle.nit_perform.specs.Terms.{PutsFile, PutsNext, PutsShots, PutsShotsBehind, PutsUnless}
 pub use Rattle.nit_perform.specs.Terms.{Ran, Region, Role, RoomModel, RunFiles, Runs, SceneModel}
 pub use Rattle.nit_perform.specs.Terms.{Session, Setup, ShotFrame, ShotsBehind, ShowsEach}
-pub use Rattle.nit_perform.specs.Terms.{ShowsNest, Sight, Size, State, StoreModel}
+pub use Rattle.nit_perform.specs.Terms.{ShowsNest, Sight, Size, State, StepTogether, StoreModel}
 pub use Rattle.nit_perform.specs.Terms.{TakesAll, TakesNext, TakesUnless, TooLong, UnlessMemory}
 pub use Rattle.nit_perform.specs.Terms.{UserAction, UserBelongs, UserPassModel, UserRole, Vec, View}
 pub use Rattle.nit_perform.specs.Terms.{Word, WriteFaulted, action_of, actions_of_turns, after}
@@ -47,7 +47,7 @@ pub use Rattle.nit_perform.specs.Terms.{events_name, events_text, false, file_at
 pub use Rattle.nit_perform.specs.Terms.{film_name, film_of, final_name, final_picture}
 pub use Rattle.nit_perform.specs.Terms.{first_clip_pass, first_forbidden, first_pass, first_session}
 pub use Rattle.nit_perform.specs.Terms.{first_state, frame, frame_answer, frame_lines, frames_of}
-pub use Rattle.nit_perform.specs.Terms.{glass_after, glass_in, glasses_of, index_at, ink}
+pub use Rattle.nit_perform.specs.Terms.{glass_after, glass_in, glasses_of, idle_user, index_at, ink}
 pub use Rattle.nit_perform.specs.Terms.{inked_sight, input_by_user, input_lines_of, input_phases}
 pub use Rattle.nit_perform.specs.Terms.{into_iter_items, is_label, is_label_byte, is_phase}
 pub use Rattle.nit_perform.specs.Terms.{is_shot_entry, is_shot_line, is_some, is_too_long}

@@ -2,7 +2,7 @@
 pub use Rattle.nit_perform.proofs.Basics.{All, All-push, AllByRecursion, AreDone, AreDoneClips}
 pub use Rattle.nit_perform.proofs.Basics.{AreFirstClipPasses, AreKeysBlank, BufferName}
 pub use Rattle.nit_perform.proofs.Basics.{CaptureModel, ClipPassModel, Configuration, End, Entry}
-pub use Rattle.nit_perform.proofs.Basics.{Err, File, HasEnded, HasFilmed, HasPlayed, HasRun, HasRunClips}
+pub use Rattle.nit_perform.proofs.Basics.{Err, File, HasEnded, HasFilmed, HasRun, HasRunClips}
 pub use Rattle.nit_perform.proofs.Basics.{HaveTables, IsRunOf, put_state_at}
 pub use Rattle.nit_perform.proofs.Basics.{InputLine, IsClipListText, IsDoneUser, IsFilmOf, IsGlass}
 pub use Rattle.nit_perform.proofs.Basics.{IsJournal, IsLegal, IsUtf8, IsWhole, IsWord, JournalModel}
@@ -40,7 +40,7 @@ pub use Rattle.nit_perform.proofs.PerClient.{at_member, blank_glass, can_take_la
 pub use Rattle.nit_perform.proofs.PerClient.{inked, left_tables, one_made, plan_made}
 pub use Rattle.nit_perform.proofs.PerClient.{plans_long, set_up}
 pub use Rattle.nit_perform.proofs.PutLemmas.{next_goes, next_stays, no_put, no_text}
-pub use Rattle.nit_perform.proofs.RoomRunLemmas.{ended_as, few_words, first_zeros}
 pub use Rattle.nit_perform.proofs.RoomRunLemmas.{all_done, beside_leaves, is_ready, known_whole}
 pub use Rattle.nit_perform.proofs.RoomRunLemmas.{last_is, one_key, setting, setup_in, user_done}
-pub use Rattle.nit_perform.proofs.RunLemmas.{PutsLast, played, run_leaves}
+pub use Rattle.nit_perform.proofs.RunLemmas.{PutsLast, run_leaves}
+pub use Rattle.nit_perform.proofs.StillRun.{alone_leaves, ended_as, is_ready_alone}

@@ -11,5 +11,6 @@ pub mod PerClient
 pub mod PutLemmas
 pub mod RoomRunLemmas
 pub mod RunLemmas
+pub mod StillRun
 pub mod Basics
 pub mod Lemmas

@@ -63,26 +63,6 @@ all_push P (z ∷ xs) x all here (suc k) y at = all_push (λ n. P (suc n)) xs x 
 
 -- ---- the buffers
 
--- the first of words that are all 0 are as many zeros
-pub first_zeros : (n m : ℕ) (words : List ℕ) → words ≡ zeros m → n ≤ m
-    → (n ≡ length (take n words)) × (take n words ≡ zeros n)
-first_zeros n m words are few =
-    let long : length words ≡ m = ap (λ (ws : List ℕ). length ws) are ∙ length-zeros m in
-    let taken : length (take n words) ≡ n = length-take-le n words (omega (arith, long, few)) in (
-      sym taken,
-      ext_get_or 0 (take n words) (zeros n) (taken ∙ sym (length-zeros n))
-          (λ i inside. get_or-take n words i 0 (omega (arith, taken, inside))
-          ∙ ap (λ (ws : List ℕ). get_or ws i 0) are ∙ zero_at m i ∙ sym (zero_at n i)),
-    )
-
--- the table of a client has at most as many words as the largest
-pub few_words : {count : ℕ} (config : Configuration) (clients : List Member) (k : ℕ) (other : Member) (n most : ℕ)
-    → clients ≡ config.clients → count ≡ length config.clients → k < count
-    → n ≡ table_size (slice_index_or clients k other).donation → All (λ m. table_size m.donation ≤ most) clients
-    → n ≤ most
-few_words config clients k other n most are each inside size all =
-    rw size (all k other (omega (arith, ap (λ (ms : List Member). length ms) are, each, inside)))
-
 -- one key more
 pub one_key : (config : Configuration) (scripts : List (List Line)) (k : ℕ) (keys keys' : List End) (key : End)
     → length keys ≡ k → AreKeysBlank config scripts keys
@@ -238,13 +218,6 @@ last_is more parts config entries journal size out text same sized ended shown b
 
 true_false : true ≡ false → ⊥
 true_false e = cc
-
--- what holds of an opening holds of one that is equal
-pub ended_as : {S : Type 0} {shown : S → StoreModel} {parts parts' : OpeningParts} {seen : List Entry}
-    {raws : List (List ℕ)} {s : SceneModel End} {old new : Desk S} → parts ≡ parts'
-    → HasEnded shown parts seen raws s old new → HasEnded shown parts' seen raws s old new
-ended_as {shown = shown} {seen = seen} {raws = raws} {s = s} {old = old} {new = new} same ended =
-    subst (λ (q : OpeningParts). HasEnded shown q seen raws s old new) same ended
 
 pub beside_leaves : {S : Type 0} (shown : S → StoreModel) (parts : OpeningParts) (known known' : List Entry)
     (raws : List (List ℕ)) (first new : StoreModel) (scene : SceneModel End) {desk left : Desk S} (ran : Ran)

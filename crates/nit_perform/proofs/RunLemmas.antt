@@ -1,8 +1,7 @@
 -- What a run leaves: its journal, and its files.
 use Rattle.std.proofs.Common.{◌≡◌, ◌∙◌, ℕ, ◌+◌, true, false, List, [], ◌∷◌, ◌++◌, map, refl, sym}
-use Rattle.std.proofs.Common.{ap, append_assoc, subst, arith}
+use Rattle.std.proofs.Common.{ap, subst, arith}
 use Rattle.nit_perform.proofs.Basics.{AreOutputs, AreRoundsOf, Configuration, Entry, File, HasRun}
-use Rattle.nit_perform.proofs.Basics.{HasPlayed}
 use Rattle.nit_perform.proofs.Basics.{HaveTables, InputLine, IsJournal, IsLegal, IsRoundsRun}
 use Rattle.nit_perform.proofs.Basics.{TakesLast}
 use Rattle.nit_perform.proofs.Basics.{IsWhole, Line, PutState, PutsAll, PutsNext, PutsShots, Ran}
@@ -41,33 +40,53 @@ abbrev pub PutsLast : State → List Sight → PutState → PutState → Type 0
 PutsLast s owns at new = (tables : ℕ → List ℕ) → HaveTables owns tables
     → PutsNext (final_name, picture_by s tables) at new
 
--- a run by rounds has put its pictures
-pub played : (s : Setup) (start mid last : SceneModel Sight) (owns : List Sight) (first : StoreModel)
-    (at final : PutState)
-    → WholeLaw → OneMore → start.config ≡ s.config
+pub run_leaves : (s : Setup) (start mid last : SceneModel Sight) (owns : List Sight) (first new : StoreModel)
+    (at final : PutState) (ran : Ran)
+    → WholeLaw → OneMore → s.beside ≡ false → s.made ≡ [] → start.config ≡ s.config
     → IsRoundsRun s.scripts s.input start mid owns → TakesLast mid last
     → PutsShots start.config s.scripts (rounds s.scripts s.input) (unrefused first) at
-    → PutsLast (state_now mid) owns at final → HasPlayed first s last final
-played s start mid last owns first at final whole more begun run taken shots_ puts_last =
-    record {
-      config = taken.config ∙ config;
-      journal = record {
-        legal = subst (λ (c : Configuration). IsLegal c last.entries) (taken.config ∙ config) taken.legal;
-        whole = subst (λ (j : List Entry). IsWhole (map calls_to_make s.scripts) (user_actions_to_do s.input) j)
-            (sym taken.recorded) (whole s.scripts s.input mid.entries run.entries);
-        rounds = λ is. (mid.entries, run.entries, taken.recorded);
-      };
-      puts = puts_both files (last_file ∷ []) (unrefused first) at final shots_put (final, last_put, refl);
+    → PutsLast (state_now mid) owns at final
+    → PutsAll (text_files s last.entries) final (put_state_of_run new ran.fault)
+    → ran.journal.items ≡ last.entries → ran.frames ≡ shots last.entries + 1 → HasRun first s new ran
+run_leaves s start mid last owns first new at final ran whole more alone none begun run taken shots_ puts_last
+    puts_texts journal frames = record {
+      journal = subst (λ (j : List Entry). IsJournal s j) (sym journal) is_journal;
+      frames = frames ∙ ap (λ (j : List Entry). shots j + 1) (sym journal);
+      outputs = outputs;
+      are = subst (λ (j : List Entry). AreOutputs s j outputs) (sym journal) (
+        files,
+        record {
+          by_rounds = λ is. refl;
+          beside = λ together. absurd (not_both (sym alone ∙ together));
+          history = λ together. absurd (not_both (sym alone ∙ together));
+        },
+        sym (ap (λ (made : List File). made ++ outputs) none),
+      );
+      puts = all_puts;
     }
   where
+    not_both : false ≡ true → ⊥
+    not_both e = cc
+
     files : List File
     files = shots_of s.config s.scripts s.input
 
     last_file : File
     last_file = (final_name, final_picture s last.entries)
 
+    outputs : List File
+    outputs = files ++ last_file ∷ text_files s last.entries
+
     config : mid.config ≡ s.config
     config = run.config ∙ begun
+
+    is_journal : IsJournal s last.entries
+    is_journal = record {
+      legal = subst (λ (c : Configuration). IsLegal c last.entries) (taken.config ∙ config) taken.legal;
+      whole = subst (λ (j : List Entry). IsWhole (map calls_to_make s.scripts) (user_actions_to_do s.input) j)
+          (sym taken.recorded) (whole s.scripts s.input mid.entries run.entries);
+      rounds = λ is. (mid.entries, run.entries, taken.recorded);
+    }
 
     tables : HaveTables owns (tables_left s.config s.scripts)
     tables = subst (λ (c : Configuration). HaveTables owns (tables_left c s.scripts)) begun
@@ -89,36 +108,6 @@ played s start mid last owns first at final whole more begun run taken shots_ pu
     last_put = subst (λ (p : List ℕ). PutsNext (final_name, p) at final) picture_is
         (puts_last (tables_left s.config s.scripts) tables)
 
--- and with its texts behind them it went to its end
-pub run_leaves : (s : Setup) (scene : SceneModel Sight) (first new : StoreModel) (now : PutState) (ran : Ran)
-    → s.beside ≡ false → s.made ≡ [] → HasPlayed first s scene now
-    → PutsAll (text_files s scene.entries) now (put_state_of_run new ran.fault)
-    → ran.journal.items ≡ scene.entries → ran.frames ≡ shots scene.entries + 1 → HasRun first s new ran
-run_leaves s scene first new now ran alone none has texts journal frames =
-    record {
-      journal = subst (λ (j : List Entry). IsJournal s j) (sym journal) has.journal;
-      frames = frames ∙ ap (λ (j : List Entry). shots j + 1) (sym journal);
-      outputs = pictures ++ text_files s scene.entries;
-      are = subst (λ (j : List Entry). AreOutputs s j (pictures ++ text_files s scene.entries)) (sym journal) (
-        shots_of s.config s.scripts s.input,
-        record {
-          by_rounds = λ is. refl;
-          beside = λ together. absurd (not_both (sym alone ∙ together));
-          history = λ together. absurd (not_both (sym alone ∙ together));
-        },
-        append_assoc (shots_of s.config s.scripts s.input) (last_file ∷ []) (text_files s scene.entries)
-            ∙ sym (ap (λ (made : List File). made ++ (shots_of s.config s.scripts s.input ++ last_file
-            ∷ text_files s scene.entries)) none),
-      );
-      puts = puts_both pictures (text_files s scene.entries) (unrefused first) now (put_state_of_run new ran.fault)
-          has.puts texts;
-    }
-  where
-    not_both : false ≡ true → ⊥
-    not_both e = cc
-
-    last_file : File
-    last_file = (final_name, final_picture s scene.entries)
-
-    pictures : List File
-    pictures = shots_of s.config s.scripts s.input ++ last_file ∷ []
+    all_puts : PutsAll outputs (unrefused first) (put_state_of_run new ran.fault)
+    all_puts = puts_both files (last_file ∷ text_files s last.entries) (unrefused first) at
+        (put_state_of_run new ran.fault) shots_put (final, last_put, puts_texts)

@@ -3,6 +3,7 @@ pub use Rattle.nit_actor.specs.ClipRole.{ClipRole, IsPairIn, PairRole, clip_role
 pub use Rattle.nit_rounds.specs.Drawing.{Drawing, PutsShots, after_turn, drawn, drawn_shot}
 pub use Rattle.nit_rounds.specs.Drawing.{opening_drawing, picture_of, shot_frames_of, shots_after}
 pub use Rattle.nit_rounds.specs.Drawing.{shots_of, word_from, words_of}
+pub use Rattle.nit_actor.specs.IdleUser.{StepTogether, idle_user}
 pub use Rattle.nit_actor.specs.History.{AreOfOneHistory}
 pub use Rattle.nit_actor.specs.Pictures.{AreNearShots, IsNearPicture, IsPictureAmong}
 pub use Rattle.nit_actor.specs.Pictures.{PutsShotsBehind}

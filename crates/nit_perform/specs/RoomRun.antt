@@ -1,10 +1,11 @@
--- A run in a room: what it begins with, and what its user knows at its end.
+-- A run in a room: what it begins with, with its clients beside each other or one alone, and what
+-- its user knows at its end.
 use Rattle.std.specs.Prelude.{◌∷◌, ◌≡◌, ◌++◌, ℕ, ◌*◌, ◌≤◌, List, [], All, length, map, slice_get}
 use Rattle.std.specs.Prelude.{Some, vec_len, vec_capacity}
 use Rattle.nit_perform.specs.Below.{Belongs, BufferName, Configuration, End, Entry, InputLine}
 use Rattle.nit_perform.specs.Below.{IsOpen, Line, Member, Memory, OpeningParts, PassModel}
-use Rattle.nit_perform.specs.Below.{RoomModel, UserBelongs, UserPassModel}
-use Rattle.nit_perform.specs.Below.{donation_of, new_sight, picture_length, script_in}
+use Rattle.nit_perform.specs.Below.{RoomModel, StepTogether, UserBelongs, UserPassModel}
+use Rattle.nit_perform.specs.Below.{donation_of, idle_user, new_sight, picture_length, script_in}
 use Rattle.nit_perform.specs.Below.{user_actions_of}
 
 -- the key of this number is to words 0, one for each place of the table of its session, with the
@@ -53,3 +54,18 @@ pub record IsReady (parts : OpeningParts) (r : RoomModel) (ps : List PassModel)
 abbrev pub IsKnownWhole : List Entry → List Entry → Type 0
 IsKnownWhole known journal =
     (rest : List Entry) × (journal ≡ known ++ rest) × (user_actions_of rest ≡ [])
+
+-- there is one client, and the user does nothing but end the client's phases
+abbrev pub IsAlone : List (List Line) → List InputLine → Type 0
+IsAlone scripts lines =
+    (script : List Line) × (scripts ≡ script ∷ []) × (lines ≡ idle_user script)
+
+-- The run of this opening can begin, it has one client whose user does nothing, and no actor has
+-- done a line.
+pub record IsReadyAlone (parts : OpeningParts) (r : RoomModel) (ps : List PassModel)
+    (u : UserPassModel)
+    : Type 0 where
+  pub ready : IsReady parts r ps u
+  pub alone : IsAlone parts.scripts parts.input
+  pub one_client : length parts.config.clients ≡ 1
+  pub step : (p : PassModel) → slice_get ps 0 ≡ Some p → StepTogether r p u

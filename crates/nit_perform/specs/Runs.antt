@@ -1,11 +1,9 @@
 -- What a run leaves: its journal, and its files up to a put that was refused.
-use Rattle.std.specs.Prelude.{◌≡◌, ◌+◌, ◌++◌, ◌∷◌, [], Bool, true, false, List, Option, option_map}
-use Rattle.std.specs.Prelude.{Result, Ok}
+use Rattle.std.specs.Prelude.{◌≡◌, ◌+◌, Bool, true, false, List, Option, option_map, Result, Ok}
 use Rattle.std.specs.Prelude.{Err}
 use Rattle.nit_perform.specs.Below.{AreOutputs, Entry, File, IsJournal, NoMemory, PutFault}
 use Rattle.nit_perform.specs.Below.{PutRefusal, PutState, PutsAll, Ran, Setup, StoreModel}
-use Rattle.nit_perform.specs.Below.{SceneModel, Sight, final_name, final_picture, output_name}
-use Rattle.nit_perform.specs.Below.{shots, shots_of, unrefused}
+use Rattle.nit_perform.specs.Below.{output_name, shots, unrefused}
 use Rattle.nit_events.specs.declared.entry.Entry.TheVariants as entry
 
 -- the put that was refused
@@ -31,15 +29,6 @@ pub record IsRunOf (journal : List Entry) (fault : Option PutFault) (ran : Ran) 
 pub record IsSameRun (before after' : Ran) : Type 0 where
   pub journal : after'.journal.items ≡ before.journal.items
   pub frames : after'.frames ≡ before.frames
-
--- The run went by rounds up to this scene, and put its pictures: those of the shots, and the last.
-pub record HasPlayed (old : StoreModel) (s : Setup) (scene : SceneModel Sight) (now : PutState)
-    : Type 0 where
-  pub config : scene.config ≡ s.config
-  pub journal : IsJournal s scene.entries
-  pub puts : PutsAll
-      (shots_of s.config s.scripts s.input ++ (final_name, final_picture s scene.entries) ∷ [])
-      (unrefused old) now
 
 -- the run went to its end
 pub record HasRun (old : StoreModel) (s : Setup) (new : StoreModel) (ran : Ran) : Type 0 where

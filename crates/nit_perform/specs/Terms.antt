@@ -17,7 +17,7 @@ pub use Rattle.nit_perform.specs.Below.{PutError, PutFault, PutFiles, PutIn, Put
 pub use Rattle.nit_perform.specs.Below.{PutsAll, PutsFile, PutsNext, PutsShots, PutsShotsBehind}
 pub use Rattle.nit_perform.specs.Below.{PutsUnless, Ran, Region, Role, RoomModel, RunFiles}
 pub use Rattle.nit_perform.specs.Below.{SceneModel, Session, Setup, ShotFrame, ShotsBehind}
-pub use Rattle.nit_perform.specs.Below.{ShowsEach, ShowsNest, Sight, Size, State}
+pub use Rattle.nit_perform.specs.Below.{ShowsEach, ShowsNest, Sight, Size, State, StepTogether}
 pub use Rattle.nit_perform.specs.Below.{StoreModel, TooLong, UnlessMemory, UserAction, UserBelongs}
 pub use Rattle.nit_perform.specs.Below.{UserPassModel, UserRole, Vec, View, Word, WriteFaulted}
 pub use Rattle.nit_perform.specs.Below.{action_of, actions_of_turns, after, after_turn, among}
@@ -32,7 +32,7 @@ pub use Rattle.nit_perform.specs.Below.{film_name, film_of, final_name, final_pi
 pub use Rattle.nit_perform.specs.Below.{first_clip_pass, first_forbidden, first_pass, first_session}
 pub use Rattle.nit_perform.specs.Below.{first_state, frame, frame_answer, frame_lines, frames_of}
 pub use Rattle.nit_perform.specs.Below.{generated, generated_files, glass_after, glass_in}
-pub use Rattle.nit_perform.specs.Below.{index_at, ink, inked_sight, inner_journal_name}
+pub use Rattle.nit_perform.specs.Below.{idle_user, index_at, ink, inked_sight, inner_journal_name}
 pub use Rattle.nit_perform.specs.Below.{input_by_user, input_lines_of, input_phases}
 pub use Rattle.nit_perform.specs.Below.{into_iter_items, is_label, is_label_byte, is_phase}
 pub use Rattle.nit_perform.specs.Below.{is_shot_line, is_some, is_too_long, journal_file}
@@ -65,10 +65,10 @@ pub use Rattle.nit_perform.specs.InnerRun.{NestState, NestsRun, TakesAll, TakesN
 pub use Rattle.nit_perform.specs.LastPicture.{AreAllDone, CanTakeLast, HasEnded, HasPictureRoom}
 pub use Rattle.nit_perform.specs.Below.{IsHistory, IsPictureAmong, AreOfOneHistory, buffers_of}
 pub use Rattle.nit_perform.specs.LastPicture.{IsKnownHistory, TakesLast, put_state_at}
-pub use Rattle.nit_perform.specs.RoomRun.{AreBuffers, AreKeysBlank, IsKnownWhole, IsMemory}
-pub use Rattle.nit_perform.specs.RoomRun.{IsReady, IsSupplied}
+pub use Rattle.nit_perform.specs.RoomRun.{AreBuffers, AreKeysBlank, IsAlone, IsKnownWhole, IsMemory}
+pub use Rattle.nit_perform.specs.RoomRun.{IsReady, IsReadyAlone, IsSupplied}
 pub use Rattle.nit_perform.specs.Below.{IsMember, zeros}
 pub use Rattle.nit_perform.specs.RoundsOpening.{AreInkedPlans, AreScriptsOf, IsRoundsOpening}
 pub use Rattle.nit_perform.specs.RoundsOpening.{glasses_of, plans_of}
-pub use Rattle.nit_perform.specs.Runs.{HasPlayed, HasRun, IsRunOf, IsSameRun, Runs, is_shot_entry}
+pub use Rattle.nit_perform.specs.Runs.{HasRun, IsRunOf, IsSameRun, Runs, is_shot_entry}
 pub use Rattle.nit_perform.specs.Runs.{put_state_of_run, refusal_of}

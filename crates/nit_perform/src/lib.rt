@@ -7,7 +7,7 @@
 //! journal, up to the refused one.
 //!
 //! - [`run_turns`] goes by rounds on one scene. It puts each shot, the last picture and the texts.
-//! - [`run_pictures`] does the same, and puts the pictures alone.
+//! - [`run_one`] does one client whose user does nothing, and puts the last picture.
 //! - [`run_beside`] has each client on a thread of its own, over a hall in which the calls are
 //!   served one at a time. Each client draws on words of its own without a lock; the user is on the
 //!   calling thread.
@@ -23,6 +23,7 @@
 #![tactic(auto)]
 
 mod added;
+mod alone;
 mod beside;
 mod capture;
 mod clips;
@@ -42,6 +43,7 @@ mod texts;
 mod turns;
 
 pub use added::put_inner_journal;
+pub use alone::run_one;
 pub use beside::run_beside;
 pub use capture::run_filmed;
 pub use clips::run_with_clips;
@@ -50,4 +52,4 @@ pub use generated::put_files;
 pub use host::ThreadHost;
 pub use inner::{Inner, nest_run};
 pub use ran::{PutFault, Ran};
-pub use turns::{run_pictures, run_turns};
+pub use turns::run_turns;

@@ -1,12 +1,11 @@
 //! The memory of a run whose clients are beside each other, all of which is taken before the first
 //! thread.
 
-ghost use Rattle.std.specs.Prelude.{All, IfOk, vec_len, ◌≡◌, ◌≤◌, map};
-ghost use Rattle.nit_perform.specs.Terms.{AreBuffers, AreScriptsOf, IsConfiguration, IsMember};
-ghost use Rattle.nit_perform.specs.Terms.{IsMemory, most_words, table_size, zeros};
+ghost use Rattle.std.specs.Prelude.{IfOk, vec_len, ◌≡◌, map};
+ghost use Rattle.nit_perform.specs.Terms.{AreBuffers, AreScriptsOf, IsConfiguration, IsMemory};
 
-use crate::opening::{blank_frame, blank_text, table_words};
-use nit_config::{Config, Member};
+use crate::opening::{blank_frame, blank_text};
+use nit_config::Config;
 use nit_pixels::{Canvas, Key, PixelBuffer};
 use nit_rect::NoMemory;
 use nit_script::Client;
@@ -52,7 +51,6 @@ pub fn flags(alloc: Global, count: usize) -> Result<Vec<AtomicBool>, NoMemory>
 }
 
 /// A buffer for each client, in order, with a word for each place of its table, all 0, and its key.
-/// One list of zeros serves all tables, and is given back here.
 pub fn buffers_of(
     alloc: Global,
     config: &Config,
@@ -63,39 +61,15 @@ pub fn buffers_of(
         (λ made. AreBuffers config.now scripts.now made.0.items made.1.items) }
 {
     let clients = config.clients.as_slice();
-    let zeros = zero_words(alloc, most_table_words(clients) as usize)?;
     let mut buffers = Vec::new(alloc);
     let mut keys = Vec::new(alloc);
     for (sid, script) in scripts.iter().enumerate() {
         let donation = clients[sid].donation;
-        let words = &zeros[..table_words(donation) as usize];
-        let (buffer, key) = PixelBuffer::new(alloc, sid as u32, script, donation, words)?;
+        let (buffer, key) = PixelBuffer::new(alloc, sid as u32, script, donation)?;
         buffers.push(buffer)?;
         keys.push(key)?;
     }
     Ok((buffers, keys))
-}
-
-/// How many words the largest table of these sessions has.
-fn most_table_words(clients: &[Member]) -> u32
-    requires { All IsMember clients.now }
-    ensures most { result ≤ most_words }
-    ensures all { All (λ m. table_size m.donation ≤ result) clients.now }
-{
-    let mut most = 0;
-    for sid in 0..clients.len() {
-        most = most.max(table_words(clients[sid].donation));
-    }
-    most
-}
-
-/// So many words that are 0.
-#[tactic(auto, unfolding(nit_word::specs::Zeros::zeros))]
-fn zero_words(alloc: Global, count: usize) -> Result<Vec<u64>, NoMemory>
-    requires { count ≤ most_words }
-    ensures { IfOk result (λ v. v.items ≡ zeros count) }
-{
-    Ok(vec![in alloc; 0u64; count]?)
 }
 
 /// The owner's end of each buffer.

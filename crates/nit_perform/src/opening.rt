@@ -3,8 +3,7 @@
 ghost use Rattle.std.specs.Prelude.{◌≡◌, ◌+◌, IfOk, length, All, List, ◌≤◌, ◌*◌};
 ghost use Rattle.nit_perform.specs.Terms.{AreInkedPlans, AreScriptsOf, IsConfiguration};
 ghost use Rattle.nit_perform.specs.Terms.{IsDonation, IsPlanOf, IsRoundsOpening, IsWord, Line};
-ghost use Rattle.nit_perform.specs.Terms.{glass_after, glasses_of, most_words};
-ghost use Rattle.nit_perform.specs.Terms.{picture_length, plans_of, table_size};
+ghost use Rattle.nit_perform.specs.Terms.{glass_after, glasses_of, picture_length, plans_of};
 
 use nit_config::Config;
 use nit_hall::line_count;
@@ -15,12 +14,9 @@ use nit_report::ppm_len;
 use nit_rounds::laws::each_line_once;
 use nit_scene::Scene;
 use nit_script::{Client, Input};
-use nit_slots::room;
+use nit_slots::table_size;
 use nit_word::Inked;
 use std::alloc::Global;
-
-/// How many units a word of a session's table costs.
-const WORD_UNITS: u32 = 8;
 
 /// A run before its first round: the scene, and for each client its plan and its own glass; and the
 /// room for the bytes of a picture's file.
@@ -102,16 +98,7 @@ fn glass(alloc: Global, sid: u32, plan: &Plan, donation: u32) -> Result<Inked, N
 {
     one_more_line();
     let ink = plan.ink().to_vec(alloc)?;
-    Ok(Inked::blank(alloc, sid, table_words(donation) as usize, ink)?)
-}
-
-/// How many words the table of a session has that opens with this donation.
-pub fn table_words(donation: u32) -> u32
-    requires { IsDonation donation }
-    ensures size { result ≡ table_size donation }
-    ensures range { (1 ≤ result) × (result ≤ most_words) }
-{
-    room(donation) / WORD_UNITS
+    Ok(Inked::blank(alloc, sid, table_size(donation) as usize, ink)?)
 }
 
 /// A word for each pixel of the screen.

@@ -20,6 +20,7 @@ pub use Rattle.nit_rounds.proofs.LinesDone.{client_done, client_lines, user_done
 pub use Rattle.nit_rounds.proofs.Names.{name_is_text}
 pub use Rattle.nit_rounds.proofs.NextActor.{all_done, client_turn, step_ends, to_actor, to_phase}
 pub use Rattle.nit_rounds.proofs.NextActor.{to_round, user_turn}
+pub use Rattle.nit_rounds.proofs.OneClient.{by_rounds_alone}
 pub use Rattle.nit_rounds.proofs.PlaceLemmas.{client_end, client_inside, client_long, user_end}
 pub use Rattle.nit_rounds.proofs.PlaceLemmas.{user_inside, user_long}
 pub use Rattle.nit_rounds.proofs.QuietGlasses.{same_glasses, same_own, same_seen}

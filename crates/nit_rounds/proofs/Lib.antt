@@ -28,6 +28,7 @@ pub mod RoundWalks
 pub mod WholeRounds
 pub mod ShotFileLemmas
 pub mod ShotFiles
+pub mod OneClient
 pub mod ForCallers
 pub mod Basics
 pub mod Lemmas

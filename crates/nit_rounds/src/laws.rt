@@ -84,3 +84,15 @@ pub fn shots_as_replayed()
         → AreShotsOf (IsDrawnPicture config scripts input) (journal ++ entry.Final ∷ [])
         (shots_of config scripts input) }
 {}
+
+/// Where there is one client, and the input script has no device event and no shot, a legal and
+/// whole journal is by rounds: its entries are the calls of the client's script, in order, and then
+/// the last picture.
+pub fn one_client_goes_by_rounds()
+    ensures { (config : Configuration) (script : List Line) (input : List InputLine)
+        (journal : List Entry)
+        → length config.clients ≡ 1 → user_actions_to_do input ≡ [] → IsLegal config journal
+        → IsWhole (map calls_to_make (script ∷ [])) (user_actions_to_do input) journal
+        → (entries : List Entry) × AreRoundsOf entries (script ∷ []) input
+        × (journal ≡ entries ++ entry.Final ∷ []) }
+{}

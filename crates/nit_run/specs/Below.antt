@@ -2,6 +2,7 @@
 pub use Rattle.nit_rounds.specs.Drawing.{Drawing, after_turn, drawn, frame_of, opening_drawing}
 pub use Rattle.nit_rounds.specs.Drawing.{picture_of, shot_frames_of, shots_after, shots_of}
 pub use Rattle.nit_rounds.specs.Drawing.{word_from, words_of}
+pub use Rattle.nit_actor.specs.IdleUser.{idle_user}
 pub use Rattle.nit_actor.specs.History.{IsHeldPicture, AreOfOneHistory}
 pub use Rattle.nit_hall.specs.History.{IsHeld}
 pub use Rattle.nit_actor.specs.Pictures.{AreNearShots, IsNearPicture}

@@ -1,12 +1,11 @@
 -- What a run is made of.
 use Rattle.std.specs.Prelude.{◌≡◌, ◌⊎◌, ℕ, ◌≤◌, Bool, false, true, List, [], ◌∷◌, ◌++◌, length, map}
-use Rattle.std.specs.Prelude.{codes, count_by, replicate, Option, None}
+use Rattle.std.specs.Prelude.{codes, Option, None}
 use Rattle.nit_run.specs.Below.{AllByRecursion, ClipLine, Configuration, File, FitsInputLine}
-use Rattle.nit_run.specs.Below.{FitsLine, InputLine, IsConfiguration, Line, client_script, is_phase}
+use Rattle.nit_run.specs.Below.{FitsLine, InputLine, IsConfiguration, Line, client_script}
 use Rattle.nit_run.specs.Below.{client_text, clip_phases, config_text, generated_configuration}
-use Rattle.nit_run.specs.Below.{input_phases, most_lines, phases, range_with_len}
+use Rattle.nit_run.specs.Below.{idle_user, input_phases, most_lines, phases, range_with_len}
 use Rattle.nit_run.specs.Below.{script_name, still_configuration, user_script, user_text}
-use Rattle.nit_script.specs.declared.line.InputLine.TheVariants as input
 
 -- a configuration, the clients' scripts in its order, and the input script
 pub record RunFiles : Type 0 where
@@ -28,10 +27,6 @@ pub record Setup : Type 0 where
   pub made : List File
   pub inner : Option RunFiles
   pub clips : List (List ClipLine)
-
--- the user of a picture, who does nothing but end the phases of the client's script
-abbrev pub idle_user : List Line → List InputLine
-idle_user lines = replicate (count_by is_phase lines) input.Phase
 
 -- the setup of a picture of one client's script, by rounds and without texts
 abbrev pub still_setup : ℕ → ℕ → List Line → Setup

@@ -1,5 +1,5 @@
 -- The words of the library and of the crates below that are used here, and the crate's plain types.
-pub use Rattle.nit_run.specs.Setup.{idle_user}
+pub use Rattle.nit_actor.specs.IdleUser.{idle_user}
 pub use Rattle.nit_audit.specs.GoodEntries.{IsGood}
 pub use Rattle.nit_audit.specs.Verdict.{IsVerdict}
 pub use Rattle.nit_audit.specs.declared.auditing.Verdict.{Verdict}

@@ -1,7 +1,7 @@
 -- The words of the library and of the crates below that are used here, and the crate's plain types.
 pub use Rattle.nit_rounds.specs.Drawing.{Drawing, after_turn, drawn_shot, frame_of, opening_drawing}
 pub use Rattle.nit_rounds.specs.Drawing.{picture_of, shot_frames_of, shots_after, shots_of}
-pub use Rattle.nit_run.specs.Setup.{idle_user}
+pub use Rattle.nit_actor.specs.IdleUser.{idle_user}
 pub use Rattle.nit_actor.specs.Pictures.{IsNearPicture}
 pub use Rattle.nit_rounds.specs.Rounds.{rounds}
 pub use Rattle.nit_rounds.specs.RoundsRun.{final_name, picture_name, shot_name}
@@ -43,6 +43,7 @@ pub use Rattle.nit_nested.specs.declared.error.NestError.TheVariants.{TooLong}
 pub use Rattle.nit_perform.specs.CaptureRun.{HasFilmed, begun_of}
 pub use Rattle.nit_perform.specs.ClipRun.{HasRunClips, clips_setup_of}
 pub use Rattle.nit_perform.specs.InnerRun.{NestsRun}
+pub use Rattle.nit_perform.specs.RoomRun.{IsAlone}
 pub use Rattle.nit_perform.specs.Runs.{HasRun, put_state_of_run, refusal_of}
 pub use Rattle.nit_perform.specs.declared.inner.Inner.{Inner}
 pub use Rattle.nit_perform.specs.declared.ran.PutFault.{PutFault}

@@ -16,7 +16,7 @@ pub use Rattle.nit_top.specs.Below.{FitsLine, Gen, Gets, HasDifferentNames, HasF
 pub use Rattle.nit_top.specs.Below.{HasPixels, HasRead, HasRun}
 pub use Rattle.nit_top.specs.Below.{HasRunClips, HaveOneScreen, HaveSameEvents}
 pub use Rattle.nit_top.specs.Below.{Headline, HoldsAtEnd, HoldsInner, IfSome, InnerFiles, InputLine}
-pub use Rattle.nit_top.specs.Below.{IsAlwaysToldSo}
+pub use Rattle.nit_top.specs.Below.{IsAlone, IsAlwaysToldSo}
 pub use Rattle.nit_top.specs.Below.{IsClipList}
 pub use Rattle.nit_top.specs.Below.{IsConfiguration, IsInnerJournal}
 pub use Rattle.nit_top.specs.Below.{IsJournal, IsJournalFault, IsJournalText, IsLegal}

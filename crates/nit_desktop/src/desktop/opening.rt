@@ -14,15 +14,12 @@ use nit_events::Call;
 use nit_journal::laws::live_sessions_stay;
 use nit_rect::NoMemory;
 use nit_screen::Screen;
-use nit_slots::room;
+use nit_slots::table_size;
 use nit_word::Glass;
 use std::alloc::Global;
 
 /// How many entries a desktop serves: more than ever come.
 const MOST_ENTRIES: u64 = 1 << 62;
-
-/// How many units a word of a session's table costs.
-const WORD_UNITS: u32 = 8;
 
 impl<G: Glass + Drop> Desktop<G> {
     /// A screen of this configuration without any view. Each session is open, under its client's
@@ -97,7 +94,7 @@ fn close<G: Glass + Drop>(desktop: &mut Desktop<G>, sid: u32, donation: u32)
 {
     let mut blank = Blank {
         owner: sid,
-        size: (room(donation) / WORD_UNITS) as usize,
+        size: table_size(donation) as usize,
     };
     desktop.facts();
     desktop.call(sid, &Call::Close, &mut blank);

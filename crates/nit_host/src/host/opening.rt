@@ -1,9 +1,9 @@
 //! A host before its first step.
 
 ghost use Rattle.std.specs.Prelude.{◌≡◌, ◌≤◌, ◌<◌, IfOk, length, ℕ};
-ghost use Rattle.nit_host.specs.Terms.{AreBlank, AreHollow, AreSheets, IsConfiguration, IsDonation};
+ghost use Rattle.nit_host.specs.Terms.{AreBlank, AreHollow, AreSheets, IsConfiguration};
 ghost use Rattle.nit_host.specs.Terms.{blank_sheet, first_host, first_state, sheet_at, size_at};
-ghost use Rattle.nit_host.specs.Terms.{table_size, vacant_state};
+ghost use Rattle.nit_host.specs.Terms.{vacant_state};
 
 use crate::host::Host;
 use crate::host::area::Area;
@@ -11,11 +11,8 @@ use crate::sheet::Sheet;
 use nit_config::Config;
 use nit_desktop::Desktop;
 use nit_rect::NoMemory;
-use nit_slots::room;
+use nit_slots::table_size;
 use std::alloc::Global;
-
-/// How many units a word of a session's table costs.
-const WORD_UNITS: u32 = 8;
 
 impl Host {
     /// A host whose seats are all free. A seat has the donation, the layer and the setting on
@@ -63,7 +60,7 @@ fn sheets(alloc: Global, config: &Config) -> Result<Vec<Sheet>, NoMemory>
     let clients = config.clients.as_slice();
     let mut sheets = Vec::new(alloc);
     'seats: for seat in 0..clients.len() {
-        let size = table_size(clients[seat].donation);
+        let size = table_size(clients[seat].donation) as usize;
         sheets.push(Sheet::new(alloc, seat as u32, size)?)?;
     }
     Ok(sheets)
@@ -77,16 +74,8 @@ fn hollows(alloc: Global, config: &Config) -> Result<Vec<Sheet>, NoMemory>
     let clients = config.clients.as_slice();
     let mut hollows = Vec::new(alloc);
     'seats: for seat in 0..clients.len() {
-        let size = table_size(clients[seat].donation);
+        let size = table_size(clients[seat].donation) as usize;
         hollows.push(Sheet::hollow(alloc, seat as u32, size))?;
     }
     Ok(hollows)
-}
-
-/// How many words a session of this donation can ever pay for.
-fn table_size(donation: u32) -> usize
-    requires { IsDonation donation }
-    ensures { result ≡ table_size donation }
-{
-    (room(donation) / WORD_UNITS) as usize
 }

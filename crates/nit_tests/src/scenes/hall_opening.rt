@@ -1,10 +1,7 @@
 //! What a room is opened with, for a configuration and its scripts.
 
-ghost use Rattle.std.specs.Prelude.{◌≡◌, ◌≤◌, All, IfOk, length, map};
+ghost use Rattle.std.specs.Prelude.{◌≡◌, All, IfOk, length, map};
 ghost use Rattle.nit_word.specs.Inks.{IsWord};
-ghost use Rattle.nit_word.specs.Zeros.{zeros};
-ghost use Rattle.nit_slots.specs.Account.{IsDonation};
-ghost use Rattle.nit_plan.specs.ScriptWords.{table_size};
 ghost use Rattle.nit_config.specs.ConfigurationRanges.{IsConfiguration};
 ghost use Rattle.nit_hall.specs.Opening.{AreBlank, IsSetting};
 
@@ -13,11 +10,7 @@ use nit_pixels::{Canvas, Key, PixelBuffer};
 use nit_plan::{Plan, plan_of};
 use nit_rect::NoMemory;
 use nit_script::Client;
-use nit_slots::room;
 use std::alloc::Global;
-
-/// How many units a word of a session's table costs.
-const WORD_UNITS: u32 = 8;
 
 /// The plan of each client's script.
 pub fn plans_of(alloc: Global, config: &Config, scripts: &[Client]) -> Result<Vec<Plan>, NoMemory>
@@ -52,20 +45,11 @@ pub fn buffers_of(
     let mut keys = Vec::new(alloc);
     for (sid, script) in scripts.iter().enumerate() {
         let donation = clients[sid].donation;
-        let words = zero_words(alloc, table_words(donation) as usize)?;
-        let (buffer, key) = PixelBuffer::new(alloc, sid as u32, script, donation, &words)?;
+        let (buffer, key) = PixelBuffer::new(alloc, sid as u32, script, donation)?;
         buffers.push(buffer)?;
         keys.push(key)?;
     }
     Ok((buffers, keys))
-}
-
-/// So many words that are 0.
-#[tactic(auto, unfolding(nit_word::specs::Zeros::zeros))]
-fn zero_words(alloc: Global, count: usize) -> Result<Vec<u64>, NoMemory>
-    ensures { IfOk result (λ v. v.items ≡ zeros count) }
-{
-    Ok(vec![in alloc; 0u64; count]?)
 }
 
 /// The owner's end of each buffer.
@@ -84,13 +68,4 @@ pub fn canvases_of<'a>(
         sid += 1;
     }
     Ok(canvases)
-}
-
-/// How many words the table of a session has that opens with this donation.
-fn table_words(donation: u32) -> u32
-    requires { IsDonation donation }
-    ensures size { result ≡ table_size donation }
-    ensures range { (1 ≤ result) × (result ≤ 1048576) }
-{
-    room(donation) / WORD_UNITS
 }

@@ -4,7 +4,6 @@ ghost use Rattle.nit_plan.specs.Plan.{IsPlanOf};
 ghost use Rattle.nit_plan.specs.Surface.{IsPaintedTo};
 ghost use Rattle.nit_pixels.specs.End.{new_sight};
 ghost use Rattle.nit_word.specs.Sight.{told_words};
-ghost use Rattle.nit_word.specs.Zeros.{zeros};
 
 use crate::checks::{must, same};
 use nit_pixels::{Canvas, Lens, PixelBuffer, Stages};
@@ -40,10 +39,7 @@ const BOARD: &str = "buffer 64 64\ncheck 0 0 64 64 FF0000 0000FF\nbuffer 64 64\n
 fn a_reader_sees_what_was_drawn(rt: HostRuntime) {
     let client = script(&rt, rt.alloc(), DOT);
     let plan = plan_of(rt.alloc(), &client, DONATION).expect(&rt, "a plan");
-    let zeros = blank(&rt, rt.alloc(), WORDS);
-    let (buffer, key) = PixelBuffer::new(rt.alloc(), 0, &client, DONATION, &zeros).expect(
-        &rt, "memory",
-    );
+    let (buffer, key) = PixelBuffer::new(rt.alloc(), 0, &client, DONATION).expect(&rt, "memory");
     let mut canvas = buffer.canvas(key);
     let mut lens = canvas.split();
     begun(&client, &plan, &canvas);
@@ -59,10 +55,7 @@ fn a_reader_sees_what_was_drawn(rt: HostRuntime) {
 fn a_reader_beside_the_owner_sees_each_colour_at_its_places(rt: HostRuntime) {
     let client = script(&rt, rt.alloc(), BOARD);
     let plan = plan_of(rt.alloc(), &client, DONATION).expect(&rt, "a plan");
-    let zeros = blank(&rt, rt.alloc(), WORDS);
-    let (buffer, key) = PixelBuffer::new(rt.alloc(), 0, &client, DONATION, &zeros).expect(
-        &rt, "memory",
-    );
+    let (buffer, key) = PixelBuffer::new(rt.alloc(), 0, &client, DONATION).expect(&rt, "memory");
     let mut canvas = buffer.canvas(key);
     let lens = canvas.split();
     begun(&client, &plan, &canvas);
@@ -78,10 +71,7 @@ fn a_reader_beside_the_owner_sees_each_colour_at_its_places(rt: HostRuntime) {
 fn a_watching_reader_sees_what_was_agreed_on(rt: HostRuntime) {
     let client = script(&rt, rt.alloc(), DOT);
     let plan = plan_of(rt.alloc(), &client, DONATION).expect(&rt, "a plan");
-    let zeros = blank(&rt, rt.alloc(), WORDS);
-    let (buffer, key) = PixelBuffer::new(rt.alloc(), 0, &client, DONATION, &zeros).expect(
-        &rt, "memory",
-    );
+    let (buffer, key) = PixelBuffer::new(rt.alloc(), 0, &client, DONATION).expect(&rt, "memory");
     let mut canvas = buffer.canvas(key);
     begun(&client, &plan, &canvas);
     do_line(&rt, &mut canvas, &client, &plan, 0);
@@ -95,14 +85,6 @@ fn a_watching_reader_sees_what_was_agreed_on(rt: HostRuntime) {
 /// The script that the text spells.
 fn script(rt: &impl Abort, alloc: Global, text: &str) -> Client {
     parse_client(alloc, text.as_bytes()).expect(rt, "a script")
-}
-
-/// So many words that are 0.
-#[tactic(auto, unfolding(nit_word::specs::Zeros::zeros))]
-fn blank(rt: &impl Abort, alloc: Global, count: usize) -> Vec<u64>
-    ensures { result.items ≡ zeros count }
-{
-    vec![in alloc; 0u64; count].expect(rt, "memory for words")
 }
 
 /// No line is done on the words of a new buffer.

@@ -7,7 +7,7 @@ ghost use Rattle.nit_top.specs.Terms.{generated, most_height, most_width, number
 use crate::report::finish::{Worked, ended_before_run, stop_after};
 use nit_actor::Gate;
 use nit_config::Config;
-use nit_perform::{ThreadHost, put_files, run_beside, run_pictures, run_turns};
+use nit_perform::{ThreadHost, put_files, run_beside, run_one, run_turns};
 use nit_rect::NoMemory;
 use nit_report::{gen_config, generate, generated_client_counts, generated_user_counts};
 use nit_run::Scripts;
@@ -40,7 +40,7 @@ pub fn still<S: Store>(
         Ok(read) => read,
         Err(stop) => return ended_before_run(alloc, stop),
     };
-    let Ok(ran) = run_pictures(alloc, &config, &[client], &input, store) else {
+    let Ok(ran) = run_one(alloc, &config, &[client], &input, store) else {
         return ended_before_run(alloc, nowhere(End::NoMemory));
     };
     Worked::after(ran, 1)

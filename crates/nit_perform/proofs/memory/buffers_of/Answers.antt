@@ -1,8 +1,7 @@
 use Rattle.std.proofs.Common.{◌≡◌, ◌∙◌, ◌+◌, ◌<◌, ◌++◌, ◌∷◌, [], ℕ, List, length, map, ap, sym}
 use Rattle.nit_perform.proofs.Lemmas.{BufferName, Configuration, End, Line, Member, at_member}
 use Rattle.nit_perform.proofs.Lemmas.{donation_of, get_or_default, length_push, map_push, new_sight}
-use Rattle.nit_perform.specs.Below.{zeros}
-use Rattle.nit_perform.proofs.Lemmas.{few_words, first_zeros, one_key, script_in, slice_index_or, subst}
+use Rattle.nit_perform.proofs.Lemmas.{one_key, script_in, slice_index_or, subst}
 use Rattle.nit_perform.proofs.memory.buffers_of.Goals as goal
 
 pub loop-sid-preserved : goal.loop-sid-preserved
@@ -36,17 +35,3 @@ loop-sid-preserved c =
           ∙ ap (new_sight k (script_in c.args.scripts.now k)) client)
           more;
     }
-
-pub slice_bounds-words-end : goal.slice_bounds-words-end
-slice_bounds-words-end c =
-    (first_zeros _ _ _ (c.deref.ensures.value ∙ c.in_ok-zeros.ensures) (few_words c.args.config.now
-    c.as_slice-clients.result.now c.loop-sid.sid c.index-clients-sid.result _ _ (c.as_slice-clients.ensures.value
-    ∙ ap (λ (x : Configuration). x.clients) c.config.view_is) c.requires.each c.loop-sid-test.true
-    c.table_words.ensures.size c.most_table_words.ensures.all)).0
-
-pub new-requires-clause-words : goal.new-requires-clause-words
-new-requires-clause-words c =
-    (first_zeros _ _ _ (c.deref.ensures.value ∙ c.in_ok-zeros.ensures) (few_words c.args.config.now
-    c.as_slice-clients.result.now c.loop-sid.sid c.index-clients-sid.result _ _ (c.as_slice-clients.ensures.value
-    ∙ ap (λ (x : Configuration). x.clients) c.config.view_is) c.requires.each c.loop-sid-test.true
-    c.table_words.ensures.size c.most_table_words.ensures.all)).1 ∙ ap zeros c.table_words.ensures.size

@@ -9,7 +9,7 @@ seats-preserved c =
     (one_hollow c.args.config.now c.seats.seat c.table_size-size.result c.seats.hollows.items c.hollow.result
     c.seats.invariant c.hollow.ensures.sight c.hollow.ensures.room
     (sized_at c.args.config.now c.as_slice-clients.result.now c.seats.seat _ _ (c.as_slice-clients.ensures.value
-    ∙ ap (λ (k : Configuration). k.clients) c.config.view_is) c.seats-test.true c.table_size-size.ensures))
+    ∙ ap (λ (k : Configuration). k.clients) c.config.view_is) c.seats-test.true c.table_size-size.ensures.size))
 
 pub returns : goal.returns
 returns c =

@@ -9,7 +9,7 @@ seats-preserved c =
     (one_room c.args.config.now c.seats.seat c.table_size-size.result c.seats.sheets.items c.in_ok-new.field-0
     c.seats.invariant c.in_ok-new.ensures.sight c.in_ok-new.ensures.room
     (sized_at c.args.config.now c.as_slice-clients.result.now c.seats.seat _ _ (c.as_slice-clients.ensures.value
-    ∙ ap (λ (k : Configuration). k.clients) c.config.view_is) c.seats-test.true c.table_size-size.ensures))
+    ∙ ap (λ (k : Configuration). k.clients) c.config.view_is) c.seats-test.true c.table_size-size.ensures.size))
 
 pub returns-clause-blank : goal.returns-clause-blank
 returns-clause-blank c =

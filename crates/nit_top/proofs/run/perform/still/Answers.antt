@@ -25,18 +25,21 @@ returns-in-Err g c =
     c.ended_before_run.ensures.stop
     c.ended_before_run.ensures.journal
 
-pub run_pictures-requires : goal.run_pictures-requires
-run_pictures-requires g c =
+pub run_one-requires-clause-runnable : goal.run_one-requires-clause-runnable
+run_one-requires-clause-runnable g c =
     let read = c.in-Ok.read in
     let h = c.in-Ok.ensures in
     rw (same_setup c.args.width c.args.height read.config read.client read.input h.config h.input)
     h.read.valid.runnable
 
+pub run_one-requires-clause-alone : goal.run_one-requires-clause-alone
+run_one-requires-clause-alone g c = (c.in-Ok.read.client, refl, c.in-Ok.ensures.input)
+
 pub returns-in_default : goal.returns-in_default
 returns-in_default g c =
     let h = c.in-Ok.ensures in
     performed_ends (Still c.args.width c.args.height c.args.script.now) (g.S.Store.shown c.args.store.now)
-    (g.S.Store.shown c.read_still.new.store) (g.S.Store.shown c.run_pictures.new.store)
+    (g.S.Store.shown c.read_still.new.store) (g.S.Store.shown c.run_one.new.store)
     (still_setup c.args.width c.args.height c.in-Ok.read.client) c.ended_before_run-in_default.result
     (λ s journal files are. refl, λ config. refl) h.read.asked h.read.valid (search rules)
 
@@ -45,11 +48,11 @@ returns g c =
     let read = c.in-Ok.read in
     let h = c.in-Ok.ensures in
     let s = still_setup c.args.width c.args.height read.client in
-    let ran = c.in-Ok-run_pictures.ran in
+    let ran = c.in-Ok-run_one.ran in
     let same = same_setup c.args.width c.args.height read.config read.client read.input h.config h.input in
-    let has = rw same at c.in-Ok-run_pictures.ensures in
+    let has = rw same at c.in-Ok-run_one.ensures in
     performed_ends (Still c.args.width c.args.height c.args.script.now) (g.S.Store.shown c.args.store.now)
-    (g.S.Store.shown c.read_still.new.store) (g.S.Store.shown c.run_pictures.new.store) s c.after.result
+    (g.S.Store.shown c.read_still.new.store) (g.S.Store.shown c.run_one.new.store) s c.after.result
     (λ s journal files are. refl, λ config. refl) h.read.asked h.read.valid
     (inl (record {
       ran = ran;

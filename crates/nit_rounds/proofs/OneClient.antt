@@ -1,0 +1,95 @@
+-- A run of one client, whose user does nothing but end phases, is by rounds.
+use Rattle.nit_rounds.proofs.Basics.{ActorLine, AreRoundsOf, Bool, ByClient, ByUser, Calls}
+use Rattle.nit_rounds.proofs.Basics.{Configuration, Entry, InputLine, IsLegal, IsWhole, LegalFrom}
+use Rattle.nit_rounds.proofs.Basics.{Line, LineTurn, List, State, [], action_of, actions_of_line}
+use Rattle.nit_rounds.proofs.Basics.{actions_of_turns, after, ap, arith, as_many_as_clients}
+use Rattle.nit_rounds.proofs.Basics.{calls_from, calls_of, calls_to_make, done, eq-eqb, false}
+use Rattle.nit_rounds.proofs.Basics.{first_state, input_by_user, input_lines_of, length, line_by}
+use Rattle.nit_rounds.proofs.Basics.{lines_of, map, ne_eqb, refl, rounds, suc, sym}
+use Rattle.nit_rounds.proofs.Basics.{user_actions_from, user_actions_of, user_actions_to_do}
+use Rattle.std.proofs.Common.{true, zero, ℕ, ◌++◌, ◌==◌, ◌∙◌, ◌∷◌, ◌≡◌, if◌then◌else◌}
+use Rattle.nit_journal.proofs.ForCallers.{as_many}
+use Rattle.nit_events.specs.declared.entry.Entry.TheVariants as entry
+use Rattle.nit_script.specs.declared.line.Line.TheVariants as line
+use Rattle.nit_script.specs.declared.line.InputLine.TheVariants as input
+use Rattle.nit_rounds.proofs.LinesDone.{client_lines, user_lines}
+
+-- ---- the rounds
+
+some_line : (l : Line) (ls : List Line) (b : Bool) → b ≡ true → (if b then l ∷ [] else []) ++ ls ≡ [] → ⊥
+some_line l ls true e none = cc
+some_line l ls false e none = absurd (cc)
+
+other_line : (l : Line) (ls : List Line) (b : Bool) → b ≡ false → (if b then l ∷ [] else []) ++ ls ≡ [] → ls ≡ []
+other_line l ls true e none = absurd (cc)
+other_line l ls false e none = none
+
+first_alone : (l : Line) (ms : List LineTurn)
+    → ((t : ℕ) → line_by (suc t) (ByClient zero l) ++ lines_of (suc t) ms ≡ []) → (t : ℕ) → lines_of (suc t) ms ≡ []
+first_alone l ms others t = other_line l (lines_of (suc t) ms) (zero == suc t)
+    (ne_eqb zero (suc t) (λ e. absurd (omega (arith, e)))) (others t)
+
+-- what these moves record, where no client but the first does a line in them, and the user's are no actions
+abbrev IsAlone : List LineTurn → Type 0
+IsAlone ms = (p q : ℕ) → ((t : ℕ) → lines_of (suc t) ms ≡ []) → user_actions_from q (input_lines_of ms) ≡ []
+    → actions_of_turns ms ≡ map (Calls 0) (done (calls_from p (lines_of 0 ms)))
+
+one_more : (d : ActorLine) (ms : List LineTurn) → IsAlone ms → (p q : ℕ)
+    → ((t : ℕ) → line_by (suc t) d ++ lines_of (suc t) ms ≡ [])
+    → user_actions_from q (input_by_user d ++ input_lines_of ms) ≡ []
+    → actions_of_line d ++ actions_of_turns ms ≡ map (Calls 0) (done (calls_from p (line_by 0 d ++ lines_of 0 ms)))
+one_more (ByClient zero (line.Call c)) ms rest p q others idle =
+    rw (rest p q (first_alone (line.Call c) ms others) idle)
+one_more (ByClient zero (line.Stroke s)) ms rest p q others idle = rest p q (first_alone (line.Stroke s) ms others) idle
+one_more (ByClient zero line.Phase) ms rest p q others idle = rest (suc p) q (first_alone line.Phase ms others) idle
+one_more (ByClient (suc s) l) ms rest p q others idle =
+    absurd (some_line l (lines_of (suc s) ms) (suc s == suc s) (eq-eqb (suc s) (suc s) refl) (others s))
+one_more (ByUser (input.Device d)) ms rest p q others idle = absurd cc
+one_more (ByUser input.Shot) ms rest p q others idle = absurd cc
+one_more (ByUser input.Phase) ms rest p q others idle = rest p (suc q) others idle
+
+alone : (ms : List LineTurn) → IsAlone ms
+alone [] p q others idle = refl
+alone (m ∷ ms) p q others idle = one_more m.doing ms (alone ms) p q others idle
+
+-- the rounds of one script record its calls, in order
+rounds_alone : (script : List Line) (lines : List InputLine) → user_actions_to_do lines ≡ []
+    → actions_of_turns (rounds (script ∷ []) lines) ≡ map (Calls 0) (done (calls_to_make script))
+rounds_alone script lines idle =
+    let moves = rounds (script ∷ []) lines in
+    alone moves 0 0 (λ t. client_lines (script ∷ []) lines (suc t))
+    (rw (← user_lines (script ∷ []) lines) at idle)
+    ∙ ap (λ (ls : List Line). map (Calls 0) (done (calls_from 0 ls))) (client_lines (script ∷ []) lines 0)
+
+-- ---- the journal
+
+some_entry : (front : List Entry) (e : Entry) → front ++ e ∷ [] ≡ [] → ⊥
+some_entry [] e none = cc
+some_entry (x ∷ front) e none = cc
+
+journal_alone : (s : State) (taken : ℕ) (front : List Entry) → length s.sessions ≡ 1
+    → LegalFrom s taken (front ++ entry.Final ∷ []) → user_actions_of (front ++ entry.Final ∷ []) ≡ []
+    → map action_of front ≡ map (Calls 0) (calls_of 0 (front ++ entry.Final ∷ []))
+journal_alone s taken [] one legal none = refl
+journal_alone s taken (entry.Call zero c r ∷ front) one (agrees, legal) none =
+    rw (journal_alone (after s (entry.Call zero c r)) taken front (as_many s (entry.Call zero c r) ∙ one) legal none)
+journal_alone s taken (entry.Call (suc sid) c r ∷ front) one (agrees, legal) none =
+    absurd (let below = agrees.0 in omega (arith, one, below))
+journal_alone s taken (entry.Input dev routed ∷ front) one legal none = absurd cc
+journal_alone s taken (entry.Shot number ∷ front) one legal none = absurd cc
+journal_alone s taken (entry.Final ∷ front) one legal none = absurd (some_entry front entry.Final legal)
+
+pub by_rounds_alone : (config : Configuration) (script : List Line) (lines : List InputLine) (journal : List Entry)
+    → length config.clients ≡ 1 → user_actions_to_do lines ≡ [] → IsLegal config journal
+    → IsWhole (map calls_to_make (script ∷ [])) (user_actions_to_do lines) journal
+    → (entries : List Entry) × AreRoundsOf entries (script ∷ []) lines × (journal ≡ entries ++ entry.Final ∷ [])
+by_rounds_alone config script lines journal one idle legal whole =
+    let (front, ends) = whole.ends in
+    let own = journal_alone (first_state config) 0 front (as_many_as_clients config [] ∙ one)
+    (rw ends at legal) (ap user_actions_of (sym ends) ∙ whole.actions
+    ∙ ap done idle) in (
+      front,
+      own ∙ ap (map (Calls 0)) (rw (← ends, whole.calls 0 (omega arith)))
+          ∙ sym (rounds_alone script lines idle),
+      ends,
+    )
