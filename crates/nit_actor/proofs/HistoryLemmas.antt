@@ -1,11 +1,11 @@
 -- One history of raw words along a whole journal, and its shots.
-use Rattle.nit_actor.proofs.Basics.{Configuration, Entry, File, InputLine, IsHeld, IsHeldPicture, IsHistory}
-use Rattle.nit_actor.proofs.Basics.{IsPictureAmong, Line, List, ShotsBehind, AreOfOneHistory, [], ap}
-use Rattle.nit_actor.proofs.Basics.{append-nil, append_assoc, get_or_from_slice_get, is_dirtied}
-use Rattle.nit_actor.proofs.Basics.{length, length-append, arith, raw_behind, refl, shots_along}
-use Rattle.nit_actor.proofs.Basics.{slice_index_or, split_more, subst, suc, sym, ℕ, ◌∙◌, inl, inr}
+use Rattle.nit_actor.proofs.Basics.{AreOfOneHistory, Configuration, Entry, File, InputLine, IsHeld}
+use Rattle.nit_actor.proofs.Basics.{IsHeldPicture, IsHistory, IsPictureAmong, Line, List}
+use Rattle.nit_actor.proofs.Basics.{ShotsBehind, [], ap, append-nil, append_assoc, arith}
+use Rattle.nit_actor.proofs.Basics.{get_or_from_slice_get, inl, inr, is_dirtied, length}
+use Rattle.nit_actor.proofs.Basics.{length-append, not_both, raw_behind, refl, shots_along}
+use Rattle.nit_actor.proofs.Basics.{slice_index_or, split_more, subst, suc, sym, ℕ, ◌∙◌}
 use Rattle.std.proofs.Common.{false, ◌*◌, ◌++◌, ◌<◌, ◌∷◌, ◌≡◌}
-use Rattle.nit_hall.proofs.ForCallers.{not_both}
 use Rattle.nit_events.specs.declared.entry.Entry.TheVariants as entry
 
 -- raw words behind all entries but the last picture, which makes each pixel dirty, are held along the journal

@@ -1,11 +1,13 @@
 -- What answers use: all that lemmas use, and this crate's lemmas.
-pub use Rattle.nit_actor.proofs.Basics.{All-set, AreAlone, Belongs, Configuration, IsAtPhaseEnd}
-pub use Rattle.nit_actor.proofs.Basics.{IsLeastOf, IsNearPicture, IsPairIn, List, PassModel}
-pub use Rattle.nit_actor.proofs.Basics.{RoomModel, TakesShots, UserPassModel, [], actions_to_be, ap}
-pub use Rattle.nit_actor.proofs.Basics.{arith, as_many_files, clip_role_of, file_of_a_shot}
-pub use Rattle.nit_actor.proofs.Basics.{filter_map, length, next_device, pixel, refl, replay}
-pub use Rattle.nit_actor.proofs.Basics.{role_of, same_throughout, scenery_of, shown, slice_index}
-pub use Rattle.nit_actor.proofs.Basics.{slice_index_or, subst, sym, take, user_role_of, ℕ, ◌∙◌}
+pub use Rattle.nit_actor.proofs.Basics.{All-set, AreAlone, Belongs, CanShoot, Configuration}
+pub use Rattle.nit_actor.proofs.Basics.{IsAtPhaseEnd, IsLeastOf, IsNearPicture, IsPairIn, List}
+pub use Rattle.nit_actor.proofs.Basics.{PassModel, RoomModel, TakesShots, UserPassModel, []}
+pub use Rattle.nit_actor.proofs.Basics.{actions_to_be, ap, arith, as_many_files, clip_role_of}
+pub use Rattle.nit_actor.proofs.Basics.{file_of_a_shot, filter_map, length, next_device, pixel}
+pub use Rattle.nit_actor.proofs.Basics.{refl, replay, role_of, rules, same_throughout, scenery_of}
+pub use Rattle.nit_actor.proofs.Basics.{shown, slice_index, slice_index_or, subst, sym, take}
+pub use Rattle.nit_actor.proofs.Basics.{user_role_of, ℕ, ◌∙◌}
+pub use Rattle.nit_actor.proofs.HistoryLemmas.{held_still}
 pub use Rattle.nit_actor.proofs.IdleUserLemmas.{at_call, at_line, call_recorded, idle_actions}
 pub use Rattle.nit_actor.proofs.IdleUserLemmas.{nothing_recorded, phase_ended, step_on}
 pub use Rattle.nit_actor.proofs.IdleUserLemmas.{user_at_phase, user_ended}

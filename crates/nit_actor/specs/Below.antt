@@ -44,7 +44,6 @@ pub use Rattle.nit_script.specs.declared.line.Stroke.{Stroke}
 pub use Rattle.nit_stack.specs.Sources.{pixel}
 pub use Rattle.nit_store.specs.Puts.{PutState, PutsAll, PutsNext}
 pub use Rattle.nit_store.specs.Store.{File, StoreModel}
-pub use Rattle.nit_word.specs.Channels.{bare_word}
 pub use Rattle.nit_word.specs.Inks.{IsWord}
 pub use Rattle.nit_word.specs.Sight.{Sight}
 pub use Rattle.std.specs.List.{cons_option, slice_index_or}

@@ -1,8 +1,8 @@
 -- The pictures of the shots of a journal that threads made, and which of them were put.
 use Rattle.std.specs.Prelude.{◌≡◌, ℕ, List, ◌++◌, Some, length, slice_get}
 use Rattle.nit_actor.specs.Below.{AreShotsOf, Configuration, Entry, File, InputLine, IsNearFrame}
-use Rattle.nit_actor.specs.Below.{Line, OpeningParts, PutState, PutsAll, ShotsBehind}
-use Rattle.nit_actor.specs.Below.{picture, shots}
+use Rattle.nit_actor.specs.Below.{Line, OpeningParts, PutState, PutsAll, ShotsBehind, picture}
+use Rattle.nit_actor.specs.Below.{shots}
 
 -- The bytes are the picture of a frame of the state that these entries lead to, in which each pixel
 -- holds a word that it may hold after them.

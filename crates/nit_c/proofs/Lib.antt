@@ -1,3 +1,5 @@
 pub mod Owners
 pub mod Plans
 pub mod Refreshes
+pub mod Basics
+pub mod Lemmas

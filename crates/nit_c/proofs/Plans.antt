@@ -2,9 +2,7 @@
 use Rattle.std.proofs.Common.{Bool, List, [], add-zero, ap, ap₂, arith, false, length, map, refl}
 use Rattle.std.proofs.Common.{set, suc, sym, take, true, zero, ℕ, ◌&&◌, ◌++◌, ◌+◌, ◌<◌, ◌∙◌, ◌∷◌}
 use Rattle.std.proofs.Common.{◌≡◌}
-use Rattle.std.proofs.lemmas.List.{take_more_set}
-use Rattle.std.proofs.lemmas.List.FromFn.{map-range_with_len_more}
-use Rattle.std.specs.List.{list_all, range_with_len}
+use Rattle.nit_c.proofs.Basics.{list_all, map-range_with_len_more, range_with_len, take_more_set}
 
 -- ---- whether a test holds of the first so many numbers
 

@@ -1,11 +1,7 @@
 -- A refresh at a place that went through a call.
 use Rattle.std.proofs.Common.{Bool, List, Some, nat_eq, subst, sym, true, ℕ, ℤ, ◌≡◌}
-use Rattle.nit_host.specs.Host.{HostModel}
-use Rattle.nit_c.specs.Held.{live_mark}
-use Rattle.nit_c.specs.Replies.{IsRedrawn, IsRefreshed, only_kind}
-use Rattle.nit_c.specs.Steps.{ByServer, host_where, host_of, server_of}
-use Rattle.nit_c.specs.declared.handle.NitServer.{NitServer}
-use Rattle.nit_c.specs.declared.reply.NitReply.{NitReply}
+use Rattle.nit_c.proofs.Basics.{ByServer, HostModel, IsRedrawn, IsRefreshed, NitReply, NitServer}
+use Rattle.nit_c.proofs.Basics.{host_of, host_where, live_mark, only_kind, server_of}
 
 pub at_place : (old new : NitServer) (seat : ℕ) (x y x' y' : ℤ) (w h : ℕ) (words : List ℕ) (answer : NitReply)
     → x' ≡ x → y' ≡ y → IsRefreshed old new seat x' y' w h words answer → IsRefreshed old new seat x y w h words answer

@@ -2,8 +2,7 @@
 use mir.Syntax.{Ty}
 use base.Fml.{Fml}
 use denote.RawPtr.{Ptr}
-use Rattle.std_heap.specs.contracts.GlobalAllocator.TheImpl.{ghosts}
-use Rattle.std_heap.specs.declared.Global.{Global}
+use Rattle.nit_c.specs.Below.{Global, ghosts}
 
 -- a handle of the heap
 abbrev pub heap : Global

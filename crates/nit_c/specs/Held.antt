@@ -4,12 +4,8 @@ use base.Fml.{Fml, ftrue}
 use base.Stored.{Coded}
 use denote.RattleType.{RattleType}
 use denote.RawPtr.{Ptr, null_ptr}
-use Rattle.std.specs.Box.Ownership.{box_owns}
+use Rattle.nit_c.specs.Below.{Configuration, HostModel, box_owns, first_host, the_row, vacant_state}
 use Rattle.nit_c.specs.HeapToken.{heap_token}
-use Rattle.nit_host.specs.contracts.host.Host.{the_row}
-use Rattle.nit_config.specs.Configuration.{Configuration}
-use Rattle.nit_host.specs.Host.{HostModel, first_host}
-use Rattle.nit_journal.specs.Steps.{vacant_state}
 
 -- ---- what the box holds
 

@@ -8,3 +8,5 @@ pub mod Seating
 pub mod Reading
 pub mod Looking
 pub mod Opening
+pub mod Below
+pub mod Terms

@@ -1,14 +1,12 @@
 -- A look at the screen, and at the last step.
 use Rattle.std.specs.Prelude.{◌≡◌, ◌≢◌, ◌*◌, ◌≤◌, ◌<◌, ◌-◌, ◌^◌, ◌++◌, ◌⊎◌, ℕ, pos, List, length}
 use Rattle.std.specs.Prelude.{drop, Option, Some, None, IfSome}
-use Rattle.nit_look.specs.Look.{AgreeIn, CoversChange, IsTouched, LiesOn}
-use Rattle.nit_rect.specs.Rectangle.{Rectangle, rectangle}
-use Rattle.nit_screen.specs.FrameLabels.{ShowsLabels}
-use Rattle.nit_screen.specs.StateScenery.{scenery_of}
-use Rattle.nit_host.specs.Host.{HostModel, IsAsSeen, frame_shown, last_text, looked}
+use Rattle.nit_c.specs.Below.{AgreeIn, CoversChange, HostModel, IsAsSeen, IsTouched, LiesOn}
+use Rattle.nit_c.specs.Below.{NitRect, Rectangle, ShowsLabels, frame_shown, looked, rectangle}
+use Rattle.nit_c.specs.Below.{scenery_of}
+use Rattle.nit_host.specs.Host.{last_text}
 use Rattle.nit_c.specs.declared.handle.NitServer.{NitServer}
 use Rattle.nit_c.specs.Steps.{Steps}
-use Rattle.nit_c.specs.declared.looking.NitRect.{NitRect}
 
 -- an answer that is its kind alone
 abbrev pub only_rect : ℕ → NitRect

@@ -1,14 +1,10 @@
 -- The numbers by which C is told what a call answers.
 use Rattle.std.specs.Prelude.{ℕ, ◌-◌, ◌^◌, Option, Some, None}
-use Rattle.nit_config.specs.declared.error.ConfigError.{ConfigError}
+use Rattle.nit_c.specs.Below.{ConfigError, Mode, Status, Unseated, Unserved}
 use Rattle.nit_config.specs.declared.error.ConfigError.TheVariants as refused
-use Rattle.nit_events.specs.declared.device.Mode.{Mode}
 use Rattle.nit_events.specs.declared.device.Mode.TheVariants as mode
-use Rattle.nit_events.specs.declared.event.Status.{Status}
 use Rattle.nit_events.specs.declared.event.Status.TheVariants as status
-use Rattle.nit_host.specs.declared.refusal.Unseated.{Unseated}
 use Rattle.nit_host.specs.declared.refusal.Unseated.TheVariants as unseated
-use Rattle.nit_host.specs.declared.refusal.Unserved.{Unserved}
 use Rattle.nit_host.specs.declared.refusal.Unserved.TheVariants as unserved
 
 -- a seat, or the number of none

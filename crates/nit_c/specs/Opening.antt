@@ -2,17 +2,10 @@
 use Rattle.std.specs.Prelude.{◌≡◌, ◌≤◌, ◌<◌, ◌⊎◌, ◌+◌, ◌*◌, ◌/◌, ◌==◌, ◌&&◌, not, nat_le, ℕ, Bool}
 use Rattle.std.specs.Prelude.{List, length, map, slice_index, Option, Some, None, Result, Ok, Err}
 use Rattle.std.specs.Prelude.{if◌then◌else◌}
-use Rattle.std.specs.List.{list_all, range_with_len}
-use Rattle.nit_config.specs.Configuration.{Configuration}
-use Rattle.nit_config.specs.ConfigurationText.{IsConfigAnswer, IsConfigurationOf, MeetsRefusal}
-use Rattle.nit_config.specs.ConfigurationText.{UnlessMemory}
-use Rattle.nit_config.specs.declared.error.ConfigError.{ConfigError}
-use Rattle.nit_journal.specs.State.{first_state}
-use Rattle.nit_journal.specs.Steps.{vacant_state}
-use Rattle.nit_host.specs.Host.{HostModel, first_host}
-use Rattle.nit_host.specs.Plan.{planned, refused_plan}
-use Rattle.nit_host.specs.declared.planning.SeatPlan.{SeatPlan}
-use Rattle.nit_host.specs.declared.refusal.PlanError.{PlanError}
+use Rattle.nit_c.specs.Below.{ConfigError, Configuration, HostModel, IsConfigAnswer}
+use Rattle.nit_c.specs.Below.{IsConfigurationOf, MeetsRefusal, PlanError, SeatPlan, UnlessMemory}
+use Rattle.nit_c.specs.Below.{first_host, first_state, list_all, planned, range_with_len}
+use Rattle.nit_c.specs.Below.{refused_plan, vacant_state}
 use Rattle.nit_host.specs.declared.refusal.PlanError.TheVariants as refused
 use Rattle.nit_c.specs.Numbers.{config_number}
 use Rattle.nit_c.specs.Steps.{Unless}

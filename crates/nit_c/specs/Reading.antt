@@ -1,12 +1,9 @@
 -- What can be read of a server, as C reads it.
 use Rattle.std.specs.Prelude.{◌≡◌, ℕ, nat_lt, length, if◌then◌else◌}
-use Rattle.nit_journal.specs.State.{session}
-use Rattle.nit_host.specs.Host.{HostModel}
+use Rattle.nit_c.specs.Below.{HostModel, NitSeatState, NitState, session}
 use Rattle.nit_c.specs.Numbers.{mode_number, seat_number, status_number}
 use Rattle.nit_c.specs.declared.handle.NitServer.{NitServer}
 use Rattle.nit_c.specs.Steps.{Steps}
-use Rattle.nit_c.specs.declared.reading.NitState.{NitState}
-use Rattle.nit_c.specs.declared.reading.NitSeatState.{NitSeatState}
 
 -- a state that is its kind alone
 abbrev pub no_state : NitState

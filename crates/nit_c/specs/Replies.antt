@@ -1,21 +1,14 @@
 -- Replies and events as C reads them, and calls of the clients.
 use Rattle.std.specs.Prelude.{◌≡◌, ℕ, ℤ, pos, ◌==◌, IsTrue, false, not, nat_lt, List, length}
 use Rattle.std.specs.Prelude.{Option, Result, Ok, Err, if◌then◌else◌}
-use Rattle.nit_events.specs.Text.{is_text}
-use Rattle.nit_events.specs.declared.call.Call.{Call}
+use Rattle.nit_c.specs.Below.{Call, Event, HostModel, NitEvent, NitReply, Reply, Unserved, called}
+use Rattle.nit_c.specs.Below.{is_text, refreshed, reply_to, unserved_call, unserved_refresh}
 use Rattle.nit_events.specs.declared.call.Call.TheVariants as call
-use Rattle.nit_events.specs.declared.call.Reply.{Reply}
 use Rattle.nit_events.specs.declared.call.Reply.TheVariants as reply
-use Rattle.nit_events.specs.declared.event.Event.{Event}
 use Rattle.nit_events.specs.declared.event.Event.TheVariants as event
-use Rattle.nit_host.specs.Host.{HostModel, called, refreshed, reply_to, unserved_call}
-use Rattle.nit_host.specs.Host.{unserved_refresh}
-use Rattle.nit_host.specs.declared.refusal.Unserved.{Unserved}
 use Rattle.nit_c.specs.Numbers.{unserved_number}
 use Rattle.nit_c.specs.declared.handle.NitServer.{NitServer}
 use Rattle.nit_c.specs.Steps.{Steps, Unless}
-use Rattle.nit_c.specs.declared.reply.NitEvent.{NitEvent}
-use Rattle.nit_c.specs.declared.reply.NitReply.{NitReply}
 
 abbrev pub no_event : NitEvent
 no_event = record { kind = 0; code = 0; x = 0; y = 0; turn = pos 0 }

@@ -1,22 +1,14 @@
 -- What the user does, and whom it goes to, as C reads it.
 use Rattle.std.specs.Prelude.{◌≡◌, ℕ, ℤ, ◌+◌, ◌-◌, ◌^◌, pos, negsuc, nat_le, int_le, ◌&&◌, Option}
 use Rattle.std.specs.Prelude.{Some, None, Result, Ok, Err, if◌then◌else◌}
-use Rattle.nit_events.specs.Ranges.{most_code}
-use Rattle.nit_events.specs.declared.device.Device.{Device}
+use Rattle.nit_c.specs.Below.{Delivery, Device, HostModel, Item, NitDelivery, NitEvent, NitRouted}
+use Rattle.nit_c.specs.Below.{Routed, Unserved, most_code, routed_of, told, unserved_input}
 use Rattle.nit_events.specs.declared.device.Device.TheVariants as device
-use Rattle.nit_events.specs.declared.event.Delivery.{Delivery}
-use Rattle.nit_events.specs.declared.event.Item.{Item}
 use Rattle.nit_events.specs.declared.event.Item.TheVariants as item
-use Rattle.nit_events.specs.declared.event.Routed.{Routed}
-use Rattle.nit_host.specs.Host.{HostModel, routed_of, told, unserved_input}
-use Rattle.nit_host.specs.declared.refusal.Unserved.{Unserved}
 use Rattle.nit_c.specs.Numbers.{unserved_number}
 use Rattle.nit_c.specs.Replies.{c_event, no_event}
 use Rattle.nit_c.specs.declared.handle.NitServer.{NitServer}
 use Rattle.nit_c.specs.Steps.{Steps, Unless}
-use Rattle.nit_c.specs.declared.reply.NitEvent.{NitEvent}
-use Rattle.nit_c.specs.declared.routed.NitDelivery.{NitDelivery}
-use Rattle.nit_c.specs.declared.routed.NitRouted.{NitRouted}
 
 -- what becomes of a client: an event, or that it is locked out
 abbrev pub c_item : Item → NitEvent

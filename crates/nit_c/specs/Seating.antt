@@ -1,9 +1,6 @@
 -- Clients that come to a seat.
 use Rattle.std.specs.Prelude.{◌≡◌, ℕ, not, nat_lt, List, length, Option, Some, None, if◌then◌else◌}
-use Rattle.nit_glyph.specs.Texts.{is_label}
-use Rattle.nit_host.specs.Host.{HostModel}
-use Rattle.nit_host.specs.Seats.{seat_for, seated, unseated}
-use Rattle.nit_host.specs.declared.refusal.Unseated.{Unseated}
+use Rattle.nit_c.specs.Below.{HostModel, Unseated, is_label, seat_for, seated, unseated}
 use Rattle.nit_c.specs.Numbers.{seat_number, unseated_number}
 use Rattle.nit_c.specs.declared.handle.NitServer.{NitServer}
 use Rattle.nit_c.specs.Steps.{Steps, Unless}

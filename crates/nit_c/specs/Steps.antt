@@ -1,6 +1,6 @@
 -- A call by a handle: what it does with the server, or where there is none.
 use Rattle.std.specs.Prelude.{◌≡◌, ℕ, Bool, true, false, nat_eq, Option, Some, None}
-use Rattle.nit_host.specs.Host.{HostModel}
+use Rattle.nit_c.specs.Below.{HostModel}
 use Rattle.nit_c.specs.Held.{live_mark}
 use Rattle.nit_c.specs.declared.handle.NitServer.{NitServer}
 

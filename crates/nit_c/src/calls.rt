@@ -1,8 +1,8 @@
 //! The calls of the clients.
 
 ghost use Rattle.std.specs.Prelude.{◌≡◌};
-ghost use Rattle.nit_c.specs.Replies.{IsCalled, IsRedrawn, IsRefreshed, IsTitled, IsUntitled};
-ghost use Rattle.nit_c.specs.Replies.{untitled};
+ghost use Rattle.nit_c.specs.Terms.{IsCalled, IsRedrawn, IsRefreshed, IsTitled, IsUntitled};
+ghost use Rattle.nit_c.specs.Terms.{untitled};
 ghost use Rattle.nit_events.specs.declared.call.Call.TheVariants as call;
 
 use crate::handle::NitServer;

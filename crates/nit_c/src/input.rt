@@ -1,7 +1,7 @@
 //! What the user does.
 
 ghost use Rattle.std.specs.Prelude.{◌≡◌};
-ghost use Rattle.nit_c.specs.Routing.{IsInput, IsTold, moved_to, pressed, released, turned};
+ghost use Rattle.nit_c.specs.Terms.{IsInput, IsTold, moved_to, pressed, released, turned};
 
 use crate::handle::NitServer;
 use crate::numbers::{BAD_DEVICE, NO_SERVER};

@@ -1,9 +1,8 @@
 //! A look at the screen, and at the last step.
 
 ghost use Rattle.std.specs.Prelude.{◌≡◌, ◌≤ℤ◌, IfSome, pos};
-ghost use Rattle.nit_c.specs.Looking.{IsEntry, IsLineOrNone, IsLooked, IsLookedBy, IsRect};
-ghost use Rattle.nit_c.specs.Looking.{only_rect};
-ghost use Rattle.nit_host.specs.Terms.{last_text};
+ghost use Rattle.nit_c.specs.Terms.{IsEntry, IsLineOrNone, IsLooked, IsLookedBy, IsRect, last_text};
+ghost use Rattle.nit_c.specs.Terms.{only_rect};
 
 use crate::handle::NitServer;
 use crate::numbers::{DONE, NO_SERVER, WRONG_FRAME};

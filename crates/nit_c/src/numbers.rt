@@ -1,8 +1,8 @@
 //! The numbers by which C is told what a call answers.
 
 ghost use Rattle.std.specs.Prelude.{◌≡◌};
-ghost use Rattle.nit_c.specs.Numbers.{config_number, mode_number, seat_number, status_number};
-ghost use Rattle.nit_c.specs.Numbers.{unseated_number, unserved_number};
+ghost use Rattle.nit_c.specs.Terms.{config_number, mode_number, seat_number, status_number};
+ghost use Rattle.nit_c.specs.Terms.{unseated_number, unserved_number};
 
 use nit_config::ConfigError;
 use nit_events::{Mode, Status};

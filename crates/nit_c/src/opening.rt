@@ -2,12 +2,10 @@
 
 ghost use Rattle.std.specs.Prelude.{◌≡◌, ◌≢◌, ◌≤◌, ℕ, None, Some, IfOk, MatchResult, Err, length};
 ghost use Rattle.std.specs.Prelude.{take};
-ghost use Rattle.nit_c.specs.Held.{IsClosed};
-ghost use Rattle.nit_c.specs.Opening.{IsShut, IsOpened, IsOpenedBy, IsMadeByPlan, IsRead};
-ghost use Rattle.nit_c.specs.Opening.{are_seats, have_clicks, plan_number, planned_config};
-ghost use Rattle.nit_c.specs.Opening.{refused_words, seat_count, seats_in};
-ghost use Rattle.nit_c.specs.Steps.{host_of};
-ghost use Rattle.nit_host.specs.Terms.{IsConfiguration, first_host, first_state, vacant_state};
+ghost use Rattle.nit_c.specs.Terms.{IsClosed, IsConfiguration, IsMadeByPlan, IsOpened, IsOpenedBy};
+ghost use Rattle.nit_c.specs.Terms.{IsRead, IsShut, are_seats, have_clicks, host_of, plan_number};
+ghost use Rattle.nit_c.specs.Terms.{planned_config, refused_words, seat_count, seats_in};
+ghost use Rattle.nit_host.specs.Terms.{first_host, first_state, vacant_state};
 
 use crate::handle::NitServer;
 use crate::numbers::{

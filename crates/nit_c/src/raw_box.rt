@@ -1,8 +1,7 @@
 //! A box by its pointer.
 
 ghost use Rattle.std.specs.Prelude.{◌≡◌};
-ghost use Rattle.std.specs.Box.Ownership.{box_owns};
-ghost use Rattle.nit_c.specs.HeapToken.{heap_token};
+ghost use Rattle.nit_c.specs.Terms.{box_owns, heap_token};
 
 use std::alloc::Global;
 use std::marker::Model;

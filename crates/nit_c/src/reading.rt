@@ -1,8 +1,8 @@
 //! What can be read of a server.
 
 ghost use Rattle.std.specs.Prelude.{◌≡◌};
-ghost use Rattle.nit_c.specs.Reading.{IsSeatStateOf, IsStateOf, c_seat_state, c_state};
-ghost use Rattle.nit_c.specs.Reading.{no_seat_state, no_state};
+ghost use Rattle.nit_c.specs.Terms.{IsSeatStateOf, IsStateOf, c_seat_state, c_state, no_seat_state};
+ghost use Rattle.nit_c.specs.Terms.{no_state};
 
 use crate::handle::NitServer;
 use crate::numbers::{

@@ -1,7 +1,7 @@
 //! Replies and events as C reads them.
 
 ghost use Rattle.std.specs.Prelude.{◌≡◌};
-ghost use Rattle.nit_c.specs.Replies.{c_answer, c_event, c_reply, no_event, only_kind};
+ghost use Rattle.nit_c.specs.Terms.{c_answer, c_event, c_reply, no_event, only_kind};
 
 use crate::numbers;
 use crate::numbers::{

@@ -1,7 +1,7 @@
 //! Whom an event went to, as C reads it.
 
 ghost use Rattle.std.specs.Prelude.{◌≡◌};
-ghost use Rattle.nit_c.specs.Routing.{c_delivery, c_item, c_routed, c_told, one_of, only_routed};
+ghost use Rattle.nit_c.specs.Terms.{c_delivery, c_item, c_routed, c_told, one_of, only_routed};
 
 use crate::numbers::{DONE, KILL, unserved_number};
 use crate::reply::{EMPTY, NitEvent, event_of};

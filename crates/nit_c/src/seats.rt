@@ -1,7 +1,7 @@
 //! Clients that come to a seat.
 
 ghost use Rattle.std.specs.Prelude.{◌≡◌};
-ghost use Rattle.nit_c.specs.Seating.{IsSeatFor, IsSeated, IsSeatedBy, seat_of};
+ghost use Rattle.nit_c.specs.Terms.{IsSeatFor, IsSeated, IsSeatedBy, seat_of};
 
 use crate::handle::NitServer;
 use crate::numbers::{BAD_LABEL, DONE, NO_SEAT, NO_SERVER, seat_number, unseated_number};

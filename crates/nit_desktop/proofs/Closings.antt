@@ -2,28 +2,21 @@
 use Rattle.std.proofs.Common.{Bool, List, None, Option, Some, [], ap, arith, cond, false, get_or}
 use Rattle.std.proofs.Common.{get_or-set_other, get_or-set_same, inl, inr, length, map, refl, set}
 use Rattle.std.proofs.Common.{slice_get, subst, sym, true, ℕ, ◌+◌, ◌<◌, ◌∙◌, ◌∷◌, ◌≡◌, ◌≤◌, ◌≢◌}
-use Rattle.std.proofs.Math.ListN.{get_or-map, length-set}
-use Rattle.std.proofs.lemmas.List.{ext_get_or, get_or_default, length-map}
-use Rattle.std.proofs.lemmas.Option.{get_or_from_slice_get, slice_get_within}
-use Rattle.nit_config.specs.Configuration.{bar_rows, donation_of}
-use Rattle.nit_screen.specs.Terms.{in_bar, is_session, option_map_or}
-use Rattle.nit_journal.specs.State.{input_after_call, layer}
-use Rattle.nit_desktop.proofs.Basics.{Configuration, Member, Painted, Session, Sight, State, after}
-use Rattle.nit_desktop.proofs.Basics.{cases_eq, ne_eqb, clean_seen, clean_words, ended, first_input}
-use Rattle.nit_desktop.proofs.Basics.{first_session, first_state, is_accepted, pixel, pixel_count}
-use Rattle.nit_desktop.proofs.Basics.{serve, serve_accepted, session, session_in, source_at}
+use Rattle.nit_desktop.proofs.Basics.{Answered, Configuration, Member, Painted, Reply, Session}
+use Rattle.nit_desktop.proofs.Basics.{Sight, State, View, after, bar_rows, cases_eq, clean_seen}
+use Rattle.nit_desktop.proofs.Basics.{clean_words, dirty, donation_of, ended, ext_get_or}
+use Rattle.nit_desktop.proofs.Basics.{first_input, first_session, first_state, get_or-map}
+use Rattle.nit_desktop.proofs.Basics.{get_or_default, get_or_from_slice_get, glass_in}
+use Rattle.nit_desktop.proofs.Basics.{glasses_of_call, in_bar, input_after_call, is_accepted}
+use Rattle.nit_desktop.proofs.Basics.{is_session, layer, length-map, length-set, ne_eqb, no_sight}
+use Rattle.nit_desktop.proofs.Basics.{option_map_or, pixel, pixel_count, serve, serve_accepted}
+use Rattle.nit_desktop.proofs.Basics.{session, session_in, slice_get_within, source_at}
 use Rattle.nit_desktop.proofs.Basics.{vacant_state}
-use Rattle.nit_events.specs.declared.call.Reply.{Reply}
-use Rattle.nit_screen.specs.DirtyPixels.{dirty}
-use Rattle.nit_paint.specs.Repaint.{no_sight}
-use Rattle.nit_repaint.specs.Glasses.{glass_in, glasses_of_call}
 use Rattle.nit_events.specs.declared.call.Call.TheVariants as call
 use Rattle.nit_events.specs.declared.call.Reply.TheVariants as reply
 use Rattle.nit_events.specs.declared.entry.Entry.TheVariants as entry
 use Rattle.nit_events.specs.declared.event.Status.TheVariants as status
-use Rattle.nit_journal.specs.Session.{Answered}
 use Rattle.nit_journal.specs.StackAfter.{stack_after_call}
-use Rattle.nit_stack.specs.declared.view.View.{View}
 
 abbrev no_client : Member
 no_client = record { label = []; donation = 0; script = []; layer = 0; clicks = false }

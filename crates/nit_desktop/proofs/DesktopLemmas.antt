@@ -1,9 +1,8 @@
 -- A screen that keeps no journal, after one step more.
 use Rattle.std.proofs.Common.{List, arith, subst, sym, ℕ, ◌+◌, ◌-◌, ◌^◌, ◌<◌, ◌≡◌, ◌≤◌}
 use Rattle.nit_desktop.proofs.Basics.{Agrees, AreBelowNext, AreInked, AreLive, AreRaw, Entry}
-use Rattle.nit_desktop.proofs.Basics.{HaveOwnNames, IsDesktop, Painted, Sight, State, after}
-use Rattle.nit_desktop.proofs.Basics.{entry_loses, session}
-use Rattle.nit_screen.specs.ViewNames.{IsNewlyNamed}
+use Rattle.nit_desktop.proofs.Basics.{HaveOwnNames, IsDesktop, IsNewlyNamed, Painted, Sight, State}
+use Rattle.nit_desktop.proofs.Basics.{after, entry_loses, session}
 
 -- what the laws say
 abbrev pub StaysLive : Type 0

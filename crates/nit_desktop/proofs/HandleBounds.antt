@@ -2,18 +2,13 @@
 use Rattle.std.proofs.Common.{Bool, None, Option, Some, ap, arith, cond, false, get_or-set_other}
 use Rattle.std.proofs.Common.{get_or-set_same, inl, inr, length, refl, set, subst, sym, true, ℕ}
 use Rattle.std.proofs.Common.{◌+◌, ◌-◌, ◌^◌, ◌<◌, ◌∙◌, ◌≡◌, ◌≤◌}
-use Rattle.std.proofs.lemmas.Bool.{cases_eq}
-use Rattle.nit_screen.proofs.ForCallers.{delivered_keeps_next, taking_keeps_next}
-use Rattle.nit_desktop.specs.Desktop.{asks_view}
-use Rattle.nit_journal.specs.Session.{Session, accepted, by_refusal, first_session, refusal, serve}
-use Rattle.nit_journal.specs.State.{State, after, route, session, session_in}
-use Rattle.nit_events.specs.declared.call.Call.{Call}
-use Rattle.nit_events.specs.declared.call.Call.TheVariants.{Above, Back, Buffer, Close, Destroy}
-use Rattle.nit_events.specs.declared.call.Call.TheVariants.{Front, Offset, Place, Refresh, Take}
-use Rattle.nit_events.specs.declared.call.Call.TheVariants.{Title, Upgrade, View}
-use Rattle.nit_events.specs.declared.call.Reply.{Reply}
-use Rattle.nit_events.specs.declared.device.Device.{Device}
-use Rattle.nit_events.specs.declared.event.Routed.{Routed}
+use Rattle.nit_desktop.proofs.Basics.{Above, Back, Buffer, Call, Close, Destroy, Device, Front}
+use Rattle.nit_desktop.proofs.Basics.{Offset, Place, Refresh, Reply, Routed, Session, State, Take}
+use Rattle.nit_desktop.proofs.Basics.{Title, Upgrade, accepted, after, asks_view, by_refusal}
+use Rattle.nit_desktop.proofs.Basics.{cases_eq, delivered_keeps_next, first_session, refusal, route}
+use Rattle.nit_desktop.proofs.Basics.{session, session_in, taking_keeps_next}
+use Rattle.nit_journal.specs.Session.{serve}
+use Rattle.nit_events.specs.declared.call.Call.TheVariants.{View}
 use Rattle.nit_events.specs.declared.entry.Entry.TheVariants as entry
 
 -- how many views a call makes at most

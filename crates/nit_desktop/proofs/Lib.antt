@@ -3,3 +3,4 @@ pub mod DesktopLemmas
 pub mod HandleBounds
 pub mod Openings
 pub mod Basics
+pub mod Lemmas

@@ -2,14 +2,11 @@
 use Rattle.std.proofs.Common.{Bool, List, [], ap, arith, false, get_or, get_or-set_other}
 use Rattle.std.proofs.Common.{get_or-set_same, length, refl, replicate, subst, sym, true, ℕ, ◌+◌}
 use Rattle.std.proofs.Common.{◌-◌, ◌*◌, ◌^◌, ◌<◌, ◌==◌, ◌∙◌, ◌≡◌}
-use Rattle.std.proofs.Math.ListN.{get_or-map}
-use Rattle.std.proofs.lemmas.List.{get_or-replicate}
-use Rattle.std.proofs.lemmas.List.Elements.{All-nil}
-use Rattle.nit_desktop.proofs.Basics.{AreBelowNext, AreLive, AreRaw, Configuration, HaveOwnNames}
-use Rattle.nit_desktop.proofs.Basics.{IsDesktop, IsRawOf, Member, PixelSource, Session, State, View}
-use Rattle.nit_desktop.proofs.Basics.{bare_everywhere, bare_word, eqb-false, eqb-true}
-use Rattle.nit_desktop.proofs.Basics.{first_session, first_state, opened, pixel, session}
-use Rattle.nit_desktop.proofs.Basics.{session_in}
+use Rattle.nit_desktop.proofs.Basics.{All-nil, AreBelowNext, AreLive, AreRaw, Configuration}
+use Rattle.nit_desktop.proofs.Basics.{HaveOwnNames, IsDesktop, IsRawOf, Member, PixelSource}
+use Rattle.nit_desktop.proofs.Basics.{Session, State, View, bare_everywhere, bare_word, eqb-false}
+use Rattle.nit_desktop.proofs.Basics.{eqb-true, first_session, first_state, get_or-map}
+use Rattle.nit_desktop.proofs.Basics.{get_or-replicate, opened, pixel, session, session_in}
 
 abbrev no_client : Member
 no_client = record { label = []; donation = 0; script = []; layer = 0; clicks = false }

@@ -1,6 +1,5 @@
 -- A glass of which nothing is told but its owner and its size.
-use Rattle.std.specs.Prelude.{ℕ, [], None}
-use Rattle.nit_desktop.specs.Below.{Colours, Sight}
+use Rattle.nit_desktop.specs.Below.{Colours, None, Sight, [], ℕ}
 
 abbrev pub blank_sight : ℕ → ℕ → Sight
 blank_sight owner size =

@@ -1,7 +1,8 @@
 -- What contracts see of a screen that keeps no journal, and what holds of it.
 use Rattle.std.specs.Prelude.{◌≡◌, ℕ, ◌+◌, ◌-◌, ◌*◌, ◌^◌, ◌<◌, Bool, true, false, List, map}
-use Rattle.nit_desktop.specs.Below.{AreBelowNext, AreLive, AreRaw, Call, Entry, HaveOwnNames}
-use Rattle.nit_desktop.specs.Below.{Sight, State, View, after, session}
+use Rattle.nit_desktop.specs.Below.{AreBelowNext, AreLive, AreRaw, Call, Entry, HaveOwnNames, Sight}
+use Rattle.nit_desktop.specs.Below.{State, after, session}
+use Rattle.nit_events.specs.declared.call.Call.TheVariants.{View}
 
 -- the state, how many more entries it serves, the raw words of the screen's pixels, and the glasses
 -- through which the sessions' words are loaded

@@ -3,8 +3,8 @@
 ghost use Rattle.std.specs.Prelude.{◌≡◌, ◌-◌, ◌^◌, ◌<◌, ◌≤◌, ◌*◌, All, false, length, map, true};
 ghost use Rattle.nit_desktop.specs.Terms.{AreInked, IsDevice, IsFrameShown, IsGlass, IsLive};
 ghost use Rattle.nit_desktop.specs.Terms.{IsServedEntry, Painted, asks_view, deliveries_of};
-ghost use Rattle.nit_desktop.specs.Terms.{glass_in, glasses_of_call, is_accepted, kills};
-ghost use Rattle.nit_desktop.specs.Terms.{route, routed_as, scenery_of, serve, session};
+ghost use Rattle.nit_desktop.specs.Terms.{glass_in, glasses_of_call, is_accepted, kills, route};
+ghost use Rattle.nit_desktop.specs.Terms.{routed_as, scenery_of, serve, session};
 ghost use Rattle.nit_events.specs.declared.entry.Entry.TheVariants as entry;
 
 mod opening;

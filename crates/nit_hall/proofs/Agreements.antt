@@ -1,14 +1,15 @@
 -- A room, and the ends of a client's words that agree.
-use Rattle.nit_hall.proofs.Basics.{Belongs, BufferName, Call, CanAgree, End, IsGlass, IsPass, IsRoom, Line}
-use Rattle.nit_hall.proofs.Basics.{List, Option, PassModel, RoomModel, ShareModel, Sight, Some, [], ap, arith}
-use Rattle.nit_hall.proofs.Basics.{Configuration, Entry, HasMet, OpeningParts, knowing}
-use Rattle.nit_hall.proofs.Basics.{KnowsStretch, buffers_of, calls_in, calls_of, cases_eq, donation_of}
-use Rattle.nit_hall.proofs.Basics.{get_or_from_slice_get, glass_in, inl, inr, length, map, no_sight, none-some}
-use Rattle.nit_hall.proofs.Basics.{option_map, phases_before, refl, same_Some, script_in, served, slice_get}
-use Rattle.nit_hall.proofs.Basics.{slice_get-map, slice_get_within, slice_index, stretch, subst, sym, table_size}
-use Rattle.nit_hall.proofs.Basics.{take, with_room_stages, without_final, ℕ, ◌∙◌}
+use Rattle.nit_hall.proofs.Basics.{Belongs, BufferName, Call, CanAgree, Configuration, End, Entry}
+use Rattle.nit_hall.proofs.Basics.{HasMet, IsGlass, IsPass, IsRoom, KnowsStretch, Line, List}
+use Rattle.nit_hall.proofs.Basics.{OpeningParts, Option, PassModel, RoomModel, SceneModel}
+use Rattle.nit_hall.proofs.Basics.{ShareModel, Sight, Some, [], ap, arith, buffers_of, calls_in}
+use Rattle.nit_hall.proofs.Basics.{calls_of, cases_eq, donation_of, get_or_from_slice_get, glass_in}
+use Rattle.nit_hall.proofs.Basics.{inl, inr, knowing, length, map, no_sight, none-some, option_map}
+use Rattle.nit_hall.proofs.Basics.{phases_before, refl, same_Some, script_in, served, slice_get}
+use Rattle.nit_hall.proofs.Basics.{slice_get-map, slice_get_within, slice_index, stretch, subst}
+use Rattle.nit_hall.proofs.Basics.{sym, table_size, take, with_end_stages, with_room_stages}
+use Rattle.nit_hall.proofs.Basics.{without_final, ℕ, ◌∙◌}
 use Rattle.std.proofs.Common.{IsSome, suc, zero, ◌<◌, ◌∷◌, ◌≡◌}
-use Rattle.nit_hall.proofs.Basics.{SceneModel, with_end_stages}
 use Rattle.nit_hall.proofs.EndStages.{other_end, own_end, same_buffers, same_ink, same_stands}
 use Rattle.nit_hall.proofs.EndStages.{sights_of}
 use Rattle.nit_hall.proofs.ServedCalls.{calls_made}

@@ -4,12 +4,11 @@ use Rattle.nit_hall.proofs.Basics.{ClipHasMet, ClipLine, ClipModel, ClipPassMode
 use Rattle.nit_hall.proofs.Basics.{IsAtClip, IsAtClipPhase, IsClipPass, IsDoneClip, IsRoom}
 use Rattle.nit_hall.proofs.Basics.{IsWholeClips, List, Option, RoomModel, ShareModel, Some, [], ap}
 use Rattle.nit_hall.proofs.Basics.{ap₂, arith, calls_to_make, clip_calls_in, clip_entry}
-use Rattle.nit_hall.proofs.Basics.{clip_script_in, clips_to_make, done, drop, get_or-drop}
-use Rattle.nit_hall.proofs.Basics.{get_or_from_slice_get, is_clip_phase, length, length-append}
-use Rattle.nit_hall.proofs.Basics.{length-map, map, next_clip, raised, refl, slice_get}
-use Rattle.nit_hall.proofs.Basics.{slice_get_within, slice_index, state_now, subst, take_all}
-use Rattle.nit_hall.proofs.Basics.{entries_in, raws_in}
-use Rattle.nit_hall.proofs.Basics.{user_actions_to_do, with_clip, without_final}
+use Rattle.nit_hall.proofs.Basics.{clip_script_in, clips_to_make, done, drop, entries_in}
+use Rattle.nit_hall.proofs.Basics.{get_or-drop, get_or_from_slice_get, is_clip_phase, length}
+use Rattle.nit_hall.proofs.Basics.{length-append, length-map, map, next_clip, raised, raws_in, refl}
+use Rattle.nit_hall.proofs.Basics.{slice_get, slice_get_within, slice_index, state_now, subst}
+use Rattle.nit_hall.proofs.Basics.{take_all, user_actions_to_do, with_clip, without_final}
 use Rattle.std.proofs.Common.{sym, take, ℕ, ◌++◌, ◌+◌, ◌-◌, ◌∙◌, ◌∷◌, ◌≡◌}
 use mathlib.Core.List.{IsPrefix}
 use Rattle.nit_clip.specs.declared.line.ClipLine.TheVariants as line

@@ -1,9 +1,9 @@
 -- A clip list beside a journal that grows.
 use Rattle.std.proofs.Common.{List, [], subst, sym, ℕ, ◌++◌, ◌∙◌, ◌∷◌, ◌≡◌, ◌≤◌}
-use Rattle.nit_hall.proofs.Basics.{AllByRecursion, AreInPhases, Call, ClipCall, ClipEntry}
-use Rattle.nit_hall.proofs.Basics.{ClipModel, Configuration, End, Entry, FollowsClips, IsLegalClips}
-use Rattle.nit_hall.proofs.Basics.{IsRoom, IsThere, OpeningParts, RoomModel, SceneModel, UserAction}
-use Rattle.nit_hall.proofs.Basics.{BufferName, before_final, buffers_of}
+use Rattle.nit_hall.proofs.Basics.{AllByRecursion, AreInPhases, BufferName, Call, ClipCall}
+use Rattle.nit_hall.proofs.Basics.{ClipEntry, ClipModel, Configuration, End, Entry, FollowsClips}
+use Rattle.nit_hall.proofs.Basics.{IsLegalClips, IsRoom, IsThere, OpeningParts, RoomModel}
+use Rattle.nit_hall.proofs.Basics.{SceneModel, UserAction, before_final, buffers_of}
 
 -- what the laws of clip lists say of one more entry
 pub record ListLaws : Type 0 where

@@ -1,8 +1,7 @@
 -- Readers' ends of which one knows other stages.
-use Rattle.nit_hall.proofs.Basics.{End, List, Sight, Some, [], ap, arith, buffers_of, glass_in}
-use Rattle.nit_hall.proofs.Basics.{length, map, refl, set, slice_get, with_end_stages, with_stages}
-use Rattle.nit_hall.specs.Below.{Standing}
-use Rattle.nit_hall.proofs.Basics.{same_Some}
+use Rattle.nit_hall.proofs.Basics.{End, List, Sight, Some, Standing, [], ap, arith, buffers_of}
+use Rattle.nit_hall.proofs.Basics.{glass_in, length, map, refl, same_Some, set, slice_get}
+use Rattle.nit_hall.proofs.Basics.{with_end_stages, with_stages}
 use Rattle.std.proofs.Common.{suc, sym, zero, ℕ, ◌∙◌, ◌∷◌, ◌<◌, ◌≡◌, ◌≢◌}
 
 -- the sights of ends, in order

@@ -1,14 +1,12 @@
 -- One history of raw words, after one more entry, and what a share knows of it.
-use Rattle.nit_hall.proofs.Basics.{AreLast, Configuration, End, Entry, IsAdded, IsHistory}
-use Rattle.nit_hall.proofs.Basics.{IsOpen, IsRoom, List, Painted, Recorded, RoomModel, SceneModel}
-use Rattle.nit_hall.proofs.Basics.{Sight, [], after, ap, arith, bare_word, entries_in}
-use Rattle.nit_hall.proofs.Basics.{get_or-append_seam, get_or-replicate, get_or_append_left, inl}
-use Rattle.nit_hall.proofs.Basics.{inr, is_dirtied, length, length-append, map, raw_behind, raws_in}
-use Rattle.nit_hall.proofs.Basics.{refl}
-use Rattle.nit_hall.proofs.Basics.{replay, replicate, slice_index_or, state_now, subst, suc, sym}
-use Rattle.nit_hall.proofs.Basics.{without_final, ℕ, ◌∙◌}
+use Rattle.nit_hall.proofs.Basics.{AreLast, Configuration, End, Entry, IsAdded, IsHistory, IsOpen}
+use Rattle.nit_hall.proofs.Basics.{IsRoom, List, Painted, Recorded, RoomModel, SceneModel, Sight}
+use Rattle.nit_hall.proofs.Basics.{[], after, ap, arith, bare_word, entries_in, get_or-append_seam}
+use Rattle.nit_hall.proofs.Basics.{get_or-replicate, get_or_append_left, inl, inr, is_dirtied}
+use Rattle.nit_hall.proofs.Basics.{length, length-append, map, map-append, raw_behind, raws_in}
+use Rattle.nit_hall.proofs.Basics.{refl, replay, replicate, slice_index_or, state_now, subst, suc}
+use Rattle.nit_hall.proofs.Basics.{sym, without_final, ℕ, ◌∙◌}
 use Rattle.std.proofs.Common.{false, zero, ◌*◌, ◌++◌, ◌∷◌, ◌≡◌, ◌≤◌}
-use Rattle.std.proofs.lemmas.List.{map-append}
 use Rattle.nit_hall.proofs.FinalEntries.{open_whole}
 use Rattle.nit_hall.proofs.LastDirty.{split_more}
 use mathlib.Core.List.{IsPrefix}

@@ -1,13 +1,15 @@
 -- What serving a call leaves, by what the scene's call did.
-use Rattle.nit_hall.proofs.Basics.{Call, End, Entry, HasLoaded, List, Painted, PassModel, Reply, RoomModel}
-use Rattle.nit_hall.proofs.Basics.{SceneModel, Sight, Some, ap, arith, call_entry, cases_eq, false}
-use Rattle.nit_hall.proofs.Basics.{glass_in, glasses_of_call, in_line, inl, inr, is_accepted, length, length-map}
-use Rattle.nit_hall.proofs.Basics.{lenses, map, next_call, serve, session, sight_after_line, stands}
-use Rattle.nit_hall.proofs.Basics.{state_now, stretch_from, subst, sym, with_end_stages, with_stages, ℕ, ◌∙◌}
-use Rattle.nit_hall.proofs.Basics.{knowing, line_stages, refl}
+use Rattle.nit_hall.proofs.Basics.{Call, End, Entry, HasLoaded, List, Painted, PassModel, Reply}
+use Rattle.nit_hall.proofs.Basics.{RoomModel, SceneModel, Sight, Some, ap, arith, call_entry}
+use Rattle.nit_hall.proofs.Basics.{cases_eq, false, glass_in, glasses_of_call, in_line, inl, inr}
+use Rattle.nit_hall.proofs.Basics.{is_accepted, knowing, length, length-map, lenses, line_stages}
+use Rattle.nit_hall.proofs.Basics.{map, next_call, refl, serve, session, sight_after_line, stands}
+use Rattle.nit_hall.proofs.Basics.{state_now, stretch_from, subst, sym, with_end_stages}
+use Rattle.nit_hall.proofs.Basics.{with_stages, ℕ, ◌∙◌}
 use Rattle.std.proofs.Common.{◌+◌, ◌<◌, ◌≡◌}
 use Rattle.nit_hall.proofs.EndStages.{as_long, other_end, own_end, same_stands, stages_again}
-use Rattle.nit_hall.proofs.ServedCalls.{IsCalled, other_there, own_seen, own_there, scene_with, sights}
+use Rattle.nit_hall.proofs.ServedCalls.{IsCalled, other_there, own_seen, own_there, scene_with}
+use Rattle.nit_hall.proofs.ServedCalls.{sights}
 
 -- what a scene promises of a call
 pub record CallDid (old called : SceneModel End) (sid : ℕ) (c : Call) (r : Reply) (own own' : Sight) : Type 0 where

@@ -1,13 +1,14 @@
 -- What each pixel may hold, after one more entry.
-use Rattle.nit_hall.proofs.Basics.{AreNear, Bare, Black, Call, Configuration, Entry, EntryLaws}
-use Rattle.nit_hall.proofs.Basics.{IfSome, InputLine, IsLegal, IsNear, IsNearBy, IsOpen, IsWordOfScripts}
-use Rattle.nit_hall.proofs.Basics.{IsWordOfSource, Line, List, None, Option, Painted, PixelSource}
-use Rattle.nit_hall.proofs.Basics.{Reply, Sight, Some, State, Word, [], after, ap, cases_Bool}
-use Rattle.nit_hall.proofs.Basics.{Colours, IsLoaded, MayHaveDone, arith, donation_of, false}
-use Rattle.nit_hall.proofs.Basics.{first_state, ink_in, inl, inr, is_dirtied, length, words_after}
-use Rattle.nit_hall.proofs.Basics.{nat_tests, phase_of_entry, pixel, refl, script_ink}
-use Rattle.nit_hall.proofs.Basics.{pixel_count, replay, same_config, script_in, shots, slice_index}
-use Rattle.nit_hall.proofs.Basics.{slice_index_or, source_at, source_of, subst, sym, words_at_call}
+use Rattle.nit_hall.proofs.Basics.{AreNear, Bare, Black, Call, Colours, Configuration, Entry}
+use Rattle.nit_hall.proofs.Basics.{EntryLaws, IfSome, InputLine, IsLegal, IsLoaded, IsNear}
+use Rattle.nit_hall.proofs.Basics.{IsNearBy, IsOpen, IsWordOfScripts, IsWordOfSource, Line, List}
+use Rattle.nit_hall.proofs.Basics.{MayHaveDone, None, Option, Painted, PixelSource, Reply, Sight}
+use Rattle.nit_hall.proofs.Basics.{Some, State, Word, [], after, ap, arith, cases_Bool, donation_of}
+use Rattle.nit_hall.proofs.Basics.{false, first_state, ink_in, inl, inr, is_dirtied, length}
+use Rattle.nit_hall.proofs.Basics.{nat_tests, phase_of_entry, pixel, pixel_count, refl, replay}
+use Rattle.nit_hall.proofs.Basics.{same_config, script_in, script_ink, shots, slice_index}
+use Rattle.nit_hall.proofs.Basics.{slice_index_or, source_at, source_of, subst, sym, words_after}
+use Rattle.nit_hall.proofs.Basics.{words_at_call}
 use Rattle.std.proofs.Common.{nat_lt, true, ℕ, ◌*◌, ◌++◌, ◌+◌, ◌<◌, ◌∙◌, ◌∷◌, ◌≡◌, ◌≤◌}
 use Rattle.nit_events.specs.declared.entry.Entry.TheVariants as entry
 use Rattle.nit_hall.proofs.LastDirty.{last_is_last, last_before, last_more, one_more_last}

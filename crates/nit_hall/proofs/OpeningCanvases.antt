@@ -1,11 +1,10 @@
 -- Canvases that agree with their readers' ends on the first stretches, one after the other.
 use Rattle.nit_hall.proofs.Basics.{AreAgreed, AreBlank, BookName, BufferName, Configuration, End}
-use Rattle.nit_hall.proofs.Basics.{InputLine}
-use Rattle.nit_hall.proofs.Basics.{IsFirst, Line, List, PassModel, PlanModel, Some, [], ap}
-use Rattle.nit_hall.proofs.Basics.{arith, buffers_of, cases_eq, donation_of, first_pass, inl, inr, length}
-use Rattle.nit_hall.proofs.Basics.{length-append, length-set, new_sight, parts_of, refl, same_Some, script_in, set}
-use Rattle.nit_hall.proofs.Basics.{slice_get, slice_get_within, stretch, sym, take, watching_sight}
-use Rattle.nit_hall.proofs.Basics.{ℕ, ◌∙◌}
+use Rattle.nit_hall.proofs.Basics.{InputLine, IsFirst, Line, List, PassModel, PlanModel, Some, []}
+use Rattle.nit_hall.proofs.Basics.{ap, arith, buffers_of, cases_eq, donation_of, first_pass, inl}
+use Rattle.nit_hall.proofs.Basics.{inr, length, length-append, length-set, new_sight, parts_of}
+use Rattle.nit_hall.proofs.Basics.{refl, same_Some, script_in, set, slice_get, slice_get_within}
+use Rattle.nit_hall.proofs.Basics.{stretch, sym, take, watching_sight, ℕ, ◌∙◌}
 use Rattle.std.proofs.Common.{suc, zero, ⊎_elim, ◌++◌, ◌+◌, ◌<◌, ◌∷◌, ◌≡◌, ◌≢◌, ◌≤◌}
 use Rattle.nit_hall.proofs.EndStages.{end_with, set_there}
 use Rattle.nit_hall.proofs.LineLemmas.{item_there, take_line}

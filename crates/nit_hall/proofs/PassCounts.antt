@@ -1,8 +1,8 @@
 -- What a room's counts are for a pass, and what they are when its count has risen.
-use Rattle.nit_hall.proofs.Basics.{Belongs, End, IsPass, IsUserPass, Line, List, OpeningParts, PassModel}
-use Rattle.nit_hall.proofs.Basics.{ShareModel, UserPassModel, ap, arith, drop, drop-set-lt}
-use Rattle.nit_hall.proofs.Basics.{get_or-take, length, raised, served, slice_get_within}
-use Rattle.nit_hall.proofs.Basics.{slice_index, sym, take, ℕ, ◌∙◌}
+use Rattle.nit_hall.proofs.Basics.{Belongs, End, IsPass, IsUserPass, Line, List, OpeningParts}
+use Rattle.nit_hall.proofs.Basics.{PassModel, ShareModel, UserPassModel, ap, arith, drop}
+use Rattle.nit_hall.proofs.Basics.{drop-set-lt, get_or-take, length, raised, served}
+use Rattle.nit_hall.proofs.Basics.{slice_get_within, slice_index, sym, take, ℕ, ◌∙◌}
 use Rattle.std.proofs.Common.{◌+◌, ◌≡◌}
 use Rattle.nit_hall.proofs.CountParts.{front_raised}
 use Rattle.nit_hall.proofs.ScriptsFollowed.{IsNext, client_is}

@@ -1,13 +1,14 @@
 -- A room and its passes after a stroke, and after the end of a phase.
-use Rattle.nit_hall.proofs.Basics.{Bool, Entry, IfSome, InputLine, IsOpen, IsPaintedTo, IsPass}
+use Rattle.nit_hall.proofs.Basics.{Bool, End, Entry, IfSome, InputLine, IsOpen, IsPaintedTo, IsPass}
 use Rattle.nit_hall.proofs.Basics.{IsRoom, IsUserPass, Line, List, Option, Painting, PassModel}
-use Rattle.nit_hall.proofs.Basics.{RoomModel, ShareModel, Sight, Some, Stroke, UserPassModel}
-use Rattle.nit_hall.proofs.Basics.{after_arrival, after_line, ap, append-nil, ap₂, arith, blank}
-use Rattle.nit_hall.proofs.Basics.{calls_in, calls_of, cond, count_by, count_by-le-length, false}
-use Rattle.nit_hall.proofs.Basics.{inl, input_phases_before, is_input_phase, is_phase, length-take}
-use Rattle.nit_hall.proofs.Basics.{option_map, painted_from, phases_before, raised}
-use Rattle.nit_hall.proofs.Basics.{slice_get_within, slice_index, user_actions_in, user_actions_of}
-use Rattle.nit_hall.proofs.Basics.{Recorded, with_words, without_final, words_after}
+use Rattle.nit_hall.proofs.Basics.{Recorded, RoomModel, ShareModel, Sight, Some, Stroke}
+use Rattle.nit_hall.proofs.Basics.{UserPassModel, after_arrival, after_line, ap, append-nil, ap₂}
+use Rattle.nit_hall.proofs.Basics.{arith, blank, calls_in, calls_of, cond, count_by}
+use Rattle.nit_hall.proofs.Basics.{count_by-le-length, false, inl, input_phases_before}
+use Rattle.nit_hall.proofs.Basics.{is_input_phase, is_phase, length-take, option_map, painted_from}
+use Rattle.nit_hall.proofs.Basics.{phases_before, raised, slice_get_within, slice_index}
+use Rattle.nit_hall.proofs.Basics.{user_actions_in, user_actions_of, with_words, without_final}
+use Rattle.nit_hall.proofs.Basics.{words_after}
 use Rattle.std.proofs.Common.{inr, length, refl, slice_get, subst, sym, take, true, ℕ, ◌+◌, ◌<◌}
 use Rattle.std.proofs.Common.{◌==◌, ◌∙◌, ◌≡◌, ◌≤◌}
 use Rattle.nit_script.specs.declared.line.Line.TheVariants as line
@@ -18,7 +19,6 @@ use Rattle.nit_hall.proofs.Phases.{client_ends, user_ends, phase_ended, ended_lo
 use Rattle.nit_hall.proofs.ScriptsFollowed.{IsNext, IsUserNext, follows_phase, follows_user_phase}
 use Rattle.nit_hall.proofs.RoomSteps.{room_then, room_turned}
 use Rattle.nit_hall.proofs.Stretches.{stretch_on}
-use Rattle.nit_hall.proofs.Basics.{End}
 use Rattle.nit_hall.proofs.ServedCalls.{still_open}
 
 -- ---- phases

@@ -1,32 +1,27 @@
 -- Passes that are done, and the last picture.
-use Rattle.nit_scene.specs.Screen.{AreGlasses}
-use Rattle.nit_hall.proofs.Basics.{AllServed, AreDone, Bare, Black, Configuration, End, Entry}
-use Rattle.nit_hall.proofs.Basics.{EntryLaws, Follows, HasMet, HaveInks, IsDonePass, IsGlass}
-use Rattle.nit_hall.proofs.Basics.{no_ink, IsKnownPass, IsLoaded, IsOpen, IsRoom}
-use Rattle.nit_hall.proofs.Basics.{IsWordOfSource, Line, List, Painted, Painting, PassModel}
+use Rattle.nit_hall.proofs.Basics.{AllServed, AreDone, AreGlasses, AreWatching, Bare, Black, Call}
+use Rattle.nit_hall.proofs.Basics.{Configuration, End, Entry, EntryLaws, Follows, HasMet, HaveInks}
+use Rattle.nit_hall.proofs.Basics.{IsAdded, IsDonePass, IsGlass, IsKnownPass, IsLoaded, IsOpen}
+use Rattle.nit_hall.proofs.Basics.{IsRoom, IsWordOfSource, Line, List, Painted, Painting, PassModel}
 use Rattle.nit_hall.proofs.Basics.{PassRest, PixelSource, RoomModel, SceneModel, Sight, Some, State}
-use Rattle.nit_hall.proofs.Basics.{Word, [], ap, append-nil, ap₂, arith, blank, cases_eq, cases_lt}
-use Rattle.nit_hall.proofs.Basics.{donation_of, drop, frame, get_or}
-use Rattle.nit_hall.proofs.Basics.{get_or-map-range_with_len, get_or_from_slice_get, get_or_past}
-use Rattle.nit_hall.proofs.Basics.{glass_in, inl, inr, knowing, left_word, length, length-map}
-use Rattle.nit_hall.proofs.Basics.{map, map_over_more, no_sight, option_map, painted_from}
-use Rattle.nit_hall.proofs.Basics.{pixel_count, range_with_len, refl, rest_of, same_Some}
-use Rattle.nit_hall.proofs.Basics.{same_frame, scenery_of, script_in, served, set, slice_get}
-use Rattle.nit_hall.proofs.Basics.{slice_get-get_or, slice_get-map, slice_get_read, slice_index}
-use Rattle.nit_hall.proofs.Basics.{source_at, state_now, subst, table_size, take_all, without_final}
-use Rattle.nit_hall.proofs.Basics.{words_after, words_left, words_left_in, zero_at}
-use Rattle.std.proofs.Common.{suc, sym, take, zero, zero-add, ℕ, ◌++◌, ◌+◌, ◌<◌}
-use Rattle.std.proofs.Common.{◌∙◌, ◌∷◌, ◌≡◌, ◌≤◌}
+use Rattle.nit_hall.proofs.Basics.{Word, [], ap, append-nil, ap₂, arith, blank, calls_in, calls_of}
+use Rattle.nit_hall.proofs.Basics.{calls_of-append, cases_eq, cases_lt, donation_of, drop, frame}
+use Rattle.nit_hall.proofs.Basics.{get_or, get_or-map-range_with_len, get_or_from_slice_get}
+use Rattle.nit_hall.proofs.Basics.{get_or_past, glass_in, inl, inr, knowing, left_word, length}
+use Rattle.nit_hall.proofs.Basics.{length-map, map, map_over_more, no_ink, no_sight, option_map}
+use Rattle.nit_hall.proofs.Basics.{painted_from, pixel_count, range_with_len, refl, rest_of}
+use Rattle.nit_hall.proofs.Basics.{same_Some, same_frame, scenery_of, script_in, served, set}
+use Rattle.nit_hall.proofs.Basics.{slice_get, slice_get-get_or, slice_get-map, slice_get_read}
+use Rattle.nit_hall.proofs.Basics.{slice_index, source_at, state_now, subst, table_size, take_all}
+use Rattle.nit_hall.proofs.Basics.{without_final, words_after, words_left, words_left_in, zero_at}
+use Rattle.std.proofs.Common.{suc, sym, take, zero, zero-add, ℕ, ◌++◌, ◌+◌, ◌<◌, ◌∙◌, ◌∷◌, ◌≡◌, ◌≤◌}
 use Rattle.nit_events.specs.declared.entry.Entry.TheVariants as entry
 use Rattle.nit_hall.proofs.FinalEntries.{open_whole, without-append}
-use Rattle.nit_hall.proofs.NearLemmas.{AreInks, ink_behind, ink_inside, told_word}
-use Rattle.nit_hall.proofs.Basics.{AreWatching, Call, calls_in, calls_of, calls_of-append}
-use Rattle.nit_hall.proofs.NearLemmas.{ShowsThen}
+use Rattle.nit_hall.proofs.NearLemmas.{AreInks, ink_behind, ink_inside, told_word, ShowsThen}
 use Rattle.nit_hall.proofs.RoomSteps.{inks_before, legal_then, near_then, room_grown, room_then}
 use Rattle.nit_hall.proofs.ServedCalls.{calls_made}
 use Rattle.nit_hall.proofs.WatchedWords.{lens_shows, told_shows}
 use Rattle.nit_hall.proofs.HistoryLemmas.{goes_no_further}
-use Rattle.nit_scene.specs.Scene.{IsAdded}
 
 -- ---- a list that is changed in place
 

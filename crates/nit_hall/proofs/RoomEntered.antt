@@ -1,8 +1,7 @@
 -- The room after a line that put an entry into the journal, part by part.
 use Rattle.std.proofs.Common.{List, [], drop, take, ℕ, ◌++◌, ◌∙◌, ◌∷◌, ◌≡◌}
-use Rattle.nit_scene.specs.Scene.{IsAdded}
-use Rattle.nit_hall.proofs.Basics.{BookModel, End, Entry, RoomModel, SceneModel, buffers_of, raised}
-use Rattle.nit_hall.proofs.Basics.{with_entry}
+use Rattle.nit_hall.proofs.Basics.{BookModel, End, Entry, IsAdded, RoomModel, SceneModel}
+use Rattle.nit_hall.proofs.Basics.{buffers_of, raised, with_entry}
 
 pub entered : (r r₀ : RoomModel) (new : SceneModel End) (book : BookModel) (n actor actor₀ : ℕ) (e e₀ : Entry)
     (raws : List (List ℕ)) → r ≡ r₀ → IsAdded r.scene new e → r.scene.config ≡ r.parts.config

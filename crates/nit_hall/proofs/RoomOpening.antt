@@ -1,30 +1,27 @@
 -- A room and its passes before the first line.
-use Rattle.nit_scene.specs.Screen.{AreGlasses}
-use Rattle.nit_hall.proofs.Basics.{AreBlank, AreNear, AreSplitOff, BookModel, BookName, ClipLine}
-use Rattle.nit_hall.proofs.Basics.{ClipModel, ClipPassModel, Configuration, End, Entry, Follows}
-use Rattle.nit_hall.proofs.Basics.{HasStages}
-use Rattle.nit_hall.proofs.Basics.{FollowsClips, HaveInks, IfSome, InputLine, IsDonation, IsFirst}
-use Rattle.nit_hall.proofs.Basics.{IsGlass, IsLegalClips, IsNearBy, IsNonDecreasingBy-short, IsPass}
-use Rattle.nit_hall.proofs.Basics.{IsPlanOf, IsRoom, Line, List, Member, OpeningParts}
-use Rattle.nit_hall.proofs.Basics.{Option, PassModel, PixelSource, PlanModel, RoomModel, ShareModel}
-use Rattle.nit_hall.proofs.Basics.{Sight, Some, [], ap, append_assoc, arith, bare_everywhere}
-use Rattle.nit_hall.proofs.Basics.{bare_word, calls_in, calls_of, cases_lt, clip_calls_in}
-use Rattle.nit_hall.proofs.Basics.{clip_script_in, donation_of, drop, drop_at, false, first_pass}
-use Rattle.nit_hall.proofs.Basics.{get_or, get_or-replicate, get_or_default, get_or_from_slice_get}
-use Rattle.nit_hall.proofs.Basics.{get_or_past, glass_in, has_stages, inl, inr, length, length-map}
-use Rattle.nit_hall.proofs.Basics.{length-replicate, lines_of_all, lines_of_clips, map, new_sight}
-use Rattle.nit_hall.proofs.Basics.{no_sight, none-some, option_map, parts_of, phases_before, pixel}
-use Rattle.nit_hall.proofs.Basics.{plan_in, refl, replicate, replicate_more}
-use Rattle.nit_hall.proofs.Basics.{same_Some, script_in, served, slice_get, slice_get-map}
-use Rattle.nit_hall.proofs.Basics.{slice_index, slice_index_or, subst, suc, sum, sum_by-cons, sym}
-use Rattle.nit_hall.proofs.Basics.{take, take_all, take_at, user_actions_in}
-use Rattle.nit_hall.proofs.Basics.{with_clip_scripts, words_after}
+use Rattle.nit_hall.proofs.Basics.{AreAgreed, AreBegun, AreBlank, AreGlasses, AreLast, AreNear}
+use Rattle.nit_hall.proofs.Basics.{AreSplitOff, AreWatching, BookModel, BookName, BufferName}
+use Rattle.nit_hall.proofs.Basics.{ClipLine, ClipModel, ClipPassModel, Configuration, End, Entry}
+use Rattle.nit_hall.proofs.Basics.{Follows, FollowsClips, HasStages, HaveInks, IfSome, InputLine}
+use Rattle.nit_hall.proofs.Basics.{IsDonation, IsFirst, IsGlass, IsLegalClips, IsNearBy}
+use Rattle.nit_hall.proofs.Basics.{IsNonDecreasingBy-short, IsPass, IsPlanOf, IsRoom, Line, List}
+use Rattle.nit_hall.proofs.Basics.{Member, OpeningParts, Option, PassModel, PixelSource, PlanModel}
+use Rattle.nit_hall.proofs.Basics.{RoomModel, ShareModel, Sight, Some, [], ap, append_assoc, arith}
+use Rattle.nit_hall.proofs.Basics.{bare_everywhere, bare_word, calls_in, calls_of, cases_lt}
+use Rattle.nit_hall.proofs.Basics.{clip_calls_in, clip_script_in, donation_of, drop, drop_at}
+use Rattle.nit_hall.proofs.Basics.{entries_in, false, first_pass, get_or, get_or-replicate}
+use Rattle.nit_hall.proofs.Basics.{get_or_default, get_or_from_slice_get, get_or_past, glass_in}
+use Rattle.nit_hall.proofs.Basics.{has_stages, inl, inr, length, length-map, length-replicate}
+use Rattle.nit_hall.proofs.Basics.{lines_of_all, lines_of_clips, map, new_sight, no_sight}
+use Rattle.nit_hall.proofs.Basics.{none-some, option_map, parts_of, phases_before, pixel, plan_in}
+use Rattle.nit_hall.proofs.Basics.{raws_in, refl, replicate, replicate_more, same_Some, script_in}
+use Rattle.nit_hall.proofs.Basics.{served, slice_get, slice_get-map, slice_get_within, slice_index}
+use Rattle.nit_hall.proofs.Basics.{slice_index_or, stretch, subst, suc, sum, sum_by-cons, sym, take}
+use Rattle.nit_hall.proofs.Basics.{take_all, take_at, user_actions_in, watching_sight}
+use Rattle.nit_hall.proofs.Basics.{with_clip_scripts, with_stages, words_after}
 use Rattle.std.proofs.Common.{zero, ℕ, ⊎_elim, ◌*◌, ◌++◌, ◌+◌, ◌<◌, ◌∙◌, ◌∷◌, ◌≡◌, ◌≤◌, ◌⊎◌}
-use Rattle.nit_hall.proofs.Basics.{AreLast, entries_in, raws_in}
 use Rattle.nit_hall.proofs.HistoryLemmas.{history_begun, last_begun}
 use Rattle.nit_hall.proofs.LineLemmas.{item_there}
-use Rattle.nit_hall.proofs.Basics.{AreAgreed, AreBegun, AreWatching, BufferName, stretch, watching_sight}
-use Rattle.nit_hall.proofs.Basics.{slice_get_within, with_stages}
 use Rattle.nit_hall.proofs.NearLemmas.{ink_behind, ink_inside}
 use Rattle.nit_hall.proofs.Stretches.{stretch_begun}
 use Rattle.nit_hall.proofs.Phases.{phases_begun}

@@ -1,21 +1,20 @@
 -- A room after one more entry, and after the end of a phase.
-use Rattle.nit_hall.proofs.Basics.{AllServed, AreNear, Configuration, End, Entry, EntryLaws}
-use Rattle.nit_hall.proofs.Basics.{Follows, HaveInks, IsLegal, IsOpen, IsRoom, IsServedPhase, List}
-use Rattle.nit_hall.proofs.Basics.{Painted, RoomModel, SceneModel, Sight, [], after, ap, arith}
-use Rattle.nit_hall.proofs.Basics.{buffers_of, first_state, inl, length, length-append, phases_ended, refl}
-use Rattle.nit_hall.proofs.Basics.{replay, state_now, subst, sym, without_final, ℕ, ◌∙◌}
-use Rattle.std.proofs.Common.{◌++◌, ◌∷◌, ◌≡◌, ◌≤◌, ◌⊎◌}
+use Rattle.nit_hall.proofs.Basics.{AllServed, AreNear, AreWatching, Call, CanAdd, Configuration}
+use Rattle.nit_hall.proofs.Basics.{End, Entry, EntryLaws, Follows, HaveInks, IsAdded, IsLegal}
+use Rattle.nit_hall.proofs.Basics.{IsLoaded, IsOpen, IsRoom, IsServedPhase, KnowsStretch, Line}
+use Rattle.nit_hall.proofs.Basics.{List, Painted, RoomModel, SceneModel, Sight, Some, [], after, ap}
+use Rattle.nit_hall.proofs.Basics.{append-nil, arith, buffers_of, calls_of, calls_of-append}
+use Rattle.nit_hall.proofs.Basics.{donation_of, first_state, glass_in, inl, length, length-append}
+use Rattle.nit_hall.proofs.Basics.{phases_ended, refl, replay, script_in, state_now, stretch, subst}
+use Rattle.nit_hall.proofs.Basics.{sym, without_final, ℕ, ◌∙◌}
+use Rattle.std.proofs.Common.{◌++◌, ◌∷◌, ◌≡◌, ◌≤◌, ◌⊎◌, ◌<◌}
 use Rattle.nit_hall.proofs.ClipsStay.{clips_same, clips_then}
 use Rattle.nit_hall.proofs.FinalEntries.{open_whole}
 use Rattle.nit_hall.proofs.HistoryLemmas.{GoesOn}
 use Rattle.nit_hall.proofs.EndStages.{sights_of}
 use Rattle.nit_hall.proofs.NearLemmas.{IsInPhase, ShowsThen, TellsWords, near_painted}
 use Rattle.nit_hall.proofs.WatchedWords.{WasLeft, lens_shows}
-use Rattle.nit_hall.proofs.Basics.{AreWatching, Call, IsLoaded, KnowsStretch, Line, Some, append-nil}
-use Rattle.nit_hall.proofs.Basics.{calls_of, calls_of-append, donation_of, glass_in, script_in, stretch}
-use Rattle.std.proofs.Common.{◌<◌}
 use Rattle.nit_hall.proofs.ScriptsFollowed.{entries_within}
-use Rattle.nit_scene.specs.Scene.{CanAdd, IsAdded}
 use mathlib.Core.List.{IsPrefix}
 
 -- the room with this scene, these raw words behind each entry and these counts, in this phase

@@ -1,16 +1,17 @@
 -- What the journal has of each script, kept line by line; and whole where all lines are served.
 use Rattle.nit_hall.proofs.Basics.{AllServed, Call, Entry, Follows, InputLine, IsNonDecreasing}
-use Rattle.nit_hall.proofs.Basics.{IsUsers, IsWhole, Line, List, Reply, Some, UserAction, [], ap}
-use Rattle.nit_hall.proofs.Basics.{append-nil, ap₂, arith, calls_done, calls_in, calls_of}
-use Rattle.nit_hall.proofs.Basics.{calls_other, calls_own, calls_same, calls_to_make, cases_eq, eq-eqb}
-use Rattle.nit_hall.proofs.Basics.{count_by-le-length, actions_of-append, actions_same, done, drop}
-use Rattle.nit_hall.proofs.Basics.{false, get_or-set_other, get_or-set_same, get_or_from_slice_get}
-use Rattle.nit_hall.proofs.Basics.{inl, input_phases_before, inr, is_input_phase, is_served, length}
-use Rattle.nit_hall.proofs.Basics.{length-append, length-filter, length-map, length-set}
-use Rattle.nit_hall.proofs.Basics.{lines_of_all, map, next_phase, phase_of_entry, phases_along, phases_before}
-use Rattle.nit_hall.proofs.Basics.{phases_call, phases_action, phases_final, raised, script_in}
-use Rattle.nit_hall.proofs.Basics.{served, slice_get_within, slice_index, sum, sum_by-cons}
-use Rattle.nit_hall.proofs.Basics.{sum_by-set, take-append-drop, take_all, to_do, user_actions_in}
+use Rattle.nit_hall.proofs.Basics.{IsUsers, IsWhole, Line, List, Reply, Some, UserAction, []}
+use Rattle.nit_hall.proofs.Basics.{actions_of-append, actions_same, ap, append-nil, ap₂, arith}
+use Rattle.nit_hall.proofs.Basics.{calls_done, calls_in, calls_of, calls_other, calls_own}
+use Rattle.nit_hall.proofs.Basics.{calls_same, calls_to_make, cases_eq, count_by-le-length, done}
+use Rattle.nit_hall.proofs.Basics.{drop, eq-eqb, false, get_or-set_other, get_or-set_same}
+use Rattle.nit_hall.proofs.Basics.{get_or_from_slice_get, inl, input_phases_before, inr}
+use Rattle.nit_hall.proofs.Basics.{is_input_phase, is_served, length, length-append, length-filter}
+use Rattle.nit_hall.proofs.Basics.{length-map, length-set, lines_of_all, map, next_phase}
+use Rattle.nit_hall.proofs.Basics.{phase_of_entry, phases_action, phases_along, phases_before}
+use Rattle.nit_hall.proofs.Basics.{phases_call, phases_final, raised, script_in, served}
+use Rattle.nit_hall.proofs.Basics.{slice_get_within, slice_index, sum, sum_by-cons, sum_by-set}
+use Rattle.nit_hall.proofs.Basics.{take-append-drop, take_all, to_do, user_actions_in}
 use Rattle.nit_hall.proofs.Basics.{user_actions_of, user_actions_to_do}
 use Rattle.std.proofs.Common.{refl, slice_get, subst, suc, sym, take, true, zero, ℕ, ◌++◌, ◌+◌, ◌<◌}
 use Rattle.std.proofs.Common.{◌∙◌, ◌∷◌, ◌≡◌, ◌≢◌, ◌≤◌}

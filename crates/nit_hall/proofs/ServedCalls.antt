@@ -1,37 +1,33 @@
 -- A room and a pass after a call.
-use Rattle.nit_hall.proofs.Basics.{Belongs, Call, Configuration, End, Entry, EntryLaws, Follows}
-use Rattle.nit_hall.proofs.Basics.{HasMet, IsAtCall, IsOpen, IsPaintedTo, IsPass, IsRoom, Line}
-use Rattle.nit_hall.proofs.Basics.{List, OpeningParts, Painted, PassModel, PlanModel, Reply}
+use Rattle.nit_hall.proofs.Basics.{AreWatching, Belongs, Call, Configuration, End, Entry, EntryLaws}
+use Rattle.nit_hall.proofs.Basics.{Follows, HasMet, HaveInks, IsAdded, IsAtCall, IsLoaded, IsOpen}
+use Rattle.nit_hall.proofs.Basics.{IsPaintedTo, IsPass, IsRoom, KnowsStretch, Line, List}
+use Rattle.nit_hall.proofs.Basics.{OpeningParts, Painted, PassModel, PlanModel, Recorded, Reply}
 use Rattle.nit_hall.proofs.Basics.{RoomModel, SceneModel, ShareModel, Sight, Some, [], ap, ap₂}
 use Rattle.nit_hall.proofs.Basics.{arith, calls_in, calls_of, calls_own, cases_eq, donation_of}
-use Rattle.nit_hall.proofs.Basics.{eq-eqb, get_or_from_slice_get, glass_in, glasses_of_call}
-use Rattle.nit_hall.proofs.Basics.{script_ink}
-use Rattle.nit_hall.proofs.Basics.{inl, inr, is_phase, is_served, knowing, length, lines_to_call}
-use Rattle.nit_hall.proofs.Basics.{map, ne_eqb, next_call, option_map, phases_before, raised}
-use Rattle.nit_hall.proofs.Basics.{script_in, seen, served, slice_get_within, slice_index}
-use Rattle.nit_hall.proofs.Basics.{IsAdded, Recorded, entries_in}
-use Rattle.nit_hall.proofs.Basics.{state_now, with_words, without_final, words_after, words_at_call}
+use Rattle.nit_hall.proofs.Basics.{entries_in, eq-eqb, get_or_from_slice_get, glass_in}
+use Rattle.nit_hall.proofs.Basics.{glasses_of_call, inl, inr, is_phase, is_served, knowing, length}
+use Rattle.nit_hall.proofs.Basics.{lines_to_call, map, ne_eqb, next_call, option_map}
+use Rattle.nit_hall.proofs.Basics.{phase_of_entry, phases_before, raised, script_in, script_ink}
+use Rattle.nit_hall.proofs.Basics.{seen, served, slice_get_within, slice_index, state_now, stretch}
+use Rattle.nit_hall.proofs.Basics.{with_end_stages, with_stages, with_words, without_final}
+use Rattle.nit_hall.proofs.Basics.{words_after, words_at_call}
 use Rattle.std.proofs.Common.{refl, slice_get, subst, sym, take, true, ℕ, ◌++◌, ◌+◌, ◌∙◌, ◌∷◌, ◌≡◌}
-use Rattle.std.proofs.Common.{◌≢◌}
+use Rattle.std.proofs.Common.{◌≢◌, ◌<◌}
 use Rattle.nit_events.specs.declared.entry.Entry.TheVariants as entry
 use Rattle.nit_script.specs.declared.line.Line.TheVariants as line
 use Rattle.nit_hall.proofs.LineLemmas.{counted_same, served_counted, calls_front, calls_line}
 use Rattle.nit_hall.proofs.LineLemmas.{line_counted}
 use Rattle.nit_hall.proofs.FinalEntries.{open_whole}
-use Rattle.nit_hall.proofs.Basics.{AreWatching, HaveInks, IsLoaded, KnowsStretch, stretch}
-use Rattle.nit_hall.proofs.Basics.{with_end_stages, with_stages}
 use Rattle.nit_hall.proofs.EndStages.{other_end, own_end, same_ink}
 use Rattle.nit_hall.proofs.NearLemmas.{AreInks, IsInPhase, ShowsThen, TellsWords}
 use Rattle.nit_hall.proofs.RoomSteps.{booked_more, inks_before, lenses_show, near_then, room_grown}
-use Rattle.nit_hall.proofs.RoomSteps.{room_then, watching_other}
+use Rattle.nit_hall.proofs.RoomSteps.{room_then, watching_other, state_later}
 use Rattle.nit_hall.proofs.Stretches.{stretch_begun}
 use Rattle.nit_hall.proofs.WatchedWords.{WasLeft, told_shows}
-use Rattle.std.proofs.Common.{◌<◌}
 use Rattle.nit_hall.proofs.HistoryLemmas.{clean_painted, goes_on}
-use Rattle.nit_hall.proofs.RoomSteps.{state_later}
 use Rattle.nit_hall.proofs.ScriptsFollowed.{IsNext, one_left, client_is, follows_call}
 use Rattle.nit_hall.proofs.ScriptsFollowed.{phase_of_next}
-use Rattle.nit_hall.proofs.Basics.{phase_of_entry}
 use Rattle.nit_hall.proofs.Phases.{client_ends, same_phase}
 
 -- ---- before it

@@ -1,11 +1,10 @@
 -- What a shot tells the user of the entries, and of the raw words behind them.
-use Rattle.nit_hall.proofs.Basics.{AreNear, Configuration, Entry, List, OpeningParts, RoomModel}
-use Rattle.nit_hall.proofs.Basics.{UserPassModel, [], ap, arith, frame, length, length-append}
-use Rattle.nit_hall.proofs.Basics.{replay, scenery_of, state_now, subst, sym, with_entry, ℕ, ◌∙◌}
+use Rattle.nit_hall.proofs.Basics.{AreNear, Configuration, Entry, HasActed, List, OpeningParts}
+use Rattle.nit_hall.proofs.Basics.{RoomModel, TellsShot, UserPassModel, [], ap, arith, frame}
+use Rattle.nit_hall.proofs.Basics.{length, length-append, replay, scenery_of, state_now, subst, sym}
+use Rattle.nit_hall.proofs.Basics.{with_entry, ℕ, ◌∙◌}
 use Rattle.std.proofs.Common.{◌++◌, ◌∷◌, ◌≡◌}
 use Rattle.nit_events.specs.declared.entry.Entry.TheVariants as entry
-use Rattle.nit_hall.specs.Hall.{TellsShot}
-use Rattle.nit_hall.specs.RoomCalls.{HasActed}
 
 pub shot_told : {r r' : RoomModel} {u u' : UserPassModel} {parts : OpeningParts} (number : ℕ) (words : List ℕ)
     → r.parts ≡ parts → r.scene.config ≡ r.parts.config

@@ -1,10 +1,8 @@
 -- Stretches of a script: strokes between two lines that the room serves.
-use Rattle.nit_hall.proofs.Basics.{IfSome, stage_within}
-use Rattle.nit_hall.proofs.Basics.{HasStretch, IsAmong, Line, List, Option, Some, [], ap, arith}
-use Rattle.nit_hall.proofs.Basics.{calls_in, drop, is_phase, phases_before, refl}
-use Rattle.nit_hall.proofs.Basics.{slice_get, slice_index, stretch}
-use Rattle.nit_hall.proofs.Basics.{Stroke, stretch_end, strokes_in_front, subst, sym, take}
-use Rattle.nit_hall.proofs.Basics.{words_after}
+use Rattle.nit_hall.proofs.Basics.{HasStretch, IfSome, IsAmong, Line, List, Option, Some, Stroke}
+use Rattle.nit_hall.proofs.Basics.{[], ap, arith, calls_in, drop, is_phase, phases_before, refl}
+use Rattle.nit_hall.proofs.Basics.{slice_get, slice_index, stage_within, stretch, stretch_end}
+use Rattle.nit_hall.proofs.Basics.{strokes_in_front, subst, sym, take, words_after}
 use Rattle.std.proofs.Common.{suc, zero, ℕ, ◌+◌, ◌-◌, ◌<◌, ◌∙◌, ◌∷◌, ◌≡◌, ◌≤◌}
 use Rattle.nit_script.specs.declared.line.Line.TheVariants as line
 use Rattle.nit_hall.proofs.LineLemmas.{counted_same, no_more_calls}

@@ -1,23 +1,25 @@
 -- A room and the user's pass after a device event, and after a shot.
 use Rattle.nit_hall.proofs.Basics.{AreNear, Device, End, Entry, EntryLaws, Follows, HaveInks}
-use Rattle.nit_hall.proofs.Basics.{InputLine, IsOpen, IsRoom, IsUserPass, Line, List, Painted}
-use Rattle.nit_hall.proofs.Basics.{RoomModel, Routed, SceneModel, ShareModel, Sight, Some}
-use Rattle.nit_hall.proofs.Basics.{UserAction, UserBelongs, UserHasMet, UserPassModel, [], ap, ap₂}
-use Rattle.nit_hall.proofs.Basics.{arith, actions_of-append, glass_in, inl, input_phases_before}
-use Rattle.nit_hall.proofs.Basics.{is_input_phase, length, phase_of_entry, raised, refl, slice_get_within}
+use Rattle.nit_hall.proofs.Basics.{InputLine, IsAdded, IsOpen, IsRoom, IsUserPass, Line, List}
+use Rattle.nit_hall.proofs.Basics.{Painted, Recorded, RoomModel, Routed, SceneModel, ShareModel}
+use Rattle.nit_hall.proofs.Basics.{Sight, Some, UserAction, UserBelongs, UserHasMet, UserPassModel}
+use Rattle.nit_hall.proofs.Basics.{[], actions_of-append, ap, ap₂, arith, entries_in, glass_in, inl}
+use Rattle.nit_hall.proofs.Basics.{input_phases_before, is_input_phase, length, phase_of_entry}
+use Rattle.nit_hall.proofs.Basics.{raised, raws_in, refl, slice_get_within, slice_index}
+use Rattle.nit_hall.proofs.Basics.{slice_index_or, state_now, user_actions_of, without_final}
 use Rattle.nit_hall.proofs.FinalEntries.{open_whole}
-use Rattle.nit_hall.proofs.Basics.{IsAdded, Recorded, entries_in, raws_in, slice_index_or}
-use Rattle.nit_hall.proofs.Basics.{slice_index, state_now, user_actions_of, without_final}
 use Rattle.std.proofs.Common.{slice_get, subst, sym, ℕ, ◌++◌, ◌+◌, ◌-◌, ◌∙◌, ◌∷◌, ◌≡◌}
 use Rattle.nit_events.specs.declared.entry.Entry.TheVariants as entry
 use Rattle.nit_script.specs.declared.line.InputLine.TheVariants as inputs
 use Rattle.nit_hall.proofs.LineLemmas.{counted_same, actions_line}
 use Rattle.nit_hall.proofs.NearLemmas.{IsInPhase, near_more}
-use Rattle.nit_hall.proofs.ScriptsFollowed.{AddsAction, IsUserNext, follows_action, phase_of_action_next}
+use Rattle.nit_hall.proofs.ScriptsFollowed.{AddsAction, IsUserNext, follows_action}
+use Rattle.nit_hall.proofs.ScriptsFollowed.{phase_of_action_next}
 use Rattle.nit_hall.proofs.Phases.{same_phase, user_ends}
 use Rattle.nit_hall.proofs.HistoryLemmas.{KeepsClean, clean_painted, goes_on}
 use Rattle.nit_hall.proofs.RoomSteps.{inks_before, booked_more, legal_then, near_before, near_then}
-use Rattle.nit_hall.proofs.RoomSteps.{lenses_show, room_grown, room_then, state_later, watching_still}
+use Rattle.nit_hall.proofs.RoomSteps.{lenses_show, room_grown, room_then, state_later}
+use Rattle.nit_hall.proofs.RoomSteps.{watching_still}
 use Rattle.nit_hall.proofs.PhaseEnds.{actions_known, user_open}
 use Rattle.nit_hall.proofs.ServedCalls.{sights}
 

@@ -1,18 +1,17 @@
 -- What a reader's end shows, by the stretch of its script that it knows.
-use Rattle.nit_hall.proofs.Basics.{Call, Configuration, Entry, IfSome, IsAmong, IsLegal}
-use Rattle.nit_hall.specs.Below.{LegalFrom}
-use Rattle.nit_hall.proofs.Basics.{IsLoaded, KnowsStretch, Line, List, MayHaveDone, Option, Sight}
-use Rattle.nit_hall.proofs.Basics.{Some, State, [], after, ap, arith, as_many, calls_in, calls_of, first_state}
-use Rattle.nit_hall.proofs.Basics.{get_or_past}
-use Rattle.nit_hall.proofs.Basics.{length, ne_eqb, phases_before, refl, slice_index, stretch, stretch_end}
-use Rattle.nit_hall.proofs.Basics.{subst, sym, take, within_only, words_after, ℕ, ◌∙◌}
-use Rattle.std.proofs.Common.{◌+◌, ◌<◌, ◌∷◌, ◌≡◌, ◌≤◌}
+use Rattle.nit_hall.proofs.Basics.{Call, Configuration, Entry, IfSome, Ink, IsAmong, IsInked}
+use Rattle.nit_hall.proofs.Basics.{IsLegal, IsLoaded, KnowsStretch, LegalFrom, Line, List}
+use Rattle.nit_hall.proofs.Basics.{MayHaveDone, Option, Sight, Some, State, [], after, ap}
+use Rattle.nit_hall.proofs.Basics.{append-nil, arith, as_many, as_many_as_clients, calls_in}
+use Rattle.nit_hall.proofs.Basics.{calls_of, calls_of-append, cases_lt, donation_of, first_state}
+use Rattle.nit_hall.proofs.Basics.{get_or_past, ink_in, inl, inr, length, ne_eqb, no_ink}
+use Rattle.nit_hall.proofs.Basics.{phases_before, refl, script_in, slice_index, stretch}
+use Rattle.nit_hall.proofs.Basics.{stretch_end, subst, sym, table_size, take, within_only}
+use Rattle.nit_hall.proofs.Basics.{words_after, zero_at, ℕ, ◌∙◌}
+use Rattle.std.proofs.Common.{◌+◌, ◌<◌, ◌∷◌, ◌≡◌, ◌≤◌, ◌++◌}
 use Rattle.nit_events.specs.declared.entry.Entry.TheVariants as entry
 use Rattle.nit_hall.proofs.Stretches.{stretch_same}
 use Rattle.nit_hall.proofs.NearLemmas.{ink_behind, told_word}
-use Rattle.nit_hall.proofs.Basics.{Ink, IsInked, append-nil, as_many_as_clients, calls_of-append}
-use Rattle.nit_hall.proofs.Basics.{cases_lt, donation_of, ink_in, inl, inr, no_ink, script_in, table_size, zero_at}
-use Rattle.std.proofs.Common.{◌++◌}
 
 -- a word of the table that was left by a number of lines that end so many phases at most, and of
 -- which so many are calls

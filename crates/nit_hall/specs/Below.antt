@@ -40,8 +40,8 @@ pub use Rattle.nit_plan.specs.Calls.{calls_from, calls_in, calls_to_make, user_a
 pub use Rattle.nit_plan.specs.Calls.{user_actions_to_do}
 pub use Rattle.nit_plan.specs.Plan.{IsPlanOf, PlanModel}
 pub use Rattle.nit_plan.specs.ScriptWords.{HasStages, Painting, after_line, blank, painted_from}
-pub use Rattle.nit_plan.specs.ScriptWords.{script_ink, stages_within}
-pub use Rattle.nit_plan.specs.ScriptWords.{table_size, words_after, words_left}
+pub use Rattle.nit_plan.specs.ScriptWords.{script_ink, stages_within, table_size, words_after}
+pub use Rattle.nit_plan.specs.ScriptWords.{words_left}
 pub use Rattle.nit_plan.specs.SessionLists.{plan_in, script_in}
 pub use Rattle.nit_plan.specs.Surface.{IsPaintedTo}
 pub use Rattle.nit_rect.specs.Limits.{most_height, most_sessions, most_width}
@@ -49,8 +49,8 @@ pub use Rattle.nit_rect.specs.declared.point.Point.{Point}
 pub use Rattle.nit_repaint.specs.Glasses.{glasses_of_call}
 pub use Rattle.nit_scene.specs.DirtyPixels.{dirty}
 pub use Rattle.nit_scene.specs.RawWords.{Painted, glass_in, pixel_count, source_at}
-pub use Rattle.nit_scene.specs.Scene.{SceneModel, state_now}
-pub use Rattle.nit_scene.specs.Screen.{IsGlass}
+pub use Rattle.nit_scene.specs.Scene.{CanAdd, IsAdded, SceneModel, state_now}
+pub use Rattle.nit_scene.specs.Screen.{AreGlasses, IsGlass}
 pub use Rattle.nit_scene.specs.StateScenery.{scenery_of}
 pub use Rattle.nit_script.specs.Grammar.{most_lines}
 pub use Rattle.nit_script.specs.Phases.{is_input_phase, is_phase}
@@ -67,7 +67,7 @@ pub use Rattle.nit_word.specs.Updates.{with_words}
 pub use Rattle.std.specs.List.{AllByRecursion, range_with_len}
 pub use Rattle.std.specs.List.Sorted.{IsNonDecreasing}
 pub use Rattle.std.specs.Option.{option_map}
-pub use Rattle.std.specs.Prelude.{IfNone, IsTrue, List, Option, Some, count_by, length, map, nat_le}
+pub use Rattle.std.specs.Prelude.{IfNone, List, Option, Some, count_by, length, map, nat_le}
 pub use Rattle.std.specs.Prelude.{replicate, slice_get, slice_index, slice_index_or, sum, sum_by}
 pub use Rattle.std.specs.Prelude.{take}
 pub use Rattle.std.specs.Vec.Iter.{into_iter_items}

@@ -6,8 +6,8 @@ use mathlib.Core.List.{IsPrefix}
 use Rattle.nit_hall.specs.OpeningParts.{OpeningParts}
 use Rattle.nit_hall.specs.Pass.{PassModel, UserPassModel, Belongs, UserBelongs, HasLoaded}
 use Rattle.nit_hall.specs.Pass.{call_entry, device_entry, sight_after_line, stretch_from}
-use Rattle.nit_hall.specs.ClipPass.{ClipPassModel, ClipBelongs, AreTogether, IsAtClip}
-use Rattle.nit_hall.specs.ClipPass.{IsAtPhaseEnd, next_clip}
+use Rattle.nit_hall.specs.ClipPass.{ClipPassModel, ClipBelongs, AreTogether, IsAtClip, IsAtPhaseEnd}
+use Rattle.nit_hall.specs.ClipPass.{next_clip}
 use Rattle.nit_hall.specs.Hall.{Tells, TellsShot}
 use Rattle.nit_hall.specs.History.{IsHistory}
 

@@ -4,10 +4,10 @@ use Rattle.std.specs.Prelude.{◌≡◌, ℕ, ◌+◌, ◌<◌, ◌≤◌, Bool,
 use Rattle.std.specs.Prelude.{drop, take}
 use Rattle.nit_hall.specs.Below.{Bare, Black, Call, Configuration, Entry, InputLine, IsOpen, Line}
 use Rattle.nit_hall.specs.Below.{PixelSource, Reply, Word, after, bare_word, calls_in, calls_of}
-use Rattle.nit_hall.specs.Below.{calls_to_make, dirty, next_phase, user_actions_of}
-use Rattle.nit_hall.specs.Below.{user_actions_to_do}
-use Rattle.nit_hall.specs.Below.{donation_of, frame, pixel, pixel_count, replay, scenery_of}
-use Rattle.nit_hall.specs.Below.{script_in, slice_index, slice_index_or, source_at, words_after}
+use Rattle.nit_hall.specs.Below.{calls_to_make, dirty, donation_of, frame, next_phase, pixel}
+use Rattle.nit_hall.specs.Below.{pixel_count, replay, scenery_of, script_in, slice_index}
+use Rattle.nit_hall.specs.Below.{slice_index_or, source_at, user_actions_of, user_actions_to_do}
+use Rattle.nit_hall.specs.Below.{words_after}
 use Rattle.nit_events.specs.declared.entry.Entry.TheVariants as entry
 use Rattle.nit_hall.specs.ServedLines.{lines_to_call, phases_before}
 

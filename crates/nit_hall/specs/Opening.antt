@@ -1,9 +1,8 @@
 -- What a room is opened with, and what it and its passes are then.
 use Rattle.std.specs.Prelude.{◌≡◌, ℕ, ◌+◌, ◌*◌, ◌<◌, List, [], length, map, replicate}
 use Rattle.nit_hall.specs.Below.{BookName, BufferName, Configuration, End, InputLine}
-use Rattle.nit_hall.specs.Below.{IsConfiguration, IsPlanOf}
-use Rattle.nit_hall.specs.Below.{Line, PlanModel, Some, bare_word, donation_of, new_sight, plan_in}
-use Rattle.nit_hall.specs.Below.{script_in, slice_get, with_stages}
+use Rattle.nit_hall.specs.Below.{IsConfiguration, IsPlanOf, Line, PlanModel, Some, bare_word}
+use Rattle.nit_hall.specs.Below.{donation_of, new_sight, plan_in, script_in, slice_get, with_stages}
 use Rattle.nit_hall.specs.OpeningParts.{OpeningParts}
 use Rattle.nit_hall.specs.ServedLines.{lines_of_all}
 use Rattle.nit_hall.specs.Stretch.{stretch, watching_sight}

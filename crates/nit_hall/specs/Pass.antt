@@ -3,8 +3,7 @@ use Rattle.std.specs.Prelude.{◌≡◌, ℕ, ◌+◌, ◌≤◌, List, length, 
 use Rattle.nit_hall.specs.Below.{BookName, Call, Device, End, Entry, InputLine, IsPaintedTo, Line}
 use Rattle.nit_hall.specs.Below.{PlanModel, Reply, Routed, ShareModel, Sight, Standing, Stroke}
 use Rattle.nit_hall.specs.Below.{calls_in, calls_of, donation_of, no_sight, script_ink, seen}
-use Rattle.nit_hall.specs.Below.{user_actions_of}
-use Rattle.nit_hall.specs.Below.{with_stages, with_words, words_after}
+use Rattle.nit_hall.specs.Below.{user_actions_of, with_stages, with_words, words_after}
 use Rattle.nit_events.specs.declared.call.Call.TheVariants as call
 use Rattle.nit_events.specs.declared.device.Device.TheVariants as device
 use Rattle.nit_events.specs.declared.entry.Entry.TheVariants as entry

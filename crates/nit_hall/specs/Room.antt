@@ -1,14 +1,12 @@
 -- What contracts see of a room, and what holds of it.
 use Rattle.std.specs.Prelude.{◌≡◌, ◌⊎◌, ℕ, zero, suc, ◌+◌, ◌-◌, ◌<◌, ◌≤◌, ◌==◌, if◌then◌else◌, List}
-use Rattle.std.specs.Prelude.{[], ◌∷◌}
-use Rattle.std.specs.Prelude.{◌++◌, nat_lt, length, map, sum, take, count_by, slice_index}
+use Rattle.std.specs.Prelude.{[], ◌∷◌, ◌++◌, nat_lt, length, map, sum, take, count_by, slice_index}
 use Rattle.nit_hall.specs.Below.{ClipEntry, ClipModel, ClipReply, Colours, Configuration, End}
-use Rattle.nit_hall.specs.Below.{Entry, Ink, InputLine, IsLegal, script_ink}
-use Rattle.nit_hall.specs.Below.{IsNonDecreasing, IsOpen, Line, SceneModel, Sight, Standing}
-use Rattle.nit_hall.specs.Below.{calls_in, calls_of, calls_to_make, glass_in, donation_of}
-use Rattle.nit_hall.specs.Below.{is_input_phase}
-use Rattle.nit_hall.specs.Below.{is_phase, most_sessions, phases_along, raised, script_in}
-use Rattle.nit_hall.specs.Below.{state_now, user_actions_of, user_actions_to_do, with_stages}
+use Rattle.nit_hall.specs.Below.{Entry, Ink, InputLine, IsLegal, IsNonDecreasing, IsOpen, Line}
+use Rattle.nit_hall.specs.Below.{SceneModel, Sight, Standing, calls_in, calls_of, calls_to_make}
+use Rattle.nit_hall.specs.Below.{donation_of, glass_in, is_input_phase, is_phase, most_sessions}
+use Rattle.nit_hall.specs.Below.{phases_along, raised, script_in, script_ink, state_now}
+use Rattle.nit_hall.specs.Below.{user_actions_of, user_actions_to_do, with_stages}
 use Rattle.nit_events.specs.declared.entry.Entry.TheVariants as entry
 use Rattle.nit_hall.specs.OpeningParts.{OpeningParts}
 use Rattle.nit_hall.specs.ServedLines.{served, user_actions_in, lines_of_all}

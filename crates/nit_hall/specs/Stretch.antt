@@ -1,7 +1,6 @@
 -- Which words a client's table may have between two lines of its script that the room serves.
 use Rattle.std.specs.Prelude.{◌≡◌, ℕ, suc, ◌+◌, ◌≤◌, List, ◌∷◌, Option, Some, drop, length, take}
-use Rattle.nit_hall.specs.Below.{Line, Sight, calls_in, reader_sight, stages_within}
-use Rattle.nit_hall.specs.Below.{with_stages}
+use Rattle.nit_hall.specs.Below.{Line, Sight, calls_in, reader_sight, stages_within, with_stages}
 use Rattle.nit_script.specs.declared.line.Line.TheVariants as line
 use Rattle.nit_hall.specs.ServedLines.{phases_before}
 

@@ -1,8 +1,8 @@
 //! A client's place in its clip script.
 
 ghost use Rattle.std.specs.Prelude.{◌≡◌, ◌+◌, ◌≤◌, ◌<◌, ◌==◌, length, IfNone, slice_get};
-ghost use Rattle.nit_hall.specs.Terms.{IsAtClip, IsAtClipPhase, clip_phases_before, most_lines};
-ghost use Rattle.nit_hall.specs.Terms.{entries_in, next_clip};
+ghost use Rattle.nit_hall.specs.Terms.{IsAtClip, IsAtClipPhase, clip_phases_before, entries_in};
+ghost use Rattle.nit_hall.specs.Terms.{most_lines, next_clip};
 
 use crate::pass::Pass;
 use nit_clip::laws::calls_of_a_clip_script;

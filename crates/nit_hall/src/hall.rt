@@ -6,8 +6,8 @@ ghost use Rattle.nit_hall.specs.Pass.{Belongs, IsAtCall, IsAtDevice, IsAtPhase, 
 ghost use Rattle.nit_hall.specs.Pass.{IsAtUserPhase};
 ghost use Rattle.nit_hall.specs.Hall.{IsMeasured};
 ghost use Rattle.nit_hall.specs.HallCalls.{Admitted, BelongsAt, CanClip, DoneDevice, DoneShot};
-ghost use Rattle.nit_hall.specs.HallCalls.{EndedPhase};
-ghost use Rattle.nit_hall.specs.HallCalls.{ServedCall, ServedClip, UserBelongsAt, UserEndedPhase};
+ghost use Rattle.nit_hall.specs.HallCalls.{EndedPhase, ServedCall, ServedClip, UserBelongsAt};
+ghost use Rattle.nit_hall.specs.HallCalls.{UserEndedPhase};
 
 use crate::clip_pass::ClipPass;
 use crate::pass::Pass;

@@ -13,10 +13,9 @@ mod shown;
 
 ghost use Rattle.std.specs.Prelude.{◌≡◌, ◌+◌, ◌*◌, ◌≤◌, ◌==◌, [], length, replicate};
 ghost use Rattle.nit_hall.specs.Terms.{AreNear, AreWatching, Belongs, HasAdmitted, HasMet};
-ghost use Rattle.nit_hall.specs.Terms.{HaveInks};
-ghost use Rattle.nit_hall.specs.Terms.{IsLegal, IsRoom, buffers_of};
-ghost use Rattle.nit_hall.specs.Terms.{UserBelongs, UserHasMet, bare_word, lines_of_all};
-ghost use Rattle.nit_hall.specs.Terms.{most_height, most_sessions, most_width};
+ghost use Rattle.nit_hall.specs.Terms.{HaveInks, IsLegal, IsRoom, UserBelongs, UserHasMet};
+ghost use Rattle.nit_hall.specs.Terms.{bare_word, buffers_of, lines_of_all, most_height};
+ghost use Rattle.nit_hall.specs.Terms.{most_sessions, most_width};
 
 use crate::parts::Parts;
 use crate::pass::Pass;

@@ -1,8 +1,8 @@
 //! What the user's thread holds.
 
 ghost use Rattle.std.specs.Prelude.{◌≡◌, ◌<◌, ◌≤◌, ◌==◌, [], length, IfNone, slice_get, take};
-ghost use Rattle.nit_hall.specs.Terms.{IsAtDevice, IsDevice, input_phases_before, most_lines};
-ghost use Rattle.nit_hall.specs.Terms.{entries_in, next_device, raws_in, user_actions_in};
+ghost use Rattle.nit_hall.specs.Terms.{IsAtDevice, IsDevice, entries_in, input_phases_before};
+ghost use Rattle.nit_hall.specs.Terms.{most_lines, next_device, raws_in, user_actions_in};
 ghost use Rattle.nit_hall.specs.Terms.{user_actions_of};
 
 use nit_events::Device;

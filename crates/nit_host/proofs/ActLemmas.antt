@@ -1,16 +1,14 @@
 -- What a host serves are steps.
-use Rattle.std.proofs.Common.{Bool, List, None, Option, Some, [], ap, cond, false}
-use Rattle.std.proofs.Common.{refl, subst, sym, true, ℕ, ◌++◌, ◌∙◌, ◌∷◌, ◌≡◌}
-use Rattle.nit_host.specs.Acts.{Act, Calls, Comes, Does, Looks, Refreshes, after_act, after_acts}
-use Rattle.nit_host.specs.Acts.{step_of}
-use Rattle.nit_host.specs.Acts.{step_unless, steps_of, unless_for}
-use Rattle.nit_host.specs.Terms.{HostModel, State, called, is_accepted, is_label_taken, is_live}
-use Rattle.nit_host.specs.Terms.{is_taken, refreshed, reply_to, session, unseated, unserved_call}
-use Rattle.nit_host.specs.Terms.{unserved_refresh}
+use Rattle.std.proofs.Common.{Bool, List, None, Option, Some, [], ap, cond, false, refl, subst, sym}
+use Rattle.std.proofs.Common.{true, ℕ, ◌++◌, ◌∙◌, ◌∷◌, ◌≡◌}
+use Rattle.nit_host.proofs.Basics.{Act, Calls, Comes, Does, HostModel, IsStepOf, Looks, Refreshes}
+use Rattle.nit_host.proofs.Basics.{Serves, State, Step, after_act, after_acts, after_step, called}
+use Rattle.nit_host.proofs.Basics.{is_accepted, is_label_taken, is_live, is_taken, refreshed}
+use Rattle.nit_host.proofs.Basics.{reply_to, session, step_of, step_unless, steps_of, unless_for}
+use Rattle.nit_host.proofs.Basics.{unseated, unserved_call, unserved_refresh}
 use Rattle.nit_host.proofs.Seatings.{may_sit}
 use Rattle.nit_host.proofs.Served.{may_call, may_refresh}
-use Rattle.nit_journal.specs.Steps.{AreSteps, IsStepOf, Serves, Step, after_step}
-use Rattle.nit_journal.specs.Steps.{after_steps}
+use Rattle.nit_journal.specs.Steps.{AreSteps, after_steps}
 use Rattle.nit_events.specs.declared.call.Call.TheVariants as call
 use Rattle.nit_events.specs.declared.entry.Entry.TheVariants as entry
 

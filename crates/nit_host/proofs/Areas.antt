@@ -1,15 +1,9 @@
 -- What of a view is touched, as an area.
 use Rattle.std.proofs.Common.{Bool, ap, arith, false, refl, sym, true, ℕ, ℤ, pos, ◌&&◌, ◌+ℤ◌, ◌<◌}
-use Rattle.std.proofs.Common.{◌∙◌, ◌≡◌}
-use Rattle.std.proofs.lemmas.Bool.Decides.{nat_tests}
-use Rattle.std.proofs.lemmas.Int.{ints}
-use Rattle.nit_host.specs.Below.{Rectangle, View, buffer_place, is_between, point, spans}
-use Rattle.nit_host.specs.Touch.{is_touched, shows_place}
-use Rattle.nit_host.specs.Area.{has_place}
-use Rattle.nit_host.specs.declared.host.area.Area.{Area}
-use Rattle.nit_host.specs.declared.host.touch.Touch.{Touch}
-use Rattle.std.proofs.Common.{List, Some, slice_get, subst}
-use Rattle.std.proofs.lemmas.Option.{same_Some}
+use Rattle.std.proofs.Common.{◌∙◌, ◌≡◌, List, Some, slice_get, subst}
+use Rattle.nit_host.proofs.Basics.{Area, Rectangle, Touch, View, buffer_place, has_place, ints}
+use Rattle.nit_host.proofs.Basics.{is_between, is_touched, nat_tests, point, same_Some, shows_place}
+use Rattle.nit_host.proofs.Basics.{spans}
 
 -- the first of two tests that both hold, and the second
 pub first_test : (a b : Bool) → (a && b) ≡ true → a ≡ true

@@ -2,28 +2,18 @@
 use Rattle.std.proofs.Common.{Bool, List, None, [], ap, arith, cond, get_or, length, refl}
 use Rattle.std.proofs.Common.{replicate, subst, sym, true, false, ℕ, ◌*◌, ◌++◌, ◌+◌, ◌<◌, ◌∙◌, ◌∷◌}
 use Rattle.std.proofs.Common.{◌≡◌, ◌≤◌, slice_index}
-use Rattle.std.proofs.Math.Seq.{get_or-append_seam}
-use Rattle.std.proofs.lemmas.List.{ext_get_or, get_or-map, get_or-replicate, get_or_append_left}
-use Rattle.std.proofs.lemmas.List.{get_or_default, length-append, length-map}
-use Rattle.nit_config.specs.declared.config.Member.{Member}
-use Rattle.nit_config.specs.Configuration.{bar_rows}
-use Rattle.nit_journal.specs.State.{buffer_size, source_of}
-use Rattle.nit_rect.specs.declared.point.Point.{Point}
-use Rattle.nit_screen.specs.RawWords.{pixel_count, word_from}
-use Rattle.nit_stack.specs.Sources.{Bare, in_bar, owner, pixel, source_under}
-use Rattle.nit_word.specs.Channels.{bare_word}
-use Rattle.nit_word.specs.Sight.{Sight, plain_sight, told_words}
-use Rattle.nit_word.specs.Zeros.{zeros}
-use Rattle.nit_word.proofs.ForCallers.{length-zeros}
-use Rattle.nit_host.specs.Below.{AreGlasses, Configuration, DesktopModel, State, glass_in, table_size}
-use Rattle.nit_host.specs.Fresh.{AreBlank, AreHollow, AreSheets, IsFresh, IsHost, sheet_at}
-use Rattle.nit_host.specs.Fresh.{sheets_of, size_at}
-use Rattle.nit_host.specs.Host.{blank_sheets, first_host, sheet_in}
-use Rattle.nit_host.specs.Sheet.{SheetModel, blank_sheet}
+use Rattle.nit_host.proofs.Basics.{AreBlank, AreGlasses, AreHollow, AreSheets, Bare, Configuration}
+use Rattle.nit_host.proofs.Basics.{DesktopModel, IsFresh, IsHost, Member, Point, SheetModel, Sight}
+use Rattle.nit_host.proofs.Basics.{State, View, bar_rows, bare_word, blank_sheet, blank_sheets}
+use Rattle.nit_host.proofs.Basics.{buffer_size, ext_get_or, first_host, get_or-append_seam}
+use Rattle.nit_host.proofs.Basics.{get_or-map, get_or-replicate, get_or_append_left, get_or_default}
+use Rattle.nit_host.proofs.Basics.{glass_in, in_bar, length-append, length-map, length-zeros, owner}
+use Rattle.nit_host.proofs.Basics.{pixel, pixel_count, plain_sight, sheet_at, sheet_in, sheets_of}
+use Rattle.nit_host.proofs.Basics.{size_at, source_of, source_under, table_size, told_words}
+use Rattle.nit_host.proofs.Basics.{word_from, zeros}
 use Rattle.nit_host.proofs.SheetLists.{no_sheet, sight_at, sights}
 use mathlib.Core.Logic.{dite}
 use native.Mathlib.Decide.{dec_lt}
-use Rattle.nit_stack.specs.declared.view.View.{View}
 
 abbrev pub no_client : Member
 no_client = record { label = []; donation = 0; script = []; layer = 0; clicks = false }

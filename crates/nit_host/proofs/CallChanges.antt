@@ -1,29 +1,18 @@
 -- What of the frame a call changes.
-use Rattle.std.proofs.Common.{Bool, List, None, Option, Some, ap, cond, false, length, refl}
-use Rattle.std.proofs.Common.{subst, sym, true, ℕ, ◌%◌, ◌&&◌, ◌/◌, ◌<◌}
-use Rattle.std.proofs.Common.{◌∙◌, ◌≡◌}
-use Rattle.std.proofs.lemmas.Bool.{false≢true}
+use Rattle.std.proofs.Common.{Bool, List, None, Option, Some, ap, cond, false, length, refl, subst}
+use Rattle.std.proofs.Common.{sym, true, ℕ, ◌%◌, ◌&&◌, ◌/◌, ◌<◌, ◌∙◌, ◌≡◌}
+use Rattle.nit_host.proofs.Basics.{Answered, Area, Call, HoldsBoth, HoldsTouched, IsAreaOf}
+use Rattle.nit_host.proofs.Basics.{IsSeenBut, Mode, Reply, State, StaysOutside, Touch, View, after}
+use Rattle.nit_host.proofs.Basics.{after_accepted, bar_rows, bar_word, column_and_row, dirty}
+use Rattle.nit_host.proofs.Basics.{dirty_by_call, false≢true, frame_by, in_bar, input_after_call}
+use Rattle.nit_host.proofs.Basics.{is_accepted, is_inside, layer, pixel, pixel_count, refusal}
+use Rattle.nit_host.proofs.Basics.{refused_reply, scenery_of, serve, serve_refused, session}
+use Rattle.nit_host.proofs.Basics.{sheet_in, shown, source_at, touch_of, touched_by, touched_in}
+use Rattle.nit_host.proofs.Basics.{touched_over, touched_unless, unaccepted_state, word_from}
 use Rattle.nit_events.specs.declared.call.Call.TheVariants as call
 use Rattle.nit_events.specs.declared.device.Mode.TheVariants as mode
 use Rattle.nit_events.specs.declared.entry.Entry.TheVariants as entry
-use Rattle.nit_journal.specs.State.{input_after_call, layer}
-use Rattle.nit_journal.specs.StackAfter.{after_accepted, stack_after_call}
-use Rattle.nit_overlay.specs.Frame.{bar_word, shown}
-use Rattle.nit_screen.specs.DirtyPixels.{dirty, dirty_by_call}
-use Rattle.nit_screen.proofs.ForCallers.{unaccepted_state}
-use Rattle.nit_word.proofs.ForCallers.{column_and_row}
-use Rattle.nit_host.specs.Below.{Call, Mode, Reply, State, View, after, bar_rows}
-use Rattle.nit_host.specs.Below.{in_bar, is_accepted, pixel, pixel_count, refusal}
-use Rattle.nit_host.specs.Below.{scenery_of, serve, session, source_at, word_from}
-use Rattle.nit_journal.proofs.ForCallers.{refused_reply, serve_refused}
-use Rattle.nit_journal.specs.Session.{Answered}
-use Rattle.nit_host.specs.Area.{HoldsBoth, IsAreaOf, StaysOutside, is_inside}
-use Rattle.nit_host.specs.Host.{frame_by, sheet_in}
-use Rattle.nit_host.specs.Looked.{IsSeenBut}
-use Rattle.nit_host.specs.Touch.{HoldsTouched, touch_of, touched_by, touched_in}
-use Rattle.nit_host.specs.Touch.{touched_over, touched_unless}
-use Rattle.nit_host.specs.declared.host.area.Area.{Area}
-use Rattle.nit_host.specs.declared.host.touch.Touch.{Touch}
+use Rattle.nit_journal.specs.StackAfter.{stack_after_call}
 use Rattle.nit_host.specs.declared.host.touch.Touch.TheVariants as touch
 use Rattle.nit_host.proofs.Areas.{second_test}
 use Rattle.nit_host.proofs.Steps.{KeepSources}

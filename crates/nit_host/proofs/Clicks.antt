@@ -2,13 +2,11 @@
 use Rattle.std.proofs.Common.{None, Option, Some, inl, inr, subst, sym, true, ℕ, ◌⊎◌, ◌∙◌, ◌≡◌}
 use Rattle.nit_events.specs.declared.call.Call.TheVariants as call
 use Rattle.nit_events.specs.declared.entry.Entry.TheVariants as entry
-use Rattle.nit_journal.specs.State.{IsClickAt}
-use Rattle.nit_host.specs.Acts.{Act, Calls, Comes, Does, IsClickBy, Looks, Refreshes, after_act}
-use Rattle.nit_host.specs.Acts.{unless_for}
-use Rattle.nit_host.specs.Below.{Call, Device, Reply, Routed, State, after, is_accepted}
-use Rattle.nit_host.specs.Host.{HostModel, called, refreshed, reply_to, routed_of, told}
-use Rattle.nit_host.specs.Host.{unserved_call, unserved_input, unserved_refresh}
-use Rattle.nit_host.specs.Seats.{seated, unseated}
+use Rattle.nit_host.proofs.Basics.{Act, Call, Calls, Comes, Device, Does, HostModel, IsClickAt}
+use Rattle.nit_host.proofs.Basics.{IsClickBy, Looks, Refreshes, Reply, Routed, State, after}
+use Rattle.nit_host.proofs.Basics.{after_act, called, is_accepted, refreshed, reply_to, routed_of}
+use Rattle.nit_host.proofs.Basics.{seated, told, unless_for, unseated, unserved_call}
+use Rattle.nit_host.proofs.Basics.{unserved_input, unserved_refresh}
 use Rattle.nit_host.proofs.ActLemmas.{same_call}
 
 -- what a law says of the focus

@@ -2,15 +2,12 @@
 use Rattle.std.proofs.Common.{Bool, List, None, Some, add-zero, ap, arith, cond, false, find}
 use Rattle.std.proofs.Common.{get_or, inl, inr, length, nat_lt, not, refl, suc, sym, true, zero, ℕ}
 use Rattle.std.proofs.Common.{◌&&◌, ◌+◌, ◌<◌, ◌==◌, ◌∙◌, ◌≡◌, ◌≢◌, if◌then◌else◌}
-use Rattle.std.proofs.lemmas.Bool.{cases_eq, eq-eqb, false_from_ne_true, false≢true, ne_eqb}
-use Rattle.std.proofs.lemmas.List.Folds.{list_any_at, list_any_none}
-use Rattle.std.proofs.lemmas.List.FromFn.{get_or-range_with_len, length-range_with_len}
-use Rattle.std.proofs.lemmas.Slice.Eq.{bytes_eq-Decides}
-use Rattle.nit_host.specs.Below.{IsFreeLabel, State, member, range_with_len}
-use Rattle.nit_host.specs.Seats.{has_label, is_label_taken, is_taken, seats_of, unseated}
-use Rattle.nit_host.specs.Host.{HostModel}
+use Rattle.nit_host.proofs.Basics.{HostModel, IsFreeLabel, State, bytes_eq-Decides, cases_eq}
+use Rattle.nit_host.proofs.Basics.{eq-eqb, false_from_ne_true, false≢true, get_or-range_with_len}
+use Rattle.nit_host.proofs.Basics.{has_label, is_label_taken, is_taken, length-range_with_len}
+use Rattle.nit_host.proofs.Basics.{list_any_at, list_any_none, member, nat_tests, ne_eqb}
+use Rattle.nit_host.proofs.Basics.{range_with_len, seats_of, unseated}
 use Rattle.nit_host.specs.declared.refusal.Unseated.TheVariants as why
-use Rattle.std.proofs.lemmas.Bool.Decides.{nat_tests}
 
 -- ---- the first of so many numbers
 

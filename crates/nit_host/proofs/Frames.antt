@@ -1,24 +1,13 @@
 -- What of a frame stays, pixel by pixel.
 use Rattle.std.proofs.Common.{Bool, List, None, Option, Some, ap, arith, cond, false, refl}
-use Rattle.std.proofs.Common.{slice_index, subst, sym, true, ℕ, ◌%◌, ◌*◌, ◌/◌, ◌<◌}
-use Rattle.std.proofs.Common.{◌∙◌, ◌≡◌}
-use Rattle.std.proofs.lemmas.Bool.{false≢true}
-use Rattle.std.proofs.lemmas.List.FromFn.{get_or-map-range_with_len}
+use Rattle.std.proofs.Common.{slice_index, subst, sym, true, ℕ, ◌%◌, ◌*◌, ◌/◌, ◌<◌, ◌∙◌, ◌≡◌}
+use Rattle.nit_host.proofs.Basics.{Area, IsSeenBut, State, StaysOutside, View, bar_rows, bar_word}
+use Rattle.nit_host.proofs.Basics.{bare_word, buffer_size, column_and_row, false≢true, flat_shown}
+use Rattle.nit_host.proofs.Basics.{frame_by, get_or-frame, get_or-map-range_with_len, has_place}
+use Rattle.nit_host.proofs.Basics.{in_bar, is_inside, is_some, owner_of, picture_from, pixel}
+use Rattle.nit_host.proofs.Basics.{pixel_count, scenery_of, sheet_in, shown, source_at}
+use Rattle.nit_host.proofs.Basics.{source_under, word_from}
 use Rattle.nit_events.specs.declared.device.Mode.TheVariants as mode
-use Rattle.nit_journal.specs.State.{buffer_size, owner_of}
-use Rattle.nit_overlay.specs.Frame.{bar_word, shown}
-use Rattle.nit_overlay.specs.Terms.{is_some}
-use Rattle.nit_overlay.proofs.ForCallers.{flat_shown, get_or-frame}
-use Rattle.nit_stack.specs.Sources.{source_under}
-use Rattle.nit_word.specs.Channels.{bare_word}
-use Rattle.nit_word.proofs.ForCallers.{column_and_row}
-use Rattle.nit_host.specs.Below.{State, View, bar_rows}
-use Rattle.nit_host.specs.Below.{in_bar, pixel, pixel_count}
-use Rattle.nit_host.specs.Below.{scenery_of, source_at, word_from}
-use Rattle.nit_host.specs.Area.{StaysOutside, has_place, is_inside}
-use Rattle.nit_host.specs.Host.{frame_by, picture_from, sheet_in}
-use Rattle.nit_host.specs.Looked.{IsSeenBut}
-use Rattle.nit_host.specs.declared.host.area.Area.{Area}
 
 -- ---- one pixel of a frame
 

@@ -1,22 +1,12 @@
 -- No word of the screen is stale: what each step leaves is shown as the sheets tell it.
 use Rattle.std.proofs.Common.{Bool, List, ap, arith, false, length, refl, slice_index, subst, sym}
 use Rattle.std.proofs.Common.{true, ℕ, ◌<◌, ◌==◌, ◌||◌, ◌∙◌, ◌≡◌, IsTrue}
-use Rattle.std.proofs.lemmas.Bool.Decides.{nat_tests}
-use Rattle.std.proofs.lemmas.List.{get_or_past}
-use Rattle.std.proofs.lemmas.List.FromFn.{get_or-map-range_with_len}
-use Rattle.nit_overlay.specs.Frame.{frame}
-use Rattle.nit_overlay.proofs.ForCallers.{same_frame}
-use Rattle.nit_paint.specs.Repaint.{IsWordOfSource, no_sight}
-use Rattle.nit_repaint.specs.Glasses.{glass_in}
-use Rattle.nit_screen.specs.DirtyPixels.{dirty}
-use Rattle.nit_screen.specs.RawWords.{Painted, pixel_count, source_at, word_from, words_of}
-use Rattle.nit_screen.specs.StateScenery.{scenery_of}
-use Rattle.nit_stack.specs.Sources.{Bare, Black, PixelSource, Word, pixel}
-use Rattle.nit_word.specs.Sight.{IsLoaded, Sight, plain_sight, told_words}
-use Rattle.nit_host.specs.Below.{Configuration, Entry, State}
-use Rattle.nit_host.specs.Fresh.{AreSheets, IsFresh, sheet_at, sheets_of}
-use Rattle.nit_host.specs.Host.{sheet_in}
-use Rattle.nit_host.specs.Sheet.{SheetModel}
+use Rattle.nit_host.proofs.Basics.{AreSheets, Bare, Black, Configuration, Entry, IsFresh, IsLoaded}
+use Rattle.nit_host.proofs.Basics.{IsWordOfSource, Painted, PixelSource, SheetModel, Sight, State}
+use Rattle.nit_host.proofs.Basics.{Word, dirty, frame, get_or-map-range_with_len, get_or_past}
+use Rattle.nit_host.proofs.Basics.{glass_in, nat_tests, no_sight, pixel, pixel_count, plain_sight}
+use Rattle.nit_host.proofs.Basics.{same_frame, scenery_of, sheet_at, sheet_in, sheets_of, source_at}
+use Rattle.nit_host.proofs.Basics.{told_words, word_from, words_of}
 use Rattle.nit_host.proofs.SheetLists.{no_sheet, sight_at, sights, words_at}
 use mathlib.Core.Logic.{dite}
 use native.Mathlib.Decide.{dec_lt}

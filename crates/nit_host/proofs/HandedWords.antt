@@ -3,25 +3,16 @@ use Rattle.std.proofs.Common.{Bool, List, None, Option, Some, [], ap, arith, con
 use Rattle.std.proofs.Common.{get_or-set_other, get_or-set_same, inl, inr, length, nat_lt, pos}
 use Rattle.std.proofs.Common.{refl, set, slice_index, sym, true, ℕ, ℤ, ◌%◌, ◌&&◌, ◌*◌, ◌+◌, ◌/◌}
 use Rattle.std.proofs.Common.{◌<◌, ◌^◌, ◌∙◌, ◌≡◌, ◌≢◌, ◌≤◌, ◌+ℤ◌, ◌<ℤ◌, ◌≤ℤ◌, int_le, int_lt}
-use Rattle.std.proofs.Math.ListN.{length-set}
-use Rattle.std.proofs.lemmas.Bool.{and_parts, cases_eq, false_from_ne_true}
-use Rattle.std.proofs.lemmas.Bool.Decides.{nat_tests}
-use Rattle.std.proofs.lemmas.Int.{ints}
-use Rattle.std.proofs.lemmas.List.{get_or_past}
-use Rattle.std.proofs.lemmas.Nat.{div-add-mod', div-mul-add, mod-mul-add, mul-add-lt}
+use Rattle.nit_host.proofs.Basics.{Call, Calls, Comes, Device, Does, HostModel, IsInPart, Rectangle}
+use Rattle.nit_host.proofs.Basics.{Refreshes, Session, Unseated, Unserved, after_act, and_parts}
+use Rattle.nit_host.proofs.Basics.{called, cases_eq, column_and_row, covers, div-add-mod'}
+use Rattle.nit_host.proofs.Basics.{div-mul-add, donation_of, false_from_ne_true, get_or_past}
+use Rattle.nit_host.proofs.Basics.{handed, ints, is_accepted, is_handed, length-set, low_bytes}
+use Rattle.nit_host.proofs.Basics.{mod-mul-add, mul-add-lt, nat_tests, pixel, rectangle, refreshed}
+use Rattle.nit_host.proofs.Basics.{reply_to, seated, session, set_long, set_where, sheet_in, spans}
+use Rattle.nit_host.proofs.Basics.{table_size, unless_for, unseated, unserved_call, unserved_input}
+use Rattle.nit_host.proofs.Basics.{unserved_refresh, with_handed, word_at, word_of, zero_at, zeros}
 use Rattle.nit_events.specs.declared.call.Call.TheVariants as call
-use Rattle.nit_word.proofs.ForCallers.{column_and_row, set_long, word_at, zero_at}
-use Rattle.nit_host.specs.Acts.{Calls, Comes, Does, Refreshes, after_act, unless_for}
-use Rattle.nit_host.specs.Below.{Call, Device, Rectangle, Session, covers, donation_of}
-use Rattle.nit_host.specs.Below.{is_accepted, pixel, rectangle, session, set_where, spans}
-use Rattle.nit_host.specs.Below.{table_size, zeros}
-use Rattle.nit_host.specs.Host.{HostModel, called, handed, is_handed, refreshed, reply_to, sheet_in}
-use Rattle.nit_host.specs.Host.{unserved_call, unserved_input, unserved_refresh, with_handed}
-use Rattle.nit_host.specs.Seats.{seated, unseated}
-use Rattle.nit_host.specs.Sheet.{low_bytes}
-use Rattle.nit_host.specs.Words.{IsInPart, word_of}
-use Rattle.nit_host.specs.declared.refusal.Unseated.{Unseated}
-use Rattle.nit_host.specs.declared.refusal.Unserved.{Unserved}
 use mathlib.Core.Logic.{dite}
 use native.Mathlib.Decide.{dec_lt}
 

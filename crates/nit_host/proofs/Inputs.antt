@@ -1,11 +1,9 @@
 -- What a device event leaves.
 use Rattle.std.proofs.Common.{List, Option, Some, ap, refl, subst, ℕ, ◌-◌, ◌∙◌, ◌≡◌}
 use Rattle.nit_events.specs.declared.entry.Entry.TheVariants as entry
-use Rattle.nit_host.specs.Below.{DesktopModel, Device, Entry, Painted, Routed, State}
-use Rattle.nit_host.specs.Below.{after, glass_in, pixel, route, routed_as}
-use Rattle.nit_host.specs.Fresh.{IsFresh, IsHost, sheets_of}
-use Rattle.nit_host.specs.Host.{HostModel, routed_of, sheet_in, told}
-use Rattle.nit_host.specs.Sheet.{SheetModel}
+use Rattle.nit_host.proofs.Basics.{DesktopModel, Device, Entry, HostModel, IsFresh, IsHost, Painted}
+use Rattle.nit_host.proofs.Basics.{Routed, SheetModel, State, after, glass_in, pixel, route}
+use Rattle.nit_host.proofs.Basics.{routed_as, routed_of, sheet_in, sheets_of, told}
 use Rattle.nit_host.proofs.Freshness.{fresh_after}
 use Rattle.nit_host.proofs.SheetLists.{quiet_sheets, rooms, seen_sheets, sights}
 use Rattle.nit_host.proofs.Steps.{KeepSources, host_model}

@@ -20,3 +20,5 @@ mod Frames
 mod CallChanges
 mod OtherChanges
 mod Looking
+pub mod Basics
+pub mod Lemmas

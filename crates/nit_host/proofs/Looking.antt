@@ -2,17 +2,11 @@
 use Rattle.std.proofs.Common.{List, None, Option, Some, ap, arith, false, inl, inr, length}
 use Rattle.std.proofs.Common.{slice_index, subst, sym, true, pos, ℕ, ◌%◌, ◌&&◌, ◌+◌, ◌-◌, ◌/◌, ◌<◌}
 use Rattle.std.proofs.Common.{◌∙◌, ◌≡◌, ◌≤◌}
-use Rattle.std.proofs.lemmas.Bool.{cases_lt, false≢true}
-use Rattle.std.proofs.lemmas.List.{get_or_past}
-use Rattle.nit_look.specs.Look.{AgreeOutside, place_at}
-use Rattle.nit_overlay.proofs.ForCallers.{length-frame}
-use Rattle.nit_word.proofs.ForCallers.{column_and_row}
-use Rattle.nit_host.specs.Below.{Configuration, State, covers, is_between, pixel_count, scenery_of}
-use Rattle.nit_host.specs.Below.{spans}
-use Rattle.nit_host.specs.Area.{IsAreaOf, has_place, is_inside, rectangle_over}
-use Rattle.nit_host.specs.Host.{IsOneOf, frame_by, picture_from}
-use Rattle.nit_host.specs.Looked.{IsSeenBut}
-use Rattle.nit_host.specs.declared.host.area.Area.{Area}
+use Rattle.nit_host.proofs.Basics.{AgreeOutside, Area, Configuration, IsAreaOf, IsOneOf, IsSeenBut}
+use Rattle.nit_host.proofs.Basics.{State, cases_lt, column_and_row, covers, false≢true, frame_by}
+use Rattle.nit_host.proofs.Basics.{get_or_past, has_place, is_between, is_inside, length-frame}
+use Rattle.nit_host.proofs.Basics.{picture_from, pixel_count, place_at, rectangle_over, scenery_of}
+use Rattle.nit_host.proofs.Basics.{spans}
 
 -- the places of an area's columns or rows
 spans_between : (from to n : ℕ) → from ≤ to → spans (pos from) (to - from) (pos n) ≡ is_between from to n

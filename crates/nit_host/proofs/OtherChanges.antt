@@ -1,29 +1,17 @@
 -- What of the frame the user changes, and a client that comes.
-use Rattle.std.proofs.Common.{[], ◌∷◌, ◌||◌}
-use Rattle.std.proofs.Common.{Bool, List, Option, ap, false, map, refl}
-use Rattle.std.proofs.Common.{subst, sym, true, ℕ, ◌%◌, ◌/◌, ◌<◌}
-use Rattle.std.proofs.Common.{◌∙◌, ◌≡◌}
-use Rattle.std.proofs.lemmas.Bool.{false≢true}
+use Rattle.std.proofs.Common.{[], ◌∷◌, ◌||◌, Bool, List, Option, ap, false, map, refl, subst, sym}
+use Rattle.std.proofs.Common.{true, ℕ, ◌%◌, ◌/◌, ◌<◌, ◌∙◌, ◌≡◌}
+use Rattle.nit_host.proofs.Basics.{Area, Delivery, Device, HoldsBar, HoldsBarIn, HoldsBoth}
+use Rattle.nit_host.proofs.Basics.{HoldsUnless, IsAreaOf, IsBarArea, IsSeenBut, IsToldArea, Item}
+use Rattle.nit_host.proofs.Basics.{Mode, Point, Routed, Scenery, State, StaysOutside, View, after}
+use Rattle.nit_host.proofs.Basics.{after_deliveries, after_delivery, bar_rows, column_and_row}
+use Rattle.nit_host.proofs.Basics.{deliveries_of, false≢true, frame_by, has_place, is_kill}
+use Rattle.nit_host.proofs.Basics.{is_killed, kills, list_any, opened, or_parts, pixel, pixel_count}
+use Rattle.nit_host.proofs.Basics.{route, routed_as, scenery_of, sheet_in, shown, source_at}
+use Rattle.nit_host.proofs.Basics.{word_from}
 use Rattle.nit_events.specs.declared.device.Mode.TheVariants as mode
 use Rattle.nit_events.specs.declared.entry.Entry.TheVariants as entry
-use Rattle.nit_events.specs.declared.event.Item.{Item}
 use Rattle.nit_events.specs.declared.event.Item.TheVariants as item
-use Rattle.nit_screen.specs.DirtyPixels.{is_killed}
-use Rattle.nit_word.proofs.ForCallers.{column_and_row}
-use Rattle.nit_host.specs.Below.{Mode, Point, State, after, bar_rows}
-use Rattle.nit_host.specs.Below.{Delivery, Device, Routed, deliveries_of, is_kill, kills, list_any}
-use Rattle.nit_host.specs.Below.{opened, route, routed_as}
-use Rattle.nit_host.specs.Below.{pixel, pixel_count}
-use Rattle.nit_host.specs.Below.{scenery_of, source_at, word_from}
-use Rattle.nit_host.specs.Below.{View}
-use Rattle.nit_journal.specs.StackAfter.{after_deliveries, after_delivery}
-use Rattle.nit_overlay.specs.Frame.{Scenery, shown}
-use Rattle.std.proofs.lemmas.Bool.{or_parts}
-use Rattle.nit_host.specs.Area.{HoldsBoth, HoldsUnless, IsAreaOf, StaysOutside, has_place}
-use Rattle.nit_host.specs.Host.{frame_by, sheet_in}
-use Rattle.nit_host.specs.Looked.{IsSeenBut}
-use Rattle.nit_host.specs.Touch.{HoldsBar, HoldsBarIn, IsBarArea, IsToldArea}
-use Rattle.nit_host.specs.declared.host.area.Area.{Area}
 use Rattle.nit_host.proofs.Steps.{KeepSources}
 use Rattle.nit_host.proofs.Frames.{flat_stays, frame_pixel, seen_after, whole_stays}
 

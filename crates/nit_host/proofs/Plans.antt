@@ -2,18 +2,12 @@
 use Rattle.std.proofs.Common.{Bool, List, None, Option, Some, [], ap, arith, false, get_or, length}
 use Rattle.std.proofs.Common.{map, nat_le, not, refl, rules, subst, suc, sym, take, true, zero, ℕ}
 use Rattle.std.proofs.Common.{◌++◌, ◌+◌, ◌<◌, ◌||◌, ◌∙◌, ◌∷◌, ◌≡◌, ◌≢◌, ◌≤◌, if◌then◌else◌, IsTrue}
-use Rattle.std.proofs.lemmas.Bool.{and_parts, false≢true}
-use Rattle.std.proofs.lemmas.Bool.Decides.{nat_tests}
-use Rattle.std.proofs.lemmas.List.{get_or-map, length-map, take_more, map-append, length-take-le}
-use Rattle.std.proofs.lemmas.List.FromFn.{get_or-enumerate_from, length-enumerate_from}
-use Rattle.nit_config.specs.ConfigurationRanges.{IsConfiguration, IsMember}
-use Rattle.nit_config.specs.declared.config.Member.{Member}
-use Rattle.nit_glyph.specs.Texts.{is_label}
-use Rattle.nit_host.specs.Below.{enumerate_from, list_all}
-use Rattle.nit_host.specs.Plan.{hex_digit, is_screen, is_within, planned, refused_plan}
-use Rattle.nit_host.specs.Plan.{waiting_label, waiting_member}
-use Rattle.nit_host.specs.declared.planning.SeatPlan.{SeatPlan}
-use Rattle.nit_host.specs.declared.refusal.PlanError.{PlanError}
+use Rattle.nit_host.proofs.Basics.{IsConfiguration, IsMember, Member, PlanError, SeatPlan}
+use Rattle.nit_host.proofs.Basics.{and_parts, enumerate_from, false≢true, get_or-enumerate_from}
+use Rattle.nit_host.proofs.Basics.{get_or-map, hex_digit, is_label, is_screen, is_within}
+use Rattle.nit_host.proofs.Basics.{length-enumerate_from, length-map, length-take-le, list_all}
+use Rattle.nit_host.proofs.Basics.{map-append, nat_tests, planned, refused_plan, take_more}
+use Rattle.nit_host.proofs.Basics.{waiting_label, waiting_member}
 
 -- ---- a list with numbers, and one element more
 

@@ -1,27 +1,19 @@
 -- What a refresh leaves, by whether it is refused.
-use Rattle.std.proofs.Common.{Bool, List, None, Option, Some, ap, arith, cond, false, get_or}
-use Rattle.std.proofs.Common.{inl, inr}
-use Rattle.std.proofs.Common.{length, nat_lt, refl, set, slice_get, slice_index, subst, sym, true}
-use Rattle.std.proofs.Common.{ℕ, ℤ, ◌&&◌, ◌*◌, ◌<◌, ◌==◌, ◌∙◌, ◌≡◌, ◌≢◌, ◌≤◌}
-use Rattle.std.proofs.lemmas.Bool.{cases_eq, eq-eqb}
-use Rattle.std.proofs.lemmas.List.{get_or-set_same}
+use Rattle.std.proofs.Common.{Bool, List, None, Option, Some, ap, arith, cond, false, get_or, inl}
+use Rattle.std.proofs.Common.{inr, length, nat_lt, refl, set, slice_get, slice_index, subst, sym}
+use Rattle.std.proofs.Common.{true, ℕ, ℤ, ◌&&◌, ◌*◌, ◌<◌, ◌==◌, ◌∙◌, ◌≡◌, ◌≢◌, ◌≤◌}
+use Rattle.nit_host.proofs.Basics.{Answered, Bare, Black, Call, DesktopModel, Entry, HostModel}
+use Rattle.nit_host.proofs.Basics.{IsHost, IsPlainOf, PixelSource, Rectangle, Reply, Session}
+use Rattle.nit_host.proofs.Basics.{SheetModel, Sight, State, Word, after, after_handing, answered}
+use Rattle.nit_host.proofs.Basics.{called, cases_eq, covers, dirty, eq-eqb, first_session}
+use Rattle.nit_host.proofs.Basics.{get_or-set_same, handed, is_accepted, is_handed, is_word_in}
+use Rattle.nit_host.proofs.Basics.{low_bytes, pixel, plain_sight, rectangle, refreshed, refusal}
+use Rattle.nit_host.proofs.Basics.{refused_reply, reply_to, serve, serve_accepted, serve_refused}
+use Rattle.nit_host.proofs.Basics.{session, set_long, set_where, sheet_at, sheet_in, sheets_of}
+use Rattle.nit_host.proofs.Basics.{size_at, source_at, told_words, with_handed, word_from}
 use Rattle.nit_events.specs.declared.call.Call.TheVariants as call
 use Rattle.nit_events.specs.declared.call.Reply.TheVariants as reply
 use Rattle.nit_events.specs.declared.entry.Entry.TheVariants as entry
-use Rattle.nit_journal.specs.Session.{Answered, answered, first_session}
-use Rattle.nit_journal.proofs.ForCallers.{refused_reply, serve_accepted, serve_refused}
-use Rattle.nit_repaint.specs.PixelOwners.{is_word_in}
-use Rattle.nit_screen.specs.DirtyPixels.{dirty}
-use Rattle.nit_stack.specs.Sources.{Bare, Black, PixelSource, Word}
-use Rattle.nit_word.proofs.ForCallers.{set_long}
-use Rattle.nit_host.specs.Below.{Call, DesktopModel, Entry, Rectangle, Reply, Session, Sight, State}
-use Rattle.nit_host.specs.Below.{after, covers, is_accepted, pixel, plain_sight, rectangle, refusal}
-use Rattle.nit_host.specs.Below.{serve, session, set_where, source_at, told_words, word_from}
-use Rattle.nit_host.specs.Fresh.{IsHost, IsPlainOf, sheet_at, sheets_of, size_at}
-use Rattle.nit_host.specs.Handing.{after_handing}
-use Rattle.nit_host.specs.Host.{HostModel, called, handed, is_handed, refreshed, reply_to, sheet_in}
-use Rattle.nit_host.specs.Host.{with_handed}
-use Rattle.nit_host.specs.Sheet.{SheetModel, low_bytes}
 use Rattle.nit_host.proofs.SheetLists.{hollow_there, own_plain, own_room, own_words, put_elsewhere}
 use Rattle.nit_host.proofs.SheetLists.{put_there, words_at}
 use Rattle.nit_host.proofs.CallChanges.{Words, words_stay}

@@ -2,18 +2,12 @@
 use Rattle.std.proofs.Common.{Bool, List, Option, Some, ap, ap₂, arith, false, length, nat_le}
 use Rattle.std.proofs.Common.{nat_lt, pos, refl, sym, true, ℕ, ◌%◌, ◌&&◌, ◌*◌, ◌+◌, ◌/◌, ◌<◌, ◌||◌}
 use Rattle.std.proofs.Common.{◌∙◌, ◌≡◌, ◌≤◌, ◌+ℤ◌, ◌≤ℤ◌, ℤ, int_le, int_lt}
-use Rattle.std.proofs.Math.Nat.{mul-le-mul_right, mul_comm}
-use Rattle.std.proofs.lemmas.Bool.{and_parts, false_from_ne_true}
-use Rattle.std.proofs.lemmas.Bool.Decides.{nat_tests}
-use Rattle.std.proofs.lemmas.Int.{ints}
-use Rattle.std.proofs.lemmas.Nat.{div-add-mod', mod_below}
-use Rattle.nit_word.proofs.ForCallers.{before_row, both_set, column_and_row, none_set, same_set}
-use Rattle.nit_word.proofs.ForCallers.{set_long}
-use Rattle.nit_host.specs.Below.{Rectangle, Sight, covers, is_between, pixel, plain_sight}
-use Rattle.nit_host.specs.Below.{set_where, spans, told_words}
-use Rattle.nit_host.specs.Handing.{after_handing, is_in_rows}
-use Rattle.nit_host.specs.Host.{is_handed}
-use Rattle.nit_host.specs.Sheet.{handed_over, low_bytes}
+use Rattle.nit_host.proofs.Basics.{Rectangle, Sight, after_handing, and_parts, before_row, both_set}
+use Rattle.nit_host.proofs.Basics.{column_and_row, covers, div-add-mod', false_from_ne_true}
+use Rattle.nit_host.proofs.Basics.{handed_over, ints, is_between, is_handed, is_in_rows, low_bytes}
+use Rattle.nit_host.proofs.Basics.{mod_below, mul-le-mul_right, mul_comm, nat_tests, none_set}
+use Rattle.nit_host.proofs.Basics.{pixel, plain_sight, same_set, set_long, set_where, spans}
+use Rattle.nit_host.proofs.Basics.{told_words}
 use mathlib.Core.Logic.{dite}
 use native.Mathlib.Decide.{dec_lt, ℕ_discrete}
 

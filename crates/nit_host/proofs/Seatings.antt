@@ -2,33 +2,22 @@
 use Rattle.std.proofs.Common.{List, None, Option, Some, ap, arith, false, get_or, get_or-set_other}
 use Rattle.std.proofs.Common.{get_or-set_same, inl, inr, length, refl, set, slice_get, slice_index}
 use Rattle.std.proofs.Common.{subst, sym, ℕ, ◌<◌, ◌∙◌, ◌≡◌, ◌≢◌, ◌≤◌, nat_lt}
-use Rattle.std.proofs.Math.ListN.{length-set}
-use Rattle.std.proofs.lemmas.Bool.{cases_eq, eq-eqb, false≢true}
-use Rattle.std.proofs.lemmas.Bool.Decides.{nat_tests}
-use Rattle.std.proofs.lemmas.List.{get_or_past, map-set, set-set}
-use Rattle.nit_config.specs.declared.config.Member.{Member}
+use Rattle.nit_host.proofs.Basics.{AreHollow, AreLive, AreSheets, Configuration, DesktopModel}
+use Rattle.nit_host.proofs.Basics.{Entry, HostModel, IsFresh, IsHost, IsPlainOf, Member, Point}
+use Rattle.nit_host.proofs.Basics.{SheetModel, Sight, State, View, black_or_word, blank_sheet}
+use Rattle.nit_host.proofs.Basics.{buffer_size, cases_eq, eq-eqb, false≢true, get_or_past, glass_in}
+use Rattle.nit_host.proofs.Basics.{is_label_taken, is_taken, length-set, length-zeros, map-set}
+use Rattle.nit_host.proofs.Basics.{member, nat_tests, opened, owner_of, owns_none, pixel}
+use Rattle.nit_host.proofs.Basics.{relabelled, seated, session, session_owns, set-set, sheet_at}
+use Rattle.nit_host.proofs.Basics.{sheet_in, sheets_of, shown_index, size_at, source_of}
+use Rattle.nit_host.proofs.Basics.{source_under, table_size, told_words, unseated, word_from, zeros}
 use Rattle.nit_events.specs.declared.event.Status.TheVariants as status
-use Rattle.nit_journal.specs.State.{buffer_size, owner_of, source_of}
-use Rattle.nit_rect.specs.declared.point.Point.{Point}
-use Rattle.nit_screen.specs.DirtyPixels.{session_owns}
 use Rattle.nit_screen.specs.Terms.{is_session, option_map_or}
-use Rattle.nit_screen.proofs.ForCallers.{owns_none}
-use Rattle.nit_stack.specs.Sources.{black_or_word, shown_index, source_under}
-use Rattle.nit_stack.specs.declared.view.View.{View}
-use Rattle.nit_host.specs.Below.{AreLive, Configuration, DesktopModel, Entry, Sight, State}
-use Rattle.nit_host.specs.Below.{glass_in, member, opened, pixel, relabelled, session, table_size}
-use Rattle.nit_host.specs.Below.{told_words, word_from, zeros}
-use Rattle.nit_host.specs.Fresh.{AreHollow, AreSheets, IsFresh, IsHost, IsPlainOf, sheet_at}
-use Rattle.nit_host.specs.Fresh.{sheets_of, size_at}
-use Rattle.nit_host.specs.Host.{HostModel, sheet_in}
-use Rattle.nit_host.specs.Seats.{is_label_taken, is_taken, seated, unseated}
-use Rattle.nit_host.specs.Sheet.{SheetModel, blank_sheet}
 use Rattle.nit_host.proofs.Beginnings.{blank_plain, no_client}
 use Rattle.nit_host.proofs.Served.{not_met, passed}
 use Rattle.nit_host.proofs.SheetLists.{each_put, hollow_there, own_plain, own_room, put_elsewhere}
 use Rattle.nit_host.proofs.SheetLists.{put_there, rooms, same_sheets, sight_at, sights, words_at}
 use Rattle.nit_host.proofs.Steps.{host_model, sheets_with, with_sheet, words_with}
-use Rattle.nit_word.proofs.ForCallers.{length-zeros}
 use mathlib.Core.Logic.{dite}
 use native.Mathlib.Decide.{dec_lt}
 

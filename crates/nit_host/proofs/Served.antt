@@ -1,10 +1,8 @@
 -- What it means that nothing is against a call, a refresh or a device event.
 use Rattle.std.proofs.Common.{Bool, List, None, Option, Some, arith, false, length, nat_lt, not}
-use Rattle.std.proofs.Common.{refl, sym, true, ℕ, ◌-◌, ◌*◌, ◌<◌, ◌==◌, ◌^◌, ◌≡◌, ◌≤◌}
-use Rattle.std.proofs.Common.{if◌then◌else◌}
-use Rattle.std.proofs.lemmas.Bool.Decides.{nat_tests}
-use Rattle.nit_host.specs.Below.{Call, asks_view, session}
-use Rattle.nit_host.specs.Host.{HostModel, lacks_handles, unserved_call, unserved_refresh}
+use Rattle.std.proofs.Common.{refl, sym, true, ℕ, ◌-◌, ◌*◌, ◌<◌, ◌==◌, ◌^◌, ◌≡◌, ◌≤◌, if◌then◌else◌}
+use Rattle.nit_host.proofs.Basics.{Call, HostModel, asks_view, lacks_handles, nat_tests, session}
+use Rattle.nit_host.proofs.Basics.{unserved_call, unserved_refresh}
 
 -- the first test was passed, or was not met
 pub passed : {A : Type 0} (b : Bool) (why : A) (rest : Option A) → (if not b then Some why else rest) ≡ None

@@ -2,20 +2,13 @@
 use Rattle.std.proofs.Common.{List, None, Some, Bool, ap, arith, cond, get_or, get_or-set_other}
 use Rattle.std.proofs.Common.{get_or-set_same, inl, inr, length, map, refl, set, slice_get, subst}
 use Rattle.std.proofs.Common.{sym, ℕ, ◌++◌, ◌<◌, ◌∙◌, ◌≡◌, ◌≢◌, ◌≤◌}
-use Rattle.std.proofs.Math.ListN.{get_or-map, length-set}
-use Rattle.std.proofs.lemmas.Bool.{cases_eq, eq-eqb, ne_eqb}
-use Rattle.std.proofs.lemmas.List.{ext_get_or, get_or_default, get_or_past, length-map, set-get_or}
-use Rattle.std.proofs.lemmas.Option.{get_or_from_slice_get, slice_get_within}
-use Rattle.std.specs.Option.{option_map}
-use Rattle.nit_paint.specs.Repaint.{no_sight}
-use Rattle.nit_repaint.specs.Glasses.{glass_in, glasses_of_call}
-use Rattle.nit_word.specs.Sight.{Sight, plain_sight, seen, told_words}
-use Rattle.nit_host.specs.Below.{Configuration}
-use Rattle.nit_host.specs.Fresh.{AreHollow, AreQuiet, AreSheets, IsPlainOf, sheet_at, sheets_of}
-use Rattle.nit_host.specs.Fresh.{size_at}
-use Rattle.nit_host.specs.Host.{sheet_in}
-use Rattle.nit_host.specs.Sheet.{SheetModel, blank_sheet}
-use Rattle.nit_word.proofs.ForCallers.{length-zeros}
+use Rattle.nit_host.proofs.Basics.{AreHollow, AreQuiet, AreSheets, Configuration, IsPlainOf}
+use Rattle.nit_host.proofs.Basics.{SheetModel, Sight, blank_sheet, cases_eq, eq-eqb, ext_get_or}
+use Rattle.nit_host.proofs.Basics.{get_or-map, get_or_default, get_or_from_slice_get, get_or_past}
+use Rattle.nit_host.proofs.Basics.{glass_in, glasses_of_call, length-map, length-set, length-zeros}
+use Rattle.nit_host.proofs.Basics.{ne_eqb, no_sight, option_map, plain_sight, seen, set-get_or}
+use Rattle.nit_host.proofs.Basics.{sheet_at, sheet_in, sheets_of, size_at, slice_get_within}
+use Rattle.nit_host.proofs.Basics.{told_words}
 use mathlib.Core.Logic.{dite}
 use native.Mathlib.Decide.{dec_lt}
 

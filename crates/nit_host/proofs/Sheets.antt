@@ -1,20 +1,14 @@
 -- Words that are kept as far as they were reached, and are 0 behind.
 use Rattle.std.proofs.Common.{All, Bool, List, ap, arith, cond, [], false, length, refl, subst, sym}
-use Rattle.std.proofs.Common.{take, true, ℕ, ◌%◌, ◌++◌, ◌+◌, ◌-◌, ◌<◌, ◌==◌, ◌^◌, ◌∙◌, ◌∷◌, ◌≡◌, ◌≤◌}
-use Rattle.std.proofs.Common.{slice_index}
-use Rattle.std.proofs.Math.ListN.{get_or-eq_default}
-use Rattle.std.proofs.lemmas.Bool.{eq-eqb}
-use Rattle.std.proofs.lemmas.Bool.Decides.{nat_tests}
-use Rattle.std.proofs.lemmas.List.{ext_get_or, get_or-append_right, get_or_append_left}
-use Rattle.std.proofs.lemmas.List.{get_or_default, length-append, take_at}
-use Rattle.std.proofs.lemmas.List.Folds.{list_any_at}
-use Rattle.nit_word.specs.Inks.{IsInked, Stages}
-use Rattle.nit_word.specs.Sight.{IsLoaded}
-use Rattle.nit_word.specs.Zeros.{zeros}
-use Rattle.nit_word.proofs.ForCallers.{are_set, filled_at, filled_long, length-zeros, none_past}
-use Rattle.nit_word.proofs.ForCallers.{same_filled, set_long, word_at, zero_at}
-use Rattle.nit_host.specs.Below.{IsWord, Sight, filled_up, is_between, plain_sight, set_where}
-use Rattle.nit_host.specs.Sheet.{SheetModel, low_bytes}
+use Rattle.std.proofs.Common.{take, true, ℕ, ◌%◌, ◌++◌, ◌+◌, ◌-◌, ◌<◌, ◌==◌, ◌^◌, ◌∙◌, ◌∷◌, ◌≡◌}
+use Rattle.std.proofs.Common.{◌≤◌, slice_index}
+use Rattle.nit_host.proofs.Basics.{IsInked, IsLoaded, IsWord, SheetModel, Sight, Stages, are_set}
+use Rattle.nit_host.proofs.Basics.{eq-eqb, ext_get_or, filled_at, filled_long, filled_up}
+use Rattle.nit_host.proofs.Basics.{get_or-append_right, get_or-eq_default, get_or_append_left}
+use Rattle.nit_host.proofs.Basics.{get_or_default, is_between, length-append, length-zeros}
+use Rattle.nit_host.proofs.Basics.{list_any_at, low_bytes, nat_tests, none_past, plain_sight}
+use Rattle.nit_host.proofs.Basics.{same_filled, set_long, set_where, take_at, word_at, zero_at}
+use Rattle.nit_host.proofs.Basics.{zeros}
 use mathlib.Core.Logic.{dite}
 use native.Mathlib.Decide.{dec_lt}
 

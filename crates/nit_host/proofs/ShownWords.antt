@@ -1,16 +1,11 @@
 -- Which word a pixel of a host's picture shows.
 use Rattle.std.proofs.Common.{Bool, None, Option, Some, ap, ap₂, arith, cond, false, inl, inr}
-use Rattle.std.proofs.Common.{nat_lt, negsuc, pos, refl, slice_index, true, ℕ, ◌%◌, ◌*◌, ◌+◌}
-use Rattle.std.proofs.Common.{◌-ℤ◌, ◌/◌, ◌<◌, ◌∙◌, ◌≡◌, ◌⊎◌, ℤ}
-use Rattle.std.proofs.lemmas.Bool.Decides.{nat_tests}
-use Rattle.std.proofs.lemmas.List.FromFn.{get_or-map-range_with_len}
-use Rattle.nit_journal.specs.State.{buffer_size, owner_of}
-use Rattle.nit_stack.specs.Sources.{Black, PixelSource, Word, among, black_or_word, index_at}
-use Rattle.nit_stack.specs.Sources.{source_under}
-use Rattle.nit_stack.specs.declared.view.View.{View}
-use Rattle.nit_word.specs.Channels.{bare_word}
-use Rattle.nit_host.specs.Below.{pixel, pixel_count, session, source_at, word_from}
-use Rattle.nit_host.specs.Host.{HostModel, picture, sheet_in}
+use Rattle.std.proofs.Common.{nat_lt, negsuc, pos, refl, slice_index, true, ℕ, ◌%◌, ◌*◌, ◌+◌, ◌-ℤ◌}
+use Rattle.std.proofs.Common.{◌/◌, ◌<◌, ◌∙◌, ◌≡◌, ◌⊎◌, ℤ}
+use Rattle.nit_host.proofs.Basics.{Black, HostModel, PixelSource, View, Word, among, bare_word}
+use Rattle.nit_host.proofs.Basics.{black_or_word, buffer_size, get_or-map-range_with_len, index_at}
+use Rattle.nit_host.proofs.Basics.{nat_tests, owner_of, picture, pixel, pixel_count, session}
+use Rattle.nit_host.proofs.Basics.{sheet_in, source_at, source_under, word_from}
 use mathlib.Core.Logic.{dite}
 use native.Mathlib.Decide.{dec_lt}
 

@@ -1,24 +1,16 @@
 -- What a call of a seat's client leaves, whose sheet was taken out of the desktop and is put back.
-use Rattle.std.proofs.Common.{List, Option, Some, [], ap, arith, false, get_or, length}
-use Rattle.std.proofs.Common.{refl, set, slice_get, subst, sym, ℕ, ◌-◌, ◌<◌, ◌∙◌, ◌≡◌, ◌≤◌}
-use Rattle.std.proofs.Math.ListN.{length-set}
-use Rattle.std.proofs.lemmas.List.{map-set, set-get_or, set-set}
+use Rattle.std.proofs.Common.{List, Option, Some, [], ap, arith, false, get_or, length, refl, set}
+use Rattle.std.proofs.Common.{slice_get, subst, sym, ℕ, ◌-◌, ◌<◌, ◌∙◌, ◌≡◌, ◌≤◌}
+use Rattle.nit_host.proofs.Basics.{Agrees, AreSheets, Call, Configuration, DesktopModel, Entry}
+use Rattle.nit_host.proofs.Basics.{HostModel, IsHost, IsPlainOf, Painted, Point, Reply, SheetModel}
+use Rattle.nit_host.proofs.Basics.{Sight, State, after, called, dirty, glass_in, glasses_of_call}
+use Rattle.nit_host.proofs.Basics.{length-set, map-set, pixel, serve, session, set-get_or, set-set}
+use Rattle.nit_host.proofs.Basics.{sheet_at, sheet_in, sheets_of, size_at, source_at, source_of}
+use Rattle.nit_host.proofs.Basics.{told_words, word_from}
 use Rattle.nit_events.specs.declared.entry.Entry.TheVariants as entry
-use Rattle.nit_repaint.specs.Glasses.{glass_in, glasses_of_call}
-use Rattle.nit_screen.specs.DirtyPixels.{dirty}
-use Rattle.nit_host.specs.Below.{Agrees, Call, Configuration, DesktopModel, Entry, Painted, Reply}
-use Rattle.nit_host.specs.Below.{Sight, State, after, pixel, serve, session, source_at, told_words}
-use Rattle.nit_host.specs.Below.{word_from}
-use Rattle.nit_journal.specs.State.{source_of}
-use Rattle.nit_rect.specs.declared.point.Point.{Point}
-use Rattle.nit_host.specs.Fresh.{AreSheets, IsHost, IsPlainOf, sheet_at}
-use Rattle.nit_host.specs.Fresh.{sheets_of, size_at}
-use Rattle.nit_host.specs.Host.{HostModel, called, sheet_in}
-use Rattle.nit_host.specs.Sheet.{SheetModel}
 use Rattle.nit_host.proofs.Freshness.{fresh_after}
 use Rattle.nit_host.proofs.SheetLists.{comes_out, each_put, hollow_there, own_plain, own_room}
-use Rattle.nit_host.proofs.SheetLists.{own_words, put_same, sights}
-use Rattle.nit_host.proofs.SheetLists.{taken_out, with_own}
+use Rattle.nit_host.proofs.SheetLists.{own_words, put_same, sights, taken_out, with_own}
 
 -- what a law says of pixels that are not dirty
 abbrev pub KeepSources : Type 0

@@ -1,25 +1,16 @@
 -- What a call makes dirty lies in the areas of what it touches.
 use Rattle.std.proofs.Common.{Bool, List, None, Option, Some, [], ap, arith, cond, false, find, inl}
-use Rattle.std.proofs.Common.{inr, nat_lt, negsuc, pos, refl, slice_get, suc, sym, true}
-use Rattle.std.proofs.Common.{ℕ, ℤ, ◌%◌, ◌&&◌, ◌*◌, ◌+◌, ◌/◌, ◌<◌, ◌==◌, ◌||◌, ◌∙◌, ◌∷◌, ◌≡◌, ◌⊎◌}
-use Rattle.std.proofs.lemmas.Bool.{eqb-true, false≢true}
-use Rattle.std.proofs.lemmas.Bool.Decides.{nat_tests}
-use Rattle.std.proofs.lemmas.Nat.{div-mul-add, mod-mul-add}
-use Rattle.std.proofs.lemmas.Option.{same_Some}
+use Rattle.std.proofs.Common.{inr, nat_lt, negsuc, pos, refl, slice_get, suc, sym, true, ℕ, ℤ, ◌%◌}
+use Rattle.std.proofs.Common.{◌&&◌, ◌*◌, ◌+◌, ◌/◌, ◌<◌, ◌==◌, ◌||◌, ◌∙◌, ◌∷◌, ◌≡◌, ◌⊎◌}
+use Rattle.nit_host.proofs.Basics.{Area, Call, HoldsTouched, Point, Rectangle, Size, State, Touch}
+use Rattle.nit_host.proofs.Basics.{View, among, bar_rows, black_or_word, buffer_place, buffer_size}
+use Rattle.nit_host.proofs.Basics.{covers, dirty_by_call, div-mul-add, eqb-true, false≢true}
+use Rattle.nit_host.proofs.Basics.{has_place, in_bar, index_at, is_owned_by, is_rectangle}
+use Rattle.nit_host.proofs.Basics.{is_session, is_view, is_word_in, mod-mul-add, nat_tests}
+use Rattle.nit_host.proofs.Basics.{option_map_or, owner_of, owns_either, pixel, point, rectangle}
+use Rattle.nit_host.proofs.Basics.{same_Some, session, shown_index, shows_part, shows_place}
+use Rattle.nit_host.proofs.Basics.{source_under, spans, touched_by, view_owns}
 use Rattle.nit_events.specs.declared.call.Call.TheVariants as call
-use Rattle.nit_journal.specs.State.{buffer_size, owner_of}
-use Rattle.nit_repaint.specs.PixelOwners.{is_word_in}
-use Rattle.nit_screen.specs.DirtyPixels.{dirty_by_call, is_owned_by, owns_either}
-use Rattle.nit_screen.specs.DirtyPixels.{shows_part, view_owns}
-use Rattle.nit_stack.specs.Sources.{Size, among, black_or_word}
-use Rattle.nit_stack.specs.Sources.{index_at, shown_index, source_under}
-use Rattle.nit_host.specs.Below.{Call, Point, Rectangle, State, View, bar_rows}
-use Rattle.nit_host.specs.Below.{buffer_place, covers, in_bar, is_rectangle, is_session}
-use Rattle.nit_host.specs.Below.{is_view, option_map_or, pixel, point, rectangle, session, spans}
-use Rattle.nit_host.specs.Area.{has_place}
-use Rattle.nit_host.specs.Touch.{HoldsTouched, shows_place, touched_by}
-use Rattle.nit_host.specs.declared.host.area.Area.{Area}
-use Rattle.nit_host.specs.declared.host.touch.Touch.{Touch}
 use Rattle.nit_host.specs.declared.host.touch.Touch.TheVariants as touch
 use Rattle.nit_host.proofs.Areas.{first_test, second_test}
 

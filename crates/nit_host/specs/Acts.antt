@@ -1,8 +1,6 @@
 -- A host's whole life: what it is asked, one thing after the other.
 use Rattle.std.specs.Prelude.{ℕ, ℤ, List, [], ◌∷◌, ◌++◌, fold, Option, Some, None}
-use Rattle.nit_host.specs.Below.{Call, Device, State}
-use Rattle.nit_journal.specs.State.{IsClickAt}
-use Rattle.nit_journal.specs.Steps.{Opens, Serves, Step}
+use Rattle.nit_host.specs.Below.{Call, Device, IsClickAt, Opens, Serves, State, Step}
 use Rattle.nit_events.specs.declared.call.Call.TheVariants as call
 use Rattle.nit_events.specs.declared.entry.Entry.TheVariants as entry
 use Rattle.nit_host.specs.Host.{HostModel, called, looked, refreshed, reply_to, routed_of, told}

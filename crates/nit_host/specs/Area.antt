@@ -1,8 +1,7 @@
 -- A part of the screen, as columns and rows.
-use Rattle.std.specs.Prelude.{◌≡◌, ◌≤◌, ◌<◌, ◌-◌, ◌&&◌, ◌%◌, ◌/◌, ℕ, Bool, List, false, pos}
-use Rattle.std.specs.Prelude.{ℤ, negsuc, slice_index, true, ◌≤ℤ◌}
-use Rattle.nit_host.specs.Below.{Rectangle, is_between, rectangle}
-use Rattle.nit_host.specs.declared.host.area.Area.{Area}
+use Rattle.std.specs.Prelude.{◌≡◌, ◌≤◌, ◌<◌, ◌-◌, ◌&&◌, ◌%◌, ◌/◌, ℕ, Bool, List, false, pos, ℤ}
+use Rattle.std.specs.Prelude.{negsuc, slice_index, true, ◌≤ℤ◌}
+use Rattle.nit_host.specs.Below.{Area, Rectangle, is_between, rectangle}
 
 -- the pixel of this column and row lies in the area
 abbrev pub has_place : Area → ℕ → ℕ → Bool

@@ -1,19 +1,16 @@
 -- A host as a value, and what each of its calls makes of it.
 use Rattle.std.specs.Prelude.{◌≡◌, ℕ, ◌-◌, ◌*◌, ◌^◌, ℤ, Bool, true, ◌&&◌, ◌==◌, nat_le, nat_lt}
-use Rattle.std.specs.Prelude.{negsuc}
-use Rattle.std.specs.Prelude.{int_le, not, List, [], ◌∷◌, length, map, slice_index_or, slice_set}
-use Rattle.std.specs.Prelude.{Option, Some, None, if◌then◌else◌}
+use Rattle.std.specs.Prelude.{negsuc, int_le, not, List, [], ◌∷◌, length, map, slice_index_or}
+use Rattle.std.specs.Prelude.{slice_set, Option, Some, None, if◌then◌else◌}
 use Rattle.nit_host.specs.Below.{Call, Configuration, Device, Entry, Rectangle, Reply, Routed}
-use Rattle.nit_host.specs.Below.{Session, State, after, asks_view, covers, is_accepted}
-use Rattle.nit_host.specs.Below.{frame, scenery_of}
-use Rattle.nit_host.specs.Below.{journal_text, most_code, pixel, rectangle, route, routed_as, serve}
-use Rattle.nit_host.specs.Below.{session, set_where, source_at, table_size, word_from, words_of}
-use Rattle.nit_host.specs.Below.{zeros}
+use Rattle.nit_host.specs.Below.{Session, State, Unserved, after, asks_view, covers, frame}
+use Rattle.nit_host.specs.Below.{is_accepted, journal_text, most_code, pixel, rectangle, route}
+use Rattle.nit_host.specs.Below.{routed_as, scenery_of, serve, session, set_where, source_at}
+use Rattle.nit_host.specs.Below.{table_size, word_from, words_of, zeros}
 use Rattle.nit_events.specs.declared.call.Call.TheVariants as call
 use Rattle.nit_events.specs.declared.device.Device.TheVariants as device
 use Rattle.nit_events.specs.declared.entry.Entry.TheVariants as entry
 use Rattle.nit_host.specs.Sheet.{low_bytes}
-use Rattle.nit_host.specs.declared.refusal.Unserved.{Unserved}
 use Rattle.nit_host.specs.declared.refusal.Unserved.TheVariants as unserved
 
 -- the state; the words that each seat's client handed in, by their places in its buffer; how many

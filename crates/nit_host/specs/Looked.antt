@@ -1,11 +1,10 @@
 -- What the last look at a host left.
 use Rattle.std.specs.Prelude.{◌≡◌, ◌<◌, ℕ, List, Option, Some, None, length, true}
 use Rattle.nit_host.specs.Area.{StaysOutside, is_inside}
-use Rattle.nit_host.specs.Below.{DesktopModel, State, pixel_count}
+use Rattle.nit_host.specs.Below.{Area, DesktopModel, State, pixel_count}
 use Rattle.nit_host.specs.Fresh.{sheets_of}
 use Rattle.nit_host.specs.Host.{frame_by}
 use Rattle.nit_host.specs.Sheet.{SheetModel}
-use Rattle.nit_host.specs.declared.host.area.Area.{Area}
 
 -- the frame that a desktop of sheets shows
 abbrev pub frame_at : DesktopModel SheetModel → List ℕ

@@ -1,10 +1,9 @@
 -- The configuration that a plan of a screen and its seats makes, or why it makes none.
 use Rattle.std.specs.Prelude.{ℕ, ◌+◌, Bool, not, ◌&&◌, ◌||◌, nat_le, nat_lt, List, [], ◌∷◌, length}
 use Rattle.std.specs.Prelude.{map, codes, Option, Some, None, if◌then◌else◌}
-use Rattle.nit_host.specs.Below.{Configuration, Member, enumerate_from, least_units, list_all}
-use Rattle.nit_host.specs.Below.{most_height, most_sessions, most_units, most_width}
-use Rattle.nit_host.specs.declared.planning.SeatPlan.{SeatPlan}
-use Rattle.nit_host.specs.declared.refusal.PlanError.{PlanError}
+use Rattle.nit_host.specs.Below.{Configuration, Member, PlanError, SeatPlan, enumerate_from}
+use Rattle.nit_host.specs.Below.{least_units, list_all, most_height, most_sessions, most_units}
+use Rattle.nit_host.specs.Below.{most_width}
 use Rattle.nit_host.specs.declared.refusal.PlanError.TheVariants as plan_error
 
 -- a number is from the first to the last

@@ -1,11 +1,10 @@
 -- Seats: which of them are free, and clients that come to them.
 use Rattle.std.specs.Prelude.{ℕ, ◌==◌, Bool, true, false, ◌&&◌, not, nat_lt, List, length}
 use Rattle.std.specs.Prelude.{slice_set, find, Option, Some, None, bytes_eq, if◌then◌else◌}
-use Rattle.nit_host.specs.Below.{State, Status, donation_of, list_any, member, opened}
+use Rattle.nit_host.specs.Below.{State, Status, Unseated, donation_of, list_any, member, opened}
 use Rattle.nit_host.specs.Below.{range_with_len, session, table_size, zeros}
 use Rattle.nit_events.specs.declared.event.Status.TheVariants as status
 use Rattle.nit_host.specs.Host.{HostModel}
-use Rattle.nit_host.specs.declared.refusal.Unseated.{Unseated}
 use Rattle.nit_host.specs.declared.refusal.Unseated.TheVariants as why
 
 abbrev pub is_live : Status → Bool

@@ -1,41 +1,52 @@
 -- The words that clauses use: those that come from outside, and those of this crate.
-pub use Rattle.nit_host.specs.Below.{Agrees, AreLive, Call, Configuration, CoversChange}
-pub use Rattle.nit_host.specs.Below.{DesktopModel, Device, Entry, IsConfiguration, IsDevice}
-pub use Rattle.nit_host.specs.Below.{IsDonation, IsFrameShown, IsFreeLabel, IsPlace, IsTouched}
-pub use Rattle.nit_host.specs.Below.{IsWord}
-pub use Rattle.nit_host.specs.Below.{LiesOn, Member, Mode, Painted, Rectangle, Reply, Routed}
-pub use Rattle.nit_host.specs.Below.{Session, ShowsLabels, Sight, State, Status, after, asks_view}
-pub use Rattle.nit_host.specs.Below.{covers, donation_of, enumerate_from, filled_up, first_state}
-pub use Rattle.nit_host.specs.Below.{frame, glass_in, is_accepted, is_between, journal_text}
-pub use Rattle.nit_host.specs.Below.{least_units, list_all, list_any, member, most_code}
-pub use Rattle.nit_host.specs.Below.{most_height, most_length, most_sessions, most_units}
-pub use Rattle.nit_host.specs.Below.{most_width, no_sight, opened, pixel, pixel_count, plain_sight}
-pub use Rattle.nit_host.specs.Below.{range_with_len, rectangle, refusal, relabelled, route}
-pub use Rattle.nit_host.specs.Below.{routed_as, scenery_of, serve, session, set_where, source_at}
-pub use Rattle.nit_host.specs.Below.{spans, table_size, told_words, vacant_state, word_from}
-pub use Rattle.nit_host.specs.Below.{words_of, zeros}
+pub use Rattle.nit_host.specs.Acts.{Act, Calls, Comes, Does, IsClickBy, Looks, Refreshes, after_act}
+pub use Rattle.nit_host.specs.Acts.{after_acts, step_of, step_unless, steps_of, unless_for}
+pub use Rattle.nit_host.specs.Area.{HoldsBoth, HoldsUnless, HoldsWhere, IsAreaOf, IsInReach}
+pub use Rattle.nit_host.specs.Area.{StaysOutside, has_place, is_inside, rectangle_over}
+pub use Rattle.nit_host.specs.Below.{AgreeIn, AgreeOutside, Agrees, Answered, AreGlasses, AreLive}
+pub use Rattle.nit_host.specs.Below.{AreSteps, Area, Bare, Black, Call, Configuration, CoversChange}
+pub use Rattle.nit_host.specs.Below.{Delivery, DesktopModel, Device, Entry, Flat, Gets, IsClickAt}
+pub use Rattle.nit_host.specs.Below.{IsConfiguration, IsDown, IsFrameShown, IsFreeLabel, IsInked}
+pub use Rattle.nit_host.specs.Below.{IsLive, IsLoaded, IsMember, IsPlace, IsStepOf, IsTouched}
+pub use Rattle.nit_host.specs.Below.{IsWord, IsWordOfSource, Item, Kill, KillsPointed, LiesOn}
+pub use Rattle.nit_host.specs.Below.{Member, Mode, Observation, Painted, PixelSource, PlanError}
+pub use Rattle.nit_host.specs.Below.{Point, Rectangle, Reply, Routed, Scenery, SeatPlan, Serves}
+pub use Rattle.nit_host.specs.Below.{Session, ShowsLabels, Sight, Size, Stages, State, Step}
+pub use Rattle.nit_host.specs.Below.{TellsFocus, Touch, Unseated, Unserved, View, Word, Xray, after}
+pub use Rattle.nit_host.specs.Below.{after_accepted, after_deliveries, after_delivery, after_step}
+pub use Rattle.nit_host.specs.Below.{after_steps, among, answered, asks_view, bar_rows, bar_word}
+pub use Rattle.nit_host.specs.Below.{bare_word, black_or_word, buffer_place, buffer_size, covers}
+pub use Rattle.nit_host.specs.Below.{deliveries_of, dirty, dirty_by_call, donation_of}
+pub use Rattle.nit_host.specs.Below.{enumerate_from, filled_up, first_input, first_session}
+pub use Rattle.nit_host.specs.Below.{first_state, frame, glass_in, glasses_of_call, in_bar}
+pub use Rattle.nit_host.specs.Below.{index_at, input_after_call, is_accepted, is_between, is_button}
+pub use Rattle.nit_host.specs.Below.{is_held, is_key, is_kill, is_killed, is_label, is_owned_by}
+pub use Rattle.nit_host.specs.Below.{is_rectangle, is_session, is_some, is_view, is_word_in, kills}
+pub use Rattle.nit_host.specs.Below.{layer, least_units, list_all, list_any, member, most_height}
+pub use Rattle.nit_host.specs.Below.{most_length, most_sessions, most_units, most_width, no_sight}
+pub use Rattle.nit_host.specs.Below.{opened, opening_of, option_map, option_map_or, owner, owner_of}
+pub use Rattle.nit_host.specs.Below.{owns_either, pixel, pixel_count, place_at, plain_sight, point}
+pub use Rattle.nit_host.specs.Below.{projection, range_with_len, rectangle, refusal, relabelled}
+pub use Rattle.nit_host.specs.Below.{replies_from, replies_to, route, routed_as, scenery_of, seen}
+pub use Rattle.nit_host.specs.Below.{serve, session, session_owns, set_where, shown, shown_index}
+pub use Rattle.nit_host.specs.Below.{shows_part, since_opening, slice_index, source_at, source_of}
+pub use Rattle.nit_host.specs.Below.{source_under, spans, table_size, to, told_words, under_pointer}
+pub use Rattle.nit_host.specs.Below.{vacant_state, view_owns, word_from, words_of, zeros}
 pub use Rattle.nit_host.specs.Fresh.{AreBlank, AreHollow, AreQuiet, AreSheets, IsFresh, IsHost}
 pub use Rattle.nit_host.specs.Fresh.{IsPlainOf, sheet_at, sheets_of, size_at}
-pub use Rattle.nit_host.specs.Area.{StaysOutside}
 pub use Rattle.nit_host.specs.Handing.{CanTakeWords, IsHandedIn, after_handing, is_in_rows}
-pub use Rattle.nit_host.specs.Host.{HostModel, behind, blank_sheets, called, first_host, handed}
-pub use Rattle.nit_host.specs.Host.{is_device, is_handed, lacks_handles, last_text, picture}
+pub use Rattle.nit_host.specs.Host.{HostModel, IsAsSeen, IsOneOf, blank_sheets, called, first_host}
+pub use Rattle.nit_host.specs.Host.{frame_by, frame_shown, handed, is_device, is_handed}
+pub use Rattle.nit_host.specs.Host.{lacks_handles, last_text, looked, picture, picture_from}
 pub use Rattle.nit_host.specs.Host.{refreshed, reply_to, routed_of, sheet_in, told, unserved_call}
 pub use Rattle.nit_host.specs.Host.{unserved_input, unserved_refresh, with_handed, worn_out}
+pub use Rattle.nit_host.specs.Looked.{IsSeenBut, frame_at}
 pub use Rattle.nit_host.specs.Plan.{hex_digit, is_screen, is_within, no_script, planned}
 pub use Rattle.nit_host.specs.Plan.{refused_plan, waiting_label, waiting_member}
-pub use Rattle.nit_host.specs.Seats.{free_or_first, has_label, is_label_taken, is_live, is_taken}
-pub use Rattle.nit_host.specs.Seats.{seat_for, seated, seats_of, unseated}
+pub use Rattle.nit_host.specs.Seats.{has_label, is_label_taken, is_live, is_taken, seat_for, seated}
+pub use Rattle.nit_host.specs.Seats.{seats_of, unseated}
 pub use Rattle.nit_host.specs.Sheet.{SheetModel, blank_sheet, handed_over, low_bytes}
-pub use Rattle.nit_host.specs.declared.refusal.PlanError.{PlanError}
-pub use Rattle.nit_host.specs.declared.refusal.Unseated.{Unseated}
-pub use Rattle.nit_host.specs.declared.refusal.Unserved.{Unserved}
-pub use Rattle.nit_host.specs.Area.{HoldsBoth, HoldsUnless, HoldsWhere, IsAreaOf, IsInReach}
-pub use Rattle.nit_host.specs.Area.{has_place, is_inside, rectangle_over}
-pub use Rattle.nit_host.specs.Below.{AgreeIn, Delivery, Point, View, deliveries_of, is_kill, kills}
-pub use Rattle.nit_host.specs.Below.{in_bar, option_map_or, point}
-pub use Rattle.nit_host.specs.Host.{IsAsSeen, frame_by, frame_shown, looked}
-pub use Rattle.nit_host.specs.Looked.{IsSeenBut, frame_at}
-pub use Rattle.nit_host.specs.Touch.{HoldsBar, HoldsTouched, IsBarArea, IsToldArea, is_touched}
-pub use Rattle.nit_host.specs.Touch.{part_touched, shows_place}
-pub use Rattle.nit_host.specs.Touch.{touch_of, touched_by, touched_in, touched_over}
+pub use Rattle.nit_host.specs.Touch.{HoldsBar, HoldsBarIn, HoldsTouched, IsBarArea, IsToldArea}
+pub use Rattle.nit_host.specs.Touch.{is_touched, part_touched, shows_place, touch_of, touched_by}
+pub use Rattle.nit_host.specs.Touch.{touched_in, touched_over, touched_unless}
+pub use Rattle.nit_host.specs.Words.{IsInPart, word_of}

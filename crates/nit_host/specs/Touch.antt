@@ -1,14 +1,13 @@
 -- What of the frame a call of a seat's client can change.
-use Rattle.std.specs.Prelude.{ℕ, ℤ, Bool, true, false, ◌&&◌, ◌≡◌, ◌<◌, Option, Some, None}
-use Rattle.std.specs.Prelude.{List, slice_get, if◌then◌else◌}
-use Rattle.nit_host.specs.Below.{Call, Mode, Point, Rectangle, Reply, State, View, bar_rows}
-use Rattle.nit_host.specs.Below.{Delivery, buffer_place, covers, in_bar, is_rectangle, is_session}
-use Rattle.nit_host.specs.Below.{is_view, kills, point, rectangle, refusal, session, spans}
+use Rattle.std.specs.Prelude.{ℕ, ℤ, Bool, true, false, ◌&&◌, ◌≡◌, ◌<◌, Option, Some, None, List}
+use Rattle.std.specs.Prelude.{slice_get, if◌then◌else◌}
+use Rattle.nit_host.specs.Below.{Area, Call, Delivery, Mode, Point, Rectangle, Reply, State, Touch}
+use Rattle.nit_host.specs.Below.{View, bar_rows, buffer_place, covers, in_bar, is_rectangle}
+use Rattle.nit_host.specs.Below.{is_session, is_view, kills, point, rectangle, refusal, session}
+use Rattle.nit_host.specs.Below.{spans}
 use Rattle.nit_events.specs.declared.call.Call.TheVariants as call
 use Rattle.nit_events.specs.declared.device.Mode.TheVariants as mode
 use Rattle.nit_host.specs.Area.{IsAreaOf, has_place}
-use Rattle.nit_host.specs.declared.host.area.Area.{Area}
-use Rattle.nit_host.specs.declared.host.touch.Touch.{Touch}
 use Rattle.nit_host.specs.declared.host.touch.Touch.TheVariants as touch
 
 -- a part of a buffer, and the screen where there is no such part

@@ -1,24 +1,20 @@
 //! Laws of a host's whole life, over plain lists of what it is asked, and of the words that it
 //! shows.
 
-ghost use Rattle.std.specs.Prelude.{All, ◌≡◌, ◌≢◌, ◌∷◌, ◌++◌, ◌<◌, ◌≤◌, ◌+◌, ◌*◌, ◌/◌, ◌%◌};
-ghost use Rattle.std.specs.Prelude.{◌^◌, ◌⊎◌, ◌-ℤ◌, List, [], length, slice_index, None, Some};
-ghost use Rattle.std.specs.Prelude.{false, pos, true, ℕ, ℤ};
-ghost use Rattle.nit_host.specs.Acts.{Act, Calls, Comes, Does, IsClickBy, Looks, Refreshes};
-ghost use Rattle.nit_host.specs.Acts.{after_act, after_acts, steps_of};
-ghost use Rattle.nit_host.specs.Terms.{HostModel, deliveries_of, is_accepted, picture, pixel};
-ghost use Rattle.nit_host.specs.Terms.{pixel_count, reply_to, routed_of, session, sheet_in};
-ghost use Rattle.nit_host.specs.Terms.{source_at, unseated, unserved_refresh};
-ghost use Rattle.nit_host.specs.Words.{IsInPart, word_of};
-ghost use Rattle.nit_word.specs.Channels.{bare_word};
-ghost use Rattle.nit_stack.specs.Sources.{Black, Word};
-ghost use Rattle.nit_stack.specs.declared.view.View.{View};
-ghost use Rattle.nit_journal.specs.Terms.{AreLive, AreSteps, Call, Delivery, Device, Flat, Gets};
-ghost use Rattle.nit_journal.specs.Terms.{IsDown, IsLive, Kill, KillsPointed, Observation};
-ghost use Rattle.nit_journal.specs.Terms.{TellsFocus, Xray, after_steps, first_input, is_button};
-ghost use Rattle.nit_journal.specs.Terms.{is_held, is_key, opening_of, owner_of, projection};
-ghost use Rattle.nit_journal.specs.Terms.{replies_from, replies_to, since_opening, to};
-ghost use Rattle.nit_journal.specs.Terms.{under_pointer};
+ghost use Rattle.std.specs.Prelude.{All, ◌≡◌, ◌≢◌, ◌∷◌, ◌++◌, ◌<◌, ◌≤◌, ◌+◌, ◌*◌, ◌/◌, ◌%◌, ◌^◌};
+ghost use Rattle.std.specs.Prelude.{◌⊎◌, ◌-ℤ◌, List, [], length, slice_index, None, Some, false};
+ghost use Rattle.std.specs.Prelude.{pos, true, ℕ, ℤ};
+ghost use Rattle.nit_host.specs.Terms.{Act, AreSteps, Black, Calls, Comes, Does, Flat, Gets};
+ghost use Rattle.nit_host.specs.Terms.{HostModel, IsClickBy, IsDown, IsInPart, IsLive, Kill};
+ghost use Rattle.nit_host.specs.Terms.{KillsPointed, Looks, Observation, Refreshes, TellsFocus};
+ghost use Rattle.nit_host.specs.Terms.{View, Word, Xray, after_act, after_acts, after_steps};
+ghost use Rattle.nit_host.specs.Terms.{bare_word, deliveries_of, first_input, is_accepted};
+ghost use Rattle.nit_host.specs.Terms.{is_button, is_held, is_key, opening_of, picture, pixel};
+ghost use Rattle.nit_host.specs.Terms.{pixel_count, projection, replies_from, replies_to, reply_to};
+ghost use Rattle.nit_host.specs.Terms.{routed_of, session, sheet_in, since_opening, source_at};
+ghost use Rattle.nit_host.specs.Terms.{steps_of, to, under_pointer, unseated, unserved_refresh};
+ghost use Rattle.nit_host.specs.Terms.{word_of};
+ghost use Rattle.nit_journal.specs.Terms.{AreLive, Call, Delivery, Device, owner_of};
 ghost use Rattle.nit_events.specs.declared.call.Call.TheVariants as call;
 ghost use Rattle.nit_events.specs.declared.device.Device.TheVariants as device;
 ghost use Rattle.nit_events.specs.declared.event.Event.TheVariants as event;

@@ -2,10 +2,10 @@
 
 ghost use Rattle.std.specs.Prelude.{◌≡◌, ◌<◌, ◌≤◌, None, Some, Ok, Err, IfOk, MatchResult, length};
 ghost use Rattle.std.specs.Prelude.{map, nat_le};
-ghost use Rattle.nit_host.specs.Terms.{IsConfiguration, PlanError, hex_digit, is_screen, is_within};
-ghost use Rattle.nit_host.specs.Terms.{least_units, list_all, most_sessions, most_units, no_script};
-ghost use Rattle.nit_host.specs.Terms.{planned, refused_plan, waiting_label, waiting_member};
-ghost use Rattle.nit_host.specs.Terms.{enumerate_from};
+ghost use Rattle.nit_host.specs.Terms.{IsConfiguration, PlanError, enumerate_from, hex_digit};
+ghost use Rattle.nit_host.specs.Terms.{is_screen, is_within, least_units, list_all, most_sessions};
+ghost use Rattle.nit_host.specs.Terms.{most_units, no_script, planned, refused_plan, waiting_label};
+ghost use Rattle.nit_host.specs.Terms.{waiting_member};
 
 use crate::refusal::PlanError;
 use nit_config::{Config, FileName, Member};

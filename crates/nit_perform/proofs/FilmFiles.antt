@@ -11,8 +11,8 @@ use Rattle.nit_perform.proofs.Basics.{cropped_bytes, events_files, film_header, 
 use Rattle.nit_perform.proofs.Basics.{final_name, final_picture, first_state, journal_file}
 use Rattle.nit_perform.proofs.Basics.{later_shots, numbered, other_both, other_letter}
 use Rattle.nit_perform.proofs.Basics.{picture_names, pictures_in, put_state_of_run, puts_more}
-use Rattle.nit_perform.proofs.Basics.{range_with_len, records, shot_name, shots, stays}
-use Rattle.nit_perform.proofs.Basics.{texts_other, unrefused, with_texts}
+use Rattle.nit_perform.proofs.Basics.{range_with_len, records, shot_name, shots, stays, texts_other}
+use Rattle.nit_perform.proofs.Basics.{unrefused, with_texts}
 use Rattle.nit_perform.proofs.PutLemmas.{PutAll, all_put}
 use Rattle.nit_store.specs.declared.store.PutError.TheVariants as put
 

@@ -8,10 +8,10 @@ use Rattle.nit_perform.proofs.Basics.{black_or_word, buffer_place, buffer_size, 
 use Rattle.nit_perform.proofs.Basics.{cases_lt, first_session, first_state, frame}
 use Rattle.nit_perform.proofs.Basics.{get_or-map-range_with_len, get_or_past, glass_in, index_at}
 use Rattle.nit_perform.proofs.Basics.{kept_config, ltb-true, nat_lt, negsuc, owner, picture}
-use Rattle.nit_perform.proofs.Basics.{picture_by, pixel, pixel_count, pos, raw_words}
-use Rattle.nit_perform.proofs.Basics.{replay_from, same_frame, scenery_of, session_in, shown_index}
-use Rattle.nit_perform.proofs.Basics.{slice_index, source_at, source_under, state_now}
-use Rattle.nit_perform.proofs.Basics.{take-append_seam, told_word, word_from, ℤ}
+use Rattle.nit_perform.proofs.Basics.{picture_by, pixel, pixel_count, pos, raw_words, replay_from}
+use Rattle.nit_perform.proofs.Basics.{same_frame, scenery_of, session_in, shown_index, slice_index}
+use Rattle.nit_perform.proofs.Basics.{source_at, source_under, state_now, take-append_seam}
+use Rattle.nit_perform.proofs.Basics.{told_word, word_from, ℤ}
 use Rattle.nit_perform.proofs.PerClient.{itself_at}
 use Rattle.nit_events.specs.declared.entry.Entry.TheVariants as entry
 

@@ -1,9 +1,9 @@
 -- The scripts of a generated run, put one after the other.
-use Rattle.std.proofs.Common.{◌≡◌, ℕ, ◌<◌, zero, suc, ◌+◌, List, [], ◌∷◌, sym, subst}
-use Rattle.std.proofs.Common.{arith, zero-add}
+use Rattle.std.proofs.Common.{◌≡◌, ℕ, ◌<◌, zero, suc, ◌+◌, List, [], ◌∷◌, sym, subst, arith}
+use Rattle.std.proofs.Common.{zero-add}
 use Rattle.nit_perform.proofs.Basics.{File, IsAscii, IsUtf8, IsUtf8-from_ascii, PutState, PutsAll}
-use Rattle.nit_perform.proofs.Basics.{PutsNext, client_text, decimal_digit}
-use Rattle.nit_perform.proofs.Basics.{map-range_with_len_more, puts_more, script_files, script_name}
+use Rattle.nit_perform.proofs.Basics.{PutsNext, client_text, decimal_digit, map-range_with_len_more}
+use Rattle.nit_perform.proofs.Basics.{puts_more, script_files, script_name}
 
 abbrev script_file : ℕ → ℕ → File
 script_file n c = (script_name c, client_text n c)

@@ -3,19 +3,18 @@ use Rattle.std.proofs.Common.{◌≡◌, ◌∙◌, ℕ, ◌+◌, ◌<◌, Bool,
 use Rattle.std.proofs.Common.{map, length, fold, Option, Some, None, Result, Ok, Err, refl, sym, ap}
 use Rattle.std.proofs.Common.{subst, inl, inr, arith, nat_lt, add-zero, zero-add, append_assoc}
 use Rattle.std.proofs.Common.{append-nil, length-append}
-use Rattle.nit_perform.proofs.Basics.{TakesLast}
 use Rattle.nit_perform.proofs.Basics.{ActorLine, AreRoundsOf, Bad, ByClient, ByUser, Configuration}
-use Rattle.nit_perform.proofs.Basics.{Drawing, Entry, InputLine, IsJournal, IsLegal, Line}
-use Rattle.nit_perform.proofs.Basics.{LineTurn, NestError, NestModel, NestState, NestsRun, Phases}
-use Rattle.nit_perform.proofs.Basics.{RunFiles, SceneModel, ShotFrame, ShowsEach, Sight, State}
-use Rattle.nit_perform.proofs.Basics.{TakesAll, TakesNext, TakesUnless, TooLong, UnlessMemory}
-use Rattle.nit_perform.proofs.Basics.{action_of, actions_of_turns, after_turn, by_turns}
-use Rattle.nit_perform.proofs.Basics.{count_by, count_lines, drawn_shot, eq-eqb}
-use Rattle.nit_perform.proofs.Basics.{first_forbidden, frame, frame_answer, frame_lines, frames_of}
-use Rattle.nit_perform.proofs.Basics.{input_by_user, input_lines_of, is_shot_line, is_too_long}
-use Rattle.nit_perform.proofs.Basics.{last_frame, length-map, lines_of_frames, lt-ltb, ltb-true}
-use Rattle.nit_perform.proofs.Basics.{map-append, most_lines, nest_of, nest_script, opening_drawing}
-use Rattle.nit_perform.proofs.Basics.{phases, raw_words, replay, rounds, scenery_of, script_answer}
+use Rattle.nit_perform.proofs.Basics.{Drawing, Entry, InputLine, IsJournal, IsLegal, Line, LineTurn}
+use Rattle.nit_perform.proofs.Basics.{NestError, NestModel, NestState, NestsRun, Phases, RunFiles}
+use Rattle.nit_perform.proofs.Basics.{SceneModel, ShotFrame, ShowsEach, Sight, State, TakesAll}
+use Rattle.nit_perform.proofs.Basics.{TakesLast, TakesNext, TakesUnless, TooLong, UnlessMemory}
+use Rattle.nit_perform.proofs.Basics.{action_of, actions_of_turns, after_turn, by_turns, count_by}
+use Rattle.nit_perform.proofs.Basics.{count_lines, drawn_shot, eq-eqb, first_forbidden, frame}
+use Rattle.nit_perform.proofs.Basics.{frame_answer, frame_lines, frames_of, input_by_user}
+use Rattle.nit_perform.proofs.Basics.{input_lines_of, is_shot_line, is_too_long, last_frame}
+use Rattle.nit_perform.proofs.Basics.{length-map, lines_of_frames, lt-ltb, ltb-true, map-append}
+use Rattle.nit_perform.proofs.Basics.{most_lines, nest_of, nest_script, opening_drawing, phases}
+use Rattle.nit_perform.proofs.Basics.{raw_words, replay, rounds, scenery_of, script_answer}
 use Rattle.nit_perform.proofs.Basics.{shot_frames_of, shots_after, state_now, sum_by-append}
 use Rattle.nit_perform.proofs.Basics.{sum_by-cons, tables_left}
 use Rattle.nit_nested.specs.declared.error.NestError.TheVariants.{NoMemory}

@@ -5,14 +5,13 @@ use Rattle.nit_perform.proofs.Basics.{All, AreInkedPlans, AreScriptsOf, CanTakeL
 use Rattle.nit_perform.proofs.Basics.{HaveTables, InputLine, IsConfiguration, IsGlass, IsPlanOf}
 use Rattle.nit_perform.proofs.Basics.{IsRoundsOpening, IsRoundsRun, IsSetUp, IsWord, Line, Member}
 use Rattle.nit_perform.proofs.Basics.{OpenedRounds, Painting, PlanModel, SceneModel, Sight}
-use Rattle.nit_perform.proofs.Basics.{action_of}
-use Rattle.nit_perform.proofs.Basics.{actions_of_turns, blank, length-map, rounds}
-use Rattle.nit_perform.proofs.Basics.{donation_of, get_or-map-range_with_len, get_or_default}
-use Rattle.nit_perform.proofs.Basics.{glass_after, glass_in, glasses_of, ink, inked_sight}
+use Rattle.nit_perform.proofs.Basics.{action_of, actions_of_turns, blank, donation_of}
+use Rattle.nit_perform.proofs.Basics.{get_or-map-range_with_len, get_or_default, glass_after}
+use Rattle.nit_perform.proofs.Basics.{glass_in, glasses_of, ink, inked_sight, length-map}
 use Rattle.nit_perform.proofs.Basics.{length-map-range_with_len, map-id, map-range_with_len_more}
 use Rattle.nit_perform.proofs.Basics.{member, no_sight, painted_from, plan_in, plan_of_script}
-use Rattle.nit_perform.proofs.Basics.{plans_of, range_with_len, script_in, table_size, tables_left}
-use Rattle.nit_perform.proofs.Basics.{words_after, words_left}
+use Rattle.nit_perform.proofs.Basics.{plans_of, range_with_len, rounds, script_in, table_size}
+use Rattle.nit_perform.proofs.Basics.{tables_left, words_after, words_left}
 
 -- ---- one by one
 

@@ -4,9 +4,9 @@ use Rattle.std.proofs.Common.{Result, Ok, Err, refl, sym, subst, append_assoc, i
 use Rattle.nit_perform.proofs.Basics.{AfterPut, AskedAtMost, File, IsPut, PutEach, PutError}
 use Rattle.nit_perform.proofs.Basics.{PutFault, PutFiles, PutIn, PutRefusal, PutState, PutsAll}
 use Rattle.nit_perform.proofs.Basics.{PutsFile, PutsNext, PutsUnless, StoreModel, WriteFaulted}
-use Rattle.nit_perform.proofs.Basics.{also_more, append-nil, asking_all, asking_none}
-use Rattle.nit_perform.proofs.Basics.{is_some, none_behind, output_name, put_state_of_run}
-use Rattle.nit_perform.proofs.Basics.{refusal_by, unrefused, with_asked}
+use Rattle.nit_perform.proofs.Basics.{also_more, append-nil, asking_all, asking_none, is_some}
+use Rattle.nit_perform.proofs.Basics.{none_behind, output_name, put_state_of_run, refusal_by}
+use Rattle.nit_perform.proofs.Basics.{unrefused, with_asked}
 use Rattle.nit_store.specs.declared.store.PutError.TheVariants as put
 
 -- these files were put

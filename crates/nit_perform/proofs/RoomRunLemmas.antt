@@ -1,36 +1,33 @@
 -- A run whose clients are beside each other: its beginning, and what it leaves.
 use Rattle.std.proofs.Common.{◌≡◌, ◌∙◌, true, false, ℕ, zero, suc, ◌+◌, ◌<◌, List, [], ◌∷◌, ◌++◌}
 use Rattle.std.proofs.Common.{length, length-append, map, take, Some, refl, sym, ap, subst, arith}
-use Rattle.std.proofs.Common.{append_assoc, zero-add}
-use Rattle.std.proofs.lemmas.List.{ext_get_or, get_or-take, length-take-le}
-use Rattle.std.proofs.Common.{get_or, take, ◌≤◌}
-use Rattle.nit_word.proofs.ForCallers.{length-zeros, zero_at}
-use Rattle.nit_perform.specs.Below.{Member, slice_index_or, table_size, zeros}
-use Rattle.nit_perform.proofs.Basics.{script_in}
+use Rattle.std.proofs.Common.{append_assoc, zero-add, get_or, ◌≤◌}
 use Rattle.nit_perform.proofs.Basics.{All, AreBlank, AreBuffers, AreDone, AreKeysBlank}
 use Rattle.nit_perform.proofs.Basics.{AreNearShots, AreOutputs, Bare, Belongs, Black, BufferName}
 use Rattle.nit_perform.proofs.Basics.{Configuration, Desk, End, Entry, File, HasEnded, HasRun}
-use Rattle.nit_perform.proofs.Basics.{InputLine, SceneModel, put_state_at}
-use Rattle.nit_perform.proofs.Basics.{IsDoneUser, IsJournal, IsKnownHistory, IsKnownWhole}
-use Rattle.nit_perform.proofs.Basics.{IsNearPicture, IsPictureAmong, among_more, one_history}
-use Rattle.nit_perform.proofs.Basics.{shots_along}
-use Rattle.nit_perform.proofs.Basics.{IsOpen, IsOpening, IsReady, IsSetting, IsWhole, Line}
-use Rattle.nit_perform.proofs.Basics.{OpeningParts, PassModel, PixelSource, PlanModel}
-use Rattle.nit_perform.proofs.Basics.{PutsAll, PutsShotsBehind, Ran, Role, RoomModel}
-use Rattle.nit_perform.proofs.Basics.{Setup, ShotsBehind, State, StoreModel, UserAction}
-use Rattle.nit_perform.proofs.Basics.{UserBelongs, UserPassModel, UserRole, Word, append-nil}
-use Rattle.nit_perform.proofs.Basics.{calls_to_make, actions_done, actions_of-append, donation_of}
-use Rattle.nit_perform.proofs.Basics.{events_files, files_both, final_name, final_picture}
-use Rattle.nit_perform.proofs.Basics.{first_pass, first_state, fit_again, fits_belongs, frame}
-use Rattle.nit_perform.proofs.Basics.{get_or-map-range_with_len, journal_file, left_word, new_sight}
-use Rattle.nit_perform.proofs.Basics.{no_files, no_shots, parts_of, picture, picture_of}
-use Rattle.nit_perform.proofs.Basics.{pixel_count, plan_in, plans_of, put_state_of_run, puts_both}
-use Rattle.nit_perform.proofs.Basics.{range_with_len, raw_word, replay, role_at, role_of, roles_fit}
-use Rattle.nit_perform.proofs.Basics.{roles_long, same_throughout, scenery_of, setup_of, shots}
-use Rattle.nit_perform.proofs.Basics.{slice_get, slice_index_or, source_at, table_size, tables_left}
-use Rattle.nit_perform.proofs.Basics.{take_all, text_files, unrefused, user_actions_in}
-use Rattle.nit_perform.proofs.Basics.{user_actions_of, user_actions_to_do, user_role_of, word_from}
-use Rattle.nit_perform.proofs.Basics.{buffers_of, option_map, slice_get-map, words_left_in, words_of}
+use Rattle.nit_perform.proofs.Basics.{InputLine, IsDoneUser, IsJournal, IsKnownHistory}
+use Rattle.nit_perform.proofs.Basics.{IsKnownWhole, IsNearPicture, IsOpen, IsOpening}
+use Rattle.nit_perform.proofs.Basics.{IsPictureAmong, IsReady, IsSetting, IsWhole, Line, Member}
+use Rattle.nit_perform.proofs.Basics.{OpeningParts, PassModel, PixelSource, PlanModel, PutsAll}
+use Rattle.nit_perform.proofs.Basics.{PutsShotsBehind, Ran, Role, RoomModel, SceneModel, Setup}
+use Rattle.nit_perform.proofs.Basics.{ShotsBehind, State, StoreModel, UserAction, UserBelongs}
+use Rattle.nit_perform.proofs.Basics.{UserPassModel, UserRole, Word, actions_done}
+use Rattle.nit_perform.proofs.Basics.{actions_of-append, among_more, append-nil, buffers_of}
+use Rattle.nit_perform.proofs.Basics.{calls_to_make, donation_of, events_files, ext_get_or}
+use Rattle.nit_perform.proofs.Basics.{files_both, final_name, final_picture, first_pass}
+use Rattle.nit_perform.proofs.Basics.{first_state, fit_again, fits_belongs, frame}
+use Rattle.nit_perform.proofs.Basics.{get_or-map-range_with_len, get_or-take, journal_file}
+use Rattle.nit_perform.proofs.Basics.{left_word, length-take-le, length-zeros, new_sight, no_files}
+use Rattle.nit_perform.proofs.Basics.{no_shots, one_history, option_map, parts_of, picture}
+use Rattle.nit_perform.proofs.Basics.{picture_of, pixel_count, plan_in, plans_of, put_state_at}
+use Rattle.nit_perform.proofs.Basics.{put_state_of_run, puts_both, range_with_len, raw_word, replay}
+use Rattle.nit_perform.proofs.Basics.{role_at, role_of, roles_fit, roles_long, same_throughout}
+use Rattle.nit_perform.proofs.Basics.{scenery_of, script_in, setup_of, shots, shots_along}
+use Rattle.nit_perform.proofs.Basics.{slice_get, slice_get-map, slice_index_or, source_at}
+use Rattle.nit_perform.proofs.Basics.{table_size, tables_left, take_all, text_files, unrefused}
+use Rattle.nit_perform.proofs.Basics.{user_actions_in, user_actions_of, user_actions_to_do}
+use Rattle.nit_perform.proofs.Basics.{user_role_of, word_from, words_left_in, words_of, zero_at}
+use Rattle.nit_perform.proofs.Basics.{zeros}
 use mathlib.Core.List.{IsPrefix}
 use Rattle.nit_perform.proofs.FinalWords.{OneMore}
 use Rattle.nit_perform.proofs.PerClient.{plans_long}

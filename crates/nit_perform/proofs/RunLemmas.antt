@@ -3,13 +3,13 @@ use Rattle.std.proofs.Common.{◌≡◌, ◌∙◌, ℕ, ◌+◌, true, false, L
 use Rattle.std.proofs.Common.{ap, subst, arith}
 use Rattle.nit_perform.proofs.Basics.{AreOutputs, AreRoundsOf, Configuration, Entry, File, HasRun}
 use Rattle.nit_perform.proofs.Basics.{HaveTables, InputLine, IsJournal, IsLegal, IsRoundsRun}
-use Rattle.nit_perform.proofs.Basics.{TakesLast}
 use Rattle.nit_perform.proofs.Basics.{IsWhole, Line, PutState, PutsAll, PutsNext, PutsShots, Ran}
-use Rattle.nit_perform.proofs.Basics.{SceneModel, Setup, Sight, State, StoreModel, calls_to_make}
-use Rattle.nit_perform.proofs.Basics.{count_by, final_name, final_picture, first_state}
-use Rattle.nit_perform.proofs.Basics.{is_shot_entry, picture_by, put_state_of_run, puts_both}
-use Rattle.nit_perform.proofs.Basics.{replay, rounds, shots, shots_of, state_now, sum_by-cons}
-use Rattle.nit_perform.proofs.Basics.{tables_left, text_files, unrefused, user_actions_to_do}
+use Rattle.nit_perform.proofs.Basics.{SceneModel, Setup, Sight, State, StoreModel, TakesLast}
+use Rattle.nit_perform.proofs.Basics.{calls_to_make, count_by, final_name, final_picture}
+use Rattle.nit_perform.proofs.Basics.{first_state, is_shot_entry, picture_by, put_state_of_run}
+use Rattle.nit_perform.proofs.Basics.{puts_both, replay, rounds, shots, shots_of, state_now}
+use Rattle.nit_perform.proofs.Basics.{sum_by-cons, tables_left, text_files, unrefused}
+use Rattle.nit_perform.proofs.Basics.{user_actions_to_do}
 use Rattle.nit_perform.proofs.FinalWords.{OneMore}
 use Rattle.nit_perform.proofs.PerClient.{left_tables}
 use Rattle.nit_events.specs.declared.entry.Entry.TheVariants as entry

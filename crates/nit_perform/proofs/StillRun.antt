@@ -4,14 +4,13 @@ use Rattle.std.proofs.Common.{Option, Some, refl, sym, ap, subst, arith, ℕ}
 use Rattle.nit_perform.proofs.Basics.{AreOutputs, AreRoundsOf, Belongs, Configuration, Desk, End}
 use Rattle.nit_perform.proofs.Basics.{Entry, File, HasEnded, HasRun, InputLine, IsAlone, IsJournal}
 use Rattle.nit_perform.proofs.Basics.{IsLegal, IsOpening, IsReady, IsReadyAlone, IsRunOf, IsWhole}
-use Rattle.nit_perform.proofs.Basics.{Line, OpeningParts, PassModel, PlanModel, PutFault}
-use Rattle.nit_perform.proofs.Basics.{PutState, PutsNext, Ran, RoomModel, SceneModel, Setup}
-use Rattle.nit_perform.proofs.Basics.{StepTogether, StoreModel, UserOnce, UserPassModel}
-use Rattle.nit_perform.proofs.Basics.{calls_to_make, count_by, drawn, drop, final_name}
-use Rattle.nit_perform.proofs.Basics.{final_picture, idle_user, is_phase, no_picture}
-use Rattle.nit_perform.proofs.Basics.{put_state_at, put_state_of_run, rounds, setup_of, shot_file}
-use Rattle.nit_perform.proofs.Basics.{shots}
-use Rattle.nit_perform.proofs.Basics.{slice_get, slice_index_or, unrefused, user_actions_to_do}
+use Rattle.nit_perform.proofs.Basics.{Line, OpeningParts, PassModel, PlanModel, PutFault, PutState}
+use Rattle.nit_perform.proofs.Basics.{PutsNext, Ran, RoomModel, SceneModel, Setup, StepTogether}
+use Rattle.nit_perform.proofs.Basics.{StoreModel, UserOnce, UserPassModel, calls_to_make, count_by}
+use Rattle.nit_perform.proofs.Basics.{drawn, drop, final_name, final_picture, idle_user, is_phase}
+use Rattle.nit_perform.proofs.Basics.{no_picture, put_state_at, put_state_of_run, rounds, setup_of}
+use Rattle.nit_perform.proofs.Basics.{shot_file, shots, slice_get, slice_index_or, unrefused}
+use Rattle.nit_perform.proofs.Basics.{user_actions_to_do}
 use Rattle.nit_perform.proofs.RoomRunLemmas.{get_at, is_ready}
 use Rattle.nit_events.specs.declared.entry.Entry.TheVariants as entry
 

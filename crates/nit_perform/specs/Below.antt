@@ -1,22 +1,9 @@
 -- The words of the library and of the crates below that are used here, and the crate's plain types.
 pub use Rattle.nit_actor.specs.ClipRole.{ClipRole, IsPairIn, PairRole, clip_role_of, pair_role_of}
-pub use Rattle.nit_rounds.specs.Drawing.{Drawing, PutsShots, after_turn, drawn, drawn_shot}
-pub use Rattle.nit_rounds.specs.Drawing.{opening_drawing, picture_of, shot_frames_of, shots_after}
-pub use Rattle.nit_rounds.specs.Drawing.{shots_of, word_from, words_of}
 pub use Rattle.nit_actor.specs.IdleUser.{StepTogether, idle_user}
-pub use Rattle.nit_actor.specs.History.{AreOfOneHistory}
 pub use Rattle.nit_actor.specs.Pictures.{AreNearShots, IsNearPicture, IsPictureAmong}
 pub use Rattle.nit_actor.specs.Pictures.{PutsShotsBehind}
 pub use Rattle.nit_actor.specs.Role.{Role, UserRole, role_of, user_role_of}
-pub use Rattle.nit_rounds.specs.Rounds.{rounds}
-pub use Rattle.nit_rounds.specs.RoundsRun.{IsRoundsRun, IsSetUp, final_name, glass_after}
-pub use Rattle.nit_rounds.specs.declared.desk.Desk.{Desk}
-pub use Rattle.nit_rounds.specs.RoundsRun.{put_state_of_desk, shot_name}
-pub use Rattle.nit_rounds.specs.ShotFrames.{ShotFrame, ShowsEach, shot_file}
-pub use Rattle.nit_rounds.specs.Shots.{ShotsBehind}
-pub use Rattle.nit_rounds.specs.Turn.{ActorLine, ByClient, ByUser, LineTurn}
-pub use Rattle.nit_rounds.specs.TurnActions.{AreRoundsOf, actions_of_turns, input_by_user}
-pub use Rattle.nit_rounds.specs.TurnActions.{input_lines_of}
 pub use Rattle.nit_actor.specs.declared.pair.Pair.{Pair}
 pub use Rattle.nit_capture.specs.Capture.{CaptureModel, cropped_bytes, first_capture, next_record}
 pub use Rattle.nit_capture.specs.Capture.{with_last}
@@ -29,7 +16,6 @@ pub use Rattle.nit_clip.specs.declared.call.ClipEntry.{ClipEntry}
 pub use Rattle.nit_clip.specs.declared.line.ClipLine.{ClipLine}
 pub use Rattle.nit_config.specs.Configuration.{Configuration, bar_rows, donation_of, member}
 pub use Rattle.nit_config.specs.ConfigurationRanges.{IsConfiguration}
-pub use Rattle.nit_config.specs.ConfigurationRanges.{IsMember}
 pub use Rattle.nit_config.specs.declared.config.Member.{Member}
 pub use Rattle.nit_events.specs.declared.entry.Entry.{Entry}
 pub use Rattle.nit_glyph.specs.Texts.{is_label, is_label_byte}
@@ -71,19 +57,30 @@ pub use Rattle.nit_plan.specs.ScriptWords.{Painting, blank, ink, painted_from, t
 pub use Rattle.nit_plan.specs.ScriptWords.{words_after, words_left}
 pub use Rattle.nit_plan.specs.SessionLists.{plan_in, script_in}
 pub use Rattle.nit_rect.specs.Intersection.{HasPixels, LiesIn}
-pub use Rattle.nit_rect.specs.Limits.{most_words}
 pub use Rattle.nit_rect.specs.declared.memory.NoMemory.{NoMemory}
 pub use Rattle.nit_rect.specs.declared.point.Point.{Point}
 pub use Rattle.nit_report.specs.EventsText.{events_text}
 pub use Rattle.nit_report.specs.Generator.{client_text, generated, is_shot_line, script_name}
 pub use Rattle.nit_report.specs.JournalText.{journal_text}
 pub use Rattle.nit_report.specs.Picture.{picture, picture_length}
+pub use Rattle.nit_rounds.specs.Drawing.{Drawing, PutsShots, after_turn, drawn, drawn_shot}
+pub use Rattle.nit_rounds.specs.Drawing.{opening_drawing, picture_of, shot_frames_of, shots_after}
+pub use Rattle.nit_rounds.specs.Drawing.{shots_of, word_from, words_of}
+pub use Rattle.nit_rounds.specs.Rounds.{rounds}
+pub use Rattle.nit_rounds.specs.RoundsRun.{IsRoundsRun, IsSetUp, final_name, glass_after}
+pub use Rattle.nit_rounds.specs.RoundsRun.{put_state_of_desk, shot_name}
+pub use Rattle.nit_rounds.specs.ShotFrames.{ShotFrame, ShowsEach, shot_file}
+pub use Rattle.nit_rounds.specs.Shots.{ShotsBehind}
+pub use Rattle.nit_rounds.specs.Turn.{ActorLine, ByClient, ByUser, LineTurn}
+pub use Rattle.nit_rounds.specs.TurnActions.{AreRoundsOf, actions_of_turns, input_by_user}
+pub use Rattle.nit_rounds.specs.TurnActions.{input_lines_of}
+pub use Rattle.nit_rounds.specs.declared.desk.Desk.{Desk}
 pub use Rattle.nit_run.specs.InnerFrames.{ShowsNest, frames_of, is_too_long, last_frame, nest_of}
 pub use Rattle.nit_run.specs.OutputNames.{output_name}
 pub use Rattle.nit_run.specs.Outputs.{AreOutputs, HaveTables, IsJournal, ending_of, events_file}
 pub use Rattle.nit_run.specs.Outputs.{events_files, events_name, final_picture, journal_file}
 pub use Rattle.nit_run.specs.Outputs.{picture_by, raw_word, raw_words, tables_left, text_files}
-pub use Rattle.nit_run.specs.PutFiles.{PutEach, PutFiles, asked_also, asking_all}
+pub use Rattle.nit_run.specs.PutFiles.{PutEach, PutFiles, asking_all}
 pub use Rattle.nit_run.specs.Region.{rectangle_of}
 pub use Rattle.nit_run.specs.RunClips.{IsClipFile, IsClipList, clips_name}
 pub use Rattle.nit_run.specs.RunFilm.{film_name, film_of, pictures_in}
@@ -120,6 +117,6 @@ pub use Rattle.std.specs.List.{AllByRecursion, list_all, range_with_len}
 pub use Rattle.std.specs.Option.{is_some}
 pub use Rattle.std.specs.Prelude.{All, IfOk, Vec, codes, count_by, drop, false, nat_lt, negsuc}
 pub use Rattle.std.specs.Prelude.{option_map, pos, slice_get, slice_index, slice_index_or, true}
-pub use Rattle.std.specs.Prelude.{unwrap_or, vec_len, ℤ}
+pub use Rattle.std.specs.Prelude.{vec_len, ℤ}
 pub use Rattle.std.specs.Str.{IsAscii, IsUtf8}
 pub use Rattle.std.specs.Vec.Iter.{into_iter_items}

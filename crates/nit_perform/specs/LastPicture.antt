@@ -1,12 +1,11 @@
 -- The last picture of a run: what it is taken of, and what it leaves.
 use Rattle.std.specs.Prelude.{◌≡◌, ℕ, ◌*◌, ◌<◌, ◌≤◌, List, [], ◌∷◌, ◌++◌, length, map, true}
 use Rattle.nit_perform.specs.Below.{AreDone, Configuration, Desk, End, Entry, IsDoneUser, IsGlass}
-use Rattle.nit_perform.specs.Below.{IsLegal, IsOpen, IsWhole, OpeningParts, PassModel, PutState}
-use Rattle.nit_perform.specs.Below.{PutsNext}
-use Rattle.nit_perform.specs.Below.{RoomModel, SceneModel, Sight, StoreModel, UserPassModel}
-use Rattle.nit_perform.specs.Below.{calls_to_make, final_name, final_picture, glass_in}
-use Rattle.nit_perform.specs.Below.{picture_length, put_state_of_desk, setup_of, user_actions_to_do}
-use Rattle.nit_perform.specs.Below.{IsHistory}
+use Rattle.nit_perform.specs.Below.{IsHistory, IsLegal, IsOpen, IsWhole, OpeningParts, PassModel}
+use Rattle.nit_perform.specs.Below.{PutState, PutsNext, RoomModel, SceneModel, Sight, StoreModel}
+use Rattle.nit_perform.specs.Below.{UserPassModel, calls_to_make, final_name, final_picture}
+use Rattle.nit_perform.specs.Below.{glass_in, picture_length, put_state_of_desk, setup_of}
+use Rattle.nit_perform.specs.Below.{user_actions_to_do}
 use Rattle.nit_perform.specs.RoomRun.{IsKnownWhole}
 use mathlib.Core.List.{IsPrefix}
 use Rattle.nit_events.specs.declared.entry.Entry.TheVariants as entry

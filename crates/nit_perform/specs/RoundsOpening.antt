@@ -1,11 +1,9 @@
 -- A run before its first round.
 use Rattle.std.specs.Prelude.{◌≡◌, ◌+◌, ◌≤◌, List, [], All, length, map}
 use Rattle.nit_perform.specs.Below.{Configuration, InputLine, IsConfiguration, IsSetUp, IsWord}
-use Rattle.nit_perform.specs.Below.{Line}
-use Rattle.nit_perform.specs.Below.{OpenedRounds, PlanModel, Sight, actions_of_turns, donation_of}
-use Rattle.nit_perform.specs.Below.{glass_after}
-use Rattle.nit_perform.specs.Below.{picture_length, plan_of_script, range_with_len, rounds}
-use Rattle.nit_perform.specs.Below.{script_in}
+use Rattle.nit_perform.specs.Below.{Line, OpenedRounds, PlanModel, Sight, actions_of_turns}
+use Rattle.nit_perform.specs.Below.{donation_of, glass_after, picture_length, plan_of_script}
+use Rattle.nit_perform.specs.Below.{range_with_len, rounds, script_in}
 
 -- there is a script for each client of the configuration
 pub record AreScriptsOf (config : Configuration) (scripts : List (List Line)) : Type 0 where

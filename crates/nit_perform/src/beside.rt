@@ -1,8 +1,7 @@
 //! A run with each client on a thread of its own, and the user on the calling one.
 
-ghost use Rattle.std.specs.Prelude.{true};
-ghost use Rattle.nit_perform.specs.Terms.{HasRun, IsReady, IsRunnable, IsSupplied, Runs};
-ghost use Rattle.nit_perform.specs.Terms.{setup_of};
+ghost use Rattle.nit_perform.specs.Terms.{HasRun, IsReady, IsRunnable, IsSupplied, Runs, setup_of};
+ghost use Rattle.nit_perform.specs.Terms.{true};
 
 use crate::host::ThreadHost;
 use crate::last::last_picture;

@@ -2,9 +2,8 @@
 //! calling thread.
 
 ghost use Rattle.std.specs.Prelude.{◌≡◌, length};
-ghost use Rattle.nit_perform.specs.Terms.{HasRoomBack, HasRunClips, IsReadyWithClips};
-ghost use Rattle.nit_perform.specs.Terms.{IsRunnable, IsSupplied, RunsClips, clips_setup_in};
-ghost use Rattle.nit_perform.specs.Terms.{clips_setup_of};
+ghost use Rattle.nit_perform.specs.Terms.{HasRoomBack, HasRunClips, IsReadyWithClips, IsRunnable};
+ghost use Rattle.nit_perform.specs.Terms.{IsSupplied, RunsClips, clips_setup_in, clips_setup_of};
 
 use crate::added::put_clips;
 use crate::host::ThreadHost;

@@ -2,11 +2,11 @@
 
 ghost use Rattle.std.specs.Prelude.{◌≡◌, ◌++◌, ◌∷◌, [], All, List, ℕ, length, ◌*◌, map};
 ghost use Rattle.nit_perform.specs.Terms.{AreAllDone, AreDoneClips, CanTakeLast, HasEnded};
-ghost use Rattle.nit_perform.specs.Terms.{HasPictureRoom, HaveTables, IsClipListText, IsLegal};
-ghost use Rattle.nit_perform.specs.Terms.{IsWhole, IsWord, PutsNext, TakesLast, calls_to_make};
-ghost use Rattle.nit_perform.specs.Terms.{clips_setup_in, final_name, frame, picture_by};
-ghost use Rattle.nit_perform.specs.Terms.{picture_length, put_state_of_desk, raw_words, scenery_of};
-ghost use Rattle.nit_perform.specs.Terms.{IsHistory, state_now, user_actions_to_do, words_left_in};
+ghost use Rattle.nit_perform.specs.Terms.{HasPictureRoom, HaveTables, IsClipListText, IsHistory};
+ghost use Rattle.nit_perform.specs.Terms.{IsLegal, IsWhole, IsWord, PutsNext, TakesLast};
+ghost use Rattle.nit_perform.specs.Terms.{calls_to_make, clips_setup_in, final_name, frame};
+ghost use Rattle.nit_perform.specs.Terms.{picture_by, picture_length, put_state_of_desk, raw_words};
+ghost use Rattle.nit_perform.specs.Terms.{scenery_of, state_now, user_actions_to_do, words_left_in};
 ghost use mathlib.Core.List.{IsPrefix};
 ghost use Rattle.nit_events.specs.declared.entry.Entry.TheVariants as entry;
 

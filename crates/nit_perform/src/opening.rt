@@ -1,9 +1,9 @@
 //! The memory of a run, all of which is taken before its first round.
 
 ghost use Rattle.std.specs.Prelude.{◌≡◌, ◌+◌, IfOk, length, All, List, ◌≤◌, ◌*◌};
-ghost use Rattle.nit_perform.specs.Terms.{AreInkedPlans, AreScriptsOf, IsConfiguration};
-ghost use Rattle.nit_perform.specs.Terms.{IsDonation, IsPlanOf, IsRoundsOpening, IsWord, Line};
-ghost use Rattle.nit_perform.specs.Terms.{glass_after, glasses_of, picture_length, plans_of};
+ghost use Rattle.nit_perform.specs.Terms.{AreInkedPlans, AreScriptsOf, IsConfiguration, IsDonation};
+ghost use Rattle.nit_perform.specs.Terms.{IsPlanOf, IsRoundsOpening, IsWord, Line, glass_after};
+ghost use Rattle.nit_perform.specs.Terms.{glasses_of, picture_length, plans_of};
 
 use nit_config::Config;
 use nit_hall::line_count;

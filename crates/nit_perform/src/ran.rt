@@ -1,8 +1,8 @@
 //! What a run leaves.
 
 ghost use Rattle.std.specs.Prelude.{◌≡◌, ◌+◌, ◌≤◌, length};
-ghost use Rattle.nit_perform.specs.Terms.{IsRunOf, StoreModel, is_shot_entry, put_state_of_desk};
-ghost use Rattle.nit_perform.specs.Terms.{put_state_at, put_state_of_run, shots};
+ghost use Rattle.nit_perform.specs.Terms.{IsRunOf, StoreModel, is_shot_entry, put_state_at};
+ghost use Rattle.nit_perform.specs.Terms.{put_state_of_desk, put_state_of_run, shots};
 
 use nit_events::Entry;
 use nit_rounds::{Desk, PictureName};

@@ -1,7 +1,6 @@
 //! A run by turns.
 
-ghost use Rattle.nit_perform.specs.Terms.{IsRunnable, Runs, false};
-ghost use Rattle.nit_perform.specs.Terms.{setup_of, true};
+ghost use Rattle.nit_perform.specs.Terms.{IsRunnable, Runs, false, setup_of, true};
 
 use crate::last::put_last;
 use crate::opening::{OpenedRounds, open};

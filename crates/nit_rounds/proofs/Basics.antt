@@ -2,55 +2,53 @@
 pub use Rattle.nit_hall.proofs.ForCallers.{WereSeen}
 pub use Rattle.nit_journal.proofs.ForCallers.{as_many_as_clients, same_config}
 pub use Rattle.nit_overlay.proofs.ForCallers.{same_frame}
-pub use Rattle.nit_plan.proofs.ForCallers.{word_inked, above, alike, changed, for_any, line_here, none_begun}
-pub use Rattle.nit_plan.proofs.ForCallers.{row_added, rows_done, unchanged}
+pub use Rattle.nit_plan.proofs.ForCallers.{above, alike, changed, for_any, line_here, none_begun}
+pub use Rattle.nit_plan.proofs.ForCallers.{row_added, rows_done, unchanged, word_inked}
 pub use Rattle.nit_report.proofs.ForCallers.{all_append, few_digits}
 pub use Rattle.nit_rounds.specs.Terms.{Action, ActorLine, Acts, AllByRecursion, AreBehind}
 pub use Rattle.nit_rounds.specs.Terms.{AreLoaded, ArePlaces, AreQuiet, AreQuietBut, AreRaw}
-pub use Rattle.nit_rounds.specs.Terms.{CanDoUserLine, DoesClientLine, DoesUserLine}
-pub use Rattle.nit_rounds.specs.Terms.{FitsInputLine, HasSession}
-pub use Rattle.nit_rounds.specs.Terms.{AreRoundsOf, AreShotsOf, BufferArea, Bare, Black, Buffer}
-pub use Rattle.nit_rounds.specs.Terms.{ByClient}
-pub use Rattle.nit_rounds.specs.Terms.{ByUser, Call, Calls, Client, Configuration, Device, Does}
-pub use Rattle.nit_rounds.specs.Terms.{Drawing, Entry, File, Fill, FitsInto, HasTurn, InputLine}
-pub use Rattle.nit_rounds.specs.Terms.{IsAtTurn, IsBehind, IsBehindBy, IsButFor, IsConfiguration}
-pub use Rattle.nit_rounds.specs.Terms.{HasStage, IsDonation, IsDrawn, IsDrawnPicture, IsGlass}
-pub use Rattle.nit_rounds.specs.Terms.{IsLegal, IsLoaded, IsMember, IsMoved, IsNonDecreasing}
-pub use Rattle.nit_rounds.specs.Terms.{IsOpen, IsPaintedTo, IsPlanOf, IsPlanned, IsRawOf}
-pub use Rattle.nit_rounds.specs.Terms.{IsRecorded, IsRoundsRun, IsSetUp, IsShowing, IsTrue}
-pub use Rattle.nit_rounds.specs.Terms.{IsUnderWay, IsUserRecorded, IsUtf8, IsWhole, IsWordOfSource}
-pub use Rattle.nit_rounds.specs.Terms.{LegalFrom, Line, LineTurn, Motion, None, NoneHas, Option}
-pub use Rattle.nit_rounds.specs.Terms.{Painted, Painting, PixelSource, LinePlace, Places, PlanModel}
-pub use Rattle.nit_rounds.specs.Terms.{Point, PutState, PutsAll, PutsNext, Refresh, Reply, Routed}
-pub use Rattle.nit_rounds.specs.Terms.{SceneModel, Shoots, ShotFrame, ShotsBehind, ShowsEach}
-pub use Rattle.nit_rounds.specs.Terms.{ShowsLine, Sight, Size, Some, Stale, StandsAt, State, Step}
-pub use Rattle.nit_rounds.specs.Terms.{Stroke, Turn, User, UserAction, View, Word, action_of}
-pub use Rattle.nit_rounds.specs.Terms.{actions_of_line, actions_of_turns, actors, after, after_turn}
-pub use Rattle.nit_rounds.specs.Terms.{all_rounds, bar_rows, bare_word, blank, buffer_size}
-pub use Rattle.nit_rounds.specs.Terms.{calls_from, calls_of, calls_to_make, clients_from, decimal}
-pub use Rattle.nit_rounds.specs.Terms.{dirty, donation_of, done, done_after, drawn, drawn_by_shot}
-pub use Rattle.nit_rounds.specs.Terms.{drawn_shot, ends_phase, entry_of, first_state, flat_map}
-pub use Rattle.nit_rounds.specs.Terms.{frame, frame_of, glass_after, glass_in, glasses_of_call}
-pub use Rattle.nit_rounds.specs.Terms.{greatest, in_bar, in_phase, ink, inked_sight, input_by_user}
-pub use Rattle.nit_rounds.specs.Terms.{input_lines_of, is_active, is_between, is_in_area}
-pub use Rattle.nit_rounds.specs.Terms.{is_input_phase, is_number_in, is_phase, is_set_by, is_stale}
-pub use Rattle.nit_rounds.specs.Terms.{left, left_at, left_from, lefts, length, line_by, lines_of}
-pub use Rattle.nit_rounds.specs.Terms.{next_phase, next_shot, no_sight, opening_drawing, option_map}
-pub use Rattle.nit_rounds.specs.Terms.{painted_from, phase_count, phase_rounds, phases}
-pub use Rattle.nit_rounds.specs.Terms.{phases_along, picture_of, pixel, pixel_count, plan_in}
-pub use Rattle.nit_rounds.specs.Terms.{plan_of_script, put_state_of_desk, range_with_len, replay}
-pub use Rattle.nit_rounds.specs.Terms.{replay_from, rest_of_phase, round, rounds, route, routed_as}
-pub use Rattle.nit_rounds.specs.Terms.{scenery_of, script_in, script_of, seen, serve, session}
-pub use Rattle.nit_rounds.specs.Terms.{set_where, settled, shoots, shot_file, shot_frames_of}
-pub use Rattle.nit_rounds.specs.Terms.{shot_name, shots, shots_after, shots_of, slice_get}
-pub use Rattle.nit_rounds.specs.Terms.{slice_index_or, source_at, source_under, state_after}
-pub use Rattle.nit_rounds.specs.Terms.{state_now, static, step_of, stepped, table_size}
-pub use Rattle.nit_rounds.specs.Terms.{tables_after, take, takes_place, to_do, told_at, told_words}
-pub use Rattle.nit_rounds.specs.Terms.{turn_by, turn_of, turns_before, turns_from, turns_left}
-pub use Rattle.nit_rounds.specs.Terms.{turns_of, user_actions_from, user_actions_of}
+pub use Rattle.nit_rounds.specs.Terms.{AreRoundsOf, AreShotsOf, Bare, Black, Buffer, BufferArea}
+pub use Rattle.nit_rounds.specs.Terms.{ByClient, ByUser, Call, Calls, CanDoUserLine, Client}
+pub use Rattle.nit_rounds.specs.Terms.{Configuration, Device, Does, DoesClientLine, DoesUserLine}
+pub use Rattle.nit_rounds.specs.Terms.{Drawing, Entry, File, Fill, FitsInputLine, FitsInto}
+pub use Rattle.nit_rounds.specs.Terms.{HasSession, HasStage, HasTurn, InputLine, IsAtTurn, IsBehind}
+pub use Rattle.nit_rounds.specs.Terms.{IsBehindBy, IsButFor, IsConfiguration, IsDonation, IsDrawn}
+pub use Rattle.nit_rounds.specs.Terms.{IsDrawnPicture, IsGlass, IsLegal, IsLoaded, IsMember}
+pub use Rattle.nit_rounds.specs.Terms.{IsMoved, IsNonDecreasing, IsOpen, IsPaintedTo, IsPlanOf}
+pub use Rattle.nit_rounds.specs.Terms.{IsPlanned, IsRawOf, IsRecorded, IsRoundsRun, IsSetUp}
+pub use Rattle.nit_rounds.specs.Terms.{IsShowing, IsUnderWay, IsUserRecorded, IsUtf8, IsWhole}
+pub use Rattle.nit_rounds.specs.Terms.{IsWordOfSource, LegalFrom, Line, LinePlace, LineTurn, Motion}
+pub use Rattle.nit_rounds.specs.Terms.{None, NoneHas, Option, Painted, Painting, PixelSource, Place}
+pub use Rattle.nit_rounds.specs.Terms.{Places, PlanModel, Point, PutState, PutsAll, PutsNext}
+pub use Rattle.nit_rounds.specs.Terms.{Refresh, Reply, Routed, SceneModel, Shoots, ShotFrame}
+pub use Rattle.nit_rounds.specs.Terms.{ShotsBehind, ShowsEach, ShowsLine, Sight, Size, Some, Stale}
+pub use Rattle.nit_rounds.specs.Terms.{StandsAt, State, Step, Stroke, Turn, User, UserAction, View}
+pub use Rattle.nit_rounds.specs.Terms.{Word, action_of, actions_of_line, actions_of_turns, actors}
+pub use Rattle.nit_rounds.specs.Terms.{after, after_turn, all_rounds, bar_rows, bare_word, blank}
+pub use Rattle.nit_rounds.specs.Terms.{buffer_size, calls_from, calls_of, calls_to_make}
+pub use Rattle.nit_rounds.specs.Terms.{clients_from, decimal, dirty, donation_of, done, done_after}
+pub use Rattle.nit_rounds.specs.Terms.{drawn, drawn_by_shot, drawn_shot, ends_phase, entry_of}
+pub use Rattle.nit_rounds.specs.Terms.{first_state, flat_map, frame, frame_of, glass_after}
+pub use Rattle.nit_rounds.specs.Terms.{glass_in, glasses_of_call, greatest, in_bar, in_phase, ink}
+pub use Rattle.nit_rounds.specs.Terms.{inked_sight, input_by_user, input_lines_of, is_active}
+pub use Rattle.nit_rounds.specs.Terms.{is_between, is_in_area, is_input_phase, is_number_in}
+pub use Rattle.nit_rounds.specs.Terms.{is_phase, is_set_by, is_stale, left, left_at, left_from}
+pub use Rattle.nit_rounds.specs.Terms.{lefts, length, line_by, lines_of, next_phase, next_shot}
+pub use Rattle.nit_rounds.specs.Terms.{no_sight, opening_drawing, option_map, painted_from}
+pub use Rattle.nit_rounds.specs.Terms.{phase_count, phase_rounds, phases, phases_along, picture_of}
+pub use Rattle.nit_rounds.specs.Terms.{pixel, pixel_count, plan_in, plan_of_script}
+pub use Rattle.nit_rounds.specs.Terms.{put_state_of_desk, range_with_len, replay, replay_from}
+pub use Rattle.nit_rounds.specs.Terms.{rest_of_phase, round, rounds, route, routed_as, scenery_of}
+pub use Rattle.nit_rounds.specs.Terms.{script_in, script_of, seen, serve, session, set_where}
+pub use Rattle.nit_rounds.specs.Terms.{settled, shoots, shot_file, shot_frames_of, shot_name, shots}
+pub use Rattle.nit_rounds.specs.Terms.{shots_after, shots_of, slice_get, slice_index_or, source_at}
+pub use Rattle.nit_rounds.specs.Terms.{source_under, state_after, state_now, static, step_of}
+pub use Rattle.nit_rounds.specs.Terms.{stepped, table_size, tables_after, take, takes_place, to_do}
+pub use Rattle.nit_rounds.specs.Terms.{told_at, turn_by, turn_of, turns_before, turns_from}
+pub use Rattle.nit_rounds.specs.Terms.{turns_left, turns_of, user_actions_from, user_actions_of}
 pub use Rattle.nit_rounds.specs.Terms.{user_actions_to_do, with_words, word_after_entry, word_from}
 pub use Rattle.nit_rounds.specs.Terms.{words_after, words_left, zeros}
-pub use Rattle.nit_word.proofs.ForCallers.{no_ink, before_row, same_set, set_long, word_at, zero_at}
+pub use Rattle.nit_word.proofs.ForCallers.{before_row, no_ink, same_set, set_long, word_at, zero_at}
 pub use Rattle.std.proofs.Common.{Bool, List, [], add-one, add-zero, ap, append-nil, append_assoc}
 pub use Rattle.std.proofs.Common.{ap₂, arith, codes, cond, count_by, drop, drop-drop, drop-set-lt}
 pub use Rattle.std.proofs.Common.{false, fold, get_or, get_or-set_other, get_or-set_same, inl, inr}

@@ -1,5 +1,5 @@
 -- A glass of which the words of an area become those of another one.
-use Rattle.nit_rounds.proofs.Basics.{BufferArea, Bool, Fill, List, SceneModel, Sight, Stroke, above}
+use Rattle.nit_rounds.proofs.Basics.{Bool, BufferArea, Fill, List, SceneModel, Sight, Stroke, above}
 use Rattle.nit_rounds.proofs.Basics.{alike, ap, arith, before_row, changed, false, for_any}
 use Rattle.nit_rounds.proofs.Basics.{get_or-set_same, glass_in, is_between, is_number_in, length}
 use Rattle.nit_rounds.proofs.Basics.{nat_lt, nat_tests, no_sight, none_begun, refl, row_added}

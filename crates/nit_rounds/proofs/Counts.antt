@@ -5,8 +5,8 @@ use Rattle.nit_rounds.proofs.Basics.{clients_from, drop, flat_map, get_or, great
 use Rattle.nit_rounds.proofs.Basics.{length, length-append, length-map, map, phase_count}
 use Rattle.nit_rounds.proofs.Basics.{phase_rounds, range_with_len, refl, rounds, sum_by-cons}
 use Rattle.nit_rounds.proofs.Basics.{turns_from, turns_of}
-use Rattle.std.proofs.Common.{suc, sum, sym, take, take-append-drop, zero, zero-add, ℕ, ◌++◌}
-use Rattle.std.proofs.Common.{◌+◌, ◌∙◌, ◌∷◌, ◌≡◌, ◌≤◌}
+use Rattle.std.proofs.Common.{suc, sum, sym, take, take-append-drop, zero, zero-add, ℕ, ◌++◌, ◌+◌}
+use Rattle.std.proofs.Common.{◌∙◌, ◌∷◌, ◌≡◌, ◌≤◌}
 use Rattle.nit_script.specs.declared.line.Line.TheVariants as line
 use Rattle.nit_script.specs.declared.line.InputLine.TheVariants as input
 use Rattle.nit_rounds.proofs.RoundWalks.{Short, walk, all_walk, short_greatest, short_drop}

@@ -1,6 +1,5 @@
 -- What is drawn is in the state that the journal of the same moves leads to.
-use Rattle.std.proofs.Common.{List, [], ap, arith, fold, map, refl, sym, ℕ, ◌++◌, ◌+◌}
-use Rattle.std.proofs.Common.{◌∷◌, ◌≡◌}
+use Rattle.std.proofs.Common.{List, [], ap, arith, fold, map, refl, sym, ℕ, ◌++◌, ◌+◌, ◌∷◌, ◌≡◌}
 use Rattle.nit_rounds.proofs.Basics.{Action, ActorLine, Acts, ByClient, ByUser, Call, Calls}
 use Rattle.nit_rounds.proofs.Basics.{Configuration, Device, Does, Drawing, Entry, IsLegal}
 use Rattle.nit_rounds.proofs.Basics.{LegalFrom, Line, LineTurn, Shoots, State, action_of}

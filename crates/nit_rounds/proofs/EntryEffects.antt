@@ -1,9 +1,9 @@
 -- How an entry moves the scene: to the state after it, and to raw words that are loaded again where it makes them
 -- dirty.
-use Rattle.std.proofs.Common.{List, None, Some, [], ap, length, refl, set, ℕ, ◌++◌}
-use Rattle.std.proofs.Common.{◌<◌, ◌∙◌, ◌∷◌, ◌≡◌}
-use Rattle.nit_rounds.proofs.Basics.{Call, Device, Entry, IsMoved, Painted, Reply}
-use Rattle.nit_rounds.proofs.Basics.{Routed, SceneModel, Sight, State, after, first_state, glass_in}
+use Rattle.std.proofs.Common.{List, None, Some, [], ap, length, refl, set, ℕ, ◌++◌, ◌<◌, ◌∙◌, ◌∷◌}
+use Rattle.std.proofs.Common.{◌≡◌}
+use Rattle.nit_rounds.proofs.Basics.{Call, Device, Entry, IsMoved, Painted, Reply, Routed}
+use Rattle.nit_rounds.proofs.Basics.{SceneModel, Sight, State, after, first_state, glass_in}
 use Rattle.nit_rounds.proofs.Basics.{glasses_of_call, replay_from, state_now}
 use Rattle.nit_events.specs.declared.entry.Entry.TheVariants as entry
 use Rattle.nit_rounds.proofs.QuietGlasses.{every_of_call, itself, same_list}

@@ -1,10 +1,10 @@
 -- Worked rows of rounds, and of what they draw, computed from the definitions.
 use Rattle.std.proofs.Common.{List, [], false, map, pos, refl, take, true, ℕ, ◌∷◌, ◌≡◌}
 use Rattle.nit_rounds.proofs.Basics.{Acts, Buffer, Calls, Client, Configuration, Does, Fill}
-use Rattle.nit_rounds.proofs.Basics.{InputLine, Line, Motion, Refresh, Shoots, User}
+use Rattle.nit_rounds.proofs.Basics.{InputLine, Line, Motion, Place, Refresh, Shoots, User}
 use Rattle.nit_rounds.proofs.Basics.{actions_of_turns, bare_word, range_with_len, rounds, shot_file}
 use Rattle.nit_rounds.proofs.Basics.{shot_name, turn_of}
-use Rattle.nit_events.specs.declared.call.Call.TheVariants.{View, Place}
+use Rattle.nit_events.specs.declared.call.Call.TheVariants.{View}
 use Rattle.nit_rounds.specs.Drawing.{drawn}
 use Rattle.nit_journal.specs.Session.{serve}
 use Rattle.nit_journal.specs.StackAfter.{stack_after_call}

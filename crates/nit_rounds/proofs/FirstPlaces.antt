@@ -1,8 +1,7 @@
 -- All actors stand at their first lines: nothing is done yet.
 use Rattle.nit_rounds.specs.Places.{left_from}
-use Rattle.nit_rounds.proofs.Basics.{ActorLine, ArePlaces, InputLine, Line, LineTurn, List}
-use Rattle.nit_rounds.proofs.Basics.{LinePlace}
-use Rattle.nit_rounds.proofs.Basics.{Places, StandsAt, [], actors, arith, flat_map}
+use Rattle.nit_rounds.proofs.Basics.{ActorLine, ArePlaces, InputLine, Line, LinePlace, LineTurn}
+use Rattle.nit_rounds.proofs.Basics.{List, Places, StandsAt, [], actors, arith, flat_map}
 use Rattle.nit_rounds.proofs.Basics.{get_or-replicate, in_phase, lefts, length, map, phase_count}
 use Rattle.nit_rounds.proofs.Basics.{phase_rounds, range_with_len, refl, replicate, rounds}
 use Rattle.nit_rounds.proofs.Basics.{script_of, suc, turns_left, turns_of}

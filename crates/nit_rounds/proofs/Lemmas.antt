@@ -1,17 +1,14 @@
 -- What answers use: all that lemmas use, and this crate's lemmas.
-pub use Rattle.nit_rounds.proofs.Basics.{AreBehind, ByClient, ByUser, CanDoUserLine, Configuration}
-pub use Rattle.nit_rounds.proofs.Basics.{DoesUserLine, FitsInputLine, InputLine}
-pub use Rattle.nit_rounds.proofs.Basics.{IsBehind, IsButFor, IsPlanOf, IsShowing}
-pub use Rattle.nit_rounds.proofs.Basics.{IsUtf8, Line, LineTurn, List, NoneHas, PlanModel}
-pub use Rattle.nit_rounds.proofs.Basics.{SceneModel, Sight, Some, ap, arith, donation_of, entry_of}
-pub use Rattle.nit_rounds.proofs.Basics.{few_digits, get_or_default, glass_after, glass_in}
-pub use Rattle.nit_rounds.proofs.Basics.{is_stale, length, line_here, no_sight, put_state_of_desk}
-pub use Rattle.nit_rounds.proofs.Basics.{refl, script_in, settled, subst, sym, told_at}
-pub use Rattle.nit_rounds.proofs.Basics.{with_words, ℕ, ◌∙◌}
+pub use Rattle.nit_rounds.proofs.Basics.{AreBehind, ByClient, ByUser, FitsInputLine, IsShowing}
+pub use Rattle.nit_rounds.proofs.Basics.{IsUtf8, Line, LineTurn, List, NoneHas, SceneModel, Sight}
+pub use Rattle.nit_rounds.proofs.Basics.{Some, [], ap, arith, donation_of, entry_of, few_digits}
+pub use Rattle.nit_rounds.proofs.Basics.{get_or_default, glass_in, is_stale, length, line_here}
+pub use Rattle.nit_rounds.proofs.Basics.{no_sight, put_state_of_desk, refl, set, settled, slice_get}
+pub use Rattle.nit_rounds.proofs.Basics.{subst, sym, told_at, with_words, ℕ, ◌∙◌}
 pub use Rattle.nit_rounds.proofs.Copies.{all_drawn, glass_there, row_drawn, rows_to}
 pub use Rattle.nit_rounds.proofs.Counts.{as_many_as_lines, few_acts}
 pub use Rattle.nit_rounds.proofs.DrawnAsReplayed.{as_replayed}
-pub use Rattle.nit_rounds.proofs.EntryEffects.{input_moved, served_moved, shot_moved}
+pub use Rattle.nit_rounds.proofs.EntryEffects.{input_moved, served_moved}
 pub use Rattle.nit_rounds.proofs.FirstPlaces.{kept_first, left_first_of}
 pub use Rattle.nit_rounds.proofs.LineOnGlass.{after_stroke, fits, no_stages, painted_to, step_there}
 pub use Rattle.nit_rounds.proofs.LineRecords.{as_found, behind_still, call_done, can_call}
@@ -32,6 +29,5 @@ pub use Rattle.nit_rounds.proofs.StaleLemmas.{all_own, as_but, behind_again, cop
 pub use Rattle.nit_rounds.proofs.StaleLemmas.{drawn_but, nothing_drawn, settles, still_fits}
 pub use Rattle.nit_rounds.proofs.TurnNumbers.{tells_client, tells_user}
 pub use Rattle.nit_rounds.proofs.TurnPremises.{as_many, each_at, found_here, front_move}
-pub use Rattle.nit_rounds.proofs.TurnPremises.{moved_settled}
-pub use Rattle.nit_rounds.proofs.TurnPremises.{read_same, settled_turn, users_turn}
+pub use Rattle.nit_rounds.proofs.TurnPremises.{moved_settled, read_same, settled_turn, users_turn}
 pub use Rattle.nit_rounds.proofs.WholeRounds.{whole}

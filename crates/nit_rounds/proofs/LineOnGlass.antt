@@ -1,10 +1,10 @@
 -- A line of a script, done on the own glass of its session.
-use Rattle.nit_rounds.proofs.Basics.{BufferArea, FitsInto, IsDonation, IsPaintedTo, IsPlanOf, Line}
-use Rattle.nit_rounds.proofs.Basics.{HasStage, List, word_inked}
-use Rattle.nit_rounds.proofs.Basics.{PlanModel, Sight, Some, Step, ap, ap₂, arith, false}
-use Rattle.nit_rounds.proofs.Basics.{get_or, get_or_from_slice_get, glass_after, is_set_by}
-use Rattle.nit_rounds.proofs.Basics.{mul-le-mul_right, plan_of_script, refl, slice_index, static}
-use Rattle.nit_rounds.proofs.Basics.{step_of, table_size, with_words, words_after}
+use Rattle.nit_rounds.proofs.Basics.{BufferArea, FitsInto, HasStage, IsDonation, IsPaintedTo}
+use Rattle.nit_rounds.proofs.Basics.{IsPlanOf, Line, List, PlanModel, Sight, Some, Step, ap, ap₂}
+use Rattle.nit_rounds.proofs.Basics.{arith, false, get_or, get_or_from_slice_get, glass_after}
+use Rattle.nit_rounds.proofs.Basics.{is_set_by, mul-le-mul_right, plan_of_script, refl, slice_index}
+use Rattle.nit_rounds.proofs.Basics.{static, step_of, table_size, with_words, word_inked}
+use Rattle.nit_rounds.proofs.Basics.{words_after}
 use Rattle.std.proofs.Common.{length, slice_get, ℕ, ◌%◌, ◌*◌, ◌+◌, ◌/◌, ◌∙◌, ◌≡◌, ◌≤◌}
 
 -- what the laws of scripts say

@@ -1,14 +1,12 @@
 -- A line, done: what stays of the scene, and what is recorded.
-use Rattle.nit_rounds.proofs.Basics.{AreQuietBut, ByClient, Call, DoesClientLine}
-use Rattle.nit_rounds.proofs.Basics.{DoesUserLine, Entry, HasSession, IsBehind, IsDonation, IsGlass, IsMoved}
-use Rattle.nit_rounds.proofs.Basics.{IsOpen}
-use Rattle.nit_rounds.proofs.Basics.{IsRecorded, Line, List, None, Option, SceneModel, Sight, Some}
-use Rattle.nit_rounds.proofs.Basics.{Stale, State, [], ap, arith, donation_of, entry_of}
-use Rattle.nit_rounds.proofs.Basics.{get_or-set_other, glass_after, glass_in, length, no_sight}
-use Rattle.nit_rounds.proofs.Basics.{same_Some, shots, state_now}
-use Rattle.std.proofs.Common.{slice_get, length-append, length-set, refl, set, sym, ℕ, ◌++◌}
-use Rattle.std.proofs.Common.{◌+◌, ◌-◌}
-use Rattle.std.proofs.Common.{◌∙◌, ◌∷◌, ◌≡◌, ◌≤◌}
+use Rattle.nit_rounds.proofs.Basics.{AreQuietBut, ByClient, Call, DoesClientLine, DoesUserLine}
+use Rattle.nit_rounds.proofs.Basics.{Entry, HasSession, IsBehind, IsDonation, IsGlass, IsMoved}
+use Rattle.nit_rounds.proofs.Basics.{IsOpen, IsRecorded, Line, List, None, Option, SceneModel}
+use Rattle.nit_rounds.proofs.Basics.{Sight, Some, Stale, State, [], ap, arith, donation_of}
+use Rattle.nit_rounds.proofs.Basics.{entry_of, get_or-set_other, glass_after, glass_in, length}
+use Rattle.nit_rounds.proofs.Basics.{no_sight, same_Some, shots, state_now}
+use Rattle.std.proofs.Common.{slice_get, length-append, length-set, refl, set, sym, ℕ, ◌++◌, ◌+◌}
+use Rattle.std.proofs.Common.{◌-◌, ◌∙◌, ◌∷◌, ◌≡◌, ◌≤◌}
 use Rattle.nit_events.specs.declared.entry.Entry.TheVariants as entry
 use Rattle.nit_script.specs.declared.line.Line.TheVariants as line
 use Rattle.nit_script.specs.declared.line.InputLine.TheVariants as input

@@ -1,15 +1,13 @@
 -- How the actors go on: to the next one with a line to do, into a new round, into a new phase.
-use Rattle.nit_rounds.proofs.Basics.{ActorLine, ArePlaces, Bool, ByClient, ByUser}
-use Rattle.nit_rounds.proofs.Basics.{HasTurn, InputLine, IsAtTurn, Line, LineTurn, List, NoneHas}
-use Rattle.nit_rounds.proofs.Basics.{LinePlace, Places, Some, [], actors, add-one, ap}
-use Rattle.nit_rounds.proofs.Basics.{arith}
-use Rattle.nit_rounds.proofs.Basics.{cases_eq, cases_lt, ends_phase, false, get_or, get_or-map}
+use Rattle.nit_rounds.proofs.Basics.{ActorLine, ArePlaces, Bool, ByClient, ByUser, HasTurn}
+use Rattle.nit_rounds.proofs.Basics.{InputLine, IsAtTurn, Line, LinePlace, LineTurn, List, NoneHas}
+use Rattle.nit_rounds.proofs.Basics.{Places, Some, [], actors, add-one, ap, arith, cases_eq}
+use Rattle.nit_rounds.proofs.Basics.{cases_lt, ends_phase, false, get_or, get_or-map}
 use Rattle.nit_rounds.proofs.Basics.{get_or-set_other, get_or-set_same, get_or_default, in_phase}
 use Rattle.nit_rounds.proofs.Basics.{inl, inr, is_active, left_at, left_from, lefts, length}
 use Rattle.nit_rounds.proofs.Basics.{length-map, length-set, map, phase_count, script_of}
 use Rattle.nit_rounds.proofs.Basics.{slice_get-get_or, stepped, turn_by, turns_left}
-use Rattle.std.proofs.Common.{slice_get, set, suc, sym, ℕ, ◌+◌, ◌<◌, ◌∙◌, ◌∷◌, ◌≡◌}
-use Rattle.std.proofs.Common.{◌≤◌}
+use Rattle.std.proofs.Common.{slice_get, set, suc, sym, ℕ, ◌+◌, ◌<◌, ◌∙◌, ◌∷◌, ◌≡◌, ◌≤◌}
 use Rattle.nit_script.specs.declared.line.Line.TheVariants as line
 use Rattle.nit_script.specs.declared.line.InputLine.TheVariants as input_line
 use Rattle.nit_rounds.specs.declared.turn.Turn.TheVariants as turn

@@ -1,10 +1,9 @@
 -- What of the rounds is one actor's: its moves in order, each once.
 use Rattle.nit_rounds.proofs.Basics.{ActorLine, AllByRecursion, Bool, LineTurn, List, [], add-one}
-use Rattle.nit_rounds.proofs.Basics.{append-nil, ap₂, arith, cond, drop, ends_phase, eq-eqb}
-use Rattle.nit_rounds.proofs.Basics.{false, flat_map, flat_map-append, get_or, greatest, in_phase}
-use Rattle.nit_rounds.proofs.Basics.{length, length-drop, map, ne_eqb, nil_from_length}
-use Rattle.nit_rounds.proofs.Basics.{phase_rounds, range_with_len, refl, suc, sym, take}
-use Rattle.nit_rounds.proofs.Basics.{turns_from}
+use Rattle.nit_rounds.proofs.Basics.{append-nil, ap₂, arith, cond, drop, ends_phase, eq-eqb, false}
+use Rattle.nit_rounds.proofs.Basics.{flat_map, flat_map-append, get_or, greatest, in_phase, length}
+use Rattle.nit_rounds.proofs.Basics.{length-drop, map, ne_eqb, nil_from_length, phase_rounds}
+use Rattle.nit_rounds.proofs.Basics.{range_with_len, refl, suc, sym, take, turns_from}
 use Rattle.std.proofs.Common.{take-append-drop, true, zero, ℕ, ◌++◌, ◌+◌, ◌<◌, ◌==◌, ◌∙◌, ◌∷◌, ◌≡◌}
 use Rattle.std.proofs.Common.{◌≤◌}
 use Rattle.nit_rounds.proofs.RoundWalks.{walk, all_walk, short_greatest, short_at}

@@ -6,8 +6,7 @@ use Rattle.nit_rounds.proofs.Basics.{actions_of_turns, add-zero, ap, append-nil,
 use Rattle.nit_rounds.proofs.Basics.{eq-eqb, flat_map-append, get_or_past, glass_in, inl, inr}
 use Rattle.nit_rounds.proofs.Basics.{length, length-map, line_by, lines_of, map-append, ne_eqb}
 use Rattle.nit_rounds.proofs.Basics.{no_sight, rounds}
-use Rattle.std.proofs.Common.{length-append, map, refl, sym, ℕ, ◌++◌, ◌+◌, ◌∙◌, ◌∷◌, ◌≡◌}
-use Rattle.std.proofs.Common.{◌≢◌, ◌≤◌}
+use Rattle.std.proofs.Common.{length-append, map, refl, sym, ℕ, ◌++◌, ◌+◌, ◌∙◌, ◌∷◌, ◌≡◌, ◌≢◌, ◌≤◌}
 use Rattle.nit_events.specs.declared.entry.Entry.TheVariants as entry
 use Rattle.nit_script.specs.declared.line.Line.TheVariants as line
 

@@ -1,10 +1,10 @@
 -- What is left of a phase: an actor without a move is passed over, and a move is taken from the front.
 use Rattle.nit_rounds.proofs.Basics.{LineTurn, List, [], add-one, add-zero, all_rounds, ap}
-use Rattle.nit_rounds.proofs.Basics.{append-nil, append_assoc, arith, drop, drop-set-lt}
-use Rattle.nit_rounds.proofs.Basics.{drop_all, drop_more, eq-eqb, flat_map, get_or, in_phase}
-use Rattle.nit_rounds.proofs.Basics.{length, length-map, map, map-set, ne_eqb, phase_rounds}
-use Rattle.nit_rounds.proofs.Basics.{range_with_len, refl, rest_of_phase, set, set-get_or}
-use Rattle.nit_rounds.proofs.Basics.{suc, sym, take_more, take_more_set}
+use Rattle.nit_rounds.proofs.Basics.{append-nil, append_assoc, arith, drop, drop-set-lt, drop_all}
+use Rattle.nit_rounds.proofs.Basics.{drop_more, eq-eqb, flat_map, get_or, in_phase, length}
+use Rattle.nit_rounds.proofs.Basics.{length-map, map, map-set, ne_eqb, phase_rounds, range_with_len}
+use Rattle.nit_rounds.proofs.Basics.{refl, rest_of_phase, set, set-get_or, suc, sym, take_more}
+use Rattle.nit_rounds.proofs.Basics.{take_more_set}
 use Rattle.std.proofs.Common.{take, take_all, zero, ℕ, ◌++◌, ◌+◌, ◌-◌, ◌<◌, ◌∙◌, ◌∷◌, ◌≡◌, ◌≤◌}
 use Rattle.nit_rounds.specs.Places.{left_from}
 use Rattle.nit_rounds.proofs.RoundWalks.{Short, first_round, no_rounds}

@@ -1,16 +1,14 @@
 -- Actors at places of their scripts: what each has left, and how places go on.
-use Rattle.nit_rounds.proofs.Basics.{ActorLine, Bool, ByClient, ByUser, InputLine}
-use Rattle.nit_rounds.proofs.Basics.{Line, List, LinePlace, Some, StandsAt, [], actors}
-use Rattle.nit_rounds.proofs.Basics.{add-one, and_parts, ap, arith, cases_eq, cases_lt}
-use Rattle.nit_rounds.proofs.Basics.{clients_from, cond, drop, drop_all, drop_more, ends_phase}
-use Rattle.nit_rounds.proofs.Basics.{eq-eqb, eqb-true, false, false≢true, get_or, get_or_default}
-use Rattle.nit_rounds.proofs.Basics.{get_or_past}
-use Rattle.nit_rounds.proofs.Basics.{in_phase, inl, inr, is_active, is_input_phase, is_phase}
-use Rattle.nit_rounds.proofs.Basics.{left_at, lefts, length, length-append, length-map, lt-ltb}
-use Rattle.nit_rounds.proofs.Basics.{ltb-true, map, nat_lt, refl, same_Some, script_of, set}
-use Rattle.nit_rounds.proofs.Basics.{stepped}
-use Rattle.std.proofs.Common.{slice_get, suc, sym, true, zero, zero-add, ℕ, ◌+◌, ◌<◌, ◌==◌}
-use Rattle.std.proofs.Common.{◌∙◌, ◌∷◌, ◌≡◌, ◌≤◌}
+use Rattle.nit_rounds.proofs.Basics.{ActorLine, Bool, ByClient, ByUser, InputLine, Line, LinePlace}
+use Rattle.nit_rounds.proofs.Basics.{List, Some, StandsAt, [], actors, add-one, and_parts, ap}
+use Rattle.nit_rounds.proofs.Basics.{arith, cases_eq, cases_lt, clients_from, cond, drop, drop_all}
+use Rattle.nit_rounds.proofs.Basics.{drop_more, ends_phase, eq-eqb, eqb-true, false, false≢true}
+use Rattle.nit_rounds.proofs.Basics.{get_or, get_or_default, get_or_past, in_phase, inl, inr}
+use Rattle.nit_rounds.proofs.Basics.{is_active, is_input_phase, is_phase, left_at, lefts, length}
+use Rattle.nit_rounds.proofs.Basics.{length-append, length-map, lt-ltb, ltb-true, map, nat_lt, refl}
+use Rattle.nit_rounds.proofs.Basics.{same_Some, script_of, set, stepped}
+use Rattle.std.proofs.Common.{slice_get, suc, sym, true, zero, zero-add, ℕ, ◌+◌, ◌<◌, ◌==◌, ◌∙◌}
+use Rattle.std.proofs.Common.{◌∷◌, ◌≡◌, ◌≤◌}
 use Rattle.nit_rounds.proofs.OneActor.{later}
 use Rattle.nit_rounds.proofs.Scripts.{script_of_client, script_of_user}
 

@@ -3,8 +3,8 @@ use Rattle.nit_rounds.proofs.Basics.{Action, AllByRecursion, Bool, IsNonDecreasi
 use Rattle.nit_rounds.proofs.Basics.{[], actions_of_line, all_append, arith, cond, drop, eqb-true}
 use Rattle.nit_rounds.proofs.Basics.{false, flat_map, flat_map-append, get_or, in_phase, le_of_eq}
 use Rattle.nit_rounds.proofs.Basics.{le_trans, phase_rounds, range_with_len, round}
-use Rattle.std.proofs.Common.{length, map, refl, suc, sym, take, true, zero, ℕ, ◌++◌, ◌+◌}
-use Rattle.std.proofs.Common.{◌<◌, ◌==◌, ◌∷◌, ◌≡◌, ◌≤◌}
+use Rattle.std.proofs.Common.{length, map, refl, suc, sym, take, true, zero, ℕ, ◌++◌, ◌+◌, ◌<◌}
+use Rattle.std.proofs.Common.{◌==◌, ◌∷◌, ◌≡◌, ◌≤◌}
 
 -- ---- numbers that never fall
 

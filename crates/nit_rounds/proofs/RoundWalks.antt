@@ -1,9 +1,9 @@
 -- Rounds one after the other: each takes the first move of each actor.
-use Rattle.nit_rounds.proofs.Basics.{AllByRecursion, LineTurn, List, [], all_rounds, arith}
-use Rattle.nit_rounds.proofs.Basics.{drop, drop-drop, flat_map, flat_map-map, get_or, greatest}
+use Rattle.nit_rounds.proofs.Basics.{AllByRecursion, LineTurn, List, [], all_rounds, arith, drop}
+use Rattle.nit_rounds.proofs.Basics.{drop-drop, flat_map, flat_map-map, get_or, greatest}
 use Rattle.nit_rounds.proofs.Basics.{length-drop, map, nil_from_length, range_with_len, round}
-use Rattle.std.proofs.Common.{map-id, max, length, refl, suc, zero, ℕ, take, ◌++◌, ◌+◌}
-use Rattle.std.proofs.Common.{◌-◌, ◌∷◌, ◌≡◌, ◌≤◌}
+use Rattle.std.proofs.Common.{map-id, max, length, refl, suc, zero, ℕ, take, ◌++◌, ◌+◌, ◌-◌, ◌∷◌}
+use Rattle.std.proofs.Common.{◌≡◌, ◌≤◌}
 
 -- lists of at most n moves
 abbrev pub Short : ℕ → List (List LineTurn) → Type 0

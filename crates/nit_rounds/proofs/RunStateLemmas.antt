@@ -1,22 +1,21 @@
 -- A run that is under way: how it begins, what one turn does, and what holds at its end.
-use Rattle.nit_rounds.proofs.Basics.{ActorLine, AreRaw, Bare, Bool, ByClient, ByUser}
-use Rattle.nit_rounds.proofs.Basics.{Configuration, DoesUserLine, Drawing, Entry, InputLine}
-use Rattle.nit_rounds.proofs.Basics.{IsDrawn, IsLegal, IsMoved, IsOpen, IsRawOf, IsRecorded}
-use Rattle.nit_rounds.proofs.Basics.{IsRoundsRun, IsSetUp, IsShowing, IsUnderWay, IsUserRecorded}
-use Rattle.nit_rounds.proofs.Basics.{Line, LineTurn, List, None, Option, Painting, PixelSource}
-use Rattle.nit_rounds.proofs.Basics.{PlanModel, Point, SceneModel, ShotFrame, ShowsEach, ShowsLine}
-use Rattle.nit_rounds.proofs.Basics.{Sight, Size, Some, View, [], action_of, actions_of_line}
-use Rattle.nit_rounds.proofs.Basics.{ap, append-nil, append_assoc}
-use Rattle.nit_rounds.proofs.Basics.{arith, bar_rows, bare_word, blank, buffer_size, cases_eq, cond}
-use Rattle.nit_rounds.proofs.Basics.{donation_of, done_after, drawn, drawn_shot, entry_of, false}
-use Rattle.nit_rounds.proofs.Basics.{first_state, get_or-set_other, get_or-set_same, glass_after}
-use Rattle.nit_rounds.proofs.Basics.{glass_in, in_bar, ink, inked_sight, inl, input_lines_of, inr}
-use Rattle.nit_rounds.proofs.Basics.{length, length-append, length-set, length-take-le}
-use Rattle.nit_rounds.proofs.Basics.{lines_of, map, map-append, no_sight, painted_from, pixel}
-use Rattle.nit_rounds.proofs.Basics.{pixel_count, refl, rounds, script_in, set}
-use Rattle.nit_rounds.proofs.Basics.{shot_frames_of, shots, shots_after, slice_get}
-use Rattle.nit_rounds.proofs.Basics.{slice_get_within, source_at, source_under, state_now}
-use Rattle.nit_rounds.proofs.Basics.{turn_of, words_after, words_left}
+use Rattle.nit_rounds.proofs.Basics.{ActorLine, AreRaw, Bare, Bool, ByClient, ByUser, Configuration}
+use Rattle.nit_rounds.proofs.Basics.{DoesUserLine, Drawing, Entry, InputLine, IsDrawn, IsLegal}
+use Rattle.nit_rounds.proofs.Basics.{IsMoved, IsOpen, IsRawOf, IsRecorded, IsRoundsRun, IsSetUp}
+use Rattle.nit_rounds.proofs.Basics.{IsShowing, IsUnderWay, IsUserRecorded, Line, LineTurn, List}
+use Rattle.nit_rounds.proofs.Basics.{None, Option, Painting, PixelSource, PlanModel, Point}
+use Rattle.nit_rounds.proofs.Basics.{SceneModel, ShotFrame, ShowsEach, ShowsLine, Sight, Size, Some}
+use Rattle.nit_rounds.proofs.Basics.{View, [], action_of, actions_of_line, ap, append-nil}
+use Rattle.nit_rounds.proofs.Basics.{append_assoc, arith, bar_rows, bare_word, blank, buffer_size}
+use Rattle.nit_rounds.proofs.Basics.{cases_eq, cond, donation_of, done_after, drawn, drawn_shot}
+use Rattle.nit_rounds.proofs.Basics.{entry_of, false, first_state, get_or-set_other}
+use Rattle.nit_rounds.proofs.Basics.{get_or-set_same, glass_after, glass_in, in_bar, ink}
+use Rattle.nit_rounds.proofs.Basics.{inked_sight, inl, input_lines_of, inr, length, length-append}
+use Rattle.nit_rounds.proofs.Basics.{length-set, length-take-le, lines_of, map, map-append}
+use Rattle.nit_rounds.proofs.Basics.{no_sight, painted_from, pixel, pixel_count, refl, rounds}
+use Rattle.nit_rounds.proofs.Basics.{script_in, set, shot_frames_of, shots, shots_after, slice_get}
+use Rattle.nit_rounds.proofs.Basics.{slice_get_within, source_at, source_under, state_now, turn_of}
+use Rattle.nit_rounds.proofs.Basics.{words_after, words_left}
 use Rattle.std.proofs.Common.{slice_index_or, subst, sym, take, true, zero-add, ℕ, ◌++◌, ◌+◌, ◌<◌}
 use Rattle.std.proofs.Common.{◌∙◌, ◌∷◌, ◌≡◌, ◌≢◌, ◌≤◌}
 use Rattle.nit_events.specs.declared.entry.Entry.TheVariants as entry

@@ -2,10 +2,10 @@
 use Rattle.nit_rounds.proofs.Basics.{ActorLine, AllByRecursion, Bool, ByClient, ByUser, InputLine}
 use Rattle.nit_rounds.proofs.Basics.{Line, LineTurn, List, [], actors, add-zero, ap, arith}
 use Rattle.nit_rounds.proofs.Basics.{cases_eq, cases_lt, clients_from, cond, count_by, ends_phase}
-use Rattle.nit_rounds.proofs.Basics.{false, flat_map, get_or, greatest, inl, inr}
-use Rattle.nit_rounds.proofs.Basics.{is_input_phase, is_phase, length, map, phase_count, phases}
-use Rattle.nit_rounds.proofs.Basics.{range_with_len, refl, rounds, suc, sum_by-append, sym}
-use Rattle.nit_rounds.proofs.Basics.{true, turns_from, turns_of, zero, zero-add, ℕ}
+use Rattle.nit_rounds.proofs.Basics.{false, flat_map, get_or, greatest, inl, inr, is_input_phase}
+use Rattle.nit_rounds.proofs.Basics.{is_phase, length, map, phase_count, phases, range_with_len}
+use Rattle.nit_rounds.proofs.Basics.{refl, rounds, suc, sum_by-append, sym, true, turns_from}
+use Rattle.nit_rounds.proofs.Basics.{turns_of, zero, zero-add, ℕ}
 use Rattle.std.proofs.Common.{◌++◌, ◌+◌, ◌<◌, ◌∙◌, ◌∷◌, ◌≡◌, ◌≤◌}
 use Rattle.nit_rounds.proofs.OneActor.{Silent, OnlyAt, Below, taken_silent, get_map, only_phases}
 use Rattle.nit_rounds.proofs.OneActor.{phases_whole}

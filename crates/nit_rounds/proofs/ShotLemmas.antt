@@ -1,6 +1,6 @@
 -- The shots of a journal that grows at its end.
-use Rattle.std.proofs.Common.{List, [], add-zero, ap, arith, refl, sym, zero-add, ℕ, ◌++◌, ◌+◌}
-use Rattle.std.proofs.Common.{◌∷◌, ◌≡◌}
+use Rattle.std.proofs.Common.{List, [], add-zero, ap, arith, refl, sym, zero-add, ℕ, ◌++◌, ◌+◌, ◌∷◌}
+use Rattle.std.proofs.Common.{◌≡◌}
 use Rattle.nit_rounds.proofs.Basics.{Device, Entry, IsRecorded, IsUserRecorded, Line, shots}
 use Rattle.nit_events.specs.declared.entry.Entry.TheVariants as entry
 use Rattle.nit_script.specs.declared.line.Line.TheVariants as line

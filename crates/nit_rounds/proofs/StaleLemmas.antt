@@ -1,13 +1,12 @@
 -- A scene's glass that is behind the own one of its session, and how it is brought on.
-use Rattle.nit_rounds.proofs.Basics.{AreBehind, BufferArea, Bool, IsBehind, IsBehindBy, IsButFor}
-use Rattle.nit_rounds.proofs.Basics.{IsDonation, Line, List, None, Option, SceneModel, Sight, Some}
-use Rattle.nit_rounds.proofs.Basics.{Stale, Step, ap, cases_lt, cond, ext_get_or, false}
-use Rattle.nit_rounds.proofs.Basics.{get_or-set_same, get_or_past, glass_after, glass_in}
-use Rattle.nit_rounds.proofs.Basics.{inl, inr, is_in_area, is_number_in, is_set_by}
-use Rattle.nit_rounds.proofs.Basics.{is_stale, length, length-set, no_sight, or_parts, refl}
-use Rattle.nit_rounds.proofs.Basics.{same_Some, set, set-set, set_long, set_where, slice_get}
-use Rattle.nit_rounds.proofs.Basics.{FitsInto, slice_index, static, step_of, subst, told_at}
-use Rattle.nit_rounds.proofs.Basics.{with_words, word_at, words_after}
+use Rattle.nit_rounds.proofs.Basics.{AreBehind, Bool, BufferArea, FitsInto, IsBehind, IsBehindBy}
+use Rattle.nit_rounds.proofs.Basics.{IsButFor, IsDonation, Line, List, None, Option, SceneModel}
+use Rattle.nit_rounds.proofs.Basics.{Sight, Some, Stale, Step, ap, cases_lt, cond, ext_get_or}
+use Rattle.nit_rounds.proofs.Basics.{false, get_or-set_same, get_or_past, glass_after, glass_in}
+use Rattle.nit_rounds.proofs.Basics.{inl, inr, is_in_area, is_number_in, is_set_by, is_stale}
+use Rattle.nit_rounds.proofs.Basics.{length, length-set, no_sight, or_parts, refl, same_Some, set}
+use Rattle.nit_rounds.proofs.Basics.{set-set, set_long, set_where, slice_get, slice_index, static}
+use Rattle.nit_rounds.proofs.Basics.{step_of, subst, told_at, with_words, word_at, words_after}
 use Rattle.std.proofs.Common.{IfSome, sym, true, ℕ, ◌%◌, ◌+◌, ◌/◌, ◌<◌, ◌||◌, ◌∙◌, ◌≡◌}
 use Rattle.nit_rounds.proofs.Copies.{with_glass_of}
 use Rattle.nit_rounds.proofs.LineOnGlass.{AreLong, StayElsewhere}

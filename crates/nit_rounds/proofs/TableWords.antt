@@ -1,10 +1,9 @@
 -- Words by the tables of the sessions.
-use Rattle.nit_rounds.proofs.Basics.{Bare, Black, Configuration, IsLoaded, no_ink}
-use Rattle.nit_rounds.proofs.Basics.{IsWordOfSource, Line, List, PixelSource, Sight, Word, []}
-use Rattle.nit_rounds.proofs.Basics.{cases_lt, donation_of, get_or_past}
-use Rattle.nit_rounds.proofs.Basics.{glass_after, glass_in, inl, inr, length, no_sight, script_in}
-use Rattle.nit_rounds.proofs.Basics.{slice_index, table_size, tables_after, word_from, words_after}
-use Rattle.nit_rounds.proofs.Basics.{zero_at, zeros}
+use Rattle.nit_rounds.proofs.Basics.{Bare, Black, Configuration, IsLoaded, IsWordOfSource, Line}
+use Rattle.nit_rounds.proofs.Basics.{List, PixelSource, Sight, Word, [], cases_lt, donation_of}
+use Rattle.nit_rounds.proofs.Basics.{get_or_past, glass_after, glass_in, inl, inr, length, no_ink}
+use Rattle.nit_rounds.proofs.Basics.{no_sight, script_in, slice_index, table_size, tables_after}
+use Rattle.nit_rounds.proofs.Basics.{word_from, words_after, zero_at, zeros}
 use Rattle.std.proofs.Common.{refl, suc, zero, ℕ, ◌<◌, ◌≡◌}
 
 -- ---- words

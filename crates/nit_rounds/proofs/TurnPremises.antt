@@ -1,17 +1,16 @@
 -- What a turn finds: all that the line of its actor asks for.
-use Rattle.nit_rounds.proofs.Basics.{Action, Acts, All-get_or, AllByRecursion}
-use Rattle.nit_rounds.proofs.Basics.{ByUser, Call, Calls, CanDoUserLine, Configuration, Does, Entry}
-use Rattle.nit_rounds.proofs.Basics.{FitsInputLine, InputLine}
-use Rattle.nit_rounds.proofs.Basics.{IsConfiguration, IsDonation, IsMember, IsMoved, IsPlanOf}
-use Rattle.nit_rounds.proofs.Basics.{IsPlanned, IsUnderWay, Line, LineTurn, List, None, Option}
-use Rattle.nit_rounds.proofs.Basics.{PlanModel, SceneModel, Shoots, Sight, Some, State, Turn, []}
-use Rattle.nit_rounds.proofs.Basics.{actions_of_line, actions_of_turns, ap, arith, donation_of}
-use Rattle.nit_rounds.proofs.Basics.{drop, get_or, get_or_default, get_or_from_slice_get}
-use Rattle.nit_rounds.proofs.Basics.{glass_after, glass_in, length, option_map, plan_in, rounds}
-use Rattle.nit_rounds.proofs.Basics.{script_in, settled, slice_get_within, state_now, takes_place}
-use Rattle.nit_rounds.proofs.Basics.{turn_of}
-use Rattle.std.proofs.Common.{slice_get, length-set, refl, set, suc, sym, true, zero, ℕ, ◌<◌}
-use Rattle.std.proofs.Common.{◌∙◌, ◌∷◌, ◌≡◌, ◌≤◌}
+use Rattle.nit_rounds.proofs.Basics.{Action, Acts, All-get_or, AllByRecursion, ByUser, Call, Calls}
+use Rattle.nit_rounds.proofs.Basics.{CanDoUserLine, Configuration, Does, Entry, FitsInputLine}
+use Rattle.nit_rounds.proofs.Basics.{InputLine, IsConfiguration, IsDonation, IsMember, IsMoved}
+use Rattle.nit_rounds.proofs.Basics.{IsPlanOf, IsPlanned, IsUnderWay, Line, LineTurn, List, None}
+use Rattle.nit_rounds.proofs.Basics.{Option, PlanModel, SceneModel, Shoots, Sight, Some, State}
+use Rattle.nit_rounds.proofs.Basics.{Turn, [], actions_of_line, actions_of_turns, ap, arith}
+use Rattle.nit_rounds.proofs.Basics.{donation_of, drop, get_or, get_or_default}
+use Rattle.nit_rounds.proofs.Basics.{get_or_from_slice_get, glass_after, glass_in, length}
+use Rattle.nit_rounds.proofs.Basics.{option_map, plan_in, rounds, script_in, settled}
+use Rattle.nit_rounds.proofs.Basics.{slice_get_within, state_now, takes_place, turn_of}
+use Rattle.std.proofs.Common.{slice_get, length-set, refl, set, suc, sym, true, zero, ℕ, ◌<◌, ◌∙◌}
+use Rattle.std.proofs.Common.{◌∷◌, ◌≡◌, ◌≤◌}
 use Rattle.nit_script.specs.declared.line.Line.TheVariants as line
 use Rattle.nit_script.specs.declared.line.InputLine.TheVariants as input
 use Rattle.nit_rounds.specs.declared.turn.Turn.TheVariants as turn

@@ -2,9 +2,8 @@
 pub use Rattle.nit_config.specs.Configuration.{Configuration, bar_rows, donation_of}
 pub use Rattle.nit_config.specs.ConfigurationRanges.{IsConfiguration, IsMember}
 pub use Rattle.nit_events.specs.Input.{routed_as}
-pub use Rattle.nit_events.specs.Ranges.{IsDevice}
 pub use Rattle.nit_events.specs.declared.call.Call.{Call}
-pub use Rattle.nit_events.specs.declared.call.Call.TheVariants.{Buffer, Refresh}
+pub use Rattle.nit_events.specs.declared.call.Call.TheVariants.{Buffer, Place, Refresh}
 pub use Rattle.nit_events.specs.declared.call.Reply.{Reply}
 pub use Rattle.nit_events.specs.declared.device.Device.{Device}
 pub use Rattle.nit_events.specs.declared.device.Device.TheVariants.{Motion}
@@ -62,7 +61,6 @@ pub use Rattle.nit_store.specs.declared.store.PutError.{PutError}
 pub use Rattle.nit_word.specs.Channels.{bare_word}
 pub use Rattle.nit_word.specs.Inks.{IsWord}
 pub use Rattle.nit_word.specs.Sight.{HasStage, IsLoaded, Sight, inked_sight, seen, told_at}
-pub use Rattle.nit_word.specs.Sight.{told_words}
 pub use Rattle.nit_word.specs.Updates.{is_between, set_where, with_words}
 pub use Rattle.nit_word.specs.Zeros.{zeros}
 pub use Rattle.std.specs.Fmt.{decimal}

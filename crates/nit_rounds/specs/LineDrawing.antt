@@ -1,8 +1,6 @@
 -- A client's line that is drawn on the own glass of its session.
 use Rattle.std.specs.Prelude.{◌≡◌, ℕ, ◌+◌, ◌<◌, length, Option}
-use Rattle.nit_rounds.specs.Below.{IsDonation, IsPlanOf, ClientPart, SceneModel}
-use Rattle.nit_rounds.specs.Below.{Sight}
-use Rattle.nit_rounds.specs.Below.{Stale}
+use Rattle.nit_rounds.specs.Below.{ClientPart, IsDonation, IsPlanOf, SceneModel, Sight, Stale}
 use Rattle.nit_rounds.specs.Below.{donation_of, glass_in}
 use Rattle.nit_rounds.specs.RoundsRun.{glass_after}
 use Rattle.nit_rounds.specs.Stale.{IsBehind}

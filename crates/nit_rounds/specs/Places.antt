@@ -3,8 +3,7 @@ use Rattle.std.specs.Prelude.{◌≡◌, ℕ, suc, ◌+◌, ◌-◌, ◌<◌, �
 use Rattle.std.specs.Prelude.{nat_lt, List, [], ◌∷◌, ◌++◌, map, length, take, drop, slice_index_or}
 use Rattle.std.specs.Prelude.{if◌then◌else◌, Option, Some, None}
 use Rattle.nit_rounds.specs.Below.{AllByRecursion, InputLine, Line, LinePlace, Places, Turn}
-use Rattle.nit_rounds.specs.Below.{flat_map}
-use Rattle.nit_rounds.specs.Below.{most_lines, most_sessions, range_with_len}
+use Rattle.nit_rounds.specs.Below.{flat_map, most_lines, most_sessions, range_with_len}
 use Rattle.nit_rounds.specs.declared.turn.Turn.TheVariants as turn
 use Rattle.nit_rounds.specs.Turn.{ActorLine, ByClient, ByUser, LineTurn, turns_from, actors}
 use Rattle.nit_rounds.specs.Rounds.{in_phase, all_rounds, phase_rounds, phase_count}

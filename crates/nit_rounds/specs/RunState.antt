@@ -1,13 +1,12 @@
 -- A run by rounds that is under way: what one line leaves, and what holds between two turns.
 use Rattle.std.specs.Prelude.{◌≡◌, ◌≢◌, ℕ, ◌+◌, ◌/◌, ◌%◌, ◌<◌, Bool, true, false, List, [], ◌∷◌}
-use Rattle.std.specs.Prelude.{◌++◌, ◌≤◌, length, map, slice_index_or, slice_set, Option, Some}
-use Rattle.std.specs.Prelude.{None}
+use Rattle.std.specs.Prelude.{◌++◌, ◌≤◌, length, map, slice_index_or, slice_set, Option, Some, None}
 use Rattle.nit_rounds.specs.Below.{BufferArea, Configuration, Entry, FitsInputLine, InputLine}
-use Rattle.nit_rounds.specs.Below.{IsConfiguration, IsOpen}
-use Rattle.nit_rounds.specs.Below.{IsPlanOf, IsWordOfSource, Line, PlanModel, Reply, Routed}
-use Rattle.nit_rounds.specs.Below.{SceneModel, Sight, State, action_of, after, dirty, donation_of}
-use Rattle.nit_rounds.specs.Below.{frame, glass_in, is_in_area, pixel, pixel_count, plan_in}
-use Rattle.nit_rounds.specs.Below.{scenery_of, script_in, shots, source_at, state_now}
+use Rattle.nit_rounds.specs.Below.{IsConfiguration, IsOpen, IsPlanOf, IsWordOfSource, Line}
+use Rattle.nit_rounds.specs.Below.{PlanModel, Reply, Routed, SceneModel, Sight, State, action_of}
+use Rattle.nit_rounds.specs.Below.{after, dirty, donation_of, frame, glass_in, is_in_area, pixel}
+use Rattle.nit_rounds.specs.Below.{pixel_count, plan_in, scenery_of, script_in, shots, source_at}
+use Rattle.nit_rounds.specs.Below.{state_now}
 use Rattle.nit_events.specs.declared.entry.Entry.TheVariants as entry
 use Rattle.nit_script.specs.declared.line.Line.TheVariants as line
 use Rattle.nit_script.specs.declared.line.InputLine.TheVariants as input

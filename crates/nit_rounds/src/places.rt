@@ -2,10 +2,10 @@
 
 ghost use Rattle.std.specs.Prelude.{◌≡◌, ◌≤◌, ◌<◌, ◌+◌, [], length, slice_index_or, slice_get};
 ghost use Rattle.nit_rounds.specs.Terms.{ActorLine, ArePlaces, IsActorOf, IsAtTurn, IsFirstActive};
-ghost use Rattle.nit_rounds.specs.Terms.{IsNextTurn};
-ghost use Rattle.nit_rounds.specs.Terms.{IsTrue, MatchBool, LinePlace, Some, ends_phase, is_active};
-ghost use Rattle.nit_rounds.specs.Terms.{is_input_phase, is_phase, most_lines, most_sessions};
-ghost use Rattle.nit_rounds.specs.Terms.{rounds, script_of, stepped, turns_left};
+ghost use Rattle.nit_rounds.specs.Terms.{IsNextTurn, IsTrue, LinePlace, MatchBool, Some};
+ghost use Rattle.nit_rounds.specs.Terms.{ends_phase, is_active, is_input_phase, is_phase};
+ghost use Rattle.nit_rounds.specs.Terms.{most_lines, most_sessions, rounds, script_of, stepped};
+ghost use Rattle.nit_rounds.specs.Terms.{turns_left};
 
 use crate::turn::Turn;
 use nit_script::{Client, Input, InputLine, Line};

@@ -2,13 +2,12 @@
 
 ghost use Rattle.std.specs.Prelude.{◌≡◌, ◌≤◌, ◌∷◌, [], List};
 ghost use Rattle.nit_rounds.specs.Terms.{AreBehind, AreQuietBut, BeginsRounds, CanDoUserLine};
-ghost use Rattle.nit_rounds.specs.Terms.{CanDraw, DoesClientLine, DoesUserLine, HasDrawn};
-ghost use Rattle.nit_rounds.specs.Terms.{IsOpen, IsPlanned, IsRoundsRun, IsSameDesk};
-ghost use Rattle.nit_rounds.specs.Terms.{IsShowing, Line, LineTurn, PutsShots, SceneModel};
-ghost use Rattle.nit_rounds.specs.Terms.{ShowsEach, ShowsLine, Sight, Some, actions_of_turns};
-ghost use Rattle.nit_rounds.specs.Terms.{glass_in, length, picture_length, put_state_of_desk};
-ghost use Rattle.nit_rounds.specs.Terms.{rounds, settled, shot_frames_of, slice_get, slice_set};
-ghost use Rattle.nit_rounds.specs.Terms.{turn_of};
+ghost use Rattle.nit_rounds.specs.Terms.{CanDraw, DoesClientLine, DoesUserLine, HasDrawn, IsOpen};
+ghost use Rattle.nit_rounds.specs.Terms.{IsPlanned, IsRoundsRun, IsSameDesk, IsShowing, Line};
+ghost use Rattle.nit_rounds.specs.Terms.{LineTurn, PutsShots, SceneModel, ShowsEach, ShowsLine};
+ghost use Rattle.nit_rounds.specs.Terms.{Sight, Some, actions_of_turns, glass_in, length};
+ghost use Rattle.nit_rounds.specs.Terms.{picture_length, put_state_of_desk, rounds, settled};
+ghost use Rattle.nit_rounds.specs.Terms.{shot_frames_of, slice_get, slice_set, turn_of};
 ghost use Rattle.nit_events.specs.declared.call.Call.{Call as CallOf};
 ghost use Rattle.nit_script.specs.declared.line.Line.TheVariants as lines;
 

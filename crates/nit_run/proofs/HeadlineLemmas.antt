@@ -18,8 +18,7 @@ use Rattle.nit_run.proofs.Basics.{focus_after, frame, get_or-map-range_with_len}
 use Rattle.nit_run.proofs.Basics.{get_or_from_slice_get, is_accepted, is_button, is_key}
 use Rattle.nit_run.proofs.Basics.{is_mode_key, journal_file, length-append}
 use Rattle.nit_run.proofs.Basics.{length-map-range_with_len, length_push, map-append, member}
-use Rattle.nit_run.proofs.Basics.{option_map, owner_of, picture_of, pixel}
-use Rattle.nit_run.proofs.Basics.{pixel_count, point}
+use Rattle.nit_run.proofs.Basics.{option_map, owner_of, picture_of, pixel, pixel_count, point}
 use Rattle.nit_run.proofs.Basics.{projection, range_with_len, raw_word, replay, rounds, route}
 use Rattle.nit_run.proofs.Basics.{same_throughout, scenery_of, session, shot_name, shots, shots_of}
 use Rattle.nit_run.proofs.Basics.{shown, slice_get, slice_get_within, slice_index, tables_left}

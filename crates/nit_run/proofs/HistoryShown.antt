@@ -1,11 +1,10 @@
 -- The shots of a run beside others show one history of raw words.
 use Rattle.std.proofs.Common.{◌≡◌, ◌∙◌, ◌*◌, ℕ, true, [], List, ◌∷◌, ◌++◌, ◌<◌, length, sym, ap}
 use Rattle.std.proofs.Common.{subst}
-use Rattle.nit_run.proofs.Basics.{AreOutputs, AreShotsOf, Configuration, Contains, Entry, File}
-use Rattle.nit_run.proofs.Basics.{HasPicture, HoldsAtShot, HoldsByWay, IsHeldPicture, IsJournal}
-use Rattle.nit_run.proofs.Basics.{Setup, AreOfOneHistory, ShowsOneHistory, file_of_a_shot}
-use Rattle.nit_run.proofs.Basics.{replay, same_throughout, scenery_of, shot_name}
-use Rattle.nit_run.proofs.Basics.{shots, slice_index_or}
+use Rattle.nit_run.proofs.Basics.{AreOfOneHistory, AreOutputs, AreShotsOf, Configuration, Contains}
+use Rattle.nit_run.proofs.Basics.{Entry, File, HasPicture, HoldsAtShot, HoldsByWay, IsHeldPicture}
+use Rattle.nit_run.proofs.Basics.{IsJournal, Setup, ShowsOneHistory, file_of_a_shot, replay}
+use Rattle.nit_run.proofs.Basics.{same_throughout, scenery_of, shot_name, shots, slice_index_or}
 use Rattle.nit_run.proofs.HeadlineLemmas.{FrameCount, FrameEach, among_shots, contains_at}
 use Rattle.nit_events.specs.declared.entry.Entry.TheVariants as entry
 

@@ -1,18 +1,7 @@
 -- The words of the library and of the crates below that are used here, and the crate's plain types.
-pub use Rattle.nit_rounds.specs.Drawing.{Drawing, after_turn, drawn, frame_of, opening_drawing}
-pub use Rattle.nit_rounds.specs.Drawing.{picture_of, shot_frames_of, shots_after, shots_of}
-pub use Rattle.nit_rounds.specs.Drawing.{word_from, words_of}
+pub use Rattle.nit_actor.specs.History.{AreOfOneHistory, IsHeldPicture}
 pub use Rattle.nit_actor.specs.IdleUser.{idle_user}
-pub use Rattle.nit_actor.specs.History.{IsHeldPicture, AreOfOneHistory}
-pub use Rattle.nit_hall.specs.History.{IsHeld}
 pub use Rattle.nit_actor.specs.Pictures.{AreNearShots, IsNearPicture}
-pub use Rattle.nit_rounds.specs.Rounds.{rounds}
-pub use Rattle.nit_rounds.specs.RoundsRun.{final_name, picture_name, shot_name}
-pub use Rattle.nit_rounds.specs.ShotFrames.{shot_file}
-pub use Rattle.nit_rounds.specs.Shots.{AreShotsOf, IsDrawnPicture, ShotsBehind, drawn_by_shot}
-pub use Rattle.nit_rounds.specs.Turn.{ActorLine, ByClient, ByUser, LineTurn}
-pub use Rattle.nit_rounds.specs.TurnActions.{AreRoundsOf, actions_of_turns, input_by_user}
-pub use Rattle.nit_rounds.specs.TurnActions.{input_lines_of}
 pub use Rattle.nit_capture.specs.Crop.{crop_bytes, screen, word_of_bytes}
 pub use Rattle.nit_capture.specs.Film.{stream}
 pub use Rattle.nit_clip.specs.ClipGrammar.{clip_phases}
@@ -46,6 +35,7 @@ pub use Rattle.nit_events.specs.declared.event.Item.{Item}
 pub use Rattle.nit_events.specs.declared.event.Routed.{Routed}
 pub use Rattle.nit_events.specs.declared.event.Status.{Status}
 pub use Rattle.nit_glyph.specs.Texts.{is_title}
+pub use Rattle.nit_hall.specs.History.{IsHeld}
 pub use Rattle.nit_hall.specs.NearWords.{IsNear, IsNearFrame}
 pub use Rattle.nit_journal.specs.Deliveries.{IsLive}
 pub use Rattle.nit_journal.specs.Presses.{IsDown}
@@ -84,6 +74,16 @@ pub use Rattle.nit_report.specs.JournalText.{FitsDelivery, FitsEntry, FitsEvent,
 pub use Rattle.nit_report.specs.JournalText.{FitsReply, ReadsJournal, journal_text}
 pub use Rattle.nit_report.specs.Picture.{picture}
 pub use Rattle.nit_report.specs.declared.events.Ending.{Ending}
+pub use Rattle.nit_rounds.specs.Drawing.{Drawing, after_turn, drawn, frame_of, opening_drawing}
+pub use Rattle.nit_rounds.specs.Drawing.{picture_of, shot_frames_of, shots_after, shots_of}
+pub use Rattle.nit_rounds.specs.Drawing.{word_from, words_of}
+pub use Rattle.nit_rounds.specs.Rounds.{rounds}
+pub use Rattle.nit_rounds.specs.RoundsRun.{final_name, picture_name, shot_name}
+pub use Rattle.nit_rounds.specs.ShotFrames.{shot_file}
+pub use Rattle.nit_rounds.specs.Shots.{AreShotsOf, IsDrawnPicture, ShotsBehind, drawn_by_shot}
+pub use Rattle.nit_rounds.specs.Turn.{ActorLine, ByClient, ByUser, LineTurn}
+pub use Rattle.nit_rounds.specs.TurnActions.{AreRoundsOf, actions_of_turns, input_by_user}
+pub use Rattle.nit_rounds.specs.TurnActions.{input_lines_of}
 pub use Rattle.nit_run.specs.declared.output.LabelBytes.{LabelBytes}
 pub use Rattle.nit_run.specs.declared.output.Output.{Output}
 pub use Rattle.nit_run.specs.declared.region.Region.{Region}

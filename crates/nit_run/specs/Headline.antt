@@ -3,16 +3,15 @@ use Rattle.std.specs.Prelude.{◌≡◌, ◌≢◌, ◌⊎◌, ℕ, ◌+◌, ◌
 use Rattle.std.specs.Prelude.{length, slice_index, All, Contains, Option, Some, None, option_map}
 use Rattle.std.specs.Prelude.{if◌then◌else◌}
 use Rattle.nit_run.specs.Below.{Call, Close, Configuration, Delivery, Device, Entry, Event, File}
-use Rattle.nit_run.specs.Below.{Flat, Gets, IsDown, IsLive, IsNear, Kill, KillsPointed, Line}
-use Rattle.nit_run.specs.Below.{Observation, ReadsJournal, Reply, Routed, State, TellsFocus}
+use Rattle.nit_run.specs.Below.{Flat, Gets, IsDown, IsHeld, IsLive, IsNear, Kill, KillsPointed}
+use Rattle.nit_run.specs.Below.{Line, Observation, ReadsJournal, Reply, Routed, State, TellsFocus}
 use Rattle.nit_run.specs.Below.{TellsLeave, Xray, alone, alone_machine, calls_of, calls_to_make}
 use Rattle.nit_run.specs.Below.{deliveries_of, donation_of, done, drawn_by_shot, events_text}
 use Rattle.nit_run.specs.Below.{final_name, flat_map, is_accepted, is_button, is_held, is_key}
-use Rattle.nit_run.specs.Below.{is_mode_key, journal_text, member, own_machine, owner_of}
-use Rattle.nit_run.specs.Below.{picture, pixel, pixel_count, point, projection}
-use Rattle.nit_run.specs.Below.{replay, replies_to}
+use Rattle.nit_run.specs.Below.{is_mode_key, journal_text, member, own_machine, owner_of, picture}
+use Rattle.nit_run.specs.Below.{pixel, pixel_count, point, projection, replay, replies_to}
 use Rattle.nit_run.specs.Below.{scenery_of, script_in, serve, shot_name, shots, shown, taken, to}
-use Rattle.nit_run.specs.Below.{IsHeld, under_pointer}
+use Rattle.nit_run.specs.Below.{under_pointer}
 use Rattle.nit_run.specs.Setup.{Setup}
 use Rattle.nit_run.specs.Outputs.{AreOutputs, IsJournal, ending_of, events_name, journal_file}
 use Rattle.nit_run.specs.Outputs.{raw_word, tables_left}

@@ -1,12 +1,12 @@
 -- What a run puts, and what its journal is.
 use Rattle.std.specs.Prelude.{◌≡◌, ℕ, ◌<◌, true, false, List, [], ◌∷◌, ◌++◌, length, map, codes}
 use Rattle.std.specs.Prelude.{Some, if◌then◌else◌}
-use Rattle.nit_run.specs.Below.{AreNearShots, AreRoundsOf, Configuration, Ending, Entry, File}
-use Rattle.nit_run.specs.Below.{IsLegal, IsWhole, Line, Session, Sight, State, calls_to_make}
-use Rattle.nit_run.specs.Below.{donation_of, events_text, final_name, glass_in, journal_text}
-use Rattle.nit_run.specs.Below.{member, picture_of, range_with_len, replay, script_in, session}
-use Rattle.nit_run.specs.Below.{shots_of, source_at, user_actions_to_do, word_from, words_left}
-use Rattle.nit_run.specs.Below.{AreOfOneHistory, words_of}
+use Rattle.nit_run.specs.Below.{AreNearShots, AreOfOneHistory, AreRoundsOf, Configuration, Ending}
+use Rattle.nit_run.specs.Below.{Entry, File, IsLegal, IsWhole, Line, Session, Sight, State}
+use Rattle.nit_run.specs.Below.{calls_to_make, donation_of, events_text, final_name, glass_in}
+use Rattle.nit_run.specs.Below.{journal_text, member, picture_of, range_with_len, replay, script_in}
+use Rattle.nit_run.specs.Below.{session, shots_of, source_at, user_actions_to_do, word_from}
+use Rattle.nit_run.specs.Below.{words_left, words_of}
 use Rattle.nit_run.specs.Setup.{Setup}
 use Rattle.nit_events.specs.declared.entry.Entry.TheVariants as entry
 

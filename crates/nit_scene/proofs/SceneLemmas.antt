@@ -1,17 +1,16 @@
 -- A scene after one entry more.
 use Rattle.nit_scene.proofs.Basics.{Agrees, AreInked, AreRaw, Bare, Black, Configuration, Entry}
-use Rattle.nit_scene.proofs.Basics.{IsLegal, IsOpen, IsRawOf, IsScene, IsWord, Painted, PixelSource}
-use Rattle.nit_scene.proofs.Basics.{Scenery, ServerModel, ShowsLabels, Sight, State, Word, after}
+use Rattle.nit_scene.proofs.Basics.{IsAdded, IsFrameShown, IsLegal, IsOpen, IsRawOf, IsScene}
+use Rattle.nit_scene.proofs.Basics.{IsWord, JournalModel, Painted, PixelSource, SceneModel, Scenery}
+use Rattle.nit_scene.proofs.Basics.{ServerModel, ShowsLabels, Sight, State, Word, after, alone}
 use Rattle.nit_scene.proofs.Basics.{entry_loses, first_state, frame, get_or_default, labels_stand}
-use Rattle.nit_scene.proofs.Basics.{legal_more, length-append, pixel_count, replay, replay_more}
-use Rattle.nit_scene.proofs.Basics.{same_config, scenery_of, session_in, shots, source_at, state_of}
+use Rattle.nit_scene.proofs.Basics.{legal_more, length-append, member, pixel_count, projection}
+use Rattle.nit_scene.proofs.Basics.{replay, replay_more, replies_to, same_config, scenery_of}
+use Rattle.nit_scene.proofs.Basics.{session_in, shots, source_at, state_of}
 use Rattle.std.proofs.Common.{All, List, [], ap, arith, length, slice_index_or, subst, sym}
-use Rattle.std.proofs.Common.{zero-add, ℕ, ◌++◌, ◌+◌, ◌-◌, ◌<◌, ◌∙◌, ◌∷◌, ◌≡◌, ◌≤◌}
+use Rattle.std.proofs.Common.{zero-add, ℕ, ◌++◌, ◌+◌, ◌-◌, ◌<◌, ◌∙◌, ◌∷◌, ◌≡◌, ◌≤◌, refl}
 use Rattle.nit_events.specs.declared.entry.Entry.TheVariants as entry
 use Rattle.nit_scene.proofs.HandleCounts.{entry_adds}
-use Rattle.nit_scene.specs.Below.{IsFrameShown, JournalModel, alone, member, projection, replies_to}
-use Rattle.nit_scene.specs.Scene.{IsAdded, SceneModel}
-use Rattle.std.proofs.Common.{refl}
 
 -- raw words are words
 held_word : (source : PixelSource) (w : ℕ) → IsRawOf source w → IsWord w

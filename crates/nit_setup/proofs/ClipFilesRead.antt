@@ -2,21 +2,17 @@
 use Rattle.std.proofs.Common.{◌≡◌, ℕ, ◌≤◌, true, List, [], ◌∷◌, ◌++◌, length, length-append, map}
 use Rattle.std.proofs.Common.{take, Option, Some, None, refl, sym, ap, subst, ◌∙◌, arith, inl, inr}
 use Rattle.nit_setup.proofs.Basics.{AllByRecursion, AllFiles, AllScripts, AreAllFiles}
-use Rattle.nit_setup.proofs.Basics.{AreAllScripts}
-use Rattle.nit_setup.proofs.Basics.{AreClipScripts, AreClipsRead, AreFirstClips, AreSetup, Clip}
-use Rattle.nit_setup.proofs.Basics.{ClipLine, Command, Configuration, IfSome, InputLine}
-use Rattle.nit_setup.proofs.Basics.{IsClipFault}
-use Rattle.nit_setup.proofs.Basics.{IsRunnable, IsValid, Judged, Line, ReadsTo, Refused, Setup}
-use Rattle.nit_setup.proofs.Basics.{Stop}
-use Rattle.nit_setup.proofs.Basics.{StoppedAtClip, StoppedReading, StoreModel, asking_all}
-use Rattle.nit_setup.proofs.Basics.{asking_both, bytes_of, clip_name, clip_names, clip_phases}
-use Rattle.nit_setup.proofs.Basics.{input_phases, length-map, names_in, phases, script_names}
-use Rattle.nit_setup.proofs.Basics.{setup_of}
-use Rattle.nit_setup.proofs.Basics.{slice_get, wanted_by, wrong_clip}
+use Rattle.nit_setup.proofs.Basics.{AreAllScripts, AreClipScripts, AreClipsRead, AreFirstClips}
+use Rattle.nit_setup.proofs.Basics.{AreSetup, Clip, ClipLine, Command, Configuration, IfSome}
+use Rattle.nit_setup.proofs.Basics.{InputLine, IsClipFault, IsRunnable, IsValid, Judged, Line}
+use Rattle.nit_setup.proofs.Basics.{ReadsTo, Refused, Setup, Stop, StoppedAtClip, StoppedReading}
+use Rattle.nit_setup.proofs.Basics.{StoreModel, asking_all, asking_both, bytes_of, clip_name}
+use Rattle.nit_setup.proofs.Basics.{clip_names, clip_phases, input_phases, length-map, map-append}
+use Rattle.nit_setup.proofs.Basics.{names_in, phases, script_names, setup_of, slice_get, wanted_by}
+use Rattle.nit_setup.proofs.Basics.{wrong_clip}
 use Rattle.nit_setup.proofs.RunnableSetups.{all_so}
 use Rattle.nit_setup.proofs.ScriptsRead.{phases_are, told_so, told_so_both}
 use Rattle.nit_setup.proofs.Stopping.{get_behind, stopped_reading, take_front}
-use Rattle.std.proofs.lemmas.List.{map-append}
 
 -- ---- phases
 

@@ -2,9 +2,9 @@
 use Rattle.std.proofs.Common.{◌≡◌, ℕ, List, [], ◌∷◌, ◌++◌, map, Option, Some, None, refl, sym, ap}
 use Rattle.std.proofs.Common.{subst, ◌∙◌, arith}
 use Rattle.nit_setup.proofs.Basics.{AreClipScripts, AreClipsRead, ClipLine, File, IfSome}
-use Rattle.nit_setup.proofs.Basics.{IsClipFault, IsClipScript, Stop, StoppedAt, StoppedAtClip}
-use Rattle.nit_setup.proofs.Basics.{StoreModel, asking_all, asking_more, asking_none, bytes_of}
-use Rattle.nit_setup.proofs.Basics.{IsNameOf, clip_name, fits_push, length_push, map_push}
+use Rattle.nit_setup.proofs.Basics.{IsClipFault, IsClipScript, IsNameOf, Stop, StoppedAt}
+use Rattle.nit_setup.proofs.Basics.{StoppedAtClip, StoreModel, asking_all, asking_more, asking_none}
+use Rattle.nit_setup.proofs.Basics.{bytes_of, clip_name, fits_push, length_push, map_push}
 use Rattle.nit_setup.proofs.Basics.{with_asked, wrong_clip}
 use Rattle.nit_setup.proofs.ScriptsRead.{told_so_both, zip_more}
 

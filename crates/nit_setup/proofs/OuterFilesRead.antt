@@ -1,21 +1,18 @@
 -- The outer files of two configurations, read one after the other.
 use Rattle.std.proofs.Common.{◌≡◌, ◌∙◌, ℕ, List, [], ◌∷◌, ◌++◌, length, take, None, Ok, Err, refl}
-use Rattle.std.proofs.Common.{sym}
-use Rattle.std.proofs.Common.{ap, subst, inl, inr, append_assoc, arith}
+use Rattle.std.proofs.Common.{sym, ap, subst, inl, inr, append_assoc, arith}
 use Rattle.nit_setup.proofs.Basics.{AreAllOuterFiles, AreOuterFiles, AreOuterScripts, Command}
 use Rattle.nit_setup.proofs.Basics.{Configuration, FirstFiles, HasReadOuter, IfSome, InputLine}
 use Rattle.nit_setup.proofs.Basics.{IsConfig, IsConfigFault, IsConfiguration, IsInputFault}
 use Rattle.nit_setup.proofs.Basics.{IsInputScript, IsOuter, IsOuterFault, IsOuterLoaded, Judged}
-use Rattle.nit_setup.proofs.Basics.{Line, Loaded, StopName, Nested, NoFile, OuterSoFar}
-use Rattle.nit_setup.proofs.Basics.{OuterStopped}
-use Rattle.nit_setup.proofs.Basics.{ReadOuter, Refused, SpellScripts, Stop, StoppedAt}
+use Rattle.nit_setup.proofs.Basics.{Line, Loaded, Nested, NoFile, OuterSoFar, OuterStopped}
+use Rattle.nit_setup.proofs.Basics.{ReadOuter, Refused, SpellScripts, Stop, StopName, StoppedAt}
 use Rattle.nit_setup.proofs.Basics.{StoppedReading, StoreModel, asking_all, asking_both}
-use Rattle.nit_setup.proofs.Basics.{asking_more}
-use Rattle.nit_setup.proofs.Basics.{asking_none, bytes_of, files_in, first_names, name_text}
-use Rattle.nit_setup.proofs.Basics.{names_in, run_files, script_names, slice_get, with_asked}
+use Rattle.nit_setup.proofs.Basics.{asking_more, asking_none, bytes_of, files_in, first_names}
+use Rattle.nit_setup.proofs.Basics.{name_text, names_in, run_files, script_names, slice_get}
+use Rattle.nit_setup.proofs.Basics.{take_all, with_asked}
 use Rattle.nit_setup.proofs.ScriptsRead.{told_so, told_so_both}
 use Rattle.nit_setup.proofs.Stopping.{get_behind, stopped_reading, take_front}
-use Rattle.std.proofs.lemmas.List.{take_all}
 
 module _ (outer inner : List ℕ) (first : StoreModel) where
   abbrev nest : Command

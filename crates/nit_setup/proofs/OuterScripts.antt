@@ -3,10 +3,9 @@ use Rattle.std.proofs.Common.{◌≡◌, ◌∙◌, ℕ, List, [], ◌∷◌, �
 use Rattle.std.proofs.Common.{subst, arith}
 use Rattle.nit_setup.proofs.Basics.{AreLines, AreOuterScripts, Fault, File, FitsLine, IfSome}
 use Rattle.nit_setup.proofs.Basics.{IsNameOf, IsOuterFault, IsOuterScript, Line, MayShowFrames}
-use Rattle.nit_setup.proofs.Basics.{OuterSoFar}
-use Rattle.nit_setup.proofs.Basics.{OuterStopped, SpellScripts, Stop, StoppedAt, StoreModel}
-use Rattle.nit_setup.proofs.Basics.{asking_all, asking_more, asking_none, bytes_of, first_forbidden}
-use Rattle.nit_setup.proofs.Basics.{fits_push, length_push, option_map, with_asked}
+use Rattle.nit_setup.proofs.Basics.{OuterSoFar, OuterStopped, SpellScripts, Stop, StoppedAt}
+use Rattle.nit_setup.proofs.Basics.{StoreModel, asking_all, asking_more, asking_none, bytes_of}
+use Rattle.nit_setup.proofs.Basics.{first_forbidden, fits_push, length_push, option_map, with_asked}
 use Rattle.nit_setup.proofs.Basics.{wrong_outer}
 use Rattle.nit_setup.proofs.ScriptsRead.{told_so, told_so_both, zip_more}
 use Rattle.nit_setup.specs.declared.stop.Fault.TheVariants as fault

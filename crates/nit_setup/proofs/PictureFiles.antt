@@ -1,21 +1,15 @@
 -- The script of a picture, and the user who does nothing.
 use Rattle.std.proofs.Common.{◌≡◌, ◌∙◌, ℕ, zero, suc, ◌+◌, ◌≤◌, ◌*◌, List, [], ◌∷◌, length}
-use Rattle.std.proofs.Common.{replicate}
-use Rattle.std.proofs.Common.{None, refl, sym, ap, subst, arith, cond, inl}
+use Rattle.std.proofs.Common.{replicate, None, refl, sym, ap, subst, arith, cond, inl}
 use Rattle.nit_setup.proofs.Basics.{AllByRecursion, AllFiles, AreLines, Command, Fault}
 use Rattle.nit_setup.proofs.Basics.{FitsInputLine, FitsLine, IfSome, IsClientFault, IsClientScript}
 use Rattle.nit_setup.proofs.Basics.{IsRunnable, IsValid, Judged, Line, NoFile, ReadsTo, Refused}
 use Rattle.nit_setup.proofs.Basics.{Still, Stop, StoppedAt, StoppedReading, StoreModel, asking_none}
-use Rattle.nit_setup.proofs.Basics.{bytes_of, idle_user, name_text, with_asked}
-use Rattle.nit_run.specs.Setup.{still_setup}
-use Rattle.nit_script.specs.Phases.{is_input_phase, is_phase}
-use Rattle.nit_config.proofs.ForCallers.{still_configured}
+use Rattle.nit_setup.proofs.Basics.{bytes_of, count_by, count_by-le-length, idle_user}
+use Rattle.nit_setup.proofs.Basics.{is_input_phase, is_phase, length-replicate, name_text}
+use Rattle.nit_setup.proofs.Basics.{still_configured, still_setup, sum_by-replicate, with_asked}
 use Rattle.nit_setup.proofs.ScriptsRead.{told_so}
 use Rattle.nit_setup.proofs.Stopping.{stopped_reading}
-use Rattle.std.specs.Prelude.{count_by}
-use Rattle.std.proofs.lemmas.List.{length-replicate}
-use Rattle.std.proofs.lemmas.List.Folds.{sum_by-replicate}
-use Rattle.std.proofs.lemmas.List.Sums.{count_by-le-length}
 use Rattle.nit_script.specs.declared.line.InputLine.TheVariants as input
 use Rattle.nit_setup.specs.declared.stop.StopName.TheVariants as file_name
 

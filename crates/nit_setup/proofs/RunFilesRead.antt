@@ -1,27 +1,23 @@
 -- A configuration and its scripts, read for any command.
 use Rattle.std.proofs.Common.{◌≡◌, ℕ, Bool, true, false, List, [], ◌∷◌, ◌++◌, length, take, Some}
-use Rattle.std.proofs.Common.{Ok, Err}
-use Rattle.std.proofs.Common.{Result, refl, sym, ap, subst, ◌∙◌, arith, inl, inr, append_assoc, ◌⊎◌}
+use Rattle.std.proofs.Common.{Ok, Err, Result, refl, sym, ap, subst, ◌∙◌, arith, inl, inr}
+use Rattle.std.proofs.Common.{append_assoc, ◌⊎◌}
 use Rattle.nit_setup.proofs.Basics.{AllByRecursion, AreAllFiles, AreAllOuterFiles, AreAllScripts}
 use Rattle.nit_setup.proofs.Basics.{AreFirstFiles, AreLines, AreOuterFiles, AreScripts, AreSetup}
 use Rattle.nit_setup.proofs.Basics.{Audit, BothFiles, Capture, Clip, Command, ConfigRead}
-use Rattle.nit_setup.proofs.Basics.{Configuration, Fault}
-use Rattle.nit_setup.proofs.Basics.{File, FilesRead, FirstFiles, FitsLine, HasRead, HasReadScripts}
-use Rattle.nit_setup.proofs.Basics.{HaveSamePhases, IfSome, InnerFiles, InputLine, IsClientFault}
-use Rattle.nit_setup.proofs.Basics.{IsConfig, IsConfigFault, IsInputFault, IsInputScript, IsLoaded}
-use Rattle.nit_setup.proofs.Basics.{IsRunnable, IsSetupFault, IsValid, Judged, Line, Loaded}
-use Rattle.nit_setup.proofs.Basics.{StopName}
-use Rattle.nit_setup.proofs.Basics.{Nested, NoFile, OuterFiles, ReadScripts, ReadsTo, Refused}
-use Rattle.nit_setup.proofs.Basics.{Region}
-use Rattle.nit_setup.proofs.Basics.{Run, RunFiles, RunRead, Setup, SetupRead, SoFar, SpellScripts}
-use Rattle.nit_setup.proofs.Basics.{Stop, StoppedAmong, StoppedAt, StoppedReading, StoreModel}
-use Rattle.nit_setup.proofs.Basics.{asking_all, asking_both, asking_more, asking_none, bytes_of}
-use Rattle.nit_setup.proofs.Basics.{files_in, first_names, name_text, names_in, names_read}
-use Rattle.nit_setup.proofs.Basics.{next_name}
-use Rattle.nit_setup.proofs.Basics.{script_names, setup_in, slice_get, wanted_by, with_asked}
+use Rattle.nit_setup.proofs.Basics.{Configuration, Fault, File, FilesRead, FirstFiles, FitsLine}
+use Rattle.nit_setup.proofs.Basics.{HasRead, HasReadScripts, HaveSamePhases, IfSome, InnerFiles}
+use Rattle.nit_setup.proofs.Basics.{InputLine, IsClientFault, IsConfig, IsConfigFault, IsInputFault}
+use Rattle.nit_setup.proofs.Basics.{IsInputScript, IsLoaded, IsRunnable, IsSetupFault, IsValid}
+use Rattle.nit_setup.proofs.Basics.{Judged, Line, Loaded, Nested, NoFile, OuterFiles, ReadScripts}
+use Rattle.nit_setup.proofs.Basics.{ReadsTo, Refused, Region, Run, RunFiles, RunRead, Setup}
+use Rattle.nit_setup.proofs.Basics.{SetupRead, SoFar, SpellScripts, Stop, StopName, StoppedAmong}
+use Rattle.nit_setup.proofs.Basics.{StoppedAt, StoppedReading, StoreModel, asking_all, asking_both}
+use Rattle.nit_setup.proofs.Basics.{asking_more, asking_none, bytes_of, files_in, first_names}
+use Rattle.nit_setup.proofs.Basics.{name_text, names_in, names_read, next_name, script_names}
+use Rattle.nit_setup.proofs.Basics.{setup_in, slice_get, take_all, wanted_by, with_asked}
 use Rattle.nit_setup.proofs.ScriptsRead.{told_so, told_so_both}
 use Rattle.nit_setup.proofs.Stopping.{get_behind, stopped_reading, take_front}
-use Rattle.std.proofs.lemmas.List.{take_all}
 use Rattle.nit_setup.specs.declared.stop.StopName.TheVariants as file_name
 
 -- A command reads the configuration of this name behind these files, and then its scripts. What is refused of these

@@ -4,10 +4,9 @@ use Rattle.std.proofs.Common.{drop, get_or, Option, Some, None, refl, sym, ap, s
 use Rattle.std.proofs.Common.{add-one, eqb-true, inl, inr, ◌==◌}
 use Rattle.nit_setup.proofs.Basics.{AllZip, AreLines, AreScripts, Fault, File, FitsLine}
 use Rattle.nit_setup.proofs.Basics.{HaveSamePhases, IfSome, IsClientFault, IsClientScript, IsNameOf}
-use Rattle.nit_setup.proofs.Basics.{Line}
-use Rattle.nit_setup.proofs.Basics.{Member, SoFar, SpellScripts, Stop, StoppedAmong, StoppedAt}
-use Rattle.nit_setup.proofs.Basics.{StoreModel, asking_all, asking_more, asking_none, bytes_of}
-use Rattle.nit_setup.proofs.Basics.{cases_Bool, cond, fits_push, length_push, phases}
+use Rattle.nit_setup.proofs.Basics.{Line, Member, SoFar, SpellScripts, Stop, StoppedAmong}
+use Rattle.nit_setup.proofs.Basics.{StoppedAt, StoreModel, asking_all, asking_more, asking_none}
+use Rattle.nit_setup.proofs.Basics.{bytes_of, cases_Bool, cond, fits_push, length_push, phases}
 use Rattle.nit_setup.proofs.Basics.{wanted_by, with_asked, wrong_client}
 use Rattle.nit_setup.specs.declared.stop.Fault.TheVariants as fault
 

@@ -1,10 +1,9 @@
 -- The names in a configuration are short.
 use Rattle.std.proofs.Common.{◌≡◌, ◌<◌, ◌≤◌, ◌==◌, ℕ, Bool, true, false, cond, List, [], ◌∷◌, ◌++◌}
 use Rattle.std.proofs.Common.{length, map, get_or, Option, Some, None, All, IsTrue, sym, subst}
-use Rattle.nit_setup.proofs.Basics.{AllByRecursion, Configuration, IsConfiguration, IsMember}
-use Rattle.nit_setup.proofs.Basics.{Member, first_other, is_file_name, names_in}
-use Rattle.std.proofs.lemmas.Bool.{and_parts, leb-true}
-use Rattle.std.proofs.lemmas.List.Elements.{All-get_or, All-head, All-tail}
+use Rattle.nit_setup.proofs.Basics.{All-get_or, All-head, All-tail, AllByRecursion, Configuration}
+use Rattle.nit_setup.proofs.Basics.{IsConfiguration, IsMember, Member, and_parts, first_other}
+use Rattle.nit_setup.proofs.Basics.{is_file_name, leb-true, names_in}
 
 -- the name of a file is short
 pub short_name : (text : List ℕ) → IsTrue (is_file_name text) → length text ≤ 255

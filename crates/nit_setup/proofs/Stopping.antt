@@ -1,12 +1,10 @@
 -- How a command stops at a file that it reads.
 use Rattle.std.proofs.Common.{◌≡◌, ℕ, List, [], ◌∷◌, ◌++◌, length, take, Option, Some, refl, ap}
-use Rattle.std.proofs.Common.{◌∙◌}
-use Rattle.std.proofs.Common.{subst}
+use Rattle.std.proofs.Common.{◌∙◌, subst}
 use Rattle.nit_setup.proofs.Basics.{Command, End, Fault, File, FilesRead, HasRead, IfSome, Judged}
 use Rattle.nit_setup.proofs.Basics.{Refused, Stop, StoppedAt, StoppedBy, StoppedReading, StoreModel}
 use Rattle.nit_setup.proofs.Basics.{asking_all, bytes_of, name_text, names_read, next_name}
-use Rattle.nit_setup.proofs.Basics.{slice_get}
-use Rattle.std.proofs.Math.Seq.{take-append_seam}
+use Rattle.nit_setup.proofs.Basics.{slice_get, take-append_seam}
 use Rattle.nit_setup.specs.declared.stop.End.TheVariants as ends
 
 module _ (c : Command) (old : StoreModel) (read : FilesRead) (valid : HasRead c old.files read) (name : List ℕ)

@@ -34,11 +34,16 @@ pub use Rattle.nit_script.specs.Spelling.{FitsInputLine, FitsLine, input_spellin
 pub use Rattle.nit_script.specs.declared.error.ScriptError.{ScriptError}
 pub use Rattle.nit_script.specs.declared.line.InputLine.{InputLine}
 pub use Rattle.nit_script.specs.declared.line.Line.{Line}
+pub use Rattle.nit_setup.specs.declared.read.Loaded.{Loaded}
+pub use Rattle.nit_setup.specs.declared.read.OneScript.{OneScript}
+pub use Rattle.nit_setup.specs.declared.read.TwoRuns.{TwoRuns}
+pub use Rattle.nit_setup.specs.declared.read.WithClips.{WithClips}
+pub use Rattle.nit_setup.specs.declared.read.WithJournal.{WithJournal}
 pub use Rattle.nit_setup.specs.declared.stop.End.{End}
 pub use Rattle.nit_setup.specs.declared.stop.Fault.{Fault}
-pub use Rattle.nit_setup.specs.declared.stop.StopName.{StopName}
 pub use Rattle.nit_setup.specs.declared.stop.ScriptName.{ScriptName}
 pub use Rattle.nit_setup.specs.declared.stop.Stop.{Stop}
+pub use Rattle.nit_setup.specs.declared.stop.StopName.{StopName}
 pub use Rattle.nit_setup.specs.declared.words.Asked.{Asked}
 pub use Rattle.nit_store.specs.Store.{File, ReadFaulted, StoreModel, bytes_of, with_asked}
 pub use Rattle.nit_store.specs.StoreAnswers.{AskedAtMost}
@@ -46,6 +51,7 @@ pub use Rattle.std.specs.Fmt.{decimal}
 pub use Rattle.std.specs.Global.{Global}
 pub use Rattle.std.specs.List.{AllByRecursion, AllZip, range_with_len}
 pub use Rattle.std.specs.Option.{is_some}
-pub use Rattle.std.specs.Prelude.{IfNone, IfSome, List, cond, false, find, option_map, ℕ}
+pub use Rattle.std.specs.Prelude.{IfNone, IfSome, List, cond, count_by, false, find, option_map}
+pub use Rattle.std.specs.Prelude.{slice_get, ℕ}
 pub use Rattle.std.specs.Str.{bytes_eq}
 pub use Rattle.std.specs.String.{string_bytes}

@@ -2,10 +2,9 @@
 use Rattle.std.specs.Prelude.{◌≡◌, ◌⊎◌, ℕ, ◌<◌, ◌≤◌, List, ◌∷◌, ◌++◌, length, Result, Ok, Err}
 use Rattle.std.specs.Prelude.{IfSome, Vec}
 use Rattle.nit_setup.specs.Below.{AllByRecursion, AreLines, AskedAtMost, Configuration, End, Fault}
-use Rattle.nit_setup.specs.Below.{File}
-use Rattle.nit_setup.specs.Below.{FitsLine, Global, HaveSamePhases, InputLine, JournalError, Line}
-use Rattle.nit_setup.specs.Below.{ReadFaulted, ScriptError, Scripts, Stop, StoreModel, asking_all}
-use Rattle.nit_setup.specs.Below.{bytes_of, with_asked}
+use Rattle.nit_setup.specs.Below.{File, FitsLine, Global, HaveSamePhases, InputLine, JournalError}
+use Rattle.nit_setup.specs.Below.{Line, ReadFaulted, ScriptError, Scripts, Stop, StoreModel}
+use Rattle.nit_setup.specs.Below.{asking_all, bytes_of, with_asked}
 use Rattle.nit_setup.specs.Judgement.{SpellScripts, wanted_by, script_names, IsClientFault}
 use Rattle.nit_setup.specs.Judgement.{IsInputScript, IsInputFault, AreScripts}
 use Rattle.nit_setup.specs.StopNames.{IsNameOf}

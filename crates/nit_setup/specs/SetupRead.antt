@@ -1,10 +1,10 @@
 -- Reading all files of a command: what was read, or the file that it stopped at.
 use Rattle.std.specs.Prelude.{◌≡◌, ◌⊎◌, ℕ, ◌≤◌, Bool, true, false, List, length, Some, Result, Ok}
 use Rattle.std.specs.Prelude.{Err, IfSome}
-use Rattle.nit_setup.specs.Below.{Configuration, IsConfiguration, IsRunnable, StopName, RunFiles}
-use Rattle.nit_setup.specs.Below.{Setup}
-use Rattle.nit_setup.specs.Below.{Stop, StoreModel, asking_all, bytes_of, idle_user, run_files}
-use Rattle.nit_setup.specs.Below.{setup_of, still_configuration, still_setup, with_asked}
+use Rattle.nit_setup.specs.Below.{Configuration, IsConfiguration, IsRunnable, Loaded, OneScript}
+use Rattle.nit_setup.specs.Below.{RunFiles, Setup, Stop, StopName, StoreModel, TwoRuns, WithClips}
+use Rattle.nit_setup.specs.Below.{WithJournal, asking_all, bytes_of, idle_user, run_files, setup_of}
+use Rattle.nit_setup.specs.Below.{still_configuration, still_setup, with_asked}
 use Rattle.nit_setup.specs.Command.{Audit, Clip, Command, Nested, Still}
 use Rattle.nit_setup.specs.FilesRead.{AllFiles, AreAllScripts, BothFiles, FilesRead, HasRead}
 use Rattle.nit_setup.specs.FilesRead.{IsOuter, names_read, next_name}
@@ -13,11 +13,6 @@ use Rattle.nit_setup.specs.Judgement.{IsConfig, IsConfigFault, Judged, Refused, 
 use Rattle.nit_setup.specs.OuterRead.{HasReadOuter, ReadOuter}
 use Rattle.nit_setup.specs.Reading.{HasReadScripts, ReadScripts, StoppedAt, StoppedBy}
 use Rattle.nit_setup.specs.StopNames.{name_text}
-use Rattle.nit_setup.specs.declared.read.Loaded.{Loaded}
-use Rattle.nit_setup.specs.declared.read.OneScript.{OneScript}
-use Rattle.nit_setup.specs.declared.read.TwoRuns.{TwoRuns}
-use Rattle.nit_setup.specs.declared.read.WithClips.{WithClips}
-use Rattle.nit_setup.specs.declared.read.WithJournal.{WithJournal}
 use Rattle.nit_setup.specs.declared.stop.StopName.TheVariants as file_name
 
 -- the setup of a configuration and its scripts, with texts, and with its clients beside each other

@@ -1,6 +1,6 @@
 -- The name of the file at which the work ended.
 use Rattle.std.specs.Prelude.{◌≡◌, [], take}
-use Rattle.nit_setup.specs.Below.{List, StopName, ScriptName, output_name, ℕ}
+use Rattle.nit_setup.specs.Below.{List, ScriptName, StopName, output_name, ℕ}
 use Rattle.nit_setup.specs.Command.{Command, Still, Run, Gen, Audit, Clip, Capture, Nested}
 use Rattle.nit_setup.specs.Command.{NoCommand}
 use Rattle.nit_setup.specs.Judgement.{clip_name}

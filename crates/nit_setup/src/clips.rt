@@ -1,8 +1,8 @@
 //! Reading clip scripts, and judging them.
 
 ghost use Rattle.std.specs.Prelude.{map, ◌≡◌, ◌≤◌, length, All, None, IfOk, string_bytes};
-ghost use Rattle.nit_setup.specs.Terms.{FileJudged, IsClipFault, IsClipScript, LoadedClips};
-ghost use Rattle.nit_setup.specs.Terms.{IsMember, IsNameOf, clip_name, most_file_name, wrong_clip};
+ghost use Rattle.nit_setup.specs.Terms.{FileJudged, IsClipFault, IsClipScript, IsMember, IsNameOf};
+ghost use Rattle.nit_setup.specs.Terms.{LoadedClips, clip_name, most_file_name, wrong_clip};
 
 use crate::load::load_lines;
 use crate::stop::{End, ScriptName, Stop, StopName};

@@ -3,8 +3,7 @@
 ghost use Rattle.std.specs.Prelude.{None, All, IfOk, map, ◌≡◌};
 ghost use Rattle.nit_setup.specs.Terms.{AreLines, FileJudged, FitsLine, IsConfiguration, IsMember};
 ghost use Rattle.nit_setup.specs.Terms.{IsOuter, IsOuterFault, IsOuterScript, OuterLoaded};
-ghost use Rattle.nit_setup.specs.Terms.{ReadOuter};
-ghost use Rattle.nit_setup.specs.Terms.{run_files, wrong_outer};
+ghost use Rattle.nit_setup.specs.Terms.{ReadOuter, run_files, wrong_outer};
 
 use crate::load::{load_client, load_input};
 use crate::stop::{End, Fault, Stop, at};

@@ -2,8 +2,7 @@
 
 ghost use Rattle.std.specs.Prelude.{true, All, Bool, IfOk, map, ◌≡◌};
 ghost use Rattle.nit_setup.specs.Terms.{IsConfiguration, IsMember, IsRunnable, LoadedAll};
-ghost use Rattle.nit_setup.specs.Terms.{ReadScripts};
-ghost use Rattle.nit_setup.specs.Terms.{phases, setup_of, wanted_by};
+ghost use Rattle.nit_setup.specs.Terms.{ReadScripts, phases, setup_of, wanted_by};
 
 use crate::load::{load_client, load_input};
 use crate::stop::{End, Stop, at};

@@ -2,10 +2,9 @@
 use Rattle.std.proofs.Common.{◌≡◌, List, [], ◌∷◌, ◌++◌, Option, Some, None, refl, ap, subst, ◌∙◌}
 use Rattle.std.proofs.Common.{inl, inr, true, ◌⊎◌}
 use Rattle.nit_top.proofs.Basics.{Audit, AuditOr, Begun, Capture, Clip, Command, Course, Entry}
-use Rattle.nit_top.proofs.Basics.{File, Gen, IsAudit, IsCommandRun, IsSetupOf, IsSomeAnd}
-use Rattle.nit_top.proofs.Basics.{IsValidSo, Nested, NoCommand}
-use Rattle.nit_top.proofs.Basics.{NotBegun, PutFiles, Run, Setup, Still, StoreModel, WithRun}
-use Rattle.nit_top.proofs.Basics.{WithoutRun, made_by}
+use Rattle.nit_top.proofs.Basics.{File, Gen, IsAudit, IsCommandRun, IsSetupOf, IsSomeAnd, IsValidSo}
+use Rattle.nit_top.proofs.Basics.{Nested, NoCommand, NotBegun, PutFiles, Run, Setup, Still}
+use Rattle.nit_top.proofs.Basics.{StoreModel, WithRun, WithoutRun, made_by}
 
 -- ---- the run
 

@@ -2,11 +2,9 @@
 use Rattle.std.proofs.Common.{◌≡◌, ℕ, List, [], ◌∷◌, refl, sym, ap, subst, ◌∙◌, inl}
 use Rattle.nit_top.proofs.Basics.{AreAllScripts, AreSetup, Audit, Command, End, Ends, Entry, Fault}
 use Rattle.nit_top.proofs.Basics.{IfSome, IsAuditEnd, IsJournalFault, IsJournalText, NotBegun}
-use Rattle.nit_top.proofs.Basics.{Setup}
-use Rattle.nit_top.proofs.Basics.{Stop, StoppedAt, StoreModel, Worked, asking_all, asking_more}
-use Rattle.nit_top.proofs.Basics.{bytes_of, name_text, names_in, reads, told_so, told_so_both}
-use Rattle.nit_top.proofs.Basics.{with_asked}
-use Rattle.nit_setup.proofs.ForCallers.{journal_stopped}
+use Rattle.nit_top.proofs.Basics.{Setup, Stop, StoppedAt, StoreModel, Worked, asking_all}
+use Rattle.nit_top.proofs.Basics.{asking_more, bytes_of, journal_stopped, name_text, names_in}
+use Rattle.nit_top.proofs.Basics.{reads, told_so, told_so_both, with_asked}
 use Rattle.nit_top.proofs.WorkLemmas.{CameTo, stopped_ends}
 use Rattle.nit_top.proofs.EndsAfterRun.{totals_on, ends_by}
 use Rattle.nit_setup.specs.declared.stop.End.TheVariants as ends

@@ -16,8 +16,7 @@ use Rattle.nit_top.proofs.ToldJudgements.{told_valid, told_refused, told_codes, 
 use Rattle.nit_top.proofs.ToldJudgements.{told_outside, no_refusal, no_setup}
 use Rattle.nit_top.proofs.EndCodes.{is_fault_code, not_fault, not_early_0, not_early_4, not_early_7}
 use Rattle.nit_top.proofs.AuditCourse.{audit_makes_none, no_outside_audit, not_run, with_run}
-use Rattle.nit_top.proofs.AuditCourse.{with_run_not}
-use Rattle.nit_top.proofs.AuditCourse.{empty_course, front_none, front_same}
+use Rattle.nit_top.proofs.AuditCourse.{with_run_not, empty_course, front_none, front_same}
 use Rattle.nit_setup.specs.declared.stop.End.TheVariants as ends
 
 -- ---- what came, by its code

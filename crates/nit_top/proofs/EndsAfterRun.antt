@@ -2,16 +2,14 @@
 use Rattle.std.proofs.Common.{◌≡◌, ℕ, ◌+◌, ◌≤◌, true, false, List, [], ◌∷◌, ◌++◌, length, Option}
 use Rattle.std.proofs.Common.{Some, None, refl, sym, ap, subst, ◌∙◌, inl, inr}
 use Rattle.nit_top.proofs.Basics.{AllFiles, AreAdded, AreAllFiles, AreOutputs, Begun, Command}
-use Rattle.nit_top.proofs.Basics.{Configuration, End, Ends, Entry, File}
-use Rattle.nit_top.proofs.Basics.{Headline, IfSome, IsCommandRun}
-use Rattle.nit_top.proofs.Basics.{IsPutBefore, StopName, NoCommand, NoFile, NotBegun, Performed}
+use Rattle.nit_top.proofs.Basics.{Configuration, End, Ends, Entry, File, Headline, IfSome}
+use Rattle.nit_top.proofs.Basics.{IsCommandRun, IsPutBefore, NoCommand, NoFile, NotBegun, Performed}
 use Rattle.nit_top.proofs.Basics.{PutAll, PutError, PutFault, PutFiles, PutRefused, PutSo, PutsAll}
-use Rattle.nit_top.proofs.Basics.{Rose, Setup, StoreModel, Totals, Worked}
-use Rattle.nit_top.proofs.Basics.{all_put, also_more, also_none, append-nil, asked_also, asking_all}
-use Rattle.nit_top.proofs.Basics.{end_of_put, end_of_run, file_names, is_outside_of}
-use Rattle.nit_top.proofs.Basics.{name_text, option_map}
-use Rattle.nit_top.proofs.Basics.{output_name, put_state_of_run, reads, refusal_of, shots}
-use Rattle.nit_top.proofs.Basics.{unrefused}
+use Rattle.nit_top.proofs.Basics.{Rose, Setup, StopName, StoreModel, Totals, Worked, all_put}
+use Rattle.nit_top.proofs.Basics.{also_more, also_none, append-nil, asked_also, asking_all}
+use Rattle.nit_top.proofs.Basics.{end_of_put, end_of_run, file_names, is_outside_of, name_text}
+use Rattle.nit_top.proofs.Basics.{option_map, output_name, put_state_of_run, reads, refusal_of}
+use Rattle.nit_top.proofs.Basics.{shots, unrefused}
 use Rattle.nit_store.specs.declared.store.PutError.TheVariants as put
 use Rattle.nit_setup.specs.declared.stop.End.TheVariants as ends
 use Rattle.nit_setup.specs.declared.stop.StopName.TheVariants as file_name

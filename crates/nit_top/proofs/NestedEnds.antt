@@ -2,13 +2,12 @@
 use Rattle.std.proofs.Common.{◌≡◌, ◌∙◌, ℕ, true, List, [], ◌∷◌, ◌++◌, length, Some, None, Err, refl}
 use Rattle.std.proofs.Common.{sym, ap, subst, inl, inr}
 use Rattle.nit_top.proofs.Basics.{AreAllFiles, AreAllOuterFiles, AreAllScripts, AreOuterFiles}
-use Rattle.nit_top.proofs.Basics.{AreSetup, BothFiles, Command, End, Ends, Entry, Fault}
-use Rattle.nit_top.proofs.Basics.{FirstShows, IsInnerEnd, IsJournal, IsRunnable, IsValid, Judged}
-use Rattle.nit_top.proofs.Basics.{Line, Nested, NotBegun, PerformedNested, Refused, RunFiles}
-use Rattle.nit_top.proofs.Basics.{StoreModel, Worked, asking_all, by_length, by_turns, first_other}
-use Rattle.nit_top.proofs.Basics.{frames_of, inner_journal_name, is_too_long, journal_text, misfit}
-use Rattle.nit_top.proofs.Basics.{name_text, names_in, nest_of, nested_setup, phase_counts}
-use Rattle.nit_top.proofs.Basics.{told_so_both}
+use Rattle.nit_top.proofs.Basics.{AreSetup, BothFiles, Command, End, Ends, Entry, Fault, FirstShows}
+use Rattle.nit_top.proofs.Basics.{IsInnerEnd, IsJournal, IsRunnable, IsValid, Judged, Line, Nested}
+use Rattle.nit_top.proofs.Basics.{NotBegun, PerformedNested, Refused, RunFiles, StoreModel, Worked}
+use Rattle.nit_top.proofs.Basics.{asking_all, by_length, by_turns, first_other, frames_of}
+use Rattle.nit_top.proofs.Basics.{inner_journal_name, is_too_long, journal_text, misfit, name_text}
+use Rattle.nit_top.proofs.Basics.{names_in, nest_of, nested_setup, phase_counts, told_so_both}
 use Rattle.nit_top.proofs.WorkLemmas.{CameTo}
 use Rattle.nit_top.proofs.EndsAfterRun.{ends_by, run_ends, totals_on}
 use Rattle.nit_setup.specs.declared.stop.End.TheVariants as ends

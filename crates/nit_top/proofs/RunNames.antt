@@ -7,9 +7,9 @@ use Rattle.nit_top.proofs.Basics.{Clip, Command, Configuration, Entry, File, Fro
 use Rattle.nit_top.proofs.Basics.{HasDifferentNames, IsCommandRun, IsConfiguration, IsInnerJournal}
 use Rattle.nit_top.proofs.Basics.{IsJournal, IsNearPicture, IsRunnable, IsSetupOf, Member, Nested}
 use Rattle.nit_top.proofs.Basics.{NoCommand, Numbered, OtherThan, Run, RunFiles, Setup, ShotsLaw}
-use Rattle.nit_top.proofs.Basics.{Still, StoreModel, all_append, apart_by, apart_front}
+use Rattle.nit_top.proofs.Basics.{Still, StoreModel, actions_few, all_append, apart_by, apart_front}
 use Rattle.nit_top.proofs.Basics.{append_cancel_left, append_cancel_right, begin_other, codes}
-use Rattle.nit_top.proofs.Basics.{actions_few, differ, done, drawn_along, events_begin, events_file}
+use Rattle.nit_top.proofs.Basics.{differ, done, drawn_along, events_begin, events_file}
 use Rattle.nit_top.proofs.Basics.{events_files, events_name, film_name, final_name, final_picture}
 use Rattle.nit_top.proofs.Basics.{first_state, inner_journal_name, journal_file, member, numbered}
 use Rattle.nit_top.proofs.Basics.{other_letter, range_with_len, shots, shots_apart_all, shots_begin}

@@ -1,6 +1,5 @@
 -- How the work comes to its end: before a run is begun, and after one.
-use Rattle.std.proofs.Common.{◌≡◌, ℕ, List, [], ◌∷◌, length}
-use Rattle.std.proofs.Common.{refl, sym, ap, subst, ◌∙◌, inl, inr}
+use Rattle.std.proofs.Common.{◌≡◌, ℕ, List, [], ◌∷◌, length, refl, sym, ap, subst, ◌∙◌, inl, inr}
 use Rattle.nit_top.proofs.Basics.{Came, Command, Counts, Course, End, Ends, Entry, IsLastRead}
 use Rattle.nit_top.proofs.Basics.{Judged, NotBegun, Refused, Stop, StoppedBy, StoppedReading}
 use Rattle.nit_top.proofs.Basics.{StoreModel, Totals, Worked, also_more, asked_also, asking_all}

@@ -1,12 +1,6 @@
 -- The words of the library and of the crates below that are used here, and the crate's plain types.
-pub use Rattle.nit_rounds.specs.Drawing.{Drawing, after_turn, drawn_shot, frame_of, opening_drawing}
-pub use Rattle.nit_rounds.specs.Drawing.{picture_of, shot_frames_of, shots_after, shots_of}
 pub use Rattle.nit_actor.specs.IdleUser.{idle_user}
 pub use Rattle.nit_actor.specs.Pictures.{IsNearPicture}
-pub use Rattle.nit_rounds.specs.Rounds.{rounds}
-pub use Rattle.nit_rounds.specs.RoundsRun.{final_name, picture_name, shot_name}
-pub use Rattle.nit_rounds.specs.ShotFrames.{ShotFrame, shot_file}
-pub use Rattle.nit_rounds.specs.Turn.{ActorLine, ByClient, ByUser, LineTurn}
 pub use Rattle.nit_capture.specs.Capture.{first_capture}
 pub use Rattle.nit_capture.specs.Crop.{Shows, crop, crop_pixel, screen, word_of_bytes}
 pub use Rattle.nit_capture.specs.Film.{stream}
@@ -43,7 +37,6 @@ pub use Rattle.nit_nested.specs.declared.error.NestError.TheVariants.{TooLong}
 pub use Rattle.nit_perform.specs.CaptureRun.{HasFilmed, begun_of}
 pub use Rattle.nit_perform.specs.ClipRun.{HasRunClips, clips_setup_of}
 pub use Rattle.nit_perform.specs.InnerRun.{NestsRun}
-pub use Rattle.nit_perform.specs.RoomRun.{IsAlone}
 pub use Rattle.nit_perform.specs.Runs.{HasRun, put_state_of_run, refusal_of}
 pub use Rattle.nit_perform.specs.declared.inner.Inner.{Inner}
 pub use Rattle.nit_perform.specs.declared.ran.PutFault.{PutFault}
@@ -61,6 +54,12 @@ pub use Rattle.nit_report.specs.Generator.{client_script, client_text, generated
 pub use Rattle.nit_report.specs.Generator.{script_name, user_script, user_text}
 pub use Rattle.nit_report.specs.JournalText.{ReadsJournal, journal_text}
 pub use Rattle.nit_report.specs.Picture.{picture, picture_header}
+pub use Rattle.nit_rounds.specs.Drawing.{Drawing, after_turn, drawn_shot, frame_of, opening_drawing}
+pub use Rattle.nit_rounds.specs.Drawing.{picture_of, shot_frames_of, shots_after, shots_of}
+pub use Rattle.nit_rounds.specs.Rounds.{rounds}
+pub use Rattle.nit_rounds.specs.RoundsRun.{final_name, picture_name, shot_name}
+pub use Rattle.nit_rounds.specs.ShotFrames.{ShotFrame, shot_file}
+pub use Rattle.nit_rounds.specs.Turn.{ActorLine, ByClient, ByUser, LineTurn}
 pub use Rattle.nit_run.specs.Headline.{AreTexts, HasPicture, Headline, HoldsAtEnd, events_among}
 pub use Rattle.nit_run.specs.InnerFrames.{FirstShows, ShowsNest, frames_of, is_too_long, last_frame}
 pub use Rattle.nit_run.specs.InnerFrames.{nest_of, nested_setup, shown_first}
@@ -88,29 +87,28 @@ pub use Rattle.nit_script.specs.Phases.{input_phases, phases}
 pub use Rattle.nit_script.specs.Spelling.{FitsInputLine, FitsLine}
 pub use Rattle.nit_script.specs.declared.line.InputLine.{InputLine}
 pub use Rattle.nit_script.specs.declared.line.Line.{Line}
+pub use Rattle.nit_setup.specs.Asked.{IsAskedInRange, asks_for, command_of}
 pub use Rattle.nit_setup.specs.Command.{Audit, Capture, Clip, Command, Gen, Nested, NoCommand, Run}
 pub use Rattle.nit_setup.specs.Command.{Still, command, starts_threads, texts}
 pub use Rattle.nit_setup.specs.FilesRead.{AllFiles, AllScripts, AreAllFiles, AreAllOuterFiles}
-pub use Rattle.nit_setup.specs.FilesRead.{AreAllScripts, BothFiles, FilesRead}
-pub use Rattle.nit_setup.specs.FilesRead.{FirstFiles, HasRead, InnerFiles, IsOuter, IsSetupOf}
-pub use Rattle.nit_setup.specs.FilesRead.{NoFile, OuterFiles, names_read, next_name}
-pub use Rattle.nit_setup.specs.JournalFiles.{IsJournalFault, IsJournalText}
-pub use Rattle.nit_setup.specs.JournalFiles.{IsVerdictOn, most_journal_bytes}
-pub use Rattle.nit_setup.specs.Judgement.{AreOuterFiles}
-pub use Rattle.nit_setup.specs.Judgement.{AreSetup}
-pub use Rattle.nit_setup.specs.Judgement.{IsConfig}
-pub use Rattle.nit_setup.specs.Judgement.{IsRefusedWith, IsValid}
-pub use Rattle.nit_setup.specs.Judgement.{Judged, MayShowFrames, Refused, clip_name}
-pub use Rattle.nit_setup.specs.Judgement.{fault_code, first_other, misfit, names_in}
-pub use Rattle.nit_setup.specs.Judgement.{phase_counts, reads, script_names, too_long_for}
-pub use Rattle.nit_setup.specs.Judgement.{unless_other}
-pub use Rattle.nit_setup.specs.Reading.{StoppedAt}
-pub use Rattle.nit_setup.specs.Asked.{IsAskedInRange, command_of}
+pub use Rattle.nit_setup.specs.FilesRead.{AreAllScripts, BothFiles, FilesRead, FirstFiles, HasRead}
+pub use Rattle.nit_setup.specs.FilesRead.{InnerFiles, IsOuter, IsSetupOf, NoFile, OuterFiles}
+pub use Rattle.nit_setup.specs.FilesRead.{names_read, next_name}
+pub use Rattle.nit_setup.specs.JournalFiles.{IsJournalFault, IsJournalText, IsVerdictOn}
+pub use Rattle.nit_setup.specs.JournalFiles.{most_journal_bytes}
+pub use Rattle.nit_setup.specs.Judgement.{AreOuterFiles, AreSetup, IsConfig, IsRefusedWith, IsValid}
+pub use Rattle.nit_setup.specs.Judgement.{Judged, MayShowFrames, Refused, clip_name, fault_code}
+pub use Rattle.nit_setup.specs.Judgement.{first_other, misfit, names_in, phase_counts, reads}
+pub use Rattle.nit_setup.specs.Judgement.{script_names, too_long_for, unless_other}
+pub use Rattle.nit_setup.specs.Reading.{StoppedAt, StoppedBy}
+pub use Rattle.nit_setup.specs.SetupRead.{StoppedReading, files_in, setup_in, setup_with_clips}
 pub use Rattle.nit_setup.specs.StopNames.{first_name, name_text, second_name}
+pub use Rattle.nit_setup.specs.declared.read.Loaded.{Loaded}
 pub use Rattle.nit_setup.specs.declared.stop.End.{End}
 pub use Rattle.nit_setup.specs.declared.stop.Fault.{Fault}
-pub use Rattle.nit_setup.specs.declared.stop.StopName.{StopName}
 pub use Rattle.nit_setup.specs.declared.stop.Stop.{Stop}
+pub use Rattle.nit_setup.specs.declared.stop.StopName.{StopName}
+pub use Rattle.nit_setup.specs.declared.words.Asked.{Asked}
 pub use Rattle.nit_stack.specs.Sources.{Bare, Black, PixelSource, Size, Word, among, black_or_word}
 pub use Rattle.nit_stack.specs.Sources.{buffer_place, index_at, pixel, shown_index, source_under}
 pub use Rattle.nit_stack.specs.declared.view.View.{View}
@@ -124,8 +122,5 @@ pub use Rattle.nit_top.specs.declared.report.say.LinePart.{LinePart}
 pub use Rattle.std.specs.Fmt.{decimal}
 pub use Rattle.std.specs.List.{AllByRecursion, AllZip, flat_map, list_any, range_with_len}
 pub use Rattle.std.specs.Option.{is_some}
-pub use Rattle.std.specs.Prelude.{All, Contains, IfSome, IsSomeAnd, IsTrue, codes, count_by, false}
-pub use Rattle.std.specs.Prelude.{option_map, pos, slice_index, true}
-pub use Rattle.nit_setup.specs.Reading.{StoppedBy}
-pub use Rattle.nit_setup.specs.SetupRead.{StoppedReading, files_in, setup_in}
-pub use Rattle.nit_setup.specs.SetupRead.{setup_with_clips}
+pub use Rattle.std.specs.Prelude.{All, Contains, IfNone, IfSome, IsSomeAnd, IsTrue, codes, count_by}
+pub use Rattle.std.specs.Prelude.{false, option_map, pos, slice_index, true}

@@ -1,7 +1,7 @@
 //! What can be read of a desktop.
 
-ghost use Rattle.std.specs.Prelude.{◌≡◌, ◌<◌, ◌≤◌, ◌*◌, IfSome, IsTrue, false, length};
-ghost use Rattle.std.specs.Prelude.{Some, slice_get};
+ghost use Rattle.std.specs.Prelude.{◌≡◌, ◌<◌, ◌≤◌, ◌*◌, IfSome, IsTrue, false, length, Some};
+ghost use Rattle.std.specs.Prelude.{slice_get};
 ghost use Rattle.nit_desktop.specs.Terms.{AreGlasses, AreLive, IsConfiguration, IsFreeLabel};
 ghost use Rattle.nit_desktop.specs.Terms.{IsPlace, member, refusal, session, table_size};
 

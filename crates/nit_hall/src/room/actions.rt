@@ -4,8 +4,7 @@ ghost use Rattle.std.specs.Prelude.{◌≡◌, ◌+◌, ◌*◌, All, false, len
 ghost use Rattle.nit_hall.specs.Terms.{HasActed, IsAtDevice, IsAtShot, IsNearFrame, IsWord};
 ghost use Rattle.nit_hall.specs.Terms.{Painted, UserIsReadyAt, deliveries_of, device_entry, frame};
 ghost use Rattle.nit_hall.specs.Terms.{glass_in, kills, lenses, next_device, route, routed_as};
-ghost use Rattle.nit_hall.specs.Terms.{scenery_of, shots, stands, state_now};
-ghost use Rattle.nit_hall.specs.Terms.{with_entry};
+ghost use Rattle.nit_hall.specs.Terms.{scenery_of, shots, stands, state_now, with_entry};
 ghost use Rattle.nit_events.specs.declared.entry.Entry.TheVariants as entry;
 
 use crate::room::Room;

@@ -2,10 +2,10 @@
 
 ghost use Rattle.std.specs.Prelude.{◌≡◌, ◌+◌, false};
 ghost use Rattle.nit_hall.specs.Terms.{HasServed, IsAtCall, IsReadyAt, Painted, call_entry};
-ghost use Rattle.nit_hall.specs.Terms.{glass_in, glasses_of_call, is_accepted, lenses, next_call};
-ghost use Rattle.nit_hall.specs.Terms.{in_line, serve, session, sight_after_line, stands};
-ghost use Rattle.nit_hall.specs.Terms.{state_now};
-ghost use Rattle.nit_hall.specs.Terms.{stretch_from, with_end_stages, with_entry, with_stages};
+ghost use Rattle.nit_hall.specs.Terms.{glass_in, glasses_of_call, in_line, is_accepted, lenses};
+ghost use Rattle.nit_hall.specs.Terms.{next_call, serve, session, sight_after_line, stands};
+ghost use Rattle.nit_hall.specs.Terms.{state_now, stretch_from, with_end_stages, with_entry};
+ghost use Rattle.nit_hall.specs.Terms.{with_stages};
 
 use crate::pass::Pass;
 use crate::room::Room;

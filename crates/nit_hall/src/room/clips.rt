@@ -2,12 +2,12 @@
 
 ghost use Rattle.std.specs.Prelude.{◌≡◌, ◌+◌, length, map, slice_index, take};
 ghost use mathlib.Core.List.{IsPrefix};
-ghost use Rattle.nit_hall.specs.Terms.{stretch_from, with_room_stages, with_stages};
 ghost use Rattle.nit_hall.specs.Terms.{AreDoneClips, CallLaws, CanClip, ClipBelongs, ClipHasMet};
 ghost use Rattle.nit_hall.specs.Terms.{HaveMet, IsLegal, IsLegalClips, IsOpen, IsWholeClips};
 ghost use Rattle.nit_hall.specs.Terms.{calls_to_make, clip_answer, clip_calls_in, clip_entry};
 ghost use Rattle.nit_hall.specs.Terms.{clipboard_of, clips_to_make, next_clip, state_now};
-ghost use Rattle.nit_hall.specs.Terms.{user_actions_to_do, with_clip};
+ghost use Rattle.nit_hall.specs.Terms.{stretch_from, user_actions_to_do, with_clip};
+ghost use Rattle.nit_hall.specs.Terms.{with_room_stages, with_stages};
 
 use crate::clip_pass::ClipPass;
 use crate::pass::Pass;

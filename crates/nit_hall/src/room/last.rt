@@ -4,10 +4,9 @@ ghost use Rattle.std.specs.Prelude.{◌≡◌, ℕ, ◌*◌, All, length, map, s
 ghost use mathlib.Core.List.{IsPrefix};
 ghost use Rattle.nit_hall.specs.Terms.{AreDone, IsDonePass, IsDoneUser, IsHistory, IsKnownPass};
 ghost use Rattle.nit_hall.specs.Terms.{IsLegal, IsOpen, IsWhole, IsWord, Painted, PassModel};
-ghost use Rattle.nit_hall.specs.Terms.{calls_to_make};
-ghost use Rattle.nit_hall.specs.Terms.{frame, glass_in, knowing, rest_of, scenery_of, state_now};
-ghost use Rattle.nit_hall.specs.Terms.{user_actions_to_do, with_final, without_final};
-ghost use Rattle.nit_hall.specs.Terms.{words_left_in};
+ghost use Rattle.nit_hall.specs.Terms.{calls_to_make, frame, glass_in, knowing, rest_of};
+ghost use Rattle.nit_hall.specs.Terms.{scenery_of, state_now, user_actions_to_do, with_final};
+ghost use Rattle.nit_hall.specs.Terms.{without_final, words_left_in};
 ghost use Rattle.nit_events.specs.declared.entry.Entry.TheVariants as entry;
 
 use crate::pass::Pass;

@@ -2,11 +2,10 @@
 
 ghost use Rattle.std.specs.Prelude.{◌≡◌, ◌-◌, ◌*◌, ◌^◌, ◌<◌, ◌≤◌, None, Some, Ok, Err, length, map};
 ghost use Rattle.std.specs.Prelude.{slice_get, slice_set, true};
-ghost use Rattle.nit_host.specs.Acts.{Calls, Refreshes, after_act};
-ghost use Rattle.nit_host.specs.Terms.{AreQuiet, IsPlainOf, Painted, Reply, Unserved, after};
-ghost use Rattle.nit_host.specs.Terms.{asks_view, called, glass_in, refreshed, refusal, rectangle};
-ghost use Rattle.nit_host.specs.Terms.{reply_to, serve, session, unserved_call, unserved_refresh};
-ghost use Rattle.nit_host.specs.Terms.{worn_out};
+ghost use Rattle.nit_host.specs.Terms.{AreQuiet, Calls, IsPlainOf, Painted, Refreshes, Reply};
+ghost use Rattle.nit_host.specs.Terms.{Unserved, after, after_act, asks_view, called, glass_in};
+ghost use Rattle.nit_host.specs.Terms.{rectangle, refreshed, refusal, reply_to, serve, session};
+ghost use Rattle.nit_host.specs.Terms.{unserved_call, unserved_refresh, worn_out};
 ghost use Rattle.nit_events.specs.declared.call.Call.TheVariants as call;
 ghost use Rattle.nit_events.specs.declared.entry.Entry.TheVariants as entry;
 

@@ -1,9 +1,8 @@
 //! A look at what of the frame changed, and at the last entry.
 
 ghost use Rattle.std.specs.Prelude.{◌≡◌, ◌*◌, ◌↔◌, None, IfOk, IfSome, length};
-ghost use Rattle.nit_host.specs.Acts.{Looks, after_act};
-ghost use Rattle.nit_host.specs.Terms.{AgreeIn, CoversChange, IsAsSeen, IsTouched, LiesOn};
-ghost use Rattle.nit_host.specs.Terms.{frame_shown, last_text, looked};
+ghost use Rattle.nit_host.specs.Terms.{AgreeIn, CoversChange, IsAsSeen, IsTouched, LiesOn, Looks};
+ghost use Rattle.nit_host.specs.Terms.{after_act, frame_shown, last_text, looked};
 
 use crate::host::Host;
 use crate::host::area::Area;

@@ -1,7 +1,7 @@
 //! What can be read of a host.
 
-ghost use Rattle.std.specs.Prelude.{◌≡◌, ◌<◌, ◌≤◌, ◌*◌, false, find, length, IfSome, IsTrue};
-ghost use Rattle.std.specs.Prelude.{not, None, Some};
+ghost use Rattle.std.specs.Prelude.{◌≡◌, ◌<◌, ◌≤◌, ◌*◌, false, find, length, IfSome, IsTrue, not};
+ghost use Rattle.std.specs.Prelude.{None, Some};
 ghost use Rattle.nit_host.specs.Terms.{IsFreeLabel, has_label, is_taken, member, seat_for};
 ghost use Rattle.nit_host.specs.Terms.{seats_of, session, sheet_in};
 

@@ -1,8 +1,7 @@
 //! Clients that come.
 
 ghost use Rattle.std.specs.Prelude.{◌≡◌, None, Some, Ok, Err};
-ghost use Rattle.nit_host.specs.Acts.{Comes, after_act};
-ghost use Rattle.nit_host.specs.Terms.{Unseated, seated, unseated};
+ghost use Rattle.nit_host.specs.Terms.{Comes, Unseated, after_act, seated, unseated};
 
 use crate::host::Host;
 use crate::host::touch::bar_or_screen;

@@ -2,10 +2,9 @@
 
 ghost use Rattle.std.specs.Prelude.{◌≡◌, ◌<◌, ◌≤◌, ◌&&◌, ℕ, Some, false, length, slice_get, true};
 ghost use Rattle.nit_host.specs.Terms.{HoldsTouched, HoldsWhere, IsAreaOf, IsBarArea, IsPlace};
-ghost use Rattle.nit_host.specs.Terms.{IsToldArea, has_place};
-ghost use Rattle.nit_host.specs.Terms.{is_kill, is_touched, kills, part_touched, point, touch_of};
-ghost use Rattle.nit_host.specs.Terms.{View, covers, deliveries_of, option_map_or, shows_place};
-ghost use Rattle.nit_host.specs.Terms.{touched_by, touched_in, touched_over};
+ghost use Rattle.nit_host.specs.Terms.{IsToldArea, View, covers, deliveries_of, has_place, is_kill};
+ghost use Rattle.nit_host.specs.Terms.{is_touched, kills, option_map_or, part_touched, point};
+ghost use Rattle.nit_host.specs.Terms.{shows_place, touch_of, touched_by, touched_in, touched_over};
 
 use crate::host::area::Area;
 use crate::host::handing::clip;

@@ -1,8 +1,8 @@
 //! What the user does.
 
 ghost use Rattle.std.specs.Prelude.{◌≡◌, None, Some, Ok, Err};
-ghost use Rattle.nit_host.specs.Acts.{Does, after_act};
-ghost use Rattle.nit_host.specs.Terms.{Unserved, is_device, routed_of, told, unserved_input};
+ghost use Rattle.nit_host.specs.Terms.{Does, Unserved, after_act, is_device, routed_of, told};
+ghost use Rattle.nit_host.specs.Terms.{unserved_input};
 
 use crate::host::Host;
 use crate::host::touch::{bar_or_screen, bar_tells, shows_the_same, told};

@@ -3,10 +3,9 @@
 ghost use Rattle.std.specs.Prelude.{◌≡◌};
 ghost use Rattle.nit_top.specs.Terms.{Says, audited_line, bad_configuration_line, clip_name};
 ghost use Rattle.nit_top.specs.Terms.{command_of, decimal, events_name, fault_line, first_name};
-ghost use Rattle.nit_top.specs.Terms.{flat_map, kind_text, second_name};
-ghost use Rattle.nit_top.specs.Terms.{label_text, line_on, name_text, numbered_line, output_name};
-ghost use Rattle.nit_top.specs.Terms.{picture_name, piece_text, script_name, shot_name};
-ghost use Rattle.nit_top.specs.Terms.{summary_line};
+ghost use Rattle.nit_top.specs.Terms.{flat_map, kind_text, label_text, line_on, name_text};
+ghost use Rattle.nit_top.specs.Terms.{numbered_line, output_name, picture_name, piece_text};
+ghost use Rattle.nit_top.specs.Terms.{script_name, second_name, shot_name, summary_line};
 
 use crate::report::finish::Worked;
 use nit_config::ConfigError;

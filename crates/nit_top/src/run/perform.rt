@@ -1,8 +1,8 @@
 //! The work of a command: what is to be run, the run, and how it came to its end.
 
 ghost use Rattle.std.specs.Prelude.{◌<◌, ◌≤◌, false, true};
-ghost use Rattle.nit_top.specs.Terms.{Ends, Gen, IsRunnable, Performed, Run, Still};
-ghost use Rattle.nit_top.specs.Terms.{generated, most_height, most_width, number_end, setup_of};
+ghost use Rattle.nit_top.specs.Terms.{Ends, Gen, IsRunnable, Performed, Run, Still, generated};
+ghost use Rattle.nit_top.specs.Terms.{most_height, most_width, number_end, setup_of};
 
 use crate::report::finish::{Worked, ended_before_run, stop_after};
 use nit_actor::Gate;

@@ -1,4 +1,4 @@
-use Rattle.nit_actor.proofs.HistoryLemmas.{held_still}
+use Rattle.nit_actor.proofs.Lemmas.{held_still}
 use Rattle.std.proofs.Common.{refl, ◌++◌}
 use Rattle.nit_actor.proofs.laws.held_words_stay.Goals as goal
 

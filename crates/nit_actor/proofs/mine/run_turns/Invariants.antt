@@ -1,5 +1,5 @@
 use Rattle.std.proofs.Common.{map, ◌≡◌, All}
-use Rattle.nit_actor.specs.UserShots.{CanShoot, TakesShots}
+use Rattle.nit_actor.proofs.Lemmas.{CanShoot, TakesShots}
 use Rattle.nit_actor.proofs.mine.run_turns.Given as goal
 
 abbrev pub invariant-turns : goal.invariant-turns

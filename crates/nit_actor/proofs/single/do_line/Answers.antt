@@ -1,6 +1,5 @@
-use Rattle.std.proofs.Common.{rules}
 use Rattle.nit_actor.proofs.Lemmas.{PassModel, RoomModel, ap, at_call, at_line, call_recorded}
-use Rattle.nit_actor.proofs.Lemmas.{nothing_recorded, refl, role_of, step_on}
+use Rattle.nit_actor.proofs.Lemmas.{nothing_recorded, refl, role_of, rules, step_on}
 use Rattle.nit_script.specs.declared.line.Line.TheVariants as line
 use Rattle.nit_actor.proofs.single.do_line.Goals as goal
 

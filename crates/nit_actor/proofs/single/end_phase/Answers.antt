@@ -1,5 +1,4 @@
-use Rattle.std.proofs.Common.{rules}
-use Rattle.nit_actor.proofs.Lemmas.{phase_ended, user_at_phase}
+use Rattle.nit_actor.proofs.Lemmas.{phase_ended, rules, user_at_phase}
 use Rattle.nit_actor.proofs.single.end_phase.Goals as goal
 
 pub arrive_user-requires : goal.arrive_user-requires

@@ -1,7 +1,5 @@
 use Rattle.std.proofs.Common.{nat_eq, of_z, rules, to_z, true, w32, ◌≡◌}
-use Rattle.std.proofs.lemmas.Int.{to_z-of_z}
-use Rattle.nit_c.specs.Held.{live_mark}
-use Rattle.nit_c.proofs.Refreshes.{refreshed_by}
+use Rattle.nit_c.proofs.Lemmas.{live_mark, refreshed_by, to_z-of_z}
 use Rattle.nit_c.proofs.calls.nit_refresh.Goals as goal
 
 pub returns : goal.returns

@@ -1,7 +1,4 @@
-use Rattle.std.proofs.Common.{arith, sym}
-use Rattle.std.proofs.lemmas.Bool.Decides.{nat_tests}
-use Rattle.nit_c.specs.Opening.{has_click, seat_count}
-use Rattle.nit_c.proofs.Plans.{all_hold, one_fails}
+use Rattle.nit_c.proofs.Lemmas.{all_hold, arith, has_click, nat_tests, one_fails, seat_count, sym}
 use Rattle.nit_c.proofs.opening.have_clicks.Goals as goal
 
 pub returns-then-words-seat-gt1 : goal.returns-then-words-seat-gt1

@@ -1,7 +1,4 @@
-use Rattle.std.proofs.Common.{arith, refl, ◌∙◌}
-use Rattle.std.proofs.Math.ListN.{length-set}
-use Rattle.nit_c.specs.Opening.{seat_at}
-use Rattle.nit_c.proofs.Plans.{one_more}
+use Rattle.nit_c.proofs.Lemmas.{arith, length-set, one_more, refl, seat_at, ◌∙◌}
 use Rattle.nit_c.proofs.opening.read_seats.Goals as goal
 
 pub seats-preserved : goal.seats-preserved

@@ -1,6 +1,5 @@
 use Rattle.std.proofs.Common.{length, map, take, ◌≡◌}
-use Rattle.std.specs.List.{range_with_len}
-use Rattle.nit_c.specs.Opening.{seat_at}
+use Rattle.nit_c.proofs.Lemmas.{range_with_len, seat_at}
 use Rattle.nit_c.proofs.opening.read_seats.Given as goal
 
 abbrev pub invariant-seats : goal.invariant-seats

@@ -1,8 +1,8 @@
 use Rattle.std.proofs.Common.{List, Some, [], ap, length, slice_get, ◌∙◌, ◌≡◌}
-use Rattle.nit_hall.proofs.Lemmas.{Configuration, all_agree, arith, blank_at}
-use Rattle.nit_hall.proofs.Lemmas.{donation_at, end_with, get_or_default, none_agree, one_agrees}
-use Rattle.nit_hall.proofs.Basics.{donation_of, get_or, script_in, slice_get-get_or, stretch, watching_sight}
-use Rattle.nit_hall.proofs.Basics.{ℕ}
+use Rattle.nit_hall.proofs.Lemmas.{Configuration, all_agree, arith, blank_at, donation_at}
+use Rattle.nit_hall.proofs.Lemmas.{donation_of, end_with, get_or, get_or_default, none_agree}
+use Rattle.nit_hall.proofs.Lemmas.{one_agrees, script_in, slice_get-get_or, stretch, watching_sight}
+use Rattle.nit_hall.proofs.Lemmas.{ℕ}
 use Rattle.nit_hall.proofs.opening.lenses_of.Goals as goal
 use Rattle.nit_hall.proofs.opening.lenses_of.Goals.{After-index-clients-k}
 

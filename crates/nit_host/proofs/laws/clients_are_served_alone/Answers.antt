@@ -1,6 +1,4 @@
-use Rattle.std.proofs.Common.{subst, sym}
-use Rattle.nit_host.specs.Acts.{steps_of}
-use Rattle.nit_journal.specs.Live.{AreLive}
+use Rattle.nit_host.proofs.Lemmas.{AreLive, steps_of, subst, sym}
 use Rattle.nit_host.proofs.laws.clients_are_served_alone.Goals as goal
 
 pub returns-clause-alone : goal.returns-clause-alone

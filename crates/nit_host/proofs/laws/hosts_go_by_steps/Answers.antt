@@ -1,4 +1,4 @@
-use Rattle.nit_host.proofs.ActLemmas.{all_acts}
+use Rattle.nit_host.proofs.Lemmas.{all_acts}
 use Rattle.nit_host.proofs.laws.hosts_go_by_steps.Goals as goal
 
 pub returns-clause-steps : goal.returns-clause-steps

@@ -1,11 +1,8 @@
 use Rattle.std.proofs.Common.{All, Some, subst, sym, true, refl, ◌∙◌, ◌≡◌}
 use Rattle.nit_events.specs.declared.device.Device.TheVariants as device
-use Rattle.nit_host.specs.Acts.{after_acts, steps_of}
-use Rattle.nit_host.specs.Below.{Delivery, State, deliveries_of, route}
-use Rattle.nit_host.specs.Host.{routed_of}
-use Rattle.nit_journal.specs.Terms.{IsDown, IsLive, Kill, KillsPointed, TellsFocus, Xray, is_held}
-use Rattle.nit_journal.specs.Terms.{projection, since_opening}
-use Rattle.nit_host.proofs.Clicks.{by_act}
+use Rattle.nit_host.proofs.Lemmas.{Delivery, IsDown, IsLive, Kill, KillsPointed, State, TellsFocus}
+use Rattle.nit_host.proofs.Lemmas.{Xray, after_acts, by_act, deliveries_of, is_held, projection}
+use Rattle.nit_host.proofs.Lemmas.{route, routed_of, since_opening, steps_of}
 use Rattle.nit_host.proofs.laws.input_goes_where_it_is_meant.Goals as goal
 
 pub returns-clause-keys : goal.returns-clause-keys

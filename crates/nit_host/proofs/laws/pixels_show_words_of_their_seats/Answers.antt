@@ -1,5 +1,4 @@
-use Rattle.nit_stack.specs.Sources.{Black, Word}
-use Rattle.nit_host.proofs.ShownWords.{by_source, of_none, of_past, of_view}
+use Rattle.nit_host.proofs.Lemmas.{Black, Word, by_source, of_none, of_past, of_view}
 use Rattle.nit_host.proofs.laws.pixels_show_words_of_their_seats.Goals as goal
 
 pub returns-clause-source : goal.returns-clause-source

@@ -1,6 +1,4 @@
-use Rattle.std.proofs.Common.{refl, ◌∙◌}
-use Rattle.nit_host.specs.Terms.{waiting_member}
-use Rattle.nit_host.proofs.Plans.{one_more}
+use Rattle.nit_host.proofs.Lemmas.{one_more, refl, waiting_member, ◌∙◌}
 use Rattle.nit_host.proofs.planning.members.Goals as goal
 
 pub seats-preserved : goal.seats-preserved

@@ -1,5 +1,5 @@
 use Rattle.std.proofs.Common.{map, take, ◌≡◌}
-use Rattle.nit_host.specs.Terms.{enumerate_from, waiting_member}
+use Rattle.nit_host.proofs.Lemmas.{enumerate_from, waiting_member}
 use Rattle.nit_host.proofs.planning.members.Given as goal
 
 abbrev pub invariant-seats : goal.invariant-seats

@@ -1,6 +1,4 @@
-use Rattle.std.proofs.Common.{subst, sym}
-use Rattle.nit_host.specs.Terms.{IsConfiguration}
-use Rattle.nit_host.proofs.Plans.{plan_configured}
+use Rattle.nit_host.proofs.Lemmas.{IsConfiguration, plan_configured, subst, sym}
 use Rattle.nit_host.proofs.planning.plan.Goals as goal
 
 pub returns-in-Ok-clause-configured : goal.returns-in-Ok-clause-configured

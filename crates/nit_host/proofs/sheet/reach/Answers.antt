@@ -1,6 +1,6 @@
 use Rattle.std.proofs.Common.{ap, append-nil, arith, cond, length, replicate, sym, take, ℕ, List}
 use Rattle.std.proofs.Common.{◌++◌, ◌-◌, ◌∙◌, ◌≡◌}
-use Rattle.std.proofs.lemmas.List.{take_all}
+use Rattle.nit_host.proofs.Lemmas.{take_all}
 use Rattle.nit_word.specs.Zeros.{zeros}
 use Rattle.nit_host.proofs.sheet.reach.Goals as goal
 

@@ -1,6 +1,4 @@
-use Rattle.std.proofs.Common.{ap, refl, set, ◌∙◌}
-use Rattle.nit_word.proofs.ForCallers.{next_between, none_between}
-use Rattle.nit_host.specs.Terms.{low_bytes}
+use Rattle.nit_host.proofs.Lemmas.{ap, low_bytes, next_between, none_between, refl, set, ◌∙◌}
 use Rattle.nit_host.proofs.sheet.set_row.Goals as goal
 
 pub places-init : goal.places-init

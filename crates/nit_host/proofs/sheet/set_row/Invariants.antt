@@ -1,5 +1,5 @@
 use Rattle.std.proofs.Common.{◌≡◌}
-use Rattle.nit_host.specs.Terms.{is_between, low_bytes, set_where}
+use Rattle.nit_host.proofs.Lemmas.{is_between, low_bytes, set_where}
 use Rattle.nit_host.proofs.sheet.set_row.Given as goal
 
 abbrev pub invariant-places : goal.invariant-places

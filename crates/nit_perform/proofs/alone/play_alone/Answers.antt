@@ -1,6 +1,6 @@
-use Rattle.std.proofs.Common.{rules, ◌∙◌, List, ap, false, subst, sym}
-use Rattle.nit_perform.proofs.Lemmas.{Entry, HasRun, IsRunOf, JournalModel, StoreModel}
-use Rattle.nit_perform.proofs.Lemmas.{alone_leaves, ended_as, refl, setup_of}
+use Rattle.nit_perform.proofs.Lemmas.{Entry, HasRun, IsRunOf, JournalModel, List, StoreModel}
+use Rattle.nit_perform.proofs.Lemmas.{alone_leaves, ap, ended_as, false, refl, rules, setup_of}
+use Rattle.nit_perform.proofs.Lemmas.{subst, sym, ◌∙◌}
 use Rattle.nit_perform.proofs.alone.play_alone.Goals as goal
 
 pub returns : goal.returns

@@ -1,8 +1,7 @@
 use Rattle.std.proofs.Common.{rules, ◌++◌, ◌∷◌, [], sym, subst}
-use Rattle.nit_perform.proofs.Lemmas.{HasRun, PutState}
-use Rattle.nit_perform.proofs.Lemmas.{PutsAll, StoreModel, all_done, beside_leaves, ended_as}
-use Rattle.nit_perform.proofs.Lemmas.{events_files}
-use Rattle.nit_perform.proofs.Lemmas.{journal_file, put_state_of_run, setup_in, user_done}
+use Rattle.nit_perform.proofs.Lemmas.{HasRun, PutState, PutsAll, StoreModel, all_done}
+use Rattle.nit_perform.proofs.Lemmas.{beside_leaves, ended_as, events_files, journal_file}
+use Rattle.nit_perform.proofs.Lemmas.{put_state_of_run, setup_in, user_done}
 use Rattle.nit_perform.proofs.beside.run_named.Goals as goal
 
 pub last_picture-scene-requires-clause-done : goal.last_picture-scene-requires-clause-done

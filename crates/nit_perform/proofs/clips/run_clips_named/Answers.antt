@@ -1,10 +1,10 @@
 use Rattle.std.proofs.Common.{rules, ◌≡◌, ◌∙◌, ◌++◌, ◌∷◌, [], ℕ, List, length, map, ap, sym, subst}
-use Rattle.nit_perform.proofs.Lemmas.{AreDone, AreDoneClips, ClipPassModel, Entry, ended_as}
-use Rattle.nit_perform.proofs.Lemmas.{HasRunClips, IsClipListText, IsDoneUser, OpeningParts, Pair}
-use Rattle.nit_perform.proofs.Lemmas.{PassModel, PutState, PutsAll, StoreModel, arith, back_long}
+use Rattle.nit_perform.proofs.Lemmas.{AreDone, AreDoneClips, ClipPassModel, Entry, HasRunClips}
+use Rattle.nit_perform.proofs.Lemmas.{IsClipListText, IsDoneUser, OpeningParts, Pair, PassModel}
+use Rattle.nit_perform.proofs.Lemmas.{PutState, PutsAll, StoreModel, arith, back_long}
 use Rattle.nit_perform.proofs.Lemmas.{beside_leaves, clips_done, clips_leave, clips_setup_in}
-use Rattle.nit_perform.proofs.Lemmas.{events_files, journal_file, passes_done, put_state_of_run}
-use Rattle.nit_perform.proofs.Lemmas.{user_done, vec_len}
+use Rattle.nit_perform.proofs.Lemmas.{ended_as, events_files, journal_file, passes_done}
+use Rattle.nit_perform.proofs.Lemmas.{put_state_of_run, user_done, vec_len}
 use Rattle.nit_perform.proofs.clips.run_clips_named.Goals as goal
 
 pub take_apart-requires-clause-room : goal.take_apart-requires-clause-room

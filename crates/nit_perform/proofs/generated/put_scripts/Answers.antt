@@ -1,6 +1,5 @@
 use Rattle.std.proofs.Common.{◌∙◌, ◌≡◌, arith, refl}
-use Rattle.nit_perform.proofs.Lemmas.{one_script_more, put_state_of_run}
-use Rattle.nit_perform.proofs.Lemmas.{text_at}
+use Rattle.nit_perform.proofs.Lemmas.{one_script_more, put_state_of_run, text_at}
 use Rattle.nit_perform.proofs.generated.put_scripts.Goals as goal
 
 pub clients-init : goal.clients-init

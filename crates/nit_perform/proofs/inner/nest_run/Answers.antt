@@ -1,7 +1,6 @@
 use Rattle.std.proofs.Common.{◌≡◌, Option, Some, None, refl}
-use Rattle.nit_perform.proofs.Lemmas.{NestError, ShowsNest, all_taken}
-use Rattle.nit_perform.proofs.Lemmas.{frame_refused, frames_of, nest_of, no_frames, run_files}
-use Rattle.nit_perform.proofs.Lemmas.{script_made, script_refused}
+use Rattle.nit_perform.proofs.Lemmas.{NestError, ShowsNest, all_taken, frame_refused, frames_of}
+use Rattle.nit_perform.proofs.Lemmas.{nest_of, no_frames, run_files, script_made, script_refused}
 use Rattle.nit_perform.proofs.inner.nest_run.Goals as goal
 
 none_left : (o : Option NestError) → ((e : NestError) → o ≡ Some e → ⊥) → o ≡ None

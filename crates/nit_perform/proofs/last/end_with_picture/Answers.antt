@@ -1,6 +1,4 @@
-use Rattle.nit_perform.proofs.Lemmas.{known_whole}
-use Rattle.nit_perform.proofs.Lemmas.{last_is, picture, refl}
-use Rattle.nit_perform.proofs.Lemmas.{◌∙◌}
+use Rattle.nit_perform.proofs.Lemmas.{known_whole, last_is, picture, refl, ◌∙◌}
 use Rattle.nit_perform.proofs.last.end_with_picture.Goals as goal
 
 pub returns-clause-ended : goal.returns-clause-ended

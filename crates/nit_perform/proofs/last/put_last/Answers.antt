@@ -1,5 +1,4 @@
-use Rattle.nit_perform.proofs.Lemmas.{last_picture}
-use Rattle.nit_perform.proofs.Lemmas.{◌∙◌}
+use Rattle.nit_perform.proofs.Lemmas.{last_picture, ◌∙◌}
 use Rattle.nit_perform.proofs.last.put_last.Goals as goal
 
 pub returns-clause-put : goal.returns-clause-put

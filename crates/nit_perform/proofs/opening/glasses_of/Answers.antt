@@ -1,6 +1,6 @@
 use Rattle.std.proofs.Common.{◌≡◌, ◌∙◌, ◌<◌, ℕ, [], ap, arith, length, subst, sym}
-use Rattle.nit_perform.proofs.Lemmas.{Configuration, get_or_default, glass_after}
-use Rattle.nit_perform.proofs.Lemmas.{one_made, plan_made, plans_long, script_in}
+use Rattle.nit_perform.proofs.Lemmas.{Configuration, get_or_default, glass_after, one_made}
+use Rattle.nit_perform.proofs.Lemmas.{plan_made, plans_long, script_in}
 use Rattle.nit_perform.proofs.opening.glasses_of.Goals as goal
 
 pub loop-sid-preserved : goal.loop-sid-preserved

@@ -1,6 +1,6 @@
 use Rattle.std.proofs.Common.{◌≡◌, ◌+◌, ◌≤◌, ◌∙◌, length, sym, arith}
-use Rattle.nit_perform.proofs.Lemmas.{actions_of_turns, blank_glass}
-use Rattle.nit_perform.proofs.Lemmas.{glasses_long, inked, rounds, set_up}
+use Rattle.nit_perform.proofs.Lemmas.{actions_of_turns, blank_glass, glasses_long, inked, rounds}
+use Rattle.nit_perform.proofs.Lemmas.{set_up}
 use Rattle.nit_perform.proofs.opening.open.Goals as goal
 
 pub glasses_of-requires-clause-inked : goal.glasses_of-requires-clause-inked

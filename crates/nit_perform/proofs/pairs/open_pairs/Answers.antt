@@ -1,5 +1,5 @@
-use Rattle.nit_perform.proofs.Lemmas.{ClipPassModel, List, OpeningParts}
-use Rattle.nit_perform.proofs.Lemmas.{ap, length, opened_ready, sym, ◌∙◌}
+use Rattle.nit_perform.proofs.Lemmas.{ClipPassModel, List, OpeningParts, ap, length, opened_ready}
+use Rattle.nit_perform.proofs.Lemmas.{sym, ◌∙◌}
 use Rattle.nit_perform.proofs.pairs.open_pairs.Goals as goal
 
 pub open_clips-requires-clause-unserved : goal.open_clips-requires-clause-unserved

@@ -1,5 +1,5 @@
-use Rattle.nit_perform.proofs.Lemmas.{Err, None, Ok, PutFault, Some, next_goes}
-use Rattle.nit_perform.proofs.Lemmas.{next_stays, put_state_of_run, refl, sym}
+use Rattle.nit_perform.proofs.Lemmas.{Err, None, Ok, PutFault, Some, next_goes, next_stays}
+use Rattle.nit_perform.proofs.Lemmas.{put_state_of_run, refl, sym}
 use Rattle.nit_perform.proofs.puts.put_next.Goals as goal
 
 pub returns-then-is_some : goal.returns-then-is_some

@@ -1,7 +1,6 @@
-use Rattle.std.proofs.Common.{arith, not, ap, ◌∙◌}
-use Rattle.nit_perform.proofs.Lemmas.{File, PutsNext, ending_of, events_name, events_text}
-use Rattle.nit_perform.proofs.Lemmas.{next_goes, next_stays, one_more_text, put_state_of_run}
-use Rattle.nit_perform.proofs.Lemmas.{session, state_now}
+use Rattle.nit_perform.proofs.Lemmas.{File, PutsNext, ap, arith, ending_of, events_name}
+use Rattle.nit_perform.proofs.Lemmas.{events_text, next_goes, next_stays, not, one_more_text}
+use Rattle.nit_perform.proofs.Lemmas.{put_state_of_run, session, state_now, ◌∙◌}
 use Rattle.nit_perform.proofs.texts.put_events.Goals.{then-is_none, else-is_none}
 use Rattle.nit_perform.proofs.texts.put_events.Goals as goal
 

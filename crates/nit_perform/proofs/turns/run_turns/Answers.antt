@@ -2,8 +2,8 @@ use Rattle.std.proofs.Common.{rules, ◌≡◌, ◌∙◌, ◌++◌, ◌∷◌, 
 use Rattle.nit_perform.proofs.Lemmas.{Configuration, File, HasRun, HaveTables, PutState, PutsAll}
 use Rattle.nit_perform.proofs.Lemmas.{PutsLast, Sight, StoreModel, can_take_last, events_files}
 use Rattle.nit_perform.proofs.Lemmas.{false, journal_file, put_state_of_desk, put_state_of_run}
-use Rattle.nit_perform.proofs.Lemmas.{refl, run_leaves, setup_of, state_now}
-use Rattle.nit_perform.proofs.Lemmas.{text_files, true, with_texts, written_whole}
+use Rattle.nit_perform.proofs.Lemmas.{refl, run_leaves, setup_of, state_now, text_files, true}
+use Rattle.nit_perform.proofs.Lemmas.{with_texts, written_whole}
 use Rattle.nit_perform.proofs.turns.run_turns.Goals as goal
 
 pub put_last-requires-clause-can : goal.put_last-requires-clause-can

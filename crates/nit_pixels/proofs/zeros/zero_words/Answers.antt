@@ -1,5 +1,4 @@
-use Rattle.std.proofs.Common.{ap, ◌∙◌}
-use Rattle.std.proofs.lemmas.List.{take-replicate}
+use Rattle.nit_pixels.proofs.Lemmas.{ap, take-replicate, ◌∙◌}
 use Rattle.nit_word.specs.Zeros.{zeros}
 use lib.ListN.{take}
 use Rattle.nit_pixels.proofs.zeros.zero_words.Goals as goal

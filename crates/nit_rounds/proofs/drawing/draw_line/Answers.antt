@@ -1,7 +1,6 @@
-use Rattle.nit_rounds.proofs.Lemmas.{after_stroke, as_but, donation_of, drawn_but, fits, glass_in}
-use Rattle.nit_rounds.proofs.Lemmas.{Sight, ap, is_stale, line_here, no_stages, nothing_drawn}
-use Rattle.nit_rounds.proofs.Lemmas.{painted_to}
-use Rattle.nit_rounds.proofs.Lemmas.{step_there, still_fits, sym, ℕ, ◌∙◌}
+use Rattle.nit_rounds.proofs.Lemmas.{Sight, after_stroke, ap, as_but, donation_of, drawn_but, fits}
+use Rattle.nit_rounds.proofs.Lemmas.{glass_in, is_stale, line_here, no_stages, nothing_drawn}
+use Rattle.nit_rounds.proofs.Lemmas.{painted_to, step_there, still_fits, sym, ℕ, ◌∙◌}
 use Rattle.nit_rounds.proofs.drawing.draw_line.Goals as goal
 
 pub stroke-requires-clause-before : goal.stroke-requires-clause-before

@@ -1,7 +1,6 @@
-use Rattle.nit_rounds.proofs.Lemmas.{as_found, behind_still, call_done, can_call}
+use Rattle.nit_rounds.proofs.Lemmas.{Some, ap, as_found, behind_still, call_done, can_call}
 use Rattle.nit_rounds.proofs.Lemmas.{glasses_still, line_here, none_done, one_taken, same_glasses}
-use Rattle.nit_rounds.proofs.Lemmas.{same_own, served_moved}
-use Rattle.std.proofs.Common.{Some, ap, ◌∙◌}
+use Rattle.nit_rounds.proofs.Lemmas.{same_own, served_moved, ◌∙◌}
 use Rattle.nit_rounds.proofs.running.client_line.Goals as goal
 
 pub call-requires : goal.call-requires

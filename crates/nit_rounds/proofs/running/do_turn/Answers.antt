@@ -1,12 +1,9 @@
-use Rattle.std.proofs.Common.{List, [], ap, arith, refl, set, ◌∙◌}
-use Rattle.std.proofs.Common.{slice_get}
-use Rattle.nit_rounds.proofs.Lemmas.{ByClient, ByUser, FitsInputLine}
-use Rattle.nit_rounds.proofs.Lemmas.{IsShowing, Line, LineTurn}
-use Rattle.nit_rounds.proofs.Lemmas.{SceneModel, Sight, after_client, after_user, all_own, as_many}
-use Rattle.nit_rounds.proofs.Lemmas.{behind_again, clients_move, donation_of, each_at, entry_of}
-use Rattle.nit_rounds.proofs.Lemmas.{found_here, get_or_default}
-use Rattle.nit_rounds.proofs.Lemmas.{moved_settled, no_sight, read_same}
-use Rattle.nit_rounds.proofs.Lemmas.{settled, settled_turn, users_move, users_turn}
+use Rattle.nit_rounds.proofs.Lemmas.{ByClient, ByUser, FitsInputLine, IsShowing, Line, LineTurn}
+use Rattle.nit_rounds.proofs.Lemmas.{List, SceneModel, Sight, [], after_client, after_user, all_own}
+use Rattle.nit_rounds.proofs.Lemmas.{ap, arith, as_many, behind_again, clients_move, donation_of}
+use Rattle.nit_rounds.proofs.Lemmas.{each_at, entry_of, found_here, get_or_default, moved_settled}
+use Rattle.nit_rounds.proofs.Lemmas.{no_sight, read_same, refl, set, settled, settled_turn}
+use Rattle.nit_rounds.proofs.Lemmas.{slice_get, users_move, users_turn, ◌∙◌}
 use Rattle.nit_rounds.proofs.running.do_turn.Goals as goal
 
 -- ---- a client's turn

@@ -1,5 +1,4 @@
-use Rattle.nit_rounds.proofs.Lemmas.{List, Sight, ap, begun}
-use Rattle.nit_rounds.proofs.Lemmas.{front_move}
+use Rattle.nit_rounds.proofs.Lemmas.{List, Sight, ap, begun, front_move}
 use Rattle.nit_rounds.proofs.running.run_viewed.Goals as goal
 
 pub lines-init : goal.lines-init

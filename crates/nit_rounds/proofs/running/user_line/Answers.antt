@@ -1,5 +1,4 @@
-use Rattle.nit_rounds.proofs.Lemmas.{refl, shot_done}
-use Rattle.nit_rounds.proofs.Lemmas.{input_moved, one_taken, same_seen}
+use Rattle.nit_rounds.proofs.Lemmas.{input_moved, one_taken, refl, same_seen, shot_done}
 use Rattle.nit_rounds.proofs.running.user_line.Goals as goal
 
 pub returns-in-Shot-clause-done : goal.returns-in-Shot-clause-done

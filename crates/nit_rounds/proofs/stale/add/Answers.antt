@@ -1,5 +1,4 @@
-use Rattle.nit_rounds.proofs.Lemmas.{Some, copied_first, glass_in, glass_there, is_stale}
-use Rattle.nit_rounds.proofs.Lemmas.{refl}
+use Rattle.nit_rounds.proofs.Lemmas.{Some, copied_first, glass_in, glass_there, is_stale, refl}
 use Rattle.nit_rounds.proofs.stale.add.Goals as goal
 
 pub returns-clause-behind : goal.returns-clause-behind

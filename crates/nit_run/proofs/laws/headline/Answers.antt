@@ -1,8 +1,8 @@
 use Rattle.std.proofs.Common.{◌≡◌, ◌∙◌, ◌++◌, ◌∷◌, [], ℕ, ◌<◌, List, length, sym, ap, subst}
 use Rattle.nit_run.proofs.Lemmas.{Entry, IsLegal, NearLaws, Reply, after, calls_to_make, done}
 use Rattle.nit_run.proofs.Lemmas.{end_shows, events_among, events_taken, files_counted, first_state}
-use Rattle.nit_run.proofs.Lemmas.{focus_by_call, focus_by_click, get_or-map, length-map, meant}
-use Rattle.nit_run.proofs.Lemmas.{history_shows, replay, shot_shows, shots, texts_tell}
+use Rattle.nit_run.proofs.Lemmas.{focus_by_call, focus_by_click, get_or-map, history_shows}
+use Rattle.nit_run.proofs.Lemmas.{length-map, meant, replay, shot_shows, shots, texts_tell}
 use Rattle.nit_events.specs.declared.call.Reply.TheVariants as reply
 use Rattle.nit_events.specs.declared.entry.Entry.TheVariants as entry
 use Rattle.nit_run.proofs.laws.headline.Goals as goal

@@ -1,7 +1,7 @@
 use Rattle.std.proofs.Common.{◌+◌, ◌++◌, ◌∷◌, [], ◌∙◌, ℕ, List, map, take, drop, sym, ap, subst}
 use Rattle.nit_setup.proofs.Lemmas.{AreClipsRead, ClipLine, End, IsClipFault, Member, StoppedAt}
-use Rattle.nit_setup.proofs.Lemmas.{clip_name, inl, names_at, names_more, short_script}
-use Rattle.nit_setup.proofs.Lemmas.{one_more_clip_read, stopped_at_clip}
+use Rattle.nit_setup.proofs.Lemmas.{clip_name, inl, names_at, names_more, one_more_clip_read}
+use Rattle.nit_setup.proofs.Lemmas.{short_script, stopped_at_clip}
 use Rattle.nit_setup.proofs.clips.load_clips.Goals as goal
 
 abbrev names_of : List Member → List (List ℕ)

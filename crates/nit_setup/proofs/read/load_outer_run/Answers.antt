@@ -1,5 +1,4 @@
-use Rattle.std.proofs.Common.{inl, inr, subst, sym}
-use Rattle.nit_setup.proofs.Basics.{End, IsConfigFault, StoppedAt}
+use Rattle.nit_setup.proofs.Lemmas.{End, IsConfigFault, StoppedAt, inl, inr, subst, sym}
 use Rattle.nit_setup.proofs.read.load_outer_run.Goals as goal
 
 pub returns-in-Err : goal.returns-in-Err

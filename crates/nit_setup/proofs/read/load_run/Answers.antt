@@ -1,4 +1,4 @@
-use Rattle.std.proofs.Common.{inl, inr, refl}
+use Rattle.nit_setup.proofs.Lemmas.{inl, inr, refl}
 use Rattle.nit_setup.proofs.read.load_run.Goals as goal
 
 pub returns-in-Err : goal.returns-in-Err

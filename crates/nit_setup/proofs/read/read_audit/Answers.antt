@@ -1,7 +1,6 @@
-use Rattle.std.proofs.Common.{ap, false, refl, subst, sym}
-use Rattle.nit_setup.proofs.Basics.{Audit, End, IsNoJournalText, StoppedAt, name_text, setup_in}
-use Rattle.nit_setup.proofs.JournalRead.{journal_asked, text_stopped}
-use Rattle.nit_setup.proofs.RunFilesRead.{audit_stopped_first, first_asked, first_valid}
+use Rattle.nit_setup.proofs.Lemmas.{Audit, End, IsNoJournalText, StoppedAt, ap, audit_stopped_first}
+use Rattle.nit_setup.proofs.Lemmas.{false, first_asked, first_valid, journal_asked, name_text, refl}
+use Rattle.nit_setup.proofs.Lemmas.{setup_in, subst, sym, text_stopped}
 use Rattle.nit_setup.specs.declared.stop.StopName.TheVariants as file_name
 use Rattle.nit_setup.proofs.read.read_audit.Goals as goal
 

@@ -1,9 +1,7 @@
 use Rattle.std.proofs.Common.{◌≡◌, ◌∙◌, ℕ, List, Option, true, map, ap, subst}
-use Rattle.nit_setup.proofs.Basics.{AreClipsRead, ClipLine, Loaded, Member, StoppedAtClip}
-use Rattle.nit_setup.proofs.Basics.{StoreModel}
-use Rattle.nit_setup.proofs.Basics.{script_names, wanted_by}
-use Rattle.nit_setup.proofs.ClipFilesRead.{clip_stopped, clips_read}
-use Rattle.nit_setup.proofs.RunFilesRead.{clips_stopped_first, first_asked, first_valid}
+use Rattle.nit_setup.proofs.Lemmas.{AreClipsRead, ClipLine, Loaded, Member, StoppedAtClip}
+use Rattle.nit_setup.proofs.Lemmas.{StoreModel, clip_stopped, clips_read, clips_stopped_first}
+use Rattle.nit_setup.proofs.Lemmas.{first_asked, first_valid, script_names, wanted_by}
 use Rattle.nit_setup.specs.declared.stop.StopName.TheVariants as file_name
 use Rattle.nit_setup.proofs.read.read_clips.Goals as goal
 

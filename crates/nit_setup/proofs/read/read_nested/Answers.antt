@@ -1,7 +1,6 @@
 use Rattle.std.proofs.Common.{ap, subst, ◌++◌, ◌∙◌, ◌∷◌}
-use Rattle.nit_setup.proofs.Basics.{IsLoaded, by_turns, asking_all, files_in, names_in, setup_in}
-use Rattle.nit_setup.proofs.OuterFilesRead.{outer_stopped, outer_whole}
-use Rattle.nit_setup.proofs.RunFilesRead.{inner_stopped, inner_whole}
+use Rattle.nit_setup.proofs.Lemmas.{IsLoaded, asking_all, by_turns, files_in, inner_stopped}
+use Rattle.nit_setup.proofs.Lemmas.{inner_whole, names_in, outer_stopped, outer_whole, setup_in}
 use Rattle.nit_setup.proofs.read.read_nested.Goals as goal
 
 pub returns-in-Err : goal.returns-in-Err

@@ -1,4 +1,4 @@
-use Rattle.nit_setup.proofs.RunFilesRead.{film_read, run_read}
+use Rattle.nit_setup.proofs.Lemmas.{film_read, run_read}
 use Rattle.nit_setup.proofs.read.read_run.Goals as goal
 
 pub returns-clause-run : goal.returns-clause-run

@@ -1,6 +1,5 @@
-use Rattle.std.proofs.Common.{None, ap, arith, inl, subst, sym, ◌∙◌}
-use Rattle.nit_setup.proofs.Basics.{End, IsClientFault, StoppedAt, idle_user}
-use Rattle.nit_setup.proofs.PictureFiles.{picture_read, picture_stopped, still_runnable}
+use Rattle.nit_setup.proofs.Lemmas.{End, IsClientFault, None, StoppedAt, ap, arith, idle_user, inl}
+use Rattle.nit_setup.proofs.Lemmas.{picture_read, picture_stopped, still_runnable, subst, sym, ◌∙◌}
 use Rattle.nit_setup.proofs.read.read_still.Goals as goal
 
 pub returns-in-Err : goal.returns-in-Err

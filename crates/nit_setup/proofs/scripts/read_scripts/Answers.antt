@@ -1,10 +1,9 @@
-use Rattle.std.proofs.Common.{◌≡◌, ◌∙◌, ℕ, List, Option, None, length, map, ap, subst, inl}
-use Rattle.std.proofs.Common.{All, ◌≤◌, inr, sym}
-use Rattle.nit_setup.proofs.Lemmas.{End, StoppedAt, short_name}
-use Rattle.nit_setup.proofs.Basics.{IsInputFault, IsMember}
-use Rattle.nit_setup.proofs.Lemmas.{Configuration, IfSome, IsInputScript, Member, SoFar}
-use Rattle.nit_setup.proofs.Lemmas.{StoppedAmong, bytes_of, run_runnable, script_names, wanted_by}
-use Rattle.nit_setup.proofs.Lemmas.{with_asked, wrong_input}
+use Rattle.std.proofs.Common.{◌≡◌, ◌∙◌, ℕ, List, Option, None, length, map, ap, subst, inl, All}
+use Rattle.std.proofs.Common.{◌≤◌, inr, sym}
+use Rattle.nit_setup.proofs.Lemmas.{Configuration, End, IfSome, IsInputFault, IsInputScript}
+use Rattle.nit_setup.proofs.Lemmas.{IsMember, Member, SoFar, StoppedAmong, StoppedAt, bytes_of}
+use Rattle.nit_setup.proofs.Lemmas.{run_runnable, script_names, short_name, wanted_by, with_asked}
+use Rattle.nit_setup.proofs.Lemmas.{wrong_input}
 use Rattle.nit_setup.proofs.scripts.read_scripts.Goals as goal
 
 pub load_scripts-requires : goal.load_scripts-requires

@@ -3,11 +3,7 @@ use Rattle.nit_setup.proofs.Lemmas.{NoCommand, arith, command, length-map, lt-lt
 use Rattle.nit_setup.proofs.Lemmas.{sym, texts}
 use Rattle.nit_setup.proofs.words.parse_words.Goals as goal
 use Rattle.nit_setup.proofs.words.parse_words.Goals.{in_default-via-then-words-lt2}
-use Rattle.nit_setup.proofs.words.parse_words.Goals.{}
-use Rattle.nit_setup.proofs.words.parse_words.Goals.{}
 use Rattle.nit_setup.proofs.words.parse_words.Goals.{in_default-via-else-words-lt2+else-words-lt3+else-words-lt4+else-words-lt5+then-words-lt6}
-use Rattle.nit_setup.proofs.words.parse_words.Goals.{}
-use Rattle.nit_setup.proofs.words.parse_words.Goals.{}
 use Rattle.nit_setup.proofs.words.parse_words.Goals.{in_default-via-else-words-lt2+else-words-lt3+else-words-lt4+else-words-lt5+else-words-lt6+else-words-lt7}
 
 not_less : (a b : ℕ) → nat_lt a b ≡ false → a < b → ⊥

@@ -1,6 +1,5 @@
 use Rattle.nit_top.proofs.Lemmas.{Audit, End, Entry, IsAuditEnd, List, ap, false, found_ends}
-use Rattle.nit_top.proofs.Lemmas.{name_text}
-use Rattle.nit_top.proofs.Lemmas.{setup_in, stopped_ends, subst, sym}
+use Rattle.nit_top.proofs.Lemmas.{name_text, setup_in, stopped_ends, subst, sym}
 use Rattle.nit_top.proofs.audit.audited.Goals as goal
 
 pub returns-in-Err : goal.returns-in-Err

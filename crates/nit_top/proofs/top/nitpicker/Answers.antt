@@ -1,5 +1,4 @@
-use Rattle.nit_top.proofs.Lemmas.{causes, ended_as}
-use Rattle.nit_top.specs.Terms.{texts}
+use Rattle.nit_top.proofs.Lemmas.{causes, ended_as, texts}
 use Rattle.nit_top.proofs.top.nitpicker.Goals as goal
 
 pub returns : goal.returns

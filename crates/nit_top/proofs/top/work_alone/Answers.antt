@@ -1,7 +1,5 @@
-use Rattle.nit_setup.specs.declared.words.Asked.{Asked}
-use Rattle.nit_top.proofs.Basics.{Ends, Option, Stop, ap, subst, sym, ◌∙◌}
-use Rattle.nit_top.proofs.EndsAfterRun.{usage_ends}
-use Rattle.nit_top.specs.Terms.{command_of}
+use Rattle.nit_top.proofs.Lemmas.{Asked, Ends, Option, Stop, ap, command_of, subst, sym, usage_ends}
+use Rattle.nit_top.proofs.Lemmas.{◌∙◌}
 use Rattle.nit_top.proofs.top.work_alone.Goals as goal
 
 pub returns-in-None : goal.returns-in-None

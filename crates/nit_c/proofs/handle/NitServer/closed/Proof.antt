@@ -1,6 +1,6 @@
 -- `closed` makes a handle that owns nothing.
 use Rattle.std.proofs.Common.{[], ◌∷◌, refl}
-use Rattle.std.proofs.raw_atomic.Walks.{proved}
+use Rattle.nit_c.proofs.Lemmas.{NitServer, nothing_kept, owner_in, proved, the_type}
 use lib.Dec.{lit<}
 use mir.Syntax.{w64}
 use mir.Val.{vint}
@@ -13,14 +13,10 @@ use denote.RawPtr.{null_ptr}
 use denote.Steps.{nothing}
 use denote.Triple.Entry.{on_entry}
 use denote.Triple.Walked.{says, ends_at}
-use Rattle.nit_c.specs.Held.{nothing_kept}
-use Rattle.nit_c.specs.declared.handle.NitServer.{NitServer}
-use Rattle.nit_c.specs.contracts.handle.NitServer.{the_type}
 use Rattle.nit_c.specs.contracts.handle.NitServer.closed as f
 use Rattle.nit_c.proofs.handle.NitServer.TheLaws.{lowered}
 use Rattle.nit_c.proofs.handle.NitServer.closed.Statement.{statement}
 use Rattle.nit_c.proofs.handle.NitServer.closed.Code as code
-use Rattle.nit_c.proofs.Owners.{owner_in}
 
 pub closed_spec : {M : Type 1} → statement M
 closed_spec 𝓤 𝓛 𝓜 𝓡 wired =

@@ -1,6 +1,6 @@
 -- `into_raw` hands on what a live handle owns.
 use Rattle.std.proofs.Common.{◌≡◌, [], ◌∷◌, refl}
-use Rattle.std.proofs.raw_atomic.Walks.{proved}
+use Rattle.nit_c.proofs.Lemmas.{held_owns, kept_row, live_mark, owner_in, owner_typed, proved}
 use base.Fml.{ftrue, fsep}
 use mir.Val.{Val, vstruct, vcons, vnil}
 use contract.Monad.{fact}
@@ -18,14 +18,12 @@ use denote.Struct.Struct.{Struct}
 use denote.Signature.{plain}
 use denote.Steps.{nothing, heard}
 use denote.Triple.Walked.{Stays, says, stay_dropped, Goes-dropped, ends_at}
-use Rattle.nit_c.specs.Held.{held_owns, kept_row, live_mark}
 use Rattle.nit_c.specs.contracts.raw_box.RawBox as RawBox
 use Rattle.nit_c.specs.contracts.handle.NitServer as NitServer
 use Rattle.nit_c.proofs.handle.NitServer.TheLaws as laws
 use Rattle.nit_c.specs.contracts.handle.NitServer.into_raw as f
 use Rattle.nit_c.proofs.handle.NitServer.into_raw.Statement.{statement}
 use Rattle.nit_c.proofs.handle.NitServer.into_raw.Code as code
-use Rattle.nit_c.proofs.Owners.{owner_in, owner_typed}
 
 abbrev stayed : Stays f.ended.signature.params f.ended.kept
 stayed = (stay_dropped (plain (λ _. NitServer.the_row)) yes, tt)

@@ -1,7 +1,6 @@
 -- `mark` reads a field behind the reference.
 use Rattle.std.proofs.Common.{List, [], ◌∷◌, refl, sym}
-use Rattle.std.proofs.raw_atomic.Walks.{proved}
-use Rattle.core.proofs.mem.Facts.{says_two}
+use Rattle.nit_c.proofs.Lemmas.{proved, says_two}
 use base.Fml.{ftrue, flft}
 use base.Fraction.{full_share}
 use mir.Syntax.{named, w64}

@@ -1,7 +1,7 @@
 -- `of_raw` keeps what the raw box owns.
 use Rattle.std.proofs.Common.{◌≡◌, List, [], ◌∷◌, refl, sym}
-use Rattle.std.proofs.raw_atomic.Walks.{proved}
-use Rattle.core.proofs.mem.Facts.{says_two}
+use Rattle.nit_c.proofs.Lemmas.{held_owns, kept_row, live_mark, owner_in, owner_typed, proved}
+use Rattle.nit_c.proofs.Lemmas.{says_two}
 use base.Fml.{ftrue, fsep}
 use mir.Syntax.{w64}
 use mir.Val.{Val, vint, vstruct, vcons, vnil}
@@ -23,14 +23,12 @@ use denote.Struct.Struct.{Struct}
 use denote.Signature.{plain}
 use denote.Steps.{nothing, heard}
 use denote.Triple.Walked.{Stays, stay_dropped, Goes-dropped, ends_at}
-use Rattle.nit_c.specs.Held.{held_owns, kept_row, live_mark}
 use Rattle.nit_c.specs.contracts.raw_box.RawBox as RawBox
 use Rattle.nit_c.specs.contracts.handle.NitServer as NitServer
 use Rattle.nit_c.proofs.handle.NitServer.TheLaws as laws
 use Rattle.nit_c.specs.contracts.handle.NitServer.of_raw as f
 use Rattle.nit_c.proofs.handle.NitServer.of_raw.Statement.{statement}
 use Rattle.nit_c.proofs.handle.NitServer.of_raw.Code as code
-use Rattle.nit_c.proofs.Owners.{owner_in, owner_typed}
 
 abbrev From : Owning
 From = RawBox.the_type kept_row

@@ -1,7 +1,6 @@
 -- `into_box` hands what the raw box owns to `from_raw`.
 use Rattle.std.proofs.Common.{◌≡◌, List, [], ◌∷◌, refl}
-use Rattle.std.proofs.raw_atomic.Walks.{proved}
-use Rattle.std_alloc.proofs.VecSteps.Shapes.{after}
+use Rattle.nit_c.proofs.Lemmas.{after, dict, ghosts, owner_typed, proved}
 use base.Fml.{ftrue, fsep, flft}
 use base.Fraction.{full_share}
 use base.Logic.{emp, id⊢}
@@ -37,7 +36,6 @@ use types.Part.{whole, sub}
 use types.Run.{enter, of_opd, stop, fld, no_more, and_then, first, blocks, exec, returns}
 use types.Tokens.{lft_new}
 use Rattle.std_heap.specs.contracts.Global as Heap
-use Rattle.std_heap.specs.contracts.GlobalAllocator.TheImpl.{ghosts, dict}
 use Rattle.std_heap.proofs.Global.TheLaws as heap
 use Rattle.std_heap.proofs.GlobalAllocator.TheImpl.Met as heap_met
 use Rattle.std_alloc.specs.contracts.boxed.Box as Boxed
@@ -50,7 +48,6 @@ use Rattle.nit_c.proofs.raw_box.RawBox.into_box.Statement.{statement}
 use Rattle.nit_c.proofs.raw_box.RawBox.into_box.Symbol as symbol
 use Rattle.nit_c.proofs.Destruct++none.drop.Code as drop_code
 use Rattle.nit_c.proofs.raw_box.RawBox.into_box.Code as code
-use Rattle.nit_c.proofs.Owners.{owner_typed}
 
 pub into_box_spec : {M : Type 1} → statement M
 unfolding drop_code.code

@@ -1,6 +1,7 @@
 -- `of` keeps what `into_raw` hands back.
 use Rattle.std.proofs.Common.{List, [], ◌∷◌, ◌++◌, ◌∙◌, ap, refl}
-use Rattle.std.proofs.raw_atomic.Walks.{proved}
+use Rattle.nit_c.proofs.Lemmas.{Goes-blank, dict, ghosts, heap_token, met, owner_in, owner_typed}
+use Rattle.nit_c.proofs.Lemmas.{proved}
 use base.Fml.{ftrue, fsep, flft}
 use base.Fraction.{full_share}
 use base.Logic.{emp, id⊢}
@@ -25,7 +26,6 @@ use denote.Triple.Clauses.{Lasts, lasts}
 use denote.Triple.Spec.{triple_of}
 use denote.Triple.Table.{framed}
 use denote.Triple.Walked.{Stays, walk_of, says, stay_dropped, ends_at}
-use Rattle.core.proofs.alloc.Calls.{Goes-blank}
 use mir.MapTy.{inst_fn}
 use mir.Raw.{raw as bare}
 use mir.Syntax.{Dict, Ty, dcons, a_type, impl, tcons, tnil, dnil}
@@ -37,22 +37,18 @@ use types.Part.{agg}
 use types.Run.{enter, of_opd, no_more, and_then, returns}
 use types.Tokens.{lft_new}
 use Rattle.std_alloc.specs.Box.Ownership.{box_owns}
-use Rattle.nit_c.specs.HeapToken.{heap_token}
 use Rattle.std_heap.specs.contracts.Global as Heap
-use Rattle.std_heap.specs.contracts.GlobalAllocator.TheImpl.{ghosts, dict}
 use Rattle.std_heap.proofs.Global.TheLaws as heap
 use Rattle.std_heap.proofs.GlobalAllocator.TheImpl.Met as heap_met
 use Rattle.std_alloc.specs.contracts.boxed.Box as Boxed
 use Rattle.std_alloc.proofs.boxed.Box.TheLaws as boxed
 use Rattle.std_alloc.specs.contracts.boxed.Box.into_raw as g
-use Rattle.std_alloc.proofs.boxed.Box.into_raw.Met.{met}
 use Rattle.nit_c.specs.contracts.raw_box.RawBox as RawBox
 use Rattle.nit_c.specs.contracts.raw_box.RawBox.of as f
 use Rattle.nit_c.proofs.raw_box.RawBox.of.Statement.{statement}
 use Rattle.nit_c.proofs.raw_box.RawBox.of.Symbol as symbol
 use Rattle.nit_c.proofs.Destruct++none.drop.Code as drop_code
 use Rattle.nit_c.proofs.raw_box.RawBox.of.Code as code
-use Rattle.nit_c.proofs.Owners.{owner_in, owner_typed}
 
 pub of_spec : {M : Type 1} → statement M
 unfolding drop_code.code

@@ -1,8 +1,7 @@
 use Rattle.std.proofs.Common.{refl, subst, sym, ◌-◌, ◌^◌, ◌<◌, ◌∙◌}
-use Rattle.nit_desktop.proofs.Basics.{Agrees, State, session, state_of, unaccepted_state}
+use Rattle.nit_desktop.proofs.Lemmas.{Agrees, State, call_keeps_handles, goes_on, inks_again}
+use Rattle.nit_desktop.proofs.Lemmas.{raw_again, session, state_of, unaccepted_state}
 use Rattle.nit_events.specs.declared.entry.Entry.TheVariants as entry
-use Rattle.nit_desktop.proofs.DesktopLemmas.{goes_on, inks_again, raw_again}
-use Rattle.nit_desktop.proofs.HandleBounds.{call_keeps_handles}
 use Rattle.nit_desktop.proofs.desktop.Desktop.call.Goals as goal
 
 pub invariant_of-self : goal.invariant_of-self

@@ -1,5 +1,4 @@
-use Rattle.std.proofs.Common.{List, subst, sym, ℕ}
-use Rattle.nit_desktop.proofs.Basics.{ShowsLabels, scenery_of, state_of}
+use Rattle.nit_desktop.proofs.Lemmas.{List, ShowsLabels, scenery_of, state_of, subst, sym, ℕ}
 use Rattle.nit_desktop.proofs.desktop.Desktop.frame.Goals as goal
 
 pub returns-clause-shown : goal.returns-clause-shown

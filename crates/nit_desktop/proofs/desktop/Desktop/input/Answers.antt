@@ -1,8 +1,7 @@
 use Rattle.std.proofs.Common.{All, List, refl, subst, sym, ◌-◌, ◌^◌, ◌<◌}
-use Rattle.nit_desktop.proofs.Basics.{Agrees, Delivery, IsLive, State, session, state_of}
+use Rattle.nit_desktop.proofs.Lemmas.{Agrees, Delivery, IsLive, State, goes_on, inks_again}
+use Rattle.nit_desktop.proofs.Lemmas.{input_keeps_handles, raw_again, session, state_of}
 use Rattle.nit_events.specs.declared.entry.Entry.TheVariants as entry
-use Rattle.nit_desktop.proofs.DesktopLemmas.{goes_on, inks_again, raw_again}
-use Rattle.nit_desktop.proofs.HandleBounds.{input_keeps_handles}
 use Rattle.nit_desktop.proofs.desktop.Desktop.input.Goals as goal
 
 pub invariant_of-self : goal.invariant_of-self

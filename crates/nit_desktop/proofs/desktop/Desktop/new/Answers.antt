@@ -1,5 +1,4 @@
-use Rattle.nit_desktop.proofs.Openings.{begins}
-use Rattle.nit_desktop.proofs.Basics.{state_of}
+use Rattle.nit_desktop.proofs.Lemmas.{begins, state_of}
 use Rattle.nit_desktop.proofs.desktop.Desktop.new.Goals as goal
 
 pub invariant_of-result : goal.invariant_of-result

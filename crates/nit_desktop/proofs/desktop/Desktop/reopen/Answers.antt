@@ -1,10 +1,8 @@
 use Rattle.std.proofs.Common.{List, ap, map, set, subst, sym, ℕ, ◌*◌, ◌∙◌, ◌≡◌}
-use Rattle.std.proofs.lemmas.List.{ext_get_or, map-set}
-use Rattle.nit_paint.specs.Repaint.{no_sight}
-use Rattle.nit_desktop.proofs.Basics.{IsDesktop, ServerModel, Sight, State, clean_seen, clean_words}
-use Rattle.nit_desktop.proofs.Basics.{glass_in, only_opens, opened, owns_none, pixel, state_of}
-use Rattle.nit_desktop.proofs.Closings.{as_many_sights, taken_out}
-use Rattle.nit_desktop.proofs.Openings.{opens_on}
+use Rattle.nit_desktop.proofs.Lemmas.{IsDesktop, ServerModel, Sight, State, as_many_sights}
+use Rattle.nit_desktop.proofs.Lemmas.{clean_seen, clean_words, ext_get_or, glass_in, map-set}
+use Rattle.nit_desktop.proofs.Lemmas.{no_sight, only_opens, opened, opens_on, owns_none, pixel}
+use Rattle.nit_desktop.proofs.Lemmas.{state_of, taken_out}
 use Rattle.nit_desktop.proofs.desktop.Desktop.reopen.Goals as goal
 
 -- where nothing is loaded each glass is seen as before

@@ -1,7 +1,5 @@
-use Rattle.std.proofs.Common.{ap, arith, ◌∙◌}
-use Rattle.nit_desktop.proofs.Basics.{State, session}
-use Rattle.nit_desktop.specs.Desktop.{DesktopModel}
-use Rattle.nit_desktop.proofs.Closings.{none_lost, none_made}
+use Rattle.nit_desktop.proofs.Lemmas.{DesktopModel, State, ap, arith, none_lost, none_made, session}
+use Rattle.nit_desktop.proofs.Lemmas.{◌∙◌}
 use Rattle.nit_desktop.proofs.desktop.Desktop.vacant.Goals as goal
 
 pub invariant_of-desktop : goal.invariant_of-desktop

@@ -1,7 +1,6 @@
 use Rattle.std.proofs.Common.{ap, map, sym, ◌*◌, ◌∙◌}
-use Rattle.nit_desktop.proofs.Basics.{State}
-use Rattle.nit_desktop.proofs.Closings.{as_many_sights, closes, closes_clean, closes_unseen}
-use Rattle.nit_desktop.proofs.Closings.{same_sights}
+use Rattle.nit_desktop.proofs.Lemmas.{State, as_many_sights, closes, closes_clean, closes_unseen}
+use Rattle.nit_desktop.proofs.Lemmas.{same_sights}
 use Rattle.nit_desktop.proofs.desktop.opening.close.Goals as goal
 
 pub returns-clause-state : goal.returns-clause-state

@@ -1,6 +1,4 @@
-use Rattle.std.proofs.Common.{ap, arith, length}
-use Rattle.nit_desktop.proofs.Basics.{Configuration}
-use Rattle.nit_desktop.proofs.Closings.{all_closed}
+use Rattle.nit_desktop.proofs.Lemmas.{Configuration, all_closed, ap, arith, length}
 use Rattle.nit_desktop.proofs.desktop.opening.close_all.Goals as goal
 
 pub returns-clause-state : goal.returns-clause-state

@@ -1,6 +1,5 @@
 use Rattle.std.proofs.Common.{◌≡◌, ◌+◌}
-use Rattle.nit_desktop.specs.Desktop.{KeepsWords}
-use Rattle.nit_desktop.proofs.Closings.{AreClosedTo}
+use Rattle.nit_desktop.proofs.Lemmas.{AreClosedTo, KeepsWords}
 use Rattle.nit_desktop.proofs.desktop.opening.close_all.Given as goal
 
 abbrev pub invariant-sessions : goal.invariant-sessions

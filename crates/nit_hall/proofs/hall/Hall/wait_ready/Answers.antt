@@ -1,6 +1,5 @@
-use Rattle.nit_hall.proofs.Basics.{Entry, IsLegal, OpeningParts, PassModel, stretch_from, with_stages}
-use Rattle.nit_hall.proofs.Lemmas.{open_whole}
-use Rattle.std.proofs.Common.{List, ap, subst, sym, ◌∙◌}
+use Rattle.nit_hall.proofs.Lemmas.{Entry, IsLegal, List, OpeningParts, PassModel, ap, open_whole}
+use Rattle.nit_hall.proofs.Lemmas.{stretch_from, subst, sym, with_stages, ◌∙◌}
 use mathlib.Core.List.{IsPrefix}
 use Rattle.nit_hall.proofs.hall.Hall.wait_ready.Goals as goal
 

@@ -1,7 +1,7 @@
-use Rattle.nit_hall.proofs.Lemmas.{CanAgree, End, IsMet, IsRoom, PassModel, RoomModel}
-use Rattle.nit_hall.proofs.Lemmas.{SceneModel, buffers_of, can_agree, left_of}
-use Rattle.nit_hall.proofs.Lemmas.{end_with, room_admitted, room_and_pass_met, rules, slice_get_within, staged_room}
-use Rattle.nit_hall.proofs.Lemmas.{stretch, with_room_stages, with_stages, without_final}
+use Rattle.nit_hall.proofs.Lemmas.{CanAgree, End, IsMet, IsRoom, PassModel, RoomModel, SceneModel}
+use Rattle.nit_hall.proofs.Lemmas.{buffers_of, can_agree, end_with, left_of, room_admitted}
+use Rattle.nit_hall.proofs.Lemmas.{room_and_pass_met, rules, slice_get_within, staged_room, stretch}
+use Rattle.nit_hall.proofs.Lemmas.{with_room_stages, with_stages, without_final}
 use Rattle.std.proofs.Common.{List, ap, refl, subst, sym, ℕ, ◌∙◌, ◌≡◌}
 use Rattle.nit_hall.proofs.room.Room.admit.Goals as goal
 use Rattle.nit_hall.proofs.room.Room.admit.Goals.{After-agree_on_stretch}

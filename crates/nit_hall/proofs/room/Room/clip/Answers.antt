@@ -2,10 +2,10 @@ use Rattle.std.proofs.Common.{ap, drop, length, refl, subst, sym, take, ◌+◌,
 use Rattle.nit_hall.proofs.Lemmas.{BookModel, ClipPassModel, Entry, FoundClip, IsLegalClips, IsRoom}
 use Rattle.nit_hall.proofs.Lemmas.{JournalModel, List, PassModel, RoomModel, ShareModel, arith}
 use Rattle.nit_hall.proofs.Lemmas.{back_raised, clip_answer, clip_counted, clip_pass_call}
-use Rattle.nit_hall.proofs.Lemmas.{clipboard_of, follows_then, next_clip, number_is, open_whole}
-use Rattle.nit_hall.proofs.Basics.{stretch_from, with_room_stages, with_stages}
-use Rattle.nit_hall.proofs.Lemmas.{room_clip, room_left, served_clip, slice_index, state_now}
-use Rattle.nit_hall.proofs.Lemmas.{entries_in, front_of_each, raws_in, take-set-le, without_final}
+use Rattle.nit_hall.proofs.Lemmas.{clipboard_of, entries_in, follows_then, front_of_each, next_clip}
+use Rattle.nit_hall.proofs.Lemmas.{number_is, open_whole, raws_in, room_clip, room_left}
+use Rattle.nit_hall.proofs.Lemmas.{served_clip, slice_index, state_now, stretch_from, take-set-le}
+use Rattle.nit_hall.proofs.Lemmas.{with_room_stages, with_stages, without_final}
 use mathlib.Core.List.{IsPrefix}
 use Rattle.nit_hall.proofs.room.Room.clip.Goals as goal
 use Rattle.nit_hall.proofs.room.Room.clip.Goals.{After-entries, After-serve-reply}

@@ -1,6 +1,5 @@
 use Rattle.nit_hall.proofs.Lemmas.{arith, front_of_each, get_or-take, length, pass_counted}
-use Rattle.nit_hall.proofs.Lemmas.{pass_met}
-use Rattle.nit_hall.proofs.Lemmas.{slice_get_within}
+use Rattle.nit_hall.proofs.Lemmas.{pass_met, slice_get_within}
 use Rattle.std.proofs.Common.{rules, ◌+◌, ◌<◌, ◌∙◌}
 use Rattle.nit_hall.proofs.room.Room.meet.Goals as goal
 

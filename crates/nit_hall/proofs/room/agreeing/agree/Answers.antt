@@ -1,5 +1,5 @@
-use Rattle.std.proofs.Common.{List, ap, set, sym, ◌∙◌}
-use Rattle.nit_hall.proofs.Lemmas.{End, SceneModel, put_back, same_Some, set_there, slice_get}
+use Rattle.nit_hall.proofs.Lemmas.{End, List, SceneModel, ap, put_back, same_Some, set, set_there}
+use Rattle.nit_hall.proofs.Lemmas.{slice_get, sym, ◌∙◌}
 use Rattle.nit_hall.proofs.room.agreeing.agree.Goals as goal
 
 pub returns-clause-scene : goal.returns-clause-scene

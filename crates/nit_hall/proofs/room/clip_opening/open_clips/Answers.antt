@@ -1,6 +1,7 @@
 use Rattle.std.proofs.Common.{[], ap, length, refl, subst, sym, ◌+◌, ◌∙◌, ◌≡◌}
-use Rattle.nit_hall.proofs.Lemmas.{BookModel, IsRoom, RoomModel, clip_script_in, opened_clips}
-use Rattle.nit_hall.proofs.Lemmas.{entries_in, parts_long, raws_in, room_with_clips, without_final}
+use Rattle.nit_hall.proofs.Lemmas.{BookModel, IsRoom, RoomModel, clip_script_in, entries_in}
+use Rattle.nit_hall.proofs.Lemmas.{opened_clips, parts_long, raws_in, room_with_clips}
+use Rattle.nit_hall.proofs.Lemmas.{without_final}
 use Rattle.nit_hall.proofs.room.clip_opening.open_clips.Goals as goal
 
 pub invariant_of-room : goal.invariant_of-room

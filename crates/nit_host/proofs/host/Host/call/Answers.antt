@@ -1,17 +1,10 @@
 use Rattle.std.proofs.Common.{Ok, ap, arith, length, set, sym, ◌<◌, ◌∙◌}
-use Rattle.std.specs.Option.{option_map}
-use Rattle.nit_host.specs.Fresh.{sheets_of}
-use Rattle.nit_host.specs.Host.{HostModel, called, unserved_call}
-use Rattle.nit_host.specs.Looked.{frame_at}
-use Rattle.nit_host.specs.Sheet.{SheetModel}
+use Rattle.nit_host.proofs.Lemmas.{DesktopModel, HostModel, SheetModel, WasCalled, after, called}
+use Rattle.nit_host.proofs.Lemmas.{frame_at, hollow_glass, may_call, only_called, option_map}
+use Rattle.nit_host.proofs.Lemmas.{own_plain, seen_called, serve, sheets_of, unserved_call}
+use Rattle.nit_host.proofs.Lemmas.{when_served, words_stay}
 use Rattle.nit_events.specs.declared.entry.Entry.TheVariants as entry
-use Rattle.nit_host.specs.Below.{DesktopModel, after, serve}
 use Rattle.nit_host.specs.Below.{session as session_}
-use Rattle.nit_host.proofs.CallChanges.{seen_called, words_stay}
-use Rattle.nit_host.proofs.Served.{may_call}
-use Rattle.nit_host.proofs.SheetLists.{hollow_glass, own_plain}
-use Rattle.nit_host.proofs.Steps.{WasCalled, only_called}
-use Rattle.nit_host.proofs.ActLemmas.{when_served}
 use Rattle.nit_host.proofs.host.Host.call.Goals as goal
 
 pub exchange-requires-clause-glass : goal.exchange-requires-clause-glass

@@ -1,6 +1,4 @@
-use Rattle.std.proofs.Common.{ap, arith, not, sym}
-use Rattle.nit_host.specs.Terms.{is_taken}
-use Rattle.nit_host.proofs.FirstSeats.{first_seat, no_seat}
+use Rattle.nit_host.proofs.Lemmas.{ap, arith, first_seat, is_taken, no_seat, not, sym}
 use Rattle.nit_host.proofs.host.Host.first_free.Goals as goal
 
 pub returns-then-not-is_taken : goal.returns-then-not-is_taken

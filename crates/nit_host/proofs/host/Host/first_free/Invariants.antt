@@ -1,5 +1,5 @@
 use Rattle.std.proofs.Common.{false, not, ℕ, ◌<◌, ◌≡◌}
-use Rattle.nit_host.specs.Terms.{is_taken}
+use Rattle.nit_host.proofs.Lemmas.{is_taken}
 use Rattle.nit_host.proofs.host.Host.first_free.Given as goal
 
 abbrev pub invariant-seats : goal.invariant-seats

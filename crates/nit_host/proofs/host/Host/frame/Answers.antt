@@ -1,9 +1,6 @@
 use Rattle.std.proofs.Common.{List, ap, subst, ℕ, ◌∙◌, ◌≡◌}
-use Rattle.nit_host.specs.Below.{State}
-use Rattle.nit_host.specs.Fresh.{sheets_of}
-use Rattle.nit_host.specs.Host.{HostModel, picture, sheet_in}
-use Rattle.nit_host.specs.Terms.{ShowsLabels, frame, scenery_of}
-use Rattle.nit_host.proofs.Freshness.{shown_fresh}
+use Rattle.nit_host.proofs.Lemmas.{HostModel, ShowsLabels, State, frame, picture, scenery_of}
+use Rattle.nit_host.proofs.Lemmas.{sheet_in, sheets_of, shown_fresh}
 use Rattle.nit_host.proofs.host.Host.frame.Goals as goal
 
 pub returns-clause-shown : goal.returns-clause-shown

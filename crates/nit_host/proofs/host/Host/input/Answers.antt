@@ -1,11 +1,5 @@
-use Rattle.std.proofs.Common.{Ok, ap, sym, ◌∙◌}
-use Rattle.std.specs.Option.{option_map}
-use Rattle.nit_host.specs.Fresh.{sheets_of}
-use Rattle.nit_host.specs.Host.{HostModel, told, unserved_input}
-use Rattle.nit_host.specs.Looked.{frame_at}
-use Rattle.nit_host.proofs.OtherChanges.{seen_input}
-use Rattle.nit_host.proofs.Inputs.{WasTold, was_told}
-use Rattle.nit_host.proofs.ActLemmas.{when_served}
+use Rattle.nit_host.proofs.Lemmas.{HostModel, Ok, WasTold, ap, frame_at, option_map, seen_input}
+use Rattle.nit_host.proofs.Lemmas.{sheets_of, sym, told, unserved_input, was_told, when_served, ◌∙◌}
 use Rattle.nit_host.proofs.host.Host.input.Goals as goal
 
 -- what the event left

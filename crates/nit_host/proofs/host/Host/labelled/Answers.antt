@@ -1,6 +1,4 @@
-use Rattle.std.proofs.Common.{arith, sym}
-use Rattle.nit_host.specs.Terms.{has_label}
-use Rattle.nit_host.proofs.FirstSeats.{first_seat, no_seat}
+use Rattle.nit_host.proofs.Lemmas.{arith, first_seat, has_label, no_seat, sym}
 use Rattle.nit_host.proofs.host.Host.labelled.Goals as goal
 
 pub returns-then-has_label-clause-found : goal.returns-then-has_label-clause-found

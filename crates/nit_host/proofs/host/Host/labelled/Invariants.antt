@@ -1,5 +1,5 @@
 use Rattle.std.proofs.Common.{false, ℕ, ◌<◌, ◌≡◌}
-use Rattle.nit_host.specs.Terms.{has_label}
+use Rattle.nit_host.proofs.Lemmas.{has_label}
 use Rattle.nit_host.proofs.host.Host.labelled.Given as goal
 
 abbrev pub invariant-seats : goal.invariant-seats

@@ -1,11 +1,7 @@
 use Rattle.std.proofs.Common.{Some, ap, subst, sym, ℕ, ◌*◌, ◌∙◌, ◌≡◌}
-use Rattle.nit_look.specs.Look.{AgreeOutside}
-use Rattle.nit_host.specs.Below.{DesktopModel}
-use Rattle.nit_host.specs.Fresh.{sheets_of}
-use Rattle.nit_host.specs.Host.{HostModel, IsAsSeen, frame_by, frame_shown}
-use Rattle.nit_host.specs.Looked.{IsSeenBut, frame_at}
-use Rattle.nit_host.specs.Sheet.{SheetModel}
-use Rattle.nit_host.proofs.Looking.{agree_outside, seen_now}
+use Rattle.nit_host.proofs.Lemmas.{AgreeOutside, DesktopModel, HostModel, IsAsSeen, IsSeenBut}
+use Rattle.nit_host.proofs.Lemmas.{SheetModel, agree_outside, frame_at, frame_by, frame_shown}
+use Rattle.nit_host.proofs.Lemmas.{seen_now, sheets_of}
 use Rattle.nit_host.proofs.host.Host.look.Goals as goal
 
 pub invariant_of-self : goal.invariant_of-self

@@ -1,20 +1,13 @@
 use Rattle.std.proofs.Common.{Ok, ap, arith, length, set, subst, ◌<◌, ◌∙◌, ◌≡◌}
-use Rattle.std.specs.Option.{option_map}
-use Rattle.nit_host.specs.Below.{Call, after, plain_sight, serve, session, told_words}
-use Rattle.nit_host.specs.Touch.{touch_of}
+use Rattle.nit_host.proofs.Lemmas.{Call, IsPlainOf, WasRefreshed, Words, after, after_handing}
+use Rattle.nit_host.proofs.Lemmas.{frame_at, handed_plain, hollow_glass, hollow_quiet, may_refresh}
+use Rattle.nit_host.proofs.Lemmas.{option_map, own_plain, own_room, plain_by_owner, plain_sight}
+use Rattle.nit_host.proofs.Lemmas.{quiet_sheets, quiet_with, refreshed, seen_called, serve, session}
+use Rattle.nit_host.proofs.Lemmas.{sheets_of, told_words, touch_of, unserved_refresh, was_refreshed}
+use Rattle.nit_host.proofs.Lemmas.{when_served}
 use Rattle.nit_events.specs.declared.call.Call.TheVariants as call
 use Rattle.nit_events.specs.declared.entry.Entry.TheVariants as entry
-use Rattle.nit_host.specs.Fresh.{IsPlainOf, sheets_of}
-use Rattle.nit_host.specs.Handing.{after_handing}
-use Rattle.nit_host.specs.Host.{refreshed, unserved_refresh}
-use Rattle.nit_host.specs.Looked.{frame_at}
-use Rattle.nit_host.proofs.CallChanges.{Words, seen_called}
-use Rattle.nit_host.proofs.Refreshing.{WasRefreshed, handed_plain, was_refreshed}
-use Rattle.nit_host.proofs.Served.{may_refresh}
-use Rattle.nit_host.proofs.SheetLists.{hollow_glass, hollow_quiet, own_plain, own_room}
-use Rattle.nit_host.proofs.SheetLists.{plain_by_owner, quiet_sheets, quiet_with}
 use Rattle.nit_host.proofs.Steps.{Serves}
-use Rattle.nit_host.proofs.ActLemmas.{when_served}
 use Rattle.nit_host.proofs.host.Host.refresh.Goals as goal
 
 pub exchange-requires-clause-glass : goal.exchange-requires-clause-glass

@@ -1,16 +1,8 @@
 use Rattle.std.proofs.Common.{ap, arith, refl, set, ℕ, ◌∙◌, ◌≡◌}
-use Rattle.std.specs.Option.{option_map}
-use Rattle.nit_host.specs.Below.{DesktopModel, opened, source_at, word_from}
-use Rattle.nit_host.specs.Fresh.{sheets_of}
-use Rattle.nit_host.specs.Host.{sheet_in}
-use Rattle.nit_host.specs.Looked.{frame_at}
-use Rattle.nit_host.specs.Seats.{seated, unseated}
-use Rattle.nit_host.specs.Sheet.{SheetModel}
-use Rattle.nit_host.proofs.FirstSeats.{free_of}
-use Rattle.nit_host.proofs.OtherChanges.{seen_seated}
-use Rattle.nit_host.proofs.Seatings.{WasSeated, blank_glass, may_sit, was_seated}
-use Rattle.nit_host.proofs.SheetLists.{hollow_glass}
-use Rattle.nit_host.proofs.ActLemmas.{when_served}
+use Rattle.nit_host.proofs.Lemmas.{DesktopModel, SheetModel, WasSeated, blank_glass, frame_at}
+use Rattle.nit_host.proofs.Lemmas.{free_of, hollow_glass, may_sit, opened, option_map, seated}
+use Rattle.nit_host.proofs.Lemmas.{seen_seated, sheet_in, sheets_of, source_at, unseated}
+use Rattle.nit_host.proofs.Lemmas.{was_seated, when_served, word_from}
 use Rattle.nit_host.proofs.host.Host.seat.Goals as goal
 
 pub exchange-requires-clause-glass : goal.exchange-requires-clause-glass

@@ -1,10 +1,7 @@
 use Rattle.std.proofs.Common.{true, ℕ, ◌<◌, ◌∙◌, ◌≡◌, ap, arith, refl, subst, sym}
-use Rattle.nit_host.specs.Area.{IsAreaOf, has_place}
-use Rattle.nit_host.specs.Below.{Configuration, DesktopModel, first_state}
-use Rattle.nit_host.specs.Fresh.{sheets_of}
-use Rattle.nit_host.specs.Sheet.{SheetModel}
-use Rattle.nit_host.proofs.Beginnings.{begun, blank_glasses, first_now}
-use Rattle.nit_host.proofs.Looking.{nothing_seen}
+use Rattle.nit_host.proofs.Lemmas.{Configuration, DesktopModel, IsAreaOf, SheetModel, begun}
+use Rattle.nit_host.proofs.Lemmas.{blank_glasses, first_now, first_state, has_place, nothing_seen}
+use Rattle.nit_host.proofs.Lemmas.{sheets_of}
 use Rattle.nit_host.proofs.host.Host.seated.Goals as goal
 
 pub new-requires-clause-glasses : goal.new-requires-clause-glasses

@@ -1,5 +1,5 @@
-use Rattle.std.proofs.Common.{arith, refl, sym}
-use Rattle.nit_host.proofs.FirstSeats.{free_not_taken, label_decides, taken_unless_free}
+use Rattle.nit_host.proofs.Lemmas.{arith, free_not_taken, label_decides, refl, sym}
+use Rattle.nit_host.proofs.Lemmas.{taken_unless_free}
 use Rattle.nit_host.proofs.host.Host.unseated.Goals as goal
 
 pub returns-then-not-is_free : goal.returns-then-not-is_free

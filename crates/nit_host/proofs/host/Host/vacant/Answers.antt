@@ -1,10 +1,7 @@
 use Rattle.std.proofs.Common.{true, ℕ, ◌<◌, ◌∙◌, ◌≡◌, List, ap, arith, refl, subst, sym}
-use Rattle.nit_host.specs.Area.{IsAreaOf, has_place}
-use Rattle.nit_host.specs.Below.{Configuration, Sight, State, glass_in, vacant_state}
-use Rattle.nit_host.specs.Fresh.{sheets_of}
-use Rattle.nit_host.proofs.Beginnings.{begun, blank_glasses, first_now}
-use Rattle.nit_host.proofs.Looking.{nothing_seen}
-use Rattle.nit_host.proofs.SheetLists.{same_sheets}
+use Rattle.nit_host.proofs.Lemmas.{Configuration, IsAreaOf, Sight, State, begun, blank_glasses}
+use Rattle.nit_host.proofs.Lemmas.{first_now, glass_in, has_place, nothing_seen, same_sheets}
+use Rattle.nit_host.proofs.Lemmas.{sheets_of, vacant_state}
 use Rattle.nit_host.proofs.host.Host.vacant.Goals as goal
 
 pub vacant-requires-clause-glasses : goal.vacant-requires-clause-glasses

@@ -1,9 +1,7 @@
 use Rattle.std.proofs.Common.{List, ap, arith, set, slice_get, sym, ◌∙◌, ◌≡◌}
 use Rattle.nit_events.specs.declared.entry.Entry.TheVariants as entry
-use Rattle.nit_host.specs.Below.{DesktopModel}
-use Rattle.nit_host.specs.Sheet.{SheetModel}
-use Rattle.nit_host.proofs.SheetLists.{own_stays, plain_quiet, sheets_stay}
-use Rattle.nit_host.proofs.Steps.{painted_by_all}
+use Rattle.nit_host.proofs.Lemmas.{DesktopModel, SheetModel, own_stays, painted_by_all, plain_quiet}
+use Rattle.nit_host.proofs.Lemmas.{sheets_stay}
 use Rattle.nit_host.proofs.host.calls.serve.Goals as goal
 
 abbrev stay : (c : goal.After-exchange) → c.call-reply.new.self.glasses ≡ c.args.desktop.now.glasses

@@ -1,6 +1,4 @@
-use Rattle.std.proofs.Common.{arith}
-use Rattle.std.proofs.lemmas.Int.{ints}
-use Rattle.nit_host.proofs.Rows.{clip_order, clipped}
+use Rattle.nit_host.proofs.Lemmas.{arith, clip_order, clipped, ints}
 use Rattle.nit_host.proofs.host.handing.clip.Goals as goal
 
 pub returns-clause-order : goal.returns-clause-order

@@ -1,7 +1,4 @@
-use Rattle.std.proofs.Common.{arith}
-use Rattle.std.proofs.lemmas.Int.{ints}
-use Rattle.nit_host.specs.Terms.{told_words}
-use Rattle.nit_host.proofs.Rows.{handed_part}
+use Rattle.nit_host.proofs.Lemmas.{arith, handed_part, ints, told_words}
 use Rattle.nit_host.proofs.host.handing.hand_in.Goals as goal
 
 pub returns-in-Some : goal.returns-in-Some

@@ -1,7 +1,5 @@
 use Rattle.std.proofs.Common.{ap, arith, subst, sym, ℕ, ◌*◌, ◌+◌, ◌∙◌, ◌≡◌, ◌≤◌}
-use Rattle.nit_host.specs.Terms.{told_words}
-use Rattle.nit_host.specs.Below.{Sight}
-use Rattle.nit_host.proofs.Rows.{row_fits, row_more, rows_begun, rows_sized}
+use Rattle.nit_host.proofs.Lemmas.{Sight, row_fits, row_more, rows_begun, rows_sized, told_words}
 use Rattle.nit_host.proofs.host.handing.hand_in_rows.Goals as goal
 
 -- as many words as at first

@@ -1,4 +1,4 @@
-use Rattle.nit_host.specs.Terms.{IsHandedIn, is_in_rows, low_bytes, set_where}
+use Rattle.nit_host.proofs.Lemmas.{IsHandedIn, is_in_rows, low_bytes, set_where}
 use Rattle.nit_host.proofs.host.handing.hand_in_rows.Given as goal
 
 abbrev pub invariant-rows : goal.invariant-rows

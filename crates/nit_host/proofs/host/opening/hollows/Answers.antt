@@ -1,6 +1,5 @@
 use Rattle.std.proofs.Common.{ap, arith, length, subst, sym, ◌+◌, ◌∙◌}
-use Rattle.nit_host.specs.Below.{Configuration}
-use Rattle.nit_host.proofs.Beginnings.{AreHollowTo, all_hollow, one_hollow, sized_at}
+use Rattle.nit_host.proofs.Lemmas.{AreHollowTo, Configuration, all_hollow, one_hollow, sized_at}
 use Rattle.nit_host.proofs.host.opening.hollows.Goals as goal
 
 pub seats-preserved : goal.seats-preserved

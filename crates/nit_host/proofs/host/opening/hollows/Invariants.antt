@@ -1,4 +1,4 @@
-use Rattle.nit_host.proofs.Beginnings.{AreHollowTo}
+use Rattle.nit_host.proofs.Lemmas.{AreHollowTo}
 use Rattle.nit_host.proofs.host.opening.hollows.Given as goal
 
 abbrev pub invariant-seats : goal.invariant-seats

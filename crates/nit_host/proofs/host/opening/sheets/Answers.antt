@@ -1,6 +1,6 @@
 use Rattle.std.proofs.Common.{ap, arith, length, subst, sym, ◌+◌, ◌∙◌}
-use Rattle.nit_host.specs.Below.{Configuration}
-use Rattle.nit_host.proofs.Beginnings.{HaveRoomTo, all_blank, all_sheets, one_room, sized_at}
+use Rattle.nit_host.proofs.Lemmas.{Configuration, HaveRoomTo, all_blank, all_sheets, one_room}
+use Rattle.nit_host.proofs.Lemmas.{sized_at}
 use Rattle.nit_host.proofs.host.opening.sheets.Goals as goal
 
 pub seats-preserved : goal.seats-preserved

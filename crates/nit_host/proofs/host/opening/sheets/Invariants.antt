@@ -1,4 +1,4 @@
-use Rattle.nit_host.proofs.Beginnings.{HaveRoomTo}
+use Rattle.nit_host.proofs.Lemmas.{HaveRoomTo}
 use Rattle.nit_host.proofs.host.opening.sheets.Given as goal
 
 abbrev pub invariant-seats : goal.invariant-seats

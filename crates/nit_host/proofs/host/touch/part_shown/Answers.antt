@@ -1,7 +1,5 @@
 use Rattle.std.proofs.Common.{arith, ◌&&◌}
-use Rattle.std.proofs.lemmas.Int.{ints}
-use Rattle.nit_host.specs.Below.{covers, point}
-use Rattle.nit_host.proofs.Areas.{first_test, second_test, shown_there}
+use Rattle.nit_host.proofs.Lemmas.{covers, first_test, ints, point, second_test, shown_there}
 use Rattle.nit_host.proofs.host.touch.part_shown.Goals as goal
 
 pub returns : goal.returns

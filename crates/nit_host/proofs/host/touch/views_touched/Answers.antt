@@ -1,7 +1,5 @@
 use Rattle.std.proofs.Common.{arith, inl, inr, ◌≡◌}
-use Rattle.std.proofs.lemmas.Bool.{cases_lt}
-use Rattle.std.proofs.lemmas.Option.{slice_get_within}
-use Rattle.nit_host.proofs.Areas.{same_view}
+use Rattle.nit_host.proofs.Lemmas.{cases_lt, same_view, slice_get_within}
 use Rattle.nit_host.proofs.host.touch.views_touched.Goals as goal
 
 pub views-preserved : goal.views-preserved

@@ -1,5 +1,5 @@
 use Rattle.std.proofs.Common.{Some, slice_get, true, ℕ, ◌<◌, ◌≡◌}
-use Rattle.nit_host.specs.Terms.{IsAreaOf, View, has_place, is_touched, point}
+use Rattle.nit_host.proofs.Lemmas.{IsAreaOf, View, has_place, is_touched, point}
 use Rattle.nit_host.proofs.host.touch.views_touched.Given as goal
 
 abbrev pub invariant-views : goal.invariant-views

@@ -1,7 +1,5 @@
-use Rattle.std.proofs.Common.{ap, arith, ◌∙◌}
-use Rattle.nit_host.specs.Sheet.{SheetModel, handed_over}
-use Rattle.nit_host.specs.Below.{plain_sight}
-use Rattle.nit_host.proofs.Sheets.{handed_in, sized}
+use Rattle.nit_host.proofs.Lemmas.{SheetModel, ap, arith, handed_in, handed_over, plain_sight}
+use Rattle.nit_host.proofs.Lemmas.{sized, ◌∙◌}
 use Rattle.nit_host.proofs.sheet.Sheet.hand_in.Goals as goal
 
 pub reach-requires : goal.reach-requires

@@ -1,6 +1,4 @@
-use Rattle.std.proofs.Common.{ap}
-use Rattle.nit_host.specs.Sheet.{SheetModel}
-use Rattle.nit_host.proofs.Sheets.{blank_again}
+use Rattle.nit_host.proofs.Lemmas.{SheetModel, ap, blank_again}
 use Rattle.nit_host.proofs.sheet.Sheet.wipe.Goals as goal
 
 pub returns-clause-sight : goal.returns-clause-sight

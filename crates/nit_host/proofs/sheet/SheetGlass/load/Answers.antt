@@ -1,8 +1,5 @@
-use Rattle.std.proofs.Common.{ap, arith, sym, ◌∙◌}
-use Rattle.std.proofs.Math.ListN.{get_or-eq_default}
-use Rattle.std.proofs.lemmas.List.{get_or_default}
-use Rattle.nit_host.specs.Sheet.{SheetModel}
-use Rattle.nit_host.proofs.Sheets.{word_loaded}
+use Rattle.nit_host.proofs.Lemmas.{SheetModel, ap, arith, get_or-eq_default, get_or_default, sym}
+use Rattle.nit_host.proofs.Lemmas.{word_loaded, ◌∙◌}
 use Rattle.nit_host.proofs.sheet.SheetGlass.load.Goals as goal
 use Rattle.nit_host.proofs.sheet.SheetGlass.load.Goals.{then-i-len, else-i-len}
 

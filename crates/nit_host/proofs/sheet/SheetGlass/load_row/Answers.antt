@@ -1,7 +1,5 @@
 use Rattle.std.proofs.Common.{ap, arith, List, ℕ, ◌+◌, ◌∙◌}
-use Rattle.std.specs.Prelude.{slice_index}
-use Rattle.nit_host.specs.Sheet.{SheetModel}
-use Rattle.nit_host.proofs.Sheets.{word_loaded}
+use Rattle.nit_host.proofs.Lemmas.{SheetModel, slice_index, word_loaded}
 use Rattle.nit_host.proofs.sheet.SheetGlass.load_row.Goals as goal
 
 pub returns-clause-loaded : goal.returns-clause-loaded

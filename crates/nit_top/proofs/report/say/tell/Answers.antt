@@ -1,7 +1,5 @@
-use Rattle.nit_top.proofs.Lemmas.{End, List, Says, subst, sym, ℕ}
-use Rattle.nit_top.proofs.Basics.{line_of, command_of, name_text}
-use Rattle.nit_top.specs.ProgramLines.{read_fault_line, write_fault_line}
-use Rattle.nit_top.proofs.EndsAfterRun.{totals_on}
+use Rattle.nit_top.proofs.Lemmas.{End, List, Says, command_of, line_of, name_text, read_fault_line}
+use Rattle.nit_top.proofs.Lemmas.{subst, sym, totals_on, write_fault_line, ℕ}
 use Rattle.nit_top.proofs.report.say.tell.Goals as goal
 
 pub returns-in-ReadFault : goal.returns-in-ReadFault

@@ -1,7 +1,6 @@
-use Rattle.nit_top.proofs.Lemmas.{Capture, Stop, ap, film_ends, is_off_screen}
-use Rattle.nit_top.proofs.Lemmas.{outside_ends, setup_in, stopped_ends, sym, true, ◌∙◌}
-use Rattle.nit_top.proofs.Basics.{IsRunnable, PerformedFilmed, subst}
-use Rattle.nit_setup.specs.declared.read.Loaded.{Loaded}
+use Rattle.nit_top.proofs.Lemmas.{Capture, IsRunnable, Loaded, PerformedFilmed, Stop, ap, film_ends}
+use Rattle.nit_top.proofs.Lemmas.{is_off_screen, outside_ends, setup_in, stopped_ends, subst, sym}
+use Rattle.nit_top.proofs.Lemmas.{true, ◌∙◌}
 use Rattle.nit_top.proofs.run.capture.capture.Goals as goal
 
 pub returns-in-Err : goal.returns-in-Err

@@ -1,6 +1,6 @@
-use Rattle.std.proofs.Common.{List, length, ap, subst, sym, ◌∙◌}
-use Rattle.nit_top.proofs.Lemmas.{Clip, ClipLine, IsRunnable, PerformedClips, clips_end}
-use Rattle.nit_top.proofs.Lemmas.{setup_with_clips, clips_setup_of, stopped_ends}
+use Rattle.nit_top.proofs.Lemmas.{Clip, ClipLine, IsRunnable, List, PerformedClips, ap, clips_end}
+use Rattle.nit_top.proofs.Lemmas.{clips_setup_of, length, setup_with_clips, stopped_ends, subst}
+use Rattle.nit_top.proofs.Lemmas.{sym, ◌∙◌}
 use Rattle.nit_top.proofs.run.clips.clip.Goals as goal
 
 pub returns-in-Err : goal.returns-in-Err

@@ -1,6 +1,6 @@
-use Rattle.std.proofs.Common.{List, Err, sym, subst}
-use Rattle.nit_top.proofs.Lemmas.{Bad, End, IsInnerEnd, Line, MayCome, NestError, NestsRun}
-use Rattle.nit_top.proofs.Lemmas.{NoMemory, Phases, RunFiles, TooLong, end_of_nest, run_files}
+use Rattle.nit_top.proofs.Lemmas.{Bad, End, Err, IsInnerEnd, Line, List, MayCome, NestError}
+use Rattle.nit_top.proofs.Lemmas.{NestsRun, NoMemory, Phases, RunFiles, TooLong, end_of_nest}
+use Rattle.nit_top.proofs.Lemmas.{run_files, subst, sym}
 use Rattle.nit_top.proofs.run.inner.run_inner.Goals as goal
 
 may_come : (i : RunFiles) (own : List Line) (e : NestError) → NestsRun i own (Err e) → MayCome e

@@ -1,13 +1,11 @@
 use Rattle.std.proofs.Common.{◌≡◌, ◌∙◌, Some, Ok, Err, true, ℕ, List, length, ap, sym}
-use Rattle.nit_top.proofs.Lemmas.{AreLines, Entry, FitsLine, IsInnerEnd, IsRunnable, Line}
-use Rattle.nit_top.proofs.Lemmas.{PerformedNested, Setup, Stop, begun, files_in}
-use Rattle.nit_top.proofs.Lemmas.{by_turns, first_other, first_shows, frames_counted, frames_of}
-use Rattle.nit_top.proofs.Lemmas.{inner_stopped, name_text, names_in}
-use Rattle.nit_top.proofs.Lemmas.{nested_ends, no_other, other_phases, outer_runnable}
-use Rattle.nit_setup.proofs.ForCallers.{other_short}
-use Rattle.nit_top.proofs.Lemmas.{Nested, stopped_ends}
-use Rattle.nit_top.proofs.Lemmas.{own_counts, phase_counts, phases, run_files}
-use Rattle.nit_top.proofs.Lemmas.{runnable_of, setup_is, setup_of, subst, they_fit, unfit_ends}
+use Rattle.nit_top.proofs.Lemmas.{AreLines, Entry, FitsLine, IsInnerEnd, IsRunnable, Line, Nested}
+use Rattle.nit_top.proofs.Lemmas.{PerformedNested, Setup, Stop, begun, by_turns, files_in}
+use Rattle.nit_top.proofs.Lemmas.{first_other, first_shows, frames_counted, frames_of}
+use Rattle.nit_top.proofs.Lemmas.{inner_stopped, name_text, names_in, nested_ends, no_other}
+use Rattle.nit_top.proofs.Lemmas.{other_phases, other_short, outer_runnable, own_counts}
+use Rattle.nit_top.proofs.Lemmas.{phase_counts, phases, run_files, runnable_of, setup_is, setup_of}
+use Rattle.nit_top.proofs.Lemmas.{stopped_ends, subst, they_fit, unfit_ends}
 use Rattle.nit_setup.specs.declared.stop.Fault.TheVariants as fault
 use Rattle.nit_top.proofs.run.nested.nested.Goals as goal
 
