@@ -2,11 +2,12 @@
 use Rattle.std.proofs.Common.{Bool, List, None, [], ap, arith, cond, get_or, length, refl}
 use Rattle.std.proofs.Common.{replicate, subst, sym, true, false, ℕ, ◌*◌, ◌++◌, ◌+◌, ◌<◌, ◌∙◌, ◌∷◌}
 use Rattle.std.proofs.Common.{◌≡◌, ◌≤◌, slice_index}
+use Rattle.std.proofs.lemmas.List.{get_or-map}
 use Rattle.nit_host.proofs.Basics.{AreBlank, AreGlasses, AreHollow, AreSheets, Bare, Configuration}
 use Rattle.nit_host.proofs.Basics.{DesktopModel, IsFresh, IsHost, Member, Point, SheetModel, Sight}
 use Rattle.nit_host.proofs.Basics.{State, View, bar_rows, bare_word, blank_sheet, blank_sheets}
 use Rattle.nit_host.proofs.Basics.{buffer_size, ext_get_or, first_host, get_or-append_seam}
-use Rattle.nit_host.proofs.Basics.{get_or-map, get_or-replicate, get_or_append_left, get_or_default}
+use Rattle.nit_host.proofs.Basics.{get_or-replicate, get_or_append_left, get_or_default}
 use Rattle.nit_host.proofs.Basics.{glass_in, in_bar, length-append, length-map, length-zeros, owner}
 use Rattle.nit_host.proofs.Basics.{pixel, pixel_count, plain_sight, sheet_at, sheet_in, sheets_of}
 use Rattle.nit_host.proofs.Basics.{size_at, source_of, source_under, table_size, told_words}

@@ -2,9 +2,10 @@
 use Rattle.std.proofs.Common.{Bool, List, None, Option, Some, [], ap, arith, false, get_or, length}
 use Rattle.std.proofs.Common.{map, nat_le, not, refl, rules, subst, suc, sym, take, true, zero, ℕ}
 use Rattle.std.proofs.Common.{◌++◌, ◌+◌, ◌<◌, ◌||◌, ◌∙◌, ◌∷◌, ◌≡◌, ◌≢◌, ◌≤◌, if◌then◌else◌, IsTrue}
+use Rattle.std.proofs.lemmas.List.{get_or-map}
 use Rattle.nit_host.proofs.Basics.{IsConfiguration, IsMember, Member, PlanError, SeatPlan}
 use Rattle.nit_host.proofs.Basics.{and_parts, enumerate_from, false≢true, get_or-enumerate_from}
-use Rattle.nit_host.proofs.Basics.{get_or-map, hex_digit, is_label, is_screen, is_within}
+use Rattle.nit_host.proofs.Basics.{hex_digit, is_label, is_screen, is_within}
 use Rattle.nit_host.proofs.Basics.{length-enumerate_from, length-map, length-take-le, list_all}
 use Rattle.nit_host.proofs.Basics.{map-append, nat_tests, planned, refused_plan, take_more}
 use Rattle.nit_host.proofs.Basics.{waiting_label, waiting_member}
