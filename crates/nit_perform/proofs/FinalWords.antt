@@ -62,9 +62,8 @@ of_a_session sessions p (Some v) t i e =
 held_word : (glasses : ℕ → Sight) (tables : ℕ → List ℕ) (source : PixelSource) (w : ℕ)
     → ((t i : ℕ) → source ≡ Word t i → (glasses t).words ≡ Some (tables t)) → IsWordOfSource glasses source w
     → w ≡ word_from tables source
-held_word glasses tables Bare w told held = held
-held_word glasses tables Black w told held = held
 held_word glasses tables (Word t i) w told held = told_word (glasses t).words (tables t) i w (told t i refl) held.told
+held_word glasses tables other w told held = held
 
 -- each glass tells the words of its session
 abbrev Tell : State → (ℕ → Sight) → (ℕ → List ℕ) → Type 0

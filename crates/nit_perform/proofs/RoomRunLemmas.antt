@@ -182,8 +182,7 @@ known_whole scripts input next known entries journal (more, front) ended is all 
 word_is : (config : Configuration) (scripts : List (List Line)) (source : PixelSource)
     → left_word config scripts source ≡ word_from (tables_left config scripts) source
 word_is config scripts Bare = refl
-word_is config scripts Black = refl
-word_is config scripts (Word t i) = refl
+word_is config scripts other = refl
 
 words_are : (config : Configuration) (scripts : List (List Line)) (s : State)
     → words_left_in config scripts s ≡ words_of s (raw_word s (tables_left config scripts))

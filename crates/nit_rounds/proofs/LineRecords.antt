@@ -56,8 +56,7 @@ one_taken old new e spare spare' recorded taken room =
 no_record : (l : Line) (sid : ℕ) (before after : List Entry) → ((call : Call) → l ≡ line.Call call → ⊥) → after ≡ before
     → IsRecorded sid l before after
 no_record (line.Call call) sid before after other same = absurd (other call refl)
-no_record (line.Stroke s) sid before after other same = same
-no_record line.Phase sid before after other same = same
+no_record rest sid before after other same = same
 
 -- ---- what is loaded
 
@@ -84,8 +83,7 @@ call_done sid call old mid new there own' is does =
 no_entry : (s : State) (l : Line) (sid : ℕ) → ((call : Call) → l ≡ line.Call call → ⊥)
     → None ≡ entry_of s (ByClient sid l)
 no_entry s (line.Call call) sid other = absurd (other call refl)
-no_entry s (line.Stroke x) sid other = refl
-no_entry s line.Phase sid other = refl
+no_entry s rest sid other = refl
 
 -- any other line leaves what was drawn
 pub none_done : (sid : ℕ) (l : Line) (old mid : SceneModel Sight) (there own' : Sight)

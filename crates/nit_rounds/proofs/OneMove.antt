@@ -51,8 +51,7 @@ recorded_acts sid (line.Call call) before after' recorded = rw (
   map-append action_of before (entry.Call
       sid call recorded.0 ∷ []),
 )
-recorded_acts sid (line.Stroke s) before after' recorded = cc (recorded, append-nil (map action_of before))
-recorded_acts sid line.Phase before after' recorded = cc (recorded, append-nil (map action_of before))
+recorded_acts sid other before after' recorded = cc (recorded, append-nil (map action_of before))
 
 -- an entry for a move that is left fits
 pub room_for : (scripts : List (List Line)) (lines : List InputLine) (before now : SceneModel Sight) (owns : List Sight)

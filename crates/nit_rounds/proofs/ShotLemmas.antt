@@ -24,8 +24,7 @@ pub line_shots : (sid : ℕ) (l : Line) (before after' : List Entry) → IsRecor
     → shots after' ≡ shots before
 line_shots sid (line.Call call) before after' recorded =
     none_more before after' (entry.Call sid call recorded.0) refl recorded.1
-line_shots sid (line.Stroke x) before after' recorded = ap shots recorded
-line_shots sid line.Phase before after' recorded = ap shots recorded
+line_shots sid other before after' recorded = ap shots recorded
 
 -- nor is what a device did
 pub device_shots : (before after' : List Entry) (dev : Device) → IsUserRecorded (input.Device dev) before after'

@@ -14,9 +14,8 @@ AreOf glasses tables = (t i w : ℕ) → IsLoaded (glasses t) i w → w ≡ slic
 
 pub held_word : (glasses : ℕ → Sight) (tables : ℕ → List ℕ) (source : PixelSource) (w : ℕ) → AreOf glasses tables
     → IsWordOfSource glasses source w → w ≡ word_from tables source
-held_word glasses tables Bare w are held = held
-held_word glasses tables Black w are held = held
 held_word glasses tables (Word t i) w are held = are t i w held
+held_word glasses tables other w are held = held
 
 no_lines : (donation k : ℕ) → words_after [] donation k ≡ zeros (table_size donation)
 no_lines donation zero = refl

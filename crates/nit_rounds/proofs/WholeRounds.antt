@@ -52,18 +52,15 @@ script_actions p n (input.Phase ∷ ls) = script_actions (suc p) (suc n) ls
 
 other_call : (s p t : ℕ) (l : Line) → (t ≡ s → ⊥) → call_in s p (ByClient t l) ≡ []
 other_call s p t (line.Call c) other = rw (ne_eqb t s other) refl
-other_call s p t (line.Stroke x) other = refl
-other_call s p t line.Phase other = refl
+other_call s p t rest other = refl
 
 no_action : (p t : ℕ) (l : Line) → action_in p (ByClient t l) ≡ []
 no_action p t (line.Call c) = refl
-no_action p t (line.Stroke x) = refl
-no_action p t line.Phase = refl
+no_action p t other = refl
 
 no_call : (s p : ℕ) (l : InputLine) → call_in s p (ByUser l) ≡ []
 no_call s p (input.Device d) = refl
-no_call s p input.Shot = refl
-no_call s p input.Phase = refl
+no_call s p other = refl
 
 round_calls : (scripts : List (List Line)) (input : List InputLine) (s : ℕ)
     → flat_map (calls_in s) (rounds scripts input) ≡ calls_to_make (get_or scripts s [])
@@ -93,9 +90,7 @@ is_call s c (entry.Call t call r) e =
     let made : call ≡ c = cc in
     rw (← same) (subst (λ (x : Call). IsCall t x (entry.Call t call r)) made
     (record { phases = λ clients user rest. refl; calls = λ x rest. refl; actions = λ rest. refl }))
-is_call s c (entry.Input dev routed) e = absurd (cc)
-is_call s c (entry.Shot number) e = absurd (cc)
-is_call s c entry.Final e = absurd (cc)
+is_call s c other e = absurd (cc)
 
 -- what an entry that is the user's action puts in front
 record IsAction (d : UserAction) (j : Entry) : Type 0 where
@@ -111,8 +106,7 @@ is_action d (entry.Input dev routed) e =
 is_action d (entry.Shot number) e =
     let same : Shoots ≡ d = cc in
     rw (← same) (record { phases = λ clients user rest. refl; calls = λ x rest. refl; actions = λ rest. refl })
-is_action d (entry.Call t call r) e = absurd (cc)
-is_action d entry.Final e = absurd (cc)
+is_action d other e = absurd (cc)
 
 -- ---- all entries
 
@@ -197,12 +191,6 @@ more p n (ByClient s (line.Call c)) ms follow clients user (j ∷ js) ahead e =
     more_call s p n c ms clients user j js (is_call s c j head) ahead.calls
     (follow (set clients s (left (to_do clients s))) user js
     (record { calls = call_left clients s p c ms ahead.calls; actions = ahead.actions }) tail)
-more p n (ByClient s (line.Stroke x)) ms follow clients user js ahead e =
-    let f = follow clients user js (record { calls = ahead.calls; actions = ahead.actions }) e in
-    record { phases = f.phases; calls = f.calls; actions = f.actions }
-more p n (ByClient s line.Phase) ms follow clients user js ahead e =
-    let f = follow clients user js (record { calls = ahead.calls; actions = ahead.actions }) e in
-    record { phases = f.phases; calls = f.calls; actions = f.actions }
 more p n (ByUser (input.Device d)) ms follow clients user [] ahead e =
     absurd (not_both (Acts (Does d)) (actions_of_turns ms) e)
 more p n (ByUser (input.Device d)) ms follow clients user (j ∷ js) ahead e =
@@ -218,7 +206,7 @@ more p n (ByUser input.Shot) ms follow clients user (j ∷ js) ahead e =
     more_action p n Shoots input.Shot ms clients user j js (is_action Shoots j head)
     (follow clients (left user) js (record { calls = ahead.calls; actions = ap left ahead.actions }) tail)
     (rw ahead.actions) refl refl
-more p n (ByUser input.Phase) ms follow clients user js ahead e =
+more p n other ms follow clients user js ahead e =
     let f = follow clients user js (record { calls = ahead.calls; actions = ahead.actions }) e in
     record { phases = f.phases; calls = f.calls; actions = f.actions }
 

@@ -56,14 +56,12 @@ call_refused t (Title v text) = by_first (by_handle t v) (unless (is_title text)
     (by_unless (is_title text) reply.BadTitle refl)
 call_refused t (Destroy v) = by_view t v
 call_refused t (Refresh x y w h) = by_unless (is_rectangle x y w h) reply.BadRect refl
-call_refused t Take = refl
 call_refused t (Upgrade m) = by_unless (nat_le m t.reserve) (reply.NoReserve m t.reserve) refl
-call_refused t Close = refl
+call_refused t other = refl
 
 status_refused : (s : Status) → no_event (by_status s) ≡ true
 status_refused status.Live = refl
-status_refused status.Closed = refl
-status_refused status.Killed = refl
+status_refused other = refl
 
 -- a call may be answered so: only `Take` may be answered by an event
 abbrev MayAnswer : Call → Reply → Type 0
@@ -72,33 +70,11 @@ MayAnswer other r = no_event (Some r) ≡ true
 
 refused_so : (call : Call) (r : Reply) → no_event (Some r) ≡ true → MayAnswer call r
 refused_so Take r is = tt
-refused_so (Buffer w h) r is = is
-refused_so View r is = is
-refused_so (Place v x y w h) r is = is
-refused_so (Offset v x y) r is = is
-refused_so (Front v) r is = is
-refused_so (Back v) r is = is
-refused_so (Above v w) r is = is
-refused_so (Title v text) r is = is
-refused_so (Destroy v) r is = is
-refused_so (Refresh x y w h) r is = is
-refused_so (Upgrade m) r is = is
-refused_so Close r is = is
+refused_so other r is = is
 
 accepted_so : (t : Session) (call : Call) → MayAnswer call (accepted t call).reply
 accepted_so t Take = tt
-accepted_so t (Buffer w h) = refl
-accepted_so t View = refl
-accepted_so t (Place v x y w h) = refl
-accepted_so t (Offset v x y) = refl
-accepted_so t (Front v) = refl
-accepted_so t (Back v) = refl
-accepted_so t (Above v w) = refl
-accepted_so t (Title v text) = refl
-accepted_so t (Destroy v) = refl
-accepted_so t (Refresh x y w h) = refl
-accepted_so t (Upgrade m) = refl
-accepted_so t Close = refl
+accepted_so t other = refl
 
 answered_so : (t : Session) (call : Call) → MayAnswer call (serve t call).reply
 unfolding serve
@@ -113,19 +89,8 @@ answered_so t call = by (refusal t call)
 
 -- the event that a reply is
 among_one : (r : Reply) (rest : List Reply) → no_event (Some r) ≡ true → events_among (r ∷ rest) ≡ events_among rest
-among_one reply.Done rest is = refl
-among_one (reply.Handle h) rest is = refl
 among_one (reply.Event e) rest is = absurd cc
-among_one reply.NoEvent rest is = refl
-among_one (reply.NoSuchView h) rest is = refl
-among_one reply.BadRect rest is = refl
-among_one reply.BadSize rest is = refl
-among_one reply.BadTitle rest is = refl
-among_one reply.TooManyViews rest is = refl
-among_one (reply.OutOfQuota need left) rest is = refl
-among_one (reply.NoReserve need left) rest is = refl
-among_one reply.Closed rest is = refl
-among_one reply.Killed rest is = refl
+among_one other rest is = refl
 
 not_taken : (b : Bool) (r : Reply) (rest : List Reply) → no_event (Some r) ≡ true
     → events_among rest ≡ events_among (cond b (r ∷ rest) rest)
@@ -141,19 +106,6 @@ one_taken false e rest = refl
 taken_here : (s sid : ℕ) (call : Call) (r : Reply) (rest : List Reply) → MayAnswer call r
     → taken s (entry.Call sid call r) ++ events_among rest ≡ events_among (cond (sid == s) (r ∷ rest) rest)
 taken_here s sid Take (reply.Event e) rest may = one_taken (sid == s) e rest
-taken_here s sid Take reply.Done rest may = not_taken (sid == s) reply.Done rest refl
-taken_here s sid Take (reply.Handle h) rest may = not_taken (sid == s) (reply.Handle h) rest refl
-taken_here s sid Take reply.NoEvent rest may = not_taken (sid == s) reply.NoEvent rest refl
-taken_here s sid Take (reply.NoSuchView h) rest may = not_taken (sid == s) (reply.NoSuchView h) rest refl
-taken_here s sid Take reply.BadRect rest may = not_taken (sid == s) reply.BadRect rest refl
-taken_here s sid Take reply.BadSize rest may = not_taken (sid == s) reply.BadSize rest refl
-taken_here s sid Take reply.BadTitle rest may = not_taken (sid == s) reply.BadTitle rest refl
-taken_here s sid Take reply.TooManyViews rest may = not_taken (sid == s) reply.TooManyViews rest refl
-taken_here s sid Take (reply.OutOfQuota need left) rest may =
-    not_taken (sid == s) (reply.OutOfQuota need left) rest refl
-taken_here s sid Take (reply.NoReserve need left) rest may = not_taken (sid == s) (reply.NoReserve need left) rest refl
-taken_here s sid Take reply.Closed rest may = not_taken (sid == s) reply.Closed rest refl
-taken_here s sid Take reply.Killed rest may = not_taken (sid == s) reply.Killed rest refl
 taken_here s sid (Buffer w h) r rest may = not_taken (sid == s) r rest may
 taken_here s sid View r rest may = not_taken (sid == s) r rest may
 taken_here s sid (Place v x y w h) r rest may = not_taken (sid == s) r rest may
@@ -166,6 +118,7 @@ taken_here s sid (Destroy v) r rest may = not_taken (sid == s) r rest may
 taken_here s sid (Refresh x y w h) r rest may = not_taken (sid == s) r rest may
 taken_here s sid (Upgrade m) r rest may = not_taken (sid == s) r rest may
 taken_here s sid Close r rest may = not_taken (sid == s) r rest may
+taken_here s sid Take other rest may = not_taken (sid == s) other rest refl
 
 pub events_taken : (s : ℕ) (t : State) (n : ℕ) (journal : List Entry) → LegalFrom t n journal
     → flat_map (taken s) journal ≡ events_among (replies_to s journal)

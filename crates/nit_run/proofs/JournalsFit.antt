@@ -275,9 +275,7 @@ module _ (laws : Laws) (s : Setup) (runnable : IsRunnable s) (journal : List Ent
 
   device_at : (front : List Entry) (e : Entry) (rest : List Entry) → journal ≡ front ++ e ∷ rest → DevFits e
   device_at front (entry.Input dev routed) rest parts = dev_fits front dev routed rest parts
-  device_at front (entry.Call sid call r) rest parts = tt
-  device_at front (entry.Shot n) rest parts = tt
-  device_at front entry.Final rest parts = tt
+  device_at front other rest parts = tt
 
   -- a place of a front is one of the journal
   within_front : (front : List Entry) (e : Entry) (rest before : List Entry) (x : Entry) (after' : List Entry)
@@ -306,8 +304,7 @@ module _ (laws : Laws) (s : Setup) (runnable : IsRunnable s) (journal : List Ent
   good_at front (entry.Call sid call r) rest parts =
       call_fits front sid call r rest parts (caller front sid call r rest parts)
   good_at front (entry.Input dev routed) rest parts = items_at front dev routed rest parts
-  good_at front (entry.Shot n) rest parts = tt
-  good_at front entry.Final rest parts = tt
+  good_at front other rest parts = tt
 
   fine_at : (front : List Entry) (e : Entry) (rest : List Entry) (sid : ℕ) → journal ≡ front ++ e ∷ rest
       → sid < length s.config.clients

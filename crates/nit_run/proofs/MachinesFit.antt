@@ -86,15 +86,13 @@ fits_by_call t n (Above v w) f c =
 fits_by_call t n (Title v text) f c = fits_shape t v (is_title text) reply.BadTitle c.0 tt
 fits_by_call t n (Destroy v) f c = fits_unless (has_view t v) (reply.NoSuchView v) c
 fits_by_call t n (Refresh x y w h) f c = fits_unless (is_rectangle x y w h) reply.BadRect tt
-fits_by_call t n Take f c = tt
 fits_by_call t n (Upgrade m) f c = let small : t.reserve < 10 ^ 9 = let most =
     f.sum in omega arith in fits_unless (nat_le m t.reserve) (reply.NoReserve m t.reserve) (c, small)
-fits_by_call t n Close f c = tt
+fits_by_call t n other f c = tt
 
 fits_status : (s : Status) → RefusalFits (by_status s)
 fits_status status.Live = tt
-fits_status status.Closed = tt
-fits_status status.Killed = tt
+fits_status other = tt
 
 refusal_fits : (t : Session) (n : ℕ) (call : Call) → IsFine t n → FitsCall call → RefusalFits (refusal t call)
 refusal_fits t n call f c = fits_first (by_status t.status) (by_call t call) (fits_status t.status)
@@ -146,13 +144,7 @@ accepted_fits t n (Upgrade m) f few none =
     }
 accepted_fits t n Close f few none =
     record { reply_fits = tt; fine = record { sum = f.sum; next = let most = f.next in omega arith; queue = tt } }
-accepted_fits t n (Place v x y w h) f few none = record { reply_fits = tt; fine = later t n f }
-accepted_fits t n (Offset v x y) f few none = record { reply_fits = tt; fine = later t n f }
-accepted_fits t n (Front v) f few none = record { reply_fits = tt; fine = later t n f }
-accepted_fits t n (Back v) f few none = record { reply_fits = tt; fine = later t n f }
-accepted_fits t n (Above v w) f few none = record { reply_fits = tt; fine = later t n f }
-accepted_fits t n (Title v text) f few none = record { reply_fits = tt; fine = later t n f }
-accepted_fits t n (Refresh x y w h) f few none = record { reply_fits = tt; fine = later t n f }
+accepted_fits t n other f few none = record { reply_fits = tt; fine = later t n f }
 
 served : (t : Session) (n : ℕ) (call : Call) → IsFine t n → n ≤ 2000000 → FitsCall call → AnswerFits (serve t call) n
 unfolding serve
@@ -181,8 +173,7 @@ queued_fine false t n e f g = record { sum = f.sum; next = f.next; queue = f.que
 receive_fine : (s : Status) (t : Session) (n : ℕ) (i : Item) → IsFine t n → FitsItem i → IsFine (by_life s i t) n
 receive_fine status.Live t n (item.Event e) f g = queued_fine (nat_lt (length t.queue) 64) t n e f g
 receive_fine status.Live t n item.Kill f g = record { sum = f.sum; next = f.next; queue = tt }
-receive_fine status.Closed t n i f g = f
-receive_fine status.Killed t n i f g = f
+receive_fine other t n i f g = f
 
 -- a call or an item within the format
 abbrev pub MomentFits : Observation → Type 0

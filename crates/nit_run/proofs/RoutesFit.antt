@@ -49,8 +49,7 @@ hovering_fits Flat pointed i e f =
     left_or_not : (b : Bool) → ItemsFit (cond b [] (to i.hover event.Leave))
     left_or_not true = tt
     left_or_not false = to_fits i.hover event.Leave tt
-hovering_fits Xray pointed i e f = ignored_fits i
-hovering_fits Kill pointed i e f = ignored_fits i
+hovering_fits other pointed i e f = ignored_fits i
 
 moving_fits : (held : List ℕ) (pointed : Option ℕ) (i : InputState) (e : Event) → FitsEvent e
     → RouteFits i (moving held pointed i e)
@@ -59,8 +58,7 @@ moving_fits (k ∷ ks) pointed i e f = record { items = to_fits i.receiver e f; 
 
 leaving_fits : (m : Mode) (i : InputState) (new : Mode) → RouteFits i (leaving m i new)
 leaving_fits Flat i new = record { items = to_fits i.hover event.Leave tt; x = refl; y = refl }
-leaving_fits Xray i new = record { items = tt; x = refl; y = refl }
-leaving_fits Kill i new = record { items = tt; x = refl; y = refl }
+leaving_fits other i new = record { items = tt; x = refl; y = refl }
 
 switching_fits : (held : List ℕ) (i : InputState) (new : Mode) → RouteFits i (switching held i new)
 switching_fits [] i new = leaving_fits i.mode i new
@@ -158,6 +156,4 @@ moved_fits width height i (device.Motion x y) f p = record {
   x = let less = min-le_left x (width - 1) in let most = f.0 in omega arith;
   y = let less = min-le_left y (height - 1) in let most = f.1 in omega arith;
 }
-moved_fits width height i (device.Wheel n) f p = p
-moved_fits width height i (device.Press k) f p = p
-moved_fits width height i (device.Release k) f p = p
+moved_fits width height i other f p = p

@@ -10,15 +10,9 @@ use Rattle.nit_setup.specs.declared.stop.Fault.TheVariants as fault
 
 -- a fault of the text is one of the journal
 text_fault : (s : Setup) (bytes : List ℕ) (f : Fault) → IsNoJournalText bytes f → IsJournalFault s bytes f
-text_fault s bytes (fault.NotARun k) r = absurd r
 text_fault s bytes (fault.BadEntry n) r = r
 text_fault s bytes fault.LongJournal r = r
-text_fault s bytes (fault.BadConfig e) r = absurd r
-text_fault s bytes fault.LongConfig r = absurd r
-text_fault s bytes (fault.BadLine n) r = absurd r
-text_fault s bytes fault.TooLong r = absurd r
-text_fault s bytes fault.PhasesDiffer r = absurd r
-text_fault s bytes fault.FramesTooLong r = absurd r
+text_fault s bytes other r = absurd r
 
 module _ (name journal : List ℕ) (old mid : StoreModel) (s : Setup)
     (asked : mid ≡ asking_all old (name ∷ names_in s.config)) (all : AreAllScripts name old.files s) where

@@ -49,12 +49,7 @@ journal_not_refused s t bytes (fault.NotARun k) same (entries, text, yes_) (more
 journal_not_refused s t bytes (fault.BadEntry line) same (entries, text, yes_) r =
     journal_and_bad bytes entries line text.1 r.1
 journal_not_refused s t bytes fault.LongJournal same (entries, text, yes_) r = let few = text.0 in absurd (omega arith)
-journal_not_refused s t bytes (fault.BadConfig e) same v r = r
-journal_not_refused s t bytes fault.LongConfig same v r = r
-journal_not_refused s t bytes (fault.BadLine n) same v r = r
-journal_not_refused s t bytes fault.TooLong same v r = r
-journal_not_refused s t bytes fault.PhasesDiffer same v r = r
-journal_not_refused s t bytes fault.FramesTooLong same v r = r
+journal_not_refused s t bytes other same v r = r
 
 audit_not_refused : (configuration journal : List ℕ) (files : List File) (s : Setup) (name : List ℕ) (f : Fault)
     → IsValid (Audit configuration journal) files s → Judged (Audit configuration journal) files (Refused name f) → ⊥
@@ -69,12 +64,7 @@ journal_code : (s : Setup) (bytes : List ℕ) (f : Fault) → IsJournalFault s b
 journal_code s bytes (fault.NotARun k) r = inr (refl, (r.0, r.1))
 journal_code s bytes (fault.BadEntry line) r = inl (refl, λ entries text. journal_and_bad bytes entries line text.1 r.1)
 journal_code s bytes fault.LongJournal r = inl (refl, λ entries text. let few = text.0 in absurd (omega arith))
-journal_code s bytes (fault.BadConfig e) r = absurd r
-journal_code s bytes fault.LongConfig r = absurd r
-journal_code s bytes (fault.BadLine n) r = absurd r
-journal_code s bytes fault.TooLong r = absurd r
-journal_code s bytes fault.PhasesDiffer r = absurd r
-journal_code s bytes fault.FramesTooLong r = absurd r
+journal_code s bytes other r = absurd r
 
 journal_codes : (s t : Setup) (bytes : List ℕ) (f g : Fault) → IsJournalFault s bytes f → IsJournalFault t bytes g
     → fault_code f ≡ fault_code g
@@ -100,10 +90,9 @@ audit_codes configuration journal files m n f g (inr (is, (s, are, p))) (inr (is
 clip_at : (files : List File) (wanted : Option ℕ) (before : List (List ℕ)) (name : List ℕ) (behind : List (List ℕ))
     (clips : List (List ClipLine)) → AreClipScripts files wanted (before ++ name ∷ behind) clips
     → (lines : List ClipLine) × IsClipScript wanted (bytes_of name files) lines
-clip_at files wanted [] name behind [] v = absurd v
 clip_at files wanted [] name behind (lines ∷ clips) v = (lines, v.0)
-clip_at files wanted (b ∷ before) name behind [] v = absurd v
 clip_at files wanted (b ∷ before) name behind (lines ∷ clips) v = clip_at files wanted before name behind clips v.1
+clip_at files wanted other name behind [] v = absurd v
 
 first_clip_fault_not : (files : List File) (wanted : Option ℕ) (names : List (List ℕ)) (clips : List (List ClipLine))
     (name : List ℕ) (f : Fault) → AreClipScripts files wanted names clips → IsFirstClipFault files wanted names name f
@@ -169,9 +158,8 @@ pub codes_agree : (c : Command) (files : List File) (m n : List ℕ) (f g : Faul
 codes_agree (Still width height script) files m n f g p q = client_code None (bytes_of script files) f p.1
     ∙ sym (client_code None (bytes_of script files) g q.1)
 codes_agree (Run beside configuration) files m n f g p q = setup_codes configuration files m n f g p q
-codes_agree (Gen number) files m n f g p q = absurd p
 codes_agree (Audit configuration journal) files m n f g p q = audit_codes configuration journal files m n f g p q
 codes_agree (Clip configuration) files m n f g p q = clips_codes configuration files m n f g p q
 codes_agree (Capture configuration region) files m n f g p q = setup_codes configuration files m n f g p q
 codes_agree (Nested outer inner) files m n f g p q = nested_codes outer inner files m n f g p q
-codes_agree NoCommand files m n f g p q = absurd p
+codes_agree other files m n f g p q = absurd p

@@ -19,24 +19,12 @@ pub config_not_both : (bytes : List ℕ) (config : Configuration) (f : Fault) �
     → IsConfigFault bytes f → ⊥
 config_not_both bytes config (fault.BadConfig e) v r = not_both bytes config e v.1 r.1
 config_not_both bytes config fault.LongConfig v r = let few = v.0 in absurd (omega arith)
-config_not_both bytes config (fault.BadLine n) v r = r
-config_not_both bytes config fault.TooLong v r = r
-config_not_both bytes config fault.PhasesDiffer v r = r
-config_not_both bytes config fault.LongJournal v r = r
-config_not_both bytes config (fault.BadEntry n) v r = r
-config_not_both bytes config (fault.NotARun n) v r = r
-config_not_both bytes config fault.FramesTooLong v r = r
+config_not_both bytes config other v r = r
 
 pub config_code : (bytes : List ℕ) (f : Fault) → IsConfigFault bytes f → fault_code f ≡ 5
 config_code bytes (fault.BadConfig e) r = refl
 config_code bytes fault.LongConfig r = refl
-config_code bytes (fault.BadLine n) r = absurd r
-config_code bytes fault.TooLong r = absurd r
-config_code bytes fault.PhasesDiffer r = absurd r
-config_code bytes fault.LongJournal r = absurd r
-config_code bytes (fault.BadEntry n) r = absurd r
-config_code bytes (fault.NotARun n) r = absurd r
-config_code bytes fault.FramesTooLong r = absurd r
+config_code bytes other r = absurd r
 
 -- ---- a script
 
@@ -52,27 +40,15 @@ pub not_faulty : {L : Type 0} {Fits : L → Type 0} {spelling : L → List ℕ} 
 not_faulty one wrong bytes lines (fault.BadLine n) v right (inl r) = read_and_bad one bytes lines n v.1 r.1
 not_faulty one wrong bytes lines fault.TooLong v right (inl (inl more)) = let few = v.0 in absurd (omega arith)
 not_faulty one wrong bytes lines fault.TooLong v right (inl (inr long)) = read_and_long one bytes lines v.1 v.2 long
-not_faulty one wrong bytes lines (fault.BadConfig e) v right (inl r) = r
-not_faulty one wrong bytes lines fault.LongConfig v right (inl r) = r
-not_faulty one wrong bytes lines fault.PhasesDiffer v right (inl r) = r
-not_faulty one wrong bytes lines fault.LongJournal v right (inl r) = r
-not_faulty one wrong bytes lines (fault.BadEntry n) v right (inl r) = r
-not_faulty one wrong bytes lines (fault.NotARun n) v right (inl r) = r
-not_faulty one wrong bytes lines fault.FramesTooLong v right (inl r) = r
 not_faulty one wrong bytes lines f v right (inr (more, is, w)) =
     some_none f (sym w ∙ ap wrong (sym (same_read one bytes lines more v.1 is.1)) ∙ right)
+not_faulty one wrong bytes lines other v right (inl r) = r
 
 pub no_script_code : {L : Type 0} (Fits : L → Type 0) (spelling : L → List ℕ) (bytes : List ℕ) (f : Fault)
     → IsNoScript Fits spelling bytes f → fault_code f ≡ 6
-no_script_code Fits spelling bytes (fault.BadConfig e) r = absurd r
-no_script_code Fits spelling bytes fault.LongConfig r = absurd r
 no_script_code Fits spelling bytes (fault.BadLine n) r = refl
 no_script_code Fits spelling bytes fault.TooLong r = refl
-no_script_code Fits spelling bytes fault.PhasesDiffer r = absurd r
-no_script_code Fits spelling bytes fault.LongJournal r = absurd r
-no_script_code Fits spelling bytes (fault.BadEntry n) r = absurd r
-no_script_code Fits spelling bytes (fault.NotARun n) r = absurd r
-no_script_code Fits spelling bytes fault.FramesTooLong r = absurd r
+no_script_code Fits spelling bytes other r = absurd r
 
 pub this_fault : (f g : Fault) → Some f ≡ Some g → fault_code f ≡ 6 → fault_code g ≡ 6
 this_fault f g e is = let same : f ≡ g = cc in ap fault_code (sym same) ∙ is
@@ -100,14 +76,13 @@ pub spelled_at : (files : List File) (before : List (List ℕ)) (name : List ℕ
     → (lines : List Line) × (more : List (List Line)) × (all ≡ some ++ lines ∷ more)
     × IsScript FitsLine line_spelling (bytes_of name files) lines
 spelled_at files [] name behind (lines ∷ more) [] v w = (lines, more, refl, v.0)
-spelled_at files [] name behind [] some v w = absurd v
 spelled_at files [] name behind (lines ∷ more) (x ∷ some) v w = absurd w
-spelled_at files (b ∷ before) name behind [] some v w = absurd v
 spelled_at files (b ∷ before) name behind (lines ∷ all) [] v w = absurd w
 spelled_at files (b ∷ before) name behind (lines ∷ all) (x ∷ some) v w =
     let same : lines ≡ x = same_read client_reading (bytes_of b files) lines x v.0.1 w.0.1 in
     let rest = spelled_at files before name behind all some v.1 w.1 in
     (rest.0, rest.1, ap (λ (l : List Line). l ∷ all) same ∙ ap (λ (ls : List (List Line)). x ∷ ls) rest.2, rest.3)
+spelled_at files other name behind [] some v w = absurd v
 
 pub same_scripts : (files : List File) (names : List (List ℕ)) (a b : List (List Line)) → SpellScripts files names a
     → SpellScripts files names b → a ≡ b

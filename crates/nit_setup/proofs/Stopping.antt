@@ -19,12 +19,7 @@ module _ (c : Command) (old : StoreModel) (read : FilesRead) (valid : HasRead c 
   stopped_by ends.ReadFault h = h
   stopped_by (ends.Refused f) h = (h.0, judged f h.1)
   stopped_by ends.NoMemory h = h
-  stopped_by ends.Usage h = absurd h
-  stopped_by ends.WriteFault h = absurd h
-  stopped_by ends.Outside h = absurd h
-  stopped_by ends.Whole h = absurd h
-  stopped_by (ends.Unfit f) h = absurd h
-  stopped_by (ends.Audited n) h = absurd h
+  stopped_by other h = absurd h
 
   -- a command stopped at a file
   pub stopped_reading : (mid : StoreModel) (stop : Stop) → mid ≡ start → name_text c stop.name ≡ name

@@ -30,23 +30,11 @@ without_run (NotBegun empty) h = empty
 -- an audit makes no files, and runs no setup
 pub audit_makes_none : (c : Command) → IsAudit c → made_by c ≡ []
 audit_makes_none (Audit configuration journal) is = refl
-audit_makes_none (Still width height script) is = absurd is
-audit_makes_none (Run beside configuration) is = absurd is
-audit_makes_none (Gen number) is = absurd is
-audit_makes_none (Clip configuration) is = absurd is
-audit_makes_none (Capture configuration region) is = absurd is
-audit_makes_none (Nested outer inner) is = absurd is
-audit_makes_none NoCommand is = absurd is
+audit_makes_none other is = absurd is
 
 runs_none : (c : Command) (s : Setup) → IsAudit c → IsSetupOf c s → ⊥
 runs_none (Audit configuration journal) s is of = of
-runs_none (Still width height script) s is of = is
-runs_none (Run beside configuration) s is of = is
-runs_none (Gen number) s is of = is
-runs_none (Clip configuration) s is of = is
-runs_none (Capture configuration region) s is of = is
-runs_none (Nested outer inner) s is of = is
-runs_none NoCommand s is of = is
+runs_none other s is of = is
 
 pub not_run : {old : StoreModel} {c : Command} {journal : List Entry} → IsCommandRun old c journal → IsAudit c → ⊥
 not_run {c = c} run is = runs_none c run.setup is run.files_are.of_command
@@ -74,29 +62,17 @@ pub by_command : {OfAudit OfRun : Type 0} (c : Command) → (OfAudit × IsAudit 
     → AuditOr c OfAudit OfRun
 by_command (Audit configuration journal) (inl a) = a.0
 by_command (Audit configuration journal) (inr r) = absurd (r.1 tt)
-by_command (Still width height script) (inl a) = absurd a.1
 by_command (Still width height script) (inr r) = r.0
-by_command (Run beside configuration) (inl a) = absurd a.1
 by_command (Run beside configuration) (inr r) = r.0
-by_command (Gen number) (inl a) = absurd a.1
 by_command (Gen number) (inr r) = r.0
-by_command (Clip configuration) (inl a) = absurd a.1
 by_command (Clip configuration) (inr r) = r.0
-by_command (Capture configuration region) (inl a) = absurd a.1
 by_command (Capture configuration region) (inr r) = r.0
-by_command (Nested outer inner) (inl a) = absurd a.1
 by_command (Nested outer inner) (inr r) = r.0
-by_command NoCommand (inl a) = absurd a.1
 by_command NoCommand (inr r) = r.0
+by_command other (inl a) = absurd a.1
 
 -- an audit films no region
 pub no_outside_audit : (k : Command) (told : Option (List File)) → IsAudit k → IsSomeAnd told (IsValidSo k true) → ⊥
 no_outside_audit (Audit configuration journal) None is v = v
 no_outside_audit (Audit configuration journal) (Some all) is v = let e = v.2 in cc
-no_outside_audit (Still width height script) told is v = is
-no_outside_audit (Run beside configuration) told is v = is
-no_outside_audit (Gen number) told is v = is
-no_outside_audit (Clip configuration) told is v = is
-no_outside_audit (Capture configuration region) told is v = is
-no_outside_audit (Nested outer inner) told is v = is
-no_outside_audit NoCommand told is v = is
+no_outside_audit other told is v = is

@@ -5,8 +5,7 @@ use Rattle.nit_top.proofs.Basics.{IfSome, IsAuditEnd, IsJournalFault, IsJournalT
 use Rattle.nit_top.proofs.Basics.{Setup, Stop, StoppedAt, StoreModel, Worked, asking_all}
 use Rattle.nit_top.proofs.Basics.{asking_more, bytes_of, journal_stopped, name_text, names_in}
 use Rattle.nit_top.proofs.Basics.{reads, told_so, told_so_both, with_asked}
-use Rattle.nit_top.proofs.WorkLemmas.{CameTo, stopped_ends}
-use Rattle.nit_top.proofs.EndsAfterRun.{totals_on, ends_by}
+use Rattle.nit_top.proofs.WorkLemmas.{ended_so, stopped_ends}
 use Rattle.nit_setup.specs.declared.stop.End.TheVariants as ends
 use Rattle.nit_setup.specs.declared.stop.Fault.TheVariants as fault
 
@@ -29,49 +28,33 @@ module _ (name journal : List ℕ) (old new : StoreModel) (s : Setup) (entries :
 
   found_fault : (bytes : List ℕ) (f : Fault) → IsFound bytes f → IsJournalFault s bytes f
   found_fault bytes (fault.NotARun k) p = (entries, p.0, p.1)
-  found_fault bytes (fault.BadEntry n) p = absurd p.1
-  found_fault bytes fault.LongJournal p = absurd p.1
-  found_fault bytes (fault.BadConfig e) p = absurd p.1
-  found_fault bytes fault.LongConfig p = absurd p.1
-  found_fault bytes (fault.BadLine n) p = absurd p.1
-  found_fault bytes fault.TooLong p = absurd p.1
-  found_fault bytes fault.PhasesDiffer p = absurd p.1
-  found_fault bytes fault.FramesTooLong p = absurd p.1
+  found_fault bytes other p = absurd p.1
 
   yes_ends : (count : ℕ) (stop : Stop) (w : Worked) → IsAuditEnd s entries (ends.Audited count)
       → w.stop.end ≡ ends.Audited count → w.journal.items ≡ [] → Ends audit old new w
-  yes_ends count stop w found end none =
-      let here : CameTo audit old new [] (ends.Audited count) (name_text audit w.stop.name) (totals_on w) = record {
-        course = NotBegun refl;
-        came = (
-          record {
-            none = tt;
-            same = ap (λ (t : StoreModel). t.files) all_asked;
-            audit = tt;
-            setup = s;
-            runnable = scripts.runnable;
-            entries = entries;
-            counted = found.0;
-            of_a_run = found.1;
-            told = told_so_both (λ files. AreSetup name files s)
-                (λ files. IsJournalText (bytes_of journal files) entries) (λ files. AreSetup name files s
-                × IsJournalText (bytes_of journal files) entries) old.files (λ files a q. (a, q))
-                scripts.valid text;
-            asks = ap (λ (t : StoreModel). t.asked) all_asked;
-          },
-          refl,
-        );
-        counts = (
-          ap (λ (t : StoreModel). t.read_faults) all_asked,
-          ap (λ (t : StoreModel). t.write_faults) all_asked,
-        );
-        said = ap (λ (t : StoreModel). t.said) all_asked;
-      } in
-      let so : CameTo audit old new [] w.stop.end (name_text audit w.stop.name) (totals_on w) =
-      subst (λ (e : End). CameTo audit old new [] e (name_text audit w.stop.name) (totals_on w)) (sym end) here in
-      ends_by audit old new w (subst
-      (λ (k : List Entry). CameTo audit old new k w.stop.end (name_text audit w.stop.name) (totals_on w)) (sym none)
-      so)
+  yes_ends count stop w found end none = ended_so audit old new w [] (ends.Audited count) none end (record {
+    course = NotBegun refl;
+    came = (
+      record {
+        none = tt;
+        same = ap (λ (t : StoreModel). t.files) all_asked;
+        audit = tt;
+        setup = s;
+        runnable = scripts.runnable;
+        entries = entries;
+        counted = found.0;
+        of_a_run = found.1;
+        told = told_so_both (λ files. AreSetup name files s)
+            (λ files. IsJournalText (bytes_of journal files) entries) (λ files. AreSetup name files s
+            × IsJournalText (bytes_of journal files) entries) old.files (λ files a q. (a, q))
+            scripts.valid text;
+        asks = ap (λ (t : StoreModel). t.asked) all_asked;
+      },
+      refl,
+    );
+    counts = (ap (λ (t : StoreModel). t.read_faults) all_asked, ap (λ (t : StoreModel). t.write_faults) all_asked);
+    said = ap (λ (t : StoreModel). t.said) all_asked;
+  })
 
   -- the verdict, or want of memory
   stopped_found : (end : End) → IsAuditEnd s entries end → ((count : ℕ) → end ≡ ends.Audited count → ⊥)
@@ -83,12 +66,7 @@ module _ (name journal : List ℕ) (old new : StoreModel) (s : Setup) (entries :
   )
   stopped_found ends.NoMemory found other = inl read
   stopped_found (ends.Audited count) found other = absurd (other count refl)
-  stopped_found ends.Usage found other = absurd found
-  stopped_found ends.ReadFault found other = absurd found
-  stopped_found ends.WriteFault found other = absurd found
-  stopped_found ends.Outside found other = absurd found
-  stopped_found ends.Whole found other = absurd found
-  stopped_found (ends.Unfit f) found other = absurd found
+  stopped_found rest found other = absurd found
 
   pub found_ends : (stop : Stop) (w : Worked) → name_text audit stop.name ≡ journal → IsAuditEnd s entries stop.end
       → w.stop ≡ stop → w.journal.items ≡ [] → Ends audit old new w
@@ -107,11 +85,4 @@ module _ (name journal : List ℕ) (old new : StoreModel) (s : Setup) (entries :
       by_end (ends.Audited count) is_e =
           yes_ends count stop w (subst (λ (e : End). IsAuditEnd s entries e) is_e found)
           (ap (λ (t : Stop). t.end) at ∙ is_e) none
-      by_end (ends.Refused f) is_e = other_end (ends.Refused f) is_e (λ k x. absurd cc)
-      by_end ends.NoMemory is_e = other_end ends.NoMemory is_e (λ k x. absurd cc)
-      by_end ends.Usage is_e = other_end ends.Usage is_e (λ k x. absurd cc)
-      by_end ends.ReadFault is_e = other_end ends.ReadFault is_e (λ k x. absurd cc)
-      by_end ends.WriteFault is_e = other_end ends.WriteFault is_e (λ k x. absurd cc)
-      by_end ends.Outside is_e = other_end ends.Outside is_e (λ k x. absurd cc)
-      by_end ends.Whole is_e = other_end ends.Whole is_e (λ k x. absurd cc)
-      by_end (ends.Unfit f) is_e = other_end (ends.Unfit f) is_e (λ k x. absurd cc)
+      by_end other is_e = other_end other is_e (λ k x. absurd cc)

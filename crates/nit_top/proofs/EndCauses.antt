@@ -63,13 +63,7 @@ module _ (c : Command) (old : StoreModel) (files : Option (List File)) (asked : 
         },
         (journal, refl, asks),
       )
-      at (Still width height script) is told asks = absurd is
-      at (Run beside configuration) is told asks = absurd is
-      at (Gen number) is told asks = absurd is
-      at (Clip configuration) is told asks = absurd is
-      at (Capture configuration region) is told asks = absurd is
-      at (Nested outer inner) is told asks = absurd is
-      at NoCommand is told asks = absurd is
+      at other is told asks = absurd is
 
   pub usage_at : (e : End) (line : List ℕ) → Came course files asked e line → code_of e ≡ 2 → c ≡ NoCommand
   usage_at ends.Usage line h n = h.0
@@ -110,14 +104,13 @@ module _ (c : Command) (old : StoreModel) (files : Option (List File)) (asked : 
   pub early_at : (e : End) (line : List ℕ) → Came course files asked e line → IsEarly (code_of e)
       → IsNotBegun course files asked
   early_at ends.Usage line h early = h.1
-  early_at ends.ReadFault line h early = not_begun h.0 h.1
-  early_at (ends.Refused f) line h early = not_begun h.0 h.1
   early_at (ends.Unfit f) line h early = both_begun h.1
   early_at ends.WriteFault line h early = absurd (not_early_4 early)
   early_at ends.NoMemory line h early = absurd (not_early_7 early)
   early_at ends.Outside line h early = outside_begun h.0
   early_at ends.Whole line h early = absurd (not_early_0 early)
   early_at (ends.Audited count) line h early = absurd (not_early_0 early)
+  early_at other line h early = not_begun h.0 h.1
 
   -- how far a run came, whatever the end
   pub so_far : (e : End) (line : List ℕ) → Came course files asked e line
@@ -125,8 +118,6 @@ module _ (c : Command) (old : StoreModel) (files : Option (List File)) (asked : 
       ⊎ (IsMadeInPart course files asked
       ⊎ WithRun course (λ run. IsPutWhole run files asked ⊎ IsCutShort run files asked))
   so_far ends.Usage line h = inl h.1
-  so_far ends.ReadFault line h = inl (not_begun h.0 h.1)
-  so_far (ends.Refused f) line h = inl (not_begun h.0 h.1)
   so_far (ends.Unfit f) line h = inl (both_begun h.1)
   so_far ends.WriteFault line h = elim h.1 [
     | inl made ↦ inr (inl (inl (h.0, made)))
@@ -144,18 +135,15 @@ module _ (c : Command) (old : StoreModel) (files : Option (List File)) (asked : 
   so_far ends.Whole line h =
       inr (inr (with_run course (λ run. IsPutWhole run files asked × (line ≡ summary_line (totals run)))
       (λ run. IsPutWhole run files asked ⊎ IsCutShort run files asked) (λ run r. inl r.0) h))
+  so_far other line h = inl (not_begun h.0 h.1)
 
   -- ---- where the words are no command
 
   none_next : (read : FilesRead) (name : List ℕ) → HasRead NoCommand old.files read
       → next_name NoCommand read ≡ Some name → ⊥
   none_next NoFile name h e = cc
-  none_next (FirstFiles config scripts) name h e = h
-  none_next (AllScripts s) name h e = h
   none_next (AllFiles s) name h e = cc
-  none_next (OuterFiles o) name h e = h
-  none_next (InnerFiles o config scripts) name h e = h
-  none_next (BothFiles o i) name h e = h
+  none_next other name h e = h
 
   nothing_read : (name : List ℕ) → c ≡ NoCommand → IsLastRead course files asked name → ⊥
   nothing_read name is l =
@@ -186,14 +174,13 @@ module _ (c : Command) (old : StoreModel) (files : Option (List File)) (asked : 
   pub no_command : (e : End) (line : List ℕ) → c ≡ NoCommand → Came course files asked e line → (code_of e ≡ 2)
       ⊎ (code_of e ≡ 7)
   no_command ends.Usage line is h = inl refl
-  no_command ends.ReadFault line is h = absurd (nothing_read h.0 is h.1)
-  no_command (ends.Refused f) line is h = absurd (nothing_read h.0 is h.1)
   no_command (ends.Unfit f) line is h = absurd (nothing_both is h.1)
   no_command ends.WriteFault line is h = absurd (elim h.1 [ inl m ↦ made_no_command h.0 is m | inr x ↦ no_run _ is x ])
   no_command ends.NoMemory line is h = inr refl
   no_command ends.Outside line is h = absurd (subst (λ (k : Command). IsSetupOf k h.0.setup) is h.0.valid.of_command)
   no_command ends.Whole line is h = absurd (no_run _ is h)
   no_command (ends.Audited count) line is h = absurd (subst IsAudit is h.0.audit)
+  no_command other line is h = absurd (nothing_read h.0 is h.1)
 
   -- ---- where the files are refused, or valid
 
@@ -204,19 +191,13 @@ module _ (c : Command) (old : StoreModel) (files : Option (List File)) (asked : 
 
   -- no file of a command that makes some is refused
   made_not_refused : (k : Command) (n : ℕ) → IsSomeAnd old.files (λ told. IsRefusedWith n k told) → made_by k ≡ []
-  made_not_refused (Still width height script) n r = refl
-  made_not_refused (Run beside configuration) n r = refl
   made_not_refused (Gen number) n r = absurd (no_generated old.files n number r)
     where
       no_generated : (told : Option (List File)) (n number : ℕ)
           → IsSomeAnd told (λ files. IsRefusedWith n (Gen number) files) → ⊥
       no_generated None n number r = r
       no_generated (Some all) n number r = r.2
-  made_not_refused (Audit configuration journal) n r = refl
-  made_not_refused (Clip configuration) n r = refl
-  made_not_refused (Capture configuration region) n r = refl
-  made_not_refused (Nested outer inner) n r = refl
-  made_not_refused NoCommand n r = refl
+  made_not_refused other n r = refl
 
   -- the files of an audit that said yes are valid
   audit_valid : (count : ℕ) → (a : IsAudited course files asked count) → IfSome old.files (λ all. IsValid c all a.setup)
@@ -225,13 +206,7 @@ module _ (c : Command) (old : StoreModel) (files : Option (List File)) (asked : 
     where
       at : (k : Command) (all : List File) → AreAudited k all a.setup a.entries → IsValid k all a.setup
       at (Audit configuration journal) all p = (p.0, (a.entries, p.1, a.of_a_run.yes))
-      at (Still width height script) all p = absurd p
-      at (Run beside configuration) all p = absurd p
-      at (Gen number) all p = absurd p
-      at (Clip configuration) all p = absurd p
-      at (Capture configuration region) all p = absurd p
-      at (Nested outer inner) all p = absurd p
-      at NoCommand all p = absurd p
+      at other all p = absurd p
 
   pub is_refused_at : (n : ℕ) (e : End) (line : List ℕ) → Came course files asked e line
       → IsSomeAnd old.files (λ told. IsRefusedWith n c told) → (code_of e ≡ 3) ⊎ ((code_of e ≡ n) ⊎ (code_of e ≡ 7))
@@ -252,12 +227,8 @@ module _ (c : Command) (old : StoreModel) (files : Option (List File)) (asked : 
   none_generated : (number : ℕ) (read : FilesRead) (name : List ℕ) → HasRead (Gen number) old.files read
       → next_name (Gen number) read ≡ Some name → ⊥
   none_generated number NoFile name h e = cc
-  none_generated number (FirstFiles config scripts) name h e = h
-  none_generated number (AllScripts s) name h e = h
   none_generated number (AllFiles s) name h e = cc
-  none_generated number (OuterFiles o) name h e = h
-  none_generated number (InnerFiles o config scripts) name h e = h
-  none_generated number (BothFiles o i) name h e = h
+  none_generated number other name h e = h
 
   generated_not_read : (number : ℕ) (name : List ℕ) → c ≡ Gen number → IsLastRead course files asked name → ⊥
   generated_not_read number name is l =
@@ -268,31 +239,15 @@ module _ (c : Command) (old : StoreModel) (files : Option (List File)) (asked : 
   -- valid files are not refused
   valid_kept : (k : Command) → c ≡ k → (name : List ℕ) (f : Fault) → HasValidFiles k old.files
       → IfSome old.files (λ told. Judged k told (Refused name f)) → IsLastRead course files asked name → ⊥
-  valid_kept (Still width height script) is name f v r l =
-      told_refused (Still width height script) old.files name f r false v
-  valid_kept (Run beside configuration) is name f v r l =
-      told_refused (Run beside configuration) old.files name f r false v
   valid_kept (Gen number) is name f v r l = generated_not_read number name is l
-  valid_kept (Audit configuration journal) is name f v r l =
-      told_refused (Audit configuration journal) old.files name f r false v
-  valid_kept (Clip configuration) is name f v r l = told_refused (Clip configuration) old.files name f r false v
-  valid_kept (Capture configuration region) is name f v r l =
-      told_refused (Capture configuration region) old.files name f r false v
-  valid_kept (Nested outer inner) is name f v r l = told_refused (Nested outer inner) old.files name f r false v
-  valid_kept NoCommand is name f v r l = told_refused NoCommand old.files name f r false v
+  valid_kept other is name f v r l = told_refused other old.files name f r false v
 
   -- nor are those of two configurations
   both_kept : (k : Command) (name : List ℕ) (f : Fault) → HasValidFiles k old.files
       → IfSome old.files (λ told. Judged k told (Refused name f)) → (o i : RunFiles)
       → HasRead k old.files (BothFiles o i) → ⊥
-  both_kept (Still width height script) name f v r o i h = h
-  both_kept (Run beside configuration) name f v r o i h = h
-  both_kept (Gen number) name f v r o i h = h
-  both_kept (Audit configuration journal) name f v r o i h = h
-  both_kept (Clip configuration) name f v r o i h = h
-  both_kept (Capture configuration region) name f v r o i h = h
   both_kept (Nested outer inner) name f v r o i h = told_refused (Nested outer inner) old.files name f r false v
-  both_kept NoCommand name f v r o i h = h
+  both_kept other name f v r o i h = h
 
   -- where all is valid, and the region lies on the screen, it does not lie outside
   outside_not : (k : Command) → c ≡ k → HasValidFiles k old.files → IsOutside course files asked → ⊥
@@ -301,18 +256,12 @@ module _ (c : Command) (old : StoreModel) (files : Option (List File)) (asked : 
     where
       at : (k : Command) → HasValidFiles k old.files → AreAllFiles k old.files o.setup
           → is_outside_of k o.setup.config ≡ true → ⊥
-      at (Still width height script) v all out = not_both (is_outside_of (Still width height script) o.setup.config) out
-          refl
-      at (Run beside configuration) v all out =
-          not_both (is_outside_of (Run beside configuration) o.setup.config) out refl
-      at (Gen number) v all out = not_both (is_outside_of (Gen number) o.setup.config) out refl
       at (Audit configuration journal) v all out = absurd all.of_command
-      at (Clip configuration) v all out = not_both (is_outside_of (Clip configuration) o.setup.config) out refl
       at (Capture configuration region) v all out =
           not_both (is_outside_of (Capture configuration region) o.setup.config) out
           (told_side (Capture configuration region) old.files o.setup false all.valid v)
-      at (Nested outer inner) v all out = not_both (is_outside_of (Nested outer inner) o.setup.config) out refl
       at NoCommand v all out = absurd all.of_command
+      at other v all out = not_both (is_outside_of other o.setup.config) out refl
 
   -- a run was begun only where the region lies on the screen
   no_outside_run : (Holds : IsCommandRun old c journal → Type 0) → WithRun course Holds
@@ -322,18 +271,12 @@ module _ (c : Command) (old : StoreModel) (files : Option (List File)) (asked : 
 
   -- no file of a command that makes some is read, and no region lies outside
   made_not_outside : (k : Command) → IsSomeAnd old.files (IsValidSo k true) → made_by k ≡ []
-  made_not_outside (Still width height script) v = refl
-  made_not_outside (Run beside configuration) v = refl
   made_not_outside (Gen number) v = absurd (no_generated old.files v)
     where
       no_generated : (told : Option (List File)) → IsSomeAnd told (IsValidSo (Gen number) true) → ⊥
       no_generated None v = v
       no_generated (Some all) v = let e = v.2 in cc
-  made_not_outside (Audit configuration journal) v = refl
-  made_not_outside (Clip configuration) v = refl
-  made_not_outside (Capture configuration region) v = refl
-  made_not_outside (Nested outer inner) v = refl
-  made_not_outside NoCommand v = refl
+  made_not_outside other v = refl
 
   pub outside_at : (e : End) (line : List ℕ) → Came course files asked e line → code_of e ≡ 10
       → IfSome old.files (IsValidSo c true)
@@ -366,8 +309,7 @@ module _ (c : Command) (old : StoreModel) (files : Option (List File)) (asked : 
   is_valid_at ends.WriteFault line h v = inr (inl refl)
   is_valid_at ends.NoMemory line h v = inr (inr (inr refl))
   is_valid_at ends.Outside line h v = absurd (outside_not c refl v h.0)
-  is_valid_at ends.Whole line h v = inr (inr (inl refl))
-  is_valid_at (ends.Audited count) line h v = inr (inr (inl refl))
+  is_valid_at other line h v = inr (inr (inl refl))
 
   -- ---- an audit
 
@@ -377,10 +319,6 @@ module _ (c : Command) (old : StoreModel) (files : Option (List File)) (asked : 
 
   -- it leaves the files
   pub audit_same : IsAudit c → (e : End) (line : List ℕ) → Came course files asked e line → files ≡ old.files
-  audit_same is ends.Usage line h = h.1.same
-  audit_same is ends.ReadFault line h = h.1.same
-  audit_same is (ends.Refused f) line h = h.1.same
-  audit_same is (ends.Unfit f) line h = h.1.same
   audit_same is ends.WriteFault line h =
       absurd (elim h.1 [ inl m ↦ made_none h.0 (audit_makes_none c is) m | inr x ↦ no_audit_run _ is x ])
   audit_same is ends.NoMemory line h = elim h.0 [
@@ -393,6 +331,7 @@ module _ (c : Command) (old : StoreModel) (files : Option (List File)) (asked : 
   audit_same is ends.Outside line h = h.0.same
   audit_same is ends.Whole line h = absurd (no_audit_run _ is h)
   audit_same is (ends.Audited count) line h = h.0.same
+  audit_same is other line h = h.1.same
 
   -- and its journal is empty
   pub audit_empty : IsAudit c → journal ≡ []

@@ -14,14 +14,7 @@ is_fault_code n = list_any (λ s. s == n) (5 ∷ 6 ∷ 8 ∷ 9 ∷ 11 ∷ [])
 
 fault_codes : (f : Fault) → is_fault_code (fault_code f) ≡ true
 fault_codes (fault.BadConfig e) = refl
-fault_codes fault.LongConfig = refl
-fault_codes (fault.BadLine n) = refl
-fault_codes fault.TooLong = refl
-fault_codes fault.PhasesDiffer = refl
-fault_codes fault.LongJournal = refl
-fault_codes (fault.BadEntry n) = refl
-fault_codes (fault.NotARun n) = refl
-fault_codes fault.FramesTooLong = refl
+fault_codes other = refl
 
 pub not_fault : (f : Fault) (n : ℕ) → fault_code f ≡ n → is_fault_code n ≡ false → ⊥
 not_fault f n e other = not_both (is_fault_code n) (subst (λ (k : ℕ). is_fault_code k ≡ true) e (fault_codes f)) other
@@ -31,25 +24,12 @@ Known n = IsTrue (list_any (λ s. s == n) (0 ∷ 2 ∷ 3 ∷ 4 ∷ 5 ∷ 6 ∷ 7
 
 pub known_fault : (f : Fault) → Known (fault_code f)
 known_fault (fault.BadConfig e) = refl
-known_fault fault.LongConfig = refl
-known_fault (fault.BadLine n) = refl
-known_fault fault.TooLong = refl
-known_fault fault.PhasesDiffer = refl
-known_fault fault.LongJournal = refl
-known_fault (fault.BadEntry n) = refl
-known_fault (fault.NotARun n) = refl
-known_fault fault.FramesTooLong = refl
+known_fault other = refl
 
 pub known_code : (e : End) → Known (code_of e)
-known_code ends.Usage = refl
-known_code ends.ReadFault = refl
 known_code (ends.Refused f) = known_fault f
 known_code (ends.Unfit f) = known_fault f
-known_code ends.WriteFault = refl
-known_code ends.NoMemory = refl
-known_code ends.Outside = refl
-known_code ends.Whole = refl
-known_code (ends.Audited n) = refl
+known_code other = refl
 
 pub early_not : (n m : ℕ) → IsEarly n → (IsEarly m → ⊥) → n ≡ m → ⊥
 early_not n m early not e = not (subst IsEarly e early)
@@ -67,15 +47,8 @@ not_early_7 h = cc
 
 pub reads_by : (old mid : StoreModel) (e : End) → Counts old mid e
     → ((code_of e ≡ 3) × Rose old.read_faults mid.read_faults) ⊎ (mid.read_faults ≡ old.read_faults)
-reads_by old mid ends.Usage h = inr h.0
 reads_by old mid ends.ReadFault h = inl (refl, h.0)
-reads_by old mid (ends.Refused f) h = inr h.0
-reads_by old mid (ends.Unfit f) h = inr h.0
-reads_by old mid ends.WriteFault h = inr h.0
-reads_by old mid ends.NoMemory h = inr h.0
-reads_by old mid ends.Outside h = inr h.0
-reads_by old mid ends.Whole h = inr h.0
-reads_by old mid (ends.Audited n) h = inr h.0
+reads_by old mid other h = inr h.0
 
 pub read_rose : (old mid : StoreModel) (e : End) → Counts old mid e → code_of e ≡ 3
     → Rose old.read_faults mid.read_faults
@@ -86,15 +59,8 @@ read_rose old mid e h c = absurd (omega arith)
 
 pub writes_by : (old mid : StoreModel) (e : End) → Counts old mid e
     → ((code_of e ≡ 4) × Rose old.write_faults mid.write_faults) ⊎ (mid.write_faults ≡ old.write_faults)
-writes_by old mid ends.Usage h = inr h.1
-writes_by old mid ends.ReadFault h = inr h.1
-writes_by old mid (ends.Refused f) h = inr h.1
-writes_by old mid (ends.Unfit f) h = inr h.1
 writes_by old mid ends.WriteFault h = inl (refl, h.1)
-writes_by old mid ends.NoMemory h = inr h.1
-writes_by old mid ends.Outside h = inr h.1
-writes_by old mid ends.Whole h = inr h.1
-writes_by old mid (ends.Audited n) h = inr h.1
+writes_by old mid other h = inr h.1
 
 pub write_rose : (old mid : StoreModel) (e : End) → Counts old mid e → code_of e ≡ 4
     → Rose old.write_faults mid.write_faults
@@ -105,11 +71,4 @@ write_rose old mid e h c = absurd (omega arith)
 
 pub writes_later : (old mid : StoreModel) (e : End) → Counts old mid e → old.write_faults ≤ mid.write_faults
 writes_later old mid ends.WriteFault h = h.2
-writes_later old mid ends.Usage h = let same = h.1 in omega arith
-writes_later old mid ends.ReadFault h = let same = h.1 in omega arith
-writes_later old mid (ends.Refused f) h = let same = h.1 in omega arith
-writes_later old mid (ends.Unfit f) h = let same = h.1 in omega arith
-writes_later old mid ends.NoMemory h = let same = h.1 in omega arith
-writes_later old mid ends.Outside h = let same = h.1 in omega arith
-writes_later old mid ends.Whole h = let same = h.1 in omega arith
-writes_later old mid (ends.Audited n) h = let same = h.1 in omega arith
+writes_later old mid other h = let same = h.1 in omega arith

@@ -13,7 +13,7 @@ use Rattle.nit_top.proofs.Basics.{shots, unrefused}
 use Rattle.nit_store.specs.declared.store.PutError.TheVariants as put
 use Rattle.nit_setup.specs.declared.stop.End.TheVariants as ends
 use Rattle.nit_setup.specs.declared.stop.StopName.TheVariants as file_name
-use Rattle.nit_top.proofs.WorkLemmas.{CameTo}
+use Rattle.nit_top.proofs.WorkLemmas.{CameTo, ended_so, totals_on}
 
 -- ---- after a run
 
@@ -167,13 +167,6 @@ ended_before_run c old s files_are new name t e = record {
   said = ap (λ (s : StoreModel). s.said) e;
 }
 
-abbrev pub totals_on : Worked → Totals
-totals_on w = record { clients = w.clients; entries = length w.journal.items; frames = w.frames }
-
-pub ends_by : (c : Command) (old new : StoreModel) (w : Worked)
-    → CameTo c old new w.journal.items w.stop.end (name_text c w.stop.name) (totals_on w) → Ends c old new w
-ends_by c old new w h = record { course = h.course; came = h.came; counts = h.counts; said = h.said }
-
 same_totals : (s : Setup) (w : Worked) (journal : List Entry) → length s.scripts ≡ length s.config.clients
     → w.clients ≡ length s.scripts → w.journal.items ≡ journal → w.frames ≡ shots journal + 1
     → totals_on w ≡ totals_of s journal
@@ -211,51 +204,37 @@ run_ends c old mid new s w asked files_are r =
     all_put start r.puts (put_state_of_run new r.fault)
     (subst (λ (m : StoreModel). PutsAll r.puts (unrefused m) (put_state_of_run new r.fault)) asked r.put) in
     let totals = same_totals s w j files_are.runnable.scripts r.clients_are r.journal_is r.frames_are in
-    let here : CameTo c old new j (end_of_run r.fault) (name_text c w.stop.name) (totals_on w) =
-    puts_end c old s files_are j r.outputs r.are r.headline r.inside r.added r.added_are r.puts r.puts_are new r.fault
-    w.stop.name (totals_on w) totals r.name_is puts in
-    let so : CameTo c old new j w.stop.end (name_text c w.stop.name) (totals_on w) =
-    subst (λ (e : End). CameTo c old new j e (name_text c w.stop.name) (totals_on w)) (sym r.end_is) here in
-    ends_by c old new w (subst
-    (λ (k : List Entry). CameTo c old new k w.stop.end (name_text c w.stop.name) (totals_on w)) (sym r.journal_is) so)
+    ended_so c old new w j (end_of_run r.fault) r.journal_is r.end_is
+    (puts_end c old s files_are j r.outputs r.are r.headline r.inside r.added r.added_are r.puts r.puts_are new r.fault
+    w.stop.name (totals_on w) totals r.name_is puts)
 
 -- the work of a command whose files are read and valid, where memory ran out before the run
 pub unbegun_ends : (c : Command) (old mid new : StoreModel) (s : Setup) (w : Worked) → mid ≡ asking_all old (reads c s)
     → AreAllFiles c old.files s → w.stop.end ≡ ends.NoMemory → new ≡ mid → w.journal.items ≡ [] → Ends c old new w
 unbegun_ends c old mid new s w asked files_are end same none =
-    let here : CameTo c old new [] ends.NoMemory (name_text c w.stop.name) (totals_on w) =
-    ended_before_run c old s files_are new (name_text c w.stop.name) (totals_on w) (same ∙ asked) in
-    let so : CameTo c old new [] w.stop.end (name_text c w.stop.name) (totals_on w) =
-    subst (λ (e : End). CameTo c old new [] e (name_text c w.stop.name) (totals_on w)) (sym end) here in
-    ends_by c old new w (subst
-    (λ (k : List Entry). CameTo c old new k w.stop.end (name_text c w.stop.name) (totals_on w)) (sym none) so)
+    ended_so c old new w [] ends.NoMemory none end
+    (ended_before_run c old s files_are new (name_text c w.stop.name) (totals_on w) (same ∙ asked))
 
 -- the region that is to be filmed does not lie on the screen
 pub outside_ends : (c : Command) (old new : StoreModel) (s : Setup) (w : Worked) → new ≡ asking_all old (reads c s)
     → AreAllFiles c old.files s → is_outside_of c s.config ≡ true → w.stop.end ≡ ends.Outside → w.journal.items ≡ []
     → Ends c old new w
-outside_ends c old new s w asked files_are outside end none =
-    let here : CameTo c old new [] ends.Outside (name_text c w.stop.name) (totals_on w) = record {
-      course = NotBegun refl;
-      came = (
-        record {
-          none = tt;
-          same = ap (λ (s : StoreModel). s.files) asked;
-          setup = s;
-          valid = files_are;
-          outside =
-              outside;
-          asks = ap (λ (s : StoreModel). s.asked) asked;
-        },
-        refl,
-      );
-      counts = (ap (λ (s : StoreModel). s.read_faults) asked, ap (λ (s : StoreModel). s.write_faults) asked);
-      said = ap (λ (s : StoreModel). s.said) asked;
-    } in
-    let so : CameTo c old new [] w.stop.end (name_text c w.stop.name) (totals_on w) =
-    subst (λ (e : End). CameTo c old new [] e (name_text c w.stop.name) (totals_on w)) (sym end) here in
-    ends_by c old new w (subst
-    (λ (k : List Entry). CameTo c old new k w.stop.end (name_text c w.stop.name) (totals_on w)) (sym none) so)
+outside_ends c old new s w asked files_are outside end none = ended_so c old new w [] ends.Outside none end (record {
+  course = NotBegun refl;
+  came = (
+    record {
+      none = tt;
+      same = ap (λ (s : StoreModel). s.files) asked;
+      setup = s;
+      valid = files_are;
+      outside = outside;
+      asks = ap (λ (s : StoreModel). s.asked) asked;
+    },
+    refl,
+  );
+  counts = (ap (λ (s : StoreModel). s.read_faults) asked, ap (λ (s : StoreModel). s.write_faults) asked);
+  said = ap (λ (s : StoreModel). s.said) asked;
+})
 
 -- the command films nothing: it adds no file, and no region lies outside
 abbrev pub FilmsNothing : Command → Type 0
@@ -291,19 +270,13 @@ performed_ends c old mid new s w nothing asked files_are (inr (end, same, none))
 -- the words are no command
 pub usage_ends : (old : StoreModel) (w : Worked) → w.stop.end ≡ ends.Usage → w.journal.items ≡ []
     → Ends NoCommand old old w
-usage_ends old w end none =
-    let here : CameTo NoCommand old old [] ends.Usage (name_text NoCommand w.stop.name) (totals_on w) = record {
-      course = NotBegun refl;
-      came = (
-        refl,
-        record { none = tt; same = refl; read = NoFile; valid = tt; asks = inl (also_none old.asked) },
-        refl,
-      );
-      counts = (refl, refl);
-      said = refl;
-    } in
-    let so : CameTo NoCommand old old [] w.stop.end (name_text NoCommand w.stop.name) (totals_on w) =
-    subst (λ (e : End). CameTo NoCommand old old [] e (name_text NoCommand w.stop.name) (totals_on w)) (sym end) here in
-    ends_by NoCommand old old w (subst
-    (λ (k : List Entry). CameTo NoCommand old old k w.stop.end (name_text NoCommand w.stop.name) (totals_on w))
-    (sym none) so)
+usage_ends old w end none = ended_so NoCommand old old w [] ends.Usage none end (record {
+  course = NotBegun refl;
+  came = (
+    refl,
+    record { none = tt; same = refl; read = NoFile; valid = tt; asks = inl (also_none old.asked) },
+    refl,
+  );
+  counts = (refl, refl);
+  said = refl;
+})

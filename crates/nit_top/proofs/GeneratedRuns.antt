@@ -13,8 +13,8 @@ use Rattle.nit_top.proofs.Basics.{file_names, generated_files, generated_setup, 
 use Rattle.nit_top.proofs.Basics.{is_some, name_text, output_name, phases, put_state_of_run}
 use Rattle.nit_top.proofs.Basics.{range_with_len, refusal_of, setup_of, unrefused, user_script}
 use Rattle.nit_report.specs.Generator.{generated_configuration}
-use Rattle.nit_top.proofs.WorkLemmas.{CameTo}
-use Rattle.nit_top.proofs.EndsAfterRun.{ends_by, performed_ends, totals_on}
+use Rattle.nit_top.proofs.WorkLemmas.{CameTo, ended_so, totals_on}
+use Rattle.nit_top.proofs.EndsAfterRun.{performed_ends}
 use Rattle.nit_store.specs.declared.store.PutError.TheVariants as put
 use Rattle.nit_setup.specs.declared.stop.End.TheVariants as ends
 use Rattle.nit_setup.specs.declared.stop.StopName.TheVariants as file_name
@@ -156,19 +156,9 @@ module _ (n : ℕ) (old : StoreModel) where
   abbrev none : Course old (Gen n) []
   none = NotBegun refl
 
-  -- what the end of the work means where no run was begun
-  ended_so : (new : StoreModel) (w : Worked) (end : End) → w.journal.items ≡ [] → w.stop.end ≡ end
-      → CameTo (Gen n) old new [] end (name_text (Gen n) w.stop.name) (totals_on w) → Ends (Gen n) old new w
-  ended_so new w end empty is here =
-      let so : CameTo (Gen n) old new [] w.stop.end (name_text (Gen n) w.stop.name) (totals_on w) =
-      subst (λ (e : End). CameTo (Gen n) old new [] e (name_text (Gen n) w.stop.name) (totals_on w)) (sym is) here in
-      ends_by (Gen n) old new w (subst
-      (λ (j : List Entry). CameTo (Gen n) old new j w.stop.end (name_text (Gen n) w.stop.name) (totals_on w))
-      (sym empty) so)
-
   -- memory ran out before a file was put
   pub nothing_made : (w : Worked) → w.stop.end ≡ ends.NoMemory → w.journal.items ≡ [] → Ends (Gen n) old old w
-  nothing_made w is empty = ended_so old w ends.NoMemory empty is (record {
+  nothing_made w is empty = ended_so (Gen n) old old w [] ends.NoMemory empty is (record {
     course = none;
     came = (inl (record { none = tt; same = refl; read = NoFile; valid = tt; asks = inl (also_none old.asked) }), refl);
     counts = (refl, refl);
@@ -185,7 +175,7 @@ module _ (n : ℕ) (old : StoreModel) where
       → w.stop.end ≡ ends.NoMemory → w.journal.items ≡ [] → Ends (Gen n) old mid w
   made_whole mid w puts is empty =
       let p = made_all mid puts in
-      ended_so mid w ends.NoMemory empty is (record {
+      ended_so (Gen n) old mid w [] ends.NoMemory empty is (record {
         course = none;
         came = (
           inr (inl (inr (
@@ -298,7 +288,7 @@ module _ (n : ℕ) (old : StoreModel) where
       made_refused new (output_name g.file) u.bytes u.front u.back u.parts u.mid u.put (totals_on w) g.error
       u.refused in
       let name_is : name_text (Gen n) w.stop.name ≡ output_name g.file = ap (name_text (Gen n)) named in
-      ended_so new w (end_of_put g.error) empty is
+      ended_so (Gen n) old new w [] (end_of_put g.error) empty is
       (subst (λ (m : List ℕ). CameTo (Gen n) old new [] (end_of_put g.error) m (totals_on w)) (sym name_is) here)
 
   -- ---- the whole

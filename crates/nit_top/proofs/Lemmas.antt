@@ -26,7 +26,7 @@ pub use Rattle.nit_top.proofs.Basics.{write_fault_line, ℕ, ◌∙◌}
 pub use Rattle.nit_top.proofs.CaptureEnds.{film_ends}
 pub use Rattle.nit_top.proofs.Causes.{causes, ended_as}
 pub use Rattle.nit_top.proofs.ClipEnds.{clips_end}
-pub use Rattle.nit_top.proofs.EndsAfterRun.{outside_ends, performed_ends, totals_on, usage_ends}
+pub use Rattle.nit_top.proofs.EndsAfterRun.{outside_ends, performed_ends, usage_ends}
 pub use Rattle.nit_top.proofs.GeneratedRuns.{GeneratorLaws, clients_fit, generated_ends}
 pub use Rattle.nit_top.proofs.GeneratedRuns.{generated_runnable, made_in_part, made_whole}
 pub use Rattle.nit_top.proofs.GeneratedRuns.{nothing_made, same_unmade, scripts_of, unmade_runnable}
@@ -42,4 +42,4 @@ pub use Rattle.nit_top.proofs.SameEvents.{both_there, same_events, same_text}
 pub use Rattle.nit_top.proofs.SeenFrames.{SeenLaws, seen}
 pub use Rattle.nit_top.proofs.StoredFiles.{stand}
 pub use Rattle.nit_top.proofs.TextFragments.{flat_map_at, says_stop, says_then}
-pub use Rattle.nit_top.proofs.WorkLemmas.{stopped_ends}
+pub use Rattle.nit_top.proofs.WorkLemmas.{stopped_ends, totals_on}

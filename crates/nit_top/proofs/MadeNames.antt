@@ -78,13 +78,7 @@ module _ (n : ℕ) where
 
 pub made_differ : (c : Command) → HasDifferentNames (made_by c)
 made_differ (Gen number) = differ (generated_files number) (generated_apart number)
-made_differ (Still width height script) = refl
-made_differ (Run beside configuration) = refl
-made_differ (Audit configuration journal) = refl
-made_differ (Clip configuration) = refl
-made_differ (Capture configuration region) = refl
-made_differ (Nested outer inner) = refl
-made_differ NoCommand = refl
+made_differ other = refl
 
 -- ---- the files that are made for a setup
 
@@ -97,11 +91,9 @@ none_made made none = subst IsMade (sym none) (tt, tt)
 
 pub made_apart : (c : Command) (s : Setup) → IsSetupOf c s → IsMade s.made
 made_apart (Still width height script) s of = none_made s.made (ap (λ (t : Setup). t.made) of.1)
-made_apart (Run beside configuration) s of = none_made s.made of.2
 made_apart (Gen number) s of =
     subst IsMade (sym (ap (λ (t : Setup). t.made) of)) (generated_begin number, generated_apart number)
 made_apart (Audit configuration journal) s of = absurd of
-made_apart (Clip configuration) s of = none_made s.made of.2
-made_apart (Capture configuration region) s of = none_made s.made of.2
 made_apart (Nested outer inner) s of = none_made s.made (ap (λ (t : Setup). t.made) of.setup)
 made_apart NoCommand s of = absurd of
+made_apart other s of = none_made s.made of.2

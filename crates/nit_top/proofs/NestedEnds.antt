@@ -8,8 +8,8 @@ use Rattle.nit_top.proofs.Basics.{NotBegun, PerformedNested, Refused, RunFiles, 
 use Rattle.nit_top.proofs.Basics.{asking_all, by_length, by_turns, first_other, frames_of}
 use Rattle.nit_top.proofs.Basics.{inner_journal_name, is_too_long, journal_text, misfit, name_text}
 use Rattle.nit_top.proofs.Basics.{names_in, nest_of, nested_setup, phase_counts, told_so_both}
-use Rattle.nit_top.proofs.WorkLemmas.{CameTo}
-use Rattle.nit_top.proofs.EndsAfterRun.{ends_by, run_ends, totals_on}
+use Rattle.nit_top.proofs.WorkLemmas.{CameTo, ended_so, totals_on}
+use Rattle.nit_top.proofs.EndsAfterRun.{run_ends}
 use Rattle.nit_setup.specs.declared.stop.End.TheVariants as ends
 use Rattle.nit_setup.specs.declared.stop.Fault.TheVariants as fault
 
@@ -46,36 +46,26 @@ module _ (outer inner : List ℕ) (o : RunFiles) (old : StoreModel) (all : AreAl
           counts = (ap (λ (t : StoreModel). t.read_faults) read, ap (λ (t : StoreModel). t.write_faults) read);
           said = ap (λ (t : StoreModel). t.said) read;
         } in
-        let named : CameTo two old new [] (ends.Unfit f) (name_text two w.stop.name) (totals_on w) =
-        subst (λ (n : List ℕ). CameTo two old new [] (ends.Unfit f) n (totals_on w)) (sym is) here in
-        let so : CameTo two old new [] w.stop.end (name_text two w.stop.name) (totals_on w) =
-        subst (λ (e : End). CameTo two old new [] e (name_text two w.stop.name) (totals_on w)) (sym end) named in
-        ends_by two old new w (subst (λ (k : List Entry). CameTo two old new k w.stop.end (name_text two w.stop.name)
-        (totals_on w)) (sym none) so)
+        ended_so two old new w [] (ends.Unfit f) none end
+        (subst (λ (n : List ℕ). CameTo two old new [] (ends.Unfit f) n (totals_on w)) (sym is) here)
 
     -- memory ran out before the outer run
     pub no_memory_ends : (w : Worked) → w.stop.end ≡ ends.NoMemory → w.journal.items ≡ [] → Ends two old new w
-    no_memory_ends w end none =
-        let here : CameTo two old new [] ends.NoMemory (name_text two w.stop.name) (totals_on w) = record {
-          course = NotBegun refl;
-          came = (
-            inl (record {
-              none = tt;
-              same = ap (λ (t : StoreModel). t.files) read;
-              read = BothFiles o i;
-              valid =
-                  (all, both);
-              asks = inl (ap (λ (t : StoreModel). t.asked) read);
-            }),
-            refl,
-          );
-          counts = (ap (λ (t : StoreModel). t.read_faults) read, ap (λ (t : StoreModel). t.write_faults) read);
-          said = ap (λ (t : StoreModel). t.said) read;
-        } in
-        let so : CameTo two old new [] w.stop.end (name_text two w.stop.name) (totals_on w) =
-        subst (λ (e : End). CameTo two old new [] e (name_text two w.stop.name) (totals_on w)) (sym end) here in
-        ends_by two old new w (subst (λ (k : List Entry). CameTo two old new k w.stop.end (name_text two w.stop.name)
-        (totals_on w)) (sym none) so)
+    no_memory_ends w end none = ended_so two old new w [] ends.NoMemory none end (record {
+      course = NotBegun refl;
+      came = (
+        inl (record {
+          none = tt;
+          same = ap (λ (t : StoreModel). t.files) read;
+          read = BothFiles o i;
+          valid = (all, both);
+          asks = inl (ap (λ (t : StoreModel). t.asked) read);
+        }),
+        refl,
+      );
+      counts = (ap (λ (t : StoreModel). t.read_faults) read, ap (λ (t : StoreModel). t.write_faults) read);
+      said = ap (λ (t : StoreModel). t.said) read;
+    })
 
     -- the setup of the outer run is valid
     pub nested_files : misfit inner o i ≡ None → IsRunnable (nested_setup o i)
@@ -132,18 +122,4 @@ module _ (outer inner : List ℕ) (o : RunFiles) (old : StoreModel) (all : AreAl
         (by_length inner o i true none (ap (λ (ss : List (List Line)). is_too_long (nest_of i) ss) parts ∙ long))
         name end empty
     inner_stopped own rest ends.NoMemory w parts none h name end empty = no_memory_ends w end empty
-    inner_stopped own rest (ends.Unfit (fault.BadConfig e)) w parts none h name end empty = absurd h
-    inner_stopped own rest (ends.Unfit fault.LongConfig) w parts none h name end empty = absurd h
-    inner_stopped own rest (ends.Unfit (fault.BadLine n)) w parts none h name end empty = absurd h
-    inner_stopped own rest (ends.Unfit fault.TooLong) w parts none h name end empty = absurd h
-    inner_stopped own rest (ends.Unfit fault.PhasesDiffer) w parts none h name end empty = absurd h
-    inner_stopped own rest (ends.Unfit fault.LongJournal) w parts none h name end empty = absurd h
-    inner_stopped own rest (ends.Unfit (fault.BadEntry n)) w parts none h name end empty = absurd h
-    inner_stopped own rest (ends.Unfit (fault.NotARun n)) w parts none h name end empty = absurd h
-    inner_stopped own rest ends.Usage w parts none h name end empty = absurd h
-    inner_stopped own rest ends.ReadFault w parts none h name end empty = absurd h
-    inner_stopped own rest (ends.Refused f) w parts none h name end empty = absurd h
-    inner_stopped own rest ends.Outside w parts none h name end empty = absurd h
-    inner_stopped own rest ends.WriteFault w parts none h name end empty = absurd h
-    inner_stopped own rest ends.Whole w parts none h name end empty = absurd h
-    inner_stopped own rest (ends.Audited n) w parts none h name end empty = absurd h
+    inner_stopped own rest other w parts none h name end empty = absurd h

@@ -45,11 +45,7 @@ added_more (Nested outer inner) s journal files are added is = by s.inner is
         subst IsMore (sym one) (one_more (inner_journal_name, _) 105 (inr refl) refl)
 added_more (Capture configuration region) s journal files are added one =
     subst IsMore (sym one) (one_more (film_name, _) 99 (inl refl) refl)
-added_more (Still width height script) s journal files are added none = subst IsMore (sym none) none_more
-added_more (Run beside configuration) s journal files are added none = subst IsMore (sym none) none_more
-added_more (Gen number) s journal files are added none = subst IsMore (sym none) none_more
-added_more (Audit configuration journal') s journal files are added none = subst IsMore (sym none) none_more
-added_more NoCommand s journal files are added none = subst IsMore (sym none) none_more
+added_more other s journal files are added none = subst IsMore (sym none) none_more
 
 more_other : (added : List File) → IsMore added → (other : ℕ) → ◌≢◌ {A = ℕ} 99 other → ◌≢◌ {A = ℕ} 105 other
     → BeginOther other added

@@ -30,8 +30,7 @@ refusal_keeps s call None live h = accepted_keeps s call (live refl)
 
 live_if : (how : Status) → by_status how ≡ None → how ≡ status.Live
 live_if status.Live e = refl
-live_if status.Closed e = absurd cc
-live_if status.Killed e = absurd cc
+live_if other e = absurd cc
 
 serve_keeps : (s : Session) (call : Call) → IsServedOrBare s → IsServedOrBare (serve s call).session
 unfolding serve

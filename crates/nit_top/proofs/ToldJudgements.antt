@@ -40,16 +40,11 @@ no_setup (Some files) outside v = v.1
 -- files have one screen
 same_side : (c : Command) (files : List File) (s t : Setup) → IsValid c files s → IsValid c files t
     → is_outside_of c s.config ≡ is_outside_of c t.config
-same_side (Still width height script) files s t v w = refl
-same_side (Run beside configuration) files s t v w = refl
-same_side (Gen number) files s t v w = refl
-same_side (Audit configuration journal) files s t v w = refl
-same_side (Clip configuration) files s t v w = refl
 same_side (Capture configuration region) files s t v w =
     ap (λ (k : Configuration). is_outside_of (Capture configuration region) k)
     (one_configuration (bytes_of configuration files) s.config t.config v.0.1 w.0.1)
-same_side (Nested outer inner) files s t v w = refl
 same_side NoCommand files s t v w = absurd v
+same_side other files s t v w = refl
 
 pub told_side : (c : Command) (told : Option (List File)) (s : Setup) (outside : Bool)
     → IfSome told (λ files. IsValid c files s) → IsSomeAnd told (IsValidSo c outside)

@@ -33,13 +33,11 @@ shown_within size v p j e =
 
 abbrev session_in : PixelSource → ℕ
 session_in (Word t j) = t
-session_in Bare = 0
-session_in Black = 0
+session_in other = 0
 
 abbrev place_in : PixelSource → ℕ
 place_in (Word t j) = j
-place_in Bare = 0
-place_in Black = 0
+place_in other = 0
 
 pub word_within : (sizes : ℕ → Size) (p : Point) (o : Option View) (t j : ℕ) → source_under sizes p o ≡ Word t j
     → j < (sizes t).w * (sizes t).h

@@ -14,6 +14,20 @@ pub record CameTo (c : Command) (old new : StoreModel) (journal : List Entry) (e
   pub counts : Counts old new end
   pub said : new.said ≡ old.said
 
+abbrev pub totals_on : Worked → Totals
+totals_on w = record { clients = w.clients; entries = length w.journal.items; frames = w.frames }
+
+-- the work came to its end so
+pub ended_so : (c : Command) (old new : StoreModel) (w : Worked) (journal : List Entry) (end : End)
+    → w.journal.items ≡ journal → w.stop.end ≡ end
+    → CameTo c old new journal end (name_text c w.stop.name) (totals_on w) → Ends c old new w
+ended_so c old new w journal end is at came =
+    let at_end : CameTo c old new journal w.stop.end (name_text c w.stop.name) (totals_on w) =
+    subst (λ (e : End). CameTo c old new journal e (name_text c w.stop.name) (totals_on w)) (sym at) came in
+    let so : CameTo c old new w.journal.items w.stop.end (name_text c w.stop.name) (totals_on w) =
+    subst (λ (j : List Entry). CameTo c old new j w.stop.end (name_text c w.stop.name) (totals_on w)) (sym is) at_end in
+    record { course = so.course; came = so.came; counts = so.counts; said = so.said }
+
 -- ---- before a run
 
 module _ (c : Command) (old new : StoreModel) (stop : Stop) (s : StoppedReading c old new stop) where
@@ -90,24 +104,14 @@ module _ (c : Command) (old new : StoreModel) (stop : Stop) (s : StoppedReading 
     counts = (ap (λ (s : StoreModel). s.read_faults) e, ap (λ (s : StoreModel). s.write_faults) e);
     said = ap (λ (s : StoreModel). s.said) e;
   }
-  stopped t ends.Usage h = absurd h
-  stopped t ends.WriteFault h = absurd h
-  stopped t ends.Outside h = absurd h
-  stopped t ends.Whole h = absurd h
-  stopped t (ends.Unfit f) h = absurd h
-  stopped t (ends.Audited n) h = absurd h
+  stopped t other h = absurd h
 
   -- the work of a command stopped at a file
   pub stopped_ends : (w : Worked) → w.stop ≡ stop → w.journal.items ≡ [] → Ends c old new w
   stopped_ends w at none =
-      let t : Totals = record { clients = w.clients; entries = length w.journal.items; frames = w.frames } in
-      let here : CameTo c old new [] stop.end s.name t =
-      stopped t stop.end (subst (λ (m : StoreModel).
+      let so : CameTo c old new [] stop.end s.name (totals_on w) =
+      stopped (totals_on w) stop.end (subst (λ (m : StoreModel).
       StoppedBy (λ files f. Judged c files (Refused s.name f)) m s.name new stop.end) s.before.asked s.stopped) in
-      let named : CameTo c old new [] stop.end (name_text c stop.name) t =
-      subst (λ (n : List ℕ). CameTo c old new [] stop.end n t) (sym s.named) here in
-      let so : CameTo c old new [] w.stop.end (name_text c w.stop.name) t =
-      subst (λ (s : Stop). CameTo c old new [] s.end (name_text c s.name) t) (sym at) named in
-      let all : CameTo c old new w.journal.items w.stop.end (name_text c w.stop.name) t =
-      subst (λ (j : List Entry). CameTo c old new j w.stop.end (name_text c w.stop.name) t) (sym none) so in
-      record { course = all.course; came = all.came; counts = all.counts; said = all.said }
+      ended_so c old new w [] stop.end none (ap (λ (t : Stop). t.end) at)
+      (subst (λ (n : List ℕ). CameTo c old new [] stop.end n (totals_on w))
+      (sym (ap (λ (t : Stop). name_text c t.name) at ∙ s.named)) so)

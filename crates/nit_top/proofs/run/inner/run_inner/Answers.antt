@@ -4,17 +4,15 @@ use Rattle.nit_top.proofs.Lemmas.{run_files, subst, sym}
 use Rattle.nit_top.proofs.run.inner.run_inner.Goals as goal
 
 may_come : (i : RunFiles) (own : List Line) (e : NestError) → NestsRun i own (Err e) → MayCome e
-may_come i own TooLong h = tt
-may_come i own NoMemory h = tt
 may_come i own (Bad line) h = absurd h
 may_come i own Phases h = absurd h
+may_come i own other h = tt
 
 ends_so : (i : RunFiles) (own : List Line) (e : NestError) → NestsRun i own (Err e)
     → IsInnerEnd i own (Err (end_of_nest e))
 ends_so i own TooLong h = h
 ends_so i own NoMemory h = tt
-ends_so i own (Bad line) h = absurd h
-ends_so i own Phases h = absurd h
+ends_so i own other h = absurd h
 
 pub end_of_nest-requires : goal.end_of_nest-requires
 end_of_nest-requires c =
