@@ -16,9 +16,10 @@ use Rattle.nit_actor.proofs.RoleLemmas.{fits_belongs, role_fits, user_again}
 -- ---- what is left of a list
 
 first_left : {X : Type 0} (k : ℕ) (xs : List X) (x : X) (ys : List X) → drop k xs ≡ x ∷ ys → slice_get xs k ≡ Some x
+first_left zero [] x ys e = absurd (cc)
 first_left zero (y ∷ xs) x ys e = cc
+first_left (suc k) [] x ys e = absurd (cc)
 first_left (suc k) (y ∷ xs) x ys e = first_left k xs x ys e
-first_left other [] x ys e = absurd (cc)
 
 others_left : {X : Type 0} (k : ℕ) (xs : List X) (x : X) (ys : List X) → drop k xs ≡ x ∷ ys → drop (k + 1) xs ≡ ys
 others_left k xs x ys e =

@@ -105,7 +105,8 @@ untold_put old new name a b (Ok x) none h = (h.0, untold_in old.files new.files 
     untold_in : (o p : Option (List File)) → o ≡ None → PutIn name a o p → PutIn name b o p
     untold_in None p none put = put
     untold_in (Some fs) p none put = absurd cc
-untold_put old new name a b other none h = h
+untold_put old new name a b (Err put.Failed) none h = h
+untold_put old new name a b (Err put.NoMemory) none h = h
 
 -- a put of bytes is that of others, where they are the same or the store tells no files
 same_put : (name a b : List ℕ) (old : StoreModel) (fault : Option PutFault) (new : PutState)

@@ -23,7 +23,12 @@ name_bytes c small = rw (decimal_digit c (omega arith))
 
 name_ascii : (c : ℕ) → c < 8 → IsAscii (103 ∷ (48 + c) ∷ 46 ∷ 110 ∷ 105 ∷ 116 ∷ [])
 name_ascii c small zero = omega arith
-name_ascii c small other = omega arith
+name_ascii c small (suc zero) = omega arith
+name_ascii c small (suc (suc zero)) = omega arith
+name_ascii c small (suc (suc (suc zero))) = omega arith
+name_ascii c small (suc (suc (suc (suc zero)))) = omega arith
+name_ascii c small (suc (suc (suc (suc (suc zero))))) = omega arith
+name_ascii c small (suc (suc (suc (suc (suc (suc i)))))) = omega arith
 
 pub name_is_text : (c : ℕ) → c < 8 → IsUtf8 (script_name c)
 name_is_text c small = subst IsUtf8 (sym (name_bytes c small))

@@ -31,8 +31,10 @@ shot_lines_both xs ys = sum_by-append (λ l. cond (is_shot_line l) 1 0) xs ys
 -- a line takes as many shots as it has lines `shot`
 one_line : (config : Configuration) (doing : ActorLine) (d : Drawing) → length (shots_after config doing d)
     ≡ length d.shots + count_by is_shot_line (input_by_user doing)
+one_line config (ByClient sid l) d = sym (add-zero (length d.shots))
 one_line config (ByUser input.Shot) d = length-append d.shots (drawn_shot config d ∷ [])
-one_line config other d = sym (add-zero (length d.shots))
+one_line config (ByUser (input.Device dev)) d = sym (add-zero (length d.shots))
+one_line config (ByUser input.Phase) d = sym (add-zero (length d.shots))
 
 shots_from : (config : Configuration) (scripts : List (List Line)) (moves : List LineTurn) (d : Drawing)
     → length (fold (after_turn config scripts) d moves).shots
@@ -86,7 +88,8 @@ abbrev pub Took : NestModel → List (List ℕ) → NestModel → Option NestErr
 Took n frames now None = now ≡ with_frames n frames
 Took n frames now (Some TooLong) = IsTooLongAt n frames
 Took n frames now (Some NoMemory) = Unit {0}
-Took n frames now other = ⊥
+Took n frames now (Some (Bad line)) = ⊥
+Took n frames now (Some Phases) = ⊥
 
 -- behind a refusal nothing changes
 kept : (frames : List (List ℕ)) (old now : NestState) (e : NestError) → old.fault ≡ Some e → TakesAll frames old now
@@ -115,7 +118,8 @@ longer n first rest now (Some TooLong) took = record {
   answer = rw (append_assoc n.frames (first ∷ []) took.before) at took.answer;
 }
 longer n first rest now (Some NoMemory) took = tt
-longer n first rest now other took = took
+longer n first rest now (Some (Bad line)) took = took
+longer n first rest now (Some Phases) took = took
 
 pub all_taken : (frames : List (List ℕ)) (n : NestModel) (now : NestState)
     → TakesAll frames (record { nest = n; fault = None }) now → Took n frames now.nest now.fault

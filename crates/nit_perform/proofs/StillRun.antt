@@ -69,8 +69,9 @@ module _ (config : Configuration) (scripts : List (List Line)) (plans : List Pla
 -- ---- the passes at the end
 
 one_pass : (ps : List PassModel) (p : PassModel) → length ps ≡ 1 → slice_get ps 0 ≡ Some p → ps ≡ p ∷ []
+one_pass [] p long at = absurd (omega arith)
 one_pass (q ∷ []) p long at = let same : q ≡ p = cc in ap (λ (x : PassModel). x ∷ []) same
-one_pass other p long at = absurd (omega arith)
+one_pass (q ∷ x ∷ ps) p long at = absurd (omega arith)
 
 -- ---- what it leaves
 

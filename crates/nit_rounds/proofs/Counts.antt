@@ -113,7 +113,11 @@ as_many_as_lines scripts input = rounds_long (phase_count scripts input) (actors
 
 one_act : (d : ActorLine) → length (actions_of_line d) ≤ 1
 one_act (ByClient s (line.Call c)) = omega arith
-one_act other = omega arith
+one_act (ByClient s (line.Stroke x)) = omega arith
+one_act (ByClient s line.Phase) = omega arith
+one_act (ByUser (input.Device d)) = omega arith
+one_act (ByUser input.Shot) = omega arith
+one_act (ByUser input.Phase) = omega arith
 
 pub few_acts : (moves : List LineTurn) → length (actions_of_turns moves) ≤ length moves
 few_acts [] = omega arith

@@ -85,6 +85,10 @@ behind s taken (ByClient sid (line.Call call)) (entry.Call t c r ∷ rest) left 
 behind s taken (ByClient sid (line.Call call)) (entry.Input d r ∷ rest) left legal is = absurd cc
 behind s taken (ByClient sid (line.Call call)) (entry.Shot n ∷ rest) left legal is = absurd cc
 behind s taken (ByClient sid (line.Call call)) (entry.Final ∷ rest) left legal is = absurd cc
+behind s taken (ByClient sid (line.Stroke stroke)) journal left legal is =
+    nothing_put s taken (ByClient sid (line.Stroke stroke)) journal left refl legal refl is
+behind s taken (ByClient sid line.Phase) journal left legal is =
+    nothing_put s taken (ByClient sid line.Phase) journal left refl legal refl is
 behind s taken (ByUser (input.Device dev)) [] left legal is = absurd cc
 behind s taken (ByUser (input.Device dev)) (entry.Input d r ∷ rest) left legal is =
     let (what, more) = did dev d (map action_of rest) left is in
@@ -120,8 +124,8 @@ behind s taken (ByUser input.Shot) (entry.Shot n ∷ rest) left legal is = recor
 behind s taken (ByUser input.Shot) (entry.Call t c r ∷ rest) left legal is = absurd cc
 behind s taken (ByUser input.Shot) (entry.Input d r ∷ rest) left legal is = absurd cc
 behind s taken (ByUser input.Shot) (entry.Final ∷ rest) left legal is = absurd cc
-behind s taken other journal left legal is =
-    nothing_put s taken other journal left refl legal refl is
+behind s taken (ByUser input.Phase) journal left legal is =
+    nothing_put s taken (ByUser input.Phase) journal left refl legal refl is
 
 -- ---- all lines
 

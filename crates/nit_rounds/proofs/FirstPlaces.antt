@@ -34,9 +34,10 @@ kept_first scripts input few =
 
 lefts_first : (n : ℕ) (all : List (List ActorLine)) → length all ≤ n → lefts (replicate n first_place) all
     ≡ map turns_of all
+lefts_first zero [] h = refl
+lefts_first (suc n) [] h = refl
 lefts_first zero (ds ∷ all) h = absurd (omega arith)
 lefts_first (suc n) (ds ∷ all) h = rw (lefts_first n all (omega arith))
-lefts_first other [] h = refl
 
 from_first : (count : ℕ) (all : List (List LineTurn)) → 0 < count
     → left_from count 0 0 all ≡ flat_map (phase_rounds all) (range_with_len 0 count)

@@ -44,8 +44,9 @@ one_more (ByClient zero (line.Stroke s)) ms rest p q others idle = rest p q (fir
 one_more (ByClient zero line.Phase) ms rest p q others idle = rest (suc p) q (first_alone line.Phase ms others) idle
 one_more (ByClient (suc s) l) ms rest p q others idle =
     absurd (some_line l (lines_of (suc s) ms) (suc s == suc s) (eq-eqb (suc s) (suc s) refl) (others s))
+one_more (ByUser (input.Device d)) ms rest p q others idle = absurd cc
+one_more (ByUser input.Shot) ms rest p q others idle = absurd cc
 one_more (ByUser input.Phase) ms rest p q others idle = rest p (suc q) others idle
-one_more other ms rest p q others idle = absurd cc
 
 alone : (ms : List LineTurn) → IsAlone ms
 alone [] p q others idle = refl
@@ -74,8 +75,9 @@ journal_alone s taken (entry.Call zero c r ∷ front) one (agrees, legal) none =
     rw (journal_alone (after s (entry.Call zero c r)) taken front (as_many s (entry.Call zero c r) ∙ one) legal none)
 journal_alone s taken (entry.Call (suc sid) c r ∷ front) one (agrees, legal) none =
     absurd (let below = agrees.0 in omega (arith, one, below))
+journal_alone s taken (entry.Input dev routed ∷ front) one legal none = absurd cc
+journal_alone s taken (entry.Shot number ∷ front) one legal none = absurd cc
 journal_alone s taken (entry.Final ∷ front) one legal none = absurd (some_entry front entry.Final legal)
-journal_alone s taken other one legal none = absurd cc
 
 pub by_rounds_alone : (config : Configuration) (script : List Line) (lines : List InputLine) (journal : List Entry)
     → length config.clients ≡ 1 → user_actions_to_do lines ≡ [] → IsLegal config journal

@@ -105,17 +105,19 @@ get_lefts (suc k) (p ∷ places) (ds ∷ all) d h hs = get_lefts k places all d 
 
 pub lefts_long : (places : List LinePlace) (all : List (List ActorLine)) → length all ≤ length places
     → length (lefts places all) ≡ length all
+lefts_long [] [] h = refl
 lefts_long [] (ds ∷ all) h = absurd (omega arith)
+lefts_long (p ∷ places) [] h = refl
 lefts_long (p ∷ places) (ds ∷ all) h = rw (lefts_long places all (omega arith))
-lefts_long other [] h = refl
 
 pub set_lefts : (k : ℕ) (place : LinePlace) (places : List LinePlace) (all : List (List ActorLine))
     → set (lefts places all) k (left_at place (get_or all k [])) ≡ lefts (set places k place) all
 set_lefts k place [] all = refl
+set_lefts zero place (p ∷ places) [] = refl
+set_lefts (suc k) place (p ∷ places) [] = refl
 set_lefts zero place (p ∷ places) (ds ∷ all) = refl
 set_lefts (suc k) place (p ∷ places) (ds ∷ all) =
     rw (set_lefts k place places all)
-set_lefts other place (p ∷ places) [] = refl
 
 -- ---- who has a line to do
 

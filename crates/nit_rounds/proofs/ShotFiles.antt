@@ -78,8 +78,10 @@ record Plain (config : Configuration) (doing : ActorLine) (taken : ℕ) (put : L
 
 plain : (config : Configuration) (doing : ActorLine) (taken : ℕ) (put : List Entry) → shoots doing ≡ false
     → PutBy taken doing put → Plain config doing taken put
+plain config (ByClient sid l) taken put e p = record { none = p; same = λ d. refl }
+plain config (ByUser (input.Device dev)) taken put e p = record { none = p; same = λ d. refl }
 plain config (ByUser input.Shot) taken put e p = absurd cc
-plain config other taken put e p = record { none = p; same = λ d. refl }
+plain config (ByUser input.Phase) taken put e p = record { none = p; same = λ d. refl }
 
 -- a shot puts itself, and makes a picture
 record Taken (config : Configuration) (doing : ActorLine) (taken : ℕ) (put : List Entry) : Type 0 where
@@ -88,8 +90,10 @@ record Taken (config : Configuration) (doing : ActorLine) (taken : ℕ) (put : L
 
 taken_by : (config : Configuration) (doing : ActorLine) (taken : ℕ) (put : List Entry) → shoots doing ≡ true
     → PutBy taken doing put → Taken config doing taken put
+taken_by config (ByClient sid l) taken put e p = absurd cc
+taken_by config (ByUser (input.Device dev)) taken put e p = absurd cc
 taken_by config (ByUser input.Shot) taken put e p = record { itself = p; more = λ d. refl }
-taken_by config other taken put e p = absurd cc
+taken_by config (ByUser input.Phase) taken put e p = absurd cc
 
 -- ---- all lines
 

@@ -191,6 +191,12 @@ more p n (ByClient s (line.Call c)) ms follow clients user (j ∷ js) ahead e =
     more_call s p n c ms clients user j js (is_call s c j head) ahead.calls
     (follow (set clients s (left (to_do clients s))) user js
     (record { calls = call_left clients s p c ms ahead.calls; actions = ahead.actions }) tail)
+more p n (ByClient s (line.Stroke x)) ms follow clients user js ahead e =
+    let f = follow clients user js (record { calls = ahead.calls; actions = ahead.actions }) e in
+    record { phases = f.phases; calls = f.calls; actions = f.actions }
+more p n (ByClient s line.Phase) ms follow clients user js ahead e =
+    let f = follow clients user js (record { calls = ahead.calls; actions = ahead.actions }) e in
+    record { phases = f.phases; calls = f.calls; actions = f.actions }
 more p n (ByUser (input.Device d)) ms follow clients user [] ahead e =
     absurd (not_both (Acts (Does d)) (actions_of_turns ms) e)
 more p n (ByUser (input.Device d)) ms follow clients user (j ∷ js) ahead e =
@@ -206,7 +212,7 @@ more p n (ByUser input.Shot) ms follow clients user (j ∷ js) ahead e =
     more_action p n Shoots input.Shot ms clients user j js (is_action Shoots j head)
     (follow clients (left user) js (record { calls = ahead.calls; actions = ap left ahead.actions }) tail)
     (rw ahead.actions) refl refl
-more p n other ms follow clients user js ahead e =
+more p n (ByUser input.Phase) ms follow clients user js ahead e =
     let f = follow clients user js (record { calls = ahead.calls; actions = ahead.actions }) e in
     record { phases = f.phases; calls = f.calls; actions = f.actions }
 

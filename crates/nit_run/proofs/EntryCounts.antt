@@ -173,8 +173,15 @@ made_by_client law n c =
 -- what each of the eight clients is to do
 to_do_of : (n t : ℕ) → t < 8 → to_do (map calls_to_make (map (client_script n) (range_with_len 0 8))) t
     ≡ calls_to_make (client_script n t)
+to_do_of n zero lt = refl
+to_do_of n (suc zero) lt = refl
+to_do_of n (suc (suc zero)) lt = refl
+to_do_of n (suc (suc (suc zero))) lt = refl
+to_do_of n (suc (suc (suc (suc zero)))) lt = refl
+to_do_of n (suc (suc (suc (suc (suc zero))))) lt = refl
+to_do_of n (suc (suc (suc (suc (suc (suc zero)))))) lt = refl
+to_do_of n (suc (suc (suc (suc (suc (suc (suc zero))))))) lt = refl
 to_do_of n (suc (suc (suc (suc (suc (suc (suc (suc t)))))))) lt = absurd (omega arith)
-to_do_of n other lt = refl
 
 pub generated_entries : CallsLaw → DevicesLaw → ShotsLaw → (n : ℕ) (journal : List Entry)
     → IsJournal (generated_setup n) journal → (length journal ≡ 12260) × (shots journal ≡ 1)

@@ -13,8 +13,9 @@ use Rattle.nit_script.specs.declared.line.InputLine.TheVariants as input
 pub no_shots : (es : List Entry) → user_actions_of es ≡ [] → shots es ≡ 0
 no_shots [] none = refl
 no_shots (entry.Call s c r ∷ es) none = no_shots es none
+no_shots (entry.Input dev routed ∷ es) none = absurd cc
+no_shots (entry.Shot n ∷ es) none = absurd cc
 no_shots (entry.Final ∷ es) none = no_shots es none
-no_shots other none = absurd cc
 
 -- ---- a user who does nothing
 

@@ -90,9 +90,10 @@ audit_codes configuration journal files m n f g (inr (is, (s, are, p))) (inr (is
 clip_at : (files : List File) (wanted : Option ℕ) (before : List (List ℕ)) (name : List ℕ) (behind : List (List ℕ))
     (clips : List (List ClipLine)) → AreClipScripts files wanted (before ++ name ∷ behind) clips
     → (lines : List ClipLine) × IsClipScript wanted (bytes_of name files) lines
+clip_at files wanted [] name behind [] v = absurd v
 clip_at files wanted [] name behind (lines ∷ clips) v = (lines, v.0)
+clip_at files wanted (b ∷ before) name behind [] v = absurd v
 clip_at files wanted (b ∷ before) name behind (lines ∷ clips) v = clip_at files wanted before name behind clips v.1
-clip_at files wanted other name behind [] v = absurd v
 
 first_clip_fault_not : (files : List File) (wanted : Option ℕ) (names : List (List ℕ)) (clips : List (List ClipLine))
     (name : List ℕ) (f : Fault) → AreClipScripts files wanted names clips → IsFirstClipFault files wanted names name f

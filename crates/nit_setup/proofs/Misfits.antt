@@ -54,7 +54,10 @@ none_more wanted (m ∷ names) (n ∷ counts) name count long none same =
 pub found_front : (wanted : ℕ) (names : List (List ℕ)) (counts : List ℕ) (more : List (List ℕ)) (rest : List ℕ)
     (name : List ℕ) → first_other wanted names counts ≡ Some name → first_other wanted (names ++ more) (counts ++ rest)
     ≡ Some name
+found_front wanted [] [] more rest name is = absurd (let no : ◌≡◌ {A = Option (List ℕ)} None (Some name) = is in cc)
 found_front wanted [] (n ∷ counts) more rest name is =
+    absurd (let no : ◌≡◌ {A = Option (List ℕ)} None (Some name) = is in cc)
+found_front wanted (m ∷ names) [] more rest name is =
     absurd (let no : ◌≡◌ {A = Option (List ℕ)} None (Some name) = is in cc)
 found_front wanted (m ∷ names) (n ∷ counts) more rest name is =
     by (n == wanted) is (λ e. found_front wanted names counts more rest name e)
@@ -65,8 +68,6 @@ found_front wanted (m ∷ names) (n ∷ counts) more rest name is =
         → cond b (first_other wanted (names ++ more) (counts ++ rest)) (Some m) ≡ Some name
     by true e tail = tail e
     by false e tail = e
-found_front wanted other [] more rest name is =
-    absurd (let no : ◌≡◌ {A = Option (List ℕ)} None (Some name) = is in cc)
 
 -- the scripts of which none has another number have the wanted one
 pub all_wanted : (wanted : ℕ) (names : List (List ℕ)) (scripts : List (List Line)) (more : List (List ℕ))

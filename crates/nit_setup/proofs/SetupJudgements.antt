@@ -76,13 +76,14 @@ pub spelled_at : (files : List File) (before : List (List ℕ)) (name : List ℕ
     → (lines : List Line) × (more : List (List Line)) × (all ≡ some ++ lines ∷ more)
     × IsScript FitsLine line_spelling (bytes_of name files) lines
 spelled_at files [] name behind (lines ∷ more) [] v w = (lines, more, refl, v.0)
+spelled_at files [] name behind [] some v w = absurd v
 spelled_at files [] name behind (lines ∷ more) (x ∷ some) v w = absurd w
+spelled_at files (b ∷ before) name behind [] some v w = absurd v
 spelled_at files (b ∷ before) name behind (lines ∷ all) [] v w = absurd w
 spelled_at files (b ∷ before) name behind (lines ∷ all) (x ∷ some) v w =
     let same : lines ≡ x = same_read client_reading (bytes_of b files) lines x v.0.1 w.0.1 in
     let rest = spelled_at files before name behind all some v.1 w.1 in
     (rest.0, rest.1, ap (λ (l : List Line). l ∷ all) same ∙ ap (λ (ls : List (List Line)). x ∷ ls) rest.2, rest.3)
-spelled_at files other name behind [] some v w = absurd v
 
 pub same_scripts : (files : List File) (names : List (List ℕ)) (a b : List (List Line)) → SpellScripts files names a
     → SpellScripts files names b → a ≡ b

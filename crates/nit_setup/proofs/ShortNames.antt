@@ -28,7 +28,10 @@ names_short (m ∷ clients) input all is = (
 other_among : (wanted : ℕ) (names : List (List ℕ)) (counts : List ℕ) (name : List ℕ)
     → AllByRecursion (λ (n : List ℕ). length n ≤ 255) names → first_other wanted names counts ≡ Some name
     → length name ≤ 255
+other_among wanted [] [] name all is = absurd (let no : ◌≡◌ {A = Option (List ℕ)} None (Some name) = is in cc)
 other_among wanted [] (n ∷ counts) name all is =
+    absurd (let no : ◌≡◌ {A = Option (List ℕ)} None (Some name) = is in cc)
+other_among wanted (m ∷ names) [] name all is =
     absurd (let no : ◌≡◌ {A = Option (List ℕ)} None (Some name) = is in cc)
 other_among wanted (m ∷ names) (n ∷ counts) name all is =
     by (n == wanted) is (λ e. other_among wanted names counts name all.1 e)
@@ -37,8 +40,6 @@ other_among wanted (m ∷ names) (n ∷ counts) name all is =
         → (first_other wanted names counts ≡ Some name → length name ≤ 255) → length name ≤ 255
     by true e tail = tail e
     by false e tail = let same : m ≡ name = cc in subst (λ (k : List ℕ). length k ≤ 255) same all.0
-other_among wanted other [] name all is =
-    absurd (let no : ◌≡◌ {A = Option (List ℕ)} None (Some name) = is in cc)
 
 -- that of a script that has another number of phases
 pub other_short : (config : Configuration) (wanted : ℕ) (counts : List ℕ) (name : List ℕ) → IsConfiguration config

@@ -19,10 +19,12 @@ HaveSize w h shots = AllByRecursion (λ f. (f.width ≡ w) × (f.height ≡ h)) 
 
 sized_more : (config : Configuration) (doing : ActorLine) (d : Drawing) → HaveSize config.width config.height d.shots
     → HaveSize config.width config.height (shots_after config doing d)
+sized_more config (ByClient sid l) d all = all
 sized_more config (ByUser input.Shot) d all =
     all_append (λ (f : ShotFrame). (f.width ≡ config.width) × (f.height ≡ config.height)) d.shots
     (drawn_shot config d ∷ []) all ((refl, refl), tt)
-sized_more config other d all = all
+sized_more config (ByUser (input.Device dev)) d all = all
+sized_more config (ByUser input.Phase) d all = all
 
 sized_from : (config : Configuration) (scripts : List (List Line)) (moves : List LineTurn) (d : Drawing)
     → HaveSize config.width config.height d.shots

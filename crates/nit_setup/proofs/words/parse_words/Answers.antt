@@ -11,19 +11,30 @@ not_less a b is less = let both : true ≡ false = sym (lt-ltb a b less) ∙ is 
 
 -- one word or none
 few : (words : List (List ℕ)) → length words < 2 → command words ≡ NoCommand
+few [] short = refl
+few (a ∷ []) short = refl
 few (a ∷ b ∷ rest) short = absurd (omega (arith, short))
-few other short = refl
 
 -- five words
 five : (words : List (List ℕ)) → (length words < 5 → ⊥) → length words < 6 → command words ≡ NoCommand
+five [] long short = absurd (long (omega arith))
+five (a ∷ []) long short = absurd (long (omega arith))
+five (a ∷ b ∷ []) long short = absurd (long (omega arith))
+five (a ∷ b ∷ c ∷ []) long short = absurd (long (omega arith))
+five (a ∷ b ∷ c ∷ d ∷ []) long short = absurd (long (omega arith))
 five (a ∷ b ∷ c ∷ d ∷ e ∷ []) long short = refl
 five (a ∷ b ∷ c ∷ d ∷ e ∷ f ∷ rest) long short = absurd (omega (arith, short))
-five other long short = absurd (long (omega arith))
 
 -- seven words or more
 many : (words : List (List ℕ)) → (length words < 7 → ⊥) → command words ≡ NoCommand
+many [] long = absurd (long (omega arith))
+many (a ∷ []) long = absurd (long (omega arith))
+many (a ∷ b ∷ []) long = absurd (long (omega arith))
+many (a ∷ b ∷ c ∷ []) long = absurd (long (omega arith))
+many (a ∷ b ∷ c ∷ d ∷ []) long = absurd (long (omega arith))
+many (a ∷ b ∷ c ∷ d ∷ e ∷ []) long = absurd (long (omega arith))
+many (a ∷ b ∷ c ∷ d ∷ e ∷ f ∷ []) long = absurd (long (omega arith))
 many (a ∷ b ∷ c ∷ d ∷ e ∷ f ∷ h ∷ rest) long = refl
-many other long = absurd (long (omega arith))
 
 pub returns-in_default : goal.returns-in_default
 returns-in_default c =
