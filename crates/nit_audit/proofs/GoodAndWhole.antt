@@ -3,25 +3,16 @@ use Rattle.std.proofs.Common.{List, [], refl, ℕ, ◌++◌, ◌+◌, ◌∙◌,
 use Rattle.nit_audit.proofs.Basics.{Call, Configuration, Entry, IsAllDone, IsEnded, IsGoodFor}
 use Rattle.nit_audit.proofs.Basics.{IsLegal, IsWhole, LegalFrom, State, UserAction, after}
 use Rattle.nit_audit.proofs.Basics.{append-nil, calls_of, first_state, user_actions_of}
-use mathlib.Core.List.{cons≢nil}
+use Rattle.nit_journal.proofs.ForCallers.{actions_same, calls_same}
 use Rattle.nit_events.specs.declared.entry.Entry.TheVariants as entry
 
 -- ---- what the last picture adds
 
 calls_ended : (s : ℕ) (front : List Entry) → calls_of s (front ++ entry.Final ∷ []) ≡ calls_of s front
-calls_ended s [] = refl
-calls_ended s (entry.Call sid call r ∷ front) =
-    rw (calls_ended s front) refl
-calls_ended s (entry.Input dev routed ∷ front) = calls_ended s front
-calls_ended s (entry.Shot number ∷ front) = calls_ended s front
-calls_ended s (entry.Final ∷ front) = calls_ended s front
+calls_ended s front = calls_same s front entry.Final refl
 
 actions_ended : (front : List Entry) → user_actions_of (front ++ entry.Final ∷ []) ≡ user_actions_of front
-actions_ended [] = refl
-actions_ended (entry.Call sid call r ∷ front) = actions_ended front
-actions_ended (entry.Input dev routed ∷ front) = cc (actions_ended front)
-actions_ended (entry.Shot number ∷ front) = cc (actions_ended front)
-actions_ended (entry.Final ∷ front) = actions_ended front
+actions_ended front = actions_same front entry.Final refl
 
 -- ---- good entries that end are whole
 
@@ -38,10 +29,6 @@ whole config clients user entries g ended =
 
 -- ---- a legal and whole journal is good
 
-not_empty : (front rest : List Entry) → front ++ entry.Final ∷ rest ≡ [] → ⊥
-not_empty [] rest is = cons≢nil is
-not_empty (e ∷ front) rest is = cons≢nil is
-
 -- nothing stands behind the last picture of legal entries
 last_of : (s : State) (taken : ℕ) (front rest : List Entry) → LegalFrom s taken (front ++ entry.Final ∷ rest)
     → rest ≡ []
@@ -51,7 +38,8 @@ last_of s taken (entry.Call sid call r ∷ front) rest legal =
 last_of s taken (entry.Input dev routed ∷ front) rest legal =
     last_of (after s (entry.Input dev routed)) taken front rest legal.1
 last_of s taken (entry.Shot number ∷ front) rest legal = last_of s (taken + 1) front rest legal.1
-last_of s taken (entry.Final ∷ front) rest legal = absurd (not_empty front rest legal)
+last_of s taken (entry.Final ∷ []) rest legal = absurd (cc)
+last_of s taken (entry.Final ∷ e ∷ front) rest legal = absurd (cc)
 
 -- all is done before the last picture of a legal and whole journal
 all_before : (config : Configuration) (clients : List (List (ℕ × Call))) (user : List (ℕ × UserAction))

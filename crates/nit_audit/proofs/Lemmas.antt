@@ -9,16 +9,14 @@ pub use Rattle.nit_audit.proofs.Basics.{member, new_view, position_or_len, put_a
 pub use Rattle.nit_audit.proofs.Basics.{put_front, refl, refusal, rules, session_in, swept, sym}
 pub use Rattle.nit_audit.proofs.Basics.{taken_if, to_do, to_z-of_z, user_actions_from}
 pub use Rattle.nit_audit.proofs.Basics.{user_actions_to_do, view_under, views_at, w32, ◌∙◌}
-pub use Rattle.nit_audit.proofs.CallEntries.{by_answer, call_played, taken_parts, wrong_accepted}
-pub use Rattle.nit_audit.proofs.EachEntry.{ahead_on, followed_of, many_still, only_one, verdict_bad}
+pub use Rattle.nit_audit.proofs.CallEntries.{by_answer, call_played, wrong_accepted}
+pub use Rattle.nit_audit.proofs.EachEntry.{ahead_on, many_still, only_one, verdict_bad}
 pub use Rattle.nit_audit.proofs.EachEntry.{verdict_ended, verdict_unended}
 pub use Rattle.nit_audit.proofs.FirstState.{opened_replay}
 pub use Rattle.nit_audit.proofs.GoodAndWhole.{good, whole}
-pub use Rattle.nit_audit.proofs.GoodEntryLemmas.{good_fewer}
-pub use Rattle.nit_audit.proofs.InputEntries.{input_played, room_left, routed_parts, same_route}
-pub use Rattle.nit_audit.proofs.KeyLemmas.{all_filter, all_insert, backed, changed_kept}
-pub use Rattle.nit_audit.proofs.KeyLemmas.{changed_views, created_views, found_all, fronted, on_ok}
-pub use Rattle.nit_audit.proofs.KeyLemmas.{owner_below, owner_small, raised, removed_kept}
-pub use Rattle.nit_audit.proofs.KeyLemmas.{removed_views, stays}
-pub use Rattle.nit_audit.proofs.NextEntry.{follows_call, follows_input, follows_shot, if_ok}
-pub use Rattle.nit_audit.proofs.VerdictLemmas.{answered_yes, if_ok_yes, one_verdict}
+pub use Rattle.nit_audit.proofs.InputEntries.{input_played, room_left, same_route}
+pub use Rattle.nit_audit.proofs.KeyLemmas.{all_filter, all_insert, backed, changed_all}
+pub use Rattle.nit_audit.proofs.KeyLemmas.{created_views, found_all, fronted, moves, on_ok}
+pub use Rattle.nit_audit.proofs.KeyLemmas.{owner_below, owner_small, raised, removed, stays}
+pub use Rattle.nit_audit.proofs.NextEntry.{follows, if_ok}
+pub use Rattle.nit_audit.proofs.VerdictLemmas.{answered_yes, if_ok_yes}

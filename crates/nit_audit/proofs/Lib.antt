@@ -1,5 +1,4 @@
 pub mod GoodEntryLemmas
-pub mod ActorTasks
 pub mod VerdictLemmas
 mod GoodAndWhole
 mod KeyLemmas

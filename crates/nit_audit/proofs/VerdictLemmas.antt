@@ -1,9 +1,8 @@
 -- What is answered of entries, one at a time.
-use Rattle.nit_audit.proofs.Basics.{Entry, Err, IfOk, IsEnded, IsLeastBad, IsOpen, IsVerdict}
+use Rattle.nit_audit.proofs.Basics.{Entry, Err, IfOk, IsLeastBad, IsOpen, IsVerdict}
 use Rattle.nit_audit.proofs.Basics.{IsVerdictFrom, List, Ok, Result, Verdict, [], ap, arith}
 use Rattle.nit_audit.proofs.Basics.{cases_lt, inl, inr, refl, subst, suc, sym}
 use Rattle.std.proofs.Common.{take, zero, ℕ, ◌++◌, ◌+◌, ◌<◌, ◌∙◌, ◌∷◌, ◌≡◌, ◌↔◌, ◌≢◌}
-use mathlib.Core.List.{cons≢nil}
 use Rattle.nit_events.specs.declared.entry.Entry.TheVariants as entry
 use Rattle.nit_audit.specs.declared.auditing.Verdict.TheVariants as verdict
 
@@ -11,10 +10,8 @@ use Rattle.nit_audit.specs.declared.auditing.Verdict.TheVariants as verdict
 
 -- no entry but the last picture ends an open list
 open_more : (e : Entry) (rest : List Entry) → e ≢ entry.Final → IsOpen rest → IsOpen (e ∷ rest)
-open_more (entry.Call sid call r) rest o h = h
-open_more (entry.Input dev routed) rest o h = h
-open_more (entry.Shot number) rest o h = h
 open_more entry.Final rest o h = absurd (o refl)
+open_more other rest o h = h
 
 pub front_verdict : (G H : List Entry → Type 0) (n : ℕ) (e : Entry) (rest : List Entry) (v : Verdict) → e ≢ entry.Final
     → G [] → ((xs : List Entry) → G (e ∷ xs) → H xs) → ((xs : List Entry) → H xs → G (e ∷ xs))
@@ -53,15 +50,6 @@ front_bad G n e rest none bad = (1, refl, inl (record { within = omega arith; ba
     before zero lt = none
     before (suc i) lt = absurd (omega (arith, lt))
 
--- nothing comes any more, and the last picture is not there
-pub none_behind : (G : List Entry → Type 0) (n : ℕ) → G [] → IsVerdictFrom G n [] (verdict.No (n + 1))
-none_behind G n none = (1, refl, inr (record { behind = refl; good = none; unended = tt }))
-
--- the last picture is the last entry
-pub final_last : (G : List Entry → Type 0) (n : ℕ) → G (entry.Final ∷ [])
-    → IsVerdictFrom G n (entry.Final ∷ []) verdict.Yes
-final_last G n good = (good, ([], refl))
-
 -- an entry stands behind the last picture
 pub final_behind : (G : List Entry → Type 0) (n : ℕ) (e : Entry) (rest : List Entry) → G [] → G (entry.Final ∷ [])
     → (G (entry.Final ∷ e ∷ []) → ⊥) → IsVerdictFrom G n (entry.Final ∷ e ∷ rest) (verdict.No (n + 2))
@@ -91,31 +79,16 @@ verdict_for G H entries (verdict.No k) on back (j, is, inr un) =
 
 -- ---- one verdict
 
-not_ended_more : (e : Entry) (rest : List Entry) → e ≢ entry.Final → (IsEnded rest → ⊥) → IsEnded (e ∷ rest) → ⊥
-not_ended_more e rest o again (front, is) = shorter front is
-  where
-    shorter : (front : List Entry) → e ∷ rest ≡ front ++ entry.Final ∷ [] → ⊥
-    shorter [] is = o (cc)
-    shorter (f ∷ front) is = again (front, cc)
+open_not_ended : (front rest : List Entry) → IsOpen (front ++ entry.Final ∷ rest) → ⊥
+open_not_ended [] rest o = o
+open_not_ended (entry.Final ∷ front) rest o = o
+open_not_ended (other ∷ front) rest o = open_not_ended front rest o
 
-not_ended_none : IsEnded [] → ⊥
-not_ended_none (front, is) = cut front is
-  where
-    cut : (front : List Entry) → [] ≡ front ++ entry.Final ∷ [] → ⊥
-    cut [] is = cons≢nil (sym is)
-    cut (f ∷ front) is = cons≢nil (sym is)
-
-open_not_ended : (entries : List Entry) → IsOpen entries → IsEnded entries → ⊥
-open_not_ended [] o h = not_ended_none h
-open_not_ended (entry.Final ∷ rest) o h = o
-open_not_ended (entry.Call sid call r ∷ rest) o h =
-    not_ended_more (entry.Call sid call r) rest (λ is. absurd cc)
-    (λ again. open_not_ended rest o again) h
-open_not_ended (entry.Input dev routed ∷ rest) o h =
-    not_ended_more (entry.Input dev routed) rest (λ is. absurd cc)
-    (λ again. open_not_ended rest o again) h
-open_not_ended (entry.Shot number ∷ rest) o h =
-    not_ended_more (entry.Shot number) rest (λ is. absurd cc) (λ again. open_not_ended rest o again) h
+-- entries are not good where fewer are bad, and not ended where they are open
+bad_or_open : (G : List Entry → Type 0) → ((k : ℕ) (xs : List Entry) → G xs → G (take k xs))
+    → (entries : List Entry) (k : ℕ) → IsVerdict G entries verdict.Yes → IsVerdict G entries (verdict.No k) → ⊥
+bad_or_open G fewer entries k yes_ (inl bad) = bad.bad (fewer k entries yes_.0)
+bad_or_open G fewer entries k yes_ (inr un) = open_not_ended yes_.1.0 [] (rw yes_.1.1 at un.unended)
 
 -- the first bad place is one
 one_place : (G : List Entry → Type 0) (entries : List Entry) (j k : ℕ) → IsLeastBad G entries j → IsLeastBad G entries k
@@ -128,10 +101,8 @@ one_place G entries j k a b = elim (cases_lt j k) [
 pub one_verdict : (G : List Entry → Type 0) → ((k : ℕ) (xs : List Entry) → G xs → G (take k xs))
     → (entries : List Entry) (a b : Verdict) → IsVerdict G entries a → IsVerdict G entries b → a ≡ b
 one_verdict G fewer entries verdict.Yes verdict.Yes h i = refl
-one_verdict G fewer entries verdict.Yes (verdict.No k) h (inl bad) = absurd (bad.bad (fewer k entries h.0))
-one_verdict G fewer entries verdict.Yes (verdict.No k) h (inr un) = absurd (open_not_ended entries un.unended h.1)
-one_verdict G fewer entries (verdict.No k) verdict.Yes (inl bad) i = absurd (bad.bad (fewer k entries i.0))
-one_verdict G fewer entries (verdict.No k) verdict.Yes (inr un) i = absurd (open_not_ended entries un.unended i.1)
+one_verdict G fewer entries verdict.Yes (verdict.No k) h i = absurd (bad_or_open G fewer entries k h i)
+one_verdict G fewer entries (verdict.No k) verdict.Yes h i = absurd (bad_or_open G fewer entries k i h)
 one_verdict G fewer entries (verdict.No j) (verdict.No k) (inl a) (inl b) = ap verdict.No (one_place G entries j k a b)
 one_verdict G fewer entries (verdict.No j) (verdict.No k) (inl a) (inr b) = absurd (a.bad (fewer j entries b.good))
 one_verdict G fewer entries (verdict.No j) (verdict.No k) (inr a) (inl b) = absurd (b.bad (fewer k entries a.good))

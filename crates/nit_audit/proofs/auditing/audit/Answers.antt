@@ -1,10 +1,11 @@
 use Rattle.nit_audit.proofs.Lemmas.{IsGood, IsLegal, IsVerdict, IsWhole, answered_yes}
-use Rattle.nit_audit.proofs.Lemmas.{calls_to_make, if_ok_yes, map, only_one, user_actions_to_do}
+use Rattle.nit_audit.proofs.Lemmas.{calls_to_make, if_ok, if_ok_yes, map, only_one, user_actions_to_do}
 use Rattle.nit_audit.proofs.auditing.audit.Goals as goal
 
 pub returns-clause-only : goal.returns-clause-only
-returns-clause-only c = only_one c.args.config.now (map calls_to_make c.args.scripts.now)
-    (user_actions_to_do c.args.input.now) c.args.entries.now c.judged.result c.judged.ensures
+returns-clause-only c = if_ok _ _ c.judged.result (λ v h other h'. only_one c.args.config.now
+    (map calls_to_make c.args.scripts.now) (user_actions_to_do c.args.input.now) c.args.entries.now v other h h')
+    c.judged.ensures
 
 pub returns-clause-whole : goal.returns-clause-whole
 returns-clause-whole c =

@@ -1,5 +1,5 @@
 use Rattle.std.proofs.Common.{None, Some, rules, sym, ◌∙◌, ◌≡◌}
-use Rattle.nit_audit.proofs.Lemmas.{by_answer, call_played, refusal, session_in, taken_parts}
+use Rattle.nit_audit.proofs.Lemmas.{by_answer, call_played, refusal, session_in}
 use Rattle.nit_audit.proofs.Lemmas.{wrong_accepted}
 use Rattle.nit_audit.proofs.replay.Replay.call.Goals as goal
 
@@ -23,7 +23,6 @@ returns c =
     let none : refusal (session_in c.args.self.now.sessions c.args.sid) c.args.call.now ≡ None = sym c.refused.ensures
     ∙ c.in_default.is in
     let same : c.accept-answer.result ≡ c.args.reply.now = c.is_same-2.ensures.0 (search rules) in
-    call_played c.args.config.now c.args.sid c.args.call.now c.args.reply.now c.args.self.now c.settle.new.self
-    c.requires.kept (search rules) none (sym c.accept-answer.ensures.reply ∙ same)
-    (taken_parts c.args.config.now c.args.sid c.args.call.now c.args.reply.now c.args.self.now c.accept-answer.new.self
-    c.settle.new.self c.accept-answer.ensures.session c.in_ok-settle.ensures)
+    call_played c.args.config.now c.args.sid c.args.call.now c.args.reply.now c.args.self.now c.accept-answer.new.self
+    c.settle.new.self c.requires.kept (search rules) none (sym c.accept-answer.ensures.reply ∙ same)
+    c.accept-answer.ensures.session c.in_ok-settle.ensures

@@ -1,4 +1,4 @@
-use Rattle.nit_audit.proofs.Lemmas.{HasView, all_filter, ap, found_all, fronted, is_view, layer}
+use Rattle.nit_audit.proofs.Lemmas.{HasView, all_filter, ap, found_all, fronted, moves, is_view, layer}
 use Rattle.nit_audit.proofs.Lemmas.{on_ok, put_front, stays, sym, views_at, ◌∙◌}
 use Rattle.nit_audit.proofs.views.Views.front.Goals as goal
 
@@ -21,8 +21,8 @@ returns c =
     let found = sym (rw c.as_slice.ensures.value at c.first_key.ensures) ∙ c.in-Some.is in
     let at = rw (c.as_slice-2.ensures.value, c.take_out.ensures, c.layer_of.ensures) at
     c.front_place-place.ensures.place in
-    on_ok c.put_in.result (λ put. ap (views_at c.self.inside.records) put
-    ∙ rw (c.take_out.ensures, ← c.self.view_is) (fronted
-    (is_view c.args.sid c.args.handle) (λ v. layer c.args.config.now v.sid) (layer c.args.config.now c.args.sid)
-    c.self.inside.records c.self.inside.keys.items c.in-Some.key c.front_place-place.result found at))
+    on_ok c.put_in.result (λ put. ap (views_at c.self.inside.records) put ∙ rw (← c.self.view_is, c.take_out.ensures)
+    (moves (is_view c.args.sid c.args.handle) (put_front (λ v. layer c.args.config.now v.sid)
+    (layer c.args.config.now c.args.sid)) c.self.inside.records c.self.inside.keys.items _ c.in-Some.key found
+    (fronted c.self.inside.records _ c.in-Some.key c.front_place-place.result (λ v. layer c.args.config.now v.sid) _ at)))
     c.put_in.ensures.put
