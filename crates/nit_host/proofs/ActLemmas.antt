@@ -1,11 +1,11 @@
 -- What a host serves are steps.
-use Rattle.std.proofs.Common.{Bool, List, None, Option, Some, [], ap, cond, false, refl, subst, sym}
-use Rattle.std.proofs.Common.{true, ℕ, ◌++◌, ◌∙◌, ◌∷◌, ◌≡◌}
+use Rattle.std.proofs.Common.{List, None, Option, Some, [], ap, refl, subst, sym, ℕ, ◌++◌, ◌∙◌, ◌∷◌}
+use Rattle.std.proofs.Common.{◌≡◌}
 use Rattle.nit_host.proofs.Basics.{Act, Calls, Comes, Does, HostModel, IsStepOf, Looks, Refreshes}
 use Rattle.nit_host.proofs.Basics.{Serves, State, Step, after_act, after_acts, after_step, called}
-use Rattle.nit_host.proofs.Basics.{is_accepted, is_label_taken, is_live, is_taken, refreshed}
-use Rattle.nit_host.proofs.Basics.{reply_to, session, step_of, step_unless, steps_of, unless_for}
-use Rattle.nit_host.proofs.Basics.{unseated, unserved_call, unserved_refresh}
+use Rattle.nit_host.proofs.Basics.{cond_both, is_accepted, refreshed, reply_to, step_of}
+use Rattle.nit_host.proofs.Basics.{step_unless, steps_of, unless_for, unseated, unserved_call}
+use Rattle.nit_host.proofs.Basics.{unserved_refresh}
 use Rattle.nit_host.proofs.Seatings.{may_sit}
 use Rattle.nit_host.proofs.Served.{may_call, may_refresh}
 use Rattle.nit_journal.specs.Steps.{AreSteps, after_steps}
@@ -30,15 +30,12 @@ pub same_call : (h : HostModel) (seat : ℕ) (x y : Rattle.std.specs.Prelude.ℤ
     → (refreshed seat x y w height words h).state
     ≡ after_step h.state (Serves (entry.Call seat (call.Refresh x y w height)
     (reply_to h seat (call.Refresh x y w height))))
-same_call h seat x y w height words = go (is_accepted (reply_to h seat (call.Refresh x y w height)))
-  where
-    go : (b : Bool) → (cond b (called seat (call.Refresh x y w height)
-        (Rattle.nit_host.specs.Host.with_handed seat (Rattle.nit_host.specs.Below.rectangle x y w height) words h))
-        (called seat (call.Refresh x y w height) h)).state
-        ≡ after_step h.state (Serves (entry.Call seat (call.Refresh x y w height)
-        (reply_to h seat (call.Refresh x y w height))))
-    go true = refl
-    go false = refl
+same_call h seat x y w height words =
+    let ask = call.Refresh x y w height in
+    cond_both (is_accepted (reply_to h seat ask))
+    (called seat ask (Rattle.nit_host.specs.Host.with_handed seat (Rattle.nit_host.specs.Below.rectangle x y w height)
+    words h)) (called seat ask h)
+    (λ m. m.state ≡ after_step h.state (Serves (entry.Call seat ask (reply_to h seat ask)))) (λ _. refl) (λ _. refl)
 
 pub one_act : (h : HostModel) (act : Act) → Goes h (after_act h act) (step_of h act)
 one_act h (Calls seat c) =

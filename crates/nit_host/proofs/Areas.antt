@@ -1,18 +1,9 @@
 -- What of a view is touched, as an area.
-use Rattle.std.proofs.Common.{Bool, ap, arith, false, refl, sym, true, ℕ, ℤ, pos, ◌&&◌, ◌+ℤ◌, ◌<◌}
-use Rattle.std.proofs.Common.{◌∙◌, ◌≡◌, List, Some, slice_get, subst}
-use Rattle.nit_host.proofs.Basics.{Area, Rectangle, Touch, View, buffer_place, has_place, ints}
-use Rattle.nit_host.proofs.Basics.{is_between, is_touched, nat_tests, point, same_Some, shows_place}
-use Rattle.nit_host.proofs.Basics.{spans}
-
--- the first of two tests that both hold, and the second
-pub first_test : (a b : Bool) → (a && b) ≡ true → a ≡ true
-first_test true b is = refl
-first_test false b is = cc
-
-pub second_test : (a b : Bool) → (a && b) ≡ true → b ≡ true
-second_test true b is = is
-second_test false b is = cc
+use Rattle.std.proofs.Common.{ap, arith, sym, true, ℕ, ℤ, pos, ◌&&◌, ◌+ℤ◌, ◌<◌, ◌∙◌, ◌≡◌, List}
+use Rattle.std.proofs.Common.{Some, slice_get}
+use Rattle.nit_host.proofs.Basics.{Area, Rectangle, Touch, View, and_from, and_parts, buffer_place}
+use Rattle.nit_host.proofs.Basics.{has_place, ints, is_between, is_touched, nat_tests, point}
+use Rattle.nit_host.proofs.Basics.{same_Some, shows_place, spans}
 
 -- a place of the screen that shows one of these places of the buffer
 shifted : (from corner offset start : ℤ) (long n : ℕ) → start ≡ (corner +ℤ offset) +ℤ from
@@ -25,14 +16,11 @@ pub shown_there : (part : Rectangle) (v : View) (x y w h left right top bottom :
     → spans column w (pos x) ≡ is_between left right x → spans row h (pos y) ≡ is_between top bottom y
     → shows_place part v (point x y) ≡ true → (is_between left right x && is_between top bottom y) ≡ true
 shown_there part v x y w h left right top bottom column row column_is row_is w_is h_is across down shows =
-    let a = sym across ∙ ap (λ (n : ℕ). spans column n (pos x)) w_is
-    ∙ shifted part.x v.rect.x v.ox column part.w x column_is
-    (first_test (spans part.x part.w (buffer_place (pos x) v.rect.x v.ox))
-    (spans part.y part.h (buffer_place (pos y) v.rect.y v.oy)) shows) in
-    let d = sym down ∙ ap (λ (n : ℕ). spans row n (pos y)) h_is ∙ shifted part.y v.rect.y v.oy row part.h y row_is
-    (second_test (spans part.x part.w (buffer_place (pos x) v.rect.x v.ox))
-    (spans part.y part.h (buffer_place (pos y) v.rect.y v.oy)) shows) in
-    λ i. a i && d i
+    let both = and_parts (spans part.x part.w (buffer_place (pos x) v.rect.x v.ox))
+    (spans part.y part.h (buffer_place (pos y) v.rect.y v.oy)) shows in
+    and_from (is_between left right x) (is_between top bottom y)
+    (rw (← across, w_is) (shifted part.x v.rect.x v.ox column part.w x column_is both.0))
+    (rw (← down, h_is) (shifted part.y v.rect.y v.oy row part.h y row_is both.1))
 
 -- the view at a place is the one that was read there
 pub same_view : (stack : List View) (i k : ℕ) (v w : View) (t : Touch) (seat : ℕ) (size : ℕ × ℕ) (width height : ℕ)
@@ -42,5 +30,4 @@ pub same_view : (stack : List View) (i k : ℕ) (v w : View) (t : Touch) (seat :
     → x < width → y < height → is_touched t seat v (point x y) ≡ true → has_place a x y ≡ true
 same_view stack i k v w t seat size width height a x y at there read sized holds wide high is =
     let same : v ≡ w = same_Some v w (sym there ∙ ap (slice_get stack) at ∙ read) in
-    holds x y (subst (λ (s : ℕ × ℕ). x < s.0) (sym sized) wide) (subst (λ (s : ℕ × ℕ). y < s.1) (sym sized) high)
-    (subst (λ (u : View). is_touched t seat u (point x y) ≡ true) same is)
+    holds x y (rw sized wide) (rw sized high) (rw (← same) is)

@@ -2,11 +2,11 @@
 use Rattle.std.proofs.Common.{Bool, List, None, Option, Some, ap, arith, cond, false, refl}
 use Rattle.std.proofs.Common.{slice_index, subst, sym, true, ℕ, ◌%◌, ◌*◌, ◌/◌, ◌<◌, ◌∙◌, ◌≡◌}
 use Rattle.nit_host.proofs.Basics.{Area, IsSeenBut, State, StaysOutside, View, bar_rows, bar_word}
-use Rattle.nit_host.proofs.Basics.{bare_word, buffer_size, column_and_row, false≢true, flat_shown}
-use Rattle.nit_host.proofs.Basics.{frame_by, get_or-frame, get_or-map-range_with_len, has_place}
-use Rattle.nit_host.proofs.Basics.{in_bar, is_inside, is_some, owner_of, picture_from, pixel}
-use Rattle.nit_host.proofs.Basics.{pixel_count, scenery_of, sheet_in, shown, source_at}
-use Rattle.nit_host.proofs.Basics.{source_under, word_from}
+use Rattle.nit_host.proofs.Basics.{bare_word, buffer_size, column_and_row, false_from_ne_true}
+use Rattle.nit_host.proofs.Basics.{false≢true, flat_shown, frame_by, get_or-frame}
+use Rattle.nit_host.proofs.Basics.{get_or-map-range_with_len, has_place, in_bar, is_inside, is_some}
+use Rattle.nit_host.proofs.Basics.{owner_of, picture_from, pixel, pixel_count, scenery_of, sheet_in}
+use Rattle.nit_host.proofs.Basics.{shown, source_at, source_under, word_from}
 use Rattle.nit_events.specs.declared.device.Mode.TheVariants as mode
 
 -- ---- one pixel of a frame
@@ -40,10 +40,7 @@ bar_pixel : (s : State) (sheets : List (List ℕ)) (k : ℕ) → k < pixel_count
     → in_bar (bar_rows s.config) (pixel s.config.width k) ≡ true
     → slice_index (frame_by s sheets) k ≡ bar_word (scenery_of s) (pixel s.config.width k)
 bar_pixel s sheets k less inside =
-    frame_pixel s sheets k less
-    ∙ ap (λ (b : Bool). cond b (bar_word (scenery_of s) (pixel s.config.width k))
-    (Rattle.nit_overlay.specs.Frame.owner_word (scenery_of s) (pixel s.config.width k)
-    (word_from (sheet_in sheets) (source_at s k)) (owner_of s (pixel s.config.width k)))) inside
+    frame_pixel s sheets k less ∙ rw inside refl
 
 -- ---- all pixels outside of an area
 
@@ -59,6 +56,14 @@ module _ (s s' : State) (sheets sheets' : List (List ℕ)) (a : Area) (width : s
     (height : s'.config.height ≡ s.config.height) (bar : bar_rows s'.config ≡ bar_rows s.config) where
   count : (k : ℕ) → k < pixel_count s → k < pixel_count s'
   count k less = subst (λ (n : ℕ). k < n) (sym (λ i. width i * height i)) less
+
+  -- where the scenery and the pixel's word are the same
+  pub same_pixel : (k : ℕ) → k < pixel_count s → scenery_of s ≡ scenery_of s'
+      → word_from (sheet_in sheets) (source_at s k) ≡ word_from (sheet_in sheets') (source_at s' k)
+      → slice_index (frame_by s sheets) k ≡ slice_index (frame_by s' sheets') k
+  same_pixel k less scene word =
+      frame_pixel s sheets k less ∙ (λ i. shown (scene i) (pixel (scene i).width k) (word i))
+      ∙ sym (frame_pixel s' sheets' k (count k less))
 
   -- where the mode is Flat before and after
   pub flat_stays : s.input.mode ≡ mode.Flat → s'.input.mode ≡ mode.Flat
@@ -85,20 +90,13 @@ module _ (s s' : State) (sheets sheets' : List (List ℕ)) (a : Area) (width : s
       → ((x y : ℕ) → has_place a0 x y ≡ true → has_place a x y ≡ true)
       → StaysOutside s.config.width (pixel_count s) a (frame_by s sheets) (frame_by s' sheets')
       → IsSeenBut s' sheets' a seen
-  seen_after a0 None all more stays = λ k less.
-      more (k % s'.config.width) (k / s'.config.width)
-      (subst (λ (n : ℕ). has_place a0 (k % n) (k / n) ≡ true) (sym width)
-      (all k (subst (λ (n : ℕ). k < n) (λ i. width i * height i) less)))
+  seen_after a0 None all more stays = λ k less. rw width
+      (more (k % s.config.width) (k / s.config.width) (all k (rw (width, height) at less)))
   seen_after a0 (Some seen) all more stays = (
     all.0 ∙ sym (λ i. width i * height i),
     λ k less off.
-        let less_ : k < pixel_count s = subst (λ (n : ℕ). k < n) (λ i. width i * height i) less in
-        let off_ : is_inside s.config.width a k ≡ false = ap (λ (n : ℕ). is_inside n a k) (sym width) ∙ off in
-        all.1 k less_ (outside (has_place a0 (k % s.config.width) (k / s.config.width))
-        (has_place a (k % s.config.width) (k / s.config.width)) (more (k % s.config.width) (k / s.config.width)) off_)
-        ∙ stays k less_ off_,
+        let less_ : k < pixel_count s = rw (width, height) at less in
+        let off_ : is_inside s.config.width a k ≡ false = rw width at off in
+        all.1 k less_ (false_from_ne_true _ (λ is. false≢true (sym off_
+        ∙ more (k % s.config.width) (k / s.config.width) is))) ∙ stays k less_ off_,
   )
-    where
-      outside : (b c : Bool) → (b ≡ true → c ≡ true) → c ≡ false → b ≡ false
-      outside false c more_ off = refl
-      outside true c more_ off = absurd (false≢true (sym off ∙ more_ refl))

@@ -1,11 +1,11 @@
 -- Words that a client hands in, by their columns and rows.
 use Rattle.std.proofs.Common.{Bool, List, None, Option, Some, [], ap, arith, cond, false}
 use Rattle.std.proofs.Common.{get_or-set_other, get_or-set_same, inl, inr, length, nat_lt, pos}
-use Rattle.std.proofs.Common.{refl, set, slice_index, sym, true, ℕ, ℤ, ◌%◌, ◌&&◌, ◌*◌, ◌+◌, ◌/◌}
-use Rattle.std.proofs.Common.{◌<◌, ◌^◌, ◌∙◌, ◌≡◌, ◌≢◌, ◌≤◌, ◌+ℤ◌, ◌<ℤ◌, ◌≤ℤ◌, int_le, int_lt}
+use Rattle.std.proofs.Common.{refl, set, slice_index, sym, true, ℕ, ℤ, ◌%◌, ◌*◌, ◌+◌, ◌/◌, ◌<◌, ◌^◌}
+use Rattle.std.proofs.Common.{◌∙◌, ◌≡◌, ◌≢◌, ◌≤◌}
 use Rattle.nit_host.proofs.Basics.{Call, Calls, Comes, Device, Does, HostModel, IsInPart, Rectangle}
-use Rattle.nit_host.proofs.Basics.{Refreshes, Session, Unseated, Unserved, after_act, and_parts}
-use Rattle.nit_host.proofs.Basics.{called, cases_eq, column_and_row, covers, div-add-mod'}
+use Rattle.nit_host.proofs.Basics.{Refreshes, Session, after_act, and_from, and_parts, called}
+use Rattle.nit_host.proofs.Basics.{cases_eq, column_and_row, cond_both, covers, div-add-mod'}
 use Rattle.nit_host.proofs.Basics.{div-mul-add, donation_of, false_from_ne_true, get_or_past}
 use Rattle.nit_host.proofs.Basics.{handed, ints, is_accepted, is_handed, length-set, low_bytes}
 use Rattle.nit_host.proofs.Basics.{mod-mul-add, mul-add-lt, nat_tests, pixel, rectangle, refreshed}
@@ -18,9 +18,6 @@ use native.Mathlib.Decide.{dec_lt}
 
 -- ---- a place that is handed in
 
-pub both_hold : {b c : Bool} → b ≡ true → c ≡ true → (b && c) ≡ true
-both_hold p q = rw (p, q) refl
-
 pub in_part : (s : Session) (x y : ℤ) (w height i j : ℕ) → IsInPart s x y w height i j
     → is_handed s.bw s.bh (rectangle x y w height) (j * s.bw + i) ≡ true
 in_part s x y w height i j is =
@@ -29,7 +26,7 @@ in_part s x y w height i j is =
     let low = is.left in let high = is.right in let above = is.top in let below = is.bottom in
     let across : spans x w (pos i) ≡ true = grind (arith, nat_tests, ints) in
     let down : spans y height (pos j) ≡ true = grind (arith, nat_tests, ints) in
-    both_hold test (both_hold
+    and_from _ _ test (and_from _ _
     (ap (λ (n : ℕ). spans x w (pos n)) (mod-mul-add j s.bw i is.column) ∙ across)
     (ap (λ (n : ℕ). spans y height (pos n)) (div-mul-add j s.bw i is.column) ∙ down))
 
@@ -40,17 +37,16 @@ part_in s x y w height n is =
     let sides = and_parts (spans x w (pos (n % s.bw))) (spans y height (pos (n / s.bw))) two.1 in
     let before : n < s.bw * s.bh = (let test = two.0 in grind (arith, nat_tests)) in
     let at = column_and_row s.bw s.bh n before in
-    let across = spanned x (n % s.bw) w sides.0 in
-    let down = spanned y (n / s.bw) height sides.1 in
-    record { column = at.0; row = at.1; left = across.0; right = across.1; top = down.0; bottom = down.1 }
-  where
-    spanned : (from : ℤ) (at long : ℕ) → spans from long (pos at) ≡ true
-        → (from ≤ℤ pos at) × (pos at <ℤ (from +ℤ pos long))
-    spanned from at long test =
-        let tests = and_parts (int_le from (pos at)) (int_lt (pos at) (from +ℤ pos long)) test in
-        let low = tests.0 in
-        let high = tests.1 in
-        (grind (arith, nat_tests, ints), grind (arith, nat_tests, ints))
+    let across = sides.0 in
+    let down = sides.1 in
+    record {
+      column = at.0;
+      row = at.1;
+      left = grind (arith, nat_tests, ints);
+      right = grind (arith, nat_tests, ints);
+      top = grind (arith, nat_tests, ints);
+      bottom = grind (arith, nat_tests, ints);
+    }
 
 pub not_handed : (s : Session) (x y : ℤ) (w height n : ℕ)
     → ((i j : ℕ) → IsInPart s x y w height i j → n ≢ j * s.bw + i)
@@ -63,16 +59,14 @@ not_handed s x y w height n none =
 
 pub set_here : (p : ℕ → Bool) (c : ℕ → ℕ) (words : List ℕ) (n : ℕ) → n < length words → p n ≡ true
     → slice_index (set_where p c words) n ≡ c n
-set_here p c words n inside is =
-    word_at p c words n inside ∙ ap (λ (b : Bool). cond b (c n) (slice_index words n)) is
+set_here p c words n inside is = word_at p c words n inside ∙ rw is refl
 
 pub not_here : (p : ℕ → Bool) (c : ℕ → ℕ) (words : List ℕ) (n : ℕ) → p n ≡ false
     → slice_index (set_where p c words) n ≡ slice_index words n
 not_here p c words n off =
     dite (dec_lt n (length words))
-    (λ inside. word_at p c words n inside ∙ ap (λ (b : Bool). cond b (c n) (slice_index words n)) off)
-    (λ behind.
-    get_or_past (set_where p c words) n 0 (omega (arith, set_long p c words, behind))
+    (λ inside. word_at p c words n inside ∙ rw off refl)
+    (λ behind. get_or_past (set_where p c words) n 0 (omega (arith, set_long p c words, behind))
     ∙ sym (get_or_past words n 0 (omega (arith, behind))))
 
 -- the words of one seat are others
@@ -83,9 +77,7 @@ word_elsewhere sheets seat t n now same =
     elim (cases_eq t seat) [
       | inl e ↦
           dite (dec_lt seat (length sheets))
-          (λ inside. ap (λ (m : ℕ). slice_index (sheet_in (set sheets seat now) m) n) e
-          ∙ ap (λ (ws : List ℕ). slice_index ws n) (get_or-set_same sheets seat now [] inside) ∙ same e
-          ∙ ap (λ (m : ℕ). slice_index (sheet_in sheets m) n) (sym e))
+          (λ inside. rw (e, get_or-set_same sheets seat now [] inside) (same e))
           (λ behind.
           let long = length-set sheets seat now in
           ap (λ (ws : List ℕ). slice_index ws n)
@@ -94,11 +86,15 @@ word_elsewhere sheets seat t n now same =
       | inr other ↦ ap (λ (ws : List ℕ). slice_index ws n) (get_or-set_other sheets seat t now [] other)
     ]
 
--- what is not served hands in no words
+-- what holds of the host as it is served, and as it was, holds of the host behind an act
+kept_for : {A : Type 0} (o : Option A) (served h : HostModel) (P : HostModel → Type 0) → P served → P h
+    → P (unless_for o served h)
+kept_for None served h P one other = one
+kept_for (Some why) served h P one other = other
+
 same_sheets_for : {A : Type 0} (o : Option A) (served h : HostModel) → served.sheets ≡ h.sheets
     → (unless_for o served h).sheets ≡ h.sheets
-same_sheets_for None served h same = same
-same_sheets_for (Some why) served h same = refl
+same_sheets_for o served h same = kept_for o served h (λ m. m.sheets ≡ h.sheets) same refl
 
 -- ---- a refresh
 
@@ -120,12 +116,10 @@ module _ (h : HostModel) (seat : ℕ) (x y : ℤ) (w height : ℕ) (words : List
       → word_of (after_act h (Refreshes seat x y w height words)) seat (j * s.bw + i)
       ≡ slice_index words (j * s.bw + i) % 2 ^ 24
   handed_word i j none accepted fits is =
-      ap (λ o. word_of (unless_for o (refreshed seat x y w height words h) h) seat (j * s.bw + i)) none
-      ∙ ap (λ (b : Bool). word_of (refreshed_if b) seat (j * s.bw + i)) accepted
-      ∙ ap (λ (ws : List ℕ). slice_index ws (j * s.bw + i))
+      rw (none, accepted) (ap (λ (ws : List ℕ). slice_index ws (j * s.bw + i))
       (get_or-set_same h.sheets seat (handed s part words (sheet_in h.sheets seat)) [] inside)
       ∙ set_here (is_handed s.bw s.bh part) (low_bytes words) (sheet_in h.sheets seat) (j * s.bw + i)
-      (omega (arith, before, fits)) (in_part s x y w height i j is)
+      (omega (arith, before, fits)) (in_part s x y w height i j is))
     where
       before : j * s.bw + i < s.bw * s.bh
       before = mul-add-lt j s.bw i s.bh is.row is.column
@@ -139,19 +133,12 @@ module _ (h : HostModel) (seat : ℕ) (x y : ℤ) (w height : ℕ) (words : List
 
   pub other_word : (t n : ℕ) → (t ≡ seat → (i j : ℕ) → IsInPart s x y w height i j → n ≢ j * s.bw + i)
       → word_of (after_act h (Refreshes seat x y w height words)) t n ≡ word_of h t n
-  other_word t n none = served (unserved_refresh h seat words)
-    where
-      taken : (b : Bool) → word_of (refreshed_if b) t n ≡ word_of h t n
-      taken true =
-          word_elsewhere h.sheets seat t n (handed s part words (sheet_in h.sheets seat))
-          (λ e. not_here (is_handed s.bw s.bh part) (low_bytes words) (sheet_in h.sheets seat) n
-          (not_handed s x y w height n (none e)))
-      taken false = refl
-
-      served : (o : Option Unserved) → word_of (unless_for o (refreshed seat x y w height words h) h) t n
-          ≡ word_of h t n
-      served None = taken (is_accepted (reply_to h seat asked))
-      served (Some why) = refl
+  other_word t n none = kept_for (unserved_refresh h seat words) (refreshed seat x y w height words h) h
+      (λ m. word_of m t n ≡ word_of h t n) (cond_both (is_accepted (reply_to h seat asked))
+      (called seat asked (with_handed seat part words h)) (called seat asked h) (λ m. word_of m t n ≡ word_of h t n)
+      (λ _. word_elsewhere h.sheets seat t n (handed s part words (sheet_in h.sheets seat))
+      (λ e. not_here (is_handed s.bw s.bh part) (low_bytes words) (sheet_in h.sheets seat) n
+      (not_handed s x y w height n (none e)))) (λ _. refl)) refl
 
   pub refused_words : is_accepted (reply_to h seat asked) ≡ false
       → (after_act h (Refreshes seat x y w height words)).sheets ≡ h.sheets
@@ -171,22 +158,17 @@ user_words h dev = same_sheets_for (unserved_input h dev) (Rattle.nit_host.specs
 pub come_word : (h : HostModel) (seat : ℕ) (label : List ℕ) (n : ℕ) → unseated h seat label ≡ None
     → word_of (after_act h (Comes seat label)) seat n ≡ 0
 come_word h seat label n none =
-    ap (λ o. word_of (unless_for o (seated seat label h) h) seat n) none
-    ∙ dite (dec_lt seat (length h.sheets))
+    rw none (dite (dec_lt seat (length h.sheets))
     (λ inside. ap (λ (ws : List ℕ). slice_index ws n) (get_or-set_same h.sheets seat blank [] inside)
     ∙ zero_at (table_size (donation_of h.state.config seat)) n)
-    (λ behind. let long = length-set h.sheets seat blank in
-    ap (λ (ws : List ℕ). slice_index ws n)
-    (get_or_past (set h.sheets seat blank) seat [] (omega (arith, long, behind))))
+    (λ behind. ap (λ (ws : List ℕ). slice_index ws n)
+    (get_or_past (set h.sheets seat blank) seat [] (omega (arith, length-set h.sheets seat blank, behind)))))
   where
     blank : List ℕ
     blank = zeros (table_size (donation_of h.state.config seat))
 
 pub stay_word : (h : HostModel) (seat : ℕ) (label : List ℕ) (t n : ℕ) → t ≢ seat
     → word_of (after_act h (Comes seat label)) t n ≡ word_of h t n
-stay_word h seat label t n other = go (unseated h seat label)
-  where
-    go : (o : Option Unseated) → word_of (unless_for o (seated seat label h) h) t n ≡ word_of h t n
-    go None = ap (λ (ws : List ℕ). slice_index ws n)
-        (get_or-set_other h.sheets seat t (zeros (table_size (donation_of h.state.config seat))) [] other)
-    go (Some why) = refl
+stay_word h seat label t n other = kept_for (unseated h seat label) (seated seat label h) h
+    (λ m. word_of m t n ≡ word_of h t n) (ap (λ (ws : List ℕ). slice_index ws n)
+    (get_or-set_other h.sheets seat t (zeros (table_size (donation_of h.state.config seat))) [] other)) refl

@@ -1,9 +1,9 @@
 -- What a device event leaves.
-use Rattle.std.proofs.Common.{List, Option, Some, ap, refl, subst, ℕ, ◌-◌, ◌∙◌, ◌≡◌}
+use Rattle.std.proofs.Common.{List, Option, Some, ap, refl, ℕ, ◌-◌, ◌∙◌, ◌≡◌}
 use Rattle.nit_events.specs.declared.entry.Entry.TheVariants as entry
-use Rattle.nit_host.proofs.Basics.{DesktopModel, Device, Entry, HostModel, IsFresh, IsHost, Painted}
-use Rattle.nit_host.proofs.Basics.{Routed, SheetModel, State, after, glass_in, pixel, route}
-use Rattle.nit_host.proofs.Basics.{routed_as, routed_of, sheet_in, sheets_of, told}
+use Rattle.nit_host.proofs.Basics.{DesktopModel, Device, Entry, HostModel, IsHost, Painted, Routed}
+use Rattle.nit_host.proofs.Basics.{SheetModel, State, after, glass_in, pixel, route, routed_as}
+use Rattle.nit_host.proofs.Basics.{routed_of, sheet_in, sheets_of, told}
 use Rattle.nit_host.proofs.Freshness.{fresh_after}
 use Rattle.nit_host.proofs.SheetLists.{quiet_sheets, rooms, seen_sheets, sights}
 use Rattle.nit_host.proofs.Steps.{KeepSources, host_model}
@@ -33,30 +33,22 @@ module _ (d d2 : DesktopModel SheetModel) (hollows : List SheetModel) (dev : Dev
         (glass_in (sights d.glasses)) (glass_in (sights d.glasses)) d.raw d2.raw
     painted_all = rw (state, stay) at painted
 
-    fresh_now : IsFresh (after d.state (entry.Input dev routed)) (sheet_in (sheets_of d.glasses)) d2.raw
-    fresh_now =
-        fresh_after d.state.config d.state (after d.state (entry.Input dev routed)) (entry.Input dev routed) d.glasses
-        (sheet_in (sheets_of d.glasses)) d.raw d2.raw host.sheets painted_all host.fresh refl
-        (λ k clean. keep d.state 0 (entry.Input dev routed) (pixel d.state.config.width k) is clean) (λ k clean. refl)
-
-    is_host : IsHost d2 hollows
-    is_host = record {
-      sheets = rw (config_stays, stay) host.sheets;
-      hollow = rw config_stays host.hollow;
-      fresh = rw (state, stay) fresh_now;
-    }
-
     pub was_told : (h : HostModel) → host_model d kept seen ≡ h → WasTold dev routed h seen d2 hollows
-    was_told h view =
-        subst (λ (x : HostModel). WasTold dev routed x seen d2 hollows) view
-        (record {
-          host = is_host;
-          routed_now = is;
-          now = λ i. record {
-            state = (state ∙ ap (λ (r : Routed). after d.state (entry.Input dev r)) is) i;
-            sheets = sheets_of (stay i);
-            left = left i;
-            last = Some (entry.Input dev (is i));
-            seen = seen;
-          };
-        })
+    was_told h view = rw (← view) (record {
+      host = record {
+        sheets = rw (config_stays, stay) host.sheets;
+        hollow = rw config_stays host.hollow;
+        fresh = rw (state, stay) (fresh_after d.state.config d.state (after d.state (entry.Input dev routed))
+            (entry.Input dev routed) d.glasses (sheet_in (sheets_of d.glasses)) d.raw d2.raw host.sheets painted_all
+            host.fresh refl (λ k clean. keep d.state 0 (entry.Input dev routed) (pixel d.state.config.width k) is clean)
+            (λ k clean. refl));
+      };
+      routed_now = is;
+      now = λ i. record {
+        state = (state ∙ ap (λ (r : Routed). after d.state (entry.Input dev r)) is) i;
+        sheets = sheets_of (stay i);
+        left = left i;
+        last = Some (entry.Input dev (is i));
+        seen = seen;
+      };
+    })

@@ -1,28 +1,27 @@
 -- What answers use: all that lemmas use, and this crate's lemmas.
 pub use Rattle.nit_host.proofs.ActLemmas.{all_acts, when_served}
-pub use Rattle.nit_host.proofs.Areas.{first_test, same_view, second_test, shown_there}
-pub use Rattle.nit_host.proofs.Basics.{AgreeOutside, AreLive, Black, Call, Configuration, Delivery}
+pub use Rattle.nit_host.proofs.Areas.{same_view, shown_there}
+pub use Rattle.nit_host.proofs.Basics.{AgreeOutside, AreLive, Black, Call, Configuration}
 pub use Rattle.nit_host.proofs.Basics.{DesktopModel, HostModel, IsAreaOf, IsAsSeen, IsConfiguration}
-pub use Rattle.nit_host.proofs.Basics.{IsDown, IsHandedIn, IsLive, IsPlainOf, IsSeenBut, Kill}
-pub use Rattle.nit_host.proofs.Basics.{KillsPointed, Ok, SheetModel, ShowsLabels, Sight, State}
-pub use Rattle.nit_host.proofs.Basics.{TellsFocus, View, Word, Xray, after, after_acts}
-pub use Rattle.nit_host.proofs.Basics.{after_handing, ap, arith, called, cases_lt, covers}
-pub use Rattle.nit_host.proofs.Basics.{deliveries_of, enumerate_from, first_state, frame, frame_at}
+pub use Rattle.nit_host.proofs.Basics.{IsDown, IsHandedIn, IsPlainOf, IsSeenBut, Ok, SheetModel}
+pub use Rattle.nit_host.proofs.Basics.{ShowsLabels, Sight, State, View, Word, after, after_acts}
+pub use Rattle.nit_host.proofs.Basics.{after_handing, and_parts, ap, arith, called, cases_lt}
+pub use Rattle.nit_host.proofs.Basics.{covers, enumerate_from, first_state, frame, frame_at}
 pub use Rattle.nit_host.proofs.Basics.{frame_by, frame_shown, get_or-eq_default, get_or_default}
 pub use Rattle.nit_host.proofs.Basics.{glass_in, handed_over, has_label, has_place, ints}
 pub use Rattle.nit_host.proofs.Basics.{is_between, is_held, is_in_rows, is_taken, is_touched}
 pub use Rattle.nit_host.proofs.Basics.{low_bytes, next_between, none_between, not, opened}
 pub use Rattle.nit_host.proofs.Basics.{option_map, picture, plain_sight, point, projection, refl}
-pub use Rattle.nit_host.proofs.Basics.{refreshed, route, routed_of, scenery_of, seated, serve}
-pub use Rattle.nit_host.proofs.Basics.{session, set, set_where, sheet_in, sheets_of, since_opening}
-pub use Rattle.nit_host.proofs.Basics.{slice_get_within, slice_index, source_at, steps_of, subst}
-pub use Rattle.nit_host.proofs.Basics.{sym, take_all, told, told_words, touch_of, unseated}
+pub use Rattle.nit_host.proofs.Basics.{refreshed, routed_of, scenery_of, seated, serve, session}
+pub use Rattle.nit_host.proofs.Basics.{set, set_where, sheet_in, sheets_of, since_opening, size_at}
+pub use Rattle.nit_host.proofs.Basics.{slice_get_within, slice_index, steps_of, subst, sym}
+pub use Rattle.nit_host.proofs.Basics.{take_all, told, told_words, touch_of, unseated}
 pub use Rattle.nit_host.proofs.Basics.{unserved_call, unserved_input, unserved_refresh}
-pub use Rattle.nit_host.proofs.Basics.{vacant_state, waiting_member, word_from, ◌∙◌}
-pub use Rattle.nit_host.proofs.Beginnings.{AreHollowTo, HaveRoomTo, all_blank, all_hollow}
-pub use Rattle.nit_host.proofs.Beginnings.{all_sheets, begun, blank_glasses, first_now, one_hollow}
-pub use Rattle.nit_host.proofs.Beginnings.{one_room, sized_at}
-pub use Rattle.nit_host.proofs.CallChanges.{Words, seen_called, words_stay}
+pub use Rattle.nit_host.proofs.Basics.{vacant_state, waiting_member, ◌∙◌}
+pub use Rattle.nit_host.proofs.Beginnings.{AreTo, HasRoom, IsHollow, all_blank, all_hollow}
+pub use Rattle.nit_host.proofs.Beginnings.{all_sheets, begun, blank_glasses, first_now, one_sheet}
+pub use Rattle.nit_host.proofs.Beginnings.{sized_at}
+pub use Rattle.nit_host.proofs.CallChanges.{seen_called}
 pub use Rattle.nit_host.proofs.Clicks.{by_act}
 pub use Rattle.nit_host.proofs.FirstSeats.{first_seat, free_not_taken, free_of, label_decides}
 pub use Rattle.nit_host.proofs.FirstSeats.{no_seat, taken_unless_free}
@@ -43,4 +42,4 @@ pub use Rattle.nit_host.proofs.SheetLists.{own_stays, plain_by_owner, plain_quie
 pub use Rattle.nit_host.proofs.SheetLists.{quiet_with, same_sheets, sheets_stay}
 pub use Rattle.nit_host.proofs.Sheets.{blank_again, handed_in, sized, word_loaded}
 pub use Rattle.nit_host.proofs.ShownWords.{by_source, of_none, of_past, of_view}
-pub use Rattle.nit_host.proofs.Steps.{WasCalled, only_called, painted_by_all}
+pub use Rattle.nit_host.proofs.Steps.{WasCalled, only_called, painted_by_all, words_stay}

@@ -1,7 +1,7 @@
 -- A look at what can have changed.
 use Rattle.std.proofs.Common.{List, None, Option, Some, ap, arith, false, inl, inr, length}
-use Rattle.std.proofs.Common.{slice_index, subst, sym, true, pos, ℕ, ◌%◌, ◌&&◌, ◌+◌, ◌-◌, ◌/◌, ◌<◌}
-use Rattle.std.proofs.Common.{◌∙◌, ◌≡◌, ◌≤◌}
+use Rattle.std.proofs.Common.{slice_index, sym, true, pos, ℕ, ◌%◌, ◌&&◌, ◌+◌, ◌-◌, ◌/◌, ◌<◌, ◌∙◌}
+use Rattle.std.proofs.Common.{◌≡◌, ◌≤◌}
 use Rattle.nit_host.proofs.Basics.{AgreeOutside, Area, Configuration, IsAreaOf, IsOneOf, IsSeenBut}
 use Rattle.nit_host.proofs.Basics.{State, cases_lt, column_and_row, covers, false≢true, frame_by}
 use Rattle.nit_host.proofs.Basics.{get_or_past, has_place, is_between, is_inside, length-frame}
@@ -50,7 +50,5 @@ seen_now s sheets a = (
 pub nothing_seen : (s : State) (config : Configuration) (sheets : List (List ℕ)) (a : Area) → s.config ≡ config
     → ((x y : ℕ) → x < config.width → y < config.height → has_place a x y ≡ true) → IsSeenBut s sheets a None
 nothing_seen s config sheets a is all k less =
-    let at = column_and_row s.config.width s.config.height k less in
-    all (k % s.config.width) (k / s.config.width)
-    (subst (λ (c : Configuration). k % s.config.width < c.width) is at.0)
-    (subst (λ (c : Configuration). k / s.config.width < c.height) is at.1)
+    let at = column_and_row config.width config.height k (rw is at less) in
+    rw is (all (k % config.width) (k / config.width) at.0 at.1)

@@ -1,14 +1,14 @@
 -- The configuration of a plan that is not refused.
-use Rattle.std.proofs.Common.{Bool, List, None, Option, Some, [], ap, arith, false, get_or, length}
-use Rattle.std.proofs.Common.{map, nat_le, not, refl, rules, subst, suc, sym, take, true, zero, ℕ}
-use Rattle.std.proofs.Common.{◌++◌, ◌+◌, ◌<◌, ◌||◌, ◌∙◌, ◌∷◌, ◌≡◌, ◌≢◌, ◌≤◌, if◌then◌else◌, IsTrue}
-use Rattle.std.proofs.lemmas.List.{get_or-map}
-use Rattle.nit_host.proofs.Basics.{IsConfiguration, IsMember, Member, PlanError, SeatPlan}
-use Rattle.nit_host.proofs.Basics.{and_parts, enumerate_from, false≢true, get_or-enumerate_from}
-use Rattle.nit_host.proofs.Basics.{hex_digit, is_label, is_screen, is_within}
-use Rattle.nit_host.proofs.Basics.{length-enumerate_from, length-map, length-take-le, list_all}
-use Rattle.nit_host.proofs.Basics.{map-append, nat_tests, planned, refused_plan, take_more}
-use Rattle.nit_host.proofs.Basics.{waiting_label, waiting_member}
+use Rattle.std.proofs.Common.{Bool, List, None, [], ap, arith, false, get_or, length, map, nat_le}
+use Rattle.std.proofs.Common.{not, refl, rules, subst, sym, take, true, ℕ, ◌++◌, ◌+◌, ◌<◌, ◌||◌}
+use Rattle.std.proofs.Common.{◌∙◌, ◌∷◌, ◌≡◌, ◌≢◌, ◌≤◌, IsTrue}
+use Rattle.nit_host.proofs.Basics.{AllPass-from_list_all, IsConfiguration, IsMember, Member}
+use Rattle.nit_host.proofs.Basics.{SeatPlan, and_parts, enumerate_from, false≢true}
+use Rattle.nit_host.proofs.Basics.{get_or-enumerate_from, get_or-map, get_or_default, hex_digit}
+use Rattle.nit_host.proofs.Basics.{is_label, is_screen, is_within, length-enumerate_from}
+use Rattle.nit_host.proofs.Basics.{length-map, length-take-le, list_all, map-append, nat_tests}
+use Rattle.nit_host.proofs.Basics.{planned, refused_plan, take_more, waiting_label, waiting_member}
+use Rattle.nit_host.proofs.Served.{passed}
 
 -- ---- a list with numbers, and one element more
 
@@ -23,22 +23,13 @@ numbered_joined from (y ∷ ys) x =
 pub one_more : {A B : Type 0} (f : ℕ → A → B) (xs : List A) (i : ℕ) (x d : A) (made : List B) (b : B) → i < length xs
     → x ≡ get_or xs i d → made ≡ map (λ p. f p.0 p.1) (enumerate_from 0 (take i xs)) → b ≡ f i x
     → made ++ b ∷ [] ≡ map (λ p. f p.0 p.1) (enumerate_from 0 (take (i + 1) xs))
-one_more f xs i x d made b inside here so is =
+one_more {A} {B} f xs i x d made b inside here so is =
     let long : 0 + length (take i xs) ≡ i = omega (arith, length-take-le i xs (omega arith)) in
-    let front = enumerate_from 0 (take i xs) in
-    ap (λ bs. bs ++ b ∷ []) so ∙ ap (λ y. map (λ p. f p.0 p.1) front ++ y ∷ []) (is ∙ ap (f i) here)
-    ∙ ap (λ (n : ℕ). map (λ p. f p.0 p.1) front ++ f n (get_or xs i d) ∷ []) (sym long)
-    ∙ sym (map-append (λ p. f p.0 p.1) front ((0 + length (take i xs), get_or xs i d) ∷ []))
-    ∙ ap (map (λ p. f p.0 p.1)) (sym (numbered_joined 0 (take i xs) (get_or xs i d)))
-    ∙ ap (λ ys. map (λ p. f p.0 p.1) (enumerate_from 0 ys)) (sym (take_more xs i d inside))
+    let g : ℕ × A → B = λ p. f p.0 p.1 in
+    rw (so, is, here, take_more xs i d inside, numbered_joined 0 (take i xs) (get_or xs i d), long)
+    (sym (map-append g (enumerate_from 0 (take i xs)) ((i, get_or xs i d) ∷ [])))
 
 -- ---- what a plan that is not refused has
-
-each_of : {A : Type 0} (p : A → Bool) (xs : List A) (k : ℕ) (d : A) → list_all p xs ≡ true → k < length xs
-    → p (get_or xs k d) ≡ true
-each_of p [] k d all inside = absurd (omega arith)
-each_of p (x ∷ xs) zero d all inside = (and_parts (p x) (list_all p xs) all).0
-each_of p (x ∷ xs) (suc k) d all inside = each_of p xs k d (and_parts (p x) (list_all p xs) all).1 (omega arith)
 
 pub record IsPlan (width height : ℕ) (bar : Bool) (seats : List SeatPlan) : Type 0 where
   pub screen : is_screen width height bar ≡ true
@@ -46,18 +37,13 @@ pub record IsPlan (width height : ℕ) (bar : Bool) (seats : List SeatPlan) : Ty
   pub donations : list_all (λ s. is_within 256 8388608 s.donation) seats ≡ true
   pub layers : list_all (λ s. nat_le s.layer 7) seats ≡ true
 
-taken : (b : Bool) (why : PlanError) (rest : Option PlanError) → (if not b then Some why else rest) ≡ None
-    → (b ≡ true) × (rest ≡ None)
-taken true why rest is = (refl, is)
-taken false why rest is = cc
-
 pub is_plan : (width height : ℕ) (bar : Bool) (seats : List SeatPlan) → refused_plan width height bar seats ≡ None
     → IsPlan width height bar seats
 is_plan width height bar seats none =
-    let a = taken _ _ _ none in
-    let b = taken _ _ _ a.1 in
-    let c = taken _ _ _ b.1 in
-    let d = taken _ _ _ c.1 in
+    let a = passed _ _ _ none in
+    let b = passed _ _ _ a.1 in
+    let c = passed _ _ _ b.1 in
+    let d = passed _ _ _ c.1 in
     record { screen = a.0; count = b.0; donations = c.0; layers = d.0 }
 
 within : (first last n : ℕ) → is_within first last n ≡ true → (first ≤ n) × (n ≤ last)
@@ -100,8 +86,8 @@ module _ (width height : ℕ) (bar : Bool) (seats : List SeatPlan) (none : refus
         → get_or clients k m ≡ waiting_member k (get_or seats k s)
     unfolding clients
     client_at k m s inside =
-        let numbered : k < length (enumerate_from 0 seats) = omega (arith, length-enumerate_from 0 seats) in
-        get_or-map (λ p. waiting_member p.0 p.1) (enumerate_from 0 seats) k (0, s) m numbered
+        get_or_default clients k m (waiting_member 0 s) (omega (arith, long))
+        ∙ get_or-map (λ p. waiting_member p.0 p.1) (enumerate_from 0 seats) k (0, s)
         ∙ ap (λ p. waiting_member p.0 p.1) (get_or-enumerate_from 0 seats k (0, s) inside)
         ∙ ap (λ (n : ℕ). waiting_member n (get_or seats k s)) (omega arith)
 
@@ -121,11 +107,12 @@ module _ (width height : ℕ) (bar : Bool) (seats : List SeatPlan) (none : refus
               let there : k < length seats = omega (arith, long, inside) in
               subst IsMember (sym (client_at k m s there)) (record {
                 label = hex_label k (omega (arith, there, few));
-                donation = within 256 8388608 _
-                    (each_of (λ (p : SeatPlan). is_within 256 8388608 p.donation) seats k s is.donations there);
+                donation = within 256 8388608 _ (AllPass-from_list_all
+                    (λ (p : SeatPlan). is_within 256 8388608 p.donation) seats is.donations k s there);
                 script = refl;
-                layer = let test = each_of (λ (p : SeatPlan). nat_le p.layer 7) seats k s is.layers there in grind
-                    (arith, nat_tests, test);
+                layer =
+                    let test = AllPass-from_list_all (λ (p : SeatPlan). nat_le p.layer 7) seats is.layers k s there in
+                    grind (arith, nat_tests, test);
               });
           labels = λ i j m less inside.
               let there : j < length seats = omega (arith, long, inside) in

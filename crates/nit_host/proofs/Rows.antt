@@ -1,13 +1,13 @@
 -- A part of a buffer that is handed in row by row.
-use Rattle.std.proofs.Common.{Bool, List, Option, Some, ap, ap₂, arith, false, length, nat_le}
-use Rattle.std.proofs.Common.{nat_lt, pos, refl, sym, true, ℕ, ◌%◌, ◌&&◌, ◌*◌, ◌+◌, ◌/◌, ◌<◌, ◌||◌}
-use Rattle.std.proofs.Common.{◌∙◌, ◌≡◌, ◌≤◌, ◌+ℤ◌, ◌≤ℤ◌, ℤ, int_le, int_lt}
-use Rattle.nit_host.proofs.Basics.{Rectangle, Sight, after_handing, and_parts, before_row, both_set}
-use Rattle.nit_host.proofs.Basics.{column_and_row, covers, div-add-mod', false_from_ne_true}
-use Rattle.nit_host.proofs.Basics.{handed_over, ints, is_between, is_handed, is_in_rows, low_bytes}
-use Rattle.nit_host.proofs.Basics.{mod_below, mul-le-mul_right, mul_comm, nat_tests, none_set}
-use Rattle.nit_host.proofs.Basics.{pixel, plain_sight, same_set, set_long, set_where, spans}
-use Rattle.nit_host.proofs.Basics.{told_words}
+use Rattle.std.proofs.Common.{List, Option, Some, ap, arith, false, length, nat_le, nat_lt, pos}
+use Rattle.std.proofs.Common.{refl, sym, true, ℕ, ◌%◌, ◌&&◌, ◌*◌, ◌+◌, ◌/◌, ◌<◌, ◌||◌, ◌∙◌, ◌≡◌}
+use Rattle.std.proofs.Common.{◌≤◌, ◌+ℤ◌, ◌≤ℤ◌, ℤ, int_le, int_lt}
+use Rattle.nit_host.proofs.Basics.{Rectangle, Sight, after_handing, and_parts, and_right}
+use Rattle.nit_host.proofs.Basics.{before_row, both_set, column_and_row, div-add-mod'}
+use Rattle.nit_host.proofs.Basics.{false_from_ne_true, handed_over, ints, is_between, is_handed}
+use Rattle.nit_host.proofs.Basics.{is_in_rows, low_bytes, mod_below, mul-le-mul_right, mul_comm}
+use Rattle.nit_host.proofs.Basics.{nat_tests, none_set, plain_sight, same_set, set_long, set_where}
+use Rattle.nit_host.proofs.Basics.{spans, told_words}
 use mathlib.Core.Logic.{dite}
 use native.Mathlib.Decide.{dec_lt, ℕ_discrete}
 
@@ -20,32 +20,20 @@ pub clipped : (from end at : ℤ) (long n first last : ℕ) → from ≡ at → 
     → int_le from (pos n) ≡ nat_le first n → int_le end (pos n) ≡ nat_le last n
     → spans at long (pos n) ≡ is_between first last n
 clipped from end at long n first last from_is end_is low high =
-    (λ i. int_le (sym from_is i) (pos n) && int_lt (pos n) (sym end_is i))
-    ∙ ap₂ (λ (b c : Bool). b && c) low (flipped end n last high)
-
-later : (from end : ℤ) (n first : ℕ) → from ≤ℤ end → int_le from (pos n) ≡ nat_le first n → int_le end (pos n) ≡ true
-    → first ≤ n
-later from end n first order low high = grind (arith, nat_tests, ints)
+    rw (← end_is, ← from_is, low, flipped end n last high) refl
 
 pub clip_order : (from end : ℤ) (most first last : ℕ) → from ≤ℤ end → first ≤ most
     → ((n : ℕ) → n < most → int_le from (pos n) ≡ nat_le first n)
     → ((n : ℕ) → n < most → int_le end (pos n) ≡ nat_le last n) → first ≤ last
 clip_order from end most first last order few low high =
     dite (dec_lt last most)
-    (λ inside. later from end last first order (low last inside) (high last inside
-    ∙ (let self : nat_le last last ≡ true = grind (arith, nat_tests) in self)))
+    (λ inside.
+    let a = low last inside in
+    let b = high last inside in
+    grind (arith, nat_tests, ints))
     (λ behind. omega arith)
 
 -- ---- one row more
-
-merged : (a : Bool) → ((a && false) || a) ≡ (a && true)
-merged true = refl
-merged false = refl
-
-kept : (a b c : Bool) → b ≡ c → ((a && b) || false) ≡ (a && c)
-kept true true c is = is
-kept true false c is = is
-kept false b c is = refl
 
 row_step : (w left right top row q m n : ℕ) → n ≡ q * w + m → m < w → right ≤ w → top ≤ row
     → ((is_between left right m && is_between top row q) || is_between (row * w + left) (row * w + right) n)
@@ -54,19 +42,11 @@ row_step w left right top row q m n is column fits order =
     dite (ℕ_discrete q row)
     (λ here.
     let place : n ≡ row * w + m = is ∙ ap (λ (k : ℕ). k * w + m) here in
-    let before : is_between top row q ≡ false = grind (arith, nat_tests) in
-    let after_ : is_between top (row + 1) q ≡ true = grind (arith, nat_tests) in
-    let same : is_between (row * w + left) (row * w + right) n ≡ is_between left right m =
-    rw place (shifted (row * w)) in
-    rw (before, after_, same) (merged (is_between left right m)))
+    grind (arith, nat_tests, place))
     (λ other.
     let none : is_between (row * w + left) (row * w + right) n ≡ false = outside other in
-    let rows : is_between top row q ≡ is_between top (row + 1) q = grind (arith, nat_tests) in
-    rw none (kept (is_between left right m) _ _ rows))
+    rw none (grind (arith, nat_tests, other)))
   where
-    shifted : (k : ℕ) → is_between (k + left) (k + right) (k + m) ≡ is_between left right m
-    shifted k = grind (arith, nat_tests)
-
     outside : (q ≡ row → ⊥) → is_between (row * w + left) (row * w + right) n ≡ false
     outside other =
         dite (dec_lt q row)
@@ -76,10 +56,6 @@ row_step w left right top row q m n is column fits order =
         mul-le-mul_right w (omega arith) in let over : row * w + right ≤ n =
         omega arith in grind (arith, nat_tests, over))
 
-nothing : (left right : ℕ) (b : Bool) (k : ℕ) → left ≤ right → right ≤ 0 → (is_between left right k && b) ≡ false
-nothing left right b k order none =
-    ap (λ (a : Bool). a && b) (let off : is_between left right k ≡ false = grind (arith, nat_tests) in off)
-
 pub one_row : (w left right top row n : ℕ) → left ≤ right → right ≤ w → top ≤ row
     → (is_in_rows w left right top row n || is_between (row * w + left) (row * w + right) n)
     ≡ is_in_rows w left right top (row + 1) n
@@ -87,20 +63,12 @@ one_row w left right top row n order fits rows =
     dite (dec_lt 0 w)
     (λ some. row_step w left right top row (n / w) (n % w) n (omega (arith, div-add-mod' n w)) (mod_below n w some) fits
     rows)
-    (λ none.
-    let a = nothing left right (is_between top row (n / w)) (n % w) order (omega arith) in
-    let b = nothing left right (is_between top (row + 1) (n / w)) (n % w) order (omega arith) in
-    let c : is_between (row * w + left) (row * w + right) n ≡ false = grind (arith, nat_tests) in
-    rw (a, b, c) refl)
+    (λ none. grind (arith, nat_tests))
 
 pub no_row : (w left right top n : ℕ) → is_in_rows w left right top top n ≡ false
 no_row w left right top n =
     let off : is_between top top (n / w) ≡ false = grind (arith, nat_tests) in
-    ap (λ (b : Bool). is_between left right (n % w) && b) off ∙ never (is_between left right (n % w))
-  where
-    never : (b : Bool) → (b && false) ≡ false
-    never true = refl
-    never false = refl
+    and_right (is_between left right (n % w)) _ off
 
 -- ---- all rows of a part
 
@@ -113,17 +81,15 @@ in_part columns rows left right top bottom part wide high across down n =
     (λ inside.
     let at = column_and_row columns rows n inside in
     let test : nat_lt n (columns * rows) ≡ true = grind (arith, nat_tests) in
-    sym (ap₂ (λ (b c : Bool). b && c) (across (n % columns) at.0) (down (n / columns) at.1))
-    ∙ ap (λ (b : Bool). b && covers part (pixel columns n)) (sym test))
+    rw (across (n % columns) at.0, down (n / columns) at.1, test) refl)
     (λ behind.
     let test : nat_lt n (columns * rows) ≡ false = grind (arith, nat_tests) in
-    false_from_ne_true (is_in_rows columns left right top bottom n) (λ is.
+    rw test (false_from_ne_true (is_in_rows columns left right top bottom n) (λ is.
     let parts = and_parts (is_between left right (n % columns)) (is_between top bottom (n / columns)) is in
     let some : 0 < columns = within parts.0 in
     let row : n / columns < rows = lower parts.1 in
     let before : n < rows * columns = before_row n columns rows some row in
-    omega (arith, before, behind, mul_comm rows columns))
-    ∙ ap (λ (b : Bool). b && covers part (pixel columns n)) (sym test))
+    omega (arith, before, behind, mul_comm rows columns))))
   where
     within : is_between left right (n % columns) ≡ true → 0 < columns
     within is = let high_ : n % columns < right = grind (arith, nat_tests) in omega arith
@@ -175,6 +141,5 @@ handed_part columns rows left right top bottom x y w h part found words told own
     is ∙ ap (plain_sight owner) (same_set (is_in_rows columns left right top bottom) (is_handed columns rows part)
     (low_bytes words) told
     (in_part columns rows left right top bottom part wide high
-    (λ n inside. (λ i. spans (sym x_is i) (sym w_is i) (pos n)) ∙ across n inside)
-    (λ n inside. (λ i. spans (sym y_is i) (sym h_is i) (pos n)) ∙ down n inside)))
+    (λ n inside. rw (← x_is, ← w_is) (across n inside)) (λ n inside. rw (← y_is, ← h_is) (down n inside))))
     ∙ ap (λ (o : Option Rectangle). plain_sight owner (after_handing columns rows o words told)) (sym found_is)

@@ -1,11 +1,11 @@
 -- Lists of sheets: what is seen of each, and that a call leaves them as they are.
-use Rattle.std.proofs.Common.{List, None, Some, Bool, ap, arith, cond, get_or, get_or-set_other}
+use Rattle.std.proofs.Common.{List, [], None, Some, ap, arith, get_or, get_or-set_other}
 use Rattle.std.proofs.Common.{get_or-set_same, inl, inr, length, map, refl, set, slice_get, subst}
 use Rattle.std.proofs.Common.{sym, ℕ, ◌++◌, ◌<◌, ◌∙◌, ◌≡◌, ◌≢◌, ◌≤◌}
 use Rattle.nit_host.proofs.Basics.{AreHollow, AreQuiet, AreSheets, Configuration, IsPlainOf}
 use Rattle.nit_host.proofs.Basics.{SheetModel, Sight, blank_sheet, cases_eq, eq-eqb, ext_get_or}
 use Rattle.nit_host.proofs.Basics.{get_or-map, get_or_default, get_or_from_slice_get, get_or_past}
-use Rattle.nit_host.proofs.Basics.{glass_in, glasses_of_call, length-map, length-set, length-zeros}
+use Rattle.nit_host.proofs.Basics.{glass_in, glasses_of_call, length-map, length-zeros, map-set}
 use Rattle.nit_host.proofs.Basics.{ne_eqb, no_sight, option_map, plain_sight, seen, set-get_or}
 use Rattle.nit_host.proofs.Basics.{sheet_at, sheet_in, sheets_of, size_at, slice_get_within}
 use Rattle.nit_host.proofs.Basics.{told_words}
@@ -30,14 +30,21 @@ pub words_at : (sheets : List SheetModel) (t : ℕ)
     → sheet_in (sheets_of sheets) t ≡ told_words (sheet_at sheets t).sight.words
 words_at sheets t = get_or-map (λ (g : SheetModel). told_words g.sight.words) sheets t no_sheet
 
+-- the words of a changed sheet stand in its place
+pub words_with : (sheets : List SheetModel) (seat : ℕ) (sheet : SheetModel)
+    → sheets_of (set sheets seat sheet) ≡ set (sheets_of sheets) seat (told_words sheet.sight.words)
+words_with sheets seat sheet = map-set (λ (g : SheetModel). told_words g.sight.words) sheets seat sheet
+
+-- and all others are those that were there
+pub words_elsewhere : (sheets : List SheetModel) (seat : ℕ) (sheet : SheetModel) (t : ℕ) → t ≢ seat
+    → sheet_in (sheets_of sheets) t ≡ sheet_in (sheets_of (set sheets seat sheet)) t
+words_elsewhere sheets seat sheet t other =
+    sym (ap (λ (ws : List (List ℕ)). sheet_in ws t) (words_with sheets seat sheet)
+    ∙ get_or-set_other (sheets_of sheets) seat t (told_words sheet.sight.words) [] other)
+
 pub taken_out : (sheets : List SheetModel) (seat : ℕ) (out : SheetModel) → slice_get sheets seat ≡ Some out
     → sheet_at sheets seat ≡ out
 taken_out sheets seat out is = get_or_from_slice_get sheets seat out no_sheet is
-
--- the one of its number, as a Vec gives it
-pub there_at : (sheets : List SheetModel) (seat : ℕ) (sheet : SheetModel) → sheet ≡ get_or sheets seat sheet
-    → seat < length sheets → sheet_at sheets seat ≡ sheet
-there_at sheets seat sheet is inside = get_or_default sheets seat no_sheet sheet inside ∙ sym is
 
 pub put_same : (sheets : List SheetModel) (seat : ℕ) (sheet : SheetModel) → sheet_at sheets seat ≡ sheet
     → set sheets seat sheet ≡ sheets
@@ -83,18 +90,10 @@ quiet_sheets config sheets are t =
     (λ inside. plain_quiet t (sheet_at sheets t).sight (are.plain t inside).0)
     (λ behind. ap (λ (g : SheetModel). g.sight.log) (get_or_past sheets t no_sheet (omega (arith, are.count))))
 
-pub quiet_with : (sheets : List SheetModel) (seat : ℕ) (other : SheetModel) → AreQuiet sheets → other.sight.log ≡ None
-    → AreQuiet (set sheets seat other)
-quiet_with sheets seat other quiet is t =
-    elim (cases_eq t seat) [
-      | inl e ↦ dite (dec_lt seat (length sheets))
-          (λ inside. ap (λ (n : ℕ). (sheet_at (set sheets seat other) n).sight.log) e
-          ∙ ap (λ (g : SheetModel). g.sight.log) (put_there sheets seat other inside) ∙ is)
-          (λ behind. ap (λ (g : SheetModel). g.sight.log)
-          (get_or_past (set sheets seat other) t no_sheet (let long =
-          length-set sheets seat other in omega (arith, e, long))))
-      | inr other_ ↦ ap (λ (g : SheetModel). g.sight.log) (put_elsewhere sheets seat t other other_) ∙ quiet t
-    ]
+pub quiet_with : (sheets : List SheetModel) (seat : ℕ) (own other : SheetModel) → slice_get sheets seat ≡ Some own
+    → AreQuiet sheets → other.sight.log ≡ None → AreQuiet (set sheets seat other)
+quiet_with sheets seat own other out quiet is t =
+    each_put (λ n g. g.sight.log ≡ None) sheets seat t other (λ _. slice_get_within sheets seat own out) is (quiet t)
 
 -- ---- a call with its own glass beside them
 
@@ -112,11 +111,11 @@ same_sheets a b sight room =
     ∙ get_or-map (λ (g : SheetModel). g.room) b t no_sheet))
 
 own_seen : (glasses : List Sight) (seat : ℕ) (own : Sight) → glasses_of_call glasses seat own seat ≡ own
-own_seen glasses seat own = ap (λ (b : Bool). cond b own (glass_in glasses seat)) (eq-eqb seat seat refl)
+own_seen glasses seat own = rw (eq-eqb seat seat refl) refl
 
 other_seen : (glasses : List Sight) (seat t : ℕ) (own : Sight) → t ≢ seat → glasses_of_call glasses seat own t
     ≡ glass_in glasses t
-other_seen glasses seat t own other = ap (λ (b : Bool). cond b own (glass_in glasses t)) (ne_eqb t seat other)
+other_seen glasses seat t own other = rw (ne_eqb t seat other) refl
 
 abbrev pub WereSeen : List SheetModel → List SheetModel → ℕ → SheetModel → SheetModel → Type 0
 WereSeen old new seat own own' =
@@ -156,12 +155,10 @@ with_own sheets seat own inside = λ i t. each t i
     each : (t : ℕ) → glasses_of_call (sights sheets) seat own.sight t ≡ glass_in (sights (set sheets seat own)) t
     each t =
         elim (cases_eq t seat) [
-          | inl e ↦ ap (glasses_of_call (sights sheets) seat own.sight) e ∙ own_seen (sights sheets) seat own.sight
-              ∙ sym (ap (λ (g : SheetModel). g.sight) (put_there sheets seat own inside))
-              ∙ sym (sight_at (set sheets seat own) seat) ∙ ap (glass_in (sights (set sheets seat own))) (sym e)
-          | inr other ↦ other_seen (sights sheets) seat t own.sight other ∙ sight_at sheets t
-              ∙ sym (ap (λ (g : SheetModel). g.sight) (put_elsewhere sheets seat t own other))
-              ∙ sym (sight_at (set sheets seat own) t)
+          | inl e ↦ rw (e, sight_at (set sheets seat own) seat, put_there sheets seat own inside)
+              (own_seen (sights sheets) seat own.sight)
+          | inr other ↦ rw (sight_at (set sheets seat own) t, put_elsewhere sheets seat t own other)
+              (other_seen (sights sheets) seat t own.sight other ∙ sight_at sheets t)
         ]
 
 -- ---- the sheets of a host
@@ -171,7 +168,7 @@ pub hollow_there : (config : Configuration) (hollows : List SheetModel) (seat : 
     → AreHollow config hollows → seat < length config.clients → hollow ≡ get_or hollows seat hollow
     → sheet_at hollows seat ≡ hollow
 hollow_there config hollows seat hollow are inside is =
-    there_at hollows seat hollow is (omega (arith, inside, are.count))
+    get_or_default hollows seat no_sheet hollow (omega (arith, inside, are.count)) ∙ sym is
 
 pub hollow_glass : (config : Configuration) (hollows : List SheetModel) (seat : ℕ) (hollow : SheetModel)
     → AreHollow config hollows → seat < length config.clients → hollow ≡ get_or hollows seat hollow
@@ -191,18 +188,17 @@ pub own_plain : (config : Configuration) (sheets : List SheetModel) (seat : ℕ)
     → AreSheets config sheets → seat < length config.clients → slice_get sheets seat ≡ Some own
     → IsPlainOf config seat own.sight
 own_plain config sheets seat own are inside is =
-    subst (λ (g : SheetModel). IsPlainOf config seat g.sight) (taken_out sheets seat own is) (are.plain seat inside)
+    rw (← taken_out sheets seat own is) (are.plain seat inside)
 
 pub own_room : (config : Configuration) (sheets : List SheetModel) (seat : ℕ) (own : SheetModel)
     → AreSheets config sheets → seat < length config.clients → slice_get sheets seat ≡ Some own
     → size_at config seat ≤ own.room
 own_room config sheets seat own are inside is =
-    subst (λ (g : SheetModel). size_at config seat ≤ g.room) (taken_out sheets seat own is) (are.room seat inside)
+    rw (← taken_out sheets seat own is) (are.room seat inside)
 
 pub own_words : (sheets : List SheetModel) (seat : ℕ) (own : SheetModel) → slice_get sheets seat ≡ Some own
     → told_words own.sight.words ≡ sheet_in (sheets_of sheets) seat
-own_words sheets seat own is = ap (λ (g : SheetModel). told_words g.sight.words) (sym (taken_out sheets seat own is))
-    ∙ sym (words_at sheets seat)
+own_words sheets seat own is = rw (words_at sheets seat, taken_out sheets seat own is) refl
 
 -- ---- an event that is no call
 

@@ -1,13 +1,11 @@
 -- Which word a pixel of a host's picture shows.
-use Rattle.std.proofs.Common.{Bool, None, Option, Some, ap, ap₂, arith, cond, false, inl, inr}
-use Rattle.std.proofs.Common.{nat_lt, negsuc, pos, refl, slice_index, true, ℕ, ◌%◌, ◌*◌, ◌+◌, ◌-ℤ◌}
-use Rattle.std.proofs.Common.{◌/◌, ◌<◌, ◌∙◌, ◌≡◌, ◌⊎◌, ℤ}
+use Rattle.std.proofs.Common.{None, Option, Some, ap, ap₂, arith, nat_lt, pos, refl, slice_index}
+use Rattle.std.proofs.Common.{true, ℕ, ◌%◌, ◌*◌, ◌+◌, ◌-ℤ◌, ◌/◌, ◌<◌, ◌∙◌, ◌≡◌, ℤ}
+use Rattle.nit_host.proofs.Touching.{index_is}
 use Rattle.nit_host.proofs.Basics.{Black, HostModel, PixelSource, View, Word, among, bare_word}
 use Rattle.nit_host.proofs.Basics.{black_or_word, buffer_size, get_or-map-range_with_len, index_at}
 use Rattle.nit_host.proofs.Basics.{nat_tests, owner_of, picture, pixel, pixel_count, session}
 use Rattle.nit_host.proofs.Basics.{sheet_in, source_at, source_under, word_from}
-use mathlib.Core.Logic.{dite}
-use native.Mathlib.Decide.{dec_lt}
 
 pub picture_pixel : (h : HostModel) (k : ℕ) → k < pixel_count h.state
     → slice_index (picture h) k ≡ word_from (sheet_in h.sheets) (source_at h.state k)
@@ -22,7 +20,7 @@ by_source h k source less is = picture_pixel h k less ∙ ap (word_from (sheet_i
 is_among : (at : ℤ) (n most : ℕ) → at ≡ pos n → n < most → among at most ≡ Some n
 is_among at n most is inside =
     let test : nat_lt n most ≡ true = grind (arith, nat_tests) in
-    ap (λ (z : ℤ). among z most) is ∙ ap (λ (b : Bool). cond b (Some n) None) test
+    rw (is, test) refl
 
 -- the source of a pixel that a view owns
 pub of_view : (h : HostModel) (k i j : ℕ) (v : View)
@@ -36,32 +34,17 @@ of_view h k i j v owned across wide down high =
     (ap₂ (index_at (session h.state v.sid).bw) (is_among _ i (session h.state v.sid).bw across wide)
     (is_among _ j (session h.state v.sid).bh down high))
 
--- a place among so many, or none of them
-among_cases : (at : ℤ) (most : ℕ) → (among at most ≡ None)
-    ⊎ ((n : ℕ) × (at ≡ pos n) × (n < most) × (among at most ≡ Some n))
-among_cases (negsuc n) most = inl refl
-among_cases (pos n) most =
-    dite (dec_lt n most) (λ inside. inr (n, refl, inside, is_among (pos n) n most refl inside))
-    (λ behind.
-    let test : nat_lt n most ≡ false = grind (arith, nat_tests) in
-    inl (ap (λ (b : Bool). cond b (Some n) None) test))
-
-no_row : (columns : ℕ) (o : Option ℕ) → index_at columns o None ≡ None
-no_row columns None = refl
-no_row columns (Some x) = refl
-
 no_index : (columns rows : ℕ) (a b : ℤ)
     → ((i j : ℕ) → a ≡ pos i → i < columns → b ≡ pos j → j < rows → ⊥)
     → index_at columns (among a columns) (among b rows) ≡ None
-no_index columns rows a b none =
-    elim (among_cases a columns) [
-      | inl e ↦ ap (λ (o : Option ℕ). index_at columns o (among b rows)) e
-      | inr x ↦
-          elim (among_cases b rows) [
-            | inl e ↦ ap (index_at columns (among a columns)) e ∙ no_row columns (among a columns)
-            | inr y ↦ absurd (none x.0 y.0 x.1 x.2 y.1 y.2)
-          ]
-    ]
+no_index columns rows a b none = go (index_at columns (among a columns) (among b rows)) refl
+  where
+    go : (o : Option ℕ) → index_at columns (among a columns) (among b rows) ≡ o
+        → index_at columns (among a columns) (among b rows) ≡ None
+    go None is = is
+    go (Some n) is =
+        let p = index_is columns rows n a b is in
+        absurd (none (n % columns) (n / columns) p.column p.wide p.row p.high)
 
 -- the word of a pixel to which the buffer of its view does not reach
 pub of_past : (h : HostModel) (k : ℕ) (v : View) → k < pixel_count h.state

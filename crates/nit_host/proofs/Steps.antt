@@ -1,16 +1,16 @@
 -- What a call of a seat's client leaves, whose sheet was taken out of the desktop and is put back.
 use Rattle.std.proofs.Common.{List, Option, Some, [], ap, arith, false, get_or, length, refl, set}
-use Rattle.std.proofs.Common.{slice_get, subst, sym, ℕ, ◌-◌, ◌<◌, ◌∙◌, ◌≡◌, ◌≤◌}
+use Rattle.std.proofs.Common.{slice_get, sym, ℕ, ◌-◌, ◌<◌, ◌∙◌, ◌≡◌, ◌≤◌}
 use Rattle.nit_host.proofs.Basics.{Agrees, AreSheets, Call, Configuration, DesktopModel, Entry}
 use Rattle.nit_host.proofs.Basics.{HostModel, IsHost, IsPlainOf, Painted, Point, Reply, SheetModel}
-use Rattle.nit_host.proofs.Basics.{Sight, State, after, called, dirty, glass_in, glasses_of_call}
-use Rattle.nit_host.proofs.Basics.{length-set, map-set, pixel, serve, session, set-get_or, set-set}
-use Rattle.nit_host.proofs.Basics.{sheet_at, sheet_in, sheets_of, size_at, source_at, source_of}
-use Rattle.nit_host.proofs.Basics.{told_words, word_from}
+use Rattle.nit_host.proofs.Basics.{State, after, called, dirty, glass_in, glasses_of_call}
+use Rattle.nit_host.proofs.Basics.{length-set, pixel, serve, session, set-get_or, set-set, sheet_at}
+use Rattle.nit_host.proofs.Basics.{sheet_in, sheets_of, size_at, source_at, source_of, told_words}
+use Rattle.nit_host.proofs.Basics.{word_from}
 use Rattle.nit_events.specs.declared.entry.Entry.TheVariants as entry
 use Rattle.nit_host.proofs.Freshness.{fresh_after}
 use Rattle.nit_host.proofs.SheetLists.{comes_out, each_put, hollow_there, own_plain, own_room}
-use Rattle.nit_host.proofs.SheetLists.{own_words, put_same, sights, taken_out, with_own}
+use Rattle.nit_host.proofs.SheetLists.{own_words, put_same, sights, with_own, words_with}
 
 -- what a law says of pixels that are not dirty
 abbrev pub KeepSources : Type 0
@@ -44,22 +44,30 @@ pub record WasCalled (seat : ℕ) (call : Call) (r : Reply) (h : HostModel) (see
   pub reply : r ≡ (serve (session h.state seat) call).reply
   pub now : host_model d (Some (entry.Call seat call r)) seen ≡ called seat call h
 
+-- what pixels show that the call does not make dirty stands where it stood
+abbrev pub Words : State → ℕ → Reply → List (List ℕ) → List (List ℕ) → Call → Type 0
+Words s seat r sheets sheets' c =
+    (k : ℕ) → dirty s (entry.Call seat c r) (after s (entry.Call seat c r)) (pixel s.config.width k) ≡ false
+    → word_from (sheet_in sheets) (source_at (after s (entry.Call seat c r)) k)
+    ≡ word_from (sheet_in sheets') (source_at (after s (entry.Call seat c r)) k)
+
+-- the same words are shown where the sheets are the same
+pub words_stay : (s : State) (seat : ℕ) (r : Reply) (c : Call) (sheets sheets' : List (List ℕ)) → sheets' ≡ sheets
+    → Words s seat r sheets sheets' c
+words_stay s seat r c sheets sheets' same = rw same (λ k clean. refl)
+
 -- ---- sheets, one of which is another
 
-module _ (config : Configuration) (sheets : List SheetModel) (seat : ℕ) (sheet : SheetModel) where
-  pub sheets_with : AreSheets config sheets → IsPlainOf config seat sheet.sight → size_at config seat ≤ sheet.room
-      → AreSheets config (set sheets seat sheet)
-  sheets_with are plain room = record {
-    count = length-set sheets seat sheet ∙ are.count;
-    plain = λ t inside. each_put (λ n g. IsPlainOf config n g.sight) sheets seat t sheet
-        (λ e. omega (arith, e, inside, are.count)) plain (are.plain t inside);
-    room = λ t inside. each_put (λ n g. size_at config n ≤ g.room) sheets seat t sheet
-        (λ e. omega (arith, e, inside, are.count)) room (are.room t inside);
-  }
-
-  -- its words stand in its place
-  pub words_with : sheets_of (set sheets seat sheet) ≡ set (sheets_of sheets) seat (told_words sheet.sight.words)
-  words_with = map-set (λ (g : SheetModel). told_words g.sight.words) sheets seat sheet
+pub sheets_with : (config : Configuration) (sheets : List SheetModel) (seat : ℕ) (sheet : SheetModel)
+    → AreSheets config sheets → IsPlainOf config seat sheet.sight → size_at config seat ≤ sheet.room
+    → AreSheets config (set sheets seat sheet)
+sheets_with config sheets seat sheet are plain room = record {
+  count = length-set sheets seat sheet ∙ are.count;
+  plain = λ t inside. each_put (λ n g. IsPlainOf config n g.sight) sheets seat t sheet
+      (λ e. omega (arith, e, inside, are.count)) plain (are.plain t inside);
+  room = λ t inside. each_put (λ n g. size_at config n ≤ g.room) sheets seat t sheet
+      (λ e. omega (arith, e, inside, are.count)) room (are.room t inside);
+}
 
 -- words that were there before
 pub same_words : (sheets : List (List ℕ)) (seat : ℕ) (words : List ℕ) → words ≡ sheet_in sheets seat
@@ -74,77 +82,54 @@ module _ (d d1 d2 : DesktopModel SheetModel) (hollows : List SheetModel) (seat :
     (there : sheet_at hollows seat ≡ hollow) (out : slice_get d.glasses seat ≡ Some own)
     (served : Serves seat call own' last d1 d2 r) (plain : IsPlainOf d.state.config seat own'.sight)
     (room : size_at d.state.config seat ≤ own'.room) (keep : KeepSources) where
-  e : Entry
+  abbrev e : Entry
   e = entry.Call seat call r
 
-  s0 : Serves seat call own' last (with_sheet d seat hollow) d2 r
-  s0 = subst (λ (x : DesktopModel SheetModel). Serves seat call own' last x d2 r) swapped served
+  abbrev now_all : List SheetModel
+  now_all = set d.glasses seat own'
 
-  pub glasses_now : d2.glasses ≡ set d.glasses seat own'
+  s0 : Serves seat call own' last (with_sheet d seat hollow) d2 r
+  s0 = rw swapped at served
+
+  pub glasses_now : d2.glasses ≡ now_all
   glasses_now = s0.glasses ∙ set-set d.glasses seat hollow own'
 
-  last_is : last ≡ hollow
-  last_is = comes_out d.glasses seat own hollow last out s0.out
-
   hollows_stay : set hollows seat last ≡ hollows
-  hollows_stay = put_same hollows seat last (there ∙ sym last_is)
+  hollows_stay = put_same hollows seat last (there ∙ sym (comes_out d.glasses seat own hollow last out s0.out))
 
   config_stays : d2.state.config ≡ d.state.config
   config_stays = ap (λ (s : State). s.config) s0.state
 
-  all : AreSheets d.state.config (set d.glasses seat own')
+  all : AreSheets d.state.config now_all
   all = sheets_with d.state.config d.glasses seat own' host.sheets plain room
 
-  agrees : Agrees d.state 0 (entry.Call seat call r)
-  agrees = (inside, s0.reply)
-
-  painted : Painted d.state (entry.Call seat call r) (after d.state (entry.Call seat call r))
-      (glass_in (sights (set d.glasses seat own'))) (glass_in (sights (set d.glasses seat own'))) d.raw d2.raw
+  painted : Painted d.state e (after d.state e) (glass_in (sights now_all)) (glass_in (sights now_all)) d.raw d2.raw
   painted = rw (s0.state, glasses_now) at s0.painted
 
-  goes_on : ((k : ℕ) → dirty d.state (entry.Call seat call r) (after d.state (entry.Call seat call r))
-      (pixel d.state.config.width k) ≡ false
-      → word_from (sheet_in (sheets_of d.glasses)) (source_at (after d.state (entry.Call seat call r)) k)
-      ≡ word_from (sheet_in (sheets_of (set d.glasses seat own')))
-      (source_at (after d.state (entry.Call seat call r)) k))
-      → IsHost d2 (set hollows seat last)
-  goes_on stays =
-      let fresh = fresh_after d.state.config d.state (after d.state (entry.Call seat call r)) (entry.Call seat call r)
-      (set d.glasses seat own') (sheet_in (sheets_of d.glasses)) d.raw d2.raw all painted host.fresh refl
-      (λ k clean. keep d.state 0 (entry.Call seat call r) (pixel d.state.config.width k) agrees clean) stays in
-      record {
-        sheets = rw (config_stays, glasses_now) all;
-        hollow = rw (config_stays, hollows_stay) host.hollow;
-        fresh = rw (s0.state, glasses_now) fresh;
-      }
-
-  pub called_now : ((k : ℕ) → dirty d.state (entry.Call seat call r) (after d.state (entry.Call seat call r))
-      (pixel d.state.config.width k) ≡ false
-      → word_from (sheet_in (sheets_of d.glasses)) (source_at (after d.state (entry.Call seat call r)) k)
-      ≡ word_from (sheet_in (sheets_of (set d.glasses seat own')))
-      (source_at (after d.state (entry.Call seat call r)) k))
-      → WasCalled seat call r (record {
-        state = d.state;
-        sheets =
-            set (sheets_of d.glasses) seat (told_words own'.sight.words);
-        left = d.left;
-        last = kept;
-        seen = seen;
-      }) seen d2
-      (set hollows seat last)
-  called_now stays =
-      let replied = s0.reply in
-      record {
-        host = goes_on stays;
-        reply = replied;
-        now = λ i. record {
-          state = (s0.state ∙ ap (λ (x : Reply). after d.state (entry.Call seat call x)) replied) i;
-          sheets = (ap sheets_of glasses_now ∙ words_with d.state.config d.glasses seat own') i;
-          left = s0.left i;
-          last = Some (entry.Call seat call (replied i));
-          seen = seen;
-        };
-      }
+  pub called_now : Words d.state seat r (sheets_of d.glasses) (sheets_of now_all) call → WasCalled seat call r (record {
+    state = d.state;
+    sheets = set (sheets_of d.glasses) seat (told_words own'.sight.words);
+    left = d.left;
+    last = kept;
+    seen = seen;
+  }) seen d2 (set hollows seat last)
+  called_now stays = record {
+    host = record {
+      sheets = rw (config_stays, glasses_now) all;
+      hollow = rw (config_stays, hollows_stay) host.hollow;
+      fresh = rw (s0.state, glasses_now) (fresh_after d.state.config d.state (after d.state e) e now_all
+          (sheet_in (sheets_of d.glasses)) d.raw d2.raw all painted host.fresh refl
+          (λ k clean. keep d.state 0 e (pixel d.state.config.width k) (inside, s0.reply) clean) stays);
+    };
+    reply = s0.reply;
+    now = λ i. record {
+      state = (s0.state ∙ ap (λ (x : Reply). after d.state (entry.Call seat call x)) s0.reply) i;
+      sheets = (ap sheets_of glasses_now ∙ words_with d.glasses seat own') i;
+      left = s0.left i;
+      last = Some (entry.Call seat call (s0.reply i));
+      seen = seen;
+    };
+  }
 
 -- ---- the call itself
 
@@ -156,16 +141,7 @@ pub painted_by_all : (s : State) (e : Entry) (d d2 d3 : DesktopModel SheetModel)
     (glasses_of_call (sights d2.glasses) seat own'.sight) d.raw d2.raw
     → Painted s e d3.state (glass_in (sights d3.glasses)) (glass_in (sights d3.glasses)) d.raw d3.raw
 painted_by_all s e d d2 d3 seat own own' stay own_stay inside put painted =
-    let before : glasses_of_call (sights d.glasses) seat own.sight ≡ glass_in (sights (set d2.glasses seat own')) =
-    with_own d.glasses seat own inside ∙ (λ i. glass_in (sights (set (sym stay i) seat (sym own_stay i)))) in
-    let after_ : glasses_of_call (sights d2.glasses) seat own'.sight ≡ glass_in (sights (set d2.glasses seat own')) =
-    with_own d2.glasses seat own' (subst (λ (gs : List SheetModel). seat < length gs) (sym stay) inside) in
-    subst (λ (x : DesktopModel SheetModel). Painted s e x.state (glass_in (sights x.glasses))
-    (glass_in (sights x.glasses)) d.raw x.raw) (sym put)
-    (subst (λ (f : ℕ → Sight). Painted s e d2.state (glass_in (sights (set d2.glasses seat own'))) f d.raw d2.raw)
-    after_
-    (subst (λ (f : ℕ → Sight). Painted s e d2.state f (glasses_of_call (sights d2.glasses) seat own'.sight) d.raw
-    d2.raw) before painted))
+    rw (put, stay, own_stay) (rw (stay, own_stay, with_own d.glasses seat own inside) at painted)
 
 -- a call that takes nothing over
 module _ (d d1 d2 : DesktopModel SheetModel) (hollows : List SheetModel) (seat : ℕ) (call : Call) (r : Reply)
@@ -177,21 +153,13 @@ module _ (d d1 d2 : DesktopModel SheetModel) (hollows : List SheetModel) (seat :
   pub only_called : (h : HostModel) → host_model d kept seen ≡ h
       → WasCalled seat call r h seen d2 (set hollows seat last)
   only_called h view =
-      let client : seat < length d.state.config.clients = rw (← long) inside in
-      let there = hollow_there d.state.config hollows seat hollow host.hollow client at in
-      let done = called_now d d1 d2 hollows seat call r hollow own own last kept seen host inside swapped there out
-      served
+      let client : seat < length d.state.config.clients = omega arith in
+      let told = same_words (sheets_of d.glasses) seat (told_words own.sight.words)
+      (own_words d.glasses seat own out) in
+      rw (← view, ← told)
+      (called_now d d1 d2 hollows seat call r hollow own own last kept seen host inside swapped
+      (hollow_there d.state.config hollows seat hollow host.hollow client at) out served
       (own_plain d.state.config d.glasses seat own host.sheets client out)
       (own_room d.state.config d.glasses seat own host.sheets client out) keep
-      (λ k clean. ap (λ (gs : List SheetModel). word_from (sheet_in (sheets_of gs))
-      (source_at (after d.state (entry.Call seat call r)) k))
-      (sym (put_same d.glasses seat own (taken_out d.glasses seat own out)))) in
-      subst (λ (x : HostModel). WasCalled seat call r x seen d2 (set hollows seat last))
-      ((λ i. record {
-        state = d.state;
-        sheets =
-            same_words (sheets_of d.glasses) seat (told_words own.sight.words) (own_words d.glasses seat own out) i;
-        left = d.left;
-        last = kept;
-        seen = seen;
-      }) ∙ view) done
+      (words_stay d.state seat r call (sheets_of d.glasses) (sheets_of (set d.glasses seat own))
+      (words_with d.glasses seat own ∙ told)))

@@ -1,18 +1,20 @@
 -- What a call makes dirty lies in the areas of what it touches.
-use Rattle.std.proofs.Common.{Bool, List, None, Option, Some, [], ap, arith, cond, false, find, inl}
-use Rattle.std.proofs.Common.{inr, nat_lt, negsuc, pos, refl, slice_get, suc, sym, true, ℕ, ℤ, ◌%◌}
-use Rattle.std.proofs.Common.{◌&&◌, ◌*◌, ◌+◌, ◌/◌, ◌<◌, ◌==◌, ◌||◌, ◌∙◌, ◌∷◌, ◌≡◌, ◌⊎◌}
+use Rattle.std.proofs.Common.{Bool, List, None, Option, Some, ap, arith, cond, false, find, inl}
+use Rattle.std.proofs.Common.{inr, nat_lt, negsuc, pos, refl, slice_get, sym, true, ℕ, ℤ, ◌%◌, ◌&&◌}
+use Rattle.std.proofs.Common.{◌*◌, ◌+◌, ◌/◌, ◌<◌, ◌==◌, ◌∙◌, ◌≡◌}
 use Rattle.nit_host.proofs.Basics.{Area, Call, HoldsTouched, Point, Rectangle, Size, State, Touch}
-use Rattle.nit_host.proofs.Basics.{View, among, bar_rows, black_or_word, buffer_place, buffer_size}
-use Rattle.nit_host.proofs.Basics.{covers, dirty_by_call, div-mul-add, eqb-true, false≢true}
-use Rattle.nit_host.proofs.Basics.{has_place, in_bar, index_at, is_owned_by, is_rectangle}
-use Rattle.nit_host.proofs.Basics.{is_session, is_view, is_word_in, mod-mul-add, nat_tests}
-use Rattle.nit_host.proofs.Basics.{option_map_or, owner_of, owns_either, pixel, point, rectangle}
-use Rattle.nit_host.proofs.Basics.{same_Some, session, shown_index, shows_part, shows_place}
-use Rattle.nit_host.proofs.Basics.{source_under, spans, touched_by, view_owns}
+use Rattle.nit_host.proofs.Basics.{View, among, and_from, and_parts, bar_rows, black_or_word}
+use Rattle.nit_host.proofs.Basics.{buffer_place, buffer_size, covers, dirty_by_call, div-mul-add}
+use Rattle.nit_host.proofs.Basics.{eqb-true, false≢true, find_at, get_or_from_slice_get, has_place}
+use Rattle.nit_host.proofs.Basics.{in_bar, index_at, is_owned_by, is_rectangle, is_session}
+use Rattle.nit_host.proofs.Basics.{is_touched, is_view, is_word_in, mod-mul-add, nat_tests}
+use Rattle.nit_host.proofs.Basics.{option_map_or, or_cases, owner_of, owns_either, passes_at_first}
+use Rattle.nit_host.proofs.Basics.{pixel, point, rectangle, same_Some, session, shown_index}
+use Rattle.nit_host.proofs.Basics.{shows_part, shows_place, slice_get_within, source_under, spans}
+use Rattle.nit_host.proofs.Basics.{touched_by, view_owns}
 use Rattle.nit_events.specs.declared.call.Call.TheVariants as call
 use Rattle.nit_host.specs.declared.host.touch.Touch.TheVariants as touch
-use Rattle.nit_host.proofs.Areas.{first_test, second_test}
+use Rattle.std.specs.List.{position_or_len}
 
 -- ---- the view that owns a pixel stands in the stack
 
@@ -22,20 +24,12 @@ record Stands (test : View → Bool) (stack : List View) (v : View) : Type 0 whe
   pub passes : test v ≡ true
 
 found_there : (test : View → Bool) (stack : List View) (v : View) → find test stack ≡ Some v → Stands test stack v
-found_there test [] v is = cc
-found_there test (u ∷ rest) v is = go (found_there test rest v) (test u) refl is
-  where
-    go : (find test rest ≡ Some v → Stands test rest v) → (b : Bool) → test u ≡ b
-        → cond b (Some u) (find test rest) ≡ Some v → Stands test (u ∷ rest) v
-    go further true passes here = record {
-      place = 0;
-      there = here;
-      passes = ap test (sym (same_Some u v here)) ∙ passes;
-    }
-    go further false fails behind = let s = further behind in record {
-      place = suc s.place;
-      there = s.there;
-      passes = s.passes;
+found_there test stack v is =
+    let at : slice_get stack (position_or_len test stack) ≡ Some v = sym (find_at test stack) ∙ is in record {
+      place = position_or_len test stack;
+      there = at;
+      passes = ap test (sym (get_or_from_slice_get stack (position_or_len test stack) v v at))
+          ∙ passes_at_first test stack v (slice_get_within stack (position_or_len test stack) v at);
     }
 
 owner_there : (s : State) (p : Point) (v : View) → owner_of s p ≡ Some v → Stands (λ v. covers v.rect p) s.stack v
@@ -62,31 +56,33 @@ among_is : (z : ℤ) (most n : ℕ) → among z most ≡ Some n → (z ≡ pos n
 among_is (pos m) most n is = go (nat_lt m most) refl is
   where
     go : (b : Bool) → nat_lt m most ≡ b → cond b (Some m) None ≡ Some n → (pos m ≡ pos n) × (n < most)
-    go true less here = let same : m ≡ n = same_Some m n here in
-        (ap pos same, (let lt : m < most = grind (arith, nat_tests) in omega (arith, lt, same)))
+    go true less here = let same : m ≡ n = same_Some m n here in (ap pos same, grind (arith, nat_tests))
     go false more none = cc
 among_is (negsuc m) most n is = cc
 
-record IsPlaceOf (columns i : ℕ) (a b : ℤ) : Type 0 where
+pub record IsPlaceOf (columns rows i : ℕ) (a b : ℤ) : Type 0 where
   pub column : a ≡ pos (i % columns)
   pub row : b ≡ pos (i / columns)
+  pub wide : i % columns < columns
+  pub high : i / columns < rows
 
-index_is : (columns rows i : ℕ) (a b : ℤ) → index_at columns (among a columns) (among b rows) ≡ Some i
-    → IsPlaceOf columns i a b
+pub index_is : (columns rows i : ℕ) (a b : ℤ) → index_at columns (among a columns) (among b rows) ≡ Some i
+    → IsPlaceOf columns rows i a b
 index_is columns rows i a b is = go (among a columns) (among b rows) refl refl is
   where
     go : (x y : Option ℕ) → among a columns ≡ x → among b rows ≡ y → index_at columns x y ≡ Some i
-        → IsPlaceOf columns i a b
+        → IsPlaceOf columns rows i a b
     go None y ax bx none = cc
     go (Some x) None ax bx none = cc
     go (Some x) (Some y) ax bx here =
-        let same : y * columns + x ≡ i = same_Some (y * columns + x) i here in
         let ax_is = among_is a columns x ax in
         let bx_is = among_is b rows y bx in
-        record {
-          column = ax_is.0 ∙ ap pos (sym (mod-mul-add y columns x ax_is.1) ∙ ap (λ (n : ℕ). n % columns) same);
-          row = bx_is.0 ∙ ap pos (sym (div-mul-add y columns x ax_is.1) ∙ ap (λ (n : ℕ). n / columns) same);
-        }
+        rw (← same_Some (y * columns + x) i here, ax_is.0, bx_is.0) (record {
+          column = ap pos (sym (mod-mul-add y columns x ax_is.1));
+          row = ap pos (sym (div-mul-add y columns x ax_is.1));
+          wide = rw (mod-mul-add y columns x ax_is.1) ax_is.1;
+          high = rw (div-mul-add y columns x ax_is.1) bx_is.1;
+        })
 
 shown_part : (part : Rectangle) (size : Size) (v : View) (p : Point) (i : ℕ) → shown_index size v p ≡ Some i
     → covers part (pixel size.w i) ≡ true → shows_place part v p ≡ true
@@ -105,12 +101,10 @@ part_inside seat part s p inside holds shows = go (owner_of s p) refl shows
         → is_word_in seat (session s seat).bw part (black_or_word v.sid o) ≡ true → inside ≡ true
     by_index v at None is none = absurd (false≢true none)
     by_index v at (Some i) is word =
-        let own = first_test (v.sid == seat) (covers part (pixel (session s seat).bw i)) word in
-        let covered = second_test (v.sid == seat) (covers part (pixel (session s seat).bw i)) word in
-        let same : v.sid ≡ seat = eqb-true v.sid seat own in
+        let both = and_parts (v.sid == seat) (covers part (pixel (session s seat).bw i)) word in
         let there : shows_place part v p ≡ true = shown_part part (buffer_size s.sessions v.sid) v p i is
-        (ap (λ (t : ℕ). covers part (pixel (session s t).bw i)) same ∙ covered) in
-        holds at.place v at.there (λ k. own k && (at.passes k && there k))
+        (ap (λ (t : ℕ). covers part (pixel (session s t).bw i)) (eqb-true v.sid seat both.0) ∙ both.1) in
+        holds at.place v at.there (λ k. both.0 k && (at.passes k && there k))
 
     go : (o : Option View) → owner_of s p ≡ o
         → is_word_in seat (session s seat).bw part (source_under (buffer_size s.sessions) p o) ≡ true → inside ≡ true
@@ -119,27 +113,21 @@ part_inside seat part s p inside holds shows = go (owner_of s p) refl shows
 
 -- ---- an accepted call
 
-either : (a b : Bool) → (a || b) ≡ true → (a ≡ true) ⊎ (b ≡ true)
-either true b is = inl refl
-either false b is = inr is
+-- a pixel of a view that the test of a touch names
+owned_place : (s : State) (seat : ℕ) (a : Area) (x y : ℕ) (t : Touch) (test : View → Bool) → x < s.config.width
+    → y < s.config.height → HoldsTouched s seat t a
+    → ((v : View) → is_touched t seat v (point x y) ≡ (test v && covers v.rect (point x y)))
+    → is_owned_by test s (point x y) ≡ true → has_place a x y ≡ true
+owned_place s seat a x y t test wide high holds touched owned = owned_inside test s (point x y) (has_place a x y)
+    (λ i u there own covered. holds.views i x y u there wide high (touched u ∙ and_from _ _ own covered)) owned
 
 module _ (s s' : State) (seat : ℕ) (a : Area) (x y : ℕ) (wide : x < s.config.width) (high : y < s.config.height)
     (wide' : x < s'.config.width) (high' : y < s'.config.height) where
-  of_view : (v : ℕ) → HoldsTouched s seat (touch.View v) a → view_owns seat v s (point x y) ≡ true
-      → has_place a x y ≡ true
-  of_view v holds owned = owned_inside (is_view seat v) s (point x y) (has_place a x y)
-      (λ i u there own covered. holds.views i x y u there wide high (λ k. own k && covered k)) owned
-
-  of_view' : (v : ℕ) → HoldsTouched s' seat (touch.View v) a → view_owns seat v s' (point x y) ≡ true
-      → has_place a x y ≡ true
-  of_view' v holds owned = owned_inside (is_view seat v) s' (point x y) (has_place a x y)
-      (λ i u there own covered. holds.views i x y u there wide' high' (λ k. own k && covered k)) owned
-
   on_view : (v : ℕ) → HoldsTouched s seat (touch.View v) a → HoldsTouched s' seat (touch.View v) a
       → owns_either seat v s s' (point x y) ≡ true → has_place a x y ≡ true
-  on_view v holds holds' own = elim (either (view_owns seat v s (point x y)) (view_owns seat v s' (point x y)) own) [
-    | inl e ↦ of_view v holds e
-    | inr e ↦ of_view' v holds' e
+  on_view v holds holds' own = elim (or_cases (view_owns seat v s (point x y)) (view_owns seat v s' (point x y)) own) [
+    | inl e ↦ owned_place s seat a x y (touch.View v) (is_view seat v) wide high holds (λ v. refl) e
+    | inr e ↦ owned_place s' seat a x y (touch.View v) (is_view seat v) wide' high' holds' (λ v. refl) e
   ]
 
   of_part : (px py : ℤ) (w h : ℕ) (b : Bool)
@@ -158,15 +146,12 @@ module _ (s s' : State) (seat : ℕ) (a : Area) (x y : ℕ) (wide : x < s.config
   call_inside (call.Back v) holds holds' is = on_view v holds holds' is
   call_inside (call.Above v n) holds holds' is = on_view v holds holds' is
   call_inside (call.Destroy v) holds holds' is = on_view v holds holds' is
-  call_inside call.Close holds holds' is = owned_inside (is_session seat) s (point x y) (has_place a x y)
-      (λ i u there own covered. holds.views i x y u there wide high (λ k. own k && covered k)) is
-  call_inside (call.Buffer w h) holds holds' is = owned_inside (is_session seat) s' (point x y) (has_place a x y)
-      (λ i u there own covered. holds'.views i x y u there wide' high' (λ k. own k && covered k)) is
+  call_inside call.Close holds holds' is =
+      owned_place s seat a x y touch.Views (is_session seat) wide high holds (λ v. refl) is
+  call_inside (call.Buffer w h) holds holds' is =
+      owned_place s' seat a x y touch.Views (is_session seat) wide' high' holds' (λ v. refl) is
   call_inside (call.Refresh px py w h) holds holds' is = of_part px py w h (is_rectangle px py w h) holds' is
-  call_inside call.View holds holds' is = absurd (false≢true is)
-  call_inside (call.Title v text) holds holds' is = absurd (false≢true is)
-  call_inside call.Take holds holds' is = absurd (false≢true is)
-  call_inside (call.Upgrade n) holds holds' is = absurd (false≢true is)
+  call_inside other holds holds' is = absurd (false≢true is)
 
 -- more than what is touched
 pub touched_more : (s : State) (seat : ℕ) (t : Touch) (a b : Area) → HoldsTouched s seat t a

@@ -1,8 +1,7 @@
-use Rattle.std.proofs.Common.{All, Some, subst, sym, true, refl, ◌∙◌, ◌≡◌}
+use Rattle.std.proofs.Common.{Some, subst, sym, true, refl, ◌∙◌, ◌≡◌}
 use Rattle.nit_events.specs.declared.device.Device.TheVariants as device
-use Rattle.nit_host.proofs.Lemmas.{Delivery, IsDown, IsLive, Kill, KillsPointed, State, TellsFocus}
-use Rattle.nit_host.proofs.Lemmas.{Xray, after_acts, by_act, deliveries_of, is_held, projection}
-use Rattle.nit_host.proofs.Lemmas.{route, routed_of, since_opening, steps_of}
+use Rattle.nit_host.proofs.Lemmas.{IsDown, State, after_acts, by_act, is_held, projection}
+use Rattle.nit_host.proofs.Lemmas.{routed_of, since_opening, steps_of}
 use Rattle.nit_host.proofs.laws.input_goes_where_it_is_meant.Goals as goal
 
 pub returns-clause-keys : goal.returns-clause-keys
@@ -20,8 +19,7 @@ returns-clause-buttons c h k flat none button =
 
 pub returns-clause-held : goal.returns-clause-held
 returns-clause-held c h dev some =
-    subst (All (λ (d : Delivery). h.state.input.receiver ≡ Some d.sid))
-    (sym (c.deliveries_fit.ensures h.state 0 dev (routed_of h dev) refl))
+    rw (c.deliveries_fit.ensures h.state 0 dev (routed_of h dev) refl)
     (c.input_goes_where_it_is_meant.ensures.held h.state dev some)
 
 pub returns-clause-focus : goal.returns-clause-focus
@@ -37,10 +35,9 @@ returns-clause-live c h acts dev live =
     let now = after_acts h acts in
     let lives = c.live_sessions_stay.ensures.steps h.state (steps_of h acts) live
     (c.hosts_go_by_steps.ensures.steps h acts) in
-    let told = c.live_sessions_stay.ensures.told now.state dev
-    (subst Rattle.nit_host.specs.Below.AreLive (sym (c.hosts_go_by_steps.ensures.state h acts)) lives) in
-    subst (All (λ (d : Delivery). IsLive now.state d.sid))
-    (sym (c.deliveries_fit.ensures now.state 0 dev (routed_of now dev) refl)) told
+    rw (c.deliveries_fit.ensures now.state 0 dev (routed_of now dev) refl)
+    (c.live_sessions_stay.ensures.told now.state dev
+    (subst Rattle.nit_host.specs.Below.AreLive (sym (c.hosts_go_by_steps.ensures.state h acts)) lives))
 
 pub returns-clause-receiver : goal.returns-clause-receiver
 returns-clause-receiver c h acts seat k live first =
@@ -53,17 +50,13 @@ returns-clause-receiver c h acts seat k live first =
 pub returns-clause-xray : goal.returns-clause-xray
 returns-clause-xray c h acts dev first mode =
     let now = after_acts h acts in
-    subst (All (TellsFocus now.state)) (sym (c.deliveries_fit.ensures now.state 0 dev (routed_of now dev) refl))
-    (subst (λ (s : State). s.input.mode ≡ Xray
-    → All (TellsFocus s) (route s.config s.input s.stack dev).deliveries)
-    (sym (c.hosts_go_by_steps.ensures.state h acts))
-    (c.input_goes_where_it_is_meant_along_steps.ensures.xray h.state (steps_of h acts) dev first) mode)
+    let state = c.hosts_go_by_steps.ensures.state h acts in
+    rw (c.deliveries_fit.ensures now.state 0 dev (routed_of now dev) refl, state)
+    (c.input_goes_where_it_is_meant_along_steps.ensures.xray h.state (steps_of h acts) dev first (rw state at mode))
 
 pub returns-clause-kill : goal.returns-clause-kill
 returns-clause-kill c h acts dev first mode =
     let now = after_acts h acts in
-    subst (All (KillsPointed now.state)) (sym (c.deliveries_fit.ensures now.state 0 dev (routed_of now dev) refl))
-    (subst (λ (s : State). s.input.mode ≡ Kill
-    → All (KillsPointed s) (route s.config s.input s.stack dev).deliveries)
-    (sym (c.hosts_go_by_steps.ensures.state h acts))
-    (c.input_goes_where_it_is_meant_along_steps.ensures.kill h.state (steps_of h acts) dev first) mode)
+    let state = c.hosts_go_by_steps.ensures.state h acts in
+    rw (c.deliveries_fit.ensures now.state 0 dev (routed_of now dev) refl, state)
+    (c.input_goes_where_it_is_meant_along_steps.ensures.kill h.state (steps_of h acts) dev first (rw state at mode))

@@ -1,4 +1,4 @@
-use Rattle.std.proofs.Common.{List, ap, subst, ℕ, ◌∙◌, ◌≡◌}
+use Rattle.std.proofs.Common.{ap, subst, ◌∙◌, ◌≡◌}
 use Rattle.nit_host.proofs.Lemmas.{HostModel, ShowsLabels, State, frame, picture, scenery_of}
 use Rattle.nit_host.proofs.Lemmas.{sheet_in, sheets_of, shown_fresh}
 use Rattle.nit_host.proofs.host.Host.frame.Goals as goal

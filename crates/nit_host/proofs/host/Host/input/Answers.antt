@@ -21,13 +21,12 @@ invariant_of-self c =
     let bar = c.bar_tells-bar.ensures in
     let bar2 = c.bar_tells.ensures in
     let quiet = c.shows_the_same-is_same.ensures in
-    let kept = seen_input c.shows_the_same-is_same.result d.state d2.state c.args.device c.input-routed.result
-    (sheets_of d.glasses) (sheets_of d2.glasses) c.self.inside.changed c.bar_or_screen-before.result
-    c.told-after.result c.join_unless-self-inside.result _ e.routed e.delivered
-    c.clean_pixels_keep_their_source.ensures e.served.state same c.bar_or_screen-before.ensures c.told-after.ensures
-    quiet.told
-    (λ t. sym bar.mode ∙ quiet.mode t ∙ bar2.mode) (λ t. sym bar.focus ∙ quiet.focus t ∙ bar2.focus)
-    c.join_unless-self-inside.ensures c.self.invariant.1 c.self.invariant.2 in
+    let kept = seen_input d.state d2.state c.args.device c.input-routed.result (sheets_of d.glasses)
+    (sheets_of d2.glasses) c.self.inside.changed c.join_unless-self-inside.result _ e.routed
+    c.clean_pixels_keep_their_source.ensures e.served.state same c.self.invariant.1 c.shows_the_same-is_same.result
+    c.bar_or_screen-before.result c.told-after.result e.delivered c.bar_or_screen-before.ensures c.told-after.ensures
+    quiet.told (λ t. sym bar.mode ∙ quiet.mode t ∙ bar2.mode) (λ t. sym bar.focus ∙ quiet.focus t ∙ bar2.focus)
+    c.join_unless-self-inside.ensures c.self.invariant.2 in
     ((done c).host, kept.0, kept.1)
 
 pub returns-clause-served : goal.returns-clause-served

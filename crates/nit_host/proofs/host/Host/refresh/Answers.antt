@@ -1,6 +1,6 @@
 use Rattle.std.proofs.Common.{Ok, ap, arith, length, set, subst, ◌<◌, ◌∙◌, ◌≡◌}
-use Rattle.nit_host.proofs.Lemmas.{Call, IsPlainOf, WasRefreshed, Words, after, after_handing}
-use Rattle.nit_host.proofs.Lemmas.{frame_at, handed_plain, hollow_glass, hollow_quiet, may_refresh}
+use Rattle.nit_host.proofs.Lemmas.{Call, IsPlainOf, WasRefreshed, after, after_handing, frame_at}
+use Rattle.nit_host.proofs.Lemmas.{handed_plain, hollow_glass, hollow_quiet, may_refresh}
 use Rattle.nit_host.proofs.Lemmas.{option_map, own_plain, own_room, plain_by_owner, plain_sight}
 use Rattle.nit_host.proofs.Lemmas.{quiet_sheets, quiet_with, refreshed, seen_called, serve, session}
 use Rattle.nit_host.proofs.Lemmas.{sheets_of, told_words, touch_of, unserved_refresh, was_refreshed}
@@ -59,7 +59,7 @@ pub serve-reply-requires-clause-quiet : goal.serve-reply-requires-clause-quiet
 serve-reply-requires-clause-quiet c =
     let d = c.self.inside.desktop in
     rw c.exchange.ensures.desktop
-    (quiet_with d.glasses c.args.seat c.index_mut-own.result.now
+    (quiet_with d.glasses c.args.seat c.exchange.new.glass c.index_mut-own.result.now c.exchange.ensures.out
     (quiet_sheets d.state.config d.glasses c.self.invariant.0.sheets)
     (hollow_quiet d.state.config c.self.inside.hollows.items c.args.seat c.index_mut-own.result.now
     c.self.invariant.0.hollow (client_then c) c.index_mut-own.ensures.value))
@@ -69,14 +69,11 @@ serve-reply-requires-clause-quiet c =
 abbrev known : (c : goal.After-self-3-1) → c.args.seat < length c.self.inside.desktop.state.sessions
 known c = (may_refresh _ c.args.self.now c.args.seat c.args.words.now c.self.view_is c.in_default.ensures).inside
 
--- what the refresh left, and which words are shown
+-- what the refresh left
 abbrev done : (c : goal.After-self-3-1) → WasRefreshed c.args.seat c.args.place.0 c.args.place.1 c.args.size.0
     c.args.size.1 c.args.words.now c.serve-reply.result c.args.self.now
-    (option_map (λ s. frame_at s.value) c.self.inside.seen) c.serve-reply.new.desktop
+    (option_map (λ s. frame_at s.value) c.self.inside.seen) c.self.inside.desktop c.serve-reply.new.desktop
     (set c.self.inside.hollows.items c.args.seat c.serve-reply.new.own)
-    × Words c.self.inside.desktop.state c.args.seat c.serve-reply.result (sheets_of c.self.inside.desktop.glasses)
-    (sheets_of c.serve-reply.new.desktop.glasses)
-    (call.Refresh c.args.place.0 c.args.place.1 c.args.size.0 c.args.size.1)
 done c =
     let d = c.self.inside.desktop in
     let s = c.serve-reply.ensures in
@@ -115,17 +112,17 @@ invariant_of-self c =
     (s.state ∙ (λ i. after (c.exchange.ensures.desktop i).state (entry.Call c.args.seat (call_is i)
     c.serve-reply.result)))
     (s.reply ∙ (λ i. (serve (session (c.exchange.ensures.desktop i).state c.args.seat) (call_is i)).reply))
-    (done c).1 (c.touch_of-touch.ensures ∙ ap (touch_of d.state c.args.seat) call_is)
+    (done c).shown (c.touch_of-touch.ensures ∙ ap (touch_of d.state c.args.seat) call_is)
     (c.touched-before.ensures.touched, c.touched-before.ensures.area)
     (c.touched-after.ensures.touched, c.touched-after.ensures.area) c.join.ensures c.join-self-inside.ensures
     c.self.invariant.1 c.self.invariant.2 in
-    ((done c).0.is_host, kept.0, kept.1)
+    ((done c).is_host, kept.0, kept.1)
 
 pub returns-clause-served : goal.returns-clause-served
-returns-clause-served c = λ _. rw c.refresh_of-call.ensures (ap Ok (done c).0.replied, (done c).0.now)
+returns-clause-served c = λ _. rw c.refresh_of-call.ensures (ap Ok (done c).replied, (done c).now)
 
 pub returns-clause-act : goal.returns-clause-act
 returns-clause-act c =
     when_served (unserved_refresh c.args.self.now c.args.seat c.args.words.now)
     (refreshed c.args.seat c.args.place.0 c.args.place.1 c.args.size.0 c.args.size.1 c.args.words.now c.args.self.now)
-    c.args.self.now _ c.in_default.ensures (rw c.refresh_of-call.ensures (done c).0.now)
+    c.args.self.now _ c.in_default.ensures (rw c.refresh_of-call.ensures (done c).now)

@@ -1,8 +1,7 @@
-use Rattle.std.proofs.Common.{ap, arith, refl, set, ℕ, ◌∙◌, ◌≡◌}
+use Rattle.std.proofs.Common.{ap, arith, refl, set, ◌∙◌}
 use Rattle.nit_host.proofs.Lemmas.{DesktopModel, SheetModel, WasSeated, blank_glass, frame_at}
 use Rattle.nit_host.proofs.Lemmas.{free_of, hollow_glass, may_sit, opened, option_map, seated}
-use Rattle.nit_host.proofs.Lemmas.{seen_seated, sheet_in, sheets_of, source_at, unseated}
-use Rattle.nit_host.proofs.Lemmas.{was_seated, when_served, word_from}
+use Rattle.nit_host.proofs.Lemmas.{seen_seated, sheets_of, unseated, was_seated, when_served}
 use Rattle.nit_host.proofs.host.Host.seat.Goals as goal
 
 pub exchange-requires-clause-glass : goal.exchange-requires-clause-glass
@@ -25,14 +24,10 @@ reopen-requires-clause-glass c =
     c.wipe.new.self c.self.invariant.0.sheets (omega (arith, may.inside, c.facts.ensures.sessions))
     c.exchange.ensures.out c.wipe.ensures.sight)
 
--- what is left, and which words are shown
+-- what is left
 abbrev done : (c : goal.After-self-3-1) → WasSeated c.args.seat c.args.label c.args.self.now
-    (option_map (λ s. frame_at s.value) c.self.inside.seen) c.reopen.new.self
+    (option_map (λ s. frame_at s.value) c.self.inside.seen) c.self.inside.desktop c.reopen.new.self
     (set c.self.inside.hollows.items c.args.seat c.hollow_out.new.self)
-    × ((k : ℕ) → word_from (sheet_in (sheets_of c.self.inside.desktop.glasses))
-    (source_at c.self.inside.desktop.state k)
-    ≡ word_from (sheet_in (sheets_of c.reopen.new.self.glasses))
-    (source_at (opened c.args.seat c.args.label c.self.inside.desktop.state) k))
 done c =
     let may = may_sit _ c.args.self.now c.args.seat c.args.label c.self.view_is c.in_default.ensures in
     let o = c.reopen.ensures in
@@ -53,13 +48,13 @@ invariant_of-self c =
     c.join-self-inside.result _
     (c.reopen.ensures.state ∙ ap (λ (x : DesktopModel SheetModel). opened c.args.seat c.args.label x.state)
     c.exchange.ensures.desktop)
-    (done c).1 c.bar_or_screen-part.ensures c.join-self-inside.ensures c.self.invariant.1 c.self.invariant.2 in
-    ((done c).0.host, kept.0, kept.1)
+    (done c).words c.bar_or_screen-part.ensures c.join-self-inside.ensures c.self.invariant.1 c.self.invariant.2 in
+    ((done c).host, kept.0, kept.1)
 
 pub returns-clause-seated : goal.returns-clause-seated
-returns-clause-seated c = λ _. (refl, (done c).0.now)
+returns-clause-seated c = λ _. (refl, (done c).now)
 
 pub returns-clause-act : goal.returns-clause-act
 returns-clause-act c =
     when_served (unseated c.args.self.now c.args.seat c.args.label)
-    (seated c.args.seat c.args.label c.args.self.now) c.args.self.now _ c.in_default.ensures (done c).0.now
+    (seated c.args.seat c.args.label c.args.self.now) c.args.self.now _ c.in_default.ensures (done c).now

@@ -1,7 +1,6 @@
-use Rattle.std.proofs.Common.{true, ℕ, ◌<◌, ◌∙◌, ◌≡◌, ap, arith, refl, subst, sym}
-use Rattle.nit_host.proofs.Lemmas.{Configuration, DesktopModel, IsAreaOf, SheetModel, begun}
-use Rattle.nit_host.proofs.Lemmas.{blank_glasses, first_now, first_state, has_place, nothing_seen}
-use Rattle.nit_host.proofs.Lemmas.{sheets_of}
+use Rattle.std.proofs.Common.{ap, arith, refl}
+use Rattle.nit_host.proofs.Lemmas.{DesktopModel, SheetModel, begun, blank_glasses, first_now}
+use Rattle.nit_host.proofs.Lemmas.{first_state, nothing_seen, sheets_of}
 use Rattle.nit_host.proofs.host.Host.seated.Goals as goal
 
 pub new-requires-clause-glasses : goal.new-requires-clause-glasses
@@ -19,10 +18,8 @@ invariant_of-result c =
       host,
       nothing_seen c.in_ok-new.field-0.state c.args.config.now (sheets_of c.in_ok-new.field-0.glasses)
           c.of_rows.result config
-          (subst (λ (k : Configuration). (x y : ℕ) → x < k.width → y < k.height → has_place c.of_rows.result x y ≡ true)
-          c.config.view_is c.of_rows.ensures.all),
-      subst (λ (k : Configuration). IsAreaOf k.width k.height c.of_rows.result) (c.config.view_is ∙ sym config)
-          (c.of_rows.ensures.area c.config.inside.height (omega arith)),
+          (rw (← c.config.view_is) c.of_rows.ensures.all),
+      rw (config, ← c.config.view_is) (c.of_rows.ensures.area c.config.inside.height (omega arith)),
     )
 
 pub returns : goal.returns

@@ -1,7 +1,6 @@
-use Rattle.std.proofs.Common.{true, ℕ, ◌<◌, ◌∙◌, ◌≡◌, List, ap, arith, refl, subst, sym}
-use Rattle.nit_host.proofs.Lemmas.{Configuration, IsAreaOf, Sight, State, begun, blank_glasses}
-use Rattle.nit_host.proofs.Lemmas.{first_now, glass_in, has_place, nothing_seen, same_sheets}
-use Rattle.nit_host.proofs.Lemmas.{sheets_of, vacant_state}
+use Rattle.std.proofs.Common.{List, ap, arith, refl}
+use Rattle.nit_host.proofs.Lemmas.{Sight, State, begun, blank_glasses, first_now, glass_in}
+use Rattle.nit_host.proofs.Lemmas.{nothing_seen, same_sheets, sheets_of, vacant_state}
 use Rattle.nit_host.proofs.host.Host.vacant.Goals as goal
 
 pub vacant-requires-clause-glasses : goal.vacant-requires-clause-glasses
@@ -21,10 +20,8 @@ invariant_of-result c =
       host,
       nothing_seen c.in_ok-vacant.field-0.state c.args.config.now (sheets_of c.in_ok-vacant.field-0.glasses)
           c.of_rows.result config
-          (subst (λ (k : Configuration). (x y : ℕ) → x < k.width → y < k.height → has_place c.of_rows.result x y ≡ true)
-          c.config.view_is c.of_rows.ensures.all),
-      subst (λ (k : Configuration). IsAreaOf k.width k.height c.of_rows.result) (c.config.view_is ∙ sym config)
-          (c.of_rows.ensures.area c.config.inside.height (omega arith)),
+          (rw (← c.config.view_is) c.of_rows.ensures.all),
+      rw (config, ← c.config.view_is) (c.of_rows.ensures.area c.config.inside.height (omega arith)),
     )
 
 pub returns : goal.returns

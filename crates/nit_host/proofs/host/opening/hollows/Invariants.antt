@@ -1,5 +1,5 @@
-use Rattle.nit_host.proofs.Lemmas.{AreHollowTo}
+use Rattle.nit_host.proofs.Lemmas.{AreTo, IsHollow}
 use Rattle.nit_host.proofs.host.opening.hollows.Given as goal
 
 abbrev pub invariant-seats : goal.invariant-seats
-invariant-seats l = AreHollowTo l.config l.seat l.hollows.items
+invariant-seats l = AreTo (IsHollow l.config) l.seat l.hollows.items

@@ -1,5 +1,5 @@
 use Rattle.std.proofs.Common.{arith, ◌&&◌}
-use Rattle.nit_host.proofs.Lemmas.{covers, first_test, ints, point, second_test, shown_there}
+use Rattle.nit_host.proofs.Lemmas.{and_parts, covers, ints, point, shown_there}
 use Rattle.nit_host.proofs.host.touch.part_shown.Goals as goal
 
 pub returns : goal.returns
@@ -11,36 +11,14 @@ returns c = record {
     high = c.clip-top.ensures.most;
   });
   there = λ x y wide high is.
-      let meant = first_test c.args.is_meant _ is in
-      let rest = second_test c.args.is_meant _ is in
-      let covered = first_test (covers c.args.view.now.rect (point x y)) _ rest in
-      let shows = second_test (covers c.args.view.now.rect (point x y)) _ rest in
-      c.meet.ensures.both x y (c.where_named.ensures.there x y wide high (λ i. meant i && covered i))
+      let x2 = c.x-2.ensures in
+      let y2 = c.y-2.ensures in
+      let meant = and_parts c.args.is_meant _ is in
+      let rest = and_parts (covers c.args.view.now.rect (point x y)) _ meant.1 in
+      c.meet.ensures.both x y (c.where_named.ensures.there x y wide high (λ i. meant.0 i && rest.0 i))
       (shown_there c.args.part.now c.args.view.now x y c.w.result c.h.result c.clip-left.result.0 c.clip-left.result.1
       c.clip-top.result.0 c.clip-top.result.1 _ _
-      (omega (
-        arith,
-        ints,
-        c.x.ensures.value,
-        c.x.ensures.range.0,
-        c.x.ensures.range.1,
-        c.x-2.ensures.value,
-        c.x-2.ensures.range.0,
-        c.x-2.ensures.range.1,
-        c.requires.0.0,
-        c.requires.0.1,
-      ))
-      (omega (
-        arith,
-        ints,
-        c.y.ensures.value,
-        c.y.ensures.range.0,
-        c.y.ensures.range.1,
-        c.y-2.ensures.value,
-        c.y-2.ensures.range.0,
-        c.y-2.ensures.range.1,
-        c.requires.1.0,
-        c.requires.1.1,
-      ))
-      c.w.ensures.value c.h.ensures.value (c.clip-left.ensures.same x wide) (c.clip-top.ensures.same y high) shows);
+      (omega (arith, ints, c.x.ensures.value, c.x.ensures.range, x2.value, x2.range, c.requires.0))
+      (omega (arith, ints, c.y.ensures.value, c.y.ensures.range, y2.value, y2.range, c.requires.1))
+      c.w.ensures.value c.h.ensures.value (c.clip-left.ensures.same x wide) (c.clip-top.ensures.same y high) rest.1);
 }

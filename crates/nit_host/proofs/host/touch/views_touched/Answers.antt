@@ -23,12 +23,6 @@ views-preserved c =
 
 pub returns-clause-views : goal.returns-clause-views
 returns-clause-views c = λ i x y v there wide high is.
+    let within = slice_get_within c.args.desktop.now.state.stack i v there in
     c.views.invariant.views i x y v
-    (omega (
-      arith,
-      slice_get_within c.args.desktop.now.state.stack i v there,
-      c.views-test.false,
-      c.views.auto.i-end,
-      c.views-i-end.ensures,
-    ))
-    there wide high is
+    (omega (arith, within, c.views-test.false, c.views.auto.i-end, c.views-i-end.ensures)) there wide high is

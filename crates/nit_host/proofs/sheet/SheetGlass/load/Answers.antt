@@ -1,7 +1,7 @@
 use Rattle.nit_host.proofs.Lemmas.{SheetModel, ap, arith, get_or-eq_default, get_or_default, sym}
 use Rattle.nit_host.proofs.Lemmas.{word_loaded, ◌∙◌}
 use Rattle.nit_host.proofs.sheet.SheetGlass.load.Goals as goal
-use Rattle.nit_host.proofs.sheet.SheetGlass.load.Goals.{then-i-len, else-i-len}
+use Rattle.nit_host.proofs.sheet.SheetGlass.load.Goals.{else-i-len, then-i-len}
 
 pub returns-clause-loaded : goal.returns-clause-loaded
 returns-clause-loaded c =
