@@ -1,14 +1,13 @@
 -- A room, and the ends of a client's words that agree.
-use Rattle.nit_hall.proofs.Basics.{Belongs, BufferName, Call, CanAgree, Configuration, End, Entry}
-use Rattle.nit_hall.proofs.Basics.{HasMet, IsGlass, IsPass, IsRoom, KnowsStretch, Line, List}
-use Rattle.nit_hall.proofs.Basics.{OpeningParts, Option, PassModel, RoomModel, SceneModel}
-use Rattle.nit_hall.proofs.Basics.{ShareModel, Sight, Some, [], ap, arith, buffers_of, calls_in}
-use Rattle.nit_hall.proofs.Basics.{calls_of, cases_eq, donation_of, get_or_from_slice_get, glass_in}
-use Rattle.nit_hall.proofs.Basics.{inl, inr, knowing, length, map, no_sight, none-some, option_map}
-use Rattle.nit_hall.proofs.Basics.{phases_before, refl, same_Some, script_in, served, slice_get}
-use Rattle.nit_hall.proofs.Basics.{slice_get-map, slice_get_within, slice_index, stretch, subst}
-use Rattle.nit_hall.proofs.Basics.{sym, table_size, take, with_end_stages, with_room_stages}
-use Rattle.nit_hall.proofs.Basics.{without_final, ℕ, ◌∙◌}
+use Rattle.nit_hall.proofs.Basics.{AreWatching, Belongs, BufferName, CanAgree, Configuration, End}
+use Rattle.nit_hall.proofs.Basics.{HasMet, HaveInks, IsGlass, IsPass, IsRoom, Line, List, Option}
+use Rattle.nit_hall.proofs.Basics.{PassModel, RoomModel, SceneModel, ShareModel, Sight, Some, []}
+use Rattle.nit_hall.proofs.Basics.{ap, arith, buffers_of, cases_eq, donation_of}
+use Rattle.nit_hall.proofs.Basics.{get_or_from_slice_get, glass_in, inl, inr, knowing, length, map}
+use Rattle.nit_hall.proofs.Basics.{no_sight, none-some, option_map, phases_before, refl, same_Some}
+use Rattle.nit_hall.proofs.Basics.{script_in, served, slice_get, slice_get-map, slice_get_within}
+use Rattle.nit_hall.proofs.Basics.{slice_index, stretch, subst, sym, table_size, take}
+use Rattle.nit_hall.proofs.Basics.{with_end_stages, with_room_stages, without_final, ℕ, ◌∙◌}
 use Rattle.std.proofs.Common.{IsSome, suc, zero, ◌<◌, ◌∷◌, ◌≡◌}
 use Rattle.nit_hall.proofs.EndStages.{other_end, own_end, same_buffers, same_ink, same_stands}
 use Rattle.nit_hall.proofs.EndStages.{sights_of}
@@ -92,53 +91,22 @@ room_admitted {r = r} {sid = sid} {script = script} next room at counted ready m
     let stages = stretch script (donation_of r.parts.config sid) next in
     let there : script_in r.parts.scripts sid ≡ script = get_or_from_slice_get r.parts.scripts sid script [] at in
     let made = calls_made r sid next script room at counted in
-    record {
-      config = room.config;
-      legal = room.legal;
-      sessions = room.sessions;
-      clients = room.clients;
-      follows = room.follows;
-      phases = room.phases;
-      inks = λ t. same_ink sid stages r.scene.glasses t ∙ room.inks t;
-      watching = λ t inside. elim (cases_eq t sid) [
-        | inl e ↦ subst (λ (x : ℕ). KnowsStretch (script_in r.parts.scripts x) (donation_of r.parts.config x)
-            (length (calls_of x (without_final r.scene.entries))) r.phase
-            (glass_in (sights_of (with_room_stages r sid stages).scene.glasses) x)) (sym e) (record {
-              since = next;
-              stages_are = ap (λ (g : Sight). g.stages) (own_end sid stages r.scene.glasses many)
-                  ∙ ap (λ (ls : List Line). Some (stretch ls (donation_of r.parts.config sid) next)) (sym there);
-              behind = ap (λ (ls : List Line). length (calls_in (take next ls))) there
-                  ∙ ap (λ (cs : List Call). length cs) (sym made);
-              begun = let same = ap (λ (ls : List Line). phases_before ls next) there in omega (arith, same, ready);
-            })
-        | inr ne ↦
-            let w = room.watching t inside in
-            record {
-              since = w.since;
-              stages_are = ap (λ (g : Sight). g.stages) (other_end sid stages r.scene.glasses t ne) ∙ w.stages_are;
-              behind = w.behind;
-              begun = w.begun;
-            }
-      ];
-      near = room.near;
-      room = room.room;
-      ended = room.ended;
-      clips_follow = room.clips_follow;
-      history = room.history;
-      history_ends = room.history_ends;
-    }
+    let ends = with_end_stages sid stages r.scene.glasses in
+    let inks : HaveInks r.parts.config r.parts.scripts ends =
+    λ t. same_ink sid stages r.scene.glasses t ∙ room.inks t in
+    let watching : AreWatching r.parts.scripts r.parts.config (without_final r.scene.entries) r.phase ends =
+    λ t inside. elim (cases_eq t sid) [
+      | inl e ↦ rw e (record {
+        since = next;
+        stages_are = rw there (ap (λ (g : Sight). g.stages) (own_end sid stages r.scene.glasses many));
+        behind = rw (there, made) refl;
+        begun = rw there (omega (arith, ready));
+      })
+      | inr ne ↦ rw (other_end sid stages r.scene.glasses t ne) (room.watching t inside)
+    ] in
+    assumption
 
 -- ---- a pass that has met the room
-
-belongs_knowing : {parts : OpeningParts} {p : PassModel} (known : List Entry) → Belongs parts p
-    → Belongs parts (knowing known p)
-belongs_knowing known of = record {
-  name = of.name;
-  script = of.script;
-  plan = of.plan;
-  donation = of.donation;
-  buffer = of.buffer;
-}
 
 -- the room and the pass when they have met: the pass belongs to the room, its lines are counted, and it is in the phase
 -- that is served
@@ -150,11 +118,8 @@ pub record IsMet (r : RoomModel) (p : PassModel) : Type 0 where
 pub room_and_pass_met : {r₀ r r' : RoomModel} {p₀ p p' : PassModel} → r ≡ r' → p ≡ p' → HasMet r₀ p₀ r' p'
     → Belongs r₀.parts p₀ → p₀.phase ≡ r₀.phase → IsMet r p
 room_and_pass_met {r₀ = r₀} {p₀ = p₀} er ep met of ready =
-    rw (er ∙ met.room, ep ∙ met.pass) (record {
-      belongs = belongs_knowing (without_final r₀.scene.entries) of;
-      counted = met.counted;
-      phase = ready;
-    })
+    let belongs : Belongs r₀.parts (knowing (without_final r₀.scene.entries) p₀) = assumption in
+    rw (er ∙ met.room, ep ∙ met.pass) (record { belongs = belongs; counted = met.counted; phase = ready })
 
 -- ---- the room and its scene
 

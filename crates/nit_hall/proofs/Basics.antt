@@ -7,12 +7,12 @@ pub use Rattle.nit_hall.specs.Terms.{CanAgree, ClipBelongs, ClipCall, ClipEntry,
 pub use Rattle.nit_hall.specs.Terms.{ClipLine, ClipModel, ClipPassModel, ClipReply, Colours}
 pub use Rattle.nit_hall.specs.Terms.{Configuration, Device, Does, End, Entry, EntryLaws, FitsDevice}
 pub use Rattle.nit_hall.specs.Terms.{Follows, FollowsClips, HasActed, HasLoaded, HasMet, HasStage}
-pub use Rattle.nit_hall.specs.Terms.{HasStages, HasStretch, HaveInks, Ink, InputLine, IsAdded}
-pub use Rattle.nit_hall.specs.Terms.{IsAmong, IsAtCall, IsAtClip, IsAtClipPhase, IsAtPhaseEnd}
-pub use Rattle.nit_hall.specs.Terms.{IsClipPass, IsDevice, IsDonation, IsDoneClip, IsDonePass}
-pub use Rattle.nit_hall.specs.Terms.{IsDoneUser, IsFirst, IsGlass, IsHistory, IsInPhase, IsInked}
-pub use Rattle.nit_hall.specs.Terms.{IsKnownPass, IsLastDirtied, IsLegal, IsLegalClips, IsLoaded}
-pub use Rattle.nit_hall.specs.Terms.{IsNear, IsNearBy, IsNonDecreasing, IsOpen, IsPaintedTo, IsPass}
+pub use Rattle.nit_hall.specs.Terms.{HasStages, HasStretch, HaveInks, InputLine, IsAdded, IsAmong}
+pub use Rattle.nit_hall.specs.Terms.{IsAtCall, IsAtClip, IsAtClipPhase, IsAtPhaseEnd, IsClipPass}
+pub use Rattle.nit_hall.specs.Terms.{IsDevice, IsDonation, IsDoneClip, IsDonePass, IsDoneUser}
+pub use Rattle.nit_hall.specs.Terms.{IsFirst, IsGlass, IsHistory, IsInPhase, IsKnownPass}
+pub use Rattle.nit_hall.specs.Terms.{IsLastDirtied, IsLegal, IsLegalClips, IsLoaded, IsNear}
+pub use Rattle.nit_hall.specs.Terms.{IsNearBy, IsNonDecreasing, IsOpen, IsPaintedTo, IsPass}
 pub use Rattle.nit_hall.specs.Terms.{IsPlanOf, IsRoom, IsServedPhase, IsThere, IsUserPass, IsWhole}
 pub use Rattle.nit_hall.specs.Terms.{IsWholeClips, IsWordOfScripts, IsWordOfSource, JournalModel}
 pub use Rattle.nit_hall.specs.Terms.{KnowsStretch, LegalFrom, Line, List, MayHaveDone, Member}
@@ -69,6 +69,7 @@ pub use Rattle.std.proofs.lemmas.List.{replicate_more, set-get_or, take-append-d
 pub use Rattle.std.proofs.lemmas.List.{take_all, take_at, take_more}
 pub use Rattle.std.proofs.lemmas.List.Edits.{map_over_more}
 pub use Rattle.std.proofs.lemmas.List.Elements.{filter-append}
+pub use Rattle.std.proofs.lemmas.List.Folds.{sum_by-replicate}
 pub use Rattle.std.proofs.lemmas.List.FromFn.{get_or-map-range_with_len}
 pub use Rattle.std.proofs.lemmas.List.Sorted.{IsNonDecreasingBy-push, IsNonDecreasingBy-short}
 pub use Rattle.std.proofs.lemmas.List.Sorted.{IsNonDecreasingBy-take}

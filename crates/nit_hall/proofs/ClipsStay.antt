@@ -26,15 +26,10 @@ ClipsStay = (parts : OpeningParts) (counts : List ℕ) (entries : List Entry) (e
     → FollowsClips parts counts entries clips → FollowsClips parts counts (entries ++ e ∷ []) clips
 
 pub follow_on : ListLaws → ClipsStay
-follow_on laws parts counts entries e clips f = record {
-  legal = laws.legal parts.config entries e clips.entries f.legal;
-  each = f.each;
-  calls = f.calls;
-  few = f.few;
-  in_phases = laws.placed _ _ entries e _ clips.entries (all_within parts.config entries clips.entries f.legal.there)
-      f.in_phases;
-  room = f.room;
-}
+follow_on laws parts counts entries e clips f = assumption (
+  laws.legal parts.config entries e clips.entries f.legal,
+  laws.placed _ _ entries e _ clips.entries (all_within parts.config entries clips.entries f.legal.there) f.in_phases,
+)
 
 -- the parts of a room with the configuration and the buffers of this scene
 abbrev pub parts_with : RoomModel → SceneModel End → OpeningParts
@@ -44,14 +39,7 @@ parts_with r scene = record r.parts { config = scene.config; buffers = buffers_o
 other_buffers : (parts : OpeningParts) (buffers : List BufferName) (counts : List ℕ) (entries : List Entry)
     (clips : ClipModel) → FollowsClips parts counts entries clips
     → FollowsClips (record parts { buffers = buffers }) counts entries clips
-other_buffers parts buffers counts entries clips f = record {
-  legal = f.legal;
-  each = f.each;
-  calls = f.calls;
-  few = f.few;
-  in_phases = f.in_phases;
-  room = f.room;
-}
+other_buffers parts buffers counts entries clips f = assumption
 
 pub clips_same : {r : RoomModel} (scene : SceneModel End) → scene.config ≡ r.scene.config → IsRoom r
     → FollowsClips (parts_with r scene) r.clip_counts r.scene.entries r.clips

@@ -52,12 +52,6 @@ same_buffers ends ends' same = sym (by_stands ends)
     by_stands [] = refl
     by_stands (e ∷ rest) = ap (λ bs. e.stand.buffer ∷ bs) (by_stands rest)
 
-pub as_long : (sid : ℕ) (stages : List (List ℕ)) (ends : List End)
-    → length (with_end_stages sid stages ends) ≡ length ends
-as_long sid stages [] = refl
-as_long zero stages (e ∷ rest) = refl
-as_long (suc n) stages (e ∷ rest) = omega (arith, as_long n stages rest)
-
 -- the stages that are known last are known
 pub stages_again : (sid : ℕ) (stages before : List (List ℕ)) (ends : List End)
     → with_end_stages sid stages (with_end_stages sid before ends) ≡ with_end_stages sid stages ends

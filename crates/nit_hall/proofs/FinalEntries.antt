@@ -11,6 +11,14 @@ open_whole (entry.Input dev routed ∷ es) o = ap (λ fs. entry.Input dev routed
 open_whole (entry.Shot number ∷ es) o = ap (λ fs. entry.Shot number ∷ fs) (open_whole es o)
 open_whole (entry.Final ∷ es) o = absurd o
 
+-- a journal with the last picture is not open
+pub not_open : (es : List Entry) → IsOpen (es ++ entry.Final ∷ []) → ⊥
+not_open [] o = o
+not_open (entry.Call sid c r ∷ es) o = not_open es o
+not_open (entry.Input dev routed ∷ es) o = not_open es o
+not_open (entry.Shot number ∷ es) o = not_open es o
+not_open (entry.Final ∷ es) o = o
+
 pub without-append : (es fs : List Entry) → without_final (es ++ fs) ≡ without_final es ++ without_final fs
 without-append [] fs = refl
 without-append (entry.Call sid c r ∷ es) fs = ap (λ gs. entry.Call sid c r ∷ gs) (without-append es fs)

@@ -7,7 +7,7 @@ use Rattle.nit_hall.proofs.Basics.{length, length-append, map, map-append, raw_b
 use Rattle.nit_hall.proofs.Basics.{refl, replay, replicate, slice_index_or, state_now, subst, suc}
 use Rattle.nit_hall.proofs.Basics.{sym, without_final, ℕ, ◌∙◌}
 use Rattle.std.proofs.Common.{false, zero, ◌*◌, ◌++◌, ◌∷◌, ◌≡◌, ◌≤◌}
-use Rattle.nit_hall.proofs.FinalEntries.{open_whole}
+use Rattle.nit_hall.proofs.FinalEntries.{not_open, open_whole}
 use Rattle.nit_hall.proofs.LastDirty.{split_more}
 use mathlib.Core.List.{IsPrefix}
 use Rattle.nit_events.specs.declared.entry.Entry.TheVariants as entry
@@ -62,11 +62,8 @@ module _ (config : Configuration) (entries : List Entry) (e : Entry) (raws : Lis
           clean = λ front f rest k parts inside clean. elim (split_more entries e front f rest parts) [
             | inl (here, same) ↦
                 let n : length front ≡ length raws = ap length here ∙ sym each in
-                ap (λ (m : ℕ). raw_behind all (suc m) k) n ∙ behind_new raws raw' k
-                ∙ others k (subst (λ (js : List Entry). is_dirtied config js e k ≡ false) here
-                (subst (λ (x : Entry). is_dirtied config front x k ≡ false) same clean))
-                ∙ last k inside ∙ sym (behind_front raws (raw' ∷ []) (length raws) k (omega arith))
-                ∙ ap (λ (m : ℕ). raw_behind all m k) (sym n)
+                rw n (behind_new raws raw' k ∙ others k (rw (here, same) at clean) ∙ last k inside
+                ∙ sym (behind_front raws (raw' ∷ []) (length raws) k (omega arith)))
             | inr (less, before) ↦
                 let many = ap length before in
                 behind_front raws (raw' ∷ []) (suc (length front)) k
@@ -99,8 +96,7 @@ goes_on {r = r} {new = new} {e = e} room was is added others =
     room.history in
     let last : AreLast config r.raws r.scene.raw = rw room.config (room.history_ends was) in
     record {
-      history = subst (λ (js : List Entry). IsHistory config js (r.raws ++ new.raw ∷ []))
-          (sym added.recorded ∙ sym (open_whole new.entries is))
+      history = rw (open_whole new.entries is, added.recorded)
           (history_more config r.scene.entries e r.raws r.scene.raw new.raw history last others);
       ends = λ o. last_more config r.scene.entries e r.raws r.scene.raw new.raw history last others;
     }
@@ -120,16 +116,9 @@ pub goes_no_further : {r : RoomModel} {new : SceneModel End} → IsRoom r
     → new.entries ≡ r.scene.entries ++ entry.Final ∷ [] → without_final r.scene.entries ≡ without_final new.entries
     → GoesOn r.scene.config new r.raws
 goes_no_further {r = r} {new = new} room recorded same = record {
-  history = subst (λ (js : List Entry). IsHistory r.scene.config js r.raws) same (rw room.config room.history);
+  history = rw (← same, room.config) room.history;
   ends = λ o. absurd (not_open r.scene.entries (subst IsOpen recorded o));
 }
-  where
-    not_open : (es : List Entry) → IsOpen (es ++ entry.Final ∷ []) → ⊥
-    not_open [] o = o
-    not_open (entry.Call sid c r ∷ es) o = not_open es o
-    not_open (entry.Input dev routed ∷ es) o = not_open es o
-    not_open (entry.Shot number ∷ es) o = not_open es o
-    not_open (entry.Final ∷ es) o = o
 
 -- ---- what shares know
 
@@ -144,6 +133,12 @@ pub entries_more : (recorded : List Recorded) (e : Entry) (raw : List ℕ)
 entries_more recorded e raw =
     map-append (λ (r : Recorded). r.entry) recorded (record { entry = e; raw = raw } ∷ [])
 
+-- so the book, or a share, has one more entry than were known
+pub seen_more : (recorded : List Recorded) {now : List Recorded} {known : List Entry} (e : Entry) (raw : List ℕ)
+    → now ≡ recorded ++ record { entry = e; raw = raw } ∷ [] → entries_in recorded ≡ known
+    → entries_in now ≡ known ++ e ∷ []
+seen_more recorded e raw is all = rw (is, ← all) (entries_more recorded e raw)
+
 pub raws_more : (recorded : List Recorded) (e : Entry) (raw : List ℕ)
     → raws_in (recorded ++ record { entry = e; raw = raw } ∷ []) ≡ raws_in recorded ++ raw ∷ []
 raws_more recorded e raw = map-append (λ (r : Recorded). r.raw) recorded (record { entry = e; raw = raw } ∷ [])
@@ -151,8 +146,7 @@ raws_more recorded e raw = map-append (λ (r : Recorded). r.raw) recorded (recor
 -- an open room's history is one of its whole journal
 pub whole_history : {r : RoomModel} → IsRoom r → IsOpen r.scene.entries
     → IsHistory r.parts.config r.scene.entries r.raws
-whole_history {r = r} room o =
-    subst (λ (js : List Entry). IsHistory r.parts.config js r.raws) (open_whole r.scene.entries o) room.history
+whole_history {r = r} room o = rw (open_whole r.scene.entries o) at room.history
 
 -- so it is by the scene and the book behind an entry, and the room in front of it
 pub history_then : {r r₀ : RoomModel} {new : SceneModel End} {e : Entry} (recorded : List Recorded) → IsRoom r → r ≡ r₀
@@ -161,9 +155,4 @@ pub history_then : {r r₀ : RoomModel} {new : SceneModel End} {e : Entry} (reco
     → IsHistory r₀.parts.config new.entries (raws_in recorded)
 history_then {r = r} {r₀ = r₀} {new = new} recorded room er of was is added others grown =
     let went = goes_on room was is added others in
-    let here : IsHistory r.scene.config new.entries (r.raws ++ new.raw ∷ []) =
-    subst (λ (js : List Entry). IsHistory r.scene.config js (r.raws ++ new.raw ∷ [])) (open_whole new.entries is)
-    went.history in
-    subst (λ (raws : List (List ℕ)). IsHistory r₀.parts.config new.entries raws) (sym grown)
-    (subst (λ (config : Configuration). IsHistory config new.entries (r.raws ++ new.raw ∷ []))
-    (of ∙ ap (λ (x : RoomModel). x.parts.config) er) here)
+    rw (grown, ← er, ← of) (rw (open_whole new.entries is) at went.history)

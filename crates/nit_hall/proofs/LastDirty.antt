@@ -1,16 +1,10 @@
 -- The last entry of a journal that makes a pixel dirty.
 use Rattle.nit_hall.proofs.Basics.{Bool, Configuration, Entry, IsLastDirtied, List, [], ap}
-use Rattle.nit_hall.proofs.Basics.{append-nil, append_assoc, ap₂, cases_Bool, drop, false, get_or}
-use Rattle.nit_hall.proofs.Basics.{inl, inr, is_dirtied, refl}
+use Rattle.nit_hall.proofs.Basics.{append-nil, append_assoc, ap₂, cases_Bool, false, inl, inr}
+use Rattle.nit_hall.proofs.Basics.{is_dirtied, refl}
 use Rattle.std.proofs.Common.{subst, sym, true, ℕ, ⊎_elim, ◌++◌, ◌∙◌, ◌∷◌, ◌≡◌, ◌⊎◌}
 
 -- ---- entries of a list
-
-head_same : (x y : Entry) (xs ys : List Entry) → x ∷ xs ≡ y ∷ ys → x ≡ y
-head_same x y xs ys h = ap (λ (zs : List Entry). get_or zs 0 x) h
-
-tail_same : (x y : Entry) (xs ys : List Entry) → x ∷ xs ≡ y ∷ ys → xs ≡ ys
-tail_same x y xs ys h = ap (λ (zs : List Entry). drop 1 zs) h
 
 -- how two entries of one list stand to each other: they are one, or the other one is behind it, or before it
 data Places (front : List Entry) (e : Entry) (rest other_front : List Entry) (other : Entry) (other_rest : List Entry)
@@ -23,15 +17,12 @@ data Places (front : List Entry) (e : Entry) (rest other_front : List Entry) (ot
 
 places : (front : List Entry) (e : Entry) (rest other_front : List Entry) (other : Entry) (other_rest : List Entry)
     → front ++ e ∷ rest ≡ other_front ++ other ∷ other_rest → Places front e rest other_front other other_rest
-places [] e rest [] other other_rest h =
-    same refl (head_same e other rest other_rest h) (tail_same e other rest other_rest h)
-places [] e rest (y ∷ ys) other other_rest h = behind ys (tail_same e y rest (ys ++ other ∷ other_rest) h)
-    (ap (λ (x : Entry). x ∷ ys) (sym (head_same e y rest (ys ++ other ∷ other_rest) h)))
-places (x ∷ xs) e rest [] other other_rest h = before xs (sym (tail_same x other (xs ++ e ∷ rest) other_rest h))
-    (ap (λ (z : Entry). z ∷ xs) (head_same x other (xs ++ e ∷ rest) other_rest h))
+places [] e rest [] other other_rest h = same refl (cc) (cc)
+places [] e rest (y ∷ ys) other other_rest h = behind ys (cc) (cc)
+places (x ∷ xs) e rest [] other other_rest h = before xs (cc) (cc)
 places (x ∷ xs) e rest (y ∷ ys) other other_rest h =
-    let first : x ≡ y = head_same x y (xs ++ e ∷ rest) (ys ++ other ∷ other_rest) h in
-    elim (places xs e rest ys other other_rest (tail_same x y (xs ++ e ∷ rest) (ys ++ other ∷ other_rest) h)) [
+    let first : x ≡ y = cc in
+    elim (places xs e rest ys other other_rest (cc)) [
       | same a b c ↦ same (λ i. first i ∷ a i) b c
       | behind m a b ↦ behind m a (λ i. sym first i ∷ b i)
       | before m a b ↦ before m a (λ i. first i ∷ b i)

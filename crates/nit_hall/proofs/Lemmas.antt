@@ -5,35 +5,34 @@ pub use Rattle.nit_hall.proofs.Basics.{AllServed, AreDone, AreGlasses, AreSplitO
 pub use Rattle.nit_hall.proofs.Basics.{BufferName, CanAdd, CanAgree, ClipPassModel, Configuration}
 pub use Rattle.nit_hall.proofs.Basics.{Device, End, Entry, HasStage, InputLine, IsAdded, IsDoneUser}
 pub use Rattle.nit_hall.proofs.Basics.{IsFirst, IsGlass, IsHistory, IsKnownPass, IsLegal}
-pub use Rattle.nit_hall.proofs.Basics.{IsLegalClips, IsOpen, IsPaintedTo, IsRoom, IsWhole}
-pub use Rattle.nit_hall.proofs.Basics.{JournalModel, Line, List, OpeningParts, PassModel, RoomModel}
-pub use Rattle.nit_hall.proofs.Basics.{SceneModel, ShareModel, Sight, Some, Standing, UserHasMet}
-pub use Rattle.nit_hall.proofs.Basics.{UserPassModel, [], ap, ap₂, arith, buffers_of, call_entry}
-pub use Rattle.nit_hall.proofs.Basics.{calls_of, calls_to_make, clip_answer, clip_script_in}
-pub use Rattle.nit_hall.proofs.Basics.{clipboard_of, common_steps, device_entry, donation_of, drop}
-pub use Rattle.nit_hall.proofs.Basics.{drop_all, entries_in, first_user, frame, get_or, get_or-take}
-pub use Rattle.nit_hall.proofs.Basics.{get_or_default, glass_in, in_line, input_phases_before}
-pub use Rattle.nit_hall.proofs.Basics.{into_iter_items, is_input_phase, is_phase, knowing}
-pub use Rattle.nit_hall.proofs.Basics.{knowing_clip, length, length-append, length-map}
-pub use Rattle.nit_hall.proofs.Basics.{length-replicate, line_stages, map, new_sight, next_call}
-pub use Rattle.nit_hall.proofs.Basics.{next_clip, next_device, option_map, parts_of, raised}
-pub use Rattle.nit_hall.proofs.Basics.{raws_in, refl, replay, rest_of, rules, same_Some, scenery_of}
-pub use Rattle.nit_hall.proofs.Basics.{script_in, script_ink, seen, set, sight_after_line}
-pub use Rattle.nit_hall.proofs.Basics.{slice_get, slice_get-get_or, slice_get_within, slice_index}
-pub use Rattle.nit_hall.proofs.Basics.{slice_index_or, source_at, stage_within, state_now, stretch}
-pub use Rattle.nit_hall.proofs.Basics.{stretch_from, subst, sum, sym, take, take-set-le, take_all}
-pub use Rattle.nit_hall.proofs.Basics.{user_actions_of, user_actions_to_do, watching_sight}
-pub use Rattle.nit_hall.proofs.Basics.{with_entry, with_final, with_room_stages, with_stages}
-pub use Rattle.nit_hall.proofs.Basics.{with_words, without_final, words_after, words_left_in, ℕ}
-pub use Rattle.nit_hall.proofs.Basics.{◌∙◌}
+pub use Rattle.nit_hall.proofs.Basics.{IsLegalClips, IsOpen, IsPaintedTo, IsRoom, JournalModel}
+pub use Rattle.nit_hall.proofs.Basics.{Line, List, OpeningParts, PassModel, RoomModel, SceneModel}
+pub use Rattle.nit_hall.proofs.Basics.{ShareModel, Sight, Some, Standing, UserHasMet, UserPassModel}
+pub use Rattle.nit_hall.proofs.Basics.{[], ap, ap₂, arith, buffers_of, call_entry, calls_of}
+pub use Rattle.nit_hall.proofs.Basics.{clip_answer, clip_script_in, clipboard_of, common_steps}
+pub use Rattle.nit_hall.proofs.Basics.{device_entry, donation_of, drop, drop_all, entries_in}
+pub use Rattle.nit_hall.proofs.Basics.{first_user, frame, get_or, get_or-take, get_or_default}
+pub use Rattle.nit_hall.proofs.Basics.{glass_in, in_line, input_phases_before, into_iter_items}
+pub use Rattle.nit_hall.proofs.Basics.{is_input_phase, is_phase, knowing, knowing_clip, length}
+pub use Rattle.nit_hall.proofs.Basics.{length-append, length-map, length-replicate, line_stages}
+pub use Rattle.nit_hall.proofs.Basics.{map, new_sight, next_call, next_clip, next_device}
+pub use Rattle.nit_hall.proofs.Basics.{option_map, parts_of, raised, raws_in, refl, replay, rest_of}
+pub use Rattle.nit_hall.proofs.Basics.{rules, same_Some, scenery_of, script_in, script_ink, seen}
+pub use Rattle.nit_hall.proofs.Basics.{set, sight_after_line, slice_get, slice_get-get_or}
+pub use Rattle.nit_hall.proofs.Basics.{slice_get_within, slice_index, slice_index_or, source_at}
+pub use Rattle.nit_hall.proofs.Basics.{stage_within, state_now, stretch, stretch_from, subst, sum}
+pub use Rattle.nit_hall.proofs.Basics.{sym, take, take-set-le, take_all, user_actions_of}
+pub use Rattle.nit_hall.proofs.Basics.{watching_sight, with_entry, with_final, with_room_stages}
+pub use Rattle.nit_hall.proofs.Basics.{with_stages, with_words, without_final, words_after}
+pub use Rattle.nit_hall.proofs.Basics.{words_left_in, ℕ, ◌∙◌}
 pub use Rattle.nit_hall.proofs.ClipAlong.{IsKnownClip, clip_counted, clip_met, clip_pass_call}
 pub use Rattle.nit_hall.proofs.ClipAlong.{clip_pass_phase, clips_whole, number_is, served_clip}
 pub use Rattle.nit_hall.proofs.ClipsStay.{follow_on}
 pub use Rattle.nit_hall.proofs.CountParts.{back_raised, parts_long}
 pub use Rattle.nit_hall.proofs.EndStages.{end_with, put_back, same_buffers, set_there}
 pub use Rattle.nit_hall.proofs.FinalEntries.{open_whole}
-pub use Rattle.nit_hall.proofs.HistoryLemmas.{clean_painted, entries_more, front_of_each}
-pub use Rattle.nit_hall.proofs.HistoryLemmas.{history_then, raws_more, whole_history}
+pub use Rattle.nit_hall.proofs.HistoryLemmas.{clean_painted, front_of_each, history_then, raws_more}
+pub use Rattle.nit_hall.proofs.HistoryLemmas.{seen_more, whole_history}
 pub use Rattle.nit_hall.proofs.LastDirty.{last_found, one_last}
 pub use Rattle.nit_hall.proofs.LineLemmas.{line_counted}
 pub use Rattle.nit_hall.proofs.LineServed.{CallDid, ServedClauses, before_it_knew, served_clauses}

@@ -90,24 +90,17 @@ no_more_calls script k l at none = calls_line script k l at
 -- the line behind so many calls is the one that was counted
 pub line_counted : (script : List Line) (k : ℕ) (c : Call) → slice_get script k ≡ Some (line.Call c)
     → lines_to_call (length (calls_in (take k script)) + 1) script ≡ k + 1
-line_counted script k c at = ap (λ n. lines_to_call n script) (plus_one (length (calls_in (take k script))))
-    ∙ go script k at
+line_counted script k c at =
+    let e : length (calls_in (take k script)) + 1 ≡ suc (length (calls_in (take k script))) = omega arith in
+    rw e (go script k at)
   where
-    plus_one : (n : ℕ) → n + 1 ≡ suc n
-    plus_one n = omega arith
-
-    one_plus : (n : ℕ) → suc (n + 1) ≡ suc n + 1
-    one_plus n = omega arith
-
     go : (ls : List Line) (k : ℕ) → slice_get ls k ≡ Some (line.Call c)
         → lines_to_call (suc (length (calls_in (take k ls)))) ls ≡ k + 1
     go [] k at = absurd cc
-    go (line.Call d ∷ ls) zero at = refl
-    go (line.Stroke s ∷ ls) zero at = absurd cc
-    go (line.Phase ∷ ls) zero at = absurd cc
-    go (line.Call d ∷ ls) (suc k) at = ap suc (go ls k at) ∙ one_plus k
-    go (line.Stroke s ∷ ls) (suc k) at = ap suc (go ls k at) ∙ one_plus k
-    go (line.Phase ∷ ls) (suc k) at = ap suc (go ls k at) ∙ one_plus k
+    go (x ∷ ls) zero at = let e : x ≡ line.Call c = cc in rw e refl
+    go (line.Call d ∷ ls) (suc k) at = omega (arith, go ls k at)
+    go (line.Stroke s ∷ ls) (suc k) at = omega (arith, go ls k at)
+    go (line.Phase ∷ ls) (suc k) at = omega (arith, go ls k at)
 
 -- ---- phases
 
@@ -119,9 +112,7 @@ count_cons p x xs = sum_by-cons (λ y. cond {A = ℕ} (p y) 1 0) x xs
 pub phase_of_call : (script : List Line) (p k : ℕ) (c : Call) → slice_get script k ≡ Some (line.Call c)
     → next_phase (drop (length (calls_in (take k script))) (calls_from p script)) ≡ p + phases_before script k
 phase_of_call [] p k c at = absurd cc
-phase_of_call (line.Call d ∷ ls) p zero c at = omega arith
-phase_of_call (line.Stroke s ∷ ls) p zero c at = absurd cc
-phase_of_call (line.Phase ∷ ls) p zero c at = absurd cc
+phase_of_call (x ∷ ls) p zero c at = let e : x ≡ line.Call c = cc in rw e (omega arith)
 phase_of_call (line.Call d ∷ ls) p (suc k) c at =
     omega (arith, phase_of_call ls p k c at, count_cons is_phase (line.Call d) (take k ls))
 phase_of_call (line.Stroke s ∷ ls) p (suc k) c at =

@@ -7,7 +7,7 @@ use Rattle.nit_hall.proofs.Basics.{map, next_call, refl, serve, session, sight_a
 use Rattle.nit_hall.proofs.Basics.{state_now, stretch_from, subst, sym, with_end_stages}
 use Rattle.nit_hall.proofs.Basics.{with_stages, ℕ, ◌∙◌}
 use Rattle.std.proofs.Common.{◌+◌, ◌<◌, ◌≡◌}
-use Rattle.nit_hall.proofs.EndStages.{as_long, other_end, own_end, same_stands, stages_again}
+use Rattle.nit_hall.proofs.EndStages.{other_end, own_end, same_stands, stages_again}
 use Rattle.nit_hall.proofs.ServedCalls.{IsCalled, other_there, own_seen, own_there, scene_with}
 use Rattle.nit_hall.proofs.ServedCalls.{sights}
 
@@ -43,9 +43,7 @@ same_glasses scene sid stages own = λ i t. each t i
     each : (t : ℕ) → glasses_of_call (sights (scene_with scene sid stages)) sid own t
         ≡ glasses_of_call (sights scene) sid own t
     each t = elim (cases_eq t sid) [
-      | inl e ↦ subst (λ (x : ℕ). glasses_of_call (sights (scene_with scene sid stages)) sid own x
-          ≡ glasses_of_call (sights scene) sid own x) (sym e)
-          (own_there (sights (scene_with scene sid stages)) sid own ∙ sym (own_there (sights scene) sid own))
+      | inl e ↦ rw e (own_there (sights (scene_with scene sid stages)) sid own ∙ sym (own_there (sights scene) sid own))
       | inr ne ↦ other_there (sights (scene_with scene sid stages)) sid own t ne
           ∙ other_end sid stages scene.glasses t ne ∙ sym (other_there (sights scene) sid own t ne)
     ]
@@ -63,11 +61,8 @@ served_so r p called rep own' many did =
     let saw = own_seen (sights (scene_with r.scene p.sid line)) (sights called) p.sid own own'
     (λ t. (did.is.painted.loads t, did.is.painted.sights t)) in
     let again : in_line p own' ≡ own' = ap (in_line p) saw.1 ∙ sym saw.1 in
-    let there : p.sid < length called.glasses =
-    let n = ap (λ (xs : List _). length xs) did.rests in
-    let a = length-map called.glasses (λ (e : End). e.stand) in
-    let b = length-map (with_end_stages p.sid line r.scene.glasses) (λ (e : End). e.stand) in
-    let d = as_long p.sid line r.scene.glasses in omega (arith, many, n, a, b, d) in
+    let rests = did.rests ∙ same_stands p.sid line r.scene.glasses in
+    let there : p.sid < length called.glasses = omega (arith, many, simp length-map at (ap length rests)) in
     record {
       reply_is = did.reply_is;
       painted = subst (λ (f : ℕ → Sight). Painted (state_now r.scene) (call_entry p rep) (state_now called) f
@@ -79,7 +74,7 @@ served_so r p called rep own' many did =
           ∙ ap (glasses_of_call (sights (scene_with called p.sid behind)) p.sid) (sym again)) did.is.painted);
       idle = own_end p.sid behind called.glasses there
           ∙ ap (with_stages behind) (did.is.idle ∙ own_end p.sid line r.scene.glasses many);
-      stand_still = same_stands p.sid behind called.glasses ∙ did.rests ∙ same_stands p.sid line r.scene.glasses;
+      stand_still = same_stands p.sid behind called.glasses ∙ rests;
       refused = λ no. let x = did.refused no in (
         x.0,
         x.1,
@@ -103,12 +98,4 @@ served_clauses {r = r} {p = p} {called = called} {rep = rep} {own' = own'} c cal
 -- what a pass knows has no part in it
 pub before_it_knew : {r : RoomModel} {p : PassModel} {scene' : SceneModel End} {sight' : Sight} {rep : Reply}
     (known : List Entry) → ServedClauses r (knowing known p) scene' sight' rep → ServedClauses r p scene' sight' rep
-before_it_knew known s = record {
-  reply_is = s.reply_is;
-  painted = s.painted;
-  idle = s.idle;
-  stand_still = s.stand_still;
-  refused = s.refused;
-  loaded = s.loaded;
-  agreed = s.agreed;
-}
+before_it_knew known s = assumption

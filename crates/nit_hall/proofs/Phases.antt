@@ -1,11 +1,11 @@
 -- The phase that is served, and the actors that have ended it.
 use Rattle.nit_hall.proofs.Basics.{Bool, InputLine, IsServedPhase, Line, List, [], after_arrival}
-use Rattle.nit_hall.proofs.Basics.{ap, ap₂, arith, cases_Bool, cases_eq, cond, count_by}
-use Rattle.nit_hall.proofs.Basics.{count_by-le-length, eq-eqb, eqb-true, false, get_or-set_other}
+use Rattle.nit_hall.proofs.Basics.{ap, arith, cases_Bool, cases_eq, cond, count_by}
+use Rattle.nit_hall.proofs.Basics.{count_by-le-length, eqb-true, false, get_or-set_other}
 use Rattle.nit_hall.proofs.Basics.{get_or-set_same, inl, input_phases_before, inr, is_phase}
 use Rattle.nit_hall.proofs.Basics.{is_served, length, length-set, nat_tests, ne_eqb, phases_before}
 use Rattle.nit_hall.proofs.Basics.{phases_ended, raised, refl, script_in, served, set, set-get_or}
-use Rattle.nit_hall.proofs.Basics.{slice_index, subst, suc, sum_by, sum_by-set}
+use Rattle.nit_hall.proofs.Basics.{slice_index, suc, sum_by, sum_by-set}
 use Rattle.std.proofs.Common.{sym, take, true, zero, ℕ, ◌+◌, ◌<◌, ◌==◌, ◌∙◌, ◌∷◌, ◌≡◌, ◌≤◌, ◌⊎◌}
 use Rattle.nit_script.specs.declared.line.Line.TheVariants as line
 use Rattle.nit_hall.proofs.LineLemmas.{count_cons, front_filter}
@@ -64,12 +64,9 @@ user_ended_set (s ∷ ss) input (c ∷ cs) n long =
 
 phases_served : (xs : List Line) → count_by is_phase (served xs) ≡ count_by is_phase xs
 phases_served [] = refl
-phases_served (line.Call c ∷ xs) = count_cons is_phase (line.Call c) (served xs)
-    ∙ ap (λ (n : ℕ). 0 + n) (phases_served xs) ∙ sym (count_cons is_phase (line.Call c) xs)
-phases_served (line.Stroke s ∷ xs) = let n = phases_served xs in let m =
-    count_cons is_phase (line.Stroke s) xs in omega (arith, n, m)
-phases_served (line.Phase ∷ xs) = count_cons is_phase line.Phase (served xs) ∙ ap (λ (n : ℕ). 1 + n) (phases_served xs)
-    ∙ sym (count_cons is_phase line.Phase xs)
+phases_served (line.Call c ∷ xs) = omega (arith, phases_served xs, count_cons is_phase (line.Call c))
+phases_served (line.Stroke s ∷ xs) = omega (arith, phases_served xs, count_cons is_phase (line.Stroke s))
+phases_served (line.Phase ∷ xs) = omega (arith, phases_served xs, count_cons is_phase line.Phase)
 
 phases_front : (script : List Line) (k : ℕ) → count_by is_phase (take (length (served (take k script))) (served script))
     ≡ phases_before script k
@@ -87,13 +84,14 @@ pub client_ends : {scripts : List (List Line)} {counts : List ℕ} {sid next : �
     (phases_before script next) (phases_before script (next + 1))
 client_ends {scripts = scripts} {counts = counts} {sid = sid} {next = next} {script = script} input long at = record {
   inside = let h = client_is at in omega (arith, h, ended_long scripts input counts long);
-  was = ended_at scripts input counts sid long (client_is at)
-      ∙ ap₂ (λ (n : ℕ) (ls : List Line). count_by is_phase (take n (served ls))) at.counted (script_there at)
-      ∙ phases_front script next;
-  is = ended_set scripts input counts sid (slice_index counts sid + 1) long (client_is at)
-      ∙ ap (set (phases_ended scripts input counts) sid)
-      (ap₂ (λ (n : ℕ) (ls : List Line). count_by is_phase (take n (served ls))) (served_then at) (script_there at)
-      ∙ phases_front script (next + 1));
+  was = rw (ended_at scripts input counts sid long (client_is at), at.counted, script_there at)
+      (phases_front script next);
+  is = rw (
+    ended_set scripts input counts sid (slice_index counts sid + 1) long (client_is at),
+    served_then at,
+    script_there at,
+    phases_front script (next + 1),
+  ) refl;
 }
 
 pub user_ends : {scripts : List (List Line)} {input : List InputLine} {counts : List ℕ} {next : ℕ} {l : InputLine}
@@ -103,17 +101,14 @@ pub user_ends : {scripts : List (List Line)} {input : List InputLine} {counts : 
 user_ends {scripts = scripts} {input = input} {counts = counts} long at = record {
   inside = omega (arith, ended_long scripts input counts long);
   was = user_ended_at scripts input counts long ∙ ap (input_phases_before input) at.counted;
-  is = user_ended_set scripts input counts (slice_index counts (length scripts) + 1) long
-      ∙ ap (λ (n : ℕ). set (phases_ended scripts input counts) (length scripts) (input_phases_before input (n + 1)))
-      at.counted;
+  is = rw (user_ended_set scripts input counts (slice_index counts (length scripts) + 1) long, at.counted) refl;
 }
 
 -- a line that ends no phase leaves what the actors have ended
 pub same_phase : {phase arrived actor before after' : ℕ} {old now : List ℕ} → Ends old now actor before after'
     → after' ≡ before → IsServedPhase phase arrived old → IsServedPhase phase arrived now
 same_phase {phase = phase} {arrived = arrived} {actor = actor} {old = old} ends same is =
-    subst (λ (xs : List ℕ). IsServedPhase phase arrived xs)
-    (sym (ends.is ∙ ap (set old actor) (same ∙ sym ends.was) ∙ set-get_or old actor 0)) is
+    rw (ends.is, same, ← ends.was, set-get_or old actor 0) is
 
 -- ---- numbers that pass a test
 
@@ -155,10 +150,8 @@ counts_one_more phase xs i inside at =
     let f : ℕ → ℕ = λ n. cond {A = ℕ} (n == phase + 1) 1 0 in
     let moved : sum_by f (set xs i (phase + 1)) + f (slice_index xs i) ≡ sum_by f xs + f (phase + 1) =
     sum_by-set f xs i (phase + 1) 0 inside in
-    let was : f (slice_index xs i) ≡ 0 = ap f at
-    ∙ ap (λ (b : Bool). cond {A = ℕ} b 1 0)
-    (ne_eqb phase (phase + 1) (λ e. let x : phase ≡ phase + 1 = e in omega arith)) in
-    let is : f (phase + 1) ≡ 1 = ap (λ (b : Bool). cond {A = ℕ} b 1 0) (eq-eqb (phase + 1) (phase + 1) refl) in
+    let was : f (slice_index xs i) ≡ 0 = rw at (grind (arith, nat_tests)) in
+    let is : f (phase + 1) ≡ 1 = grind (arith, nat_tests) in
     omega (arith, moved, was, is)
 
 each_one_more : (phase : ℕ) (xs : List ℕ) (i : ℕ) → i < length xs
@@ -166,11 +159,8 @@ each_one_more : (phase : ℕ) (xs : List ℕ) (i : ℕ) → i < length xs
     → (k : ℕ) → k < length (set xs i (phase + 1)) → (slice_index (set xs i (phase + 1)) k ≡ phase)
     ⊎ (slice_index (set xs i (phase + 1)) k ≡ phase + 1)
 each_one_more phase xs i inside each k h = elim (cases_eq k i) [
-  | inl e ↦ inr (ap (λ (n : ℕ). slice_index (set xs i (phase + 1)) n) e ∙ get_or-set_same xs i (phase + 1) 0 inside)
-  | inr ne ↦
-      let same : slice_index (set xs i (phase + 1)) k ≡ slice_index xs k = get_or-set_other xs i k (phase + 1) 0 ne in
-      subst (λ (n : ℕ). (n ≡ phase) ⊎ (n ≡ phase + 1)) (sym same)
-      (each k (let n = length-set xs i (phase + 1) in omega (arith, n, h)))
+  | inl e ↦ inr (rw e (get_or-set_same xs i (phase + 1) 0 inside))
+  | inr ne ↦ rw (get_or-set_other xs i k (phase + 1) 0 ne) (each k (omega (arith, length-set xs i (phase + 1), h)))
 ]
 
 -- the last one brings the next phase, and any other one leaves it
@@ -215,9 +205,7 @@ pub phase_ended : {phase arrived actor before after' : ℕ} {old now : List ℕ}
     → Ends old now actor before after' → before ≡ phase → after' ≡ phase + 1 → IsServedPhase phase arrived old
     → IsServedPhase (after_arrival clients phase arrived).0 (after_arrival clients phase arrived).1 now
 phase_ended {phase = phase} {arrived = arrived} {actor = actor} {old = old} clients long ends ready up is =
-    subst (λ (xs : List ℕ). IsServedPhase (after_arrival clients phase arrived).0
-    (after_arrival clients phase arrived).1 xs) (sym (ends.is ∙ ap (set old actor) up))
-    (one_more_ended clients phase arrived old actor long ends.inside (ends.was ∙ ready) is)
+    rw (ends.is, up) (one_more_ended clients phase arrived old actor long ends.inside (ends.was ∙ ready) is)
 
 -- ---- at the beginning
 

@@ -1,22 +1,22 @@
 -- Passes that are done, and the last picture.
-use Rattle.nit_hall.proofs.Basics.{AllServed, AreDone, AreGlasses, AreWatching, Bare, Black, Call}
-use Rattle.nit_hall.proofs.Basics.{Configuration, End, Entry, EntryLaws, Follows, HasMet, HaveInks}
-use Rattle.nit_hall.proofs.Basics.{IsAdded, IsDonePass, IsGlass, IsKnownPass, IsLoaded, IsOpen}
-use Rattle.nit_hall.proofs.Basics.{IsRoom, IsWordOfSource, Line, List, Painted, Painting, PassModel}
-use Rattle.nit_hall.proofs.Basics.{PassRest, PixelSource, RoomModel, SceneModel, Sight, Some, State}
-use Rattle.nit_hall.proofs.Basics.{Word, [], ap, append-nil, ap₂, arith, blank, calls_in, calls_of}
-use Rattle.nit_hall.proofs.Basics.{calls_of-append, cases_eq, cases_lt, donation_of, drop, frame}
-use Rattle.nit_hall.proofs.Basics.{get_or, get_or-map-range_with_len, get_or_from_slice_get}
-use Rattle.nit_hall.proofs.Basics.{get_or_past, glass_in, inl, inr, knowing, left_word, length}
-use Rattle.nit_hall.proofs.Basics.{length-map, map, map_over_more, no_ink, no_sight, option_map}
-use Rattle.nit_hall.proofs.Basics.{painted_from, pixel_count, range_with_len, refl, rest_of}
-use Rattle.nit_hall.proofs.Basics.{same_Some, same_frame, scenery_of, script_in, served, set}
-use Rattle.nit_hall.proofs.Basics.{slice_get, slice_get-get_or, slice_get-map, slice_get_read}
-use Rattle.nit_hall.proofs.Basics.{slice_index, source_at, state_now, subst, table_size, take_all}
-use Rattle.nit_hall.proofs.Basics.{without_final, words_after, words_left, words_left_in, zero_at}
+use Rattle.nit_hall.proofs.Basics.{AllServed, AreDone, AreGlasses, Bare, Black, Configuration, End}
+use Rattle.nit_hall.proofs.Basics.{Entry, EntryLaws, HasMet, IsAdded, IsDonePass, IsGlass}
+use Rattle.nit_hall.proofs.Basics.{IsKnownPass, IsOpen, IsRoom, IsWordOfSource, Line, List, Painted}
+use Rattle.nit_hall.proofs.Basics.{Painting, PassModel, PassRest, PixelSource, RoomModel}
+use Rattle.nit_hall.proofs.Basics.{SceneModel, Sight, Some, State, Word, [], ap, append-nil, ap₂}
+use Rattle.nit_hall.proofs.Basics.{arith, blank, calls_in, calls_of, calls_of-append, cases_eq}
+use Rattle.nit_hall.proofs.Basics.{cases_lt, donation_of, drop, frame, get_or}
+use Rattle.nit_hall.proofs.Basics.{get_or-map-range_with_len, get_or_from_slice_get, get_or_past}
+use Rattle.nit_hall.proofs.Basics.{glass_in, inl, inr, knowing, left_word, length, length-map, map}
+use Rattle.nit_hall.proofs.Basics.{map_over_more, no_ink, no_sight, option_map, painted_from}
+use Rattle.nit_hall.proofs.Basics.{pixel_count, range_with_len, refl, rest_of, same_Some}
+use Rattle.nit_hall.proofs.Basics.{same_frame, scenery_of, script_in, served, set, slice_get}
+use Rattle.nit_hall.proofs.Basics.{slice_get-get_or, slice_get-map, slice_get_read, slice_index}
+use Rattle.nit_hall.proofs.Basics.{source_at, state_now, subst, table_size, take_all, without_final}
+use Rattle.nit_hall.proofs.Basics.{words_after, words_left, words_left_in, zero_at}
 use Rattle.std.proofs.Common.{suc, sym, take, zero, zero-add, ℕ, ◌++◌, ◌+◌, ◌<◌, ◌∙◌, ◌∷◌, ◌≡◌, ◌≤◌}
 use Rattle.nit_events.specs.declared.entry.Entry.TheVariants as entry
-use Rattle.nit_hall.proofs.FinalEntries.{open_whole, without-append}
+use Rattle.nit_hall.proofs.FinalEntries.{not_open, open_whole, without-append}
 use Rattle.nit_hall.proofs.NearLemmas.{AreInks, ink_behind, ink_inside, told_word, ShowsThen}
 use Rattle.nit_hall.proofs.RoomSteps.{inks_before, legal_then, near_then, room_grown, room_then}
 use Rattle.nit_hall.proofs.ServedCalls.{calls_made}
@@ -130,11 +130,8 @@ tells_left all {r = r} are t h =
     let donation : p.donation ≡ donation_of r.parts.config t = there.is.belongs.donation
     ∙ ap (donation_of r.parts.config) there.is.number in
     let whole : words_after p.script p.donation p.next ≡ words_left p.script p.donation =
-    ap (λ (x : Painting). x.words)
-    (all (blank p.donation) p.script p.next (let e = there.is.ended in omega (arith, e))) in
-    ap (λ (g : Sight). g.words) there.sight ∙ there.known.told
-    ∙ ap (λ (ws : List ℕ). Some ws)
-    (whole ∙ ap₂ (λ (ls : List Line) (d : ℕ). words_left ls d) (sym there.script) donation)
+    ap (λ (x : Painting). x.words) (all (blank p.donation) p.script p.next (omega (arith, there.is.ended))) in
+    rw (there.sight, there.script, ← donation, ← whole) there.known.told
 
 held_left : (config : Configuration) (scripts : List (List Line)) (glasses : List Sight) (source : PixelSource) (w : ℕ)
     → length glasses ≡ length scripts
@@ -148,9 +145,7 @@ held_left config scripts glasses (Word t i) w each tell held = elim (cases_lt t 
   | inr past ↦
       let none : glass_in glasses t ≡ no_sight = get_or_past glasses t no_sight (omega (arith, each, past)) in
       let script : script_in scripts t ≡ [] = get_or_past scripts t [] past in
-      no_ink i w (subst (λ (g : Sight). IsLoaded g i w) none held).inked
-      ∙ sym (ap (λ (ls : List Line). slice_index (words_left ls (donation_of config t)) i) script
-      ∙ zero_at (table_size (donation_of config t)) i)
+      rw (script, zero_at (table_size (donation_of config t)) i) (no_ink i w (rw none at held).inked)
 ]
 
 same_map : {X : Type 0} (f g : ℕ → X) (a n : ℕ) → ((k : ℕ) → a ≤ k → k < a + n → f k ≡ g k)
@@ -220,14 +215,6 @@ pub booked_still : (old new : SceneModel End) → new.entries ≡ old.entries ++
 booked_still old new recorded = sym (append-nil (without_final old.entries))
     ∙ sym (without-append old.entries (entry.Final ∷ [])) ∙ ap without_final (sym recorded)
 
--- a journal with the last picture is not open
-not_open : (es : List Entry) → IsOpen (es ++ entry.Final ∷ []) → ⊥
-not_open [] o = o
-not_open (entry.Call sid c r ∷ es) o = not_open es o
-not_open (entry.Input dev routed ∷ es) o = not_open es o
-not_open (entry.Shot number ∷ es) o = not_open es o
-not_open (entry.Final ∷ es) o = o
-
 -- what the passes show in the last picture was left by all their lines
 ends_show : EntryLaws → {r : RoomModel} {new : SceneModel End} {ps : List PassModel} → IsRoom r
     → IsOpen r.scene.entries → AreKnown r ps → IsAdded r.scene new entry.Final
@@ -243,17 +230,11 @@ ends_show laws {r = r} {ps = ps} room o are added t i w loaded = elim (cases_lt 
       ∙ ap (λ (c : Configuration). donation_of c t) (sym room.config) in
       let made : calls_of t (r.scene.entries ++ entry.Final ∷ []) ≡ calls_in (take p.next p.script) =
       calls_of-append t r.scene.entries (entry.Final ∷ []) ∙ append-nil (calls_of t r.scene.entries)
-      ∙ ap (calls_of t) (sym (open_whole r.scene.entries o))
-      ∙ calls_made r t p.next p.script room
-      (ap (slice_get r.parts.scripts) (sym there.is.number) ∙ there.is.belongs.script) there.known.counted in
+      ∙ rw (open_whole r.scene.entries o) at (calls_made r t p.next p.script room
+      (ap (slice_get r.parts.scripts) (sym there.is.number) ∙ there.is.belongs.script) there.known.counted) in
       told_shows r.scene.config r.parts.scripts r.phase (r.scene.entries ++ entry.Final ∷ []) t p.next _
-      (ap (λ (g : Sight). g.words) there.sight ∙ there.known.told
-      ∙ ap₂ (λ (ls : List Line) (d : ℕ). Some (words_after ls d p.next)) (sym script) paid)
-      (record {
-        calls = ap (λ (ls : List Line). length (calls_in (take p.next ls))) script
-            ∙ ap (λ (cs : List Call). length cs) (sym made);
-        phases = λ still. absurd (not_open r.scene.entries still);
-      }) i w loaded
+      (rw (there.sight, script, ← paid) there.known.told)
+      (record { calls = rw (script, made) refl; phases = λ still. absurd (not_open r.scene.entries still) }) i w loaded
   | inr past ↦ lens_shows r.scene.config r.parts.scripts r.phase r.scene.entries entry.Final t _
       (legal_then laws room o added)
       (room.sessions ∙ ap (λ (c : Configuration). length c.clients) (sym room.config))
@@ -270,14 +251,8 @@ room_ended laws {r = r} {new = new} room o are all ended =
     room_grown laws room o ended.added r.raws r.counts (goes_no_further room ended.added.recorded same)
     (near_then laws room o ended.added (λ still. absurd (not_open r.scene.entries still))
     (ends_show laws room o are ended.added) (λ t call rep same. absurd cc) ended.painted)
-    (subst (λ (gs : List End). HaveInks r.scene.config r.parts.scripts gs) (sym ended.same)
-    (inks_before laws room o ended.added))
-    (subst (λ (gs : List End). AreWatching r.parts.scripts r.scene.config (without_final new.entries) r.phase gs)
-    (sym ended.same) (rw room.config (subst
-    (λ (js : List Entry). AreWatching r.parts.scripts r.parts.config js r.phase r.scene.glasses)
-    (booked_still r.scene new ended.added.recorded) room.watching)))
-    (subst (λ (js : List Entry). Follows r.parts.scripts r.parts.input r.counts r.phase js)
-    same room.follows) room.phases (inr all)
+    (rw ended.same (inks_before laws room o ended.added)) (rw (ended.same, room.config, ← same) room.watching)
+    (rw (← same) room.follows) room.phases (inr all)
 
 -- the sights are those of before they met
 pub same_sights : (known : List Entry) (ps₀ : List PassModel) {ps : List PassModel} → ps ≡ map (knowing known) ps₀

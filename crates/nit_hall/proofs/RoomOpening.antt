@@ -8,15 +8,15 @@ use Rattle.nit_hall.proofs.Basics.{IsNonDecreasingBy-short, IsPass, IsPlanOf, Is
 use Rattle.nit_hall.proofs.Basics.{Member, OpeningParts, Option, PassModel, PixelSource, PlanModel}
 use Rattle.nit_hall.proofs.Basics.{RoomModel, ShareModel, Sight, Some, [], ap, append_assoc, arith}
 use Rattle.nit_hall.proofs.Basics.{bare_everywhere, bare_word, calls_in, calls_of, cases_lt}
-use Rattle.nit_hall.proofs.Basics.{clip_calls_in, clip_script_in, donation_of, drop, drop_at}
-use Rattle.nit_hall.proofs.Basics.{entries_in, false, first_pass, get_or, get_or-replicate}
+use Rattle.nit_hall.proofs.Basics.{clip_calls_in, clip_script_in, common_steps, donation_of, drop}
+use Rattle.nit_hall.proofs.Basics.{drop_at, entries_in, false, first_pass, get_or, get_or-replicate}
 use Rattle.nit_hall.proofs.Basics.{get_or_default, get_or_from_slice_get, get_or_past, glass_in}
 use Rattle.nit_hall.proofs.Basics.{has_stages, inl, inr, length, length-map, length-replicate}
 use Rattle.nit_hall.proofs.Basics.{lines_of_all, lines_of_clips, map, new_sight, no_sight}
 use Rattle.nit_hall.proofs.Basics.{none-some, option_map, parts_of, phases_before, pixel, plan_in}
 use Rattle.nit_hall.proofs.Basics.{raws_in, refl, replicate, replicate_more, same_Some, script_in}
 use Rattle.nit_hall.proofs.Basics.{served, slice_get, slice_get-map, slice_get_within, slice_index}
-use Rattle.nit_hall.proofs.Basics.{slice_index_or, stretch, subst, suc, sum, sum_by-cons, sym, take}
+use Rattle.nit_hall.proofs.Basics.{slice_index_or, stretch, subst, suc, sum_by-replicate, sym, take}
 use Rattle.nit_hall.proofs.Basics.{take_all, take_at, user_actions_in, watching_sight}
 use Rattle.nit_hall.proofs.Basics.{with_clip_scripts, with_stages, words_after}
 use Rattle.std.proofs.Common.{zero, ℕ, ⊎_elim, ◌*◌, ◌++◌, ◌+◌, ◌<◌, ◌∙◌, ◌∷◌, ◌≡◌, ◌≤◌, ◌⊎◌}
@@ -49,20 +49,11 @@ follows_begun scripts input counts long none =
 
 -- all counts are 0
 pub zero_counts : (n : ℕ) (counts : List ℕ) → counts ≡ replicate n 0 → (k : ℕ) → slice_index counts k ≡ 0
-zero_counts n counts is k = ap (λ (cs : List ℕ). slice_index cs k) is ∙ go n k
-  where
-    go : (n k : ℕ) → slice_index (replicate n 0) k ≡ 0
-    go zero k = refl
-    go (suc n) zero = refl
-    go (suc n) (suc k) = go n k
+zero_counts n counts is k = rw is (grind (arith, common_steps))
 
 -- what the law of the list without clip calls says
 abbrev pub NoClips : Type 0
 NoClips = (config : Configuration) (journal : List Entry) → IsLegalClips config journal []
-
-no_sum : (n : ℕ) → sum (replicate n 0) ≡ 0
-no_sum zero = refl
-no_sum (suc n) = omega (arith, sum_by-cons (λ (x : ℕ). x) 0 (replicate n 0), no_sum n)
 
 -- no clip call was served
 pub clips_begun : NoClips → (parts : OpeningParts) (entries : List Entry)
@@ -77,7 +68,7 @@ clips_begun none parts entries =
       calls = λ t. sym (ap (λ (n : ℕ). take n (clip_calls_in (clip_script_in parts.clips t))) (zero_ t));
       few = λ t. let z = zero_ t in omega (arith, z);
       in_phases = tt;
-      room = let n = no_sum (length parts.clips) in omega (arith, n);
+      room = omega (arith, sum_by-replicate (λ (x : ℕ). x) (length parts.clips) 0);
     }
 
 pub room_begun : (r : RoomModel) → r.scene.config ≡ r.parts.config
@@ -161,10 +152,8 @@ get_push (z ∷ xs) (suc k) x y e = ⊎_elim (λ p. inl p) (λ q. inr (ap suc q.
 
 pub get_seam : {A : Type 0} (xs ys : List A) (y : A) (k : ℕ) → k ≡ length xs → slice_get ((xs ++ y ∷ []) ++ ys) k
     ≡ Some y
-get_seam [] ys y zero e = refl
-get_seam [] ys y (suc k) e = absurd (omega arith)
-get_seam (x ∷ xs) ys y zero e = absurd (omega arith)
-get_seam (x ∷ xs) ys y (suc k) e = get_seam xs ys y k (omega arith)
+get_seam [] ys y k e = rw e refl
+get_seam (x ∷ xs) ys y k e = rw e (get_seam xs ys y (length xs) refl)
 
 pub each_more : (parts : OpeningParts) (canvases : List End) (k : ℕ) (ps qs : List PassModel) (p : PassModel) (c : End)
     → qs ≡ ps ++ p ∷ [] → length ps ≡ k → slice_get canvases k ≡ Some c → p ≡ first_pass parts k c
@@ -324,22 +313,7 @@ clip_pass_more book scripts k qs rs q pushed long is all j x e =
 
 pub room_with_clips : NoClips → (r : RoomModel) (scripts : List (List ClipLine)) → IsRoom r
     → IsRoom (with_clip_scripts r scripts)
-room_with_clips none r scripts room = record {
-  config = room.config;
-  legal = room.legal;
-  sessions = room.sessions;
-  clients = room.clients;
-  follows = room.follows;
-  phases = room.phases;
-  inks = room.inks;
-  watching = room.watching;
-  near = room.near;
-  room = room.room;
-  ended = room.ended;
-  clips_follow = clips_begun none (record r.parts { clips = scripts }) r.scene.entries;
-  history = room.history;
-  history_ends = room.history_ends;
-}
+room_with_clips none r scripts room = assumption (clips_begun none (record r.parts { clips = scripts }) r.scene.entries)
 
 pub zeros_behind : (cs : List ℕ) (k : ℕ) → (cs ++ replicate k 0) ++ 0 ∷ [] ≡ cs ++ replicate (k + 1) 0
 zeros_behind cs k = append_assoc cs (replicate k 0) (0 ∷ []) ∙ ap (λ (ds : List ℕ). cs ++ ds) (replicate_more k 0)

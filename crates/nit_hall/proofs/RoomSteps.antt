@@ -1,12 +1,11 @@
 -- A room after one more entry, and after the end of a phase.
-use Rattle.nit_hall.proofs.Basics.{AllServed, AreNear, AreWatching, Call, CanAdd, Configuration}
-use Rattle.nit_hall.proofs.Basics.{End, Entry, EntryLaws, Follows, HaveInks, IsAdded, IsLegal}
-use Rattle.nit_hall.proofs.Basics.{IsLoaded, IsOpen, IsRoom, IsServedPhase, KnowsStretch, Line}
-use Rattle.nit_hall.proofs.Basics.{List, Painted, RoomModel, SceneModel, Sight, Some, [], after, ap}
-use Rattle.nit_hall.proofs.Basics.{append-nil, arith, buffers_of, calls_of, calls_of-append}
-use Rattle.nit_hall.proofs.Basics.{donation_of, first_state, glass_in, inl, length, length-append}
-use Rattle.nit_hall.proofs.Basics.{phases_ended, refl, replay, script_in, state_now, stretch, subst}
-use Rattle.nit_hall.proofs.Basics.{sym, without_final, ℕ, ◌∙◌}
+use Rattle.nit_hall.proofs.Basics.{AllServed, AreNear, AreWatching, CanAdd, Configuration, End}
+use Rattle.nit_hall.proofs.Basics.{Entry, EntryLaws, Follows, HaveInks, IsAdded, IsLegal, IsLoaded}
+use Rattle.nit_hall.proofs.Basics.{IsOpen, IsRoom, IsServedPhase, KnowsStretch, Line, List, Painted}
+use Rattle.nit_hall.proofs.Basics.{RoomModel, SceneModel, Sight, [], after, ap, append-nil, arith}
+use Rattle.nit_hall.proofs.Basics.{buffers_of, calls_of, calls_of-append, donation_of, first_state}
+use Rattle.nit_hall.proofs.Basics.{glass_in, inl, length, length-append, phases_ended, refl}
+use Rattle.nit_hall.proofs.Basics.{script_in, state_now, subst, sym, without_final, ℕ, ◌∙◌}
 use Rattle.std.proofs.Common.{◌++◌, ◌∷◌, ◌≡◌, ◌≤◌, ◌⊎◌, ◌<◌}
 use Rattle.nit_hall.proofs.ClipsStay.{clips_same, clips_then}
 use Rattle.nit_hall.proofs.FinalEntries.{open_whole}
@@ -49,15 +48,12 @@ before_open known er o before = subst (λ (r : RoomModel). IsPrefix known r.scen
 pub booked_more : {old new : SceneModel End} {e : Entry} → IsOpen old.entries → IsOpen new.entries
     → IsAdded old new e → without_final old.entries ++ e ∷ [] ≡ without_final new.entries
 booked_more {old = old} {new = new} {e = e} was is added =
-    ap (λ (js : List Entry). js ++ e ∷ []) (open_whole old.entries was)
-    ∙ sym added.recorded ∙ sym (open_whole new.entries is)
+    rw (open_whole old.entries was, open_whole new.entries is, added.recorded) refl
 
 pub state_later : EntryLaws → {old new : SceneModel End} {e : Entry} → IsAdded old new e
     → state_now new ≡ after (state_now old) e
 state_later laws {old = old} {new = new} {e = e} added =
-    ap (λ (c : Configuration). replay c new.entries) added.config
-    ∙ ap (λ (js : List Entry). replay old.config js) added.recorded
-    ∙ laws.more (first_state old.config) old.entries e
+    rw (added.config, added.recorded) (laws.more (first_state old.config) old.entries e)
 
 module _ (laws : EntryLaws) {r : RoomModel} {new : SceneModel End} {e : Entry} (room : IsRoom r)
     (o : IsOpen r.scene.entries) (added : IsAdded r.scene new e) where
@@ -86,14 +82,15 @@ module _ (laws : EntryLaws) {r : RoomModel} {new : SceneModel End} {e : Entry} (
       (length (calls_of t (without_final new.entries))) r.phase (glass_in (sights_of new.glasses) t)
   watching_other t inside is same none =
       let w = room.watching t inside in
-      let calls : calls_of t (without_final new.entries) ≡ calls_of t (without_final r.scene.entries) =
-      ap (calls_of t) (sym (booked_more o is added)) ∙ calls_of-append t (without_final r.scene.entries) (e ∷ [])
-      ∙ ap (λ (cs : List Call). calls_of t (without_final r.scene.entries) ++ cs) none ∙ append-nil _ in
       record {
         since = w.since;
-        stages_are = same ∙ w.stages_are ∙ ap (λ (c : Configuration).
-            Some (stretch (script_in r.parts.scripts t) (donation_of c t) w.since)) (sym room.config);
-        behind = w.behind ∙ sym (ap (λ (cs : List Call). length cs) calls);
+        stages_are = rw room.config (same ∙ w.stages_are);
+        behind = rw (
+          ← booked_more o is added,
+          calls_of-append t (without_final r.scene.entries) (e ∷ []),
+          none,
+          append-nil,
+        ) w.behind;
         begun = w.begun;
       }
 
@@ -125,15 +122,14 @@ module _ (laws : EntryLaws) {r : RoomModel} {new : SceneModel End} {e : Entry} (
   room_grown raws counts went near inks watching follows phases ended = record {
     config = refl;
     legal = added.legal;
-    sessions = room.sessions ∙ ap (λ (c : Configuration). length c.clients) (sym room.config ∙ sym added.config);
+    sessions = rw (added.config, room.config) room.sessions;
     clients = room.clients;
     follows = follows;
     phases = phases;
     inks = rw added.config inks;
     watching = rw added.config watching;
     near = rw (added.config, added.recorded) near;
-    room = let sum = room.room in let rec_ = ap length added.recorded in let sp = added.spare in let left =
-        (can_add room o).spare in omega (arith, sum, rec_, sp, left, length-append r.scene.entries (e ∷ []));
+    room = rw (added.recorded, length-append) (omega (arith, room.room, added.spare, (can_add room o).spare));
     ended = ended;
     clips_follow = clips_then laws.stay r new e room added.config added.recorded;
     history = rw added.config went.history;
@@ -162,7 +158,7 @@ pub room_turned : {r : RoomModel} (counts : List ℕ) (phase arrived : ℕ) → 
 room_turned {r = r} counts phase arrived room o risen follows phases = record {
   config = refl;
   legal = rw room.config room.legal;
-  sessions = room.sessions ∙ ap (λ (c : Configuration). length c.clients) (sym room.config);
+  sessions = rw room.config room.sessions;
   clients = room.clients;
   follows = follows;
   phases = phases;

@@ -59,9 +59,8 @@ module _ {scripts : List (List Line)} {counts : List ℕ} {sid next : ℕ} {scri
 
   -- the client has one more line that the room serves
   pub one_left : slice_index counts sid + 1 ≤ length (served (script_in scripts sid))
-  one_left = let few = front_short (length (served (take (next + 1) script))) (served script)
-      (served (take (next + 1) script)) (front_filter is_served (next + 1) script) refl in
-      omega (arith, few, served_then, ap (λ (ls : List Line). length (served ls)) script_there)
+  one_left = let few = front_short _ (served script) _ (front_filter is_served (next + 1) script) refl in
+      rw script_there (omega (arith, few, served_then))
 
   calls_so_far : calls_in (take (slice_index counts sid) (served (script_in scripts sid))) ≡ calls_in (take next script)
   calls_so_far = ap₂ (λ (n : ℕ) (s : List Line). calls_in (take n (served s))) at.counted script_there
@@ -77,8 +76,7 @@ module _ {scripts : List (List Line)} {counts : List ℕ} {sid next : ℕ} {scri
       ∙ ap (λ (cs : List Call). cs ++ calls_in (l ∷ [])) (sym calls_so_far)
 
   user_same : slice_index (raised counts sid) (length scripts) ≡ slice_index counts (length scripts)
-  user_same = raised_other counts sid (length scripts) (λ e. let x : length scripts ≡ sid = e in let h =
-      client_is in omega (arith, h))
+  user_same = raised_other counts sid (length scripts) (λ e. omega (arith, client_is, e))
 
 pub made_of : (scripts : List (List Line)) (s : ℕ) → to_do (map calls_to_make scripts) s
     ≡ calls_to_make (script_in scripts s)
@@ -102,25 +100,20 @@ module _ {scripts : List (List Line)} {input : List InputLine} {counts : List �
     (f : Follows scripts input counts phase entries) {sid next : ℕ} {script : List Line} {l : Line}
     (at : IsNext scripts counts sid next script l) where
   inside : sid < length counts
-  inside = let n = f.each in let h = client_is at in omega (arith, n, h)
+  inside = omega (arith, f.each, client_is at)
 
   follows_line : (phase' : ℕ) (now : List Entry) → AddsLine entries sid l now → NeverFall scripts input now phase'
       → Follows scripts input (raised counts sid) phase' now
   follows_line phase' now adds phases = record {
     each = length-set counts sid (slice_index counts sid + 1) ∙ f.each;
     calls = λ t within. elim (cases_eq t sid) [
-      | inl e ↦ subst (λ (x : ℕ). calls_of x now
-          ≡ calls_in (take (slice_index (raised counts sid) x) (served (script_in scripts x)))) (sym e)
-          (adds.own ∙ ap (λ (cs : List Call). cs ++ calls_in (l ∷ [])) (f.calls sid (client_is at))
-          ∙ sym (calls_with at inside))
-      | inr ne ↦ adds.others t ne ∙ f.calls t within
-          ∙ ap (λ (n : ℕ). calls_in (take n (served (script_in scripts t)))) (sym (raised_other counts sid t ne))
+      | inl e ↦ rw (e, adds.own, f.calls sid (client_is at)) (sym (calls_with at inside))
+      | inr ne ↦ rw (raised_other counts sid t ne) (adds.others t ne ∙ f.calls t within)
     ];
-    actions = adds.actions ∙ f.actions ∙ ap (λ (n : ℕ). user_actions_in (take n input)) (sym (user_same at));
+    actions = rw (user_same at) (adds.actions ∙ f.actions);
     phases = phases;
     few = λ t within. elim (cases_eq t sid) [
-      | inl e ↦ subst (λ (x : ℕ). slice_index (raised counts sid) x ≤ length (served (script_in scripts x))) (sym e)
-          (omega (arith, raised_at counts sid inside, one_left at))
+      | inl e ↦ rw e (omega (arith, raised_at counts sid inside, one_left at))
       | inr ne ↦ omega (arith, raised_other counts sid t ne, f.few t within)
     ];
     user_few = let most = f.user_few in omega (arith, user_same at, most);
@@ -132,7 +125,7 @@ module _ {scripts : List (List Line)} {input : List InputLine} {counts : List �
       → Follows scripts input (raised counts sid) phase' entries
   follows_phase phase' none up = follows_line phase' entries
       (record {
-        own = sym (ap (λ (cs : List Call). calls_of sid entries ++ cs) none ∙ append-nil _);
+        own = rw (none, append-nil);
         others = λ t ne. refl;
         actions = refl;
         one_more = omega arith;
@@ -167,9 +160,7 @@ follows_call {scripts = scripts} {input = input} {phase = phase} {entries = entr
       actions = actions_same entries (entry.Call sid c r) refl;
       one_more = omega (arith, length-append entries (entry.Call sid c r ∷ []));
     })
-    (subst (λ (ps : List ℕ). IsNonDecreasing (ps ++ phase ∷ []))
-    (sym (phases_call (map calls_to_make scripts) (user_actions_to_do input) entries sid c r
-    ∙ ap (λ (p : ℕ). phases_along (map calls_to_make scripts) (user_actions_to_do input) entries ++ p ∷ []) at_phase))
+    (rw (phases_call (map calls_to_make scripts) (user_actions_to_do input) entries sid c r, at_phase)
     (again (phases_along (map calls_to_make scripts) (user_actions_to_do input) entries) phase f.phases))
 
 -- ---- the user's line
@@ -214,10 +205,8 @@ module _ {scripts : List (List Line)} {input : List InputLine} {counts : List �
       → NeverFall scripts input now phase' → Follows scripts input (raised counts (length scripts)) phase' now
   follows_user_line phase' now calls actions more phases = record {
     each = length-set counts (length scripts) (slice_index counts (length scripts) + 1) ∙ f.each;
-    calls = λ t within. calls t ∙ f.calls t within
-        ∙ ap (λ (k : ℕ). calls_in (take k (served (script_in scripts t)))) (sym (client_same t within));
-    actions = actions ∙ ap (λ (ds : List UserAction). ds ++ user_actions_in (l ∷ [])) actions_so_far
-        ∙ sym (actions_line input next l at.line_is) ∙ ap (λ (k : ℕ). user_actions_in (take k input)) (sym user_up);
+    calls = λ t within. rw (client_same t within) (calls t ∙ f.calls t within);
+    actions = rw (actions, actions_so_far, user_up) (sym (actions_line input next l at.line_is));
     phases = phases;
     few = λ t within. omega (arith, client_same t within, f.few t within);
     user_few = omega (arith, user_up, slice_get_within input next l at.line_is);
@@ -241,17 +230,14 @@ module _ {scripts : List (List Line)} {input : List InputLine} {counts : List �
       follows_user_line phase (entries ++ e ∷ []) (λ t. calls_same t entries e (adds.no_call t))
       (actions_of-append entries (e ∷ []) ∙ ap (λ (ds : List UserAction). user_actions_of entries ++ ds) adds.action_is)
       (omega (arith, length-append entries (e ∷ [])))
-      (subst (λ (ps : List ℕ). IsNonDecreasing (ps ++ phase ∷ []))
-      (sym (phases_action (map calls_to_make scripts) (user_actions_to_do input) entries e adds.is_users
-      ∙ ap (λ (p : ℕ). phases_along (map calls_to_make scripts) (user_actions_to_do input) entries ++ p ∷ [])
-      at_phase))
+      (rw (phases_action (map calls_to_make scripts) (user_actions_to_do input) entries e adds.is_users, at_phase)
       (again (phases_along (map calls_to_make scripts) (user_actions_to_do input) entries) phase f.phases))
 
   -- the end of a user's phase was served
   pub follows_user_phase : (phase' : ℕ) → user_actions_in (l ∷ []) ≡ [] → phase ≤ phase'
       → Follows scripts input (raised counts (length scripts)) phase' entries
   follows_user_phase phase' none up = follows_user_line phase' entries (λ t. refl)
-      (sym (ap (λ (ds : List UserAction). user_actions_of entries ++ ds) none ∙ append-nil _)) (omega arith)
+      (rw (none, append-nil)) (omega arith)
       (rises (phases_along (map calls_to_make scripts) (user_actions_to_do input) entries) phase phase' up f.phases)
 
 -- ---- room in the journal
@@ -282,8 +268,7 @@ module _ {scripts : List (List Line)} {input : List InputLine} {counts : List �
   entries_within =
       let all : sum counts ≤ lines_of_all scripts input = counts_within scripts (length input) counts f.each
       (λ t h. omega (arith, f.few t h, served_short (script_in scripts t))) f.user_few in
-      let least = f.small in
-      omega (arith, all, least)
+      omega (arith, all, f.small)
 
   -- ---- all lines are served
 
@@ -292,12 +277,10 @@ module _ {scripts : List (List Line)} {input : List InputLine} {counts : List �
   whole all = record {
     calls = λ t h. let inside : t < length scripts = omega (arith, length-map scripts calls_to_make, h) in
         calls_same t entries entry.Final refl ∙ f.calls t inside
-        ∙ ap calls_in (take_all (slice_index counts t) (served (script_in scripts t)) (let e = all.0 t inside in omega
-        (arith, e)))
+        ∙ ap calls_in (take_all _ (served (script_in scripts t)) (omega (arith, all.0 t inside)))
         ∙ calls_served (script_in scripts t) ∙ calls_done 0 (script_in scripts t) ∙ ap done (sym (made_of scripts t));
     actions = actions_same entries entry.Final refl ∙ f.actions
-        ∙ ap user_actions_in (take_all (slice_index counts (length scripts)) input (let e =
-        all.1 in omega (arith, e))) ∙ actions_done 0 input;
+        ∙ ap user_actions_in (take_all _ input (omega (arith, all.1))) ∙ actions_done 0 input;
     phases = subst IsNonDecreasing (sym (phases_final (map calls_to_make scripts) (user_actions_to_do input) entries))
         (without_last (phases_along (map calls_to_make scripts) (user_actions_to_do input) entries) phase f.phases);
     ends = (entries, refl);

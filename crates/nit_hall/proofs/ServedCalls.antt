@@ -1,17 +1,16 @@
 -- A room and a pass after a call.
 use Rattle.nit_hall.proofs.Basics.{AreWatching, Belongs, Call, Configuration, End, Entry, EntryLaws}
 use Rattle.nit_hall.proofs.Basics.{Follows, HasMet, HaveInks, IsAdded, IsAtCall, IsLoaded, IsOpen}
-use Rattle.nit_hall.proofs.Basics.{IsPaintedTo, IsPass, IsRoom, KnowsStretch, Line, List}
-use Rattle.nit_hall.proofs.Basics.{OpeningParts, Painted, PassModel, PlanModel, Recorded, Reply}
-use Rattle.nit_hall.proofs.Basics.{RoomModel, SceneModel, ShareModel, Sight, Some, [], ap, ap₂}
-use Rattle.nit_hall.proofs.Basics.{arith, calls_in, calls_of, calls_own, cases_eq, donation_of}
-use Rattle.nit_hall.proofs.Basics.{entries_in, eq-eqb, get_or_from_slice_get, glass_in}
-use Rattle.nit_hall.proofs.Basics.{glasses_of_call, inl, inr, is_phase, is_served, knowing, length}
-use Rattle.nit_hall.proofs.Basics.{lines_to_call, map, ne_eqb, next_call, option_map}
-use Rattle.nit_hall.proofs.Basics.{phase_of_entry, phases_before, raised, script_in, script_ink}
-use Rattle.nit_hall.proofs.Basics.{seen, served, slice_get_within, slice_index, state_now, stretch}
+use Rattle.nit_hall.proofs.Basics.{IsPaintedTo, IsPass, IsRoom, Line, List, OpeningParts, Painted}
+use Rattle.nit_hall.proofs.Basics.{PassModel, PlanModel, Recorded, Reply, RoomModel, SceneModel}
+use Rattle.nit_hall.proofs.Basics.{ShareModel, Sight, Some, [], ap, ap₂, arith, calls_in, calls_of}
+use Rattle.nit_hall.proofs.Basics.{calls_own, cases_eq, donation_of, entries_in, eq-eqb}
+use Rattle.nit_hall.proofs.Basics.{get_or_from_slice_get, glass_in, glasses_of_call, inl, inr}
+use Rattle.nit_hall.proofs.Basics.{is_phase, is_served, knowing, length, map, ne_eqb, next_call}
+use Rattle.nit_hall.proofs.Basics.{option_map, phases_before, raised, script_in, script_ink, seen}
+use Rattle.nit_hall.proofs.Basics.{served, slice_get_within, slice_index, state_now, stretch}
 use Rattle.nit_hall.proofs.Basics.{with_end_stages, with_stages, with_words, without_final}
-use Rattle.nit_hall.proofs.Basics.{words_after, words_at_call}
+use Rattle.nit_hall.proofs.Basics.{words_after}
 use Rattle.std.proofs.Common.{refl, slice_get, subst, sym, take, true, ℕ, ◌++◌, ◌+◌, ◌∙◌, ◌∷◌, ◌≡◌}
 use Rattle.std.proofs.Common.{◌≢◌, ◌<◌}
 use Rattle.nit_events.specs.declared.entry.Entry.TheVariants as entry
@@ -24,7 +23,7 @@ use Rattle.nit_hall.proofs.NearLemmas.{AreInks, IsInPhase, ShowsThen, TellsWords
 use Rattle.nit_hall.proofs.RoomSteps.{booked_more, inks_before, lenses_show, near_then, room_grown}
 use Rattle.nit_hall.proofs.RoomSteps.{room_then, watching_other, state_later}
 use Rattle.nit_hall.proofs.Stretches.{stretch_begun}
-use Rattle.nit_hall.proofs.WatchedWords.{WasLeft, told_shows}
+use Rattle.nit_hall.proofs.WatchedWords.{told_shows}
 use Rattle.nit_hall.proofs.HistoryLemmas.{clean_painted, goes_on}
 use Rattle.nit_hall.proofs.ScriptsFollowed.{IsNext, one_left, client_is, follows_call}
 use Rattle.nit_hall.proofs.ScriptsFollowed.{phase_of_next}
@@ -89,9 +88,8 @@ inks_after : (config : Configuration) (scripts : List (List Line)) (old new : Li
     → AreInks config scripts (glass_in old) → WereSeen old new sid own own' → glass_in new sid ≡ glass_in old sid
     → AreInks config scripts (glass_in new)
 inks_after config scripts old new sid own own' inks were idle t = elim (cases_eq t sid) [
-  | inl e ↦ ap (λ (g : Sight). g.ink) (subst (λ (x : ℕ). glass_in new x ≡ glass_in old x) (sym e) idle) ∙ inks t
-  | inr ne ↦ let saw = were t in ap (λ (g : Sight). g.ink) (sym (other_there new sid own' t ne) ∙ saw.1)
-      ∙ ap (λ (g : Sight). g.ink) (other_there old sid own t ne) ∙ inks t
+  | inl e ↦ rw (e, idle) (inks sid)
+  | inr ne ↦ rw (← other_there new sid own' t ne, (were t).1, other_there old sid own t ne) (inks t)
 ]
 
 -- ---- the room after it
@@ -115,21 +113,9 @@ tells : (config : Configuration) (scripts : List (List Line)) (glasses : List Si
     → own.words ≡ Some (words_after script (donation_of config sid) (next + 1))
     → TellsWords config scripts entries (entry.Call sid c r) (glasses_of_call glasses sid own)
 tells config scripts glasses entries sid next script c r own at here made told t call rep same =
-    let who : t ≡ sid = ap sid_of same in
+    let who : t ≡ sid = cc in
     let there : script_in scripts sid ≡ script = get_or_from_slice_get scripts sid script [] at in
-    let count : lines_to_call (length (calls_of sid entries) + 1) (script_in scripts sid) ≡ next + 1 =
-    ap (λ (n : ℕ). lines_to_call (n + 1) (script_in scripts sid)) (ap length made)
-    ∙ ap (λ (ls : List Line). lines_to_call (length (calls_in (take next script)) + 1) ls) there
-    ∙ line_counted script next c here in
-    subst (λ (x : ℕ). (glasses_of_call glasses sid own x).words ≡ Some (words_at_call config scripts x entries))
-    (sym who)
-    (ap (λ (g : Sight). g.words) (own_there glasses sid own) ∙ told
-    ∙ ap (λ (ls : List Line). Some (words_after ls (donation_of config sid) (next + 1))) (sym there)
-    ∙ ap (λ (n : ℕ). Some (words_after (script_in scripts sid) (donation_of config sid) n)) (sym count))
-  where
-    sid_of : Entry → ℕ
-    sid_of (entry.Call s c r) = s
-    sid_of other = 0
+    rw (who, own_there glasses sid own, there, made, line_counted script next c here) told
 
 -- a call ends no phase
 phase_same : (script : List Line) (k : ℕ) (c : Call) → slice_get script k ≡ Some (line.Call c)
@@ -143,14 +129,7 @@ scene_with scene sid stages = record scene { glasses = with_end_stages sid stage
 -- what is added to such a scene is added to the scene, also where that end knows others then
 pub added_with : {old new : SceneModel End} {e : Entry} (sid : ℕ) (before then : List (List ℕ))
     → IsAdded (scene_with old sid before) new e → IsAdded old (scene_with new sid then) e
-added_with sid before then a = record {
-  recorded = a.recorded;
-  spare = a.spare;
-  config = a.config;
-  legal = a.legal;
-  alone = a.alone;
-  raw = a.raw;
-}
+added_with sid before then a = assumption
 
 -- The client's end knows the stages of the line before the call, and those of the stretch behind it afterwards.
 module _ (laws : EntryLaws) {r : RoomModel} {called : SceneModel End} {sid next : ℕ} {script : List Line} {c : Call}
@@ -172,27 +151,22 @@ module _ (laws : EntryLaws) {r : RoomModel} {called : SceneModel End} {sid next 
   there = get_or_from_slice_get r.parts.scripts sid script [] at.script_is
 
   made : calls_of sid r.scene.entries ≡ calls_in (take next script)
-  made = ap (calls_of sid) (sym (open_whole r.scene.entries was_open))
-      ∙ calls_made r sid next script room at.script_is at.counted
+  made = rw (open_whole r.scene.entries was_open) at (calls_made r sid next script room at.script_is at.counted)
 
   made_then : calls_of sid (r.scene.entries ++ entry.Call sid c rep ∷ []) ≡ calls_in (take (next + 1) script)
-  made_then = ap (λ (js : List Entry). calls_of sid (js ++ entry.Call sid c rep ∷ []))
-      (sym (open_whole r.scene.entries was_open)) ∙ calls_then rep room at
+  made_then = rw (open_whole r.scene.entries was_open) at (calls_then rep room at)
 
   ended_then : phases_before script (next + 1) ≡ r.phase
   ended_then = phase_same script next c at.line_is ∙ sym ready
 
   in_phase : IsInPhase r.parts.scripts r.parts.input r.phase r.scene.entries (entry.Call sid c rep)
   in_phase still =
-      let here : phase_of_entry r.parts.scripts r.parts.input r.scene.entries (entry.Call sid c rep) ≡ r.phase =
-      subst (λ (js : List Entry). phase_of_entry r.parts.scripts r.parts.input js (entry.Call sid c rep) ≡ r.phase)
-      (open_whole r.scene.entries was_open) (phase_of_next rep room.follows at ready) in
+      let here = rw (open_whole r.scene.entries was_open) at (phase_of_next rep room.follows at ready) in
       omega (arith, here)
 
   told_there : own.words ≡ Some (words_after (script_in r.parts.scripts sid) (donation_of r.scene.config sid)
       (next + 1))
-  told_there = told
-      ∙ ap (λ (ls : List Line). Some (words_after ls (donation_of r.scene.config sid) (next + 1))) (sym there)
+  told_there = rw there told
 
   no_other_call : (t : ℕ) → t ≢ sid → calls_of t (entry.Call sid c rep ∷ []) ≡ []
   no_other_call t ne = rw (ne_eqb sid t (λ e. ne (sym e))) refl
@@ -205,17 +179,10 @@ module _ (laws : EntryLaws) {r : RoomModel} {called : SceneModel End} {sid next 
   shows : ShowsThen r.scene.config r.parts.scripts r.phase r.scene.entries (entry.Call sid c rep)
       (glasses_of_call (sights (scene_with r.scene sid stages)) sid own)
   shows t i w loaded = elim (cases_eq t sid) [
-    | inl e ↦ subst (λ (x : ℕ). WasLeft r.scene.config r.parts.scripts r.phase x
-        (r.scene.entries ++ entry.Call sid c rep ∷ []) i w) (sym e)
-        (told_shows r.scene.config r.parts.scripts r.phase _ sid (next + 1) own told_there (record {
-          calls = ap (λ (ls : List Line). length (calls_in (take (next + 1) ls))) there
-              ∙ ap (λ (cs : List Call). length cs) (sym made_then);
-          phases = λ still. let p = ended_then in let same = ap (λ (ls : List Line). phases_before ls
-              (next + 1)) there in
-              omega (arith, p, same);
-        }) i w (subst (λ (g : Sight). IsLoaded g i w) (ap (glasses_of_call (sights
-        (scene_with r.scene sid stages)) sid own) e
-        ∙ own_there (sights (scene_with r.scene sid stages)) sid own) loaded))
+    | inl e ↦ rw e (told_shows r.scene.config r.parts.scripts r.phase _ sid (next + 1) own told_there (record {
+      calls = rw (there, made_then) refl;
+      phases = let p = ended_then in rw there (λ still. omega (arith, p));
+    }) i w (rw (e, own_there (sights (scene_with r.scene sid stages)) sid own) at loaded))
     | inr ne ↦ lenses_show laws room was_open added t (no_other_call t ne) i w
         (subst (λ (g : Sight). IsLoaded g i w) (other_glass t ne) loaded)
   ]
@@ -238,18 +205,12 @@ module _ (laws : EntryLaws) {r : RoomModel} {called : SceneModel End} {sid next 
   watching_then : sid < length called.glasses → AreWatching r.parts.scripts r.scene.config
       (without_final later.entries) r.phase later.glasses
   watching_then many t inside = elim (cases_eq t sid) [
-    | inl e ↦ subst (λ (x : ℕ). KnowsStretch (script_in r.parts.scripts x) (donation_of r.scene.config x)
-        (length (calls_of x (without_final later.entries))) r.phase (glass_in (sights later) x)) (sym e)
-        (record {
-          since = next + 1;
-          stages_are = ap (λ (g : Sight). g.stages) (own_end sid _ called.glasses many)
-              ∙ ap (λ (ls : List Line). Some (stretch ls (donation_of r.scene.config sid) (next + 1))) (sym there);
-          behind = ap (λ (ls : List Line). length (calls_in (take (next + 1) ls))) there
-              ∙ ap (λ (cs : List Call). length cs) (sym made_then
-              ∙ ap (calls_of sid) (sym did.added.recorded ∙ sym (open_whole called.entries did.open_is)));
-          begun = let p = ended_then in let same = ap (λ (ls : List Line). phases_before ls (next + 1)) there in
-              omega (arith, p, same);
-        })
+    | inl e ↦ rw e (record {
+      since = next + 1;
+      stages_are = rw there (ap (λ (g : Sight). g.stages) (own_end sid _ called.glasses many));
+      behind = rw (there, ← made_then, open_whole called.entries did.open_is, did.added.recorded) refl;
+      begun = rw there (let p = ended_then in omega (arith, p));
+    })
     | inr ne ↦ watching_other laws room was_open added t inside did.open_is (other_stages t ne) (no_other_call t ne)
   ]
 
@@ -274,17 +235,10 @@ module _ (laws : EntryLaws) {r : RoomModel} {called : SceneModel End} {sid next 
 
 -- ---- the pass after it
 
--- a sight after loads paints the same
-still_painted : (script : List Line) (donation k : ℕ) (plan : PlanModel) (s : Sight) (loads : List (ℕ × ℕ))
-    → IsPaintedTo script donation plan k s → IsPaintedTo script donation plan k (seen s loads)
-still_painted script donation k plan s loads h =
-    record { opens = h.opens; planned = h.planned; ink = h.ink; size = h.size; words = h.words }
-
--- and so does one that knows other stages
-pub staged : (script : List Line) (donation k : ℕ) (plan : PlanModel) (s : Sight) (stages : List (List ℕ))
+-- a sight that knows other stages paints the same
+pub staged : {script : List Line} {donation k : ℕ} {plan : PlanModel} {s : Sight} (stages : List (List ℕ))
     → IsPaintedTo script donation plan k s → IsPaintedTo script donation plan k (with_stages stages s)
-staged script donation k plan s stages h =
-    record { opens = h.opens; planned = h.planned; ink = h.ink; size = h.size; words = h.words }
+staged stages h = assumption
 
 -- the sight after the line, and after what the call loaded
 pub record IsLoadedAfter (p : PassModel) (sight : Sight) : Type 0 where
@@ -295,11 +249,6 @@ pub record IsLoadedAfter (p : PassModel) (sight : Sight) : Type 0 where
   pub set : between ≡ with_stages stages
       (with_words (λ words. words_after p.script p.donation (p.next + 1)) p.sight)
   pub seen_is : sight ≡ seen between loads
-
-told_after : (p : PassModel) → p.sight.words ≡ Some (words_after p.script p.donation p.next)
-    → (with_words (λ words. words_after p.script p.donation (p.next + 1)) p.sight).words
-    ≡ Some (words_after p.script p.donation (p.next + 1))
-told_after p told = ap (option_map (λ words. words_after p.script p.donation (p.next + 1))) told
 
 pub pass_call : (p : PassModel) (share : ShareModel) (spare : End) (c : Call) (met : ℕ) (name : _)
     (known : List Recorded) (sight : Sight) (stand : _) → IsPass p share spare
@@ -320,18 +269,15 @@ pass_call p share spare c met name known sight stand is at l served_ knows =
       within = let w = slice_get_within p.script p.next (line.Call c) at in omega (arith, w);
       phase = is.phase ∙ sym (phase_same p.script p.next c at);
       known = knows;
-      owner = ap (λ (g : Sight). g.owner) (l.seen_is) ∙ ap (λ (g : Sight). g.owner) l.set ∙ is.owner;
-      painted = staged p.script p.donation (p.next + 1) p.plan _ _
-          (subst (λ (g : Sight). IsPaintedTo p.script p.donation p.plan (p.next + 1) g) (sym l.seen_is)
-          (still_painted p.script p.donation (p.next + 1) p.plan l.between l.loads l.painted));
-      inked = ap (λ (g : Sight). g.ink) l.seen_is ∙ ap (λ (g : Sight). g.ink) l.set ∙ is.inked;
-      told = ap (λ (g : Sight). g.words) l.seen_is ∙ ap (λ (g : Sight). g.words) l.set ∙ told_after p is.told;
+      owner = rw (l.seen_is, l.set) is.owner;
+      painted = let painted = l.painted in rw l.seen_is assumption;
+      inked = rw (l.seen_is, l.set) is.inked;
+      told = rw (l.seen_is, l.set) (ap (option_map (λ words. words_after p.script p.donation (p.next + 1))) is.told);
       not_ahead = omega (arith, served_);
       agreed = refl;
       stretch = λ same. stretch_begun p.script p.donation (p.next + 1) _ refl;
       spare_owner = is.spare_owner;
-      spare_size = is.spare_size
-          ∙ sym (ap (λ (g : Sight). g.size) l.seen_is ∙ ap (λ (g : Sight). g.size) l.set);
+      spare_size = rw (l.seen_is, l.set) is.spare_size;
     }
 
 -- ---- what a call finds
@@ -362,22 +308,8 @@ pub pass_met : {r r₀ : RoomModel} {p : PassModel} {share share' : ShareModel} 
     → entries_in known ≡ without_final r.scene.entries → share' ≡ record share { seen = known }
     → IsPass (record p { name = share'.name; seen = entries_in share'.seen }) share' spare
 pass_met {r = r} {p = p} known room same of is counted book seen_ =
-    record {
-      number = ap (λ (s : ShareModel). s.number) seen_ ∙ is.number;
-      counted = ap (λ (s : ShareModel). s.count) seen_ ∙ is.counted;
-      within = is.within;
-      phase = is.phase;
-      known = ap (λ (s : ShareModel). calls_of p.sid (entries_in s.seen)) seen_ ∙ ap (calls_of p.sid) book
-          ∙ calls_made r p.sid p.next p.script room
-          (ap (λ (x : RoomModel). slice_get x.parts.scripts p.sid) same ∙ of.script)
-          (ap (slice_index r.counts) (sym is.number) ∙ counted ∙ is.counted);
-      owner = is.owner;
-      painted = is.painted;
-      inked = is.inked;
-      told = is.told;
-      not_ahead = is.not_ahead;
-      agreed = is.agreed;
-      stretch = is.stretch;
-      spare_owner = is.spare_owner;
-      spare_size = is.spare_size;
-    }
+    let knows : calls_of p.sid (entries_in known) ≡ calls_in (take p.next p.script) = ap (calls_of p.sid) book
+    ∙ calls_made r p.sid p.next p.script room
+    (ap (λ (x : RoomModel). slice_get x.parts.scripts p.sid) same ∙ of.script)
+    (ap (slice_index r.counts) (sym is.number) ∙ counted ∙ is.counted) in
+    rw seen_ assumption

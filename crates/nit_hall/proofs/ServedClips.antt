@@ -1,17 +1,16 @@
 -- A room and a clip pass after a clip call, and clip passes that are done.
-use Rattle.nit_hall.proofs.Basics.{AllByRecursion, AreTogether, Belongs, Call, CallLaws}
-use Rattle.nit_hall.proofs.Basics.{ClipBelongs, ClipCall, ClipLine, ClipPassModel, ClipReply}
-use Rattle.nit_hall.proofs.Basics.{Configuration, Entry, FollowsClips, IsAtClip, IsAtPhaseEnd}
-use Rattle.nit_hall.proofs.Basics.{IsInPhase, IsOpen, IsRoom, List, PassModel, RoomModel, [], ap}
-use Rattle.nit_hall.proofs.Basics.{ap₂, arith, calls_in, calls_of, calls_to_make, calls_up_to}
-use Rattle.nit_hall.proofs.Basics.{cases_eq, clip_answer, clip_calls_in, clip_calls_of, clip_entry}
-use Rattle.nit_hall.proofs.Basics.{clip_phases_before, clip_script_in, clipboard_of, clips_to_do}
-use Rattle.nit_hall.proofs.Basics.{clips_to_make, drop, get_or_from_slice_get, inl, inr, left_after}
-use Rattle.nit_hall.proofs.Basics.{length, length-append, length-set, lines_of_clips, map}
-use Rattle.nit_hall.proofs.Basics.{next_clip, next_phase, phases_along, phases_before, raised, refl}
-use Rattle.nit_hall.proofs.Basics.{replay, script_in, served, slice_get_within, slice_index}
-use Rattle.nit_hall.proofs.Basics.{state_now, subst, sum, sum_by-cons, take_all, to_do}
-use Rattle.nit_hall.proofs.Basics.{user_actions_to_do, with_clip, without_final}
+use Rattle.nit_hall.proofs.Basics.{AllByRecursion, AreTogether, Belongs, CallLaws, ClipBelongs}
+use Rattle.nit_hall.proofs.Basics.{ClipLine, ClipPassModel, ClipReply, Configuration, FollowsClips}
+use Rattle.nit_hall.proofs.Basics.{IsAtClip, IsAtPhaseEnd, IsInPhase, IsOpen, IsRoom, List}
+use Rattle.nit_hall.proofs.Basics.{PassModel, RoomModel, [], ap, arith, calls_in, calls_of}
+use Rattle.nit_hall.proofs.Basics.{calls_to_make, calls_up_to, cases_eq, clip_answer, clip_calls_in}
+use Rattle.nit_hall.proofs.Basics.{clip_calls_of, clip_entry, clip_phases_before, clip_script_in}
+use Rattle.nit_hall.proofs.Basics.{clipboard_of, clips_to_do, clips_to_make, get_or_from_slice_get}
+use Rattle.nit_hall.proofs.Basics.{inl, inr, left_after, length, length-append, length-set}
+use Rattle.nit_hall.proofs.Basics.{lines_of_clips, map, next_clip, next_phase, phases_along}
+use Rattle.nit_hall.proofs.Basics.{phases_before, raised, refl, replay, script_in, served}
+use Rattle.nit_hall.proofs.Basics.{slice_get_within, slice_index, state_now, sum, sum_by-cons}
+use Rattle.nit_hall.proofs.Basics.{take_all, to_do, user_actions_to_do, with_clip}
 use Rattle.std.proofs.Common.{suc, sym, take, ℕ, ◌++◌, ◌+◌, ◌<◌, ◌∙◌, ◌∷◌, ◌≡◌, ◌≤◌}
 use Rattle.nit_hall.proofs.LineLemmas.{front_short}
 use Rattle.nit_hall.proofs.FinalEntries.{open_whole}
@@ -55,13 +54,11 @@ module _ (laws : CallLaws) {r : RoomModel} {p : PassModel} {q : ClipPassModel} (
     script_is = get_or_from_slice_get r.parts.clips q.sid q.script [] f.clip_belongs.script
 
     inside : q.sid < length r.clip_counts
-    inside = let h = slice_get_within r.parts.clips q.sid q.script f.clip_belongs.script in let n =
-        room.clips_follow.each in omega (arith, h, n)
+    inside = omega (arith, slice_get_within r.parts.clips q.sid q.script f.clip_belongs.script, room.clips_follow.each)
 
     -- the clip calls so far, and with the next one
     made : clip_calls_of q.sid r.clips.entries ≡ clip_calls_in (take q.next q.script)
-    made = room.clips_follow.calls q.sid ∙ ap₂ (λ (n : ℕ) (s : List ClipLine). take n (clip_calls_in s)) f.clip_counted
-        script_is ∙ clips_front q.script q.next
+    made = rw (room.clips_follow.calls q.sid, f.clip_counted, script_is) (clips_front q.script q.next)
 
     more : clip_calls_in (take (q.next + 1) q.script) ≡ clip_calls_in (take q.next q.script) ++ next_clip q ∷ []
     more = laws.call q.script q.next (next_clip q) f.next_is
@@ -71,8 +68,8 @@ module _ (laws : CallLaws) {r : RoomModel} {p : PassModel} {q : ClipPassModel} (
         ∙ sym (ap length more ∙ length-append (clip_calls_in (take q.next q.script)) (next_clip q ∷ []))
 
     one_left : slice_index (raised r.clip_counts q.sid) q.sid ≤ length (clip_calls_in q.script)
-    one_left = let few = front_short (length (clip_calls_in (take (q.next + 1) q.script))) (clip_calls_in q.script)
-        (clip_calls_in (take (q.next + 1) q.script)) (clips_front q.script (q.next + 1)) refl in omega (arith, few, up)
+    one_left = let few = front_short _ (clip_calls_in q.script) _ (clips_front q.script (q.next + 1)) refl in
+        omega (arith, few, up)
 
     -- the client's calls so far are those of all phases up to this one
     client_script : script_in r.parts.scripts q.sid ≡ p.script
@@ -80,43 +77,34 @@ module _ (laws : CallLaws) {r : RoomModel} {p : PassModel} {q : ClipPassModel} (
         ∙ get_or_from_slice_get r.parts.scripts p.sid p.script [] f.belongs.script
 
     client_calls : calls_of q.sid r.scene.entries ≡ calls_in (take p.next p.script)
-    client_calls = ap₂ (λ (s : ℕ) (js : List Entry). calls_of s js) (sym f.together.client)
-        (sym (open_whole r.scene.entries f.open_is))
-        ∙ calls_made r p.sid p.next p.script room f.belongs.script f.counted
+    client_calls = rw (f.together.client, open_whole r.scene.entries f.open_is)
+        at (calls_made r p.sid p.next p.script room f.belongs.script f.counted)
 
     to_make : to_do (map calls_to_make r.parts.scripts) q.sid ≡ calls_to_make p.script
     to_make = made_of r.parts.scripts q.sid ∙ ap calls_to_make client_script
 
     phase_now : r.phase ≡ 0 + phases_before p.script p.next
-    phase_now = let e = f.ready in let n = f.phase_is in omega (arith, e, n)
+    phase_now = omega (arith, f.ready, f.phase_is)
 
     called : length (calls_up_to r.phase (to_do (map calls_to_make r.parts.scripts) q.sid))
         ≡ length (calls_of q.sid (take (length r.scene.entries) r.scene.entries))
-    called =
-        ap₂ (λ (n : ℕ) (ts : List (ℕ × Call)). length (calls_up_to n ts)) phase_now to_make
-        ∙ calls_of_phases p.script 0 p.next f.phase_end
-        ∙ ap length (sym client_calls)
-        ∙ ap (λ (js : List Entry). length (calls_of q.sid js))
-        (sym (take_all (length r.scene.entries) r.scene.entries (omega arith)))
+    called = rw (phase_now, to_make, take_all (length r.scene.entries) r.scene.entries (omega arith), client_calls)
+        (calls_of_phases p.script 0 p.next f.phase_end)
 
     next_in : next_phase (clips_to_do (left_after (map clips_to_make r.parts.clips) r.clips.entries) q.sid) ≡ r.phase
-    next_in =
-        ap next_phase (laws.left (map clips_to_make r.parts.clips) r.clips.entries q.sid
-        ∙ ap₂ (λ (cs : List ClipCall) (ts : List (ℕ × ClipCall)). drop (length cs) ts) made
-        (made_by r.parts.clips q.sid ∙ ap clips_to_make script_is))
-        ∙ laws.phase q.script q.next (next_clip q) f.next_is
-        ∙ sym f.clip_phase_is ∙ sym f.together.phase ∙ f.ready
+    next_in = rw (
+      laws.left (map clips_to_make r.parts.clips) r.clips.entries q.sid,
+      made,
+      made_by r.parts.clips q.sid,
+      script_is,
+    )
+        (laws.phase q.script q.next (next_clip q) f.next_is ∙ sym f.clip_phase_is ∙ sym f.together.phase ∙ f.ready)
 
     phases_so_far : AllByRecursion (λ x. x ≤ r.phase)
         (take (length r.scene.entries)
         (phases_along (map calls_to_make r.parts.scripts) (user_actions_to_do r.parts.input) r.scene.entries))
-    phases_so_far =
-        subst (λ (js : List Entry). AllByRecursion (λ x. x ≤ r.phase)
-        (take (length r.scene.entries)
-        (phases_along (map calls_to_make r.parts.scripts) (user_actions_to_do r.parts.input) js)))
-        (open_whole r.scene.entries f.open_is)
-        (all_up_to (phases_along (map calls_to_make r.parts.scripts) (user_actions_to_do r.parts.input)
-        (without_final r.scene.entries)) r.phase (length r.scene.entries) room.follows.phases)
+    phases_so_far = all_up_to _ r.phase (length r.scene.entries)
+        (rw (open_whole r.scene.entries f.open_is) at room.follows.phases)
 
     in_phase : (reply : ClipReply)
         → IsInPhase (map calls_to_make r.parts.scripts) (user_actions_to_do r.parts.input) r.scene.entries
@@ -137,8 +125,7 @@ module _ (laws : CallLaws) {r : RoomModel} {p : PassModel} {q : ClipPassModel} (
         let most = counts_most r.parts.clips (raised r.clip_counts q.sid)
         (length-set r.clip_counts q.sid (slice_index r.clip_counts q.sid + 1) ∙ room.clips_follow.each)
         (λ t. omega (arith, few_then t, clips_short (clip_script_in r.parts.clips t))) in
-        let sum = room.clips_follow.room in
-        omega (arith, most, sum_raised r.clip_counts q.sid inside, sum)
+        omega (arith, most, sum_raised r.clip_counts q.sid inside, room.clips_follow.room)
 
     -- ---- after it
 
@@ -147,21 +134,19 @@ module _ (laws : CallLaws) {r : RoomModel} {p : PassModel} {q : ClipPassModel} (
       calls_then : (t : ℕ) → clip_calls_of t (r.clips.entries ++ clip_entry r q reply ∷ [])
           ≡ take (slice_index (raised r.clip_counts q.sid) t) (clip_calls_in (clip_script_in r.parts.clips t))
       calls_then t = elim (cases_eq t q.sid) [
-        | inl e ↦ subst (λ (x : ℕ). clip_calls_of x (r.clips.entries ++ clip_entry r q reply ∷ [])
-            ≡ take (slice_index (raised r.clip_counts q.sid) x) (clip_calls_in (clip_script_in r.parts.clips x)))
-            (sym e)
-            (own_clip q.sid r.clips.entries (clip_entry r q reply) refl
-            ∙ ap (λ (cs : List ClipCall). cs ++ next_clip q ∷ []) made ∙ sym more
-            ∙ sym (clips_front q.script (q.next + 1))
-            ∙ sym (ap₂ (λ (n : ℕ) (s : List ClipLine). take n (clip_calls_in s)) up script_is))
-        | inr ne ↦ other_clip t r.clips.entries (clip_entry r q reply) (λ e. ne (sym e)) ∙ room.clips_follow.calls t
-            ∙ ap (λ (n : ℕ). take n (clip_calls_in (clip_script_in r.parts.clips t)))
-            (sym (raised_other r.clip_counts q.sid t ne))
+        | inl e ↦ rw (e, own_clip q.sid r.clips.entries (clip_entry r q reply) refl, made, up, script_is)
+            (sym more ∙ sym (clips_front q.script (q.next + 1)))
+        | inr ne ↦ rw (raised_other r.clip_counts q.sid t ne)
+            (other_clip t r.clips.entries (clip_entry r q reply) (λ e. ne (sym e)) ∙ room.clips_follow.calls t)
       ]
 
       session_is : q.sid < length r.parts.config.clients
-      session_is = let h = slice_get_within r.parts.scripts p.sid p.script f.belongs.script in let n =
-          room.sessions in let e = f.together.client in omega (arith, h, n, e)
+      session_is = omega (
+        arith,
+        slice_get_within r.parts.scripts p.sid p.script f.belongs.script,
+        room.sessions,
+        f.together.client,
+      )
 
       pub follows_then : FollowsClips r.parts (raised r.clip_counts q.sid) r.scene.entries
           (with_clip r (clip_entry r q reply)).clips
@@ -175,24 +160,8 @@ module _ (laws : CallLaws) {r : RoomModel} {p : PassModel} {q : ClipPassModel} (
         in_phases = laws.placed (map calls_to_make r.parts.scripts) (user_actions_to_do r.parts.input) r.scene.entries
             (map clips_to_make r.parts.clips) r.clips.entries (clip_entry r q reply) room.clips_follow.in_phases
             (in_phase reply);
-        room = let rise = sum_raised r.clip_counts q.sid inside in let left = room_left in let sum =
-            room.clips_follow.room in omega (arith, rise, left, sum);
+        room = omega (arith, sum_raised r.clip_counts q.sid inside, room_left, room.clips_follow.room);
       }
 
       pub room_clip : IsRoom (with_clip r (clip_entry r q reply))
-      room_clip = record {
-        config = room.config;
-        legal = room.legal;
-        sessions = room.sessions;
-        clients = room.clients;
-        follows = room.follows;
-        phases = room.phases;
-        inks = room.inks;
-        watching = room.watching;
-        near = room.near;
-        room = room.room;
-        ended = room.ended;
-        clips_follow = follows_then;
-        history = room.history;
-        history_ends = room.history_ends;
-      }
+      room_clip = assumption (follows_then, room)

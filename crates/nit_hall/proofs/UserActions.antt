@@ -4,9 +4,9 @@ use Rattle.nit_hall.proofs.Basics.{InputLine, IsAdded, IsOpen, IsRoom, IsUserPas
 use Rattle.nit_hall.proofs.Basics.{Painted, Recorded, RoomModel, Routed, SceneModel, ShareModel}
 use Rattle.nit_hall.proofs.Basics.{Sight, Some, UserAction, UserBelongs, UserHasMet, UserPassModel}
 use Rattle.nit_hall.proofs.Basics.{[], actions_of-append, ap, ap₂, arith, entries_in, glass_in, inl}
-use Rattle.nit_hall.proofs.Basics.{input_phases_before, is_input_phase, length, phase_of_entry}
-use Rattle.nit_hall.proofs.Basics.{raised, raws_in, refl, slice_get_within, slice_index}
-use Rattle.nit_hall.proofs.Basics.{slice_index_or, state_now, user_actions_of, without_final}
+use Rattle.nit_hall.proofs.Basics.{input_phases_before, is_input_phase, length, raised, raws_in}
+use Rattle.nit_hall.proofs.Basics.{refl, slice_get_within, slice_index, slice_index_or, state_now}
+use Rattle.nit_hall.proofs.Basics.{user_actions_of, without_final}
 use Rattle.nit_hall.proofs.FinalEntries.{open_whole}
 use Rattle.std.proofs.Common.{slice_get, subst, sym, ℕ, ◌++◌, ◌+◌, ◌-◌, ◌∙◌, ◌∷◌, ◌≡◌}
 use Rattle.nit_events.specs.declared.entry.Entry.TheVariants as entry
@@ -62,9 +62,7 @@ action_in_phase : {r : RoomModel} {next : ℕ} {l : InputLine} {e : Entry} → I
     → r.phase ≡ input_phases_before r.parts.input next
     → IsInPhase r.parts.scripts r.parts.input r.phase r.scene.entries e
 action_in_phase {r = r} {e = e} room was at adds ready still =
-    let here : phase_of_entry r.parts.scripts r.parts.input r.scene.entries e ≡ r.phase =
-    subst (λ (js : List Entry). phase_of_entry r.parts.scripts r.parts.input js e ≡ r.phase)
-    (open_whole r.scene.entries was) (phase_of_action_next room.follows at e adds ready) in
+    let here = rw (open_whole r.scene.entries was) at (phase_of_action_next room.follows at e adds ready) in
     omega (arith, here)
 
 pub done_input : EntryLaws → {r : RoomModel} {new : SceneModel End} {next : ℕ} {dev : Device} {routed : Routed}

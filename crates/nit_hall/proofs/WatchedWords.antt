@@ -1,13 +1,12 @@
 -- What a reader's end shows, by the stretch of its script that it knows.
-use Rattle.nit_hall.proofs.Basics.{Call, Configuration, Entry, IfSome, Ink, IsAmong, IsInked}
-use Rattle.nit_hall.proofs.Basics.{IsLegal, IsLoaded, KnowsStretch, LegalFrom, Line, List}
-use Rattle.nit_hall.proofs.Basics.{MayHaveDone, Option, Sight, Some, State, [], after, ap}
-use Rattle.nit_hall.proofs.Basics.{append-nil, arith, as_many, as_many_as_clients, calls_in}
-use Rattle.nit_hall.proofs.Basics.{calls_of, calls_of-append, cases_lt, donation_of, first_state}
-use Rattle.nit_hall.proofs.Basics.{get_or_past, ink_in, inl, inr, length, ne_eqb, no_ink}
-use Rattle.nit_hall.proofs.Basics.{phases_before, refl, script_in, slice_index, stretch}
-use Rattle.nit_hall.proofs.Basics.{stretch_end, subst, sym, table_size, take, within_only}
-use Rattle.nit_hall.proofs.Basics.{words_after, zero_at, ℕ, ◌∙◌}
+use Rattle.nit_hall.proofs.Basics.{Configuration, Entry, IfSome, IsAmong, IsLegal, IsLoaded}
+use Rattle.nit_hall.proofs.Basics.{KnowsStretch, LegalFrom, Line, List, MayHaveDone, Option, Sight}
+use Rattle.nit_hall.proofs.Basics.{Some, State, [], after, ap, append-nil, arith, as_many}
+use Rattle.nit_hall.proofs.Basics.{as_many_as_clients, calls_in, calls_of, calls_of-append}
+use Rattle.nit_hall.proofs.Basics.{cases_lt, donation_of, first_state, get_or_past, ink_in, inl}
+use Rattle.nit_hall.proofs.Basics.{inr, length, ne_eqb, no_ink, phases_before, refl, script_in}
+use Rattle.nit_hall.proofs.Basics.{slice_index, stretch, stretch_end, subst, sym, table_size, take}
+use Rattle.nit_hall.proofs.Basics.{within_only, words_after, zero_at, ℕ, ◌∙◌}
 use Rattle.std.proofs.Common.{◌+◌, ◌<◌, ◌∷◌, ◌≡◌, ◌≤◌, ◌++◌}
 use Rattle.nit_events.specs.declared.entry.Entry.TheVariants as entry
 use Rattle.nit_hall.proofs.Stretches.{stretch_same}
@@ -77,29 +76,21 @@ lens_shows config scripts ended entries e t g legal sessions inked watch none i 
       | inl inside ↦ let l = left_by_stretch _ _ _ _ i w g (watch inside) loaded in (
         l.lines,
         record {
-          calls = l.calls ∙ sym (ap (λ (cs : List Call). length cs) (calls_of-append t entries (e ∷ [])
-              ∙ ap (λ (cs : List Call). calls_of t entries ++ cs) none ∙ append-nil (calls_of t entries)));
+          calls = rw (calls_of-append t entries (e ∷ []), none, append-nil) l.calls;
           phases = λ still_open. l.phases;
         },
         l.word,
       )
       | inr past ↦
-          let no_script : script_in scripts t ≡ [] = past_script scripts t past in
-          let zero_ : w ≡ 0 = no_ink i w (subst (λ (x : Ink). IsInked x i w)
-          (inked ∙ sym (ink_behind config scripts t past)) loaded.inked) in
-          let silent = no_calls config t (entries ++ e ∷ []) (let n = as_many_as_clients config [] in
-          omega (arith, n, sessions, past)) legal in (
+          let no_script : script_in scripts t ≡ [] = get_or_past scripts t [] past in
+          let zero_ = no_ink i w (rw (inked, ← ink_behind config scripts t past) at loaded.inked) in
+          let silent = no_calls config t (entries ++ e ∷ [])
+          (omega (arith, as_many_as_clients config [], sessions, past)) legal in (
             0,
-            record {
-              calls = sym (ap (λ (cs : List Call). length cs) silent);
-              phases = λ still_open. omega arith;
-            },
+            record { calls = rw silent refl; phases = λ still_open. omega arith },
             zero_ ∙ sym (zero_at (table_size (donation_of config t)) i),
           )
     ]
-  where
-    past_script : (scripts : List (List Line)) (t : ℕ) → length scripts ≤ t → script_in scripts t ≡ []
-    past_script scripts t past = get_or_past scripts t [] past
 
 -- through a glass that tells what so many lines have left
 pub told_shows : (config : Configuration) (scripts : List (List Line)) (ended : ℕ) (entries : List Entry) (t n : ℕ)

@@ -1,20 +1,83 @@
--- What is drawn, move by move, and that a scene holds it.
+-- What is drawn, move by move, that a scene holds it, and frames that are shown one after the other.
 use Rattle.nit_rounds.proofs.Basics.{ActorLine, AreLoaded, Bool, ByClient, ByUser, Configuration}
-use Rattle.nit_rounds.proofs.Basics.{Drawing, Entry, InputLine, IsDrawn, IsMoved, Line, LineTurn}
-use Rattle.nit_rounds.proofs.Basics.{List, None, Option, SceneModel, ShotFrame, ShowsEach}
-use Rattle.nit_rounds.proofs.Basics.{ShowsLine, Sight, Some, State, [], add-zero, after, after_turn}
-use Rattle.nit_rounds.proofs.Basics.{cases_Bool, cond, dirty, done_after, drawn_shot, entry_of}
-use Rattle.nit_rounds.proofs.Basics.{false, fold-append, frame, frame_of, get_or-map-range_with_len}
-use Rattle.nit_rounds.proofs.Basics.{glass_in, inl, inr, length, line_by, map, next_shot}
-use Rattle.nit_rounds.proofs.Basics.{opening_drawing, pixel, pixel_count, range_with_len, refl}
-use Rattle.nit_rounds.proofs.Basics.{same_config, same_frame, scenery_of, shots, shots_after}
-use Rattle.nit_rounds.proofs.Basics.{slice_index_or, source_at, state_after, state_now, sym}
-use Rattle.nit_rounds.proofs.Basics.{tables_after, true, word_after_entry, zero-add, ℕ}
-use Rattle.std.proofs.Common.{◌++◌, ◌+◌, ◌<◌, ◌==◌, ◌∙◌, ◌∷◌, ◌≡◌}
+use Rattle.nit_rounds.proofs.Basics.{Drawing, Entry, InputLine, IsDrawn, IsLoaded, IsMoved}
+use Rattle.nit_rounds.proofs.Basics.{IsWordOfSource, Line, LineTurn, List, None, Option}
+use Rattle.nit_rounds.proofs.Basics.{PixelSource, PutState, PutsAll, PutsNext, SceneModel}
+use Rattle.nit_rounds.proofs.Basics.{ShotFrame, ShowsEach, ShowsLine, Sight, Some, State, Word, []}
+use Rattle.nit_rounds.proofs.Basics.{add-zero, after, after_turn, cases_Bool, cases_lt, cond, dirty}
+use Rattle.nit_rounds.proofs.Basics.{donation_of, done_after, drawn_shot, entry_of, false}
+use Rattle.nit_rounds.proofs.Basics.{fold-append, frame, frame_of, get_or-map-range_with_len}
+use Rattle.nit_rounds.proofs.Basics.{get_or_past, glass_after, glass_in, inl, inr, length, line_by}
+use Rattle.nit_rounds.proofs.Basics.{map, next_shot, no_ink, no_sight, opening_drawing, pixel}
+use Rattle.nit_rounds.proofs.Basics.{pixel_count, range_with_len, refl, same_config, same_frame}
+use Rattle.nit_rounds.proofs.Basics.{scenery_of, script_in, shot_file, shots, shots_after}
+use Rattle.nit_rounds.proofs.Basics.{slice_index, slice_index_or, source_at, state_after, state_now}
+use Rattle.nit_rounds.proofs.Basics.{sym, table_size, tables_after, true, word_after_entry}
+use Rattle.nit_rounds.proofs.Basics.{word_from, words_after, zero-add, zero_at, zeros, ℕ}
+use Rattle.std.proofs.Common.{ap, suc, zero, ◌++◌, ◌+◌, ◌<◌, ◌==◌, ◌∙◌, ◌∷◌, ◌≡◌}
 use Rattle.nit_rounds.specs.Drawing.{drawn}
 use Rattle.nit_script.specs.declared.line.InputLine.TheVariants as input
-use Rattle.nit_rounds.proofs.TableWords.{AreOf, held_word}
-use Rattle.nit_rounds.proofs.ShownFrames.{shows_more}
+
+-- ---- words
+
+-- what is loaded from each glass is the word of its session's table
+abbrev pub AreOf : (ℕ → Sight) → (ℕ → List ℕ) → Type 0
+AreOf glasses tables = (t i w : ℕ) → IsLoaded (glasses t) i w → w ≡ slice_index (tables t) i
+
+pub held_word : (glasses : ℕ → Sight) (tables : ℕ → List ℕ) (source : PixelSource) (w : ℕ) → AreOf glasses tables
+    → IsWordOfSource glasses source w → w ≡ word_from tables source
+held_word glasses tables (Word t i) w are held = are t i w held
+held_word glasses tables other w are held = held
+
+no_lines : (donation k : ℕ) → words_after [] donation k ≡ zeros (table_size donation)
+no_lines donation zero = refl
+no_lines donation (suc k) = refl
+
+-- where each glass tells the words that so many lines of its script leave, each word is of these
+pub tables_told : (config : Configuration) (scripts : List (List Line)) (owns : List Sight) (done : ℕ → ℕ)
+    → length owns ≡ length scripts
+    → ((t : ℕ) → t < length scripts
+    → glass_in owns t ≡ glass_after t (script_in scripts t) (donation_of config t) (done t))
+    → AreOf (glass_in owns) (tables_after config scripts done)
+tables_told config scripts owns done each tell t i w loaded =
+    elim (cases_lt t (length scripts)) [
+      | inl inside ↦ (rw (tell t inside) at loaded).told
+      | inr past ↦
+          let none : glass_in owns t ≡ no_sight =
+          get_or_past owns t no_sight (rw (← each) at past) in
+          let script : script_in scripts t ≡ [] = get_or_past scripts t [] past in
+          cc (
+            no_ink i w (rw none at loaded).inked,
+            zero_at (table_size (donation_of config t)) i,
+            no_lines
+                (donation_of config t) (done t),
+            script,
+          )
+    ]
+
+-- one frame more
+pub shows_more : {V : Type 0} (Shows : ShotFrame → V → V → Type 0) (front : List ShotFrame) (f : ShotFrame)
+    (old mid new : V) → ShowsEach Shows front old mid → Shows f mid new → ShowsEach Shows (front ++ f ∷ []) old new
+shows_more {V = V} Shows [] f old mid new same more = (new, rw same at more, refl)
+shows_more Shows (g ∷ front) f old mid new (next, first, rest) more =
+    (next, first, shows_more Shows front f next mid new rest more)
+
+-- what each frame leaves as it is, all leave as it is
+pub stays_throughout : {V X : Type 0} (Shows : ShotFrame → V → V → Type 0) (part : V → X) (frames : List ShotFrame)
+    (old new : V) → ((f : ShotFrame) (before after' : V) → Shows f before after' → part after' ≡ part before)
+    → ShowsEach Shows frames old new → part new ≡ part old
+stays_throughout Shows part [] old new stays shown = ap part shown
+stays_throughout Shows part (f ∷ frames) old new stays (mid, first, rest) =
+    stays_throughout Shows part frames mid new stays rest ∙ stays f old mid first
+
+-- where each frame is put as its picture, all are
+pub put_as_pictures : {V : Type 0} (Shows : ShotFrame → V → V → Type 0) (put : V → PutState) (frames : List ShotFrame)
+    (old new : V) → ((f : ShotFrame) (before after' : V) → Shows f before after'
+    → PutsNext (shot_file f) (put before) (put after')) → ShowsEach Shows frames old new
+    → PutsAll (map shot_file frames) (put old) (put new)
+put_as_pictures Shows put [] old new puts shown = ap put shown
+put_as_pictures Shows put (f ∷ frames) old new puts (mid, first, rest) =
+    (put mid, puts f old mid first, put_as_pictures Shows put frames mid new puts rest)
 
 -- ---- the drawing
 
@@ -101,7 +164,4 @@ pub shows_drawn : {V : Type 0} (Shows : ShotFrame → V → V → Type 0) (confi
     → ShowsEach Shows (shots_after config (ByUser l) d) first new
 shows_drawn Shows config d s input.Shot first old new same is shown more =
     rw (shot_is config d s same is) at (shows_more Shows d.shots (next_shot s) first old new shown more)
-shows_drawn {V = V} Shows config d s (input.Device dev) first old new same is shown more =
-    rw (← more) at shown
-shows_drawn {V = V} Shows config d s input.Phase first old new same is shown more =
-    rw (← more) at shown
+shows_drawn Shows config d s other first old new same is shown more = rw (← more) at shown

@@ -1,14 +1,133 @@
--- Which lines of an actor are done in the rounds, and which before a move.
+-- How many moves there are, as many as lines; which lines of an actor are done in the rounds, and which before a move.
 use Rattle.nit_rounds.proofs.Basics.{ActorLine, ByClient, ByUser, InputLine, Line, LineTurn, List}
-use Rattle.nit_rounds.proofs.Basics.{Some, [], add-one, ap, arith, cases_lt, cond, ends_phase}
+use Rattle.nit_rounds.proofs.Basics.{Some, [], actions_of_line, actions_of_turns, actors, add-one}
+use Rattle.nit_rounds.proofs.Basics.{ap, arith, cases_lt, clients_from, cond, drop, ends_phase}
 use Rattle.nit_rounds.proofs.Basics.{eq-eqb, flat_map, flat_map-append, get_or}
-use Rattle.nit_rounds.proofs.Basics.{get_or-range_with_len, get_or_at, get_or_past, inl}
-use Rattle.nit_rounds.proofs.Basics.{input_by_user, input_lines_of, inr, length, length-append}
-use Rattle.nit_rounds.proofs.Basics.{length-map, length-range_with_len, line_by, lines_of, map}
-use Rattle.nit_rounds.proofs.Basics.{ne_eqb, range_with_len, refl, rounds, slice_get, subst, suc}
-use Rattle.nit_rounds.proofs.Basics.{sym, take_at, turns_from}
-use Rattle.std.proofs.Common.{zero-add, ℕ, take, ◌++◌, ◌+◌, ◌<◌, ◌∙◌, ◌∷◌, ◌≡◌}
-use Rattle.nit_rounds.proofs.Scripts.{client_part, user_part}
+use Rattle.nit_rounds.proofs.Basics.{get_or-range_with_len, get_or_at, get_or_past, greatest}
+use Rattle.nit_rounds.proofs.Basics.{in_phase, inl, input_by_user, input_lines_of, inr, length}
+use Rattle.nit_rounds.proofs.Basics.{length-append, length-map, length-range_with_len, line_by}
+use Rattle.nit_rounds.proofs.Basics.{lines_of, map, ne_eqb, phase_count, phase_rounds}
+use Rattle.nit_rounds.proofs.Basics.{range_with_len, refl, rounds, slice_get, suc, sum_by-cons, sym}
+use Rattle.nit_rounds.proofs.Basics.{take_at, turns_from, turns_of}
+use Rattle.std.proofs.Common.{sum, take, take-append-drop, zero, zero-add, ℕ, ◌++◌, ◌+◌, ◌<◌, ◌∙◌}
+use Rattle.std.proofs.Common.{◌∷◌, ◌≡◌, ◌≤◌}
+use Rattle.nit_rounds.proofs.OneActor.{Below, Short, all_walk, phases_whole, short_drop}
+use Rattle.nit_rounds.proofs.OneActor.{short_greatest, walk}
+use Rattle.nit_rounds.proofs.Scripts.{below, client_part, user_part}
+use Rattle.nit_script.specs.declared.line.Line.TheVariants as line
+use Rattle.nit_script.specs.declared.line.InputLine.TheVariants as input
+
+-- how many moves the lists have
+total : List (List LineTurn) → ℕ
+total [] = 0
+total (l ∷ all) = length l + total all
+
+none_in_all : (all : List (List LineTurn)) → Short 0 all → total all ≡ 0
+unfolding total
+none_in_all [] h = refl
+none_in_all (l ∷ all) h = let here : length l ≤ 0 = h.0 in let rest : total all ≡ 0 = none_in_all all h.1 in omega arith
+
+firsts_and_rest : (all : List (List LineTurn)) → length (flat_map (take 1) all) + total (map (drop 1) all) ≡ total all
+unfolding total
+firsts_and_rest [] = refl
+firsts_and_rest (l ∷ all) =
+    let whole : length (take 1 l) + length (drop 1 l) ≡ length l = rw (
+      ← length-append (take 1 l) (drop 1 l),
+      take-append-drop 1 l,
+    ) in
+    omega (arith, length-append (take 1 l) (flat_map (take 1) all), firsts_and_rest all)
+
+walk_long : (n : ℕ) (all : List (List LineTurn)) → Short n all → length (walk n all) ≡ total all
+walk_long zero all h = sym (none_in_all all h)
+walk_long (suc n) all h = omega (
+  arith,
+  length-append (flat_map (take 1) all) (walk n (map (drop 1) all)),
+  walk_long n (map (drop 1) all) (short_drop n all h),
+  firsts_and_rest all,
+)
+
+phase_long : (all : List (List LineTurn)) (p : ℕ) → length (phase_rounds all p) ≡ total (map (in_phase p) all)
+phase_long all p = rw (
+  all_walk (map (in_phase p) all),
+  walk_long (greatest (map length (map (in_phase p) all))) (map
+      (in_phase p) all) (short_greatest (map (in_phase p) all)),
+)
+
+no_actor : (ps : List ℕ) → length (flat_map (phase_rounds []) ps) ≡ 0
+no_actor [] = refl
+no_actor (p ∷ ps) = no_actor ps
+
+-- the moves of one actor more
+one_actor : (l : List LineTurn) (all : List (List LineTurn)) (ps : List ℕ)
+    → length (flat_map (phase_rounds (l ∷ all)) ps)
+    ≡ length (flat_map (λ p. in_phase p l) ps) + length (flat_map (phase_rounds all) ps)
+unfolding total
+one_actor l all [] = refl
+one_actor l all (p ∷ ps) =
+    omega (
+      arith,
+      length-append (phase_rounds (l ∷ all) p) (flat_map (phase_rounds (l ∷ all)) ps),
+      length-append (phase_rounds all p) (flat_map (phase_rounds all) ps),
+      length-append (in_phase p l) (flat_map (λ q. in_phase q l) ps),
+      phase_long (l ∷ all) p,
+      phase_long all p,
+      one_actor l all ps,
+    )
+
+-- how many lines the scripts have
+lines_in : List (List ActorLine) → ℕ
+lines_in [] = 0
+lines_in (ds ∷ all) = length ds + lines_in all
+
+moves_long : (p n : ℕ) (ds : List ActorLine) → length (turns_from p n ds) ≡ length ds
+moves_long p n [] = refl
+moves_long p n (d ∷ ds) = ap (λ (k : ℕ). suc k) (moves_long _ (suc n) ds)
+
+-- the moves of each of the scripts are in phases below this one
+abbrev AllBelow : ℕ → List (List ActorLine) → Type 0
+AllBelow count all = (k : ℕ) → Below count (turns_of (get_or all k []))
+
+rounds_long : (count : ℕ) (all : List (List ActorLine)) → AllBelow count all
+    → length (flat_map (phase_rounds (map turns_of all)) (range_with_len 0 count)) ≡ lines_in all
+unfolding lines_in
+rounds_long count [] h = no_actor (range_with_len 0 count)
+rounds_long count (ds ∷ all) h =
+    let here =
+    ap length (phases_whole ds 0 0 count (rw (← zero-add count) at (h 0)))
+    ∙ moves_long 0 0 ds in
+    one_actor (turns_of ds) (map turns_of all) (range_with_len 0 count)
+    ∙ omega (arith, here, rounds_long count all (λ k. h (suc k)))
+
+lines_of_all : (sid : ℕ) (scripts : List (List Line)) (input : List InputLine)
+    → lines_in (clients_from sid scripts ++ map ByUser input ∷ []) ≡ sum (map length scripts) + length input
+unfolding lines_in
+lines_of_all sid [] input = omega (arith, length-map input ByUser)
+lines_of_all sid (x ∷ scripts) input =
+    omega (
+      arith,
+      length-map x (ByClient sid),
+      sum_by-cons (λ (n : ℕ). n) (length x) (map length scripts),
+      lines_of_all (suc sid) scripts input,
+    )
+
+pub as_many_as_lines : (scripts : List (List Line)) (input : List InputLine)
+    → length (rounds scripts input) ≡ sum (map length scripts) + length input
+as_many_as_lines scripts input = rounds_long (phase_count scripts input) (actors scripts input) (below scripts input)
+    ∙ lines_of_all 0 scripts input
+
+one_act : (d : ActorLine) → length (actions_of_line d) ≤ 1
+one_act (ByClient s (line.Call c)) = omega arith
+one_act (ByUser input.Phase) = omega arith
+one_act other = omega arith
+
+pub few_acts : (moves : List LineTurn) → length (actions_of_turns moves) ≤ length moves
+few_acts [] = omega arith
+few_acts (m ∷ moves) = omega (
+  arith,
+  length-append (actions_of_line m.doing) (actions_of_turns moves),
+  one_act m.doing,
+  few_acts moves,
+)
 
 -- ---- all lines
 
@@ -29,10 +148,10 @@ made_numbers f of one p n [] = refl
 made_numbers f of one p n (l ∷ ls) =
     rw (one l) (rw (made_numbers f of one (cond (ends_phase (f l)) (suc p) p) (suc n) ls, ← add-one n))
 
-own_line : (s : ℕ) (l : Line) → line_by s (ByClient s l) ≡ l ∷ []
+pub own_line : (s : ℕ) (l : Line) → line_by s (ByClient s l) ≡ l ∷ []
 own_line s l = rw (eq-eqb s s refl) refl
 
-other_line : (s t : ℕ) (l : Line) → (t ≡ s → ⊥) → line_by s (ByClient t l) ≡ []
+pub other_line : (s t : ℕ) (l : Line) → (t ≡ s → ⊥) → line_by s (ByClient t l) ≡ []
 other_line s t l other = rw (ne_eqb t s other) refl
 
 pub client_lines : (scripts : List (List Line)) (input : List InputLine) (s : ℕ) → lines_of s (rounds scripts input)
@@ -78,9 +197,6 @@ as_many of (m ∷ moves) =
 abbrev front_lines : {L : Type 0} → (ActorLine → List L) → List LineTurn → List L
 front_lines of moves = flat_map (λ m. of m.doing) moves
 
-nothing_there : {L : Type 0} (l : L) (k : ℕ) → slice_get [] k ≡ Some l → ⊥
-nothing_there l k e = cc
-
 middle : {L : Type 0} (front : List L) (l : L) (back : List L) → slice_get (front ++ l ∷ back) (length front) ≡ Some l
 middle [] l back = refl
 middle (x ∷ front) l back = middle front l back
@@ -90,12 +206,10 @@ abbrev IsDone : {L : Type 0} → (ActorLine → List L) → List L → List Line
 IsDone of script front number l = (slice_get script number ≡ Some l)
     × (flat_map (λ m. of m.doing) front ≡ take number script)
 
-done_at : {L : Type 0} (of : ActorLine → List L) (script front : List L) (l : L) (back : List L) (moves : List LineTurn)
-    (number : ℕ) → front ++ l ∷ back ≡ script → front ≡ flat_map (λ m. of m.doing) moves → number ≡ length front
-    → IsDone of script moves number l
-done_at {L = L} of script front l back moves number whole made count =
-    let P : List L → Type 0 = λ x. (slice_get x number ≡ Some l) × (flat_map (λ m. of m.doing) moves ≡ take number x) in
-    subst P whole (rw count (middle front l back), sym made ∙ sym (take_at front (l ∷ back) number (sym count)))
+done_at : {L : Type 0} (front back : List L) (l : L) (number : ℕ) → number ≡ length front
+    → (slice_get (front ++ l ∷ back) number ≡ Some l) × (front ≡ take number (front ++ l ∷ back))
+done_at front back l number count =
+    (rw count (middle front l back), sym (take_at front (l ∷ back) number (sym count)))
 
 -- what is taken of a list of moves around one
 around : {B : Type 0} (g : LineTurn → List B) (all front : List LineTurn) (m : LineTurn) (back : List LineTurn) (x : B)
@@ -113,8 +227,7 @@ number_is front number back n e =
     rw (
       ← get_or_at front number back 0 (length front) refl,
       e,
-      get_or-range_with_len 0 n (length front) 0 (omega
-          arith),
+      get_or-range_with_len 0 n (length front) 0 (omega arith),
       zero-add (length front),
     )
 
@@ -128,9 +241,9 @@ done_before of script all front m back l lines counts parts one =
     sym (around (λ x. of x.doing) all front m back l parts one) ∙ lines in
     let counted =
     sym (around (numbers of) all front m back m.number parts (ap (map (λ _. m.number)) one)) ∙ counts in
-    done_at of script (front_lines of front) l (front_lines of back) front m.number by refl
+    rw by at (done_at (front_lines of front) (front_lines of back) l m.number
     (number_is (flat_map (numbers of) front) m.number (flat_map (numbers of) back) (length script) counted
-    ∙ as_many of front)
+    ∙ as_many of front))
 
 pub client_done : (scripts : List (List Line)) (input : List InputLine) (front back : List LineTurn) (m : LineTurn)
     (s : ℕ) (l : Line) → rounds scripts input ≡ front ++ m ∷ back → m.doing ≡ ByClient s l →
@@ -143,8 +256,7 @@ client_done scripts input front back m s l parts by =
     (client_lines scripts input s) (client_numbers scripts input s) parts one in (
       elim (cases_lt s (length scripts)) [
         | inl inside ↦ inside
-        | inr past ↦ absurd (nothing_there l m.number
-            (rw (get_or_past scripts s [] past) at found.0))
+        | inr past ↦ absurd (let none = rw (get_or_past scripts s [] past) at found.0 in cc)
       ],
       found.0,
       found.1,

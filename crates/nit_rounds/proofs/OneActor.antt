@@ -1,12 +1,108 @@
--- What of the rounds is one actor's: its moves in order, each once.
+-- Rounds one after the other: each takes the first move of each actor. What of them is one actor's: its moves in order,
+-- each once.
 use Rattle.nit_rounds.proofs.Basics.{ActorLine, AllByRecursion, Bool, LineTurn, List, [], add-one}
-use Rattle.nit_rounds.proofs.Basics.{append-nil, ap₂, arith, cond, drop, ends_phase, eq-eqb, false}
-use Rattle.nit_rounds.proofs.Basics.{flat_map, flat_map-append, get_or, greatest, in_phase, length}
-use Rattle.nit_rounds.proofs.Basics.{length-drop, map, ne_eqb, nil_from_length, phase_rounds}
-use Rattle.nit_rounds.proofs.Basics.{range_with_len, refl, suc, sym, take, turns_from}
-use Rattle.std.proofs.Common.{take-append-drop, true, zero, ℕ, ◌++◌, ◌+◌, ◌<◌, ◌==◌, ◌∙◌, ◌∷◌, ◌≡◌}
-use Rattle.std.proofs.Common.{◌≤◌}
-use Rattle.nit_rounds.proofs.RoundWalks.{walk, all_walk, short_greatest, short_at}
+use Rattle.nit_rounds.proofs.Basics.{all_rounds, append-nil, ap₂, arith, cond, drop, drop-drop}
+use Rattle.nit_rounds.proofs.Basics.{ends_phase, eq-eqb, false, flat_map, flat_map-append}
+use Rattle.nit_rounds.proofs.Basics.{flat_map-map, get_or, greatest, in_phase, length, length-drop}
+use Rattle.nit_rounds.proofs.Basics.{map, ne_eqb, nil_from_length, phase_rounds, range_with_len}
+use Rattle.nit_rounds.proofs.Basics.{refl, round, suc, sym, take, turns_from}
+use Rattle.std.proofs.Common.{map-id, max, take-append-drop, true, zero, ℕ, ◌++◌, ◌+◌, ◌-◌, ◌<◌}
+use Rattle.std.proofs.Common.{◌==◌, ◌∙◌, ◌∷◌, ◌≡◌, ◌≤◌}
+
+-- lists of at most n moves
+abbrev pub Short : ℕ → List (List LineTurn) → Type 0
+Short n all = AllByRecursion (λ moves. length moves ≤ n) all
+
+-- so many rounds
+abbrev pub walk : ℕ → List (List LineTurn) → List LineTurn
+walk zero all = []
+walk (suc n) all = flat_map (take 1) all ++ walk n (map (drop 1) all)
+
+-- ---- lengths
+
+longer : (n m : ℕ) (all : List (List LineTurn)) → n ≤ m → Short n all → Short m all
+longer n m [] more h = tt
+longer n m (l ∷ all) more h = let here : length l ≤ n = h.0 in (omega arith, longer n m all more h.1)
+
+pub short_greatest : (all : List (List LineTurn)) → Short (greatest (map length all)) all
+short_greatest [] = tt
+short_greatest (l ∷ all) =
+    let n : ℕ = greatest (map length all) in (
+      omega arith,
+      longer (greatest (map length all)) (max (length l) (greatest (map length all))) all (omega arith)
+          (short_greatest all),
+    )
+
+pub short_at : (n k : ℕ) (all : List (List LineTurn)) → Short n all → length (get_or all k []) ≤ n
+short_at n k [] h = omega arith
+short_at n zero (l ∷ all) h = h.0
+short_at n (suc k) (l ∷ all) h = short_at n k all h.1
+
+greatest_within : (n : ℕ) (all : List (List LineTurn)) → Short n all → greatest (map length all) ≤ n
+greatest_within n [] h = omega arith
+greatest_within n (l ∷ all) h = let here : length l ≤ n = h.0 in let rest = greatest_within n all h.1 in omega arith
+
+pub short_drop : (n : ℕ) (all : List (List LineTurn)) → Short (suc n) all → Short n (map (drop 1) all)
+short_drop n [] h = tt
+short_drop n (l ∷ all) h = let here : length l ≤ suc n = h.0 in (omega (arith, length-drop 1 l), short_drop n all h.1)
+
+greatest_drop : (all : List (List LineTurn)) → greatest (map length (map (drop 1) all)) ≡ greatest (map length all) - 1
+greatest_drop [] = refl
+greatest_drop (l ∷ all) = omega (arith, length-drop 1 l, greatest_drop all)
+
+-- ---- walks
+
+firsts_none : (all : List (List LineTurn)) → Short 0 all → flat_map (take 1) all ≡ []
+firsts_none [] h = refl
+firsts_none (l ∷ all) h =
+    let here : length l ≤ 0 = h.0 in
+    let empty : l ≡ [] = nil_from_length l (omega arith) in
+    rw (empty, firsts_none all h.1) refl
+
+walk_less : (n : ℕ) (all : List (List LineTurn)) → Short n all → walk (suc n) all ≡ walk n all
+walk_less zero all h = rw (firsts_none all h) refl
+walk_less (suc n) all h = rw (walk_less n (map (drop 1) all) (short_drop n all h))
+
+map_drops : (a : ℕ) (all : List (List LineTurn)) → map (drop 1) (map (drop a) all) ≡ map (drop (a + 1)) all
+map_drops a [] = refl
+map_drops a (l ∷ all) = rw (drop-drop 1 a l, map_drops a all)
+
+rounds_from : (all : List (List LineTurn)) (a n : ℕ) → flat_map (round all) (range_with_len a n)
+    ≡ walk n (map (drop a) all)
+rounds_from all a zero = refl
+rounds_from all a (suc n) =
+    rw (← flat_map-map (take 1) (drop a) all, rounds_from all (a + 1) n, ← map_drops a all)
+
+pub all_walk : (all : List (List LineTurn)) → all_rounds all ≡ walk (greatest (map length all)) all
+all_walk all = rw (rounds_from all 0 (greatest (map length all)), map-id all)
+
+walk_rest : (n : ℕ) (all : List (List LineTurn)) → greatest (map length all) ≡ n
+    → walk n (map (drop 1) all) ≡ all_rounds (map (drop 1) all)
+walk_rest zero all e =
+    let none : greatest (map length (map (drop 1) all)) ≡ 0 = omega (arith, greatest_drop all) in
+    cc (none, all_walk (map (drop 1) all))
+walk_rest (suc n) all e =
+    let less : greatest (map length (map (drop 1) all)) ≡ n = omega (arith, greatest_drop all) in
+    rw (
+      walk_less n (map (drop 1) all) (short_drop n all (rw e at (short_greatest all))),
+      ← less,
+      ← all_walk (map (drop 1) all),
+    )
+
+-- the first round, and then those of what is left
+pub first_round : (all : List (List LineTurn)) → all_rounds all ≡ flat_map (take 1) all ++ all_rounds (map (drop 1) all)
+first_round all =
+    rw (
+      all_walk all,
+      ← walk_less (greatest (map length all)) all (short_greatest all),
+      walk_rest (greatest (map length all)) all refl,
+    )
+
+-- actors that have no move do nothing
+pub no_rounds : (all : List (List LineTurn)) → Short 0 all → all_rounds all ≡ []
+no_rounds all h =
+    let none : greatest (map length all) ≡ 0 = let most = greatest_within 0 all h in omega arith in
+    rw (all_walk all, none)
 
 -- ---- lists of which nothing is taken
 
@@ -18,19 +114,20 @@ pub taken_silent : {B : Type 0} (g : LineTurn → List B) (moves : List LineTurn
 taken_silent g [] h = refl
 taken_silent g (m ∷ moves) h = rw (h.0, taken_silent g moves h.1) refl
 
+-- what holds of all elements holds of the first ones, and of the rest
+pub all_take : {X : Type 0} (P : X → Type 0) (n : ℕ) (xs : List X) → AllByRecursion P xs → AllByRecursion P (take n xs)
+all_take P zero xs h = tt
+all_take P (suc n) [] h = tt
+all_take P (suc n) (x ∷ xs) h = (h.0, all_take P n xs h.1)
+
+pub all_drop : {X : Type 0} (P : X → Type 0) (n : ℕ) (xs : List X) → AllByRecursion P xs → AllByRecursion P (drop n xs)
+all_drop P zero xs h = h
+all_drop P (suc n) [] h = tt
+all_drop P (suc n) (x ∷ xs) h = all_drop P n xs h.1
+
 -- a function that keeps silent what was
 abbrev Quiet : {B : Type 0} → (LineTurn → List B) → (List LineTurn → List LineTurn) → Type 0
 Quiet g f = (moves : List LineTurn) → Silent g moves → Silent g (f moves)
-
-quiet_take : {B : Type 0} (g : LineTurn → List B) (n : ℕ) → Quiet g (take n)
-quiet_take g zero moves h = tt
-quiet_take g (suc n) [] h = tt
-quiet_take g (suc n) (m ∷ moves) h = (h.0, quiet_take g n moves h.1)
-
-quiet_drop : {B : Type 0} (g : LineTurn → List B) (n : ℕ) → Quiet g (drop n)
-quiet_drop g zero moves h = h
-quiet_drop g (suc n) [] h = tt
-quiet_drop g (suc n) (m ∷ moves) h = quiet_drop g n moves h.1
 
 quiet_cond : {B : Type 0} (g : LineTurn → List B) (b : Bool) (m : LineTurn) (moves : List LineTurn) → g m ≡ []
     → Silent g moves → Silent g (cond b (m ∷ moves) moves)
@@ -71,7 +168,7 @@ silent_firsts : {B : Type 0} (g : LineTurn → List B) (all : List (List LineTur
     → flat_map g (flat_map (take 1) all) ≡ []
 silent_firsts g [] h = refl
 silent_firsts g (l ∷ all) h = flat_map-append g (take 1 l) (flat_map (take 1) all)
-    ∙ rw (taken_silent g (take 1 l) (quiet_take g 1 l h.0), silent_firsts g all h.1) refl
+    ∙ rw (taken_silent g (take 1 l) (all_take (λ m. g m ≡ []) 1 l h.0), silent_firsts g all h.1) refl
 
 only_firsts : {B : Type 0} (g : LineTurn → List B) (k : ℕ) (all : List (List LineTurn)) → OnlyAt g k all
     → flat_map g (flat_map (take 1) all) ≡ flat_map g (take 1 (get_or all k []))
@@ -79,7 +176,7 @@ only_firsts g k [] h = refl
 only_firsts g zero (l ∷ all) h = flat_map-append g (take 1 l) (flat_map (take 1) all)
     ∙ rw (silent_firsts g all h) (append-nil (flat_map g (take 1 l)))
 only_firsts g (suc k) (l ∷ all) h = flat_map-append g (take 1 l) (flat_map (take 1) all)
-    ∙ rw (taken_silent g (take 1 l) (quiet_take g 1 l h.0)) (only_firsts g k all h.1)
+    ∙ rw (taken_silent g (take 1 l) (all_take (λ m. g m ≡ []) 1 l h.0)) (only_firsts g k all h.1)
 
 only_walk : {B : Type 0} (g : LineTurn → List B) (n k : ℕ) (all : List (List LineTurn)) → OnlyAt g k all
     → length (get_or all k []) ≤ n → flat_map g (walk n all) ≡ flat_map g (get_or all k [])
@@ -92,10 +189,9 @@ only_walk {B = B} g (suc n) k all h short =
       flat_map-append g (flat_map (take 1) all) (walk n (map (drop 1) all)),
       only_firsts g k all h,
       only_walk g n k
-          (map (drop 1) all) (only_map g (drop 1) (quiet_drop g 1) k all h) shorter,
+          (map (drop 1) all) (only_map g (drop 1) (all_drop (λ m. g m ≡ []) 1) k all h) shorter,
       rest_is,
-      ← flat_map-append g (take
-          1 (get_or all k [])) (drop 1 (get_or all k [])),
+      ← flat_map-append g (take 1 (get_or all k [])) (drop 1 (get_or all k [])),
       take-append-drop 1 (get_or all k []),
     )
 
@@ -120,8 +216,7 @@ only_phases {B = B} g k all h (p ∷ ps) =
       only_phase g k all h p,
       only_phases
           g k all h ps,
-      ← flat_map-append g (in_phase p (get_or all k [])) (flat_map (λ q. in_phase q (get_or all k
-          [])) ps),
+      ← flat_map-append g (in_phase p (get_or all k [])) (flat_map (λ q. in_phase q (get_or all k [])) ps),
     )
 
 -- ---- the phases of a script make it whole

@@ -1,13 +1,13 @@
 -- A run of one client, whose user does nothing but end phases, is by rounds.
-use Rattle.nit_rounds.proofs.Basics.{ActorLine, AreRoundsOf, Bool, ByClient, ByUser, Calls}
-use Rattle.nit_rounds.proofs.Basics.{Configuration, Entry, InputLine, IsLegal, IsWhole, LegalFrom}
-use Rattle.nit_rounds.proofs.Basics.{Line, LineTurn, List, State, [], action_of, actions_of_line}
-use Rattle.nit_rounds.proofs.Basics.{actions_of_turns, after, ap, arith, as_many_as_clients}
-use Rattle.nit_rounds.proofs.Basics.{calls_from, calls_of, calls_to_make, done, eq-eqb, false}
-use Rattle.nit_rounds.proofs.Basics.{first_state, input_by_user, input_lines_of, length, line_by}
-use Rattle.nit_rounds.proofs.Basics.{lines_of, map, ne_eqb, refl, rounds, suc, sym}
-use Rattle.nit_rounds.proofs.Basics.{user_actions_from, user_actions_of, user_actions_to_do}
-use Rattle.std.proofs.Common.{true, zero, ℕ, ◌++◌, ◌==◌, ◌∙◌, ◌∷◌, ◌≡◌, if◌then◌else◌}
+use Rattle.nit_rounds.proofs.Basics.{ActorLine, AreRoundsOf, ByClient, ByUser, Calls, Configuration}
+use Rattle.nit_rounds.proofs.Basics.{Entry, InputLine, IsLegal, IsWhole, LegalFrom, Line, LineTurn}
+use Rattle.nit_rounds.proofs.Basics.{List, State, [], action_of, actions_of_line, actions_of_turns}
+use Rattle.nit_rounds.proofs.Basics.{after, ap, arith, as_many_as_clients, calls_from, calls_of}
+use Rattle.nit_rounds.proofs.Basics.{calls_to_make, done, eq-eqb, first_state, input_by_user}
+use Rattle.nit_rounds.proofs.Basics.{input_lines_of, length, line_by, lines_of, map, ne_eqb, refl}
+use Rattle.nit_rounds.proofs.Basics.{rounds, suc, sym, user_actions_from, user_actions_of}
+use Rattle.nit_rounds.proofs.Basics.{user_actions_to_do}
+use Rattle.std.proofs.Common.{zero, ℕ, ◌++◌, ◌∙◌, ◌∷◌, ◌≡◌}
 use Rattle.nit_journal.proofs.ForCallers.{as_many}
 use Rattle.nit_events.specs.declared.entry.Entry.TheVariants as entry
 use Rattle.nit_script.specs.declared.line.Line.TheVariants as line
@@ -16,18 +16,9 @@ use Rattle.nit_rounds.proofs.LinesDone.{client_lines, user_lines}
 
 -- ---- the rounds
 
-some_line : (l : Line) (ls : List Line) (b : Bool) → b ≡ true → (if b then l ∷ [] else []) ++ ls ≡ [] → ⊥
-some_line l ls true e none = cc
-some_line l ls false e none = absurd (cc)
-
-other_line : (l : Line) (ls : List Line) (b : Bool) → b ≡ false → (if b then l ∷ [] else []) ++ ls ≡ [] → ls ≡ []
-other_line l ls true e none = absurd (cc)
-other_line l ls false e none = none
-
 first_alone : (l : Line) (ms : List LineTurn)
     → ((t : ℕ) → line_by (suc t) (ByClient zero l) ++ lines_of (suc t) ms ≡ []) → (t : ℕ) → lines_of (suc t) ms ≡ []
-first_alone l ms others t = other_line l (lines_of (suc t) ms) (zero == suc t)
-    (ne_eqb zero (suc t) (λ e. absurd (omega (arith, e)))) (others t)
+first_alone l ms others t = rw (ne_eqb zero (suc t) (λ e. absurd (omega (arith, e)))) at (others t)
 
 -- what these moves record, where no client but the first does a line in them, and the user's are no actions
 abbrev IsAlone : List LineTurn → Type 0
@@ -43,10 +34,9 @@ one_more (ByClient zero (line.Call c)) ms rest p q others idle =
 one_more (ByClient zero (line.Stroke s)) ms rest p q others idle = rest p q (first_alone (line.Stroke s) ms others) idle
 one_more (ByClient zero line.Phase) ms rest p q others idle = rest (suc p) q (first_alone line.Phase ms others) idle
 one_more (ByClient (suc s) l) ms rest p q others idle =
-    absurd (some_line l (lines_of (suc s) ms) (suc s == suc s) (eq-eqb (suc s) (suc s) refl) (others s))
-one_more (ByUser (input.Device d)) ms rest p q others idle = absurd cc
-one_more (ByUser input.Shot) ms rest p q others idle = absurd cc
+    absurd (let some = rw (eq-eqb (suc s) (suc s) refl) at (others s) in cc)
 one_more (ByUser input.Phase) ms rest p q others idle = rest p (suc q) others idle
+one_more other ms rest p q others idle = absurd cc
 
 alone : (ms : List LineTurn) → IsAlone ms
 alone [] p q others idle = refl
@@ -75,9 +65,8 @@ journal_alone s taken (entry.Call zero c r ∷ front) one (agrees, legal) none =
     rw (journal_alone (after s (entry.Call zero c r)) taken front (as_many s (entry.Call zero c r) ∙ one) legal none)
 journal_alone s taken (entry.Call (suc sid) c r ∷ front) one (agrees, legal) none =
     absurd (let below = agrees.0 in omega (arith, one, below))
-journal_alone s taken (entry.Input dev routed ∷ front) one legal none = absurd cc
-journal_alone s taken (entry.Shot number ∷ front) one legal none = absurd cc
 journal_alone s taken (entry.Final ∷ front) one legal none = absurd (some_entry front entry.Final legal)
+journal_alone s taken other one legal none = absurd cc
 
 pub by_rounds_alone : (config : Configuration) (script : List Line) (lines : List InputLine) (journal : List Entry)
     → length config.clients ≡ 1 → user_actions_to_do lines ≡ [] → IsLegal config journal

@@ -1,14 +1,24 @@
 -- What is left of a phase: an actor without a move is passed over, and a move is taken from the front.
-use Rattle.nit_rounds.proofs.Basics.{LineTurn, List, [], add-one, add-zero, all_rounds, ap}
-use Rattle.nit_rounds.proofs.Basics.{append-nil, append_assoc, arith, drop, drop-set-lt, drop_all}
-use Rattle.nit_rounds.proofs.Basics.{drop_more, eq-eqb, flat_map, get_or, in_phase, length}
-use Rattle.nit_rounds.proofs.Basics.{length-map, map, map-set, ne_eqb, phase_rounds, range_with_len}
-use Rattle.nit_rounds.proofs.Basics.{refl, rest_of_phase, set, set-get_or, suc, sym, take_more}
+use Rattle.nit_rounds.proofs.Basics.{LineTurn, List, [], add-one, all_rounds, ap, append-nil}
+use Rattle.nit_rounds.proofs.Basics.{append_assoc, arith, drop, drop-set-lt, drop_all, drop_more}
+use Rattle.nit_rounds.proofs.Basics.{eq-eqb, flat_map, get_or, in_phase, length, length-map, map}
+use Rattle.nit_rounds.proofs.Basics.{map-set, ne_eqb, phase_rounds, range_with_len, refl}
+use Rattle.nit_rounds.proofs.Basics.{rest_of_phase, set, set-get_or, suc, sym, take_more}
 use Rattle.nit_rounds.proofs.Basics.{take_more_set}
 use Rattle.std.proofs.Common.{take, take_all, zero, ℕ, ◌++◌, ◌+◌, ◌-◌, ◌<◌, ◌∙◌, ◌∷◌, ◌≡◌, ◌≤◌}
 use Rattle.nit_rounds.specs.Places.{left_from}
-use Rattle.nit_rounds.proofs.RoundWalks.{Short, first_round, no_rounds}
-use Rattle.nit_rounds.proofs.OneActor.{get_map}
+use Rattle.nit_rounds.proofs.OneActor.{Short, first_round, get_map, no_rounds}
+
+-- actors from one up to another have no move
+abbrev AreIdle : List (List LineTurn) → ℕ → ℕ → Type 0
+AreIdle all from to = (i : ℕ) → from ≤ i → i < to → get_or all i [] ≡ []
+
+-- nor have these in the phase
+abbrev NoneIn : ℕ → List (List LineTurn) → ℕ → ℕ → Type 0
+NoneIn p all from to = (i : ℕ) → from ≤ i → i < to → in_phase p (get_or all i []) ≡ []
+
+idle_in : (p from to : ℕ) (all : List (List LineTurn)) → NoneIn p all from to → AreIdle (map (in_phase p) all) from to
+idle_in p from to all none i up below_ = get_map (in_phase p) refl i all ∙ none i up below_
 
 -- ---- within a phase
 
@@ -26,29 +36,19 @@ skip k all inside none =
     let taken : take (k + 1) all ≡ take k all ++ [] ∷ [] = rw (take_more all k [] inside, none) in
     rw (here, taken) (rw (← append_assoc (take k all) ([] ∷ []) (map (drop 1) (drop (k + 1) all))))
 
-skip_many : (n k : ℕ) (all : List (List LineTurn)) → k + n ≤ length all
-    → ((i : ℕ) → k ≤ i → i < k + n → get_or all i [] ≡ []) → rest_of_phase k all ≡ rest_of_phase (k + n) all
-skip_many zero k all inside none = cc (add-zero k)
-skip_many (suc n) k all inside none =
-    let e : k + 1 + n ≡ k + suc n = omega arith in
-    rw (
-      skip k all (omega arith) (none k (omega arith) (omega arith)),
-      skip_many n (k + 1) all (omega arith) (λ i
-          from_ below_. none i (omega arith) (omega arith)),
-      e,
-    )
-
 -- those from one actor up to another have no move
-pub skip_to : (k b : ℕ) (all : List (List LineTurn)) → k ≤ b → b ≤ length all
-    → ((i : ℕ) → k ≤ i → i < b → get_or all i [] ≡ []) → rest_of_phase k all ≡ rest_of_phase b all
-skip_to k b all up inside none =
-    let e : k + (b - k) ≡ b = omega arith in
-    rw (skip_many (b - k) k all (omega arith) (λ i from_ below_. none i from_ (omega arith)), e)
+skip_to : (n k b : ℕ) (all : List (List LineTurn)) → k + n ≡ b → b ≤ length all → AreIdle all k b
+    → rest_of_phase k all ≡ rest_of_phase b all
+skip_to zero k b all is inside none = ap (λ (x : ℕ). rest_of_phase x all) (omega arith)
+skip_to (suc n) k b all is inside none =
+    skip k all (omega arith) (none k (omega arith) (omega arith))
+    ∙ skip_to n (k + 1) b all (omega arith) inside (λ i from_ below_. none i (omega arith) below_)
 
 -- those from one actor on have no move, so a new round begins
-pub skip_rest : (k : ℕ) (all : List (List LineTurn)) → k ≤ length all
-    → ((i : ℕ) → k ≤ i → i < length all → get_or all i [] ≡ []) → rest_of_phase k all ≡ all_rounds all
-skip_rest k all up none = skip_to k (length all) all up (omega arith) none ∙ at_end (length all) all (omega arith)
+skip_rest : (k : ℕ) (all : List (List LineTurn)) → k ≤ length all → AreIdle all k (length all)
+    → rest_of_phase k all ≡ all_rounds all
+skip_rest k all up none =
+    skip_to (length all - k) k (length all) all (omega arith) (omega arith) none ∙ at_end (length all) all (omega arith)
 
 -- an actor does its move
 take_one : (b : ℕ) (all : List (List LineTurn)) (m : LineTurn) (rest : List LineTurn) → b < length all
@@ -93,49 +93,44 @@ one_taken count p b all m rest inside has e =
 
 -- ---- new rounds, new phases, and the end
 
-pub turned_to : (count p k b : ℕ) (all : List (List LineTurn)) → k ≤ b → b ≤ length all
-    → ((i : ℕ) → k ≤ i → i < b → in_phase p (get_or all i []) ≡ []) → left_from count p b all ≡ left_from count p k all
+pub turned_to : (count p k b : ℕ) (all : List (List LineTurn)) → k ≤ b → b ≤ length all → NoneIn p all k b
+    → left_from count p b all ≡ left_from count p k all
 unfolding left_from
 turned_to count p k b all up inside none =
-    rw (← (skip_to k b (map (in_phase p) all) up (omega (arith, length-map all (in_phase p))) (λ i from_ below_.
-    get_map (in_phase p) refl i all ∙ none i from_ below_)))
+    let long = length-map all (in_phase p) in
+    rw (← skip_to (b - k) k b (map (in_phase p) all) (omega arith) (omega arith) (idle_in p k b all none))
 
 -- what is left where no actor from this one on has a move in the phase
-round_ends : (count p k : ℕ) (all : List (List LineTurn)) → k ≤ length all
-    → ((i : ℕ) → k ≤ i → i < length all → in_phase p (get_or all i []) ≡ []) →
-    left_from count p k all ≡ all_rounds (map (in_phase p) all)
+round_ends : (count p k : ℕ) (all : List (List LineTurn)) → k ≤ length all → NoneIn p all k (length all)
+    → left_from count p k all ≡ all_rounds (map (in_phase p) all)
     ++ flat_map (phase_rounds all) (range_with_len (suc p) (count - suc p))
 unfolding left_from
 round_ends count p k all up none =
-    rw (skip_rest k (map (in_phase p) all) (omega (arith, length-map all (in_phase p))) (λ i from_ below_. get_map
-    (in_phase p) refl i all ∙ none i from_ (omega (arith, length-map all (in_phase p)))))
+    let long = length-map all (in_phase p) in
+    rw (skip_rest k (map (in_phase p) all) (omega arith) (idle_in p k _ all (λ i up below_. none i up (omega arith))))
 
-pub round_begun : (count p k : ℕ) (all : List (List LineTurn)) → k ≤ length all
-    → ((i : ℕ) → k ≤ i → i < length all → in_phase p (get_or all i []) ≡ [])
+pub round_begun : (count p k : ℕ) (all : List (List LineTurn)) → k ≤ length all → NoneIn p all k (length all)
     → left_from count p 0 all ≡ left_from count p k all
 unfolding left_from
-round_begun count p k all up none =
-    rw (at_begin (map (in_phase p) all), ← round_ends count p k all up none)
+round_begun count p k all up none = rw (at_begin (map (in_phase p) all), ← round_ends count p k all up none)
 
 -- lists that are all empty are short
-all_short : (all : List (List LineTurn)) → ((i : ℕ) → i < length all → get_or all i [] ≡ []) → Short 0 all
+all_short : (all : List (List LineTurn)) → AreIdle all 0 (length all) → Short 0 all
 all_short [] none = tt
 all_short (l ∷ all) none =
-    let here : l ≡ [] = none 0 (omega arith) in (
+    let here : l ≡ [] = none 0 (omega arith) (omega arith) in (
       rw here (omega arith),
-      all_short all (λ i below_. none (suc i) (omega arith)),
+      all_short all (λ i up below_. none (suc i) (omega arith) (omega arith)),
     )
 
-nothing_in : (p : ℕ) (all : List (List LineTurn)) → ((i : ℕ) → i < length all → in_phase p (get_or all i []) ≡ [])
-    → all_rounds (map (in_phase p) all) ≡ []
+nothing_in : (p : ℕ) (all : List (List LineTurn)) → NoneIn p all 0 (length all) → all_rounds (map (in_phase p) all) ≡ []
 nothing_in p all none =
+    let long = length-map all (in_phase p) in
     no_rounds (map (in_phase p) all)
-    (all_short (map (in_phase p) all) (λ i below_. get_map (in_phase p) refl i all
-    ∙ none i (omega (arith, length-map all (in_phase p)))))
+    (all_short (map (in_phase p) all) (idle_in p 0 _ all (λ i up below_. none i up (omega arith))))
 
 -- no actor has a move in the phase, and the next phase begins
-pub phase_begun : (count p : ℕ) (all : List (List LineTurn)) → suc p < count
-    → ((i : ℕ) → i < length all → in_phase p (get_or all i []) ≡ [])
+pub phase_begun : (count p : ℕ) (all : List (List LineTurn)) → suc p < count → NoneIn p all 0 (length all)
     → left_from count (suc p) 0 all ≡ left_from count p 0 all
 unfolding left_from
 phase_begun count p all more none =
@@ -145,20 +140,19 @@ phase_begun count p all more none =
       add-one (suc p),
       one_more,
       nothing_in p all none,
-      at_begin (map
-          (in_phase p) all),
+      at_begin (map (in_phase p) all),
     )
 
-nothing_behind : (n q : ℕ) (all : List (List LineTurn)) → ((i : ℕ) → i < length all → get_or all i [] ≡ [])
+nothing_behind : (n q : ℕ) (all : List (List LineTurn)) → AreIdle all 0 (length all)
     → flat_map (phase_rounds all) (range_with_len q n) ≡ []
 nothing_behind zero q all none = refl
 nothing_behind (suc n) q all none =
-    rw (nothing_in q all (λ i below_. ap (in_phase q) (none i below_))) (nothing_behind n (q + 1) all none)
+    rw (nothing_in q all (λ i up below_. ap (in_phase q) (none i up below_))) (nothing_behind n (q + 1) all none)
 
 -- no actor has a move left
-pub nothing_left : (count p k : ℕ) (all : List (List LineTurn)) → k ≤ length all
-    → ((i : ℕ) → i < length all → get_or all i [] ≡ []) → left_from count p k all ≡ []
+pub nothing_left : (count p k : ℕ) (all : List (List LineTurn)) → k ≤ length all → AreIdle all 0 (length all)
+    → left_from count p k all ≡ []
 nothing_left count p k all up none =
-    round_ends count p k all up (λ i from_ below_. ap (in_phase p) (none i below_))
-    ∙ rw (nothing_in p all (λ i below_. ap (in_phase p) (none i below_)))
+    round_ends count p k all up (λ i from_ below_. ap (in_phase p) (none i (omega arith) below_))
+    ∙ rw (nothing_in p all (λ i up below_. ap (in_phase p) (none i up below_)))
     (nothing_behind (count - suc p) (suc p) all none)

@@ -7,8 +7,8 @@ use Rattle.nit_rounds.proofs.Basics.{is_phase, length, map, phase_count, phases,
 use Rattle.nit_rounds.proofs.Basics.{refl, rounds, suc, sum_by-append, sym, true, turns_from}
 use Rattle.nit_rounds.proofs.Basics.{turns_of, zero, zero-add, ℕ}
 use Rattle.std.proofs.Common.{◌++◌, ◌+◌, ◌<◌, ◌∙◌, ◌∷◌, ◌≡◌, ◌≤◌}
-use Rattle.nit_rounds.proofs.OneActor.{Silent, OnlyAt, Below, taken_silent, get_map, only_phases}
-use Rattle.nit_rounds.proofs.OneActor.{phases_whole}
+use Rattle.nit_rounds.proofs.OneActor.{Below, OnlyAt, Silent, get_map, only_phases, phases_whole}
+use Rattle.nit_rounds.proofs.OneActor.{taken_silent}
 
 -- ---- the script of each actor
 
@@ -71,26 +71,18 @@ phases_at zero (x ∷ scripts) h = omega arith
 phases_at (suc k) (x ∷ scripts) h = let rest = phases_at k scripts (omega arith) in omega arith
 
 -- the phases of one script are among those of the run
-client_below : (scripts : List (List Line)) (input : List InputLine) (k : ℕ) → k < length scripts
-    → Below (phase_count scripts input) (turns_of (get_or (actors scripts input) k []))
-client_below scripts input k h =
-    rw (script_of_client 0 k scripts (map ByUser input ∷ []) h)
-    (moves_below (phase_count scripts input) 0 0 (map (ByClient (0 + k)) (get_or scripts k []))
-    (let most = phases_at k scripts h in omega (arith, ended_by_client (0 + k) (get_or scripts k []))))
-
-user_below : (scripts : List (List Line)) (input : List InputLine)
-    → Below (phase_count scripts input) (turns_of (get_or (actors scripts input) (length scripts) []))
-user_below scripts input =
-    rw (script_of_user 0 scripts (map ByUser input))
-    (moves_below (phase_count scripts input) 0 0 (map ByUser input) (omega (arith, ended_by_user input)))
-
 pub below : (scripts : List (List Line)) (input : List InputLine) (k : ℕ)
     → Below (phase_count scripts input) (turns_of (get_or (actors scripts input) k []))
 below scripts input k =
     elim (cases_lt k (length scripts)) [
-      | inl inside ↦ client_below scripts input k inside
+      | inl inside ↦
+          rw (script_of_client 0 k scripts (map ByUser input ∷ []) inside)
+          (moves_below (phase_count scripts input) 0 0 (map (ByClient (0 + k)) (get_or scripts k []))
+          (let most = phases_at k scripts inside in omega (arith, ended_by_client (0 + k) (get_or scripts k []))))
       | inr past ↦ elim (cases_eq (length scripts) k) [
-        | inl same ↦ rw same at (user_below scripts input)
+        | inl same ↦
+            rw (← same, script_of_user 0 scripts (map ByUser input))
+            (moves_below (phase_count scripts input) 0 0 (map ByUser input) (omega (arith, ended_by_user input)))
         | inr other ↦ rw (script_of_nobody 0 k scripts (map ByUser input) (omega arith)) tt
       ]
     ]
@@ -121,67 +113,56 @@ silent_moves : {B L : Type 0} (g : LineTurn → List B) (f : L → ActorLine)
 silent_moves g f none p n [] = tt
 silent_moves g f none p n (l ∷ ls) = (none p n l, silent_moves g f none (cond (ends_phase (f l)) (suc p) p) (suc n) ls)
 
-behind_silent : {B : Type 0} (g : LineTurn → List B) (s : ℕ) → NotOthers g s → NotUser g
-    → (sid : ℕ) (scripts : List (List Line)) (input : List InputLine) → s < sid →
-    AllByRecursion (Silent g) (map turns_of (clients_from sid scripts ++ map ByUser input ∷ []))
-behind_silent g s others user sid [] input h = (silent_moves g ByUser user 0 0 input, tt)
-behind_silent g s others user sid (x ∷ scripts) input h = (
-  silent_moves g (ByClient sid) (λ p n l. others p n sid l (λ e. omega arith)) 0 0 x,
-  behind_silent g s others user (suc sid) scripts input (omega arith),
-)
+module _ {B : Type 0} (g : LineTurn → List B) (s : ℕ) (made : List Line → List B) (others : NotOthers g s)
+    (user : NotUser g) (none : made [] ≡ [])
+    (whole : (ls : List Line) → flat_map g (turns_of (map (ByClient s) ls)) ≡ made ls) where
+  behind_silent : (sid : ℕ) (scripts : List (List Line)) (input : List InputLine) → s < sid
+      → AllByRecursion (Silent g) (map turns_of (clients_from sid scripts ++ map ByUser input ∷ []))
+  behind_silent sid [] input h = (silent_moves g ByUser user 0 0 input, tt)
+  behind_silent sid (x ∷ scripts) input h = (
+    silent_moves g (ByClient sid) (λ p n l. others p n sid l (λ e. omega arith)) 0 0 x,
+    behind_silent (suc sid) scripts input (omega arith),
+  )
 
-only_client : {B : Type 0} (g : LineTurn → List B) (s : ℕ) → NotOthers g s → NotUser g
-    → (sid k : ℕ) (scripts : List (List Line)) (input : List InputLine) → s ≡ sid + k →
-    OnlyAt g k (map turns_of (clients_from sid scripts ++ map ByUser input ∷ []))
-only_client g s others user sid zero [] input e = tt
-only_client g s others user sid (suc k) [] input e = (silent_moves g ByUser user 0 0 input, tt)
-only_client g s others user sid zero (x ∷ scripts) input e =
-    behind_silent g s others user (suc sid) scripts input (omega arith)
-only_client g s others user sid (suc k) (x ∷ scripts) input e = (
-  silent_moves g (ByClient sid) (λ p n l. others p n sid l (λ same. omega arith)) 0 0 x,
-  only_client g s others user (suc sid) k scripts input (omega arith),
-)
+  only_client : (sid k : ℕ) (scripts : List (List Line)) (input : List InputLine) → s ≡ sid + k
+      → OnlyAt g k (map turns_of (clients_from sid scripts ++ map ByUser input ∷ []))
+  only_client sid zero [] input e = tt
+  only_client sid (suc k) [] input e = (silent_moves g ByUser user 0 0 input, tt)
+  only_client sid zero (x ∷ scripts) input e = behind_silent (suc sid) scripts input (omega arith)
+  only_client sid (suc k) (x ∷ scripts) input e = (
+    silent_moves g (ByClient sid) (λ p n l. others p n sid l (λ same. omega arith)) 0 0 x,
+    only_client (suc sid) k scripts input (omega arith),
+  )
 
-of_script : {B : Type 0} (g : LineTurn → List B) (s : ℕ) (made : List Line → List B) → NotUser g → made [] ≡ []
-    → ((ls : List Line) → flat_map g (turns_of (map (ByClient s) ls)) ≡ made ls) →
-    (sid k : ℕ) (scripts : List (List Line)) (input : List InputLine) → s ≡ sid + k
-    → flat_map g (turns_of (get_or (clients_from sid scripts ++ map ByUser input ∷ []) k []))
-    ≡ made (get_or scripts k [])
-of_script g s made user none whole sid zero [] input e =
-    taken_silent g (turns_of (map ByUser input)) (silent_moves g ByUser user 0 0 input) ∙ sym none
-of_script g s made user none whole sid (suc k) [] input e = sym none
-of_script g s made user none whole sid zero (x ∷ scripts) input e =
-    let here : sid ≡ s = omega arith in
-    rw (here, whole x)
-of_script g s made user none whole sid (suc k) (x ∷ scripts) input e =
-    of_script g s made user none whole (suc sid) k scripts input (omega arith)
+  of_script : (sid k : ℕ) (scripts : List (List Line)) (input : List InputLine) → s ≡ sid + k
+      → flat_map g (turns_of (get_or (clients_from sid scripts ++ map ByUser input ∷ []) k []))
+      ≡ made (get_or scripts k [])
+  of_script sid zero [] input e =
+      taken_silent g (turns_of (map ByUser input)) (silent_moves g ByUser user 0 0 input) ∙ sym none
+  of_script sid (suc k) [] input e = sym none
+  of_script sid zero (x ∷ scripts) input e = let here : sid ≡ s = omega arith in rw (here, whole x)
+  of_script sid (suc k) (x ∷ scripts) input e = of_script (suc sid) k scripts input (omega arith)
 
--- what is taken of a client's moves alone is what its script makes
-pub client_part : {B : Type 0} (g : LineTurn → List B) (s : ℕ) (made : List Line → List B) → NotOthers g s → NotUser g
-    → made [] ≡ [] → ((ls : List Line) → flat_map g (turns_of (map (ByClient s) ls)) ≡ made ls) →
-    (scripts : List (List Line)) (input : List InputLine) → flat_map g (rounds scripts input)
-    ≡ made (get_or scripts s [])
-client_part g s made others user none whole scripts input =
-    project g scripts input s (only_client g s others user 0 s scripts input (sym (zero-add s)))
-    ∙ of_script g s made user none whole 0 s scripts input (sym (zero-add s))
+  -- what is taken of a client's moves alone is what its script makes
+  pub client_part : (scripts : List (List Line)) (input : List InputLine)
+      → flat_map g (rounds scripts input) ≡ made (get_or scripts s [])
+  client_part scripts input =
+      project g scripts input s (only_client 0 s scripts input (sym (zero-add s)))
+      ∙ of_script 0 s scripts input (sym (zero-add s))
 
-only_user : {B : Type 0} (g : LineTurn → List B)
-    → ((p n t : ℕ) (l : Line) → g (record { phase = p; number = n; doing = ByClient t l }) ≡ [])
-    → (sid : ℕ) (scripts : List (List Line)) (input : List InputLine) →
-    OnlyAt g (length scripts) (map turns_of (clients_from sid scripts ++ map ByUser input ∷ []))
-only_user g clients sid [] input = tt
-only_user g clients sid (x ∷ scripts) input =
-    (silent_moves g (ByClient sid) (λ p n l. clients p n sid l) 0 0 x, only_user g clients (suc sid) scripts input)
+module _ {B : Type 0} (g : LineTurn → List B) (made : List InputLine → List B)
+    (clients : (p n t : ℕ) (l : Line) → g (record { phase = p; number = n; doing = ByClient t l }) ≡ [])
+    (whole : (ls : List InputLine) → flat_map g (turns_of (map ByUser ls)) ≡ made ls) where
+  only_user : (sid : ℕ) (scripts : List (List Line)) (input : List InputLine)
+      → OnlyAt g (length scripts) (map turns_of (clients_from sid scripts ++ map ByUser input ∷ []))
+  only_user sid [] input = tt
+  only_user sid (x ∷ scripts) input =
+      (silent_moves g (ByClient sid) (λ p n l. clients p n sid l) 0 0 x, only_user (suc sid) scripts input)
 
--- what is taken of the user's moves alone is what the input script makes
-pub user_part : {B : Type 0} (g : LineTurn → List B) (made : List InputLine → List B)
-    → ((p n t : ℕ) (l : Line) → g (record { phase = p; number = n; doing = ByClient t l }) ≡ [])
-    → ((ls : List InputLine) → flat_map g (turns_of (map ByUser ls)) ≡ made ls) →
-    (scripts : List (List Line)) (input : List InputLine) → flat_map g (rounds scripts input) ≡ made input
-user_part g made clients whole scripts input =
-    rw (
-      project g scripts input (length scripts) (only_user g clients 0 scripts input),
-      script_of_user 0 scripts (map
-          ByUser input),
-      whole input,
-    )
+  -- what is taken of the user's moves alone is what the input script makes
+  pub user_part : (scripts : List (List Line)) (input : List InputLine) → flat_map g (rounds scripts input) ≡ made input
+  user_part scripts input = rw (
+    project g scripts input (length scripts) (only_user 0 scripts input),
+    script_of_user 0 scripts (map ByUser input),
+    whole input,
+  )

@@ -1,21 +1,111 @@
--- The files of a run's shots, shot by shot along its journal.
-use Rattle.nit_rounds.proofs.Basics.{ActorLine, AreRoundsOf, AreShotsOf, Bool, ByClient, ByUser}
-use Rattle.nit_rounds.proofs.Basics.{Configuration, Drawing, Entry, File, InputLine, IsDrawnPicture}
-use Rattle.nit_rounds.proofs.Basics.{IsLegal, LegalFrom, Line, LineTurn, List, ShotFrame}
-use Rattle.nit_rounds.proofs.Basics.{ShotsBehind, Some, State, [], action_of, actions_of_turns}
-use Rattle.nit_rounds.proofs.Basics.{after, after_turn, ap, append-nil, append_assoc, arith}
-use Rattle.nit_rounds.proofs.Basics.{cases_Bool, cond, drawn_by_shot, drawn_shot, false}
-use Rattle.nit_rounds.proofs.Basics.{first_state, fold, fold-append, inl, inr, length, length_push}
-use Rattle.nit_rounds.proofs.Basics.{map, opening_drawing, picture_of, refl, replay, replay_from}
-use Rattle.nit_rounds.proofs.Basics.{rounds, shoots, shot_file, shot_name, shots, shots_after}
-use Rattle.nit_rounds.proofs.Basics.{shots_of, subst, suc, sym, true, turns_before, zero}
-use Rattle.std.proofs.Common.{slice_get, ℕ, ◌++◌, ◌+◌, ◌∙◌, ◌∷◌, ◌≡◌}
+-- What is drawn is in the state that the journal of the same moves leads to, and the files of a run's shots, shot by
+-- shot along its journal.
+use Rattle.nit_rounds.proofs.Basics.{Action, ActorLine, AreRoundsOf, AreShotsOf, Bool, ByClient}
+use Rattle.nit_rounds.proofs.Basics.{ByUser, Call, Configuration, Device, Drawing, Entry, File}
+use Rattle.nit_rounds.proofs.Basics.{InputLine, IsDrawnPicture, IsLegal, LegalFrom, Line, LineTurn}
+use Rattle.nit_rounds.proofs.Basics.{ShotFrame, ShotsBehind, Some, State, action_of}
+use Rattle.nit_rounds.proofs.Basics.{actions_of_line, actions_of_turns, after, after_turn}
+use Rattle.nit_rounds.proofs.Basics.{append-nil, append_assoc, cases_Bool, cond, drawn_by_shot}
+use Rattle.nit_rounds.proofs.Basics.{drawn_shot, entry_of, false, first_state, fold-append, inl}
+use Rattle.nit_rounds.proofs.Basics.{inr, length, length_push, opening_drawing, picture_of, replay}
+use Rattle.nit_rounds.proofs.Basics.{replay_from, rounds, route, routed_as, serve, session, shoots}
+use Rattle.nit_rounds.proofs.Basics.{shot_file, shot_name, shots, shots_after, shots_of}
+use Rattle.nit_rounds.proofs.Basics.{state_after, subst, suc, true, turns_before, zero}
+use Rattle.std.proofs.Common.{List, [], ap, arith, fold, map, refl, slice_get, sym, zero-add, ℕ}
+use Rattle.std.proofs.Common.{◌++◌, ◌+◌, ◌∙◌, ◌∷◌, ◌≡◌}
 use Rattle.nit_rounds.specs.Drawing.{drawn}
+use Rattle.nit_rounds.proofs.ShotFileLemmas.{as_many_files, file_of_a_shot, shots_both}
 use Rattle.nit_events.specs.declared.entry.Entry.TheVariants as entry
+use Rattle.nit_script.specs.declared.line.Line.TheVariants as line
 use Rattle.nit_script.specs.declared.line.InputLine.TheVariants as input
-use Rattle.nit_rounds.proofs.ShotLemmas.{shots_both}
-use Rattle.nit_rounds.proofs.ShotFileLemmas.{as_many_files, file_of_a_shot}
-use Rattle.nit_rounds.proofs.DrawnAsReplayed.{PutBy, behind, none_left}
+
+-- ---- one line, and the entry that it puts into a legal journal
+
+-- what a line puts: a shot puts itself, with the next number, and no other line puts one
+abbrev pub PutBy : ℕ → ActorLine → List Entry → Type 0
+PutBy taken (ByUser input.Shot) put = put ≡ entry.Shot (taken + 1) ∷ []
+PutBy taken other put = shots put ≡ 0
+
+-- What a line puts into a journal, and what stands behind that: it is legal from the state after the line.
+pub record Behind (s : State) (taken : ℕ) (doing : ActorLine) (journal : List Entry) (left : List Action) : Type 0 where
+  pub put : List Entry
+  pub rest : List Entry
+  pub parts : journal ≡ put ++ rest
+  pub puts : PutBy taken doing put
+  pub now : ℕ
+  pub counts : now ≡ taken + shots put
+  pub legal : LegalFrom (state_after s (entry_of s doing)) now rest
+  pub leads : replay_from s put ≡ state_after s (entry_of s doing)
+  pub acts_left : map action_of rest ≡ left
+
+-- these entries in front are what the line puts
+took : (s : State) (taken now : ℕ) (doing : ActorLine) (put rest : List Entry) (left : List Action)
+    → PutBy taken doing put → now ≡ taken + shots put → LegalFrom (state_after s (entry_of s doing)) now rest
+    → replay_from s put ≡ state_after s (entry_of s doing) → map action_of rest ≡ left
+    → Behind s taken doing (put ++ rest) left
+took s taken now doing put rest left puts counts legal leads is =
+    record {
+      put = put;
+      rest = rest;
+      parts = refl;
+      puts = puts;
+      now = now;
+      counts = counts;
+      legal = legal;
+      leads = leads;
+      acts_left = is;
+    }
+
+pub behind : (s : State) (taken : ℕ) (doing : ActorLine) (journal : List Entry) (left : List Action)
+    → LegalFrom s taken journal → map action_of journal ≡ actions_of_line doing ++ left
+    → Behind s taken doing journal left
+behind s taken (ByClient sid (line.Call call)) (entry.Call t c r ∷ rest) left legal is =
+    let whose : t ≡ sid = cc in
+    let what : c ≡ call = cc in
+    let entry_is : entry.Call t c r ≡ entry.Call sid call (serve (session s sid) call).reply =
+    rw (whose, what) (ap (entry.Call sid call) (rw (sym whose, sym what) legal.0.1)) in
+    let state_is = ap (after s) entry_is in
+    took s taken taken _ (entry.Call t c r ∷ []) rest left refl (omega arith) (rw state_is at legal.1) state_is cc
+behind s taken (ByClient sid (line.Call call)) other left legal is = absurd cc
+behind s taken (ByUser (input.Device dev)) (entry.Input d r ∷ rest) left legal is =
+    let what : d ≡ dev = cc in
+    let entry_is : entry.Input d r ≡ entry.Input dev (routed_as (route s.config s.input s.stack dev).deliveries) =
+    rw what (ap (entry.Input dev) (rw (sym what) legal.0)) in
+    let state_is = ap (after s) entry_is in
+    took s taken taken _ (entry.Input d r ∷ []) rest left refl (omega arith) (rw state_is at legal.1) state_is cc
+behind s taken (ByUser (input.Device dev)) other left legal is = absurd cc
+behind s taken (ByUser input.Shot) (entry.Shot n ∷ rest) left legal is =
+    took s taken (taken + 1) _ (entry.Shot n ∷ []) rest left (rw legal.0) refl legal.1 refl cc
+behind s taken (ByUser input.Shot) other left legal is = absurd cc
+behind s taken other journal left legal is =
+    took s taken taken other [] journal left refl (omega arith) legal refl is
+
+-- ---- all lines
+
+pub none_left : (journal : List Entry) → map action_of journal ≡ [] → journal ≡ []
+none_left [] is = refl
+none_left (e ∷ rest) is = absurd cc
+
+folded : (config : Configuration) (scripts : List (List Line)) (moves : List LineTurn) (d : Drawing) (taken : ℕ)
+    (journal : List Entry) → LegalFrom d.state taken journal → map action_of journal ≡ actions_of_turns moves
+    → (fold (after_turn config scripts) d moves).state ≡ replay_from d.state journal
+folded config scripts [] d taken journal legal is =
+    cc (none_left journal is)
+folded config scripts (m ∷ moves) d taken journal legal is =
+    let b = behind d.state taken m.doing journal (actions_of_turns moves) legal is in
+    rw (
+      folded config scripts moves (after_turn config scripts d m) b.now b.rest b.legal b.acts_left,
+      ← b.leads,
+      ← fold-append after d.state b.put b.rest,
+      ← b.parts,
+    )
+
+pub as_replayed : (config : Configuration) (scripts : List (List Line)) (moves : List LineTurn) (journal : List Entry)
+    → IsLegal config journal → map action_of journal ≡ actions_of_turns moves → (drawn config scripts moves).state
+    ≡ replay config journal
+unfolding drawn
+as_replayed config scripts moves journal legal is =
+    folded config scripts moves (opening_drawing config) 0 journal legal is
 
 -- ---- the moves before a shot
 
@@ -27,25 +117,17 @@ shots_in (m ∷ rest) = cond (shoots m.doing) (suc (shots_in rest)) (shots_in re
 before_it : (front : List LineTurn) (m : LineTurn) (rest : List LineTurn) → shoots m.doing ≡ true
     → turns_before (shots_in front) (front ++ m ∷ rest) ≡ front
 before_it [] m rest is = rw is refl
-before_it (f ∷ front) m rest is = by (shoots f.doing) refl (before_it front m rest is)
+before_it (f ∷ front) m rest is = by (shoots f.doing) (shots_in front) refl (before_it front m rest is)
   where
-    by : (b : Bool) → shoots f.doing ≡ b → turns_before (shots_in front) (front ++ m ∷ rest) ≡ front
-        → turns_before (cond b (suc (shots_in front)) (shots_in front)) (f ∷ (front ++ m ∷ rest)) ≡ f ∷ front
-    by true e more = rw e (rw more)
-    by false e more = still (shots_in front) more
-      where
-        still : (n : ℕ) → turns_before n (front ++ m ∷ rest) ≡ front → turns_before n (f ∷ (front ++ m ∷ rest))
-            ≡ f ∷ front
-        still zero more = rw e (rw more)
-        still (suc n) more = rw e (rw more)
+    by : (b : Bool) (n : ℕ) → shoots f.doing ≡ b → turns_before n (front ++ m ∷ rest) ≡ front
+        → turns_before (cond b (suc n) n) (f ∷ (front ++ m ∷ rest)) ≡ f ∷ front
+    by true n e more = rw e (rw more)
+    by false zero e more = rw e (rw more)
+    by false (suc n) e more = rw e (rw more)
 
 shots_in_more : (front : List LineTurn) (m : LineTurn)
     → shots_in (front ++ m ∷ []) ≡ shots_in front + cond (shoots m.doing) 1 0
-shots_in_more [] m = by (shoots m.doing)
-  where
-    by : (b : Bool) → cond b 1 0 ≡ 0 + cond b 1 0
-    by true = refl
-    by false = refl
+shots_in_more [] m = sym (zero-add (cond (shoots m.doing) 1 0))
 shots_in_more (f ∷ front) m = by (shoots f.doing) (cond (shoots m.doing) 1 0) (shots_in_more front m)
   where
     by : (b : Bool) (k : ℕ) → shots_in (front ++ m ∷ []) ≡ shots_in front + k
@@ -61,39 +143,28 @@ no_file : (P : List Entry → List ℕ → Type 0) (before put rest : List Entry
     → ShotsBehind P (before ++ put) rest files → ShotsBehind P before (put ++ rest) files
 no_file P before [] rest files none h = rw (append-nil before) at h
 no_file P before (entry.Shot k ∷ put) rest files none h = absurd (omega arith)
-no_file P before (entry.Call t c q ∷ put) rest files none h =
-    no_file P (before ++ entry.Call t c q ∷ []) put rest files none
-    (rw (← append_assoc before (entry.Call t c q ∷ []) put) at h)
-no_file P before (entry.Input dev routed ∷ put) rest files none h =
-    no_file P (before ++ entry.Input dev routed ∷ []) put rest files none
-    (rw (← append_assoc before (entry.Input dev routed ∷ []) put) at h)
-no_file P before (entry.Final ∷ put) rest files none h =
-    no_file P (before ++ entry.Final ∷ []) put rest files none
-    (rw (← append_assoc before (entry.Final ∷ []) put) at h)
+no_file P before (e ∷ put) rest files none h =
+    no_file P (before ++ e ∷ []) put rest files none (rw (← append_assoc before (e ∷ []) put) at h)
+
+-- a line puts as many shots as it is, and makes as many pictures
+counted : (config : Configuration) (doing : ActorLine) (taken : ℕ) (put : List Entry) (d : Drawing)
+    → PutBy taken doing put
+    → (cond (shoots doing) 1 0 ≡ shots put) × (length (shots_after config doing d) ≡ length d.shots + shots put)
+counted config (ByUser input.Shot) taken put d p = (rw p refl, rw (p, length_push d.shots (drawn_shot config d)))
+counted config other taken put d p = (sym p, omega (arith, p))
 
 -- a line that is no shot puts none, and makes no picture
-record Plain (config : Configuration) (doing : ActorLine) (taken : ℕ) (put : List Entry) : Type 0 where
-  none : shots put ≡ 0
-  same : (d : Drawing) → shots_after config doing d ≡ d.shots
-
-plain : (config : Configuration) (doing : ActorLine) (taken : ℕ) (put : List Entry) → shoots doing ≡ false
-    → PutBy taken doing put → Plain config doing taken put
-plain config (ByClient sid l) taken put e p = record { none = p; same = λ d. refl }
-plain config (ByUser (input.Device dev)) taken put e p = record { none = p; same = λ d. refl }
-plain config (ByUser input.Shot) taken put e p = absurd cc
-plain config (ByUser input.Phase) taken put e p = record { none = p; same = λ d. refl }
+plain : (config : Configuration) (doing : ActorLine) (taken : ℕ) (put : List Entry) (d : Drawing)
+    → shoots doing ≡ false → PutBy taken doing put → (shots put ≡ 0) × (shots_after config doing d ≡ d.shots)
+plain config (ByUser input.Shot) taken put d e p = absurd cc
+plain config other taken put d e p = (p, refl)
 
 -- a shot puts itself, and makes a picture
-record Taken (config : Configuration) (doing : ActorLine) (taken : ℕ) (put : List Entry) : Type 0 where
-  itself : put ≡ entry.Shot (taken + 1) ∷ []
-  more : (d : Drawing) → shots_after config doing d ≡ d.shots ++ drawn_shot config d ∷ []
-
-taken_by : (config : Configuration) (doing : ActorLine) (taken : ℕ) (put : List Entry) → shoots doing ≡ true
-    → PutBy taken doing put → Taken config doing taken put
-taken_by config (ByClient sid l) taken put e p = absurd cc
-taken_by config (ByUser (input.Device dev)) taken put e p = absurd cc
-taken_by config (ByUser input.Shot) taken put e p = record { itself = p; more = λ d. refl }
-taken_by config (ByUser input.Phase) taken put e p = absurd cc
+taken_by : (config : Configuration) (doing : ActorLine) (taken : ℕ) (put : List Entry) (d : Drawing)
+    → shoots doing ≡ true → PutBy taken doing put
+    → (put ≡ entry.Shot (taken + 1) ∷ []) × (shots_after config doing d ≡ d.shots ++ drawn_shot config d ∷ [])
+taken_by config (ByUser input.Shot) taken put d e p = (p, refl)
+taken_by config other taken put d e p = absurd cc
 
 -- ---- all lines
 
@@ -122,10 +193,6 @@ module _ (config : Configuration) (scripts : List (List Line)) (lines : List Inp
       → s' ≡ replay config (before ++ put)
   state_more before put s s' is leads = rw (← leads, is, ← fold-append after (first_state config) before put)
 
-  drawn_more : (front : List LineTurn) (m : LineTurn) (d : Drawing) → fold after' (opening_drawing config) front ≡ d
-      → fold after' (opening_drawing config) (front ++ m ∷ []) ≡ after' d m
-  drawn_more front m d is = rw (fold-append after' (opening_drawing config) front (m ∷ []), is)
-
   picture_here : (front : List LineTurn) (m : LineTurn) (left : List LineTurn) (taken : ℕ) (before : List Entry)
       (d : Drawing) → rounds scripts lines ≡ front ++ m ∷ left → shoots m.doing ≡ true → Half front taken before d
       → IsPicture before (picture_of config d.state d.word)
@@ -151,59 +218,42 @@ module _ (config : Configuration) (scripts : List (List Line)) (lines : List Inp
   all_left (m ∷ left) front taken before journal d parts h legal is =
       let b = behind d.state taken m.doing journal (actions_of_turns left) legal is in
       let next = after' d m in
-      let parts' : rounds scripts lines ≡ (front ++ m ∷ []) ++ left = parts ∙ sym (append_assoc front (m ∷ []) left) in
-      let counted : shots (before ++ b.put) ≡ b.now = rw (shots_both before b.put, h.entries_shot, ← b.counts) in
+      let one = counted config m.doing taken b.put d b.puts in
+      let half : Half (front ++ m ∷ []) b.now (before ++ b.put) next = record {
+        drawn_is = rw (fold-append after' (opening_drawing config) front (m ∷ []), h.drawn_is);
+        lines_shot = rw (shots_in_more front m, h.lines_shot, one.0, ← b.counts);
+        pictures = rw (one.1, h.pictures, ← b.counts);
+        entries_shot = rw (shots_both before b.put, h.entries_shot, ← b.counts);
+        state_is = state_more before b.put d.state next.state h.state_is b.leads;
+      } in
+      let more = all_left left (front ++ m ∷ []) b.now (before ++ b.put) b.rest next
+      (parts ∙ sym (append_assoc front (m ∷ []) left)) half b.legal b.acts_left in
+      let files : List File = map shot_file more.frames in
       elim (cases_Bool (shoots m.doing)) [
         | inl is_shot ↦
-            let t = taken_by config m.doing taken b.put is_shot b.puts in
-            let one : shots b.put ≡ 1 = ap shots t.itself in
-            let now : b.now ≡ taken + 1 = rw (b.counts, one) in
-            let more = all_left left (front ++ m ∷ []) b.now (before ++ b.put) b.rest next parts'
-            (record {
-              drawn_is = drawn_more front m d h.drawn_is;
-              lines_shot = rw (shots_in_more front m, is_shot, h.lines_shot, ← now);
-              pictures = rw (t.more d, length_push d.shots (drawn_shot config d), h.pictures, ← now);
-              entries_shot = counted;
-              state_is = state_more before b.put d.state next.state h.state_is b.leads;
-            })
-            b.legal b.acts_left in
-            let files : List File = map shot_file more.frames in
-            let named : shot_name (length d.shots + 1) ≡ shot_name (taken + 1) =
-            rw h.pictures in
+            let t = taken_by config m.doing taken b.put d is_shot b.puts in
+            let named : shot_name (length d.shots + 1) ≡ shot_name (taken + 1) = rw h.pictures in
             let here : ShotsBehind IsPicture before (entry.Shot (taken + 1) ∷ b.rest)
             (shot_file (drawn_shot config d) ∷ files) = (
               picture_of config d.state d.word,
               files,
               ap (λ (n : List ℕ). (n, picture_of config d.state d.word) ∷ files) named,
               picture_here front m left taken before d parts is_shot h,
-              subst (λ (es : List Entry). ShotsBehind IsPicture (before ++ es) b.rest files) t.itself more.are,
+              subst (λ (es : List Entry). ShotsBehind IsPicture (before ++ es) b.rest files) t.0 more.are,
             ) in
             record {
               frames = drawn_shot config d ∷ more.frames;
-              drawn_too = cc (more.drawn_too, t.more d, append_assoc d.shots (drawn_shot config d ∷ []) more.frames);
+              drawn_too = cc (more.drawn_too, t.1, append_assoc d.shots (drawn_shot config d ∷ []) more.frames);
               are = subst (λ (es : List Entry). ShotsBehind IsPicture before es
                   (shot_file (drawn_shot config d) ∷ files))
-                  (sym (b.parts ∙ ap (λ (es : List Entry). es ++ b.rest) t.itself)) here;
+                  (sym (b.parts ∙ ap (λ (es : List Entry). es ++ b.rest) t.0)) here;
             }
         | inr other ↦
-            let p = plain config m.doing taken b.put other b.puts in
-            let now : b.now ≡ taken = b.counts ∙ ap (λ (n : ℕ). taken + n) p.none
-            ∙ (let e : taken + 0 ≡ taken = omega arith in e) in
-            let more = all_left left (front ++ m ∷ []) b.now (before ++ b.put) b.rest next parts'
-            (record {
-              drawn_is = drawn_more front m d h.drawn_is;
-              lines_shot = shots_in_more front m ∙ ap (λ (x : Bool). shots_in front + cond x 1 0) other
-                  ∙ (let e : shots_in front + 0 ≡ shots_in front = omega arith in e) ∙ h.lines_shot ∙ sym now;
-              pictures = cc (p.same d, h.pictures, now);
-              entries_shot = counted;
-              state_is = state_more before b.put d.state next.state h.state_is b.leads;
-            })
-            b.legal b.acts_left in
+            let p = plain config m.doing taken b.put d other b.puts in
             record {
               frames = more.frames;
-              drawn_too = cc (more.drawn_too, p.same d);
-              are = rw (← b.parts) at (no_file IsPicture before b.put b.rest (map shot_file more.frames) p.none
-                  more.are);
+              drawn_too = cc (more.drawn_too, p.1);
+              are = rw (← b.parts) at (no_file IsPicture before b.put b.rest files p.0 more.are);
             }
       ]
 
@@ -213,10 +263,7 @@ module _ (config : Configuration) (scripts : List (List Line)) (lines : List Inp
   with_final before [] files h = h
   with_final before (entry.Shot k ∷ rest) files h =
       (h.0, h.1, h.2, h.3, with_final (before ++ entry.Shot k ∷ []) rest h.1 h.4)
-  with_final before (entry.Call t c q ∷ rest) files h = with_final (before ++ entry.Call t c q ∷ []) rest files h
-  with_final before (entry.Input dev routed ∷ rest) files h =
-      with_final (before ++ entry.Input dev routed ∷ []) rest files h
-  with_final before (entry.Final ∷ rest) files h = with_final (before ++ entry.Final ∷ []) rest files h
+  with_final before (e ∷ rest) files h = with_final (before ++ e ∷ []) rest files h
 
   drawn_along : (journal : List Entry) → IsLegal config journal → AreRoundsOf journal scripts lines
       → AreShotsOf IsPicture journal (shots_of config scripts lines)
@@ -231,25 +278,21 @@ module _ (config : Configuration) (scripts : List (List Line)) (lines : List Inp
       → AreShotsOf IsPicture (journal ++ entry.Final ∷ []) (shots_of config scripts lines)
   shots_drawn journal legal is = with_final [] journal (shots_of config scripts lines) (drawn_along journal legal is)
 
--- ---- the shots of a run by rounds
+  -- ---- the shots of a run by rounds
 
-module _ (config : Configuration) (scripts : List (List Line)) (lines : List InputLine) where
   pub drawn_counted : (journal : List Entry) → IsLegal config journal → AreRoundsOf journal scripts lines
       → length (shots_of config scripts lines) ≡ shots journal
   drawn_counted journal legal is =
-      as_many_files (IsDrawnPicture config scripts lines) [] journal (shots_of config scripts lines)
-      (drawn_along config scripts lines journal legal is)
+      as_many_files IsPicture [] journal (shots_of config scripts lines) (drawn_along journal legal is)
 
   pub drawn_each : (front rest : List Entry) (number : ℕ) → IsLegal config (front ++ entry.Shot number ∷ rest)
       → AreRoundsOf (front ++ entry.Shot number ∷ rest) scripts lines
       → slice_get (shots_of config scripts lines) (shots front)
       ≡ Some (
         shot_name number,
-        picture_of config (replay config front)
-            (drawn_by_shot config scripts lines (shots front)).word,
+        picture_of config (replay config front) (drawn_by_shot config scripts lines (shots front)).word,
       )
   drawn_each front rest number legal is =
-      let file = file_of_a_shot (IsDrawnPicture config scripts lines) [] front rest number
-      (shots_of config scripts lines)
-      (drawn_along config scripts lines (front ++ entry.Shot number ∷ rest) legal is) in
+      let file = file_of_a_shot IsPicture [] front rest number (shots_of config scripts lines)
+      (drawn_along (front ++ entry.Shot number ∷ rest) legal is) in
       rw (file.1, file.2)

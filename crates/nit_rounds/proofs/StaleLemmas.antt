@@ -1,15 +1,110 @@
--- A scene's glass that is behind the own one of its session, and how it is brought on.
-use Rattle.nit_rounds.proofs.Basics.{AreBehind, Bool, BufferArea, FitsInto, IsBehind, IsBehindBy}
-use Rattle.nit_rounds.proofs.Basics.{IsButFor, IsDonation, Line, List, None, Option, SceneModel}
-use Rattle.nit_rounds.proofs.Basics.{Sight, Some, Stale, Step, ap, cases_lt, cond, ext_get_or}
-use Rattle.nit_rounds.proofs.Basics.{false, get_or-set_same, get_or_past, glass_after, glass_in}
-use Rattle.nit_rounds.proofs.Basics.{inl, inr, is_in_area, is_number_in, is_set_by, is_stale}
-use Rattle.nit_rounds.proofs.Basics.{length, length-set, no_sight, or_parts, refl, same_Some, set}
-use Rattle.nit_rounds.proofs.Basics.{set-set, set_long, set_where, slice_get, slice_index, static}
-use Rattle.nit_rounds.proofs.Basics.{step_of, subst, told_at, with_words, word_at, words_after}
-use Rattle.std.proofs.Common.{IfSome, sym, true, ℕ, ◌%◌, ◌+◌, ◌/◌, ◌<◌, ◌||◌, ◌∙◌, ◌≡◌}
-use Rattle.nit_rounds.proofs.Copies.{with_glass_of}
-use Rattle.nit_rounds.proofs.LineOnGlass.{AreLong, StayElsewhere}
+-- A scene's glass that is behind the own one of its session, and how it is brought on: words of an area become those of
+-- the own one.
+use Rattle.nit_rounds.proofs.Basics.{AreBehind, Bool, BufferArea, Fill, IsBehind, IsBehindBy}
+use Rattle.nit_rounds.proofs.Basics.{IsButFor, List, None, Option, SceneModel, Sight, Some, Stale}
+use Rattle.nit_rounds.proofs.Basics.{Stroke, above, alike, ap, arith, before_row, cases_lt, changed}
+use Rattle.nit_rounds.proofs.Basics.{cond, ext_get_or, false, for_any, get_or-set_same, get_or_past}
+use Rattle.nit_rounds.proofs.Basics.{glass_in, inl, inr, is_between, is_number_in, is_stale, length}
+use Rattle.nit_rounds.proofs.Basics.{length-set, nat_lt, nat_tests, no_sight, none_begun, refl}
+use Rattle.nit_rounds.proofs.Basics.{row_added, rows_done, same_set, set, set-get_or, set-set}
+use Rattle.nit_rounds.proofs.Basics.{set_long, set_where, slice_index, subst, told_at, unchanged}
+use Rattle.nit_rounds.proofs.Basics.{with_words, word_at}
+use Rattle.nit_plan.proofs.ForCallers.{whole}
+use Rattle.std.proofs.Common.{sym, true, ℕ, ◌%◌, ◌&&◌, ◌*◌, ◌+◌, ◌/◌, ◌<◌, ◌∙◌, ◌≡◌, ◌≤◌}
+
+-- ---- words
+
+-- the area as a stroke
+abbrev as_stroke : BufferArea → Stroke
+as_stroke a = Fill a.x a.y a.w a.h 0
+
+-- the words of the rows above one become these
+abbrev pub rows_to : ℕ → BufferArea → (ℕ → ℕ) → ℕ → List ℕ → List ℕ
+rows_to w a c j words = set_where (above w (a.y + a.h) (as_stroke a) j) c words
+
+-- the place lies in this row of the area
+abbrev is_in_row : ℕ → BufferArea → ℕ → ℕ → Bool
+is_in_row w a j = is_between (j * w + a.x) (j * w + a.x + a.w)
+
+no_row : (w : ℕ) (a : BufferArea) (c : ℕ → ℕ) (words : List ℕ) → words ≡ rows_to w a c a.y words
+no_row w a c words = none_begun w (a.y + a.h) (as_stroke a) a.x a.y a.w a.h c words (λ i j. refl)
+
+next_row : (w : ℕ) (a : BufferArea) (c : ℕ → ℕ) (j : ℕ) (words : List ℕ) → a.x + a.w ≤ w → a.y ≤ j → j < a.y + a.h
+    → set_where (is_in_row w a j) c (rows_to w a c j words) ≡ rows_to w a c (j + 1) words
+next_row w a c j words columns from below =
+    ap (λ (right : ℕ). set_where (is_between (j * w + a.x) right) c (rows_to w a c j words)) (omega arith)
+    ∙ row_added w (a.y + a.h) (as_stroke a) a.x a.y a.w a.h j c words (λ k l. refl) from below below
+
+in_area : (w : ℕ) (a : BufferArea) (n : ℕ) → a.x + a.w ≤ w → is_number_in w a n ≡ true → n < w * (a.y + a.h)
+in_area w a n columns is =
+    let across : n % w < a.x + a.w = grind (arith, nat_tests) in
+    let down : n / w < a.y + a.h = grind (arith, nat_tests) in
+    omega (arith, before_row n w (a.y + a.h) (omega arith) down)
+
+whole_area : (w : ℕ) (a : BufferArea) (n : ℕ) → a.x + a.w ≤ w → whole w (a.y + a.h) (as_stroke a) n ≡ is_number_in w a n
+whole_area w a n columns = go (is_number_in w a n) refl
+  where
+    go : (b : Bool) → is_number_in w a n ≡ b → (nat_lt n (w * (a.y + a.h)) && b) ≡ b
+    go false is = grind (arith, nat_tests)
+    go true is = let inside = in_area w a n columns is in grind (arith, nat_tests)
+
+all_rows : (w : ℕ) (a : BufferArea) (c : ℕ → ℕ) (j : ℕ) (words : List ℕ) → a.x + a.w ≤ w → a.y + a.h ≤ j
+    → rows_to w a c j words ≡ set_where (is_number_in w a) c words
+all_rows w a c j words columns done =
+    rows_done w (a.y + a.h) (as_stroke a) a.x a.y a.w a.h j c words (λ k l. refl) (omega arith)
+    ∙ same_set (whole w (a.y + a.h) (as_stroke a)) (is_number_in w a) c words (λ n. whole_area w a n columns)
+
+-- ---- the scene's glass
+
+-- the scene with this glass for a session
+abbrev pub with_glass_of : SceneModel Sight → ℕ → Sight → SceneModel Sight
+with_glass_of s sid g = record s { glasses = set s.glasses sid g }
+
+same_glass : (s : SceneModel Sight) (sid : ℕ) (g : Sight) → g ≡ glass_in s.glasses sid → s ≡ with_glass_of s sid g
+same_glass s sid g is = sym (ap (λ (x : Sight). with_glass_of s sid x) is
+    ∙ ap (λ (gs : List Sight). record s { glasses = gs }) (set-get_or s.glasses sid no_sight))
+
+-- the session's glass of that scene
+pub glass_there : (s now : SceneModel Sight) (sid : ℕ) (g : Sight) → now ≡ with_glass_of s sid g
+    → sid < length s.glasses → glass_in now.glasses sid ≡ g
+glass_there s now sid g is inside = rw (is, get_or-set_same s.glasses sid g no_sight inside)
+
+pub begun : (s : SceneModel Sight) (sid w : ℕ) (a : BufferArea) (c : ℕ → ℕ)
+    → s ≡ with_glass_of s sid (with_words (rows_to w a c a.y) (glass_in s.glasses sid))
+begun s sid w a c =
+    let g = glass_in s.glasses sid in
+    same_glass s sid _ (sym (unchanged (rows_to w a c a.y) g
+    (for_any (λ words. words ≡ rows_to w a c a.y words) g.words (no_row w a c))))
+
+pub row_drawn : (s now later : SceneModel Sight) (sid w : ℕ) (a : BufferArea) (c : ℕ → ℕ) (j : ℕ)
+    → sid < length s.glasses
+    → a.x + a.w ≤ w → a.y ≤ j → j < a.y + a.h
+    → now ≡ with_glass_of s sid (with_words (rows_to w a c j) (glass_in s.glasses sid))
+    → later ≡ with_glass_of now sid (with_words (set_where (is_in_row w a j) c) (glass_in now.glasses sid))
+    → later ≡ with_glass_of s sid (with_words (rows_to w a c (j + 1)) (glass_in s.glasses sid))
+row_drawn s now later sid w a c j within columns from below was drew =
+    let g = glass_in s.glasses sid in
+    let before : Sight = with_words (rows_to w a c j) g in
+    let after : Sight = with_words (rows_to w a c (j + 1)) g in
+    let both : with_words (set_where (is_in_row w a j) c) before ≡ after =
+    changed (rows_to w a c j) (set_where (is_in_row w a j) c) (rows_to w a c (j + 1)) g before
+    (with_words (set_where (is_in_row w a j) c) before)
+    (for_any (λ words. set_where (is_in_row w a j) c (rows_to w a c j words) ≡ rows_to w a c (j + 1) words) g.words
+    (λ words. next_row w a c j words columns from below)) refl refl in
+    rw (drew, glass_there s now sid before was within, both, was, set-set s.glasses sid before after)
+
+pub all_drawn : (s now : SceneModel Sight) (sid w : ℕ) (a : BufferArea) (c : ℕ → ℕ) (j : ℕ) → a.x + a.w ≤ w
+    → a.y + a.h ≤ j
+    → now ≡ with_glass_of s sid (with_words (rows_to w a c j) (glass_in s.glasses sid))
+    → now ≡ with_glass_of s sid (with_words (set_where (is_number_in w a) c) (glass_in s.glasses sid))
+all_drawn s now sid w a c j columns done was =
+    let g = glass_in s.glasses sid in
+    rw (
+      was,
+      alike (rows_to w a c j) (set_where (is_number_in w a) c) g (with_words (rows_to w a c j) g) (for_any (λ words.
+          rows_to w a c j words ≡ set_where (is_number_in w a) c words) g.words (λ words. all_rows w a c j words
+          columns done)) refl,
+    )
 
 -- ---- words
 
@@ -58,96 +153,25 @@ word_copied p now old n long same =
     go true is = rw is refl
     go false is = rw is (same is)
 
--- the words of one of two areas were copied
-pub copied_first : (p q : ℕ → Bool) (there own there' : Sight) → IsButFor (λ n. p n || q n) there own
+-- the words of some places were copied, so those of the others that differed still may
+pub copied_first : (p q chosen : ℕ → Bool) (there own there' : Sight) → IsButFor chosen there own
+    → ((n : ℕ) → p n ≡ false → q n ≡ false → chosen n ≡ false)
     → there' ≡ with_words (set_where p (told_at own)) there → IsButFor q there' own
-copied_first p q there own there' b is =
+copied_first p q chosen there own there' b both is =
     record {
       old = set_where p (slice_index b.now) b.old;
       now = b.now;
       is = is ∙ copied_words p there own b.old b.now b.is b.told;
       told = b.told;
       long = b.long ∙ sym (set_long p (slice_index b.now) b.old);
-      same = λ n not. word_copied p b.now b.old n b.long (λ not_first. b.same n (rw not_first not));
+      same = λ n not. word_copied p b.now b.old n b.long (λ not_first. b.same n (both n not_first not));
     }
 
 -- all words that differ were copied
 pub copied_all : (p : ℕ → Bool) (there own : Sight) → IsButFor p there own
     → with_words (set_where p (told_at own)) there ≡ own
 copied_all p there own b =
-    same_by_none (with_words (set_where p (told_at own)) there) own
-    (record {
-      old = set_where p (slice_index b.now) b.old;
-      now = b.now;
-      is = copied_words p there own b.old b.now b.is b.told;
-      told = b.told;
-      long = b.long ∙ sym (set_long p (slice_index b.now) b.old);
-      same = λ n _. word_copied p b.now b.old n b.long (b.same n);
-    })
-
--- ---- a line
-
--- a glass that is behind tells words, so it is the own one but for those that are stale
-pub as_but : (t : ℕ) (script : List Line) (donation k : ℕ) (stale : Option Stale) (there own : Sight)
-    → own ≡ glass_after t script donation k → IsBehind stale t there own → IsButFor (is_stale stale) there own
-as_but t script donation k None there own is behind =
-    but_none there own (words_after script donation k) behind (rw is)
-as_but t script donation k (Some a) there own is behind = behind.but
-
--- what is stale fits into a glass of the same size
-pub still_fits : (stale : Option Stale) (sid : ℕ) (there own : Sight) (size : ℕ) → own.size ≡ size
-    → IsBehind stale sid there own → IfSome stale (FitsInto size)
-still_fits None sid there own size same behind = tt
-still_fits (Some a) sid there own size same behind = subst (λ (n : ℕ). FitsInto n a) same behind.fits
-
--- a line that sets no word
-pub nothing_drawn : AreLong → StayElsewhere → (t : ℕ) (script : List Line) (donation k : ℕ) (l : Line)
-    → IsDonation donation → slice_get script k ≡ Some l
-    → ((step : Step) (i j : ℕ) → is_set_by l step i j ≡ false)
-    → glass_after t script donation k ≡ glass_after t script donation (k + 1)
-nothing_drawn long stay t script donation k l opens here none =
-    let step = step_of (static script donation k) (static script donation (k + 1)) l in
-    let as_long =
-    long script donation k opens.1 ∙ sym (long script donation (k + 1) opens.1) in
-    rw (ext_get_or 0 (words_after script donation k) (words_after script donation (k + 1)) as_long (λ n inside. sym
-    (stay script donation k n l here (none step (n % step.w) (n / step.w)))))
-
--- what a line sets is stale too
-pub drawn_but : AreLong → StayElsewhere
-    → (t : ℕ) (script : List Line) (donation k : ℕ) (l : Line) (step : Step) (area : BufferArea) (p : ℕ
-    → Bool) (there own own' : Sight) → IsDonation donation → slice_get script k ≡ Some l
-    → step ≡ step_of (static script donation k) (static script donation (k + 1)) l
-    → ((i j : ℕ) → is_in_area area i j ≡ is_set_by l step i j)
-    → own ≡ glass_after t script donation k → own' ≡ glass_after t script donation (k + 1) → IsButFor p there own
-    → IsButFor (λ n. p n || is_number_in step.w area n) there own'
-drawn_but long stay t script donation k l step area p there own own' opens here is set was now b =
-    record {
-      old = b.old;
-      now = new;
-      is = cc (b.is, was, as_long, now);
-      told = rw now;
-      long = rw (as_long, before, b.long);
-      same = same;
-    }
-  where
-    old : List ℕ
-    old = words_after script donation k
-
-    new : List ℕ
-    new = words_after script donation (k + 1)
-
-    as_long : length new ≡ length old
-    as_long = long script donation (k + 1) opens.1 ∙ sym (long script donation k opens.1)
-
-    before : old ≡ b.now
-    before = same_Some _ _ (cc (was, b.told))
-
-    same : (n : ℕ) → (p n || is_number_in step.w area n) ≡ false → slice_index new n ≡ slice_index b.old n
-    same n not =
-        let neither = or_parts (p n) (is_number_in step.w area n) not in
-        let outside : is_set_by l step (n % step.w) (n / step.w) ≡ false = sym (set (n % step.w) (n / step.w))
-        ∙ neither.1 in
-        rw (stay script donation k n l here (rw is at outside), before, b.same n neither.0)
+    same_by_none _ own (copied_first p (λ n. false) p there own _ b (λ n is _. is) refl)
 
 -- ---- the scene's glasses
 

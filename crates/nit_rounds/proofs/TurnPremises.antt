@@ -1,23 +1,21 @@
 -- What a turn finds: all that the line of its actor asks for.
 use Rattle.nit_rounds.proofs.Basics.{Action, Acts, All-get_or, AllByRecursion, ByUser, Call, Calls}
-use Rattle.nit_rounds.proofs.Basics.{CanDoUserLine, Configuration, Does, Entry, FitsInputLine}
-use Rattle.nit_rounds.proofs.Basics.{InputLine, IsConfiguration, IsDonation, IsMember, IsMoved}
-use Rattle.nit_rounds.proofs.Basics.{IsPlanOf, IsPlanned, IsUnderWay, Line, LineTurn, List, None}
-use Rattle.nit_rounds.proofs.Basics.{Option, PlanModel, SceneModel, Shoots, Sight, Some, State}
-use Rattle.nit_rounds.proofs.Basics.{Turn, [], actions_of_line, actions_of_turns, ap, arith}
-use Rattle.nit_rounds.proofs.Basics.{donation_of, drop, get_or, get_or_default}
-use Rattle.nit_rounds.proofs.Basics.{get_or_from_slice_get, glass_after, glass_in, length}
-use Rattle.nit_rounds.proofs.Basics.{option_map, plan_in, rounds, script_in, settled}
-use Rattle.nit_rounds.proofs.Basics.{slice_get_within, state_now, takes_place, turn_of}
+use Rattle.nit_rounds.proofs.Basics.{CanDoUserLine, Does, Entry, FitsInputLine, InputLine}
+use Rattle.nit_rounds.proofs.Basics.{IsDonation, IsMember, IsMoved, IsPlanOf, IsPlanned, IsShowing}
+use Rattle.nit_rounds.proofs.Basics.{IsUnderWay, Line, LineTurn, List, None, Option, PlanModel}
+use Rattle.nit_rounds.proofs.Basics.{SceneModel, Shoots, ShotFrame, Sight, Some, State, Turn, []}
+use Rattle.nit_rounds.proofs.Basics.{actions_of_line, actions_of_turns, ap, arith, donation_of}
+use Rattle.nit_rounds.proofs.Basics.{drop, get_or, get_or_default, get_or_from_slice_get}
+use Rattle.nit_rounds.proofs.Basics.{glass_after, glass_in, length, option_map, plan_in, rounds}
+use Rattle.nit_rounds.proofs.Basics.{same_Some, script_in, settled, slice_get_within, state_now}
+use Rattle.nit_rounds.proofs.Basics.{takes_place, turn_of}
 use Rattle.std.proofs.Common.{slice_get, length-set, refl, set, suc, sym, true, zero, ℕ, ◌<◌, ◌∙◌}
 use Rattle.std.proofs.Common.{◌∷◌, ◌≡◌, ◌≤◌}
 use Rattle.nit_script.specs.declared.line.Line.TheVariants as line
 use Rattle.nit_script.specs.declared.line.InputLine.TheVariants as input
 use Rattle.nit_rounds.specs.declared.turn.Turn.TheVariants as turn
-use Rattle.nit_rounds.proofs.RunStateLemmas.{ClientTells, ClientDone, UserTells, UserDone}
-use Rattle.nit_rounds.proofs.RunStateLemmas.{IsClientsMove, IsUsersMove, clients_move, users_move}
-use Rattle.nit_rounds.proofs.RunStateLemmas.{own_glass}
-use Rattle.nit_rounds.proofs.OneMove.{quiet_now, room_for}
+use Rattle.nit_rounds.proofs.RunStateLemmas.{IsClientsMove, IsUsersMove, clients_move, own_glass}
+use Rattle.nit_rounds.proofs.RunStateLemmas.{quiet_now, room_for, users_move}
 
 -- ---- a client's turn
 
@@ -28,70 +26,60 @@ pub record MayDoLine (scripts : List (List Line)) (plans : List PlanModel) (scen
   pub in_scripts : sid < length scripts
   pub in_plans : sid < length plans
   pub session : sid < length scene.config.clients
-  pub glasses : sid < length scene.glasses
   pub here : number < length (script_in scripts sid)
   pub donation : IsDonation (donation_of scene.config sid)
   pub plan : IsPlanOf (script_in scripts sid) (donation_of scene.config sid) (plan_in plans sid)
   pub own : glass_in owns sid ≡ glass_after sid (script_in scripts sid) (donation_of scene.config sid) number
-  pub same : glass_in scene.glasses sid ≡ glass_in owns sid
   pub spare : (call : Call) → slice_get (script_in scripts sid) number ≡ Some (line.Call call) → 1 ≤ scene.spare
 
-member_donates : (config : Configuration) (sid : ℕ) → IsConfiguration config → sid < length config.clients
-    → IsDonation (donation_of config sid)
-member_donates config sid within inside = (All-get_or IsMember config.clients sid _ inside within.clients).donation
+-- a turn comes next, once what is stale of the scene is copied
+abbrev pub ComesNext : {V : Type 0} → (ℕ → ℕ → V → Type 0) → (ShotFrame → V → V → Type 0) → List (List Line)
+    → List InputLine → SceneModel Sight → List Sight → V → Turn → Type 0
+ComesNext {V = V} Fits Shows scripts lines s owns last t = (before : SceneModel Sight) × (m : LineTurn)
+    × (left : List LineTurn) × (first : V)
+    × IsShowing Fits Shows scripts lines before (settled s owns) owns (m ∷ left) first last × (turn_of m ≡ t)
+    × (length (actions_of_turns (rounds scripts lines)) ≤ before.spare)
 
-same_some : (a b : Line) → Some a ≡ Some b → a ≡ b
-same_some a b e = cc
-
-pub clients_turn : ClientTells → ClientDone
-    → (scripts : List (List Line)) (lines : List InputLine) (plans : List PlanModel) (before now : SceneModel Sight)
-    (owns : List Sight) (m : LineTurn) (left : List LineTurn) (sid number : ℕ)
-    → IsPlanned now.config scripts plans → (w : IsUnderWay scripts lines before now owns (m ∷ left))
-    → turn_of m ≡ turn.Client sid number → length (actions_of_turns (rounds scripts lines)) ≤ before.spare
-    → MayDoLine scripts plans now owns sid number
-clients_turn tells done scripts lines plans before now owns m left sid number planned w is room =
+-- all that a client's line asks for, once what is stale of others was copied: the scene's glasses are the own ones,
+-- but for that of the session
+pub may_do : {V : Type 0} {Fits : ℕ → ℕ → V → Type 0} {Shows : ShotFrame → V → V → Type 0} {scripts : List (List Line)}
+    {lines : List InputLine} {plans : List PlanModel} {owns : List Sight} {last : V} {t : Turn} {sid number : ℕ}
+    {s' : SceneModel Sight} (s : SceneModel Sight) → IsPlanned s.config scripts plans
+    → ComesNext Fits Shows scripts lines s owns last t → s' ≡ record s { glasses = s'.glasses }
+    → t ≡ turn.Client sid number → MayDoLine scripts plans (settled s' owns) owns sid number
+may_do {scripts = scripts} {lines = lines} {plans = plans} {owns = owns} {sid = sid} {number = number} {s' = s'} s
+    planned (before, m, left, first, p, of, room) same is =
     record {
       in_owns = in_owns;
       in_scripts = move.inside;
       in_plans = rw (← planned.plans_each) at move.inside;
       session = session;
-      glasses = rw (← w.same) at in_owns;
       here = slice_get_within (script_in scripts sid) number move.l move.here;
-      donation = member_donates now.config sid planned.configured session;
-      plan = planned.planned sid move.inside;
+      donation = (All-get_or IsMember s'.config.clients sid _ session planned'.configured.clients).donation;
+      plan = planned'.planned sid move.inside;
       own = own_glass scripts lines before now owns m left sid number w move;
-      same = rw w.same;
-      spare = λ call found. room_for scripts lines before now owns m left (Calls sid call) w (one call found) room;
+      spare = λ call found.
+          let l : move.l ≡ line.Call call = same_Some _ _ (sym move.here ∙ found) in
+          room_for scripts lines before now owns m left (Calls sid call) w (rw (move.doing, l)) room;
     }
   where
+    now : SceneModel Sight
+    now = settled s' owns
+
+    w : IsUnderWay scripts lines before now owns (m ∷ left)
+    w = rw (← ap (λ (x : SceneModel Sight). settled x owns) same) at p.way
+
+    planned' : IsPlanned s'.config scripts plans
+    planned' = rw (← ap (λ (x : SceneModel Sight). x.config) same) at planned
+
     move : IsClientsMove scripts w.front m sid number
-    move = clients_move tells done scripts lines before now owns m left sid number w is
+    move = clients_move scripts lines before now owns m left sid number w (of ∙ is)
 
     in_owns : sid < length owns
     in_owns = rw (← w.owns_each) at move.inside
 
-    session : sid < length now.config.clients
-    session = rw planned.sessions at move.inside
-
-    one : (call : Call) → slice_get (script_in scripts sid) number ≡ Some (line.Call call)
-        → actions_of_line m.doing ≡ Calls sid call ∷ []
-    one call found =
-        let l : move.l ≡ line.Call call = same_some move.l (line.Call call) (sym move.here ∙ found) in
-        rw (move.doing, l)
-
--- all that a client's line asks for, once what is stale of others was copied: the scene's glasses are the own ones,
--- but for that of the session
-pub settled_turn : ClientTells → ClientDone
-    → (scripts : List (List Line)) (lines : List InputLine) (plans : List PlanModel) (before s s' : SceneModel Sight)
-    (owns : List Sight) (m : LineTurn) (left : List LineTurn) (sid number : ℕ)
-    → IsPlanned s.config scripts plans → IsUnderWay scripts lines before (settled s owns) owns (m ∷ left)
-    → s' ≡ record s { glasses = s'.glasses } → turn_of m ≡ turn.Client sid number
-    → length (actions_of_turns (rounds scripts lines)) ≤ before.spare
-    → MayDoLine scripts plans (settled s' owns) owns sid number
-settled_turn tells done scripts lines plans before s s' owns m left sid number planned w same is room =
-    clients_turn tells done scripts lines plans before (settled s' owns) owns m left sid number
-    (rw (← ap (λ (p : SceneModel Sight). p.config) same) at planned)
-    (rw (← ap (λ (p : SceneModel Sight). settled p owns) same) at w) is room
+    session : sid < length s'.config.clients
+    session = rw planned'.sessions at move.inside
 
 -- the scene has a glass for each own one
 pub as_many : (glasses owns : List Sight) (sid : ℕ) (g : Sight) → set glasses sid g ≡ owns → sid < length owns
@@ -137,13 +125,12 @@ one_act (input.Device dev) takes = (Acts (Does dev), refl)
 one_act input.Shot takes = (Acts Shoots, refl)
 one_act input.Phase takes = absurd (cc)
 
-pub users_turn : UserTells → UserDone
-    → (scripts : List (List Line)) (lines : List InputLine) (before s s' : SceneModel Sight) (owns : List Sight)
-    (m : LineTurn) (left : List LineTurn) (number : ℕ)
-    → IsUnderWay scripts lines before (settled s owns) owns (m ∷ left) → s' ≡ settled s owns
-    → turn_of m ≡ turn.User number → length (actions_of_turns (rounds scripts lines)) ≤ before.spare
-    → MayDoUserLine lines s' number
-users_turn tells done scripts lines before s s' owns m left number way same is room =
+pub users_turn : {V : Type 0} {Fits : ℕ → ℕ → V → Type 0} {Shows : ShotFrame → V → V → Type 0}
+    {scripts : List (List Line)} {lines : List InputLine} {owns : List Sight} {last : V} {t : Turn} {number : ℕ}
+    (s s' : SceneModel Sight) → ComesNext Fits Shows scripts lines s owns last t → s' ≡ settled s owns
+    → t ≡ turn.User number → MayDoUserLine lines s' number
+users_turn {scripts = scripts} {lines = lines} {owns = owns} {number = number} s s'
+    (before, m, left, first, p, of, room) same is =
     record {
       here = slice_get_within lines number move.l move.here;
       can = λ l got fits. record {
@@ -158,10 +145,10 @@ users_turn tells done scripts lines before s s' owns m left number way same is r
     }
   where
     w : IsUnderWay scripts lines before s' owns (m ∷ left)
-    w = rw (← same) at way
+    w = rw (← same) at p.way
 
     move : IsUsersMove lines m number
-    move = users_move tells done scripts lines before s' owns m left number w is
+    move = users_move scripts lines before s' owns m left number w (of ∙ is)
 
 -- ---- the next turn
 

@@ -1,20 +1,104 @@
--- A journal of rounds is whole.
-use Rattle.nit_rounds.proofs.Basics.{ActorLine, Acts, AreRoundsOf, Bool, ByClient, ByUser, Call}
-use Rattle.nit_rounds.proofs.Basics.{Calls, Does, Entry, InputLine, IsNonDecreasing, IsWhole, Line}
-use Rattle.nit_rounds.proofs.Basics.{LineTurn, List, Shoots, UserAction, [], action_of}
-use Rattle.nit_rounds.proofs.Basics.{actions_of_turns, actors, ap, calls_from, calls_of}
-use Rattle.nit_rounds.proofs.Basics.{calls_to_make, cases_eq, cases_lt, done, eq-eqb, false}
-use Rattle.nit_rounds.proofs.Basics.{flat_map, get_or, get_or-set_other, get_or-set_same}
-use Rattle.nit_rounds.proofs.Basics.{get_or_past, inl, inr, left, length, map, ne_eqb, next_phase}
-use Rattle.nit_rounds.proofs.Basics.{phase_count, phases_along, refl, rounds, set, subst, suc, sym}
-use Rattle.nit_rounds.proofs.Basics.{to_do, turns_from, turns_of, user_actions_from}
-use Rattle.nit_rounds.proofs.Basics.{user_actions_of, user_actions_to_do}
-use Rattle.std.proofs.Common.{true, zero, ℕ, ◌++◌, ◌==◌, ◌∙◌, ◌∷◌, ◌≡◌, if◌then◌else◌}
+-- A journal of rounds is whole, and the phases of the rounds never fall.
+use Rattle.nit_rounds.proofs.Basics.{Action, ActorLine, Acts, AllByRecursion, AreRoundsOf, Bool}
+use Rattle.nit_rounds.proofs.Basics.{ByClient, ByUser, Call, Calls, Does, Entry, InputLine}
+use Rattle.nit_rounds.proofs.Basics.{IsNonDecreasing, IsWhole, Line, LineTurn, List, Shoots}
+use Rattle.nit_rounds.proofs.Basics.{UserAction, [], action_of, actions_of_line, actions_of_turns}
+use Rattle.nit_rounds.proofs.Basics.{actors, all_append, ap, arith, calls_from, calls_of}
+use Rattle.nit_rounds.proofs.Basics.{calls_to_make, cases_eq, cases_lt, cond, done, drop, eq-eqb}
+use Rattle.nit_rounds.proofs.Basics.{eqb-true, false, flat_map, flat_map-append, get_or}
+use Rattle.nit_rounds.proofs.Basics.{get_or-set_other, get_or-set_same, get_or_past, in_phase, inl}
+use Rattle.nit_rounds.proofs.Basics.{inr, le_of_eq, le_trans, left, length, map, ne_eqb, next_phase}
+use Rattle.nit_rounds.proofs.Basics.{phase_count, phase_rounds, phases_along, range_with_len, refl}
+use Rattle.nit_rounds.proofs.Basics.{round, rounds, set, subst, suc, sym, to_do, turns_from}
+use Rattle.nit_rounds.proofs.Basics.{turns_of, user_actions_from, user_actions_of}
+use Rattle.nit_rounds.proofs.Basics.{user_actions_to_do}
+use Rattle.std.proofs.Common.{if◌then◌else◌, take, true, zero, ℕ, ◌++◌, ◌+◌, ◌<◌, ◌==◌, ◌∙◌, ◌∷◌}
+use Rattle.std.proofs.Common.{◌≡◌, ◌≤◌}
+use Rattle.nit_rounds.proofs.OneActor.{all_drop, all_take}
+use Rattle.nit_rounds.proofs.Scripts.{client_part, user_part}
 use Rattle.nit_events.specs.declared.entry.Entry.TheVariants as entry
 use Rattle.nit_script.specs.declared.line.Line.TheVariants as line
 use Rattle.nit_script.specs.declared.line.InputLine.TheVariants as input
-use Rattle.nit_rounds.proofs.Scripts.{client_part, user_part}
-use Rattle.nit_rounds.proofs.RoundPhases.{act_phases, never_falls, rounds_rise}
+
+-- ---- numbers that never fall
+
+-- each number is at least the one before it, and the first at least this one
+abbrev pub Rising : ℕ → List ℕ → Type 0
+Rising low [] = Unit {0}
+Rising low (x ∷ xs) = (low ≤ x) × Rising x xs
+
+rising_at : (low : ℕ) (xs : List ℕ) → Rising low xs → (j d : ℕ) → j < length xs → low ≤ get_or xs j d
+rising_at low [] r j d h = absurd (omega arith)
+rising_at low (x ∷ xs) r zero d h = r.0
+rising_at low (x ∷ xs) r (suc j) d h = le_trans r.0 (rising_at x xs r.1 j d (omega arith))
+
+pub never_falls : (low : ℕ) (xs : List ℕ) → Rising low xs → IsNonDecreasing xs
+never_falls low [] r i j d up h = absurd (omega arith)
+never_falls low (x ∷ xs) r zero zero d up h = omega arith
+never_falls low (x ∷ xs) r zero (suc j) d up h = rising_at x xs r.1 j d (omega arith)
+never_falls low (x ∷ xs) r (suc i) zero d up h = absurd (omega arith)
+never_falls low (x ∷ xs) r (suc i) (suc j) d up h = never_falls x xs r.1 i j d (omega arith) (omega arith)
+
+from_lower : (low mid : ℕ) (xs : List ℕ) → low ≤ mid → Rising mid xs → Rising low xs
+from_lower low mid [] h r = tt
+from_lower low mid (x ∷ xs) h r = (le_trans h r.0, r.1)
+
+same_then : (q : ℕ) (xs ys : List ℕ) → AllByRecursion (λ x. x ≡ q) xs → Rising q ys → Rising q (xs ++ ys)
+same_then q [] ys h r = r
+same_then q (x ∷ xs) ys h r =
+    (le_of_eq (sym h.0), rw (← h.0) at (same_then q xs ys h.1 r))
+
+-- ---- the moves of one phase
+
+abbrev InPhase : ℕ → List LineTurn → Type 0
+InPhase p moves = AllByRecursion (λ m. m.phase ≡ p) moves
+
+kept_in : (p : ℕ) (b : Bool) (m : LineTurn) (moves : List LineTurn) → (m.phase == p) ≡ b → InPhase p moves
+    → InPhase p (cond b (m ∷ moves) moves)
+kept_in p true m moves e h = (eqb-true m.phase p e, h)
+kept_in p false m moves e h = h
+
+phase_in : (p : ℕ) (moves : List LineTurn) → InPhase p (in_phase p moves)
+phase_in p [] = tt
+phase_in p (m ∷ moves) = kept_in p (m.phase == p) m (in_phase p moves) refl (phase_in p moves)
+
+round_in : (p r : ℕ) (all : List (List LineTurn)) → InPhase p (round (map (in_phase p) all) r)
+round_in p r [] = tt
+round_in p r (l ∷ all) =
+    all_append (λ m. m.phase ≡ p) (take 1 (drop r (in_phase p l))) (round (map (in_phase p) all) r)
+    (all_take (λ m. m.phase ≡ p) 1 (drop r (in_phase p l))
+    (all_drop (λ m. m.phase ≡ p) r (in_phase p l) (phase_in p l))) (round_in p r all)
+
+rounds_in : (p : ℕ) (all : List (List LineTurn)) (rs : List ℕ) → InPhase p (flat_map (round (map (in_phase p) all)) rs)
+rounds_in p all [] = tt
+rounds_in p all (r ∷ rs) = all_append (λ m. m.phase ≡ p) (round (map (in_phase p) all) r)
+    (flat_map (round (map (in_phase p) all)) rs) (round_in p r all) (rounds_in p all rs)
+
+-- ---- the phases of what is put into a journal
+
+-- the move's phase, once for each entry that it puts into the journal
+abbrev pub act_phases : LineTurn → List ℕ
+act_phases m = map (λ _. m.phase) (actions_of_line m.doing)
+
+each_same : (p q : ℕ) (made : List Action) → p ≡ q → AllByRecursion (λ n. n ≡ q) (map (λ _. p) made)
+each_same p q [] e = tt
+each_same p q (a ∷ made) e = (e, each_same p q made e)
+
+all_same : (p : ℕ) (moves : List LineTurn) → InPhase p moves → AllByRecursion (λ n. n ≡ p) (flat_map act_phases moves)
+all_same p [] h = tt
+all_same p (m ∷ moves) h = all_append (λ n. n ≡ p) (act_phases m) (flat_map act_phases moves)
+    (each_same m.phase p (actions_of_line m.doing) h.0) (all_same p moves h.1)
+
+pub rounds_rise : (all : List (List LineTurn)) (p n : ℕ)
+    → Rising p (flat_map act_phases (flat_map (phase_rounds all) (range_with_len p n)))
+rounds_rise all p zero = tt
+rounds_rise all p (suc n) =
+    rw (flat_map-append act_phases (phase_rounds all p) (flat_map (phase_rounds all) (range_with_len (p + 1) n)))
+    (same_then p (flat_map act_phases (phase_rounds all p))
+    (flat_map act_phases (flat_map (phase_rounds all) (range_with_len (p + 1) n)))
+    (all_same p (phase_rounds all p) (rounds_in p all _))
+    (from_lower p (p + 1) (flat_map act_phases (flat_map (phase_rounds all) (range_with_len (p + 1) n))) (omega arith)
+    (rounds_rise all (p + 1) n)))
 
 -- ---- what actors are to do, by their moves
 
@@ -88,8 +172,7 @@ is_call : (s : ℕ) (c : Call) (j : Entry) → action_of j ≡ Calls s c → IsC
 is_call s c (entry.Call t call r) e =
     let same : t ≡ s = cc in
     let made : call ≡ c = cc in
-    rw (← same) (subst (λ (x : Call). IsCall t x (entry.Call t call r)) made
-    (record { phases = λ clients user rest. refl; calls = λ x rest. refl; actions = λ rest. refl }))
+    rw (← same, ← made) (record { phases = λ clients user rest. refl; calls = λ x rest. refl; actions = λ rest. refl })
 is_call s c other e = absurd (cc)
 
 -- what an entry that is the user's action puts in front
@@ -100,13 +183,9 @@ record IsAction (d : UserAction) (j : Entry) : Type 0 where
   actions : (rest : List Entry) → user_actions_of (j ∷ rest) ≡ d ∷ user_actions_of rest
 
 is_action : (d : UserAction) (j : Entry) → action_of j ≡ Acts d → IsAction d j
-is_action d (entry.Input dev routed) e =
-    let same : Does dev ≡ d = cc in
-    rw (← same) (record { phases = λ clients user rest. refl; calls = λ x rest. refl; actions = λ rest. refl })
-is_action d (entry.Shot number) e =
-    let same : Shoots ≡ d = cc in
-    rw (← same) (record { phases = λ clients user rest. refl; calls = λ x rest. refl; actions = λ rest. refl })
-is_action d other e = absurd (cc)
+is_action d (entry.Call t c r) e = absurd (cc)
+is_action d entry.Final e = absurd (cc)
+is_action d other e = record { phases = λ clients user rest. refl; calls = λ x rest. refl; actions = λ rest. cc }
 
 -- ---- all entries
 
@@ -129,9 +208,6 @@ abbrev AllFollow : List LineTurn → Type 0
 AllFollow ms = (clients : List (List (ℕ × Call))) (user : List (ℕ × UserAction)) (js : List Entry)
     → Ahead clients user ms → map action_of js ≡ actions_of_turns ms → Follows clients user ms js
 
-not_both : {X : Type 0} (x : X) (xs : List X) → [] ≡ x ∷ xs → ⊥
-not_both x xs e = cc
-
 one_call : (b : Bool) (p : ℕ) (c : Call) (xs : List Call) (ys : List (ℕ × Call)) → xs ≡ done ys
     → (if b then c ∷ xs else xs) ≡ done ((if b then (p, c) ∷ [] else []) ++ ys)
 one_call true p c xs ys e = rw e
@@ -144,7 +220,7 @@ call_left : (clients : List (List (ℕ × Call))) (s p : ℕ) (c : Call) (ms : L
 call_left clients s p c ms calls x =
     let here : to_do clients s ≡ (p, c) ∷ flat_map (calls_in s) ms = rw (eq-eqb s s refl) at (calls s) in
     elim (cases_lt s (length clients)) [
-      | inr past ↦ absurd (not_both (p, c) (flat_map (calls_in s) ms) (sym (get_or_past clients s [] past) ∙ here))
+      | inr past ↦ absurd (cc (get_or_past clients s [] past, here))
       | inl inside ↦ elim (cases_eq x s) [
         | inl same ↦ rw same (rw (get_or-set_same clients s (left (to_do clients s)) [] inside, here))
         | inr other ↦ get_or-set_other clients s x (left (to_do clients s)) [] other
@@ -152,73 +228,55 @@ call_left clients s p c ms calls x =
       ]
     ]
 
--- one entry more in front, which is a session's call
-more_call : (s p n : ℕ) (c : Call) (ms : List LineTurn) (clients : List (List (ℕ × Call)))
-    (user : List (ℕ × UserAction)) (j : Entry) (js : List Entry) → IsCall s c j →
-    ((x : ℕ) → to_do clients x ≡ call_in x p (ByClient s (line.Call c)) ++ flat_map (calls_in x) ms)
-    → Follows (set clients s (left (to_do clients s))) user ms js →
-    Follows clients user (move p n (ByClient s (line.Call c)) ∷ ms) (j ∷ js)
-more_call s p n c ms clients user j js is calls rest =
-    let here : to_do clients s ≡ (p, c) ∷ flat_map (calls_in s) ms = rw (eq-eqb s s refl) at (calls s) in
+-- what these moves do, an action of the user does in front
+more_action : (p n : ℕ) (d : UserAction) (of : InputLine) (ms : List LineTurn) → AllFollow ms
+    → actions_of_line (ByUser of) ≡ Acts d ∷ [] → action_in p (ByUser of) ≡ (p, d) ∷ []
+    → AllFollow (move p n (ByUser of) ∷ ms)
+more_action p n d of ms follow acts made clients user [] ahead e = absurd (let none = rw acts at e in cc)
+more_action p n d of ms follow acts made clients user (j ∷ js) ahead e =
+    let all : map action_of (j ∷ js) ≡ Acts d ∷ actions_of_turns ms = rw acts at e in
+    let head : action_of j ≡ Acts d = cc in
+    let tail : map action_of js ≡ actions_of_turns ms = cc in
+    let is = is_action d j head in
+    let to_make : user ≡ (p, d) ∷ flat_map actions_in ms = rw made at ahead.actions in
+    let rest = follow clients (left user) js
+    (record { calls = λ s. rw (no_call s p of) at (ahead.calls s); actions = ap left to_make }) tail in
+    let here : next_phase user ≡ p = ap next_phase to_make in
+    let phases : flat_map act_phases (move p n (ByUser of) ∷ ms) ≡ p ∷ flat_map act_phases ms = rw acts in
+    record {
+      phases = rw (is.phases clients user (js ++ entry.Final ∷ []), here, rest.phases, ← phases);
+      calls = λ x. is.calls x (js ++ entry.Final ∷ []) ∙ rest.calls x
+          ∙ ap (λ (t : List (ℕ × Call)). done (t ++ flat_map (calls_in x) ms)) (sym (no_call x p of));
+      actions = cc (is.actions (js ++ entry.Final ∷ []), rest.actions);
+    }
+
+-- what these moves do, a move more does in front
+more : (p n : ℕ) (d : ActorLine) (ms : List LineTurn) → AllFollow ms → AllFollow (move p n d ∷ ms)
+more p n (ByClient s (line.Call c)) ms follow clients user [] ahead e = absurd cc
+more p n (ByClient s (line.Call c)) ms follow clients user (j ∷ js) ahead e =
+    let head : action_of j ≡ Calls s c = cc in
+    let tail : map action_of js ≡ actions_of_turns ms = cc in
+    let is = is_call s c j head in
+    let here : to_do clients s ≡ (p, c) ∷ flat_map (calls_in s) ms = rw (eq-eqb s s refl) at (ahead.calls s) in
+    let rest = follow (set clients s (left (to_do clients s))) user js
+    (record { calls = call_left clients s p c ms ahead.calls; actions = ahead.actions }) tail in
     record {
       phases = cc (is.phases clients user (js ++ entry.Final ∷ []), here, rest.phases);
       calls = λ x. is.calls x (js ++ entry.Final ∷ [])
           ∙ one_call (s == x) p c (calls_of x (js ++ entry.Final ∷ [])) (flat_map (calls_in x) ms) (rest.calls x);
       actions = is.actions (js ++ entry.Final ∷ []) ∙ rest.actions;
     }
-
--- one entry more in front, which is the user's action
-more_action : (p n : ℕ) (d : UserAction) (of : InputLine) (ms : List LineTurn) (clients : List (List (ℕ × Call)))
-    (user : List (ℕ × UserAction)) (j : Entry) (js : List Entry) → IsAction d j → Follows clients (left user) ms js →
-    next_phase user ≡ p → flat_map act_phases (move p n (ByUser of) ∷ ms) ≡ p ∷ flat_map act_phases ms
-    → action_in p (ByUser of) ≡ (p, d) ∷ [] →
-    Follows clients user (move p n (ByUser of) ∷ ms) (j ∷ js)
-more_action p n d of ms clients user j js is rest here phases made =
-    record {
-      phases = rw (is.phases clients user (js ++ entry.Final ∷ []), here, rest.phases, ← phases);
-      calls = λ x. is.calls x (js ++ entry.Final ∷ []) ∙ rest.calls x
-          ∙ ap (λ (t : List (ℕ × Call)). done (t ++ flat_map (calls_in x) ms)) (sym (no_call x p of));
-      actions = cc (is.actions (js ++ entry.Final ∷ []), rest.actions, made);
-    }
-
--- what these moves do, a move more does in front
-more : (p n : ℕ) (d : ActorLine) (ms : List LineTurn) → AllFollow ms → AllFollow (move p n d ∷ ms)
-more p n (ByClient s (line.Call c)) ms follow clients user [] ahead e =
-    absurd (not_both (Calls s c) (actions_of_turns ms) e)
-more p n (ByClient s (line.Call c)) ms follow clients user (j ∷ js) ahead e =
-    let head : action_of j ≡ Calls s c = cc in
-    let tail : map action_of js ≡ actions_of_turns ms = cc in
-    more_call s p n c ms clients user j js (is_call s c j head) ahead.calls
-    (follow (set clients s (left (to_do clients s))) user js
-    (record { calls = call_left clients s p c ms ahead.calls; actions = ahead.actions }) tail)
-more p n (ByClient s (line.Stroke x)) ms follow clients user js ahead e =
-    let f = follow clients user js (record { calls = ahead.calls; actions = ahead.actions }) e in
-    record { phases = f.phases; calls = f.calls; actions = f.actions }
-more p n (ByClient s line.Phase) ms follow clients user js ahead e =
-    let f = follow clients user js (record { calls = ahead.calls; actions = ahead.actions }) e in
-    record { phases = f.phases; calls = f.calls; actions = f.actions }
-more p n (ByUser (input.Device d)) ms follow clients user [] ahead e =
-    absurd (not_both (Acts (Does d)) (actions_of_turns ms) e)
-more p n (ByUser (input.Device d)) ms follow clients user (j ∷ js) ahead e =
-    let head : action_of j ≡ Acts (Does d) = cc in
-    let tail : map action_of js ≡ actions_of_turns ms = cc in
-    more_action p n (Does d) (input.Device d) ms clients user j js (is_action (Does d) j head)
-    (follow clients (left user) js (record { calls = ahead.calls; actions = ap left ahead.actions }) tail)
-    (rw ahead.actions) refl refl
-more p n (ByUser input.Shot) ms follow clients user [] ahead e = absurd (not_both (Acts Shoots) (actions_of_turns ms) e)
-more p n (ByUser input.Shot) ms follow clients user (j ∷ js) ahead e =
-    let head : action_of j ≡ Acts Shoots = cc in
-    let tail : map action_of js ≡ actions_of_turns ms = cc in
-    more_action p n Shoots input.Shot ms clients user j js (is_action Shoots j head)
-    (follow clients (left user) js (record { calls = ahead.calls; actions = ap left ahead.actions }) tail)
-    (rw ahead.actions) refl refl
-more p n (ByUser input.Phase) ms follow clients user js ahead e =
+more p n (ByUser (input.Device d)) ms follow clients user js ahead e =
+    more_action p n (Does d) (input.Device d) ms follow refl refl clients user js ahead e
+more p n (ByUser input.Shot) ms follow clients user js ahead e =
+    more_action p n Shoots input.Shot ms follow refl refl clients user js ahead e
+more p n other ms follow clients user js ahead e =
     let f = follow clients user js (record { calls = ahead.calls; actions = ahead.actions }) e in
     record { phases = f.phases; calls = f.calls; actions = f.actions }
 
 follow : (ms : List LineTurn) → AllFollow ms
 follow [] clients user [] ahead e = record { phases = refl; calls = λ s. refl; actions = refl }
-follow [] clients user (j ∷ js) ahead e = absurd (not_both (action_of j) (map action_of js) (sym e))
+follow [] clients user (j ∷ js) ahead e = absurd cc
 follow (m ∷ ms) clients user js ahead e = more m.phase m.number m.doing ms (follow ms) clients user js ahead e
 
 -- ---- the whole run

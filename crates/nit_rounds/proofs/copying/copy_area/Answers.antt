@@ -1,4 +1,4 @@
-use Rattle.nit_rounds.proofs.Copies.{begun}
+use Rattle.nit_rounds.proofs.StaleLemmas.{begun}
 use Rattle.nit_rounds.proofs.Lemmas.{all_drawn, arith, row_drawn, told_at}
 use Rattle.nit_rounds.proofs.copying.copy_area.Goals as goal
 

@@ -1,5 +1,14 @@
-use Rattle.nit_rounds.proofs.Lemmas.{IsUtf8, name_is_text, subst, sym}
+use Rattle.std.proofs.Common.{arith, rules, ℕ, ◌++◌, ◌<◌, ◌^◌}
+use Rattle.nit_rounds.proofs.Basics.{IsAscii-decimal, IsUtf8, IsUtf8-append, IsUtf8-from_ascii}
+use Rattle.nit_rounds.proofs.Basics.{codes, decimal, shot_name}
+use Rattle.nit_rounds.proofs.Lemmas.{subst, sym}
 use Rattle.nit_rounds.proofs.desk.put_shot.Goals as goal
+
+name_is_text : (n : ℕ) → n < 2 ^ 32 → IsUtf8 (shot_name n)
+name_is_text n small =
+    IsUtf8-append (codes "shot-") (decimal n ++ codes ".ppm") (IsUtf8-from_ascii (codes "shot-") (search rules))
+    (IsUtf8-append (decimal n) (codes ".ppm") (IsUtf8-from_ascii (decimal n) (IsAscii-decimal n (omega arith)))
+    (IsUtf8-from_ascii (codes ".ppm") (search rules)))
 
 pub unreachable-requires : goal.unreachable-requires
 unreachable-requires g c = c.in_default.ensures.cases.0

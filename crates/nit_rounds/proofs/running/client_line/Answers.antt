@@ -1,17 +1,13 @@
-use Rattle.nit_rounds.proofs.Lemmas.{Some, ap, as_found, behind_still, call_done, can_call}
-use Rattle.nit_rounds.proofs.Lemmas.{glasses_still, line_here, none_done, one_taken, same_glasses}
-use Rattle.nit_rounds.proofs.Lemmas.{same_own, served_moved, ◌∙◌}
+use Rattle.nit_rounds.proofs.Lemmas.{Some, ap, as_found, call_done, can_call, glasses_still}
+use Rattle.nit_rounds.proofs.Lemmas.{line_here, none_done, one_taken, same_glasses, same_own}
+use Rattle.nit_rounds.proofs.Lemmas.{served_moved, ◌∙◌}
 use Rattle.nit_rounds.proofs.running.client_line.Goals as goal
 
 pub call-requires : goal.call-requires
 call-requires c =
-    let drawn = c.draw_line.ensures in
-    let here = line_here c.args.part.script.now c.lines.result.now c.args.line c.index-lines-line.result
-    c.lines.ensures.value c.requires.draw.line c.index-lines-line.is in
-    let can = can_call c.buffer_within_table.ensures.words c.args.scene.now c.draw_line.new.scene
-    c.args.part.sid c.args.part.script.now _ _ c.draw_line.new.own drawn.scene c.requires.draw.there
-    c.requires.draw.donation drawn.drawn.own c.requires.quiet (c.requires.spare _ (here ∙ ap Some c.in-Call.is))
-    c.requires.«open» in
+    let here = line_here _ _ _ _ c.lines.ensures.value c.requires.draw.line c.index-lines-line.is in
+    let can = can_call c.buffer_within_table.ensures.words _ c.requires.draw c.draw_line.ensures.drawn
+    c.draw_line.ensures.scene c.requires.quiet (c.requires.spare _ (here ∙ ap Some c.in-Call.is)) c.requires.«open» in
     record {
       session = can.there.session;
       journal = record { spare = can.spare; «open» = can.unended };
@@ -21,14 +17,12 @@ call-requires c =
 pub returns-in-Call : goal.returns-in-Call
 returns-in-Call c =
     let sid = c.args.part.sid in
-    let here = line_here c.args.part.script.now c.lines.result.now c.args.line c.index-lines-line.result
-    c.lines.ensures.value c.requires.draw.line c.index-lines-line.is in
+    let here = line_here _ _ _ _ c.lines.ensures.value c.requires.draw.line c.index-lines-line.is in
     let found = here ∙ ap Some c.in-Call.is in
     let mid = c.draw_line.new.scene in
     let drawn = c.draw_line.ensures in
-    let can = can_call c.buffer_within_table.ensures.words c.args.scene.now mid sid c.args.part.script.now _ _
-    c.draw_line.new.own drawn.scene c.requires.draw.there c.requires.draw.donation drawn.drawn.own
-    c.requires.quiet (c.requires.spare _ found) c.requires.«open» in
+    let can = can_call c.buffer_within_table.ensures.words _ c.requires.draw drawn.drawn drawn.scene c.requires.quiet
+    (c.requires.spare _ found) c.requires.«open» in
     let new = c.call.new.self in
     let served = c.call.ensures in
     let p = served.painted in
@@ -39,8 +33,7 @@ returns-in-Call c =
     record {
       drawn = record {
         own = own ∙ drawn.drawn.own;
-        behind = behind_still c.draw_line.new.stale sid mid new c.draw_line.new.own c.call.new.own glasses own
-            drawn.drawn.behind;
+        behind = rw (← glasses) at (rw (← own) at drawn.drawn.behind);
       };
       glasses = glasses_still sid c.args.scene.now mid new glasses drawn.scene;
       done = as_found c.args.part.script.now c.args.line sid _ c.args.scene.now new c.call.new.own found
@@ -49,7 +42,7 @@ returns-in-Call c =
             unended = served.«open»;
             spare = one_taken mid.entries _ _ _ _ served.added.recorded served.added.spare can.spare;
             recorded = (c.call.result, served.added.recorded);
-            moved = served_moved c.one_more_entry.ensures.replayed mid new sid c.in-Call.call c.call.result _
+            moved = served_moved mid new sid c.in-Call.call c.call.result _
                 c.draw_line.new.own c.call.new.own served.added.config served.added.recorded glasses own
                 served.reply
                 can.there.glasses served.painted;
@@ -58,8 +51,7 @@ returns-in-Call c =
 
 pub returns-in_default : goal.returns-in_default
 returns-in_default c =
-    let here = line_here c.args.part.script.now c.lines.result.now c.args.line c.index-lines-line.result
-    c.lines.ensures.value c.requires.draw.line c.index-lines-line.is in
+    let here = line_here _ _ _ _ c.lines.ensures.value c.requires.draw.line c.index-lines-line.is in
     let is = c.draw_line.ensures.scene in
     record {
       drawn = c.draw_line.ensures.drawn;

@@ -1,45 +1,29 @@
-use Rattle.nit_rounds.proofs.Lemmas.{ByClient, ByUser, FitsInputLine, IsShowing, Line, LineTurn}
-use Rattle.nit_rounds.proofs.Lemmas.{List, SceneModel, Sight, [], after_client, after_user, all_own}
-use Rattle.nit_rounds.proofs.Lemmas.{ap, arith, as_many, behind_again, clients_move, donation_of}
-use Rattle.nit_rounds.proofs.Lemmas.{each_at, entry_of, found_here, get_or_default, moved_settled}
-use Rattle.nit_rounds.proofs.Lemmas.{no_sight, read_same, refl, set, settled, settled_turn}
-use Rattle.nit_rounds.proofs.Lemmas.{slice_get, users_move, users_turn, ◌∙◌}
+use Rattle.nit_rounds.proofs.Lemmas.{ByClient, ByUser, FitsInputLine, Line, List, SceneModel, Sight}
+use Rattle.nit_rounds.proofs.Lemmas.{[], after_client, after_user, all_own, ap, arith, as_many}
+use Rattle.nit_rounds.proofs.Lemmas.{behind_again, clients_move, each_at, entry_of, found_here}
+use Rattle.nit_rounds.proofs.Lemmas.{get_or_default, may_do, moved_settled, no_sight, read_same}
+use Rattle.nit_rounds.proofs.Lemmas.{refl, set, settled, slice_get, users_move, users_turn, ◌∙◌}
 use Rattle.nit_rounds.proofs.running.do_turn.Goals as goal
 
 -- ---- a client's turn
 
 pub bounds-owns-sid : goal.bounds-owns-sid
 bounds-owns-sid g c =
-    let (before, m, left, first, p, is, room) = c.requires.next in
-    let t = settled_turn c.turns_tell.ensures.client c.lines_done.ensures.client _ _ _ before c.args.scene.now
-    c.settle_others.new.scene _ m left _ _ c.requires.planned p.way c.settle_others.ensures.scene
-    (is ∙ c.in-Client.is) room in
-    t.in_owns
+    (may_do c.args.scene.now c.requires.planned c.requires.next c.settle_others.ensures.scene c.in-Client.is).in_owns
 
 pub bounds-parts-sid : goal.bounds-parts-sid
 bounds-parts-sid g c =
-    let (before, m, left, first, p, is, room) = c.requires.next in
-    let t = settled_turn c.turns_tell.ensures.client c.lines_done.ensures.client _ _ _ before c.args.scene.now
-    c.settle_others.new.scene _ m left _ _ c.requires.planned p.way c.settle_others.ensures.scene
-    (is ∙ c.in-Client.is) room in
-    t.in_scripts
+    (may_do c.args.scene.now c.requires.planned c.requires.next c.settle_others.ensures.scene c.in-Client.is).in_scripts
 
 pub bounds-parts-sid-in-Client : goal.bounds-parts-sid-in-Client
 bounds-parts-sid-in-Client g c =
-    let (before, m, left, first, p, is, room) = c.requires.next in
-    let t = settled_turn c.turns_tell.ensures.client c.lines_done.ensures.client _ _ _ before c.args.scene.now
-    c.settle_others.new.scene _ m left _ _ c.requires.planned p.way c.settle_others.ensures.scene
-    (is ∙ c.in-Client.is) room in
-    t.in_plans
+    (may_do c.args.scene.now c.requires.planned c.requires.next c.settle_others.ensures.scene c.in-Client.is).in_plans
 
 pub client_line-requires-clause-draw : goal.client_line-requires-clause-draw
 client_line-requires-clause-draw g c =
-    let (before, m, left, first, p, is, room) = c.requires.next in
     let s = c.settle_others.new.scene in
     let sid = c.in-Client.sid in
-    let t = settled_turn c.turns_tell.ensures.client c.lines_done.ensures.client _ _ _ before c.args.scene.now s _ m
-    left _ _ c.requires.planned p.way c.settle_others.ensures.scene (is ∙ c.in-Client.is) room in
-    let donation = donation_of s.config sid in
+    let t = may_do c.args.scene.now c.requires.planned c.requires.next c.settle_others.ensures.scene c.in-Client.is in
     let script = get_or_default c.args.next.parts.now.scripts.now sid [] c.index-parts-sid.result t.in_scripts in
     record {
       there = record {
@@ -56,22 +40,13 @@ client_line-requires-clause-draw g c =
 
 pub client_line-requires-clause-spare : goal.client_line-requires-clause-spare
 client_line-requires-clause-spare g c =
-    let (before, m, left, first, p, is, room) = c.requires.next in
-    let t = settled_turn c.turns_tell.ensures.client c.lines_done.ensures.client _ _ _ before c.args.scene.now
-    c.settle_others.new.scene _ m left _ _ c.requires.planned p.way c.settle_others.ensures.scene
-    (is ∙ c.in-Client.is) room in
-    λ call found. t.spare call (rw (
-      get_or_default c.args.next.parts.now.scripts.now c.in-Client.sid []
-          c.index-parts-sid.result t.in_scripts,
-      found,
-    ))
+    let t = may_do c.args.scene.now c.requires.planned c.requires.next c.settle_others.ensures.scene c.in-Client.is in
+    λ call found. t.spare call
+    (rw (get_or_default _ c.in-Client.sid [] c.index-parts-sid.result t.in_scripts, found))
 
 pub returns-in-Client-clause-behind : goal.returns-in-Client-clause-behind
 returns-in-Client-clause-behind g c =
-    let (before, m, left, first, p, is, room) = c.requires.next in
-    let t = settled_turn c.turns_tell.ensures.client c.lines_done.ensures.client _ _ _ before c.args.scene.now
-    c.settle_others.new.scene _ m left _ _ c.requires.planned p.way c.settle_others.ensures.scene
-    (is ∙ c.in-Client.is) room in
+    let t = may_do c.args.scene.now c.requires.planned c.requires.next c.settle_others.ensures.scene c.in-Client.is in
     behind_again c.client_line.new.stale c.settle_others.new.scene.glasses c.client_line.new.scene.glasses
     c.args.owns.now _ c.in-Client.sid _ c.client_line.new.own t.in_owns
     c.settle_others.ensures.others c.client_line.ensures.glasses refl c.client_line.ensures.drawn.behind
@@ -87,16 +62,13 @@ returns-in-Client-clause-way g c before m left first p is =
     c.client_line.ensures.glasses refl in
     let there = ap (λ (s : SceneModel Sight). settled s owns) c.settle_others.ensures.scene in
     let p' = rw (← there) at p in
-    let move = clients_move c.turns_tell.ensures.client c.lines_done.ensures.client _ _ before _ _ m left _ _ p'.way
-    (is ∙ c.in-Client.is) in
+    let move = clients_move _ _ before _ _ m left _ _ p'.way (is ∙ c.in-Client.is) in
     let script = get_or_default c.args.next.parts.now.scripts.now sid c.index-parts-sid.result [] move.inside in
     let here = ap (λ (ls : List Line). slice_get ls c.in-Client.line) script ∙ move.here in
     let does = c.client_line.ensures.done move.l here in
-    after_client g.V.Viewer.fits g.V.Viewer.shows _ _ before (settled mid owns) (settled new (set owns sid own')) owns _
-    m left sid
-    c.in-Client.line own' first _ p' move refl
-    (rw (c.client_line.ensures.drawn.own, script))
-    refl does.config does.unended does.spare does.recorded
+    after_client g.V.Viewer.fits g.V.Viewer.shows _ _ before (settled mid owns) (settled new (set owns sid own')) owns m
+    left first _ p' _ sid c.in-Client.line own' move refl (rw (c.client_line.ensures.drawn.own, script)) refl
+    does.config does.unended does.spare does.recorded
     (moved_settled (λ s. entry_of s (ByClient sid move.l)) mid new owns (set new.glasses sid own')
     (set owns sid own') all does.moved)
 
@@ -104,9 +76,7 @@ returns-in-Client-clause-way g c before m left first p is =
 
 pub bounds-lines-line : goal.bounds-lines-line
 bounds-lines-line g c =
-    let (before, m, left, first, p, is, room) = c.requires.next in
-    let t = users_turn c.turns_tell.ensures.user c.lines_done.ensures.user _ _ before c.args.scene.now _ _ m left _
-    p.way c.settle.ensures (is ∙ c.in-User.is) room in
+    let t = users_turn c.args.scene.now _ c.requires.next c.settle.ensures c.in-User.is in
     rw (← c.lines.ensures.value) at t.here
 
 pub offset_bounds-lines-line : goal.offset_bounds-lines-line
@@ -116,9 +86,7 @@ offset_bounds-lines-line g c =
 
 pub user_line-requires-clause-can : goal.user_line-requires-clause-can
 user_line-requires-clause-can g c =
-    let (before, m, left, first, p, is, room) = c.requires.next in
-    let t = users_turn c.turns_tell.ensures.user c.lines_done.ensures.user _ _ before c.args.scene.now _ _ m left _
-    p.way c.settle.ensures (is ∙ c.in-User.is) room in
+    let t = users_turn c.args.scene.now _ c.requires.next c.settle.ensures c.in-User.is in
     let inside = rw (← c.lines.ensures.value) at t.here in
     t.can _
     (read_same c.args.next.parts.now.input.now c.lines.result.now c.in-User.line _ c.lines.ensures.value t.here)
@@ -128,20 +96,14 @@ pub returns-in-User-clause-way : goal.returns-in-User-clause-way
 returns-in-User-clause-way g c before m left first p is =
     let owns = c.args.owns.now in
     let new = c.user_line.new.scene in
-    let last = c.user_line.new.viewer in
-    let Way = λ (s : SceneModel Sight) (ms : List LineTurn). IsShowing g.V.Viewer.fits g.V.Viewer.shows
-    c.args.next.parts.now.scripts.now c.args.next.parts.now.input.now before s owns ms first in
     let p' = rw (← c.settle.ensures) at p in
-    let (before', m', left', first', q, is', room) = c.requires.next in
-    let t = users_turn c.turns_tell.ensures.user c.lines_done.ensures.user _ _ before' c.args.scene.now _ _ m' left' _
-    q.way c.settle.ensures (is' ∙ c.in-User.is) room in
+    let t = users_turn c.args.scene.now _ c.requires.next c.settle.ensures c.in-User.is in
     let same = read_same c.args.next.parts.now.input.now c.lines.result.now c.in-User.line _ c.lines.ensures.value
     t.here in
-    let move = users_move c.turns_tell.ensures.user c.lines_done.ensures.user _ _ before _ _ m left _ p'.way
-    (is ∙ c.in-User.is) in
+    let move = users_move _ _ before _ _ m left _ p'.way (is ∙ c.in-User.is) in
     let does = c.user_line.ensures in
     let glasses = does.done.glasses ∙ ap (λ (s : SceneModel Sight). s.glasses) c.settle.ensures in
     rw (ap (λ (gs : List Sight). record new { glasses = gs }) glasses) at (after_user g.V.Viewer.fits
-    g.V.Viewer.shows _ _ before c.settle.new.scene new owns m left _ first _ _ p'
+    g.V.Viewer.shows _ _ before c.settle.new.scene new owns m left first _ p' _ _
     (move.doing ∙ ap ByUser (found_here c.args.next.parts.now.input.now c.in-User.line move.l _ move.here same))
     does.done does.shown does.viewer)

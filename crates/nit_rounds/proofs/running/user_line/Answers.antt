@@ -4,9 +4,8 @@ use Rattle.nit_rounds.proofs.running.user_line.Goals as goal
 pub returns-in-Shot-clause-done : goal.returns-in-Shot-clause-done
 returns-in-Shot-clause-done g c =
     let can = rw c.in-Shot.is at c.requires.can in
-    rw (← c.in-Shot.is) at (shot_done c.one_more_entry.ensures.replayed c.args.scene.now c.shoot.new.scene
-    c.shoot.ensures.scene
-    c.shoot.ensures.«open» (can.spare refl))
+    rw (← c.in-Shot.is) at (shot_done c.args.scene.now c.shoot.new.scene c.shoot.ensures.scene c.shoot.ensures.«open»
+    (can.spare refl))
 
 pub input-requires-clause-journal : goal.input-requires-clause-journal
 input-requires-clause-journal g c =
@@ -25,6 +24,6 @@ returns-in-Device-clause-done g c =
       unended = served.«open»;
       spare = one_taken c.args.scene.now.entries _ _ _ _ served.added.recorded served.added.spare (can.spare refl);
       recorded = (c.input.result, served.added.recorded);
-      moved = input_moved c.one_more_entry.ensures.replayed c.args.scene.now c.input.new.self c.in-Device.dev
-          c.input.result _ served.added.config served.added.recorded glasses served.routed served.painted;
+      moved = input_moved c.args.scene.now c.input.new.self c.in-Device.dev c.input.result _ served.added.config
+          served.added.recorded glasses served.routed served.painted;
     })

@@ -8,7 +8,7 @@ returns-clause-behind c =
     record {
       of = refl;
       fits = c.requires.later;
-      but = copied_first (is_stale (Some c.in-Some.earlier)) (is_stale (Some a.later))
-          (glass_in a.scene.now.glasses a.later.sid) a.own.now _ but
+      but = copied_first (is_stale (Some c.in-Some.earlier)) (is_stale (Some a.later)) _
+          (glass_in a.scene.now.glasses a.later.sid) a.own.now _ but (λ n is not. rw is not)
           (glass_there a.scene.now c.copy_area.new.scene a.later.sid _ c.copy_area.ensures c.requires.session.glasses);
     }
