@@ -1,12 +1,11 @@
 -- A room, and the ends of a client's words that agree.
-use Rattle.nit_hall.proofs.Basics.{AreWatching, Belongs, BufferName, CanAgree, Configuration, End}
-use Rattle.nit_hall.proofs.Basics.{HasMet, HaveInks, IsGlass, IsPass, IsRoom, Line, List, Option}
-use Rattle.nit_hall.proofs.Basics.{PassModel, RoomModel, SceneModel, ShareModel, Sight, Some, []}
-use Rattle.nit_hall.proofs.Basics.{ap, arith, buffers_of, cases_eq, donation_of}
-use Rattle.nit_hall.proofs.Basics.{get_or_from_slice_get, glass_in, inl, inr, knowing, length, map}
-use Rattle.nit_hall.proofs.Basics.{no_sight, none-some, option_map, phases_before, refl, same_Some}
-use Rattle.nit_hall.proofs.Basics.{script_in, served, slice_get, slice_get-map, slice_get_within}
-use Rattle.nit_hall.proofs.Basics.{slice_index, stretch, subst, sym, table_size, take}
+use Rattle.nit_hall.proofs.Basics.{AreWatching, Belongs, BufferName, CanAgree, End, HasMet}
+use Rattle.nit_hall.proofs.Basics.{HaveInks, IsPass, IsRoom, Line, List, PassModel, RoomModel}
+use Rattle.nit_hall.proofs.Basics.{SceneModel, ShareModel, Sight, Some, [], ap, arith, buffers_of}
+use Rattle.nit_hall.proofs.Basics.{cases_eq, donation_of, get_or_from_slice_get, glass_in, inl, inr}
+use Rattle.nit_hall.proofs.Basics.{knowing, length, map, no_sight, none-some, option_map}
+use Rattle.nit_hall.proofs.Basics.{phases_before, refl, same_Some, script_in, served, slice_get}
+use Rattle.nit_hall.proofs.Basics.{slice_get-map, slice_get_within, slice_index, stretch, sym, take}
 use Rattle.nit_hall.proofs.Basics.{with_end_stages, with_room_stages, without_final, ℕ, ◌∙◌}
 use Rattle.std.proofs.Common.{IsSome, suc, zero, ◌<◌, ◌∷◌, ◌≡◌}
 use Rattle.nit_hall.proofs.EndStages.{other_end, own_end, same_buffers, same_ink, same_stands}
@@ -42,18 +41,13 @@ can_agree {r = r} {p = p} spare room of is buffers =
     let sight = sight_at r.scene.glasses p.sid here.lens here.there in
     let watch = room.watching p.sid inside in
     record {
-      session = let n = room.sessions in let c = ap (λ c. length c.clients) room.config in omega (arith, inside, n, c);
+      session = rw room.config (omega (arith, inside, room.sessions));
       lens = here.lens;
       there = here.there;
       buffer = here.of_buffer;
-      knows = subst (λ (o : Option (List (List ℕ))). IsSome o)
-          (sym watch.stages_are ∙ ap (λ (g : Sight). g.stages) sight) refl;
+      knows = rw (← sight, watch.stages_are) refl;
       agreed = is.agreed;
-      spare_fits = (
-        is.spare_owner,
-        is.spare_size ∙ is.painted.size ∙ ap table_size (of.donation
-            ∙ ap (λ c. donation_of c p.sid) (sym room.config)),
-      );
+      spare_fits = (is.spare_owner, rw (room.config, ← of.donation) (is.spare_size ∙ is.painted.size));
     }
 
 -- and behind a call, in which the two agreed on these stages
@@ -71,15 +65,13 @@ can_agree_again {scene = scene} {called = called} {sid = sid} {canvas = canvas} 
     ∙ ap (option_map (λ (e : End). e.stand.buffer)) can.there ∙ ap (λ (b : BufferName). Some b) can.buffer) in
     let many = slice_get_within scene.glasses sid can.lens can.there in
     record {
-      session = let s = can.session in let n = ap (λ (c : Configuration). length c.clients) config in omega
-          (arith, s, n);
+      session = rw config can.session;
       lens = here.lens;
       there = here.there;
       buffer = here.of_buffer ∙ sym buffer;
-      knows = subst (λ (g : Sight). IsSome g.stages) (sym (sym (sight_at called.glasses sid here.lens here.there)
-          ∙ idle ∙ own_end sid stages scene.glasses many)) refl;
+      knows = rw (← sight_at called.glasses sid here.lens here.there, idle, own_end sid stages scene.glasses many) refl;
       agreed = agreed;
-      spare_fits = subst (λ (c : Configuration). IsGlass c sid spare.sight) (sym config) can.spare_fits;
+      spare_fits = rw config can.spare_fits;
     }
 
 -- the room when a pass was admitted: its end of the client's words knows the stretch from the next line on

@@ -7,41 +7,41 @@ pub use Rattle.nit_hall.specs.Terms.{CanAgree, ClipBelongs, ClipCall, ClipEntry,
 pub use Rattle.nit_hall.specs.Terms.{ClipLine, ClipModel, ClipPassModel, ClipReply, Colours}
 pub use Rattle.nit_hall.specs.Terms.{Configuration, Device, Does, End, Entry, EntryLaws, FitsDevice}
 pub use Rattle.nit_hall.specs.Terms.{Follows, FollowsClips, HasActed, HasLoaded, HasMet, HasStage}
-pub use Rattle.nit_hall.specs.Terms.{HasStages, HasStretch, HaveInks, InputLine, IsAdded, IsAmong}
-pub use Rattle.nit_hall.specs.Terms.{IsAtCall, IsAtClip, IsAtClipPhase, IsAtPhaseEnd, IsClipPass}
-pub use Rattle.nit_hall.specs.Terms.{IsDevice, IsDonation, IsDoneClip, IsDonePass, IsDoneUser}
-pub use Rattle.nit_hall.specs.Terms.{IsFirst, IsGlass, IsHistory, IsInPhase, IsKnownPass}
-pub use Rattle.nit_hall.specs.Terms.{IsLastDirtied, IsLegal, IsLegalClips, IsLoaded, IsNear}
-pub use Rattle.nit_hall.specs.Terms.{IsNearBy, IsNonDecreasing, IsOpen, IsPaintedTo, IsPass}
-pub use Rattle.nit_hall.specs.Terms.{IsPlanOf, IsRoom, IsServedPhase, IsThere, IsUserPass, IsWhole}
-pub use Rattle.nit_hall.specs.Terms.{IsWholeClips, IsWordOfScripts, IsWordOfSource, JournalModel}
-pub use Rattle.nit_hall.specs.Terms.{KnowsStretch, LegalFrom, Line, List, MayHaveDone, Member}
-pub use Rattle.nit_hall.specs.Terms.{OpeningParts, Option, Painted, Painting, PassModel, PassRest}
-pub use Rattle.nit_hall.specs.Terms.{PixelSource, PlanModel, Recorded, Reply, RoomModel, Routed}
-pub use Rattle.nit_hall.specs.Terms.{SceneModel, ShareModel, Shoots, Sight, Some, Standing, State}
-pub use Rattle.nit_hall.specs.Terms.{Stroke, TellsShot, UserAction, UserBelongs, UserHasMet}
-pub use Rattle.nit_hall.specs.Terms.{UserPassModel, Word, after, after_arrival, after_line}
-pub use Rattle.nit_hall.specs.Terms.{bare_word, before_final, blank, buffers_of, call_entry}
-pub use Rattle.nit_hall.specs.Terms.{calls_from, calls_in, calls_of, calls_to_make, calls_up_to}
-pub use Rattle.nit_hall.specs.Terms.{clip_answer, clip_calls_in, clip_calls_of, clip_entry}
-pub use Rattle.nit_hall.specs.Terms.{clip_phases_before, clip_script_in, clipboard_of, clips_to_do}
-pub use Rattle.nit_hall.specs.Terms.{clips_to_make, count_by, device_entry, donation_of, done}
-pub use Rattle.nit_hall.specs.Terms.{entries_in, first_pass, first_state, first_user, frame}
-pub use Rattle.nit_hall.specs.Terms.{glass_in, glasses_of_call, in_line, ink_in}
-pub use Rattle.nit_hall.specs.Terms.{input_phases_before, into_iter_items, is_accepted}
-pub use Rattle.nit_hall.specs.Terms.{is_clip_phase, is_dirtied, is_input_phase, is_phase, is_served}
-pub use Rattle.nit_hall.specs.Terms.{knowing, knowing_clip, left_after, left_word, length, lenses}
-pub use Rattle.nit_hall.specs.Terms.{line_stages, lines_of_all, lines_of_clips, lines_to_call, map}
-pub use Rattle.nit_hall.specs.Terms.{nat_le, new_sight, next_call, next_clip, next_device}
-pub use Rattle.nit_hall.specs.Terms.{next_phase, no_sight, option_map, painted_from, parts_of}
-pub use Rattle.nit_hall.specs.Terms.{phase_of_entry, phases_along, phases_before, phases_ended}
-pub use Rattle.nit_hall.specs.Terms.{pixel, pixel_count, plan_in, raised, range_with_len}
-pub use Rattle.nit_hall.specs.Terms.{raw_behind, raws_in, replay, replicate, rest_of, scenery_of}
-pub use Rattle.nit_hall.specs.Terms.{script_in, script_ink, seen, serve, served, session, shots}
-pub use Rattle.nit_hall.specs.Terms.{sight_after_line, slice_get, slice_index, slice_index_or}
-pub use Rattle.nit_hall.specs.Terms.{source_at, source_of, stands, state_now, stretch, stretch_end}
-pub use Rattle.nit_hall.specs.Terms.{stretch_from, strokes_in_front, sum, sum_by, table_size, take}
-pub use Rattle.nit_hall.specs.Terms.{to_do, user_actions_from, user_actions_in, user_actions_of}
+pub use Rattle.nit_hall.specs.Terms.{HasStretch, HaveInks, InputLine, IsAdded, IsAmong, IsAtCall}
+pub use Rattle.nit_hall.specs.Terms.{IsAtClip, IsAtClipPhase, IsAtPhaseEnd, IsClipPass, IsDevice}
+pub use Rattle.nit_hall.specs.Terms.{IsDonation, IsDoneClip, IsDonePass, IsDoneUser, IsFirst}
+pub use Rattle.nit_hall.specs.Terms.{IsGlass, IsHistory, IsInPhase, IsKnownPass, IsLastDirtied}
+pub use Rattle.nit_hall.specs.Terms.{IsLegal, IsLegalClips, IsLoaded, IsNearBy, IsNonDecreasing}
+pub use Rattle.nit_hall.specs.Terms.{IsOpen, IsPaintedTo, IsPass, IsPlanOf, IsRoom, IsServedPhase}
+pub use Rattle.nit_hall.specs.Terms.{IsThere, IsUserPass, IsWhole, IsWholeClips, IsWordOfScripts}
+pub use Rattle.nit_hall.specs.Terms.{IsWordOfSource, JournalModel, KnowsStretch, LegalFrom, Line}
+pub use Rattle.nit_hall.specs.Terms.{List, MayHaveDone, Member, OpeningParts, Option, Painted}
+pub use Rattle.nit_hall.specs.Terms.{Painting, PassModel, PassRest, PixelSource, PlanModel}
+pub use Rattle.nit_hall.specs.Terms.{Recorded, Reply, RoomModel, Routed, SceneModel, ShareModel}
+pub use Rattle.nit_hall.specs.Terms.{Shoots, Sight, Some, Standing, State, Stroke, TellsShot}
+pub use Rattle.nit_hall.specs.Terms.{UserAction, UserBelongs, UserHasMet, UserPassModel, Word}
+pub use Rattle.nit_hall.specs.Terms.{after, after_arrival, after_line, bare_word, before_final}
+pub use Rattle.nit_hall.specs.Terms.{blank, buffers_of, call_entry, calls_from, calls_in, calls_of}
+pub use Rattle.nit_hall.specs.Terms.{calls_to_make, calls_up_to, clip_answer, clip_calls_in}
+pub use Rattle.nit_hall.specs.Terms.{clip_calls_of, clip_entry, clip_phases_before, clip_script_in}
+pub use Rattle.nit_hall.specs.Terms.{clipboard_of, clips_to_do, clips_to_make, count_by}
+pub use Rattle.nit_hall.specs.Terms.{device_entry, donation_of, done, entries_in, first_pass}
+pub use Rattle.nit_hall.specs.Terms.{first_state, first_user, frame, glass_in, glasses_of_call}
+pub use Rattle.nit_hall.specs.Terms.{in_line, ink_in, input_phases_before, into_iter_items}
+pub use Rattle.nit_hall.specs.Terms.{is_accepted, is_clip_phase, is_dirtied, is_input_phase}
+pub use Rattle.nit_hall.specs.Terms.{is_phase, is_served, knowing, knowing_clip, left_after}
+pub use Rattle.nit_hall.specs.Terms.{left_word, length, lenses, line_stages, lines_of_all}
+pub use Rattle.nit_hall.specs.Terms.{lines_of_clips, lines_to_call, map, nat_le, new_sight}
+pub use Rattle.nit_hall.specs.Terms.{next_call, next_clip, next_device, next_phase, no_sight}
+pub use Rattle.nit_hall.specs.Terms.{option_map, painted_from, parts_of, phase_of_entry}
+pub use Rattle.nit_hall.specs.Terms.{phases_along, phases_before, phases_ended, pixel, pixel_count}
+pub use Rattle.nit_hall.specs.Terms.{plan_in, raised, range_with_len, raw_behind, raws_in, replay}
+pub use Rattle.nit_hall.specs.Terms.{replicate, rest_of, scenery_of, script_in, script_ink, seen}
+pub use Rattle.nit_hall.specs.Terms.{serve, served, session, shots, sight_after_line, slice_get}
+pub use Rattle.nit_hall.specs.Terms.{slice_index, slice_index_or, source_at, source_of, stands}
+pub use Rattle.nit_hall.specs.Terms.{state_now, stretch, stretch_end, stretch_from}
+pub use Rattle.nit_hall.specs.Terms.{strokes_in_front, sum, sum_by, table_size, take, to_do}
+pub use Rattle.nit_hall.specs.Terms.{user_actions_from, user_actions_in, user_actions_of}
 pub use Rattle.nit_hall.specs.Terms.{user_actions_to_do, watching_sight, with_clip}
 pub use Rattle.nit_hall.specs.Terms.{with_clip_scripts, with_end_stages, with_entry, with_final}
 pub use Rattle.nit_hall.specs.Terms.{with_room_stages, with_stages, with_words, without_final}
@@ -52,12 +52,13 @@ pub use Rattle.nit_journal.proofs.ForCallers.{calls_other, calls_own, calls_same
 pub use Rattle.nit_journal.proofs.ForCallers.{phases_call, phases_final, same_config}
 pub use Rattle.nit_overlay.proofs.ForCallers.{same_frame}
 pub use Rattle.nit_plan.proofs.ForCallers.{calls_done, has_stages, stage_within, within_only}
+pub use Rattle.nit_stack.proofs.ForCallers.{map-map}
 pub use Rattle.nit_word.proofs.ForCallers.{no_ink, zero_at}
 pub use Rattle.std.proofs.Common.{Bool, IfSome, None, [], ap, append_assoc, ap₂, arith, cond, drop}
 pub use Rattle.std.proofs.Common.{false, filter, get_or, get_or-set_other, get_or-set_same, inl}
 pub use Rattle.std.proofs.Common.{inr, length-append, length-set, refl, rules, set, subst, suc, sym}
 pub use Rattle.std.proofs.Common.{ℕ, ◌∙◌}
-pub use Rattle.std.proofs.Math.Seq.{get_or-append_seam}
+pub use Rattle.std.proofs.Math.Seq.{get_or-append_seam, take-set-lt}
 pub use Rattle.std.proofs.lemmas.Bool.{cases_Bool, cases_eq, cases_lt, eq-eqb, eqb-true, ne_eqb}
 pub use Rattle.std.proofs.lemmas.Bool.Decides.{nat_tests}
 pub use Rattle.std.proofs.lemmas.Grind.{common_steps}

@@ -3,12 +3,12 @@ use Rattle.nit_hall.proofs.Basics.{AreDoneClips, BookModel, CallLaws, ClipBelong
 use Rattle.nit_hall.proofs.Basics.{ClipHasMet, ClipLine, ClipModel, ClipPassModel, ClipReply}
 use Rattle.nit_hall.proofs.Basics.{IsAtClip, IsAtClipPhase, IsClipPass, IsDoneClip, IsRoom}
 use Rattle.nit_hall.proofs.Basics.{IsWholeClips, List, Option, RoomModel, ShareModel, Some, [], ap}
-use Rattle.nit_hall.proofs.Basics.{ap₂, arith, calls_to_make, clip_calls_in, clip_entry}
-use Rattle.nit_hall.proofs.Basics.{clip_script_in, clips_to_make, done, drop, entries_in}
-use Rattle.nit_hall.proofs.Basics.{get_or-drop, get_or_from_slice_get, is_clip_phase, length}
-use Rattle.nit_hall.proofs.Basics.{length-append, length-map, map, next_clip, raised, raws_in, refl}
-use Rattle.nit_hall.proofs.Basics.{slice_get, slice_get_within, slice_index, state_now, subst}
-use Rattle.nit_hall.proofs.Basics.{take_all, user_actions_to_do, with_clip, without_final}
+use Rattle.nit_hall.proofs.Basics.{arith, calls_to_make, clip_calls_in, clip_entry, clip_script_in}
+use Rattle.nit_hall.proofs.Basics.{clips_to_make, done, drop, entries_in, get_or-drop}
+use Rattle.nit_hall.proofs.Basics.{get_or_from_slice_get, is_clip_phase, length, length-append}
+use Rattle.nit_hall.proofs.Basics.{length-map, map, next_clip, raised, raws_in, refl, slice_get}
+use Rattle.nit_hall.proofs.Basics.{slice_get_within, slice_index, state_now, take_all}
+use Rattle.nit_hall.proofs.Basics.{user_actions_to_do, with_clip, without_final}
 use Rattle.std.proofs.Common.{sym, take, ℕ, ◌++◌, ◌+◌, ◌-◌, ◌∙◌, ◌∷◌, ◌≡◌}
 use mathlib.Core.List.{IsPrefix}
 use Rattle.nit_clip.specs.declared.line.ClipLine.TheVariants as line
@@ -20,10 +20,7 @@ use Rattle.nit_hall.proofs.ClipLineLemmas.{made_by}
 -- the number of the clip pass's share
 pub number_is : {r r₀ : RoomModel} {q q₀ : ClipPassModel} {share : ShareModel} → r ≡ r₀ → q ≡ q₀ → IsClipPass q share
     → ClipBelongs r₀.parts q₀ → share.number ≡ length r.parts.scripts + 1 + q.sid
-number_is {r = r} {r₀ = r₀} {q = q} er eq is of =
-    let here : ClipBelongs r.parts q = subst (λ (x : RoomModel). ClipBelongs x.parts q) (sym er)
-    (subst (ClipBelongs r₀.parts) (sym eq) of) in
-    is.number ∙ here.number
+number_is er eq is of = is.number ∙ rw (er, eq) of.number
 
 -- its count is the room's count of its client's clip calls
 pub clip_counted : {r r₀ : RoomModel} {q q₀ : ClipPassModel} {share : ShareModel} (counts : List ℕ) → r ≡ r₀ → q ≡ q₀
@@ -31,11 +28,8 @@ pub clip_counted : {r r₀ : RoomModel} {q q₀ : ClipPassModel} {share : ShareM
     → slice_index counts share.number ≡ share.count
     → slice_index r₀.clip_counts q₀.sid ≡ length (clip_calls_in (take q₀.next q₀.script))
 clip_counted {r = r} {q = q} {share = share} counts er eq is of split counted =
-    let here : slice_index r.clip_counts q.sid ≡ length (clip_calls_in (take q.next q.script)) =
-    ap (λ (cs : List ℕ). slice_index cs q.sid) split
-    ∙ get_or-drop (length r.parts.scripts + 1) counts q.sid 0
-    ∙ ap (slice_index counts) (sym (number_is er eq is of)) ∙ counted ∙ is.counted in
-    rw (← er, ← eq) here
+    rw (← er, ← eq, split, get_or-drop (length r.parts.scripts + 1) counts q.sid 0, ← number_is er eq is of)
+    (counted ∙ is.counted)
 
 -- ---- the room, part by part
 
@@ -121,21 +115,15 @@ pub clips_whole : AllClipCalls → (r : RoomModel) (qs : List ClipPassModel) →
     (map clips_to_make r.parts.clips) r.clips.entries
 clips_whole all r qs room are met = record {
   calls = λ sid h.
-      let m = are.each in
-      let there = item_there qs sid (omega (arith, length-map r.parts.clips clips_to_make, m, h)) in
+      let there = item_there qs sid (omega (arith, length-map r.parts.clips clips_to_make, are.each, h)) in
       let q = there.0 in
       let is = are.done_all sid q there.1 in
       let script : clip_script_in r.parts.clips sid ≡ q.script =
       get_or_from_slice_get r.parts.clips sid q.script [] (ap (slice_get r.parts.clips) (sym is.number)
       ∙ is.belongs.script) in
-      let count : slice_index r.clip_counts sid ≡ length (clip_calls_in q.script) = (met sid q there.1).counted
-      ∙ ap (λ (ls : List ClipLine). length (clip_calls_in ls))
-      (take_all q.next q.script (let e = is.ended in omega (arith, e))) in
-      room.clips_follow.calls sid
-      ∙ ap₂ (λ (n : ℕ) (s : List ClipLine). take n (clip_calls_in s)) count script
-      ∙ take_all (length (clip_calls_in q.script)) (clip_calls_in q.script) (omega arith)
-      ∙ all q.script
-      ∙ ap done (sym (made_by r.parts.clips sid ∙ ap clips_to_make script));
+      let whole = take_all q.next q.script (omega (arith, is.ended)) in
+      rw (room.clips_follow.calls sid, script, (met sid q there.1).counted, whole, made_by r.parts.clips sid, script)
+      (take_all (length (clip_calls_in q.script)) (clip_calls_in q.script) (omega arith) ∙ all q.script);
   placed = room.clips_follow.in_phases;
 }
 

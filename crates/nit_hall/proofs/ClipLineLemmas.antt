@@ -1,11 +1,11 @@
 -- Clip scripts and clip lists, line by line, and what a client calls up to the end of a phase.
-use Rattle.nit_hall.proofs.Basics.{AllByRecursion, Bool, Call, ClipCall, ClipEntry, ClipLine}
+use Rattle.nit_hall.proofs.Basics.{AllByRecursion, Bool, ClipCall, ClipEntry, ClipLine}
 use Rattle.nit_hall.proofs.Basics.{IsNonDecreasing, Line, List, Some, [], ap, arith, calls_from}
-use Rattle.nit_hall.proofs.Basics.{calls_in, calls_up_to, clip_calls_in, clip_calls_of}
+use Rattle.nit_hall.proofs.Basics.{calls_in, calls_up_to, cases_Bool, clip_calls_in, clip_calls_of}
 use Rattle.nit_hall.proofs.Basics.{clip_script_in, clips_to_do, clips_to_make, cond, eq-eqb, false}
 use Rattle.nit_hall.proofs.Basics.{inl, inr, is_phase, length, map, nat_le, nat_tests, ne_eqb}
 use Rattle.nit_hall.proofs.Basics.{phases_before, slice_index}
-use Rattle.std.proofs.Common.{refl, slice_get, suc, take, true, zero, ℕ, ◌++◌, ◌+◌, ◌<◌, ◌==◌, ◌∙◌}
+use Rattle.std.proofs.Common.{refl, slice_get, suc, take, true, zero, ℕ, ◌++◌, ◌+◌, ◌<◌, ◌==◌}
 use Rattle.std.proofs.Common.{◌∷◌, ◌≡◌, ◌≢◌, ◌≤◌, ◌⊎◌}
 use Rattle.nit_script.specs.declared.line.Line.TheVariants as line
 use Rattle.nit_clip.specs.declared.line.ClipLine.TheVariants as clips
@@ -38,13 +38,10 @@ made_by (s ∷ scripts) (suc t) = made_by scripts t
 pub own_clip : (s : ℕ) (es : List ClipEntry) (e : ClipEntry) → e.sid ≡ s
     → clip_calls_of s (es ++ e ∷ []) ≡ clip_calls_of s es ++ e.call ∷ []
 own_clip s [] e own = ap (λ (b : Bool). cond {A = List ClipCall} b (e.call ∷ []) []) (eq-eqb e.sid s own)
-own_clip s (x ∷ es) e own = go (x.sid == s) (own_clip s es e own)
-  where
-    go : (b : Bool) → clip_calls_of s (es ++ e ∷ []) ≡ clip_calls_of s es ++ e.call ∷ []
-        → cond {A = List ClipCall} b (x.call ∷ clip_calls_of s (es ++ e ∷ [])) (clip_calls_of s (es ++ e ∷ []))
-        ≡ cond {A = List ClipCall} b (x.call ∷ clip_calls_of s es) (clip_calls_of s es) ++ e.call ∷ []
-    go true h = ap (λ (cs : List ClipCall). x.call ∷ cs) h
-    go false h = h
+own_clip s (x ∷ es) e own = elim (cases_Bool (x.sid == s)) [
+  | inl is ↦ rw is (ap (λ (cs : List ClipCall). x.call ∷ cs) (own_clip s es e own))
+  | inr not ↦ rw not (own_clip s es e own)
+]
 
 pub other_clip : (s : ℕ) (es : List ClipEntry) (e : ClipEntry) → e.sid ≢ s
     → clip_calls_of s (es ++ e ∷ []) ≡ clip_calls_of s es
@@ -57,11 +54,7 @@ other_clip s (x ∷ es) e other = ap (λ (cs : List ClipCall). cond {A = List Cl
 later : (p q : ℕ) (script : List Line) → p < q → calls_up_to p (calls_from q script) ≡ []
 later p q [] h = refl
 later p q (line.Call c ∷ script) h =
-    ap (λ (b : Bool). cond {A = List (ℕ × Call)} b ((q, c) ∷ calls_up_to p (calls_from q script))
-    (calls_up_to p (calls_from q script))) not_yet ∙ later p q script h
-  where
-    not_yet : nat_le q p ≡ false
-    not_yet = grind (arith, nat_tests)
+    let not_yet : nat_le q p ≡ false = grind (arith, nat_tests) in rw not_yet (later p q script h)
 later p q (line.Stroke s ∷ script) h = later p q script h
 later p q (line.Phase ∷ script) h = later p (suc q) script (omega arith)
 
@@ -84,20 +77,15 @@ calls_of_phases (line.Call c ∷ script) p (suc k) at =
     let n : p + phases_before (line.Call c ∷ script) (suc k) ≡ p + phases_before script k =
     omega (arith, count_cons is_phase (line.Call c) (take k script)) in
     let passes : nat_le p (p + phases_before script k) ≡ true = grind (arith, nat_tests) in
-    ap (λ (m : ℕ). length (calls_up_to m ((p, c) ∷ calls_from p script))) n
-    ∙ ap (λ (b : Bool). length (cond {A = List (ℕ × Call)} b
-    ((p, c) ∷ calls_up_to (p + phases_before script k) (calls_from p script))
-    (calls_up_to (p + phases_before script k) (calls_from p script)))) passes
-    ∙ ap suc (calls_of_phases script p k (behind script k at))
+    rw (n, passes) (ap suc (calls_of_phases script p k (behind script k at)))
 calls_of_phases (line.Stroke s ∷ script) p (suc k) at =
     let n : p + phases_before (line.Stroke s ∷ script) (suc k) ≡ p + phases_before script k =
     omega (arith, count_cons is_phase (line.Stroke s) (take k script)) in
-    ap (λ (m : ℕ). length (calls_up_to m (calls_from p script))) n ∙ calls_of_phases script p k (behind script k at)
+    rw n (calls_of_phases script p k (behind script k at))
 calls_of_phases (line.Phase ∷ script) p (suc k) at =
     let n : p + phases_before (line.Phase ∷ script) (suc k) ≡ suc p + phases_before script k =
     omega (arith, count_cons is_phase line.Phase (take k script)) in
-    ap (λ (m : ℕ). length (calls_up_to m (calls_from (suc p) script))) n
-    ∙ calls_of_phases script (suc p) k (behind script k at)
+    rw n (calls_of_phases script (suc p) k (behind script k at))
 
 -- ---- phases so far
 

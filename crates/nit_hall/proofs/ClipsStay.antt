@@ -1,9 +1,9 @@
 -- A clip list beside a journal that grows.
-use Rattle.std.proofs.Common.{List, [], subst, sym, ℕ, ◌++◌, ◌∙◌, ◌∷◌, ◌≡◌, ◌≤◌}
-use Rattle.nit_hall.proofs.Basics.{AllByRecursion, AreInPhases, BufferName, Call, ClipCall}
-use Rattle.nit_hall.proofs.Basics.{ClipEntry, ClipModel, Configuration, End, Entry, FollowsClips}
-use Rattle.nit_hall.proofs.Basics.{IsLegalClips, IsRoom, IsThere, OpeningParts, RoomModel}
-use Rattle.nit_hall.proofs.Basics.{SceneModel, UserAction, before_final, buffers_of}
+use Rattle.std.proofs.Common.{List, [], ℕ, ◌++◌, ◌∙◌, ◌∷◌, ◌≡◌, ◌≤◌}
+use Rattle.nit_hall.proofs.Basics.{AllByRecursion, AreInPhases, Call, ClipCall, ClipEntry}
+use Rattle.nit_hall.proofs.Basics.{ClipModel, Configuration, End, Entry, FollowsClips, IsLegalClips}
+use Rattle.nit_hall.proofs.Basics.{IsRoom, IsThere, OpeningParts, RoomModel, SceneModel, UserAction}
+use Rattle.nit_hall.proofs.Basics.{before_final, buffers_of}
 
 -- what the laws of clip lists say of one more entry
 pub record ListLaws : Type 0 where
@@ -36,17 +36,9 @@ abbrev pub parts_with : RoomModel → SceneModel End → OpeningParts
 parts_with r scene = record r.parts { config = scene.config; buffers = buffers_of scene.glasses }
 
 -- the clip list has nothing to do with the buffers
-other_buffers : (parts : OpeningParts) (buffers : List BufferName) (counts : List ℕ) (entries : List Entry)
-    (clips : ClipModel) → FollowsClips parts counts entries clips
-    → FollowsClips (record parts { buffers = buffers }) counts entries clips
-other_buffers parts buffers counts entries clips f = assumption
-
 pub clips_same : {r : RoomModel} (scene : SceneModel End) → scene.config ≡ r.scene.config → IsRoom r
     → FollowsClips (parts_with r scene) r.clip_counts r.scene.entries r.clips
-clips_same {r = r} scene same room =
-    other_buffers (record r.parts { config = scene.config }) (buffers_of scene.glasses) r.clip_counts r.scene.entries
-    r.clips (subst (λ (c : Configuration). FollowsClips (record r.parts { config = c }) r.clip_counts r.scene.entries
-    r.clips) (sym (same ∙ room.config)) room.clips_follow)
+clips_same {r = r} scene same room = let f = room.clips_follow in rw (same ∙ room.config) (assumption f)
 
 pub clips_then : ClipsStay → (r : RoomModel) (new : SceneModel End) (e : Entry) → IsRoom r → new.config ≡ r.scene.config
     → new.entries ≡ r.scene.entries ++ e ∷ [] → FollowsClips (parts_with r new) r.clip_counts new.entries r.clips

@@ -1,16 +1,12 @@
 -- The counts of a book in two parts: the first so many, and those behind them.
-use Rattle.std.proofs.Common.{List, [], ap, arith, drop, length, refl, suc, sym, take, zero, ℕ, ◌+◌}
-use Rattle.std.proofs.Common.{set, ◌<◌, ◌∙◌, ◌∷◌, ◌≡◌}
-use Rattle.nit_hall.proofs.Basics.{drop-set-add, get_or-drop, length-drop, length-take, raised}
-use Rattle.nit_hall.proofs.Basics.{slice_index}
+use Rattle.std.proofs.Common.{List, ap, arith, drop, length, sym, take, ℕ, ◌+◌, set, ◌<◌, ◌∙◌}
+use Rattle.std.proofs.Common.{◌≡◌}
+use Rattle.nit_hall.proofs.Basics.{drop-set-add, get_or-drop, get_or-take, length-drop, length-take}
+use Rattle.nit_hall.proofs.Basics.{raised, slice_index, take-set-lt}
 
 -- a count of the front has risen
 pub front_raised : (n i : ℕ) (cs : List ℕ) → i < n → take n (raised cs i) ≡ raised (take n cs) i
-front_raised zero i cs h = absurd (omega arith)
-front_raised (suc n) zero [] h = refl
-front_raised (suc n) (suc i) [] h = refl
-front_raised (suc n) zero (c ∷ cs) h = refl
-front_raised (suc n) (suc i) (c ∷ cs) h = ap (λ (ds : List ℕ). c ∷ ds) (front_raised n i cs (omega arith))
+front_raised n i cs h = rw (get_or-take n cs i 0 h) (take-set-lt n cs i (slice_index cs i + 1) h)
 
 -- a count behind it has
 pub back_raised : (n i j : ℕ) (cs : List ℕ) → j ≡ n + i → drop n (raised cs j) ≡ raised (drop n cs) i

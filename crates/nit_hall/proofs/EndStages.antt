@@ -1,6 +1,6 @@
 -- Readers' ends of which one knows other stages.
 use Rattle.nit_hall.proofs.Basics.{End, List, Sight, Some, Standing, [], ap, arith, buffers_of}
-use Rattle.nit_hall.proofs.Basics.{glass_in, length, map, refl, same_Some, set, slice_get}
+use Rattle.nit_hall.proofs.Basics.{glass_in, length, map, map-map, refl, same_Some, set, slice_get}
 use Rattle.nit_hall.proofs.Basics.{with_end_stages, with_stages}
 use Rattle.std.proofs.Common.{suc, sym, zero, ℕ, ◌∙◌, ◌∷◌, ◌<◌, ◌≡◌, ◌≢◌}
 
@@ -45,12 +45,9 @@ same_stands (suc n) stages (e ∷ rest) = ap (λ (ss : List Standing). e.stand �
 -- ends that stand where others do are of the same buffers
 pub same_buffers : (ends ends' : List End) → map (λ (e : End). e.stand) ends ≡ map (λ (e : End). e.stand) ends'
     → buffers_of ends ≡ buffers_of ends'
-same_buffers ends ends' same = sym (by_stands ends)
-    ∙ ap (λ (ss : List Standing). map (λ (s : Standing). s.buffer) ss) same ∙ by_stands ends'
-  where
-    by_stands : (ends : List End) → map (λ (s : Standing). s.buffer) (map (λ (e : End). e.stand) ends) ≡ buffers_of ends
-    by_stands [] = refl
-    by_stands (e ∷ rest) = ap (λ bs. e.stand.buffer ∷ bs) (by_stands rest)
+same_buffers ends ends' same = sym (map-map (λ (s : Standing). s.buffer) (λ (e : End). e.stand) ends)
+    ∙ ap (λ (ss : List Standing). map (λ (s : Standing). s.buffer) ss) same
+    ∙ map-map (λ (s : Standing). s.buffer) (λ (e : End). e.stand) ends'
 
 -- the stages that are known last are known
 pub stages_again : (sid : ℕ) (stages before : List (List ℕ)) (ends : List End)

@@ -8,7 +8,7 @@ use Rattle.nit_hall.proofs.Basics.{refl, replay, replicate, slice_index_or, stat
 use Rattle.nit_hall.proofs.Basics.{sym, without_final, ℕ, ◌∙◌}
 use Rattle.std.proofs.Common.{false, zero, ◌*◌, ◌++◌, ◌∷◌, ◌≡◌, ◌≤◌}
 use Rattle.nit_hall.proofs.FinalEntries.{not_open, open_whole}
-use Rattle.nit_hall.proofs.LastDirty.{split_more}
+use Rattle.nit_hall.proofs.LastDirty.{none_behind, split_more}
 use mathlib.Core.List.{IsPrefix}
 use Rattle.nit_events.specs.declared.entry.Entry.TheVariants as entry
 
@@ -32,13 +32,9 @@ history_begun config =
       each = refl;
       held = record {
         first = λ k. refl;
-        clean = λ front e rest k parts inside clean. absurd (none front e rest parts);
+        clean = λ front e rest k parts inside clean. absurd (none_behind front e rest parts);
       };
     }
-  where
-    none : (front : List Entry) (e : Entry) (rest : List Entry) → [] ≡ front ++ e ∷ rest → ⊥
-    none [] e rest parts = cc
-    none (x ∷ xs) e rest parts = cc
 
 pub last_begun : (config : Configuration) → AreLast config [] (replicate (config.width * config.height) bare_word)
 last_begun config k inside = get_or-replicate (config.width * config.height) k bare_word 0 inside

@@ -29,7 +29,7 @@ places (x ∷ xs) e rest (y ∷ ys) other other_rest h =
     ]
 
 -- nothing stands behind the last entry
-none_behind : (front : List Entry) (e : Entry) (rest : List Entry) → [] ≡ front ++ e ∷ rest → ⊥
+pub none_behind : (front : List Entry) (e : Entry) (rest : List Entry) → [] ≡ front ++ e ∷ rest → ⊥
 none_behind [] e rest h = cc
 none_behind (x ∷ xs) e rest h = cc
 

@@ -49,10 +49,10 @@ pub use Rattle.nit_hall.proofs.RoomEndLemmas.{holds_below, last_frame, left_of, 
 pub use Rattle.nit_hall.proofs.RoomEndLemmas.{rests_again, rests_knowing, room_ended, same_sights}
 pub use Rattle.nit_hall.proofs.RoomEndLemmas.{step_far, still_there, tells_left}
 pub use Rattle.nit_hall.proofs.RoomEntered.{entered}
-pub use Rattle.nit_hall.proofs.RoomOpening.{begun_canvases, clip_pass_more, donation_at, each_more}
-pub use Rattle.nit_hall.proofs.RoomOpening.{get_seam, lens_glasses, lens_inks, lenses_watch}
-pub use Rattle.nit_hall.proofs.RoomOpening.{new_clip_pass, opened_clips, pass_at, pass_begun}
-pub use Rattle.nit_hall.proofs.RoomOpening.{room_begun, room_with_clips, zeros_behind, zeros_push}
+pub use Rattle.nit_hall.proofs.RoomOpening.{begun_canvases, donation_at, each_more, get_seam}
+pub use Rattle.nit_hall.proofs.RoomOpening.{lens_glasses, lens_inks, lenses_watch, new_clip_pass}
+pub use Rattle.nit_hall.proofs.RoomOpening.{opened_clips, pass_at, pass_begun, room_begun}
+pub use Rattle.nit_hall.proofs.RoomOpening.{room_with_clips, zeros_behind, zeros_push}
 pub use Rattle.nit_hall.proofs.RoomSteps.{before_open, booked_more, can_add, state_later}
 pub use Rattle.nit_hall.proofs.ScriptsFollowed.{actions_front_of, calls_front_of, whole}
 pub use Rattle.nit_hall.proofs.ServedCalls.{Found, added_with, calls_made, calls_then, found}

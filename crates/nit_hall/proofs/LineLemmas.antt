@@ -1,13 +1,13 @@
 -- Scripts line by line: what the lines before the next one are, and what the next one adds.
 use Rattle.nit_hall.proofs.Basics.{Bool, Call, Device, Does, FitsDevice, InputLine, IsDevice, Line}
 use Rattle.nit_hall.proofs.Basics.{List, Shoots, Some, [], ap, append-nil, arith, calls_from}
-use Rattle.nit_hall.proofs.Basics.{calls_in, cond, count_by, count_by_more_no, count_by_more_yes}
-use Rattle.nit_hall.proofs.Basics.{done, drop, false, filter, filter-append, get_or}
-use Rattle.nit_hall.proofs.Basics.{get_or_from_slice_get, input_phases_before, is_input_phase}
-use Rattle.nit_hall.proofs.Basics.{is_phase, is_served, length, length-take, lines_to_call}
-use Rattle.nit_hall.proofs.Basics.{next_phase, phases_before, served, slice_get-get_or}
-use Rattle.nit_hall.proofs.Basics.{slice_get_within, sum_by-cons, take_more, user_actions_from}
-use Rattle.nit_hall.proofs.Basics.{user_actions_in}
+use Rattle.nit_hall.proofs.Basics.{calls_in, cases_Bool, cond, count_by, count_by_more_no}
+use Rattle.nit_hall.proofs.Basics.{count_by_more_yes, done, drop, false, filter, filter-append}
+use Rattle.nit_hall.proofs.Basics.{get_or, get_or_from_slice_get, inl, input_phases_before, inr}
+use Rattle.nit_hall.proofs.Basics.{is_input_phase, is_phase, is_served, length, length-take}
+use Rattle.nit_hall.proofs.Basics.{lines_to_call, next_phase, phases_before, served}
+use Rattle.nit_hall.proofs.Basics.{slice_get-get_or, slice_get_within, sum_by-cons, take_more}
+use Rattle.nit_hall.proofs.Basics.{user_actions_from, user_actions_in}
 use Rattle.std.proofs.Common.{◌<◌, length-append, refl, slice_get, suc, sym, take, true, zero, ℕ}
 use Rattle.std.proofs.Common.{◌++◌, ◌+◌, ◌∙◌, ◌∷◌, ◌≡◌, ◌≤◌}
 use Rattle.nit_events.specs.declared.device.Device.TheVariants as device
@@ -31,13 +31,10 @@ pub front_filter : {X : Type 0} (p : X → Bool) (n : ℕ) (xs : List X)
     → take (length (filter p (take n xs))) (filter p xs) ≡ filter p (take n xs)
 front_filter p zero xs = refl
 front_filter p (suc n) [] = refl
-front_filter p (suc n) (x ∷ xs) = go (p x) (front_filter p n xs)
-  where
-    go : (b : Bool) → take (length (filter p (take n xs))) (filter p xs) ≡ filter p (take n xs)
-        → take (length (cond b (x ∷ filter p (take n xs)) (filter p (take n xs))))
-        (cond b (x ∷ filter p xs) (filter p xs)) ≡ cond b (x ∷ filter p (take n xs)) (filter p (take n xs))
-    go true e = ap (λ ys. x ∷ ys) e
-    go false e = e
+front_filter p (suc n) (x ∷ xs) = elim (cases_Bool (p x)) [
+  | inl is ↦ rw is (ap (λ ys. x ∷ ys) (front_filter p n xs))
+  | inr not ↦ rw not (front_filter p n xs)
+]
 
 pub front_short : {X : Type 0} (n : ℕ) (xs ys : List X) → take n xs ≡ ys → length ys ≡ n → n ≤ length xs
 front_short n xs ys e long = omega (arith, length-take n xs, ap length e, long)

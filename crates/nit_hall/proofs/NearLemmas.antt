@@ -1,15 +1,14 @@
 -- What each pixel may hold, after one more entry.
 use Rattle.nit_hall.proofs.Basics.{AreNear, Bare, Black, Call, Colours, Configuration, Entry}
-use Rattle.nit_hall.proofs.Basics.{EntryLaws, IfSome, InputLine, IsLegal, IsLoaded, IsNear}
-use Rattle.nit_hall.proofs.Basics.{IsNearBy, IsOpen, IsWordOfScripts, IsWordOfSource, Line, List}
-use Rattle.nit_hall.proofs.Basics.{MayHaveDone, None, Option, Painted, PixelSource, Reply, Sight}
-use Rattle.nit_hall.proofs.Basics.{Some, State, Word, [], after, ap, arith, cases_Bool, donation_of}
-use Rattle.nit_hall.proofs.Basics.{false, first_state, ink_in, inl, inr, is_dirtied, length}
-use Rattle.nit_hall.proofs.Basics.{nat_tests, phase_of_entry, pixel, pixel_count, refl, replay}
-use Rattle.nit_hall.proofs.Basics.{same_config, script_in, script_ink, shots, slice_index}
-use Rattle.nit_hall.proofs.Basics.{slice_index_or, source_at, source_of, subst, sym, words_after}
-use Rattle.nit_hall.proofs.Basics.{words_at_call}
-use Rattle.std.proofs.Common.{nat_lt, true, ℕ, ◌*◌, ◌++◌, ◌+◌, ◌<◌, ◌∙◌, ◌∷◌, ◌≡◌, ◌≤◌}
+use Rattle.nit_hall.proofs.Basics.{EntryLaws, IfSome, InputLine, IsLegal, IsLoaded, IsNearBy}
+use Rattle.nit_hall.proofs.Basics.{IsOpen, IsWordOfScripts, IsWordOfSource, Line, List, MayHaveDone}
+use Rattle.nit_hall.proofs.Basics.{None, Option, Painted, PixelSource, Reply, Sight, Some, State}
+use Rattle.nit_hall.proofs.Basics.{Word, [], after, ap, arith, cases_Bool, donation_of, false}
+use Rattle.nit_hall.proofs.Basics.{first_state, ink_in, inl, inr, is_dirtied, length, nat_tests}
+use Rattle.nit_hall.proofs.Basics.{phase_of_entry, pixel, pixel_count, refl, replay, same_config}
+use Rattle.nit_hall.proofs.Basics.{script_in, script_ink, shots, slice_index, slice_index_or}
+use Rattle.nit_hall.proofs.Basics.{source_at, source_of, sym, words_after, words_at_call}
+use Rattle.std.proofs.Common.{nat_lt, true, ℕ, ◌++◌, ◌+◌, ◌<◌, ◌∙◌, ◌∷◌, ◌≡◌, ◌≤◌}
 use Rattle.nit_events.specs.declared.entry.Entry.TheVariants as entry
 use Rattle.nit_hall.proofs.LastDirty.{last_is_last, last_before, last_more, one_more_last}
 
@@ -48,24 +47,17 @@ pub near_more : EntryLaws → (config : Configuration) (scripts : List (List Lin
 near_more laws config scripts input journal e raw raw' legal loaded others near k on_screen =
     let s : State = replay config journal in
     let now : replay config (journal ++ e ∷ []) ≡ after s e = laws.more (first_state config) journal e in
-    let count : pixel_count (replay config (journal ++ e ∷ [])) ≡ pixel_count s = ap pixel_count now
-    ∙ ap (λ (c : Configuration). c.width * c.height) (same_config s e) in
-    let inside : k < pixel_count s = subst (λ (n : ℕ). k < n) count on_screen in
+    let inside : k < pixel_count s = rw (now, same_config s e) at on_screen in
     let at : source_at (replay config (journal ++ e ∷ [])) k ≡ source_of (after s e) (pixel s.config.width k) =
-    ap (λ (x : State). source_at x k) now
-    ∙ ap (λ (c : Configuration). source_of (after s e) (pixel c.width k)) (same_config s e) in
-    let w : ℕ = slice_index_or raw' k 0 in
+    rw (now, same_config s e) refl in
     elim (cases_Bool (is_dirtied config journal e k)) [
-      | inl is ↦ subst (λ (x : State). IsNearBy config scripts input (journal ++ e ∷ []) k (source_at x k) w) (sym now)
-          (loaded k inside is)
+      | inl is ↦ rw now (loaded k inside is)
       | inr clean ↦
           let source : source_at (replay config (journal ++ e ∷ [])) k ≡ source_at s k = at
           ∙ laws.keeps s (0 + shots journal) e (pixel s.config.width k)
           (laws.agrees (first_state config) 0 journal e legal) clean in
-          subst (λ (x : ℕ). IsNear config scripts input (journal ++ e ∷ []) k x) (sym (others k clean))
-          (subst (λ (x : PixelSource). IsNearBy config scripts input (journal ++ e ∷ []) k x (slice_index_or raw k 0))
-          (sym source)
-          (near_still config scripts input journal e k (source_at s k) (slice_index_or raw k 0) clean (near k inside)))
+          rw (source, others k clean)
+          (near_still config scripts input journal e k (source_at s k) (slice_index_or raw k 0) clean (near k inside))
     ]
 
 -- ---- what glasses give

@@ -5,12 +5,6 @@ use Rattle.nit_hall.proofs.Basics.{get_or_append_left, length, length-append, re
 use Rattle.nit_hall.proofs.Basics.{ℕ}
 use Rattle.std.proofs.Common.{◌++◌, ◌-◌, ◌+◌, ◌<◌, ◌∙◌, ◌∷◌, ◌≡◌, ◌≤◌}
 
-get_last : (xs : List ℕ) (x d : ℕ) → get_or (xs ++ x ∷ []) (length xs) d ≡ x
-get_last xs x d = get_or-append_seam xs x [] d
-
-get_front : (xs : List ℕ) (x d i : ℕ) → i < length xs → get_or (xs ++ x ∷ []) i d ≡ get_or xs i d
-get_front xs x d i inside = get_or_append_left xs (x ∷ []) d i inside
-
 -- without the last one they do not either
 pub without_last : (xs : List ℕ) (p : ℕ) → IsNonDecreasing (xs ++ p ∷ []) → IsNonDecreasing xs
 without_last xs p old = subst IsNonDecreasing (take_at xs (p ∷ []) (length xs) refl)
@@ -23,7 +17,7 @@ each_below xs p old i d inside =
     let m : length (xs ++ p ∷ []) ≡ length xs + 1 = length-append xs (p ∷ []) in
     let a : get_or (xs ++ p ∷ []) i d ≤ get_or (xs ++ p ∷ []) (length xs) d =
     old i (length xs) d (omega arith) (omega arith) in
-    omega (arith, a, get_front xs p d i inside, get_last xs p d)
+    omega (arith, a, get_or_append_left xs (p ∷ []) d i inside, get_or-append_seam xs p [] d)
 
 -- the last one may rise
 pub rises : (xs : List ℕ) (p q : ℕ) → p ≤ q → IsNonDecreasing (xs ++ p ∷ []) → IsNonDecreasing (xs ++ q ∷ [])
@@ -35,4 +29,4 @@ pub again : (xs : List ℕ) (p : ℕ) → IsNonDecreasing (xs ++ p ∷ []) → I
 again xs p old = IsNonDecreasingBy-push (λ (x : ℕ). x) (xs ++ p ∷ []) p old
     (λ d some. let at : length (xs ++ p ∷ []) - 1 ≡ length xs = omega (arith, length-append xs (p ∷ [])) in
     let last : get_or (xs ++ p ∷ []) (length (xs ++ p ∷ []) - 1) d ≡ p =
-    ap (λ (k : ℕ). get_or (xs ++ p ∷ []) k d) at ∙ get_last xs p d in omega (arith, last))
+    ap (λ (k : ℕ). get_or (xs ++ p ∷ []) k d) at ∙ get_or-append_seam xs p [] d in omega (arith, last))

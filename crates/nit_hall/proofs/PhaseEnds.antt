@@ -1,16 +1,15 @@
 -- A room and its passes after a stroke, and after the end of a phase.
 use Rattle.nit_hall.proofs.Basics.{Bool, End, Entry, IfSome, InputLine, IsOpen, IsPaintedTo, IsPass}
-use Rattle.nit_hall.proofs.Basics.{IsRoom, IsUserPass, Line, List, Option, Painting, PassModel}
-use Rattle.nit_hall.proofs.Basics.{Recorded, RoomModel, ShareModel, Sight, Some, Stroke}
-use Rattle.nit_hall.proofs.Basics.{UserPassModel, after_arrival, after_line, ap, append-nil, ap₂}
-use Rattle.nit_hall.proofs.Basics.{arith, blank, calls_in, calls_of, cond, count_by}
-use Rattle.nit_hall.proofs.Basics.{count_by-le-length, false, inl, input_phases_before}
-use Rattle.nit_hall.proofs.Basics.{is_input_phase, is_phase, length-take, option_map, painted_from}
-use Rattle.nit_hall.proofs.Basics.{phases_before, raised, slice_get_within, slice_index}
-use Rattle.nit_hall.proofs.Basics.{user_actions_in, user_actions_of, with_words, without_final}
-use Rattle.nit_hall.proofs.Basics.{words_after}
-use Rattle.std.proofs.Common.{inr, length, refl, slice_get, subst, sym, take, true, ℕ, ◌+◌, ◌<◌}
-use Rattle.std.proofs.Common.{◌==◌, ◌∙◌, ◌≡◌, ◌≤◌}
+use Rattle.nit_hall.proofs.Basics.{IsRoom, IsUserPass, Line, List, Painting, PassModel, Recorded}
+use Rattle.nit_hall.proofs.Basics.{RoomModel, ShareModel, Sight, Some, Stroke, UserPassModel}
+use Rattle.nit_hall.proofs.Basics.{after_arrival, after_line, ap, append-nil, ap₂, arith, blank}
+use Rattle.nit_hall.proofs.Basics.{calls_in, calls_of, cond, count_by, count_by-le-length, false}
+use Rattle.nit_hall.proofs.Basics.{inl, input_phases_before, is_input_phase, is_phase, length-take}
+use Rattle.nit_hall.proofs.Basics.{option_map, painted_from, phases_before, raised}
+use Rattle.nit_hall.proofs.Basics.{slice_get_within, slice_index, user_actions_in, user_actions_of}
+use Rattle.nit_hall.proofs.Basics.{with_words, without_final, words_after}
+use Rattle.std.proofs.Common.{inr, length, refl, slice_get, sym, take, true, ℕ, ◌+◌, ◌<◌, ◌==◌, ◌∙◌}
+use Rattle.std.proofs.Common.{◌≡◌, ◌≤◌}
 use Rattle.nit_script.specs.declared.line.Line.TheVariants as line
 use Rattle.nit_script.specs.declared.line.InputLine.TheVariants as inputs
 use Rattle.nit_hall.proofs.LineLemmas.{counted_more, counted_same, served_counted, unserved_line}
@@ -52,27 +51,21 @@ pass_phase next {p = p} name known known' is at e knows =
     let h = is.painted in
     let told : p.sight.words ≡ Some (words_after p.script p.donation (p.next + 1)) = is.told
     ∙ sym (ap (λ (x : Painting). Some x.words) (next (blank p.donation) p.script p.next line.Phase at)) in
+    let words : IfSome p.sight.words (λ words. words ≡ words_after p.script p.donation (p.next + 1)) = rw told refl in
+    let painted : IsPaintedTo p.script p.donation p.plan (p.next + 1) p.sight = assumption in
     rw e (record {
       number = is.number;
       counted = ap (λ (n : ℕ). n + 1) is.counted ∙ sym (served_counted p.script p.next line.Phase at refl);
-      within = let w = slice_get_within p.script p.next line.Phase at in omega (arith, w);
+      within = omega (arith, slice_get_within p.script p.next line.Phase at);
       phase = ap (λ (n : ℕ). n + 1) is.phase ∙ sym (counted_more is_phase p.script p.next line.Phase at refl);
       known = knows ∙ sym (no_more_calls p.script p.next line.Phase at refl);
       owner = is.owner;
-      painted = record {
-        opens = h.opens;
-        planned = h.planned;
-        ink = h.ink;
-        size = h.size;
-        words =
-            subst (λ (o : Option (List ℕ)). IfSome o (λ words. words ≡ words_after p.script p.donation (p.next + 1)))
-            (sym told) refl;
-      };
+      painted = painted;
       inked = is.inked;
       told = told;
-      not_ahead = let m = is.not_ahead in omega (arith, m);
+      not_ahead = omega (arith, is.not_ahead);
       agreed = is.agreed;
-      stretch = λ same. absurd (let m = is.not_ahead in omega (arith, m, same));
+      stretch = λ same. absurd (omega (arith, is.not_ahead, same));
       spare_owner = is.spare_owner;
       spare_size = is.spare_size;
     })
@@ -90,16 +83,15 @@ pass_stroke p share spare s sight stand is at painted set =
       within = let w = slice_get_within p.script p.next (line.Stroke s) at in omega (arith, w);
       phase = is.phase ∙ sym (counted_same is_phase p.script p.next (line.Stroke s) at refl);
       known = is.known ∙ sym (no_more_calls p.script p.next (line.Stroke s) at refl);
-      owner = ap (λ (g : Sight). g.owner) set ∙ is.owner;
+      owner = rw set is.owner;
       painted = painted;
-      inked = ap (λ (g : Sight). g.ink) set ∙ is.inked;
-      told = ap (λ (g : Sight). g.words) set ∙ ap (option_map (λ words. words_after p.script p.donation (p.next + 1)))
-          is.told;
+      inked = rw set is.inked;
+      told = rw set (ap (option_map (λ words. words_after p.script p.donation (p.next + 1))) is.told);
       not_ahead = is.not_ahead;
       agreed = rw set is.agreed;
       stretch = λ same. rw set (stretch_on p.script p.donation p.next p.sight.stages s at (is.stretch same));
       spare_owner = is.spare_owner;
-      spare_size = is.spare_size ∙ sym (ap (λ (g : Sight). g.size) set);
+      spare_size = rw set is.spare_size;
     }
 
 -- the end of a phase of the user's was served

@@ -3,7 +3,7 @@ use Rattle.nit_hall.proofs.Basics.{Bool, InputLine, IsServedPhase, Line, List, [
 use Rattle.nit_hall.proofs.Basics.{ap, arith, cases_Bool, cases_eq, cond, count_by}
 use Rattle.nit_hall.proofs.Basics.{count_by-le-length, eqb-true, false, get_or-set_other}
 use Rattle.nit_hall.proofs.Basics.{get_or-set_same, inl, input_phases_before, inr, is_phase}
-use Rattle.nit_hall.proofs.Basics.{is_served, length, length-set, nat_tests, ne_eqb, phases_before}
+use Rattle.nit_hall.proofs.Basics.{is_served, length, length-set, nat_tests, phases_before}
 use Rattle.nit_hall.proofs.Basics.{phases_ended, raised, refl, script_in, served, set, set-get_or}
 use Rattle.nit_hall.proofs.Basics.{slice_index, suc, sum_by, sum_by-set}
 use Rattle.std.proofs.Common.{sym, take, true, zero, ℕ, ◌+◌, ◌<◌, ◌==◌, ◌∙◌, ◌∷◌, ◌≡◌, ◌≤◌, ◌⊎◌}
@@ -116,22 +116,18 @@ same_phase {phase = phase} {arrived = arrived} {actor = actor} {old = old} ends 
 pub all_pass : (p : ℕ → Bool) (xs : List ℕ) → count_by p xs ≡ length xs → (k : ℕ) → k < length xs
     → p (slice_index xs k) ≡ true
 all_pass p [] full k h = absurd (omega arith)
-all_pass p (x ∷ xs) full k h = go (p x) refl (λ e. all_pass p xs e) k h
+all_pass p (x ∷ xs) full k h = elim (cases_Bool (p x)) [
+  | inl is ↦ go k h is (all_pass p xs (let n = counted true is in omega (arith, n, full)))
+  | inr not ↦ absurd (let n = counted false not in omega (arith, n, full, count_by-le-length p xs))
+]
   where
-    rest : count_by p (x ∷ xs) ≡ cond {A = ℕ} (p x) 1 0 + count_by p xs
-    rest = count_cons p x xs
+    counted : (b : Bool) → p x ≡ b → count_by p (x ∷ xs) ≡ cond {A = ℕ} b 1 0 + count_by p xs
+    counted b is = count_cons p x xs ∙ ap (λ (b : Bool). cond {A = ℕ} b 1 0 + count_by p xs) is
 
-    few : count_by p xs ≤ length xs
-    few = count_by-le-length p xs
-
-    go : (b : Bool) → p x ≡ b → (count_by p xs ≡ length xs → (k : ℕ) → k < length xs → p (slice_index xs k) ≡ true)
-        → (k : ℕ) → k < length (x ∷ xs) → p (slice_index (x ∷ xs) k) ≡ true
-    go true is behind zero h = is
-    go true is behind (suc k) h =
-        behind (let n = rest ∙ ap (λ (b : Bool). cond {A = ℕ} b 1 0 + count_by p xs) is in omega (arith, n, full)) k
-        (omega arith)
-    go false is behind k h = absurd (let n = rest
-        ∙ ap (λ (b : Bool). cond {A = ℕ} b 1 0 + count_by p xs) is in omega (arith, n, full, few))
+    go : (k : ℕ) → k < length (x ∷ xs) → p x ≡ true → ((k : ℕ) → k < length xs → p (slice_index xs k) ≡ true)
+        → p (slice_index (x ∷ xs) k) ≡ true
+    go zero h is rest = is
+    go (suc k) h is rest = rest k (omega arith)
 
 -- where none passes, none is counted
 pub none_pass : (p : ℕ → Bool) (xs : List ℕ) → ((k : ℕ) → k < length xs → p (slice_index xs k) ≡ false)
@@ -183,9 +179,7 @@ one_more_ended clients phase arrived xs i long inside at is =
           λ k h. eqb-true (slice_index ys k) (phase + 1) (all_pass (λ n. n == phase + 1) ys full k h) in
           rw last (record {
             each = λ k h. inl (there k h);
-            counted = sym (none_pass (λ n. n == phase + 1 + 1) ys
-                (λ k h. ne_eqb (slice_index ys k) (phase + 1 + 1) (λ e. let a = there k h in let b : slice_index ys k
-                ≡ phase + 1 + 1 = e in omega (arith, a, b))));
+            counted = sym (none_pass (λ n. n == phase + 1 + 1) ys (λ k h. rw (there k h) (grind (arith, nat_tests))));
             some_left = omega (arith, many, inside);
           })
       | inr not_last ↦
@@ -215,21 +209,16 @@ pub phases_begun : (scripts : List (List Line)) (input : List InputLine) (counts
 phases_begun scripts input counts long none =
     record {
       each = λ k h. inl (nothing k h);
-      counted = sym (none_pass (λ n. n == 0 + 1) (phases_ended scripts input counts)
-          (λ k h. ne_eqb (slice_index (phases_ended scripts input counts) k) 1 (λ e. let a =
-          nothing k h in let b : slice_index (phases_ended scripts input counts) k ≡ 1 =
-          e in omega (arith, a, b))));
+      counted = sym (none_pass (λ n. n == 0 + 1) (phases_ended scripts input counts) (λ k h. rw (nothing k h) refl));
       some_left = let many = ended_long scripts input counts long in omega (arith, many);
     }
   where
     nothing : (k : ℕ) → k < length (phases_ended scripts input counts)
         → slice_index (phases_ended scripts input counts) k ≡ 0
     nothing k h = elim (cases_eq k (length scripts)) [
-      | inl e ↦ ap (λ (n : ℕ). slice_index (phases_ended scripts input counts) n) e
-          ∙ user_ended_at scripts input counts long
-          ∙ ap (λ (n : ℕ). input_phases_before input n) (none (length scripts))
-      | inr ne ↦
-          let many = ended_long scripts input counts long in
-          ended_at scripts input counts k long (omega (arith, many, h, ne))
-          ∙ ap (λ (n : ℕ). count_by is_phase (take n (served (script_in scripts k)))) (none k)
+      | inl e ↦ rw (e, user_ended_at scripts input counts long, none (length scripts)) refl
+      | inr ne ↦ rw (
+        ended_at scripts input counts k long (omega (arith, ended_long scripts input counts long, h, ne)),
+        none k,
+      ) refl
     ]

@@ -8,12 +8,12 @@ use Rattle.nit_hall.proofs.Basics.{arith, blank, calls_in, calls_of, calls_of-ap
 use Rattle.nit_hall.proofs.Basics.{cases_lt, donation_of, drop, frame, get_or}
 use Rattle.nit_hall.proofs.Basics.{get_or-map-range_with_len, get_or_from_slice_get, get_or_past}
 use Rattle.nit_hall.proofs.Basics.{glass_in, inl, inr, knowing, left_word, length, length-map, map}
-use Rattle.nit_hall.proofs.Basics.{map_over_more, no_ink, no_sight, option_map, painted_from}
-use Rattle.nit_hall.proofs.Basics.{pixel_count, range_with_len, refl, rest_of, same_Some}
-use Rattle.nit_hall.proofs.Basics.{same_frame, scenery_of, script_in, served, set, slice_get}
-use Rattle.nit_hall.proofs.Basics.{slice_get-get_or, slice_get-map, slice_get_read, slice_index}
-use Rattle.nit_hall.proofs.Basics.{source_at, state_now, subst, table_size, take_all, without_final}
-use Rattle.nit_hall.proofs.Basics.{words_after, words_left, words_left_in, zero_at}
+use Rattle.nit_hall.proofs.Basics.{map-map, map_over_more, no_ink, no_sight, option_map}
+use Rattle.nit_hall.proofs.Basics.{painted_from, pixel_count, range_with_len, refl, rest_of}
+use Rattle.nit_hall.proofs.Basics.{same_Some, same_frame, scenery_of, script_in, served, set}
+use Rattle.nit_hall.proofs.Basics.{slice_get, slice_get-get_or, slice_get-map, slice_get_read}
+use Rattle.nit_hall.proofs.Basics.{slice_index, source_at, state_now, subst, table_size, take_all}
+use Rattle.nit_hall.proofs.Basics.{without_final, words_after, words_left, words_left_in, zero_at}
 use Rattle.std.proofs.Common.{suc, sym, take, zero, zero-add, ℕ, ◌++◌, ◌+◌, ◌<◌, ◌∙◌, ◌∷◌, ◌≡◌, ◌≤◌}
 use Rattle.nit_events.specs.declared.entry.Entry.TheVariants as entry
 use Rattle.nit_hall.proofs.FinalEntries.{not_open, open_whole, without-append}
@@ -184,11 +184,6 @@ step_far f xs ys i p q inside so_far at eq =
 
 -- ---- the room after the last picture
 
-sights_knowing : (known : List Entry) (ps : List PassModel)
-    → map (λ (p : PassModel). p.sight) (map (knowing known) ps) ≡ map (λ (p : PassModel). p.sight) ps
-sights_knowing known [] = refl
-sights_knowing known (p ∷ ps) = ap (λ (gs : List Sight). p.sight ∷ gs) (sights_knowing known ps)
-
 inks_of : {r : RoomModel} {ps : List PassModel} → AreKnown r ps
     → AreInks r.parts.config r.parts.scripts (glass_in (map (λ (q : PassModel). q.sight) ps))
 inks_of {r = r} {ps = ps} are t = elim (cases_lt t (length r.parts.scripts)) [
@@ -212,8 +207,7 @@ pub record IsEnded (old new : SceneModel End) (glasses : List Sight) (glasses' :
 -- the last picture does not stand in the book
 pub booked_still : (old new : SceneModel End) → new.entries ≡ old.entries ++ entry.Final ∷ []
     → without_final old.entries ≡ without_final new.entries
-booked_still old new recorded = sym (append-nil (without_final old.entries))
-    ∙ sym (without-append old.entries (entry.Final ∷ [])) ∙ ap without_final (sym recorded)
+booked_still old new recorded = rw (recorded, without-append old.entries (entry.Final ∷ []), append-nil) refl
 
 -- what the passes show in the last picture was left by all their lines
 ends_show : EntryLaws → {r : RoomModel} {new : SceneModel End} {ps : List PassModel} → IsRoom r
@@ -257,8 +251,7 @@ room_ended laws {r = r} {new = new} room o are all ended =
 -- the sights are those of before they met
 pub same_sights : (known : List Entry) (ps₀ : List PassModel) {ps : List PassModel} → ps ≡ map (knowing known) ps₀
     → map (λ (p : PassModel). p.sight) ps ≡ map (λ (p : PassModel). p.sight) ps₀
-same_sights known ps₀ is = ap (λ (qs : List PassModel). map (λ (p : PassModel). p.sight) qs) is
-    ∙ sights_knowing known ps₀
+same_sights known ps₀ is = rw is (map-map (λ (p : PassModel). p.sight) (knowing known) ps₀)
 
 pub glasses_settled : {r : RoomModel} {ps₀ : List PassModel} (ps : List PassModel) → AreKnown r ps₀
     → map (λ (p : PassModel). p.sight) ps ≡ map (λ (p : PassModel). p.sight) ps₀
@@ -283,13 +276,9 @@ abbrev pub pass_rest : PassModel → PassRest
 pass_rest p = record { pass = rest_of p }
 
 pub rests_again : (ps qs : List PassModel) → map pass_rest ps ≡ map pass_rest qs → map rest_of ps ≡ map rest_of qs
-rests_again ps qs e = parts ps ∙ ap (λ (rs : List PassRest). map (λ (r : PassRest). r.pass) rs) e ∙ sym (parts qs)
-  where
-    parts : (ps : List PassModel) → map rest_of ps ≡ map (λ (r : PassRest). r.pass) (map pass_rest ps)
-    parts [] = refl
-    parts (p ∷ ps) = ap (λ (rs : List PassModel). rest_of p ∷ rs) (parts ps)
+rests_again ps qs e = sym (map-map (λ (r : PassRest). r.pass) pass_rest ps)
+    ∙ ap (λ (rs : List PassRest). map (λ (r : PassRest). r.pass) rs) e ∙ map-map (λ (r : PassRest). r.pass) pass_rest qs
 
 pub rests_knowing : (known : List Entry) (ps : List PassModel) → map rest_of (map (knowing known) ps)
     ≡ map (λ (p : PassModel). rest_of (knowing known p)) ps
-rests_knowing known [] = refl
-rests_knowing known (p ∷ ps) = ap (λ (rs : List PassModel). rest_of (knowing known p) ∷ rs) (rests_knowing known ps)
+rests_knowing known ps = map-map rest_of (knowing known) ps

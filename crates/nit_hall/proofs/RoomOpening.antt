@@ -1,12 +1,11 @@
 -- A room and its passes before the first line.
-use Rattle.nit_hall.proofs.Basics.{AreAgreed, AreBegun, AreBlank, AreGlasses, AreLast, AreNear}
-use Rattle.nit_hall.proofs.Basics.{AreSplitOff, AreWatching, BookModel, BookName, BufferName}
-use Rattle.nit_hall.proofs.Basics.{ClipLine, ClipModel, ClipPassModel, Configuration, End, Entry}
-use Rattle.nit_hall.proofs.Basics.{Follows, FollowsClips, HasStages, HaveInks, IfSome, InputLine}
-use Rattle.nit_hall.proofs.Basics.{IsDonation, IsFirst, IsGlass, IsLegalClips, IsNearBy}
+use Rattle.nit_hall.proofs.Basics.{AreAgreed, AreBegun, AreBlank, AreGlasses, AreNear, AreSplitOff}
+use Rattle.nit_hall.proofs.Basics.{AreWatching, BookModel, BookName, BufferName, ClipLine}
+use Rattle.nit_hall.proofs.Basics.{ClipModel, ClipPassModel, Configuration, End, Entry, Follows}
+use Rattle.nit_hall.proofs.Basics.{FollowsClips, HaveInks, InputLine, IsDonation, IsLegalClips}
 use Rattle.nit_hall.proofs.Basics.{IsNonDecreasingBy-short, IsPass, IsPlanOf, IsRoom, Line, List}
-use Rattle.nit_hall.proofs.Basics.{Member, OpeningParts, Option, PassModel, PixelSource, PlanModel}
-use Rattle.nit_hall.proofs.Basics.{RoomModel, ShareModel, Sight, Some, [], ap, append_assoc, arith}
+use Rattle.nit_hall.proofs.Basics.{Member, OpeningParts, Option, PassModel, PlanModel, RoomModel}
+use Rattle.nit_hall.proofs.Basics.{ShareModel, Sight, Some, [], ap, append_assoc, arith}
 use Rattle.nit_hall.proofs.Basics.{bare_everywhere, bare_word, calls_in, calls_of, cases_lt}
 use Rattle.nit_hall.proofs.Basics.{clip_calls_in, clip_script_in, common_steps, donation_of, drop}
 use Rattle.nit_hall.proofs.Basics.{drop_at, entries_in, false, first_pass, get_or, get_or-replicate}
@@ -16,9 +15,9 @@ use Rattle.nit_hall.proofs.Basics.{lines_of_all, lines_of_clips, map, new_sight,
 use Rattle.nit_hall.proofs.Basics.{none-some, option_map, parts_of, phases_before, pixel, plan_in}
 use Rattle.nit_hall.proofs.Basics.{raws_in, refl, replicate, replicate_more, same_Some, script_in}
 use Rattle.nit_hall.proofs.Basics.{served, slice_get, slice_get-map, slice_get_within, slice_index}
-use Rattle.nit_hall.proofs.Basics.{slice_index_or, stretch, subst, suc, sum_by-replicate, sym, take}
-use Rattle.nit_hall.proofs.Basics.{take_all, take_at, user_actions_in, watching_sight}
-use Rattle.nit_hall.proofs.Basics.{with_clip_scripts, with_stages, words_after}
+use Rattle.nit_hall.proofs.Basics.{stretch, suc, sum_by-replicate, sym, take, take_all, take_at}
+use Rattle.nit_hall.proofs.Basics.{user_actions_in, watching_sight, with_clip_scripts, with_stages}
+use Rattle.nit_hall.proofs.Basics.{words_after}
 use Rattle.std.proofs.Common.{zero, ℕ, ⊎_elim, ◌*◌, ◌++◌, ◌+◌, ◌<◌, ◌∙◌, ◌∷◌, ◌≡◌, ◌≤◌, ◌⊎◌}
 use Rattle.nit_hall.proofs.HistoryLemmas.{history_begun, last_begun}
 use Rattle.nit_hall.proofs.LineLemmas.{item_there}
@@ -29,9 +28,7 @@ use Rattle.nit_hall.proofs.Phases.{phases_begun}
 pub near_begun : (config : Configuration) (scripts : List (List Line)) (input : List InputLine)
     → AreNear config scripts input [] (replicate (config.width * config.height) bare_word)
 near_begun config scripts input k inside =
-    subst (λ (x : PixelSource). IsNearBy config scripts input [] k x
-    (slice_index_or (replicate (config.width * config.height) bare_word) k 0))
-    (sym (bare_everywhere config (pixel config.width k)))
+    rw (bare_everywhere config (pixel config.width k))
     (get_or-replicate (config.width * config.height) k bare_word 0 inside)
 
 pub follows_begun : (scripts : List (List Line)) (input : List InputLine) (counts : List ℕ)
@@ -92,18 +89,13 @@ room_begun r config each few empty spare raw inks watching counts first none no_
       phases = rw (first, none) (phases_begun r.parts.scripts r.parts.input r.counts long zeros_);
       inks = rw (← config) inks;
       watching = rw (← config, empty, first) watching;
-      near = subst (λ (c : Configuration). AreNear c r.parts.scripts r.parts.input r.scene.entries r.scene.raw) config
-          (rw (empty, raw) (near_begun r.scene.config r.parts.scripts r.parts.input));
+      near = rw (← config, empty, raw) (near_begun r.scene.config r.parts.scripts r.parts.input);
       room = let n = ap length empty in omega (arith, n, spare);
       ended = inl (rw empty tt);
-      clips_follow = subst (λ (cs : List ℕ). FollowsClips r.parts cs r.scene.entries r.clips)
-          (ap (λ (xs : List (List ClipLine)). replicate (length xs) 0) none_is ∙ sym no_counts)
-          (subst (λ (m : ClipModel). FollowsClips r.parts (replicate (length r.parts.clips) 0) r.scene.entries m)
-          ((λ i. record { entries = []; spare = lines_of_clips (none_is i) }) ∙ sym list)
-          (clips_begun no_clips r.parts r.scene.entries));
+      clips_follow = rw (no_counts, list, none_is)
+          (clips_begun no_clips (record r.parts { clips = [] }) r.scene.entries);
       history = rw (empty, no_raws) (history_begun r.parts.config);
-      history_ends = λ o. subst (λ (c : Configuration). AreLast c r.raws r.scene.raw) config
-          (rw (no_raws, raw) (last_begun r.scene.config));
+      history_ends = λ o. rw (← config, no_raws, raw) (last_begun r.scene.config);
     }
 
 -- ---- a pass
@@ -114,8 +106,7 @@ pub pass_begun : (p : PassModel) (share : ShareModel) (spare : End) → IsDonati
     → p.phase ≡ 0 → p.met ≡ 0 → p.seen ≡ [] → share.number ≡ p.sid → share.count ≡ 0 → spare.sight.owner ≡ p.sid
     → spare.sight.size ≡ p.sight.size → IsPass p share spare
 pass_begun p share spare opens of is none first met empty number count owner size =
-    let told : p.sight.words ≡ Some (words_after p.script p.donation p.next) = ap (λ (g : Sight). g.words) is
-    ∙ ap (λ (n : ℕ). Some (words_after p.script p.donation n)) (sym none) in
+    let told : p.sight.words ≡ Some (words_after p.script p.donation p.next) = rw (is, none) refl in
     record {
       number = number;
       counted = count ∙ sym (ap (λ (n : ℕ). length (served (take n p.script))) none);
@@ -126,11 +117,9 @@ pass_begun p share spare opens of is none first met empty number count owner siz
       painted = record {
         opens = opens;
         planned = of;
-        ink = subst (HasStages p.script p.donation) (sym (ap (λ (g : Sight). g.ink) is))
-            (has_stages p.script p.donation);
+        ink = rw is (has_stages p.script p.donation);
         size = ap (λ (g : Sight). g.size) is;
-        words = subst (λ (o : Option (List ℕ)). IfSome o (λ words. words ≡ words_after p.script p.donation p.next))
-            (sym told) refl;
+        words = rw told refl;
       };
       inked = ap (λ (g : Sight). g.ink) is;
       told = told;
@@ -155,16 +144,12 @@ pub get_seam : {A : Type 0} (xs ys : List A) (y : A) (k : ℕ) → k ≡ length 
 get_seam [] ys y k e = rw e refl
 get_seam (x ∷ xs) ys y k e = rw e (get_seam xs ys y (length xs) refl)
 
-pub each_more : (parts : OpeningParts) (canvases : List End) (k : ℕ) (ps qs : List PassModel) (p : PassModel) (c : End)
-    → qs ≡ ps ++ p ∷ [] → length ps ≡ k → slice_get canvases k ≡ Some c → p ≡ first_pass parts k c
-    → ((j : ℕ) (q : PassModel) → slice_get ps j ≡ Some q → IsFirst parts canvases j q) → (j : ℕ) (q : PassModel)
-    → slice_get qs j ≡ Some q → IsFirst parts canvases j q
-each_more parts canvases k ps qs p c pushed long at is all j q e =
-    ⊎_elim
-    (λ (x : slice_get ps j ≡ Some q). all j q x)
-    (λ (x : (j ≡ length ps) × (p ≡ q)). subst (λ (n : ℕ). IsFirst parts canvases n q) (sym (x.0 ∙ long))
-    (subst (λ (y : PassModel). IsFirst parts canvases k y) x.1 (c, at, is)))
-    (get_push ps j q p (ap (λ (xs : List PassModel). slice_get xs j) (sym pushed) ∙ e))
+-- what holds of each element, and of the one behind them, holds of each then
+pub each_more : {A : Type 0} (P : ℕ → A → Type 0) (xs ys : List A) (k : ℕ) (x : A) → ys ≡ xs ++ x ∷ [] → length xs ≡ k
+    → P k x → ((j : ℕ) (y : A) → slice_get xs j ≡ Some y → P j y) → (j : ℕ) (y : A) → slice_get ys j ≡ Some y → P j y
+each_more P xs ys k x pushed long here all j y e =
+    ⊎_elim (λ (h : slice_get xs j ≡ Some y). all j y h) (λ (h : (j ≡ length xs) × (x ≡ y)).
+    rw (h.0 ∙ long, ← h.1) here) (get_push xs j y x (rw pushed at e))
 
 -- the donation of the client of this number, in the configuration's clients
 pub donation_at : (config : Configuration) (clients : List Member) (k : ℕ) (m : Member) → clients ≡ config.clients
@@ -219,60 +204,40 @@ zeros_push n m cs ds is all more = is ∙ ap (λ (xs : List ℕ). xs ++ 0 ∷ []
 
 -- ---- the readers' ends
 
-lens_at : (config : Configuration) (scripts : List (List Line)) (canvases lenses : List End) (t : ℕ)
-    → AreBlank config scripts canvases → AreSplitOff config scripts canvases lenses → t < length config.clients
-    → glass_in (map (λ (e : End). e.sight) lenses) t
-    ≡ watching_sight (stretch (script_in scripts t) (donation_of config t) 0)
-    (new_sight t (script_in scripts t) (donation_of config t))
-lens_at config scripts canvases lenses t b are h =
-    let at = item_there canvases t (let n = b.canvas_each in omega (arith, n, h)) in
-    let here = item_there lenses t (let n = b.canvas_each in let m = are.each in omega (arith, n, m, h)) in
-    get_or_from_slice_get (map (λ (e : End). e.sight) lenses) t here.0.sight no_sight
-    (slice_get-map (λ (e : End). e.sight) lenses t
-    ∙ ap (λ (o : Option End). option_map (λ (e : End). e.sight) o) here.1)
-    ∙ are.sights t at.0 here.0 at.1 here.1
-    ∙ ap (watching_sight (stretch (script_in scripts t) (donation_of config t) 0)) (b.blank t at.0 at.1)
+module _ {config : Configuration} {scripts : List (List Line)} {canvases lenses : List End}
+    (b : AreBlank config scripts canvases) (are : AreSplitOff config scripts canvases lenses) where
+  lens_at : (t : ℕ) → t < length config.clients → glass_in (map (λ (e : End). e.sight) lenses) t
+      ≡ watching_sight (stretch (script_in scripts t) (donation_of config t) 0)
+      (new_sight t (script_in scripts t) (donation_of config t))
+  lens_at t h =
+      let at = item_there canvases t (omega (arith, b.canvas_each, h)) in
+      let here = item_there lenses t (omega (arith, b.canvas_each, are.each, h)) in
+      get_or_from_slice_get (map (λ (e : End). e.sight) lenses) t here.0.sight no_sight
+      (slice_get-map (λ (e : End). e.sight) lenses t
+      ∙ ap (λ (o : Option End). option_map (λ (e : End). e.sight) o) here.1)
+      ∙ are.sights t at.0 here.0 at.1 here.1
+      ∙ ap (watching_sight (stretch (script_in scripts t) (donation_of config t) 0)) (b.blank t at.0 at.1)
 
-lens_each : (config : Configuration) (scripts : List (List Line)) (canvases lenses : List End)
-    → AreBlank config scripts canvases → AreSplitOff config scripts canvases lenses
-    → length lenses ≡ length config.clients
-lens_each config scripts canvases lenses b are = are.each ∙ b.canvas_each
+  pub lens_glasses : AreGlasses (λ (e : End). e.sight) config lenses
+  lens_glasses = record { each = are.each ∙ b.canvas_each; tables = λ t h. rw (lens_at t h) (refl, refl) }
 
-pub lens_glasses : (config : Configuration) (scripts : List (List Line)) (canvases lenses : List End)
-    → AreBlank config scripts canvases → AreSplitOff config scripts canvases lenses
-    → AreGlasses (λ (e : End). e.sight) config lenses
-lens_glasses config scripts canvases lenses b are = record {
-  each = lens_each config scripts canvases lenses b are;
-  tables = λ t h. subst (λ (g : Sight). IsGlass config t g)
-      (sym (lens_at config scripts canvases lenses t b are h)) (refl, refl);
-}
+  pub lens_inks : length scripts ≡ length config.clients → HaveInks config scripts lenses
+  lens_inks sessions t = elim (cases_lt t (length config.clients)) [
+    | inl inside ↦ ap (λ (g : Sight). g.ink) (lens_at t inside)
+        ∙ ink_inside config scripts t _ _ (omega (arith, sessions, inside)) refl refl
+    | inr past ↦ ap (λ (g : Sight). g.ink) (get_or_past (map (λ (e : End). e.sight) lenses) t no_sight
+        (omega (arith, length-map lenses (λ (e : End). e.sight), are.each, b.canvas_each, past)))
+        ∙ ink_behind config scripts t (omega (arith, sessions, past))
+  ]
 
-pub lens_inks : (config : Configuration) (scripts : List (List Line)) (canvases lenses : List End)
-    → length scripts ≡ length config.clients → AreBlank config scripts canvases
-    → AreSplitOff config scripts canvases lenses → HaveInks config scripts lenses
-lens_inks config scripts canvases lenses sessions b are t = elim (cases_lt t (length config.clients)) [
-  | inl inside ↦ ap (λ (g : Sight). g.ink) (lens_at config scripts canvases lenses t b are inside)
-      ∙ ink_inside config scripts t _ _ (omega (arith, sessions, inside)) refl refl
-  | inr past ↦
-      let many = lens_each config scripts canvases lenses b are in
-      let none : glass_in (map (λ (e : End). e.sight) lenses) t ≡ no_sight =
-      get_or_past (map (λ (e : End). e.sight) lenses) t no_sight (let m =
-      length-map lenses (λ (e : End). e.sight) in omega (arith, m, many, past)) in
-      ap (λ (g : Sight). g.ink) none
-      ∙ ink_behind config scripts t (omega (arith, sessions, past))
-]
-
--- the readers' ends know the first stretch
-pub lenses_watch : (config : Configuration) (scripts : List (List Line)) (canvases lenses : List End)
-    → length scripts ≡ length config.clients → AreBlank config scripts canvases
-    → AreSplitOff config scripts canvases lenses → AreWatching scripts config [] 0 lenses
-lenses_watch config scripts canvases lenses sessions b are t inside = record {
-  since = 0;
-  stages_are = ap (λ (g : Sight). g.stages)
-      (lens_at config scripts canvases lenses t b are (omega (arith, sessions, inside)));
-  behind = refl;
-  begun = omega arith;
-}
+  -- the readers' ends know the first stretch
+  pub lenses_watch : length scripts ≡ length config.clients → AreWatching scripts config [] 0 lenses
+  lenses_watch sessions t inside = record {
+    since = 0;
+    stages_are = ap (λ (g : Sight). g.stages) (lens_at t (omega (arith, sessions, inside)));
+    behind = refl;
+    begun = omega arith;
+  }
 
 -- a canvas that was blank and agrees on the first stretch
 pub begun_canvases : (config : Configuration) (scripts : List (List Line)) (before after' : List End)
@@ -300,16 +265,6 @@ new_clip_pass book scripts k =
           clip_script_in scripts k;
       seen = entries_in book.entries;
     }
-
-pub clip_pass_more : (book : BookModel) (scripts : List (List ClipLine)) (k : ℕ) (qs rs : List ClipPassModel)
-    (q : ClipPassModel) → rs ≡ qs ++ q ∷ [] → length qs ≡ k → q ≡ new_clip_pass book scripts k
-    → ((j : ℕ) (x : ClipPassModel) → slice_get qs j ≡ Some x → x ≡ new_clip_pass book scripts j)
-    → (j : ℕ) (x : ClipPassModel) → slice_get rs j ≡ Some x → x ≡ new_clip_pass book scripts j
-clip_pass_more book scripts k qs rs q pushed long is all j x e =
-    ⊎_elim
-    (λ (h : slice_get qs j ≡ Some x). all j x h)
-    (λ (h : (j ≡ length qs) × (q ≡ x)). sym h.1 ∙ is ∙ ap (new_clip_pass book scripts) (sym (h.0 ∙ long)))
-    (get_push qs j x q (ap (λ (xs : List ClipPassModel). slice_get xs j) (sym pushed) ∙ e))
 
 pub room_with_clips : NoClips → (r : RoomModel) (scripts : List (List ClipLine)) → IsRoom r
     → IsRoom (with_clip_scripts r scripts)

@@ -3,12 +3,12 @@ use Rattle.nit_hall.proofs.Basics.{AreWatching, Belongs, Call, Configuration, En
 use Rattle.nit_hall.proofs.Basics.{Follows, HasMet, HaveInks, IsAdded, IsAtCall, IsLoaded, IsOpen}
 use Rattle.nit_hall.proofs.Basics.{IsPaintedTo, IsPass, IsRoom, Line, List, OpeningParts, Painted}
 use Rattle.nit_hall.proofs.Basics.{PassModel, PlanModel, Recorded, Reply, RoomModel, SceneModel}
-use Rattle.nit_hall.proofs.Basics.{ShareModel, Sight, Some, [], ap, ap₂, arith, calls_in, calls_of}
+use Rattle.nit_hall.proofs.Basics.{ShareModel, Sight, Some, [], ap, arith, calls_in, calls_of}
 use Rattle.nit_hall.proofs.Basics.{calls_own, cases_eq, donation_of, entries_in, eq-eqb}
 use Rattle.nit_hall.proofs.Basics.{get_or_from_slice_get, glass_in, glasses_of_call, inl, inr}
-use Rattle.nit_hall.proofs.Basics.{is_phase, is_served, knowing, length, map, ne_eqb, next_call}
-use Rattle.nit_hall.proofs.Basics.{option_map, phases_before, raised, script_in, script_ink, seen}
-use Rattle.nit_hall.proofs.Basics.{served, slice_get_within, slice_index, state_now, stretch}
+use Rattle.nit_hall.proofs.Basics.{is_phase, is_served, length, map, ne_eqb, next_call, option_map}
+use Rattle.nit_hall.proofs.Basics.{phases_before, raised, script_in, script_ink, seen, served}
+use Rattle.nit_hall.proofs.Basics.{slice_get_within, slice_index, state_now, stretch}
 use Rattle.nit_hall.proofs.Basics.{with_end_stages, with_stages, with_words, without_final}
 use Rattle.nit_hall.proofs.Basics.{words_after}
 use Rattle.std.proofs.Common.{refl, slice_get, subst, sym, take, true, ℕ, ◌++◌, ◌+◌, ◌∙◌, ◌∷◌, ◌≡◌}
@@ -51,10 +51,11 @@ pub calls_made : (r : RoomModel) (sid next : ℕ) (script : List Line) → IsRoo
     → slice_get r.parts.scripts sid ≡ Some script → slice_index r.counts sid ≡ length (served (take next script))
     → calls_of sid (without_final r.scene.entries) ≡ calls_in (take next script)
 calls_made r sid next script room at counted =
-    room.follows.calls sid (slice_get_within r.parts.scripts sid script at)
-    ∙ ap₂ (λ (n : ℕ) (ls : List Line). calls_in (take n (served ls))) counted
-    (get_or_from_slice_get r.parts.scripts sid script [] at)
-    ∙ calls_front script next
+    rw (
+      room.follows.calls sid (slice_get_within r.parts.scripts sid script at),
+      counted,
+      get_or_from_slice_get r.parts.scripts sid script [] at,
+    ) (calls_front script next)
 
 -- and with the next call they are those with its line
 pub calls_then : {r : RoomModel} {sid next : ℕ} {script : List Line} {c : Call} (rep : Reply) → IsRoom r
@@ -291,16 +292,11 @@ pub record Found (r : RoomModel) (p : PassModel) (l : Line) : Type 0 where
 pub found : {r₀ r r' : RoomModel} {p₀ p p' : PassModel} (call : Call) → r ≡ r' → p ≡ p' → HasMet r₀ p₀ r' p'
     → call ≡ next_call p → Belongs r₀.parts p₀ → IsAtCall p₀ → p₀.phase ≡ r₀.phase → Found r p (line.Call call)
 found {r₀ = r₀} {r = r} {p₀ = p₀} {p = p} call er ep met ec of at ready =
-    let known = knowing (without_final r₀.scene.entries) p₀ in
-    let here : Found r₀ known (line.Call (next_call known)) =
-    record {
+    rw (ec, er ∙ met.room, ep ∙ met.pass) (record {
       next_is = next_at r₀.counts (line.Call (next_call p₀)) of at refl met.counted;
       donation_is = of.donation;
       ready = ready;
-    } in
-    subst (λ (c : Call). Found r p (line.Call c)) (sym ec)
-    (subst (λ (q : PassModel). Found r q (line.Call (next_call q))) (sym (ep ∙ met.pass))
-    (subst (λ (x : RoomModel). Found x known (line.Call (next_call known))) (sym (er ∙ met.room)) here))
+    })
 
 -- a pass that has met the room knows its calls so far
 pub pass_met : {r r₀ : RoomModel} {p : PassModel} {share share' : ShareModel} {spare : End} (known : List Recorded)

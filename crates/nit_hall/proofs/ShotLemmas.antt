@@ -1,8 +1,7 @@
 -- What a shot tells the user of the entries, and of the raw words behind them.
-use Rattle.nit_hall.proofs.Basics.{AreNear, Configuration, Entry, HasActed, List, OpeningParts}
-use Rattle.nit_hall.proofs.Basics.{RoomModel, TellsShot, UserPassModel, [], ap, arith, frame}
-use Rattle.nit_hall.proofs.Basics.{length, length-append, replay, scenery_of, state_now, subst, sym}
-use Rattle.nit_hall.proofs.Basics.{with_entry, ℕ, ◌∙◌}
+use Rattle.nit_hall.proofs.Basics.{AreNear, Entry, HasActed, List, OpeningParts, RoomModel}
+use Rattle.nit_hall.proofs.Basics.{TellsShot, UserPassModel, [], ap, arith, frame, length}
+use Rattle.nit_hall.proofs.Basics.{length-append, scenery_of, state_now, sym, with_entry, ℕ, ◌∙◌}
 use Rattle.std.proofs.Common.{◌++◌, ◌∷◌, ◌≡◌}
 use Rattle.nit_events.specs.declared.entry.Entry.TheVariants as entry
 
@@ -24,31 +23,12 @@ shot_told {r = r} {r' = r'} {u = u} {u' = u'} {parts = parts} number words of co
           ∙ ap (λ (js : List Entry). js ++ e ∷ []) (sym front);
       near = (
         r.scene.raw,
-        subst (λ (q : OpeningParts). AreNear q.config q.scripts q.input (u.seen ++ between) r.scene.raw) of
-            (subst (λ (js : List Entry). AreNear r.parts.config r.parts.scripts r.parts.input js r.scene.raw)
-            (sym front) near),
-        shown
-            ∙ ap (λ (k : Configuration). frame (scenery_of (replay k r.scene.entries)) r.scene.raw)
-            (config ∙ ap (λ (q : OpeningParts). q.config) of)
-            ∙ ap (λ (js : List Entry). frame (scenery_of (replay parts.config js)) r.scene.raw) (sym front),
+        rw (← of, front) near,
+        rw (← of, ← config, front) shown,
       );
       between_raws = more;
       raws_told = ap (λ (x : UserPassModel). x.raws) acted.user ∙ grown
           ∙ ap (λ (rs : List (List ℕ)). rs ++ r.scene.raw ∷ []) (sym front_raws);
-      each =
-          let all = acted.history.each in
-          let long = ap length recorded in
-          let many = ap length grown in
-          let a = ap length front in
-          let b = ap length front_raws in
-          omega (
-            arith,
-            all,
-            long,
-            many,
-            a,
-            b,
-            length-append r.scene.entries (e ∷ []),
-            length-append r.raws (r.scene.raw ∷ []),
-          );
+      each = let long = simp length-append at (ap length recorded) in let many = simp length-append at (ap length grown) in
+          omega (arith, acted.history.each, long, many, ap length front, ap length front_raws);
     }

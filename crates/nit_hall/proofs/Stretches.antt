@@ -51,22 +51,19 @@ ends_behind script k s at =
 pub stretch_same : (script : List Line) (k n : ℕ) → k ≤ n → n ≤ stretch_end script k
     → (calls_in (take n script) ≡ calls_in (take k script)) × (phases_before script n ≡ phases_before script k)
 stretch_same script k n from to =
-    let at : k + (n - k) ≡ n = omega (arith, from) in
-    subst (λ (m : ℕ). (calls_in (take m script) ≡ calls_in (take k script))
-    × (phases_before script m ≡ phases_before script k)) at (go (n - k) (omega (arith, from, to)))
+    let here : k + (n - k) ≡ n = omega (arith, from) in
+    rw here at (go (n - k) (omega (arith, from, to)))
   where
     go : (j : ℕ) → k + j ≤ stretch_end script k → (calls_in (take (k + j) script) ≡ calls_in (take k script))
         × (phases_before script (k + j) ≡ phases_before script k)
-    go zero to = let e : k + 0 ≡ k = omega arith in
-        (ap (λ (m : ℕ). calls_in (take m script)) e, ap (phases_before script) e)
+    go zero to = let e : k + 0 ≡ k = omega arith in rw e (refl, refl)
     go (suc j) to =
         let e : k + suc j ≡ (k + j) + 1 = omega arith in
         let s = stroke_there script k (k + j) (omega arith) (omega (arith, to)) in
-        let before = go j (omega (arith, to)) in (
-          ap (λ (m : ℕ). calls_in (take m script)) e
-              ∙ no_more_calls script (k + j) (line.Stroke s.0) s.1 refl ∙ before.0,
-          ap (phases_before script) e ∙ counted_same is_phase script (k + j) (line.Stroke s.0) s.1 refl
-              ∙ before.1,
+        let before = go j (omega (arith, to)) in
+        rw e (
+          no_more_calls script (k + j) (line.Stroke s.0) s.1 refl ∙ before.0,
+          counted_same is_phase script (k + j) (line.Stroke s.0) s.1 refl ∙ before.1,
         )
 
 -- ---- the stages of a pass

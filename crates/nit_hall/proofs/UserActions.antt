@@ -2,11 +2,11 @@
 use Rattle.nit_hall.proofs.Basics.{AreNear, Device, End, Entry, EntryLaws, Follows, HaveInks}
 use Rattle.nit_hall.proofs.Basics.{InputLine, IsAdded, IsOpen, IsRoom, IsUserPass, Line, List}
 use Rattle.nit_hall.proofs.Basics.{Painted, Recorded, RoomModel, Routed, SceneModel, ShareModel}
-use Rattle.nit_hall.proofs.Basics.{Sight, Some, UserAction, UserBelongs, UserHasMet, UserPassModel}
-use Rattle.nit_hall.proofs.Basics.{[], actions_of-append, ap, ap₂, arith, entries_in, glass_in, inl}
+use Rattle.nit_hall.proofs.Basics.{Sight, Some, UserBelongs, UserHasMet, UserPassModel, []}
+use Rattle.nit_hall.proofs.Basics.{actions_of-append, ap, arith, entries_in, glass_in, inl}
 use Rattle.nit_hall.proofs.Basics.{input_phases_before, is_input_phase, length, raised, raws_in}
 use Rattle.nit_hall.proofs.Basics.{refl, slice_get_within, slice_index, slice_index_or, state_now}
-use Rattle.nit_hall.proofs.Basics.{user_actions_of, without_final}
+use Rattle.nit_hall.proofs.Basics.{without_final}
 use Rattle.nit_hall.proofs.FinalEntries.{open_whole}
 use Rattle.std.proofs.Common.{slice_get, subst, sym, ℕ, ◌++◌, ◌+◌, ◌-◌, ◌∙◌, ◌∷◌, ◌≡◌}
 use Rattle.nit_events.specs.declared.entry.Entry.TheVariants as entry
@@ -116,9 +116,12 @@ user_action {r = r} {l = l} {e = e} {u = u} name known raws room is same at adds
       counted = es ∙ ap (λ (n : ℕ). n + 1) is.counted;
       within = let w = slice_get_within u.input u.next l at in omega (arith, w);
       phase = is.phase ∙ sym (counted_same is_input_phase u.input u.next l at adds.no_phase);
-      known = ap user_actions_of ek ∙ actions_of-append (without_final r.scene.entries) (e ∷ [])
-          ∙ ap₂ (λ (xs ys : List UserAction). xs ++ ys) (actions_known u.input room same counted) adds.action_is
-          ∙ sym (actions_line u.input u.next l at);
+      known = rw (
+        ek,
+        actions_of-append (without_final r.scene.entries) (e ∷ []),
+        actions_known u.input room same counted,
+        adds.action_is,
+      ) (sym (actions_line u.input u.next l at));
     }
 
 -- ---- what an action finds
@@ -135,20 +138,13 @@ pub found_user : {r₀ r r' : RoomModel} {u₀ u u' : UserPassModel} (l : InputL
     → UserHasMet r₀ u₀ r' u' → UserBelongs r₀.parts u₀ → slice_get u₀.input u₀.next ≡ Some l → u₀.phase ≡ r₀.phase
     → FoundUser r u l
 found_user {r₀ = r₀} {r = r} {u₀ = u₀} l er eu met of at ready =
-    let known : UserPassModel = record u₀ { seen = without_final r₀.scene.entries; raws = r₀.raws } in
-    let here : FoundUser r₀ known l =
-    record {
-      next_is = record {
-        line_is = ap (λ (ls : List InputLine). slice_get ls u₀.next) (sym of.input) ∙ at;
-        counted = met.counted;
-      };
+    rw (er ∙ met.room, eu ∙ met.user) (record {
+      next_is = record { line_is = rw (← of.input) at; counted = met.counted };
       own_line = at;
       input_is = of.input;
       number_is = of.number;
       ready = ready;
-    } in
-    subst (λ (q : UserPassModel). FoundUser r q l) (sym (eu ∙ met.user))
-    (subst (λ (x : RoomModel). FoundUser x known l) (sym (er ∙ met.room)) here)
+    })
 
 -- the user's pass that has met the room knows the user's entries so far
 pub user_met : {r : RoomModel} {u : UserPassModel} {share share' : ShareModel} (known : List Recorded)
@@ -162,9 +158,8 @@ pub user_met : {r : RoomModel} {u : UserPassModel} {share share' : ShareModel} (
     }) share'
 user_met {u = u} known room same counted is e all = record {
   number = refl;
-  counted = ap (λ (s : ShareModel). s.count) e ∙ is.counted;
+  counted = rw e is.counted;
   within = is.within;
   phase = is.phase;
-  known = ap (λ (s : ShareModel). user_actions_of (entries_in s.seen)) e ∙ ap user_actions_of all
-      ∙ actions_known u.input room same counted;
+  known = rw (e, all) (actions_known u.input room same counted);
 }

@@ -1,8 +1,7 @@
 use Rattle.std.proofs.Common.{List, [], ap, arith, length, length-append, replicate, ℕ, ◌++◌, ◌+◌}
 use Rattle.std.proofs.Common.{◌∙◌, ◌∷◌, ◌≡◌}
-use Rattle.nit_hall.proofs.Lemmas.{BookModel, ShareModel, clip_pass_more, clip_script_in}
-use Rattle.nit_hall.proofs.Lemmas.{entries_in, get_or_default, length-replicate, new_clip_pass}
-use Rattle.nit_hall.proofs.Lemmas.{zeros_behind}
+use Rattle.nit_hall.proofs.Lemmas.{BookModel, ShareModel, clip_script_in, each_more, entries_in}
+use Rattle.nit_hall.proofs.Lemmas.{get_or_default, length-replicate, new_clip_pass, zeros_behind}
 use Rattle.nit_hall.proofs.room.clip_opening.clip_passes.Goals as goal
 
 pub scripts-preserved : goal.scripts-preserved
@@ -33,6 +32,6 @@ scripts-preserved c =
           ∙ ap (λ (cs : List ℕ). record c.args.book.now { counts = cs }) (zeros_behind counts k);
       passes_are = let n = ap length pushed in let m =
           i.passes_are in omega (arith, n, m, length-append c.scripts.passes.items (c.new.result ∷ []));
-      each = clip_pass_more c.args.book.now c.args.scripts.now k c.scripts.passes.items _ c.new.result pushed
-          i.passes_are is i.each;
+      each = each_more (λ j q. q ≡ new_clip_pass c.args.book.now c.args.scripts.now j) c.scripts.passes.items _ k
+          c.new.result pushed i.passes_are is i.each;
     }
