@@ -66,7 +66,7 @@ pub record IsLine (text before now : List ℕ) (answer : ℕ) : Type 0 where
   pub put : length text ≤ length before → now ≡ text ++ drop (length text) before
   pub idle : length before < length text → now ≡ before
 
--- the same, unless memory ran out
+-- the text is put so, unless memory ran out, which puts nothing
 abbrev pub IsLineOrNone : List ℕ → List ℕ → List ℕ → ℕ → Type 0
 IsLineOrNone text before now answer =
     ((now ≡ before) × (answer ≡ no_room)) ⊎ IsLine text before now answer

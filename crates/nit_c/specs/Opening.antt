@@ -48,7 +48,7 @@ plan_number refused.Seats = 44
 plan_number refused.Donation = 44
 plan_number refused.Layer = 44
 
--- the same, where there is one
+-- the number of the refusal, where a plan is refused
 abbrev pub bad_plan : Option PlanError → Option ℕ
 bad_plan None = None
 bad_plan (Some why) = Some (plan_number why)

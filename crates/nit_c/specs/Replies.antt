@@ -68,7 +68,7 @@ IsRedrawn old new seat x y w h words answer =
     IsAnswered (unserved_refresh old seat words) (reply_to old seat (call.Refresh x y w h))
     (refreshed seat x y w h words old) old new answer
 
--- the same by a handle
+-- what a refresh of a part does by a handle
 abbrev pub IsRefreshed : NitServer → NitServer → ℕ → ℤ → ℤ → ℕ → ℕ → List ℕ → NitReply
     → Type 0
 IsRefreshed old new seat x y w h words answer =

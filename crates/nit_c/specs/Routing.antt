@@ -65,6 +65,6 @@ IsTold (Some dev) old new answer =
     Unless (unserved_input old dev) ((new ≡ told dev old) × (answer ≡ c_routed (routed_of old dev)))
     (λ why. (new ≡ old) × (answer ≡ only_routed (unserved_number why)))
 
--- the same by a handle
+-- what a call of the user's input does by a handle
 abbrev pub IsInput : NitServer → NitServer → Option Device → NitRouted → Type 0
 IsInput old new dev answer = Steps old new (answer ≡ only_routed 0) (λ h g. IsTold dev h g answer)

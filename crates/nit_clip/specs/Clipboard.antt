@@ -16,7 +16,7 @@ abbrev pub clipboard_after : Option (List ℕ) → ClipCall → ClipReply → Op
 clipboard_after clipboard (call.Copy t) reply.Copied = Some t
 clipboard_after clipboard other r = clipboard
 
--- the same after an entry
+-- what the clipboard holds after an entry of the clip list
 abbrev pub clipboard_after_entry : Option (List ℕ) → ClipEntry → Option (List ℕ)
 clipboard_after_entry clipboard e = clipboard_after clipboard e.call e.reply
 

@@ -56,7 +56,7 @@ fn take_line(bytes: &[u8]) -> Option<(ClipLine, &[u8])>
     Some((line, take_byte(rest, b'\n')?))
 }
 
-/// The same up to the line feed.
+/// The line of a clip script in front, without its line feed, and what follows it.
 #[tactic(auto, unfolding(crate::specs::ClipReaders::clip_front_at))]
 fn take_front(bytes: &[u8]) -> Option<(ClipLine, &[u8])>
     ensures { Gives (λ x. (x.0, x.1.now)) result (clip_front_at bytes.now) }

@@ -28,7 +28,7 @@ pub record Routing : Type 0 where
   pub state : InputState
   pub deliveries : List Delivery
 
--- the same session, or none both times
+-- whether two answers name one session, or both name none
 abbrev pub is_same : Option ℕ → Option ℕ → Bool
 is_same None None = true
 is_same (Some s) (Some t) = s == t

@@ -6,11 +6,10 @@ pub use Rattle.nit_paint.specs.Terms.{Point, Reach, Rectangle, Repainted, Sight,
 pub use Rattle.nit_paint.specs.Terms.{ViewRef, Word, among, black_or_word, buffer_place, covers}
 pub use Rattle.nit_paint.specs.Terms.{enumerate_from, has_pixel, in_rows, in_run, index_at}
 pub use Rattle.nit_paint.specs.Terms.{index_from, is_slot, is_word_of, loads_at, loads_of, long}
-pub use Rattle.nit_paint.specs.Terms.{no_sight, option_map, option_map_or, own_word, owner_in}
-pub use Rattle.nit_paint.specs.Terms.{pixel, point, reached, rectangle, row_at, row_source, seen}
-pub use Rattle.nit_paint.specs.Terms.{session_of, session_shown, shown_index, size_of, slice_index}
-pub use Rattle.nit_paint.specs.Terms.{slot_view_in, source_of_number, times_shown, view_ref}
-pub use Rattle.nit_paint.specs.Terms.{with_glass, ℤ}
+pub use Rattle.nit_paint.specs.Terms.{no_sight, option_map, own_word, owner_in, pixel, point}
+pub use Rattle.nit_paint.specs.Terms.{reached, rectangle, row_at, row_source, seen, session_shown}
+pub use Rattle.nit_paint.specs.Terms.{shown_index, size_of, slice_index, slot_view_in}
+pub use Rattle.nit_paint.specs.Terms.{source_of_number, times_shown, view_ref, with_glass, ℤ}
 pub use Rattle.nit_stack.proofs.ForCallers.{All_found, source_bare, source_is}
 pub use Rattle.nit_word.proofs.ForCallers.{at_place, loaded_after, more_taken, seen_none}
 pub use Rattle.nit_word.proofs.ForCallers.{seen_twice}
@@ -18,6 +17,7 @@ pub use Rattle.std.proofs.Common.{ap, arith, refl}
 pub use Rattle.std.proofs.Math.Nat.{mul-le-mul_left, mul-le-mul_right}
 pub use Rattle.std.proofs.lemmas.Bool.{cases_lt, eq-eqb, eqb-true, false≢true, or_parts}
 pub use Rattle.std.proofs.lemmas.Bool.Decides.{nat_tests}
+pub use Rattle.std.proofs.lemmas.Grind.{get_or-set_at}
 pub use Rattle.std.proofs.lemmas.Int.{ints, to_z-of_z}
 pub use Rattle.std.proofs.lemmas.List.{get_or_default, places, set-get_or, take_all}
 pub use Rattle.std.proofs.lemmas.List.Elements.{Contains-append_left, Contains-append_right}

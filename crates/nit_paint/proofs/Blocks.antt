@@ -1,7 +1,6 @@
 -- Rows of a block of the screen, and the pixels of each.
-use Rattle.std.proofs.Common.{Bool, List, None, Option, Some, ap, arith, cond, false, length}
-use Rattle.std.proofs.Common.{nat_le, nat_lt, refl, subst, suc, sym, true, zero, ℕ, ◌%◌, ◌&&◌, ◌*◌}
-use Rattle.std.proofs.Common.{◌+◌, ◌/◌, ◌<◌, ◌==◌, ◌||◌, ◌∙◌, ◌≡◌, ◌≤◌}
+use Rattle.std.proofs.Common.{List, Option, ap, arith, false, nat_le, nat_lt, subst, suc, sym, ℕ}
+use Rattle.std.proofs.Common.{◌%◌, ◌&&◌, ◌*◌, ◌+◌, ◌/◌, ◌<◌, ◌==◌, ◌||◌, ◌∙◌, ◌≡◌, ◌≤◌}
 use Rattle.nit_paint.proofs.Basics.{Block, PixelSource, Reach, Repainted, Sight, black_or_word}
 use Rattle.nit_paint.proofs.Basics.{in_rows, in_run, index_at, index_from, long, mul-le-mul_right}
 use Rattle.nit_paint.proofs.Basics.{nat_tests, option_map, reached, row_at, row_source}
@@ -21,9 +20,6 @@ run_in_row w y x n q r inside fits = dite (ℕ_discrete q y)
     (λ l. let m : suc y * w ≤ q * w = mul-le-mul_right w (omega arith) in let p : suc y * w ≡ y * w + w =
     omega (arith, Rattle.std.proofs.Common.suc-mul y w) in grind (arith, nat_tests)))
 
-no_rows : (b : Block) (k : ℕ) → in_rows b 0 k ≡ false
-no_rows b k = grind (arith, nat_tests)
-
 module _ (b : Block) (fits : b.left + b.wide ≤ b.width) (some : 0 < b.width) (j k : ℕ) where
   this_row : in_run (row_at b j) b.wide k
       ≡ ((nat_le b.left (k % b.width) && nat_lt (k % b.width) (b.left + b.wide)) && ((k / b.width) == (b.top + j)))
@@ -33,14 +29,14 @@ module _ (b : Block) (fits : b.left + b.wide ≤ b.width) (some : 0 < b.width) (
       ∙ run_in_row b.width (b.top + j) b.left b.wide (k / b.width) (k % b.width) (omega arith) fits
 
   row_next : (in_rows b j k || in_run (row_at b j) b.wide k) ≡ in_rows b (j + 1) k
-  row_next = ap (λ t. in_rows b j k || t) this_row ∙ grind (arith, nat_tests)
+  row_next = rw this_row (grind (arith, nat_tests))
 
   row_apart : (in_rows b j k && in_run (row_at b j) b.wide k) ≡ false
-  row_apart = ap (λ t. in_rows b j k && t) this_row ∙ grind (arith, nat_tests)
+  row_apart = rw this_row (grind (arith, nat_tests))
 
 pub rows_none : (source : ℕ → PixelSource) (b : Block) (n : ℕ) (glasses : ℕ → Sight) (raw : List ℕ)
     → Repainted source (in_rows b 0) n glasses glasses raw raw
-rows_none source b n glasses raw = repainted_none source (in_rows b 0) n glasses raw (λ k l. no_rows b k)
+rows_none source b n glasses raw = repainted_none source (in_rows b 0) n glasses raw (λ k l. grind (arith, nat_tests))
 
 pub rows_more : (source : ℕ → PixelSource) (b : Block) (j at wide n m : ℕ) (before mid after : ℕ → Sight)
     (raw first last : List ℕ) → b.left + b.wide ≤ b.width → 0 < b.width
@@ -52,23 +48,16 @@ rows_more source b j at wide n m before mid after raw first last fits some is al
     last (row_apart b fits some j) (row_next b fits some j) r row
   where
     row : Repainted source (in_run (row_at b j) b.wide) n mid after first last
-    row =
-        subst (λ (z : ℕ). Repainted source (in_run z b.wide) n mid after first last) is
-        (subst (λ (z : ℕ). Repainted source (in_run at z) n mid after first last) all
-        (other_count source (in_run at wide) m n mid after first last count s))
+    row = rw (is, all) at (other_count source (in_run at wide) m n mid after first last count s)
 
 pub rows_end : (source : ℕ → PixelSource) (b : Block) (j rows n : ℕ) (before after : ℕ → Sight) (raw raw' : List ℕ)
     → j ≡ rows
     → Repainted source (in_rows b j) n before after raw raw' → Repainted source (in_rows b rows) n before after raw raw'
-rows_end source b j rows n before after raw raw' e r =
-    subst (λ (z : ℕ). Repainted source (in_rows b z) n before after raw raw') e r
+rows_end source b j rows n before after raw raw' e r = rw e at r
 
 -- the index of a word by its column, and by its row's first word
 by_start : (w : ℕ) (column row : Option ℕ) → index_at w column row ≡ index_from (option_map (λ y. y * w) row) column
-by_start w (Some x) (Some y) = refl
-by_start w (Some x) None = refl
-by_start w None (Some y) = refl
-by_start w None None = refl
+by_start w column row = grind arith
 
 -- what a row's pixels show, by the row's first word
 pub row_told : (source : ℕ → PixelSource) (at sid w n : ℕ) (r : Reach) (row start : Option ℕ)
@@ -76,5 +65,4 @@ pub row_told : (source : ℕ → PixelSource) (at sid w n : ℕ) (r : Reach) (ro
     → ((i : ℕ) → i < n → source (at + i) ≡ black_or_word sid (index_at w (reached r i) row)) → (i : ℕ) → i < long r
     → source (at + i) ≡ row_source sid r start i
 row_told source at sid w n r row start is all told i l =
-    told i (omega arith) ∙ ap (black_or_word sid) (by_start w (reached r i) row)
-    ∙ ap (λ o. black_or_word sid (index_from o (reached r i))) (sym is)
+    told i (omega arith) ∙ rw (is, by_start w (reached r i) row)

@@ -15,8 +15,7 @@ two_views = record {
       handle = 2;
       rect = rectangle (pos 6) (pos 0) 2 1;
       ox = pos 0;
-      oy =
-          pos 0;
+      oy = pos 0;
       title = [];
     };
   }
@@ -27,8 +26,7 @@ two_views = record {
           handle = 1;
           rect = rectangle (pos 1) (pos 1) 4 2;
           ox = pos 1;
-          oy =
-              pos 0;
+          oy = pos 0;
           title = [];
         };
       } ∷ [];

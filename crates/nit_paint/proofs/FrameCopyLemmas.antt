@@ -1,6 +1,6 @@
 -- Words of a frame that are set, one set of pixels after the other.
-use Rattle.std.proofs.Common.{Bool, List, ap, cond, false, refl, sym, true, ℕ, ◌<◌, ◌||◌, ◌∙◌, ◌≡◌}
-use Rattle.nit_paint.proofs.Basics.{AreSet, slice_index}
+use Rattle.nit_paint.proofs.Basics.{AreSet, arith, slice_index}
+use Rattle.std.proofs.Common.{Bool, List, ap, cond, false, refl, sym, ℕ, ◌<◌, ◌||◌, ◌∙◌, ◌≡◌}
 
 -- none is chosen
 pub nothing_set : (chosen : ℕ → Bool) (n : ℕ) (word : ℕ → ℕ) (frame : List ℕ) → ((k : ℕ) → k < n → chosen k ≡ false)
@@ -21,14 +21,6 @@ pub set_then : (first last chosen : ℕ → Bool) (n : ℕ) (word word' : ℕ �
     → ((k : ℕ) → (first k || last k) ≡ chosen k) → ((k : ℕ) → last k ≡ false → word' k ≡ word k)
     → AreSet first n word old mid → AreSet last n word' mid new → AreSet chosen n word' old new
 set_then first last chosen n word word' old mid new both still one two = record {
-  words = λ k l. two.words k l ∙ ap (λ (w : ℕ). cond (last k) (word' k) w) (one.words k l)
-      ∙ go k (first k) (last k) (still k) ∙ ap (λ (b : Bool). cond b (word' k) (slice_index old k)) (both k);
+  words = λ k l. grind (arith, two.words k l, one.words k l, still k, both k);
   count = two.count ∙ one.count;
 }
-  where
-    go : (k : ℕ) (a b : Bool) → (b ≡ false → word' k ≡ word k) → cond b (word' k) (cond a (word k) (slice_index old k))
-        ≡ cond (a || b) (word' k) (slice_index old k)
-    go k true true same = refl
-    go k true false same = sym (same refl)
-    go k false true same = refl
-    go k false false same = refl

@@ -7,7 +7,7 @@ pub use Rattle.nit_paint.proofs.Blocks.{row_told, rows_end, rows_more, rows_none
 pub use Rattle.nit_paint.proofs.Glasses.{own_seen_by}
 pub use Rattle.nit_paint.proofs.OneMore.{loaded_by, skipped}
 pub use Rattle.nit_paint.proofs.PieceOwners.{bare_told, piece_of_owner, rows_fit, seat_stands}
-pub use Rattle.nit_paint.proofs.PieceOwners.{view_told, whole_piece, width_is}
+pub use Rattle.nit_paint.proofs.PieceOwners.{view_told, whole_piece}
 pub use Rattle.nit_paint.proofs.Pixels.{black_after, black_before, filled, put_run, row_loaded}
 pub use Rattle.nit_paint.proofs.Pixels.{three_runs, words_within}
 pub use Rattle.nit_paint.proofs.RepaintLemmas.{other_count, repainted_both, repainted_none}

@@ -4,17 +4,11 @@ use Rattle.nit_paint.proofs.Basics.{IsScreenSize, IsSlotView, IsStack, IsTrue, P
 use Rattle.nit_paint.proofs.Basics.{Point, Reach, Rectangle, Repainted, Sight, StackModel, View}
 use Rattle.nit_paint.proofs.Basics.{ViewRef, among, black_or_word, buffer_place, covers, has_pixel}
 use Rattle.nit_paint.proofs.Basics.{in_rows, index_at, ints, is_slot, mul-le-mul_left, nat_tests}
-use Rattle.nit_paint.proofs.Basics.{option_map, option_map_or, owner_in, pixel, point, reached}
-use Rattle.nit_paint.proofs.Basics.{rectangle, row_at, rows, session_of, session_shown, shown_index}
-use Rattle.nit_paint.proofs.Basics.{size_of, slot_view_in, source_bare, source_is, source_of_number}
-use Rattle.nit_paint.proofs.Basics.{view_ref, ℤ}
-use Rattle.std.proofs.Common.{List, None, Some, ap, arith, length, pos, refl, subst, sym, ℕ, ◌%◌}
-use Rattle.std.proofs.Common.{◌*◌, ◌+◌, ◌/◌, ◌<◌, ◌∙◌, ◌≡◌, ◌≤◌, ◌+ℤ◌, ◌-ℤ◌}
-use Rattle.nit_paint.proofs.RepaintLemmas.{repainted_same}
-
--- a width that is the screen's
-pub width_is : (w : ℕ) (size : ℕ × ℕ) (width height : ℕ) → w ≡ size.0 → size ≡ (width, height) → w ≡ width
-width_is w size width height e f = e ∙ ap (λ z. z.0) f
+use Rattle.nit_paint.proofs.Basics.{option_map, owner_in, pixel, point, reached, rectangle, row_at}
+use Rattle.nit_paint.proofs.Basics.{rows, session_shown, shown_index, size_of, slot_view_in}
+use Rattle.nit_paint.proofs.Basics.{source_bare, source_is, source_of_number, view_ref, ℤ}
+use Rattle.std.proofs.Common.{List, None, Some, ap, arith, length, pos, subst, sym, ℕ, ◌%◌, ◌*◌}
+use Rattle.std.proofs.Common.{◌+◌, ◌/◌, ◌<◌, ◌∙◌, ◌≡◌, ◌≤◌, ◌+ℤ◌, ◌-ℤ◌}
 
 -- the column and the row of a pixel of a block
 pub row_of : (width y x : ℕ) → x < width → (y * width + x) / width ≡ y
@@ -29,52 +23,48 @@ at_point b j i fits l =
     let k : row_at b j + i ≡ (b.top + j) * b.width + (b.left + i) = omega arith in
     let x = column_of b.width (b.top + j) (b.left + i) (omega arith) in
     let y = row_of b.width (b.top + j) (b.left + i) (omega arith) in
-    ap (pixel b.width) k ∙ (λ z. point (x z) (y z))
+    rw (k, x, y)
 
 covers_it : (b : Block) (j i : ℕ) → j < b.tall → i < b.wide
     → IsTrue (covers (rectangle (pos b.left) (pos b.top) b.wide b.tall) (point (b.left + i) (b.top + j)))
 covers_it b j i l m = grind (arith, nat_tests)
 
 -- the view of a slot stands as every view does
-pub seat_stands : (s : StackModel) (v : ViewRef) (view : View) → IsStack s
-    → slot_view_in v.0 s.views ≡ Some (record { slot = v.0; view = view })
-    → IsSlotView s.most (length s.sizes) (record { slot = v.0; view = view })
-seat_stands s v view standing at =
-    All_found (IsSlotView s.most (length s.sizes)) (is_slot v.0) s.views (record { slot = v.0; view = view })
-    standing.seats at
+pub seat_stands : {s : StackModel} {k : ℕ} {view : View} → IsStack s
+    → slot_view_in k s.views ≡ Some (record { slot = k; view = view })
+    → IsSlotView s.most (length s.sizes) (record { slot = k; view = view })
+seat_stands {s} {k} standing at =
+    All_found (IsSlotView s.most (length s.sizes)) (is_slot k) s.views _ standing.seats at
 
 -- the session of the owner
 pub session_is : (s : StackModel) (piece : Piece) (v : ViewRef) (view : View) → piece.owner ≡ Some v
     → slot_view_in v.0 s.views ≡ Some (record { slot = v.0; view = view }) → session_shown s piece ≡ view.sid
-session_is s piece v view own at =
-    ap (λ o. option_map_or (λ w. session_of s.views w.0) o 0) own
-    ∙ ap (λ o. option_map_or (λ seat. seat.view.sid) o 0) at
+session_is s piece v view own at = rw (own, at)
 
-module _ (s : StackModel) (piece : Piece) (b : Block)
+module _ {s : StackModel} {piece : Piece} (b : Block) (sound : IsPiece s piece)
     (is : piece.rect ≡ rectangle (pos b.left) (pos b.top) b.wide b.tall) (across : b.width ≡ s.width)
-    (fits : b.left + b.wide ≤ b.width) (sound : IsPiece s piece) where
+    (fits : b.left + b.wide ≤ b.width) where
   pub rows_fit : b.width * (b.top + b.tall) ≤ s.width * s.height
   rows_fit =
       let y : piece.rect.y ≡ pos b.top = ap (λ r. r.y) is in
       let h : piece.rect.h ≡ b.tall = ap (λ r. r.h) is in
       let down : b.top + b.tall ≤ s.height = let bottom = sound.bottom in omega (arith, ints) in
-      subst (λ (w : ℕ). b.width * (b.top + b.tall) ≤ w * s.height) across (mul-le-mul_left b.width down)
+      rw (← across) (mul-le-mul_left b.width down)
 
   owned_there : (j i : ℕ) → j < b.tall → i < b.wide
       → option_map view_ref (owner_in (λ seat. seat.view) s.bar s.views (pixel s.width (row_at b j + i))) ≡ piece.owner
   owned_there j i l m =
       let there : pixel s.width (row_at b j + i) ≡ point (b.left + i) (b.top + j) =
-      ap (λ w. pixel w (row_at b j + i)) (sym across) ∙ at_point b j i fits m in
-      sound.owned (pixel s.width (row_at b j + i))
-      (subst (λ (p : Point). IsTrue (covers piece.rect p)) (sym there)
-      (subst (λ (r : Rectangle). IsTrue (covers r (point (b.left + i) (b.top + j)))) (sym is)
-      (covers_it b j i l m)))
+      rw (← across) (at_point b j i fits m)
+      in
+      sound.owned (pixel s.width (row_at b j + i)) (subst (λ (p : Point). IsTrue (covers piece.rect p)) (sym there)
+      (rw is (covers_it b j i l m)))
 
   pub bare_told : piece.owner ≡ None → (j i : ℕ) → j < b.tall → i < b.wide → source_of_number s (row_at b j + i) ≡ Bare
   bare_told none j i l m = source_bare (size_of s.sizes) s.bar s.views (pixel s.width (row_at b j + i))
       (sym (owned_there j i l m ∙ none))
 
-  module _ (v : ViewRef) (view : View) (w h : ℕ) (column row : ℤ) (r : Reach) (own : piece.owner ≡ Some v)
+  module _ {v : ViewRef} {view : View} {w h : ℕ} {column row : ℤ} (r : Reach) (own : piece.owner ≡ Some v)
       (standing : IsStack s) (seat : slot_view_in v.0 s.views ≡ Some (record { slot = v.0; view = view }))
       (size : record { w = w; h = h } ≡ size_of s.sizes view.sid)
       (left : column ≡ buffer_place piece.rect.x view.rect.x view.ox)
@@ -84,7 +74,7 @@ module _ (s : StackModel) (piece : Piece) (b : Block)
         ≡ black_or_word (session_shown s piece) (index_at w (reached r i) (among (row +ℤ pos j) h))
     view_told j i l m =
         let there : pixel s.width (row_at b j + i) ≡ point (b.left + i) (b.top + j) =
-        ap (λ w. pixel w (row_at b j + i)) (sym across) ∙ at_point b j i fits m in
+        rw (← across) (at_point b j i fits m) in
         let x : piece.rect.x ≡ pos b.left = ap (λ r. r.x) is in
         let y : piece.rect.y ≡ pos b.top = ap (λ r. r.y) is in
         let across_it : buffer_place (pos (b.left + i)) view.rect.x view.ox ≡ column +ℤ pos i = omega (arith, ints) in
@@ -100,10 +90,7 @@ pub whole_piece : (source : ℕ → PixelSource) (b : Block) (width n : ℕ) (re
     (raw raw' : List ℕ) → rect ≡ rectangle (pos b.left) (pos b.top) b.wide b.tall → b.width ≡ width
     → Repainted source (in_rows b b.tall) n before after raw raw'
     → Repainted source (has_pixel width rect) n before after raw raw'
-whole_piece source b width n rect before after raw raw' is across r =
-    repainted_same source source (in_rows b b.tall) (has_pixel width rect) n before before after after raw raw'
-    (λ k l. ap (λ w. has_pixel w (rectangle (pos b.left) (pos b.top) b.wide b.tall) k) across
-    ∙ ap (λ z. has_pixel width z k) (sym is)) (λ k l m. refl) (λ t. refl) (λ t. refl) r
+whole_piece source b width n rect before after raw raw' is across r = rw (is, ← across) r
 
 -- a rectangle with pixels covers its first one and its last one
 first_of : (r : Rectangle) → HasPixels r → IsTrue (covers r (record { x = r.x; y = r.y }))
@@ -125,8 +112,7 @@ piece_of_owner s piece screen some on owned =
         left = omega (arith, ints);
         top = omega (arith, ints);
         right = omega (arith, ints);
-        bottom =
-            omega (arith, ints);
+        bottom = omega (arith, ints);
       };
       right = omega (arith, ints);
       bottom = omega (arith, ints);

@@ -13,7 +13,7 @@ part_of r =
       bottom = on_screen (bottom_of r);
     }
 
--- the same of the view at a place of the stack
+-- the part at columns and rows from 0 on of the view at a place of the stack
 abbrev pub part_at : List View → ℕ → ScreenPart
 part_at stack k = part_of (slice_index_or stack k (fresh 0 0)).rect
 

@@ -8,11 +8,11 @@ pub use Rattle.nit_rect.proofs.ForCallers.{IsSpanned, le_tested, same_tests, spa
 pub use Rattle.nit_rect.proofs.ForCallers.{spans_tells}
 pub use Rattle.nit_repaint.specs.Terms.{AreSet, CoversBoth, CutterModel, FitsStack, HoldBuffers}
 pub use Rattle.nit_repaint.specs.Terms.{IsOnScreen, IsRemovedFrom, IsScreenSize, IsSlotView}
-pub use Rattle.nit_repaint.specs.Terms.{IsStack, IsTrue, IsViewChange, Look, NoPair, PaintsByList}
-pub use Rattle.nit_repaint.specs.Terms.{PaintsMarked, Piece, PixelSource, Point, Rectangle}
-pub use Rattle.nit_repaint.specs.Terms.{Repainted, Sight, SlotView, StackModel, View, ViewRef}
-pub use Rattle.nit_repaint.specs.Terms.{among, black_or_word, buffer_place, changed, covered}
-pub use Rattle.nit_repaint.specs.Terms.{covers, frame, glass_in, glasses_of_call, has_come}
+pub use Rattle.nit_repaint.specs.Terms.{IsStack, IsTrue, IsViewChange, Look, NoPair}
+pub use Rattle.nit_repaint.specs.Terms.{PaintsByList, PaintsMarked, Piece, PixelSource, Point}
+pub use Rattle.nit_repaint.specs.Terms.{Rectangle, Repainted, Sight, SlotView, StackModel, View}
+pub use Rattle.nit_repaint.specs.Terms.{ViewRef, among, black_or_word, buffer_place, changed}
+pub use Rattle.nit_repaint.specs.Terms.{covered, covers, frame, glass_in, glasses_of_call, has_come}
 pub use Rattle.nit_repaint.specs.Terms.{has_pixel, in_bar, index_at, insert, int_le, is_behind}
 pub use Rattle.nit_repaint.specs.Terms.{is_index_in, is_of_moved, is_of_session, is_owned, is_slot}
 pub use Rattle.nit_repaint.specs.Terms.{is_to_come, is_wanted, is_word_in, list_any, moved}
@@ -30,10 +30,11 @@ pub use Rattle.nit_repaint.specs.Terms.{without_session, word_count, ℤ}
 pub use Rattle.nit_stack.proofs.ForCallers.{All_found, Put, Put-above, Put-back, Put-front, drop_at}
 pub use Rattle.nit_stack.proofs.ForCallers.{found_fails, found_passes, found_some, owner_of_views}
 pub use Rattle.nit_stack.proofs.ForCallers.{place_is}
-pub use Rattle.std.proofs.Common.{arith, length, refl, slice_index_or, true, ◌∙◌}
+pub use Rattle.std.proofs.Common.{ap, arith, length, refl, slice_index_or, sym, true, ◌∙◌}
+pub use Rattle.std.proofs.Math.Seq.{map-set_same}
 pub use Rattle.std.proofs.lemmas.Bool.{and_parts, eq-eqb, eqb-false, eqb-true, false≢true, ne_eqb}
 pub use Rattle.std.proofs.lemmas.Bool.Decides.{nat_tests}
-pub use Rattle.std.proofs.lemmas.Grind.{same_number_lists}
+pub use Rattle.std.proofs.lemmas.Grind.{get_or-set_at, same_number_lists}
 pub use Rattle.std.proofs.lemmas.Int.{ints}
 pub use Rattle.std.proofs.lemmas.List.{drop_all, get_or-map, get_or_default, get_or_past}
 pub use Rattle.std.proofs.lemmas.List.{length-map, map-set, set-get_or}

@@ -1,82 +1,36 @@
 -- The pixels that a changed view owned or owns.
 use Rattle.nit_repaint.proofs.Basics.{IsViewChange, NoPair, Point, Rectangle, SlotView, StackModel}
-use Rattle.nit_repaint.proofs.Basics.{ViewRef, covered, covers, found_fails, in_bar, is_behind}
-use Rattle.nit_repaint.proofs.Basics.{is_of_moved, is_slot, list_any, option_map_or, owned_is}
+use Rattle.nit_repaint.proofs.Basics.{ViewRef, covered, covers, in_bar, is_behind}
+use Rattle.nit_repaint.proofs.Basics.{is_of_moved, is_slot, list_any, owned_is}
 use Rattle.nit_repaint.proofs.Basics.{owner_passes, place_of, same_slot, slot_owns_either}
 use Rattle.nit_repaint.proofs.Basics.{slot_view_covers, slot_view_in, without}
-use Rattle.std.proofs.Common.{Bool, List, None, Option, Some, ap, arith, cond, false, find, inl}
-use Rattle.std.proofs.Common.{inr, not, refl, sym, take, true, ℕ, ◌&&◌, ◌<◌, ◌||◌, ◌∙◌, ◌≡◌, ◌≤◌}
+use Rattle.std.proofs.Common.{Bool, List, Some, ap, arith, cond, false, inl}
+use Rattle.std.proofs.Common.{inr, not, take, true, ℕ, ◌&&◌, ◌<◌, ◌||◌, ◌∙◌, ◌≡◌, ◌≤◌}
 use Rattle.std.proofs.Common.{◌⊎◌}
 use Rattle.nit_repaint.proofs.ViewsInFront.{covers_more, same_covered, take_front, without_none}
+use Rattle.nit_repaint.proofs.ViewsInFront.{found_not}
 
 -- a view owns a pixel below the bar that it covers and no view in front of it
 pub owned_by : (s : StackModel) (k : ℕ) (seat : SlotView) (p : Point) → NoPair same_slot s.views
     → slot_view_in k s.views ≡ Some seat
     → owner_passes (is_slot k) s p
     ≡ cond (in_bar s.bar p) false (covers seat.view.rect p && not (covered (take (place_of k s.views) s.views) p))
-owned_by s k seat p apart there = in_bar_or_below (in_bar s.bar p)
-  where
-    in_bar_or_below : (b : Bool) → option_map_or (is_slot k) (cond b None (find (slot_view_covers p) s.views)) false
-        ≡ cond b false (covers seat.view.rect p && not (covered (take (place_of k s.views) s.views) p))
-    in_bar_or_below true = refl
-    in_bar_or_below false = owned_is k p s.views seat apart there
+owned_by s k seat p apart there = grind (arith, owned_is k p s.views seat apart there)
 
--- no view in the slot owns it
-pub owned_not : (s : StackModel) (k : ℕ) (p : Point) → list_any (is_slot k) s.views ≡ false
-    → owner_passes (is_slot k) s p ≡ false
-owned_not s k p none = in_bar_or_below (in_bar s.bar p)
-  where
-    found : (o : Option SlotView) → find (slot_view_covers p) s.views ≡ o → option_map_or (is_slot k) o false ≡ false
-    found None e = refl
-    found (Some x) e = found_fails (slot_view_covers p) (is_slot k) s.views x none e
-
-    in_bar_or_below : (b : Bool)
-        → option_map_or (is_slot k) (cond b None (find (slot_view_covers p) s.views)) false ≡ false
-    in_bar_or_below true = refl
-    in_bar_or_below false = found (find (slot_view_covers p) s.views) refl
+-- where no view is meant, none that is meant owns it
+pub owned_not : (is : SlotView → Bool) (s : StackModel) (p : Point) → list_any is s.views ≡ false
+    → owner_passes is s p ≡ false
+owned_not is s p none = grind (arith, found_not is (slot_view_covers p) s.views none)
 
 -- ---- tables
 
 moved_case : (bar now was ci cj : Bool) → (cj ≡ true → ci ≡ true) → (now ≡ was) ⊎ (cj ≡ ci)
     → (not bar && (now || was) && not cj) ≡ (cond bar false (was && not ci) || cond bar false (now && not cj))
-moved_case true now was ci cj more kept = refl
-moved_case false now was true true more kept = table now was
-  where
-    table : (a b : Bool) → ((a || b) && false) ≡ ((b && false) || (a && false))
-    table true true = refl
-    table true false = refl
-    table false true = refl
-    table false false = refl
-moved_case false now was false true more kept = let no = more refl in cc
-moved_case false true true ci false more kept = table ci
-  where
-    table : (c : Bool) → true ≡ ((true && not c) || true)
-    table true = refl
-    table false = refl
-moved_case false true false ci false more kept = refl
-moved_case false false false ci false more kept = refl
-moved_case false false true false false more kept = refl
-moved_case false false true true false more (inl e) = cc
-moved_case false false true true false more (inr e) = cc
+moved_case bar now was ci cj more kept = grind (arith, more, kept)
 
 gone_case : (bar now was ci cj : Bool) → (ci ≡ true → cj ≡ true) → now ≡ was
     → (not bar && was && not ci) ≡ (cond bar false (was && not ci) || cond bar false (now && not cj))
-gone_case true now was ci cj more same = refl
-gone_case false now true false cj more same = refl
-gone_case false now true true true more same = table now
-  where
-    table : (a : Bool) → false ≡ (false || (a && false))
-    table true = refl
-    table false = refl
-gone_case false now true true false more same = let no = more refl in cc
-gone_case false true false ci cj more same = cc
-gone_case false false false ci cj more same = refl
-
-alone_case : (bar was ci : Bool) → (not bar && was && not ci) ≡ (cond bar false (was && not ci) || false)
-alone_case true was ci = refl
-alone_case false true true = refl
-alone_case false true false = refl
-alone_case false false ci = refl
+gone_case bar now was ci cj more same = grind (arith, more, same)
 
 module _ (k at : ℕ) (rect : Rectangle) (before after : StackModel) (p : Point)
     (change : IsViewChange k at rect before after) where
@@ -115,17 +69,10 @@ module _ (k at : ℕ) (rect : Rectangle) (before after : StackModel) (p : Point)
       → slot_view_in k after.views ≡ Some s → place_of k after.views ≤ at
       → is_of_moved v after rect p ≡ slot_owns_either k before after p
   moved_owns v s e apart there l =
-      ap (λ (n : ℕ). not (in_bar after.bar p) && (option_map_or (slot_view_covers p) (slot_view_in n after.views)
-      false || covers rect p) && not (covered (take (place_of n after.views) after.views) p)) e
-      ∙ ap (λ (o : Option SlotView).
-      not (in_bar after.bar p) && (option_map_or (slot_view_covers p) o false || covers rect p) && not
-      (covered (take (place_of k after.views) after.views) p)) there
-      ∙ ap (λ (b : Bool). not (in_bar after.bar p) && (covers s.view.rect p || covers rect p) && not b)
-      (is_hidden (place_of k after.views) (omega arith))
-      ∙ moved_case (in_bar after.bar p) (covers s.view.rect p) (covers rect p) (hidden at)
+      rw (e, there, is_hidden (place_of k after.views) (omega arith), was_owned, now_owned s apart there)
+      (moved_case (in_bar after.bar p) (covers s.view.rect p) (covers rect p) (hidden at)
       (hidden (place_of k after.views))
-      (covers_more p (without (is_slot k) after.views) (place_of k after.views) at l) (kept (change.kept s there))
-      ∙ sym (λ i. was_owned i || now_owned s apart there i)
+      (covers_more p (without (is_slot k) after.views) (place_of k after.views) at l) (kept (change.kept s there)))
     where
       kept : (s.view.rect ≡ rect) ⊎ (place_of k after.views ≡ at) → (covers s.view.rect p ≡ covers rect p)
           ⊎ (hidden (place_of k after.views) ≡ hidden at)
@@ -136,12 +83,11 @@ module _ (k at : ℕ) (rect : Rectangle) (before after : StackModel) (p : Point)
   pub fallen_owns : (s : SlotView) → NoPair same_slot after.views → slot_view_in k after.views ≡ Some s
       → at < place_of k after.views → is_behind at after rect p ≡ slot_owns_either k before after p
   fallen_owns s apart there l =
-      ap (λ (b : Bool). not (in_bar after.bar p) && covers rect p && not b) (is_hidden at (omega arith))
-      ∙ gone_case (in_bar after.bar p) (covers s.view.rect p) (covers rect p) (hidden at)
+      rw (is_hidden at (omega arith), was_owned, now_owned s apart there)
+      (gone_case (in_bar after.bar p) (covers s.view.rect p) (covers rect p) (hidden at)
       (hidden (place_of k after.views))
       (covers_more p (without (is_slot k) after.views) at (place_of k after.views) (omega arith))
-      (same (change.kept s there))
-      ∙ sym (λ i. was_owned i || now_owned s apart there i)
+      (same (change.kept s there)))
     where
       same : (s.view.rect ≡ rect) ⊎ (place_of k after.views ≡ at) → covers s.view.rect p ≡ covers rect p
       same (inl q) = ap (λ (r : Rectangle). covers r p) q
@@ -151,7 +97,5 @@ module _ (k at : ℕ) (rect : Rectangle) (before after : StackModel) (p : Point)
   pub gone_owns : list_any (is_slot k) after.views ≡ false
       → is_behind at after rect p ≡ slot_owns_either k before after p
   gone_owns none =
-      ap (λ (xs : List SlotView). not (in_bar after.bar p) && covers rect p && not (covered (take at xs) p))
-      (sym (without_none (is_slot k) after.views none))
-      ∙ alone_case (in_bar after.bar p) (covers rect p) (hidden at)
-      ∙ sym (λ i. was_owned i || owned_not after k p none i)
+      let front = without_none (is_slot k) after.views none in
+      rw (was_owned, owned_not (is_slot k) after p none, front) (grind arith)

@@ -1,13 +1,13 @@
 -- Words of a frame that are set, one set of pixels after the other.
 use Rattle.nit_repaint.proofs.Basics.{AreSet, CutterModel, IsOnScreen, IsTrue, Look, NoPair, Point}
 use Rattle.nit_repaint.proofs.Basics.{Rectangle, SlotView, StackModel, covers, frame, get_or-frame}
-use Rattle.nit_repaint.proofs.Basics.{has_come, in_bar, is_slot, is_to_come, is_wanted}
+use Rattle.nit_repaint.proofs.Basics.{has_come, is_slot, is_to_come, is_wanted}
 use Rattle.nit_repaint.proofs.Basics.{length-frame, nat_tests, nothing_set, once, option_map_or}
 use Rattle.nit_repaint.proofs.Basics.{owner_in, owner_passes, pixel, same_number_lists, same_slot}
 use Rattle.nit_repaint.proofs.Basics.{scenery, set_same, set_then, shown_at, slice_get, slice_index}
-use Rattle.nit_repaint.proofs.Basics.{slot_view_in, times, to_come, wanted, wanted_of_first}
-use Rattle.std.proofs.Common.{Bool, List, None, Option, Some, ap, arith, cond, false, length}
-use Rattle.std.proofs.Common.{nat_lt, refl, subst, sym, take_all, true, ℕ, ◌&&◌, ◌*◌, ◌+◌, ◌<◌, ◌∙◌}
+use Rattle.nit_repaint.proofs.Basics.{times, to_come, wanted, wanted_of_first}
+use Rattle.std.proofs.Common.{Bool, List, Option, Some, ap, arith, cond, false, length}
+use Rattle.std.proofs.Common.{sym, take_all, true, ℕ, ◌&&◌, ◌*◌, ◌+◌, ◌<◌, ◌∙◌}
 use Rattle.std.proofs.Common.{◌≡◌, ◌≤◌}
 use Rattle.nit_repaint.proofs.PieceLemmas.{all_count}
 use Rattle.nit_repaint.proofs.Screen.{on_screen}
@@ -17,10 +17,7 @@ use Rattle.nit_repaint.proofs.WantedLemmas.{lt_once, one_more}
 
 pub none_shown : (s : StackModel) (n : ℕ) (c : CutterModel) (word : ℕ → ℕ) (frame : List ℕ)
     → AreSet (has_come c c s) n word frame frame
-none_shown s n c word frame = nothing_set (has_come c c s) n word frame (λ k l. never (to_come c s (pixel s.width k)))
-  where
-    never : (m : ℕ) → nat_lt m m ≡ false
-    never m = grind (arith, nat_tests)
+none_shown s n c word frame = nothing_set (has_come c c s) n word frame (λ k l. grind (arith, nat_tests))
 
 -- one more piece
 pub one_shown : (s : StackModel) (n : ℕ) (before now next : CutterModel) (r : Rectangle) (word word' : ℕ
@@ -42,7 +39,7 @@ pub piece_shown : (s : StackModel) (n : ℕ) (r : Rectangle) (word : ℕ → ℕ
     → slice_index new k ≡ cond (covers r (pixel s.width k)) (word k) (slice_index old k)) → length new ≡ length old
     → AreSet (λ k. covers r (pixel s.width k)) n word old new
 piece_shown s n r word old new count set long =
-    record { words = λ k l. set k (subst (λ (m : ℕ). k < m) count l); count = long }
+    record { words = λ k l. set k (rw count at l); count = long }
 
 -- all of them
 pub all_shown : (s : StackModel) (n : ℕ) (before now : CutterModel) (word : ℕ → ℕ) (frame new : List ℕ)
@@ -50,7 +47,7 @@ pub all_shown : (s : StackModel) (n : ℕ) (before now : CutterModel) (word : �
     → AreSet (is_to_come before s) n word frame new
 all_shown s n before now word frame new none far =
     set_same (has_come before now s) (is_to_come before s) n word frame new
-    (λ k l. ap (λ (m : ℕ). nat_lt m (to_come before s (pixel s.width k))) (none (pixel s.width k))) far
+    (λ k l. rw (none (pixel s.width k))) far
 
 -- what comes by a set of pixels is that set
 pub shown_as : (s : StackModel) (c : CutterModel) (set : Point → Bool) (n : ℕ) (word : ℕ → ℕ) (old new : List ℕ)
@@ -59,9 +56,9 @@ pub shown_as : (s : StackModel) (c : CutterModel) (set : Point → Bool) (n : �
     → AreSet (is_to_come c s) n word old new → AreSet (λ k. set (pixel s.width k)) n word old new
 shown_as s c set n word old new count come is =
     set_same (is_to_come c s) (λ k. set (pixel s.width k)) n word old new
-    (λ k l. ap (λ (m : ℕ). nat_lt 0 m)
-    (come (pixel s.width k) (on_screen s.width s.height k (subst (λ (m : ℕ). k < m) count l)))
-    ∙ lt_once (set (pixel s.width k))) is
+    (λ k l. rw (come (pixel s.width k) (on_screen s.width s.height k (rw count at l)))
+    (lt_once (set (pixel s.width k))))
+    is
 
 -- where all pixels are set, that is the frame
 pub whole_shown : (look : Look) (raw old new : List ℕ) → length raw ≡ look.stack.now.width * look.stack.now.height
@@ -70,8 +67,8 @@ pub whole_shown : (look : Look) (raw old new : List ℕ) → length raw ≡ look
 whole_shown look raw old new count same is =
     same_number_lists new (frame (scenery look) raw) (is.count ∙ same ∙ count ∙ sym (length-frame (scenery look) raw))
     (λ k lt.
-    let here : k < length raw = subst (λ (m : ℕ). k < m) (is.count ∙ same) lt in
-    is.words k here ∙ sym (get_or-frame (scenery look) raw k (subst (λ (m : ℕ). k < m) count here)))
+    let here = rw (is.count, same) at lt in
+    is.words k here ∙ sym (get_or-frame (scenery look) raw k (rw count at here)))
 
 -- ---- one view after the other
 
@@ -79,25 +76,19 @@ module _ (s : StackModel) (n sid : ℕ) (part : Option Rectangle) where
   pub first_shown : (word : ℕ → ℕ) (frame : List ℕ)
       → AreSet (λ k. wanted_of_first 0 sid part s (pixel s.width k)) n word frame frame
   first_shown word frame = nothing_set _ n word frame
-      (λ k l. owned_by_none (in_bar s.bar (pixel s.width k)) (is_wanted sid part s (pixel s.width k)))
-    where
-      owned_by_none : (b : Bool) (test : SlotView → Bool)
-          → option_map_or test (cond {A = Option SlotView} b None None) false
-          ≡ false
-      owned_by_none true test = refl
-      owned_by_none false test = refl
+      (λ k l. grind arith)
 
   pub next_shown : (i : ℕ) (x : SlotView) (word word' : ℕ → ℕ) (frame mid new : List ℕ) → NoPair same_slot s.views
-      → slot_view_in x.slot s.views ≡ Some x → slice_get s.views i ≡ Some x
+      → slice_get s.views i ≡ Some x
       → ((k : ℕ) → (let p = pixel s.width k in owner_passes (is_slot x.slot) s p && is_wanted sid part s p x) ≡ false
       → word' k ≡ word k)
       → AreSet (λ k. wanted_of_first i sid part s (pixel s.width k)) n word frame mid
       → AreSet (λ k. let p = pixel s.width k in owner_passes (is_slot x.slot) s p && is_wanted sid part s p x) n word'
       mid new
       → AreSet (λ k. wanted_of_first (i + 1) sid part s (pixel s.width k)) n word' frame new
-  next_shown i x word word' frame mid new apart there at still first second =
+  next_shown i x word word' frame mid new apart at still first second =
       set_then _ _ (λ k. wanted_of_first (i + 1) sid part s (pixel s.width k)) n word word' frame mid new
-      (λ k. (one_more (is_wanted sid part s (pixel s.width k)) s (pixel s.width k) i x apart there at).all) still first
+      (λ k. (one_more (is_wanted sid part s (pixel s.width k)) s (pixel s.width k) i x apart at).all) still first
       second
 
   pub last_shown : (i : ℕ) (word : ℕ → ℕ) (frame new : List ℕ) → length s.views ≤ i

@@ -3,36 +3,22 @@ use Rattle.nit_repaint.proofs.Basics.{CutterModel, IsTrue, PixelSource, Point, R
 use Rattle.nit_repaint.proofs.Basics.{Sight, StackModel, covers, has_come, has_pixel, is_to_come}
 use Rattle.nit_repaint.proofs.Basics.{nat_tests, pixel, repainted_none, repainted_same}
 use Rattle.nit_repaint.proofs.Basics.{repainted_union, times, to_come}
-use Rattle.std.proofs.Common.{Bool, List, ap, arith, cond, false, nat_lt, refl, true, ℕ, ◌&&◌, ◌+◌}
+use Rattle.std.proofs.Common.{Bool, List, arith, cond, false, nat_lt, refl, true, ℕ, ◌&&◌, ◌+◌}
 use Rattle.std.proofs.Common.{◌||◌, ◌≡◌, ◌≤◌}
 
 -- a pixel by the numbers of times that it is to come: before all, now, and after one more piece
 apart_count : (b now : ℕ) (c : Bool) → b ≤ 1 → (c ≡ true → now ≡ 1) → (nat_lt now b && c) ≡ false
-apart_count b now true once came = let e : now ≡ 1 = came refl in grind (arith, nat_tests)
-apart_count b now false once came = and_false (nat_lt now b)
-  where
-    and_false : (x : Bool) → (x && false) ≡ false
-    and_false true = refl
-    and_false false = refl
+apart_count b now c once came = grind (arith, nat_tests, came)
 
 pub all_count : (b now next : ℕ) (c : Bool) → now ≤ b → now ≡ next + cond c 1 0 → (c ≡ true → now ≡ 1)
     → (nat_lt now b || c) ≡ nat_lt next b
-all_count b now next true less count came = let e : now ≡ 1 = came refl in let z : next ≡ 0 =
-    omega arith in grind (arith, nat_tests)
-all_count b now next false less count came = let e : now ≡ next = omega arith in rw e (or_false (nat_lt next b))
-  where
-    or_false : (x : Bool) → (x || false) ≡ x
-    or_false true = refl
-    or_false false = refl
+all_count b now next c less count came = grind (arith, nat_tests, came, count)
 
 module _ (source : ℕ → PixelSource) (s : StackModel) (n : ℕ) where
   pub none_came : (c : CutterModel) (glasses : ℕ → Sight) (raw : List ℕ)
       → Repainted source (has_come c c s) n glasses glasses raw raw
   none_came c glasses raw = repainted_none source (has_come c c s) n glasses raw
-      (λ k l. never (to_come c s (pixel s.width k)))
-    where
-      never : (m : ℕ) → nat_lt m m ≡ false
-      never m = grind (arith, nat_tests)
+      (λ k l. grind (arith, nat_tests))
 
   -- one more piece
   pub one_came : (before now next : CutterModel) (r : Rectangle) (a b c : ℕ → Sight) (raw mid last : List ℕ)
@@ -52,5 +38,5 @@ module _ (source : ℕ → PixelSource) (s : StackModel) (n : ℕ) where
       → Repainted source (has_come before now s) n a b raw last → Repainted source (is_to_come before s) n a b raw last
   all_came before now a b raw last none painted =
       repainted_same source source (has_come before now s) (is_to_come before s) n a a b b raw last
-      (λ k l. ap (λ (m : ℕ). nat_lt m (to_come before s (pixel s.width k))) (none (pixel s.width k))) (λ k l m. refl)
+      (λ k l. rw (none (pixel s.width k))) (λ k l m. refl)
       (λ t. refl) (λ t. refl) painted

@@ -1,12 +1,12 @@
 -- Changes of one view leave the others as they stood.
 use Rattle.nit_repaint.proofs.Basics.{IsStack, IsViewChange, Put, Put-above, Put-back, Put-front}
-use Rattle.nit_repaint.proofs.Basics.{SlotView, StackModel, View, changed, found_passes, insert}
-use Rattle.nit_repaint.proofs.Basics.{is_slot, list_any, moved, moved_above, on_view, place_of}
-use Rattle.nit_repaint.proofs.Basics.{position_or_len, put_above, put_again, put_own_back}
+use Rattle.nit_repaint.proofs.Basics.{SlotView, StackModel, View, arith, changed, found_passes}
+use Rattle.nit_repaint.proofs.Basics.{insert, is_slot, list_any, moved, moved_above, on_view}
+use Rattle.nit_repaint.proofs.Basics.{place_of, position_or_len, put_above, put_again, put_own_back}
 use Rattle.nit_repaint.proofs.Basics.{put_own_front, same_Some, slot_view_in, slot_view_layer}
 use Rattle.nit_repaint.proofs.Basics.{views_of, without}
 use Rattle.std.proofs.Common.{Bool, List, None, Option, Some, [], ap, cond, false, find, inl, inr}
-use Rattle.std.proofs.Common.{not, refl, suc, sym, true, zero, ℕ, ◌+◌, ◌==◌, ◌||◌, ◌∙◌, ◌∷◌, ◌≡◌}
+use Rattle.std.proofs.Common.{refl, suc, sym, true, zero, ℕ, ◌==◌, ◌∙◌, ◌∷◌, ◌≡◌}
 use Rattle.nit_repaint.proofs.ViewsInFront.{without_none}
 use Rattle.nit_repaint.proofs.OneViewGone.{none_left}
 
@@ -14,20 +14,14 @@ use Rattle.nit_repaint.proofs.OneViewGone.{none_left}
 
 module _ {A : Type 0} (is : A → Bool) where
   without_insert : (xs : List A) (i : ℕ) (v : A) → is v ≡ true → without is (insert xs i v) ≡ without is xs
-  without_insert xs zero v e = ap (λ (b : Bool). cond (not b) (v ∷ without is xs) (without is xs)) e
-  without_insert [] (suc i) v e = ap (λ (b : Bool). cond (not b) (v ∷ []) []) e
-  without_insert (x ∷ xs) (suc i) v e = ap (λ (ys : List A). cond (not (is x)) (x ∷ ys) ys) (without_insert xs i v e)
+  without_insert xs zero v e = grind arith
+  without_insert [] (suc i) v e = grind arith
+  without_insert (x ∷ xs) (suc i) v e = grind (arith, without_insert xs i v e)
 
   find_insert : (xs : List A) (i : ℕ) (v : A) → is v ≡ true → list_any is xs ≡ false → find is (insert xs i v) ≡ Some v
-  find_insert xs zero v e none = ap (λ (b : Bool). cond b (Some v) (find is xs)) e
-  find_insert [] (suc i) v e none = ap (λ (b : Bool). cond b (Some v) None) e
-  find_insert (x ∷ xs) (suc i) v e none = first_or_later (is x) none (find_insert xs i v e)
-    where
-      first_or_later : (b : Bool) → (b || list_any is xs) ≡ false → (list_any is xs ≡ false
-          → find is (insert xs i v) ≡ Some v)
-          → cond b (Some x) (find is (insert xs i v)) ≡ Some v
-      first_or_later true m r = cc
-      first_or_later false m r = r m
+  find_insert xs zero v e none = grind arith
+  find_insert [] (suc i) v e none = grind arith
+  find_insert (x ∷ xs) (suc i) v e none = grind (arith, find_insert xs i v e)
 
   module _ (put : A → List A → List A) (puts : (v : A) (xs : List A) → Put v xs (put v xs)) where
     pub without_moved : (xs : List A) → without is (moved is put xs) ≡ without is xs
@@ -37,8 +31,12 @@ module _ {A : Type 0} (is : A → Bool) where
         found_or_not None e = refl
         found_or_not (Some v) e =
             let p = puts v (without is xs) in
-            ap (without is) p.is ∙ without_insert (without is xs) p.at v (found_passes is xs v e)
-            ∙ without_none is (without is xs) (none_left is xs)
+            grind (
+              arith,
+              p.is,
+              without_insert (without is xs) p.at v (found_passes is xs v e),
+              without_none is (without is xs) (none_left is xs),
+            )
 
     pub find_moved : (xs : List A) → find is (moved is put xs) ≡ find is xs
     find_moved xs = found_or_not (find is xs) refl
@@ -47,31 +45,16 @@ module _ {A : Type 0} (is : A → Bool) where
         found_or_not None e = refl
         found_or_not (Some v) e =
             let p = puts v (without is xs) in
-            ap (find is) p.is ∙ find_insert (without is xs) p.at v (found_passes is xs v e) (none_left is xs) ∙ sym e
+            grind (arith, p.is, find_insert (without is xs) p.at v (found_passes is xs v e) (none_left is xs), e)
 
   module _ (change : A → A) (same : (x : A) → is (change x) ≡ is x) where
     pub without_changed : (xs : List A) → without is (changed is change xs) ≡ without is xs
     without_changed [] = refl
-    without_changed (x ∷ xs) = changed_or_not (is x) refl (without_changed xs)
-      where
-        changed_or_not : (b : Bool) → is x ≡ b → without is (changed is change xs) ≡ without is xs
-            → without is (cond b (change x) x ∷ changed is change xs) ≡ cond (not b) (x ∷ without is xs) (without is xs)
-        changed_or_not true e r = ap (λ (b : Bool). cond (not b) (change x ∷ without is (changed is change xs))
-            (without is (changed is change xs))) (same x ∙ e) ∙ r
-        changed_or_not false e r = ap (λ (b : Bool). cond (not b) (x ∷ without is (changed is change xs))
-            (without is (changed is change xs))) e ∙ ap (λ (ys : List A). x ∷ ys) r
+    without_changed (x ∷ xs) = grind (arith, same x, without_changed xs)
 
     pub place_changed : (xs : List A) → position_or_len is (changed is change xs) ≡ position_or_len is xs
     place_changed [] = refl
-    place_changed (x ∷ xs) = changed_or_not (is x) refl (place_changed xs)
-      where
-        changed_or_not : (b : Bool) → is x ≡ b → position_or_len is (changed is change xs) ≡ position_or_len is xs
-            → position_or_len is (cond b (change x) x ∷ changed is change xs)
-            ≡ cond (not b) (1 + position_or_len is xs) 0
-        changed_or_not true e r =
-            ap (λ (b : Bool). cond (not b) (1 + position_or_len is (changed is change xs)) 0) (same x ∙ e)
-        changed_or_not false e r = ap (λ (b : Bool). cond (not b) (1 + position_or_len is (changed is change xs)) 0) e
-            ∙ ap (λ (n : ℕ). 1 + n) r
+    place_changed (x ∷ xs) = grind (arith, same x, place_changed xs)
 
 -- ---- stacks
 
@@ -104,24 +87,20 @@ module _ (s : StackModel) (k : ℕ) (seat : SlotView) (standing : IsStack s) (th
           (same_Some _ _ (sym e ∙ find_moved (is_slot k) put puts s.views ∙ there)));
     }
 
-    stays : IsViewChange k (place_of k s.views) seat.view.rect s s
-    stays = record {
-      slots = standing.slots;
-      seat = (seat, there, refl);
-      place = refl;
-      bar = refl;
-      others = refl;
-      kept =
-          λ x e. inr refl;
-    }
-
     pub moves_above : (n : ℕ) → IsViewChange k (place_of k s.views) seat.view.rect s
         (record s { views = moved_above k n s.views })
     moves_above n = itself_or_another (k == n)
       where
         itself_or_another : (b : Bool) → IsViewChange k (place_of k s.views) seat.view.rect s
             (record s { views = cond b s.views (moved (is_slot k) (put_above (is_slot n)) s.views) })
-        itself_or_another true = stays
+        itself_or_another true = record {
+          slots = standing.slots;
+          seat = (seat, there, refl);
+          place = refl;
+          bar = refl;
+          others = refl;
+          kept = λ x e. inr refl;
+        }
         itself_or_another false = moves (put_above (is_slot n)) (λ v xs. Put-above (is_slot n) v xs)
 
     pub moves_front : IsViewChange k (place_of k s.views) seat.view.rect s

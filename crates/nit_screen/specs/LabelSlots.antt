@@ -23,6 +23,6 @@ IsLabelled stack labels places s =
     slice_get places s.slot
     ≡ Some (option_map pixel_at (label_place_of (label_scenery stack labels) s.view))
 
--- the same of each view
+-- so it is at the slot of each view
 abbrev pub AreLabelled : StackModel → List (List ℕ) → List (Option Point) → Type 0
 AreLabelled stack labels places = All (IsLabelled stack labels places) stack.views

@@ -41,7 +41,7 @@ text t = 32 ∷ 61 ∷ t
 abbrev pub FitsNat : ℕ → Type 0
 FitsNat n = n < 10 ^ 9
 
--- the same, with a sign
+-- a number of at most nine digits, with a sign or without
 abbrev pub FitsInt : ℤ → Type 0
 FitsInt (pos n) = n < 10 ^ 9
 FitsInt (negsuc n) = suc n < 10 ^ 9

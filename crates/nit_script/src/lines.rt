@@ -73,7 +73,7 @@ fn take_line(bytes: &[u8]) -> Option<(Line, &[u8])>
     Some((line, take_byte(rest, b'\n')?))
 }
 
-/// The same up to the line feed.
+/// The line of a client's script in front, without its line feed, and what follows it.
 #[tactic(auto, unfolding(crate::specs::LineReaders::line_front_at))]
 fn take_line_front(bytes: &[u8]) -> Option<(Line, &[u8])>
     ensures { Gives (λ x. (x.0, x.1.now)) result (line_front_at bytes.now) }
@@ -97,7 +97,7 @@ fn take_input_line(bytes: &[u8]) -> Option<(InputLine, &[u8])>
     Some((line, take_byte(rest, b'\n')?))
 }
 
-/// The same up to the line feed.
+/// The line of an input script in front, without its line feed, and what follows it.
 #[tactic(auto, unfolding(crate::specs::InputReaders::input_front_at))]
 fn take_input_front(bytes: &[u8]) -> Option<(InputLine, &[u8])>
     ensures { Gives (λ x. (x.0, x.1.now)) result (input_front_at bytes.now) }

@@ -1,8 +1,7 @@
 -- The views of a session, as its machine has them and as its table has them.
-use Rattle.std.proofs.Common.{Bool, List, [], ap, cond, false, filter, map, not, refl, true, ℕ, ◌-◌}
-use Rattle.std.proofs.Common.{◌==◌, ◌||◌, ◌∙◌, ◌∷◌, ◌≡◌}
-use Rattle.nit_server.proofs.Basics.{AccountModel, Event, Session, Status, TableModel, has_handle}
-use Rattle.nit_server.proofs.Basics.{list_any, session_of_parts, without_handle}
+use Rattle.std.proofs.Common.{arith, List, [], filter, map, not, refl, ℕ, ◌-◌, ◌==◌, ◌∷◌, ◌≡◌}
+use Rattle.nit_server.proofs.Basics.{AccountModel, Event, Status, TableModel, has_handle, list_any}
+use Rattle.nit_server.proofs.Basics.{session_of_parts, without_handle}
 
 -- the handles of pairs of a handle and its slot
 abbrev pub handles_of : List (ℕ × ℕ) → List ℕ
@@ -16,20 +15,13 @@ none_of (p ∷ pairs) e = cc
 -- a session has the views that its table holds
 pub has_as_held : (pairs : List (ℕ × ℕ)) (h : ℕ) → list_any (λ k. k == h) (handles_of pairs) ≡ has_handle pairs h
 has_as_held [] h = refl
-has_as_held (p ∷ rest) h = ap (λ (b : Bool). (p.0 == h) || b) (has_as_held rest h)
-
-kept : (b : Bool) (p : ℕ × ℕ) (rest : List (ℕ × ℕ)) → handles_of (cond b (p ∷ rest) rest)
-    ≡ cond b (p.0 ∷ handles_of rest) (handles_of rest)
-kept true p rest = refl
-kept false p rest = refl
+has_as_held (p ∷ rest) h = grind (arith, has_as_held rest h)
 
 -- a view that leaves the table leaves the session
 pub handles_without : (pairs : List (ℕ × ℕ)) (h : ℕ) → handles_of (without_handle pairs h)
     ≡ filter (λ k. not (k == h)) (handles_of pairs)
 handles_without [] h = refl
-handles_without (p ∷ rest) h =
-    kept (not (p.0 == h)) p (without_handle rest h)
-    ∙ ap (λ (hs : List ℕ). cond (not (p.0 == h)) (p.0 ∷ hs) hs) (handles_without rest h)
+handles_without (p ∷ rest) h = grind (arith, handles_without rest h)
 
 -- the machine when a view has left the table, and its cost the account
 pub session_without : (account account' : AccountModel) (table table' : TableModel) (status : Status) (w h : ℕ)
@@ -38,11 +30,7 @@ pub session_without : (account account' : AccountModel) (table table' : TableMod
     → account' ≡ record account { views = account.views - 1 }
     → session_of_parts account' table' status w h queue lost
     ≡ (let s = session_of_parts account table status w h queue lost in record s {
-      handles =
-          filter (λ k. not (k == v)) s.handles;
+      handles = filter (λ k. not (k == v)) s.handles;
     })
 session_without account account' table table' status w h queue lost v left paid =
-    let machine : AccountModel → TableModel → Session = λ a t. session_of_parts a t status w h queue lost in
-    ap (λ (a : AccountModel). machine a table') paid
-    ∙ ap (λ (t : TableModel). machine account t) left
-    ∙ ap (λ (hs : List ℕ). record (machine account table) { handles = hs }) (handles_without table.pairs v)
+    rw (left, paid, handles_without table.pairs v)

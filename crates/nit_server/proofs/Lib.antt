@@ -1,6 +1,5 @@
 pub mod FirstFound
 pub mod Lists
-pub mod NoRefusal
 pub mod NewViews
 pub mod ServedCalls
 pub mod ServerInputLemmas

@@ -1,9 +1,8 @@
 -- What holds of each element of a list, or of no pair of them, where elements are taken out, changed or put in.
 use Rattle.nit_server.proofs.Basics.{All-insert, All-map, All-weaker, AllByRecursion, NoPair}
-use Rattle.nit_server.proofs.Basics.{changed, insert_apart, list_any, none_kept, or_from, or_parts}
-use Rattle.nit_server.proofs.Basics.{without}
-use Rattle.std.proofs.Common.{All, Bool, List, [], ap, arith, cond, false, get_or, map, not, refl}
-use Rattle.std.proofs.Common.{set, subst, suc, sym, true, zero, ℕ, ◌+◌, ◌∙◌, ◌∷◌, ◌≡◌, ◌≤◌}
+use Rattle.nit_server.proofs.Basics.{changed, insert_apart, list_any, none_kept, without}
+use Rattle.std.proofs.Common.{All, Bool, List, [], arith, cond, false, get_or, map, not, refl, set}
+use Rattle.std.proofs.Common.{subst, suc, sym, true, zero, ℕ, ◌+◌, ◌∷◌, ◌≡◌, ◌≤◌}
 use Rattle.nit_server.proofs.FirstFound.{IsPutIn}
 
 -- ---- tests
@@ -12,20 +11,14 @@ use Rattle.nit_server.proofs.FirstFound.{IsPutIn}
 pub without_same : {A : Type 0} (p q : A → Bool) (xs : List A) → AllByRecursion (λ x. p x ≡ q x) xs
     → without p xs ≡ without q xs
 without_same p q [] h = refl
-without_same {A} p q (x ∷ xs) h =
-    ap (λ (b : Bool). cond (not b) (x ∷ without p xs) (without p xs)) h.0
-    ∙ ap (λ (l : List A). cond (not (q x)) (x ∷ l) l) (without_same p q xs h.1)
+without_same p q (x ∷ xs) h = grind (arith, without_same p q xs)
 
 -- ---- no pair
 
 pub NoPair-without : {A : Type 0} (r : A → A → Bool) (is : A → Bool) (xs : List A) → NoPair r xs
     → NoPair r (without is xs)
 NoPair-without r is [] h = tt
-NoPair-without r is (x ∷ xs) h = go (is x) (NoPair-without r is xs h.1)
-  where
-    go : (b : Bool) → NoPair r (without is xs) → NoPair r (cond (not b) (x ∷ without is xs) (without is xs))
-    go true t = t
-    go false t = (none_kept (λ y. not (is y)) (r x) xs h.0, t)
+NoPair-without r is (x ∷ xs) h = grind (arith, none_kept (λ y. not (is y)) (r x) xs, NoPair-without r is xs)
 
 pub NoPair-map : {A : Type 0} (r : A → A → Bool) (f : A → A) → ((a b : A) → r (f a) (f b) ≡ r a b) → (xs : List A)
     → NoPair r xs → NoPair r (map f xs)
@@ -34,9 +27,7 @@ NoPair-map {A = A} r f same (x ∷ xs) h = (along xs h.0, NoPair-map r f same xs
   where
     along : (ys : List A) → list_any (r x) ys ≡ false → list_any (r (f x)) (map f ys) ≡ false
     along [] n = refl
-    along (y ∷ ys) n =
-        let parts = or_parts (r x y) (list_any (r x) ys) n in
-        or_from (r (f x) (f y)) (list_any (r (f x)) (map f ys)) (same x y ∙ parts.0) (along ys parts.1)
+    along (y ∷ ys) n = grind (arith, same x y, along ys)
 
 -- one that is related to none can be put anywhere
 pub NoPair-put : {A : Type 0} (r : A → A → Bool) → ((a b : A) → r a b ≡ r b a) → (v : A) (xs ys : List A)
@@ -52,17 +43,13 @@ pub All-changed : {A : Type 0} (P : A → Type 0) (is : A → Bool) (change : A 
     → (xs : List A) → All P xs → All P (changed is change xs)
 All-changed {A} P is change keeps xs all =
     All-map P (λ x. cond (is x) (change x) x) xs
-    (All-weaker P (λ x. P (cond (is x) (change x) x)) (λ x h. go x (is x) h) xs all)
-  where
-    go : (x : A) (b : Bool) → P x → P (cond b (change x) x)
-    go x true h = keeps x h
-    go x false h = h
+    (All-weaker P (λ x. P (cond (is x) (change x) x))
+    (λ x h. elim (is x) as (λ b. P (cond b (change x) x)) [ true ↦ keeps x h | false ↦ h ]) xs all)
 
 -- one place of a list grows by one at most
 pub adds_at : {A : Type 0} (f : A → ℕ) (xs : List A) (i : ℕ) (y d : A) → f y ≤ f (get_or xs i d) + 1 → (j : ℕ)
     → f (get_or (set xs i y) j d) ≤ f (get_or xs j d) + 1
 adds_at f [] i y d h j = omega arith
 adds_at f (x ∷ xs) zero y d h zero = h
-adds_at f (x ∷ xs) zero y d h (suc j) = omega arith
-adds_at f (x ∷ xs) (suc i) y d h zero = omega arith
 adds_at f (x ∷ xs) (suc i) y d h (suc j) = adds_at f xs i y d h j
+adds_at f (x ∷ xs) i y d h j = omega arith

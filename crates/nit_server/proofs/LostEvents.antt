@@ -3,10 +3,10 @@ use Rattle.nit_server.proofs.Basics.{All-head, All-tail, Call, Delivery, Entry, 
 use Rattle.nit_server.proofs.Basics.{MayLose, Reply, Routed, ServerModel, Session, State, Status}
 use Rattle.nit_server.proofs.Basics.{Take, accepted, after, all_kept, at_most_one, by_life}
 use Rattle.nit_server.proofs.Basics.{by_refusal, delivered, deliveries_of, delivery, first_session}
-use Rattle.nit_server.proofs.Basics.{receive, refusal, route, routed_as, session, session_in}
-use Rattle.nit_server.proofs.Basics.{taking, with_delivered}
-use Rattle.std.proofs.Common.{All, Bool, IfSome, List, None, Option, Some, [], ap, arith, false}
-use Rattle.std.proofs.Common.{length, nat_lt, set, true, ℕ, ◌++◌, ◌+◌, ◌∷◌, ◌≡◌, ◌≤◌, if◌then◌else◌}
+use Rattle.nit_server.proofs.Basics.{length-append, receive, refusal, route, routed_as, session}
+use Rattle.nit_server.proofs.Basics.{session_in, taking, with_delivered}
+use Rattle.std.proofs.Common.{All, IfSome, List, None, Option, Some, [], ap, arith, length, set, ℕ}
+use Rattle.std.proofs.Common.{◌++◌, ◌+◌, ◌∷◌, ◌≡◌, ◌≤◌}
 use Rattle.nit_journal.specs.Session.{serve}
 use Rattle.nit_events.specs.declared.event.Item.TheVariants as item
 use Rattle.nit_events.specs.declared.event.Status.TheVariants as status
@@ -15,13 +15,8 @@ use Rattle.nit_server.proofs.Lists.{adds_at}
 
 -- ---- deliveries
 
-queued_loses : (room : Bool) (e : Event) (u : Session)
-    → (if room then record u { queue = u.queue ++ e ∷ [] } else record u { lost = u.lost + 1 }).lost ≤ u.lost + 1
-queued_loses true e u = omega arith
-queued_loses false e u = omega arith
-
 life_loses : (was : Status) (i : Item) (u : Session) → (by_life was i u).lost ≤ u.lost + 1
-life_loses status.Live (item.Event e) u = queued_loses (nat_lt (length u.queue) 64) e u
+life_loses status.Live (item.Event e) u = grind arith
 life_loses status.Live item.Kill u = omega arith
 life_loses other i u = omega arith
 
@@ -77,16 +72,6 @@ serve_loses : (u : Session) (call : Call) → (serve u call).session.lost ≤ u.
 unfolding serve
 serve_loses u call = loses_unless_refused u call (refusal u call)
 
-at_most_three : (a b c : Option Delivery) → length (deliveries_of (record { a = a; b = b; c = c })) ≤ 3
-at_most_three None None None = omega arith
-at_most_three None None (Some c) = omega arith
-at_most_three None (Some b) None = omega arith
-at_most_three None (Some b) (Some c) = omega arith
-at_most_three (Some a) None None = omega arith
-at_most_three (Some a) None (Some c) = omega arith
-at_most_three (Some a) (Some b) None = omega arith
-at_most_three (Some a) (Some b) (Some c) = omega arith
-
 pub entry_loses : (s : State) (e : Entry) (t : ℕ) → (session (after s e) t).lost ≤ (session s t).lost + 3
 entry_loses s (entry.Call sid call r) t =
     let one = adds_at (λ (u : Session). u.lost) s.sessions sid (serve (session s sid) call).session (first_session 0)
@@ -95,7 +80,8 @@ entry_loses s (entry.Call sid call r) t =
 entry_loses s (entry.Input dev routed) t =
     let ds : List Delivery = (route s.config s.input s.stack dev).deliveries in
     let kept : Routed = routed_as ds in
-    let few : length (deliveries_of kept) ≤ 3 = at_most_three kept.a kept.b kept.c in
+    let few : length (deliveries_of kept) ≤ 3 =
+    simp length-append (omega (arith, at_most_one kept.a, at_most_one kept.b, at_most_one kept.c)) in
     let all : length (deliveries_of kept) ≡ length ds = ap length (all_kept s.config s.input s.stack dev) in
     let more = delivered_loses ds s.sessions t in
     omega (arith, few, all, more)

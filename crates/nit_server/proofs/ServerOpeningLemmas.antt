@@ -1,16 +1,16 @@
 -- What holds of a server before its first entry.
-use Rattle.std.proofs.Common.{Bool, IsTrue, List, None, Some, [], ap, arith, cond, false, inl, inr}
-use Rattle.std.proofs.Common.{length, map, mul-zero, refl, replicate, subst, sum, sym, true, ℕ, ◌<◌}
-use Rattle.std.proofs.Common.{◌∙◌, ◌≡◌, ◌≤◌}
+use Rattle.std.proofs.Common.{Bool, IsTrue, List, [], ap, arith, cond, false, inl, inr, length, map}
+use Rattle.std.proofs.Common.{mul-zero, refl, replicate, sum, sym, true, ℕ, ◌∙◌, ◌≡◌, ◌≤◌}
+use Rattle.nit_server.proofs.ServerLemmas.{no_client}
 use Rattle.nit_server.proofs.Basics.{All-get_or, All-map, All-nil, All-replicate, All-weaker}
 use Rattle.nit_server.proofs.Basics.{AreServerParts, Configuration, InputState, IsBar, IsBufferSize}
-use Rattle.nit_server.proofs.Basics.{IsConfiguration, IsMember, IsSessionOfClient, IsSlotView}
-use Rattle.nit_server.proofs.Basics.{IsStack, KeptSessionModel, Member, SlotsModel, StackModel}
-use Rattle.nit_server.proofs.Basics.{bar_rows, first_input, first_kept_session, first_session}
-use Rattle.nit_server.proofs.Basics.{first_stack, first_state, get_or-map, kept_session_at}
-use Rattle.nit_server.proofs.Basics.{length-map, length-replicate, map-map, member, no_size}
-use Rattle.nit_server.proofs.Basics.{server_of, size_of_buffer, slot_of, slots_of_all, splat_is_map}
-use Rattle.nit_server.proofs.Basics.{state_of, sum_by-replicate, view_slots, views_of}
+use Rattle.nit_server.proofs.Basics.{IsConfiguration, IsMember, IsSlotView, IsStack}
+use Rattle.nit_server.proofs.Basics.{KeptSessionModel, Member, SlotsModel, StackModel, bar_rows}
+use Rattle.nit_server.proofs.Basics.{first_input, first_kept_session, first_stack, first_state}
+use Rattle.nit_server.proofs.Basics.{get_or-map, kept_session_at, length-map, length-replicate}
+use Rattle.nit_server.proofs.Basics.{map-map, member, no_size, none-some, server_of, size_of_buffer}
+use Rattle.nit_server.proofs.Basics.{slot_of, slots_of_all, splat_is_map, state_of}
+use Rattle.nit_server.proofs.Basics.{sum_by-replicate}
 
 -- no slot is taken
 abbrev pub none_taken : ℕ → SlotsModel
@@ -33,34 +33,17 @@ opened_stands config c few =
       sizes = All-replicate IsBufferSize (length config.clients) no_size (omega arith, omega arith);
       layers = All-map (λ l. l ≤ 7) (λ (m : Member). m.layer) config.clients
           (All-weaker IsMember (λ (m : Member). m.layer ≤ 7) (λ m h. h.layer) config.clients c.clients);
-      sessions = (
-        subst (λ (k : ℕ). 1 ≤ k) (sym n) c.count.0,
-        subst (λ (k : ℕ). k ≤ 16) (sym n) c.count.1,
-        length-map config.clients (λ (m : Member). m.layer) ∙ sym n,
-      );
+      sessions = rw n (c.count.0, c.count.1, length-map config.clients (λ (m : Member). m.layer));
       screen = (c.width.0, c.width.1, c.height.0, c.height.1);
       bar = opened_bar config.bar config.height c.height.0 c.bar (bar_rows config) refl;
       room = few;
     }
 
-opened_client : (donation : ℕ) → donation ≤ 8388608 → (m : KeptSessionModel)
-    → m ≡ record { session = first_session donation; pairs = []; most = view_slots donation }
-    → IsSessionOfClient donation m
-opened_client donation least m e =
-    subst (IsSessionOfClient donation) (sym e)
-    (record {
-      sum = omega arith;
-      paid = record { used = omega arith; bounded = omega arith };
-      most = refl;
-      few =
-          omega arith;
-    })
-
 -- each session is that of its client
 opened_at : (config : Configuration) (t : ℕ) → kept_session_at (map first_kept_session config.clients) t
     ≡ first_kept_session (member config t)
 opened_at config t = get_or-map first_kept_session config.clients t
-    (record { label = []; donation = 0; script = []; layer = 0; clicks = false })
+    no_client
 
 no_views : (clients : List Member)
     → 0 ≡ sum (map (λ (m : KeptSessionModel). length m.pairs) (map first_kept_session clients))
@@ -81,16 +64,18 @@ opened_is config c few = record {
   sizes = splat_is_map config.clients (length config.clients) no_size refl
       ∙ sym (map-map (λ (m : KeptSessionModel). size_of_buffer m.session) first_kept_session config.clients);
   clients = λ t l.
-      let below : t < length config.clients = subst (λ (n : ℕ). t < n) same_length l in
-      let own = All-get_or IsMember config.clients t
-      (record { label = []; donation = 0; script = []; layer = 0; clicks = false }) below c.clients in
-      opened_client (member config t).donation own.donation.1
-      (kept_session_at (map first_kept_session config.clients) t) (opened_at config t);
+      let range = (All-get_or IsMember config.clients t no_client (rw same_length at l) c.clients).donation in
+      let least : (member config t).donation ≤ 8388608 = range.1 in
+      rw (opened_at config t) (record {
+        sum = omega (arith, least);
+        paid = record { used = omega arith; bounded = omega (arith, least) };
+        most = refl;
+        few = omega arith;
+      });
   seated = record {
-    named = λ t handle k l e. absurd
-        (nothing_held t handle k (sym (ap (λ (m : KeptSessionModel). slot_of m.pairs handle) (opened_at config t))
-        ∙ e));
-    kept = λ t handle k e. absurd (none_is_some e);
+    named = λ t handle k l e. absurd (none-some k
+        (sym (ap (λ (m : KeptSessionModel). slot_of m.pairs handle) (opened_at config t)) ∙ e));
+    kept = λ t handle k e. absurd (none-some (t, handle) e);
     taken = λ k. refl;
   };
   counted = no_views config.clients;
@@ -100,14 +85,8 @@ opened_is config c few = record {
     same_length : length (map first_kept_session config.clients) ≡ length config.clients
     same_length = length-map config.clients first_kept_session
 
-    none_is_some : {A : Type 0} {x : A} → None ≡ Some x → ⊥
-    none_is_some e = cc
-
-    nothing_held : (t handle k : ℕ) → None ≡ Some k → ⊥
-    nothing_held t handle k e = cc
-
-pub opened_server : (config copy : Configuration) (stack : StackModel) (clients : List Member)
-    (members : List KeptSessionModel) (slots : SlotsModel) (total : ℕ) → IsConfiguration config
+pub opened_server : {config copy : Configuration} {stack : StackModel} {clients : List Member}
+    {members : List KeptSessionModel} {slots : SlotsModel} {total : ℕ} → IsConfiguration config
     → clients ≡ config.clients
     → copy ≡ config
     → stack ≡ first_stack config
@@ -116,28 +95,24 @@ pub opened_server : (config copy : Configuration) (stack : StackModel) (clients 
     → total ≡ slots_of_all clients
     → total ≤ 1024
     → AreServerParts copy stack members slots
-opened_server config copy stack clients members slots total c given copied stacked joined free sum few =
-    let all : total ≡ slots_of_all config.clients = sum ∙ ap slots_of_all given in
-    let same : slots ≡ none_taken (slots_of_all config.clients) = free ∙ ap none_taken all in
-    subst (λ (z : Configuration). AreServerParts z stack members slots) (sym copied)
-    (subst (λ (z : StackModel). AreServerParts config z members slots) (sym stacked)
-    (subst (λ (z : List KeptSessionModel). AreServerParts config (first_stack config) z slots)
-    (sym (joined ∙ ap (map first_kept_session) given))
-    (subst (λ (z : SlotsModel). AreServerParts config (first_stack config) (map first_kept_session config.clients) z)
-    (sym same)
-    (opened_is config c (subst (λ (n : ℕ). n ≤ 1024) all few)))))
+opened_server {config} {total = total} c given copied stacked joined free sum few =
+    let all : total ≡ slots_of_all config.clients = rw given at sum in
+    rw (copied, stacked, joined, given, free, all) (opened_is config c (rw all at few))
 
-pub opened_state : (config copy : Configuration) (stack : StackModel) (clients : List Member)
-    (members : List KeptSessionModel) (user : InputState)
+pub opened_state : {config copy : Configuration} {stack : StackModel} {clients : List Member}
+    {members : List KeptSessionModel} {user : InputState}
     → clients ≡ config.clients
     → copy ≡ config
     → stack ≡ first_stack config
     → members ≡ map first_kept_session clients
     → user ≡ first_input
     → state_of (server_of copy stack members user) ≡ first_state config
-opened_state config copy stack clients members user given copied stacked joined first =
-    let sessions : map (λ (m : KeptSessionModel). m.session) members
-    ≡ map (λ (m : Member). first_session m.donation) config.clients =
-    ap (map (λ (m : KeptSessionModel). m.session)) (joined ∙ ap (map first_kept_session) given)
-    ∙ map-map (λ (m : KeptSessionModel). m.session) first_kept_session config.clients in
-    λ i. record { config = copied i; sessions = sessions i; stack = views_of (stacked i).views; input = first i }
+opened_state {config} given copied stacked joined first =
+    rw (
+      copied,
+      stacked,
+      joined,
+      given,
+      first,
+      map-map (λ (m : KeptSessionModel). m.session) first_kept_session config.clients,
+    )

@@ -2,41 +2,25 @@
 use Rattle.nit_server.proofs.Basics.{AreServerParts, Call, Configuration, InputState, IsNamedBy}
 use Rattle.nit_server.proofs.Basics.{IsPlace, IsRectInRange, IsServed, IsSlotView, KeptSessionModel}
 use Rattle.nit_server.proofs.Basics.{Rectangle, ServerModel, Session, SlotView, SlotsModel}
-use Rattle.nit_server.proofs.Basics.{StackModel, View, accepted, after_accepted, and_parts}
-use Rattle.nit_server.proofs.Basics.{answered, by_handle, changed, first_session, has-name}
-use Rattle.nit_server.proofs.Basics.{has_slot, holds_of, input_after_call, int_le, ints, is_length}
-use Rattle.nit_server.proofs.Basics.{is_place, is_rectangle, is_slot, is_some, is_view, keeps_above}
-use Rattle.nit_server.proofs.Basics.{keeps_back, keeps_changed, keeps_front, layer, layer_of}
-use Rattle.nit_server.proofs.Basics.{leb-true, moved, moved_above, name-above, name-back}
+use Rattle.nit_server.proofs.Basics.{StackModel, View, accepted, after_accepted, agree_by}
+use Rattle.nit_server.proofs.Basics.{and_parts, answered, by_handle, changed, first_session}
+use Rattle.nit_server.proofs.Basics.{has-name, has_slot, holds_of, input_after_call, int_le, ints}
+use Rattle.nit_server.proofs.Basics.{is_length, is_place, is_rectangle, is_slot, is_some, is_view}
+use Rattle.nit_server.proofs.Basics.{keeps_above, keeps_back, keeps_changed, keeps_front, layer}
+use Rattle.nit_server.proofs.Basics.{layer_of, leb-true, moved, moved_above, name-above, name-back}
 use Rattle.nit_server.proofs.Basics.{name-changed, name-front, name_in, name_of, negsuc, on_view}
 use Rattle.nit_server.proofs.Basics.{pos, put_own_back, put_own_front, rectangle, refusal}
 use Rattle.nit_server.proofs.Basics.{second_none, server_of, session_in, set-get_or, slot_layer}
-use Rattle.nit_server.proofs.Basics.{slot_view_in, slot_view_layer, some_pair_parts, unless}
-use Rattle.nit_server.proofs.Basics.{views_above, views_backed, views_changed, views_fronted}
-use Rattle.nit_server.proofs.Basics.{views_of, with_offset, with_rect, with_title, ℤ}
-use Rattle.std.proofs.Common.{List, None, Option, Some, ap, arith, length, option_map, refl, set}
-use Rattle.std.proofs.Common.{subst, sym, true, ℕ, ◌&&◌, ◌∙◌, ◌≡◌}
+use Rattle.nit_server.proofs.Basics.{slot_view_in, slot_view_layer, some_pair_parts, views_above}
+use Rattle.nit_server.proofs.Basics.{views_backed, views_changed, views_fronted, views_of}
+use Rattle.nit_server.proofs.Basics.{with_offset, with_rect, with_title, ℤ}
+use Rattle.std.proofs.Common.{List, None, Option, Some, ap, arith, length, option_map, refl, sym}
+use Rattle.std.proofs.Common.{true, ℕ, ◌&&◌, ◌∙◌, ◌≡◌, map}
 use Rattle.nit_journal.specs.StackAfter.{stack_after_call}
 use Rattle.nit_events.specs.declared.call.Call.TheVariants as call
 use Rattle.nit_events.specs.declared.call.Reply.TheVariants as reply
-use Rattle.nit_server.proofs.NoRefusal.{by_call_none}
-use Rattle.nit_server.proofs.ServedCalls.{IsDone, IsRestacked, restacked, served_by}
+use Rattle.nit_server.proofs.ServedCalls.{by_call_none, IsDone, IsRestacked, restacked, served_by}
 use Rattle.nit_server.proofs.ServerLemmas.{layers_are}
-
--- ---- what the name of a slot's view tells
-
-pub is_there : (k sid handle : ℕ) (seats : List SlotView) → name_in k seats ≡ Some (sid, handle)
-    → has_slot k seats ≡ true
-is_there k sid handle seats e = has-name k seats ∙ ap is_some e
-
-pub layer_by_name : (s : StackModel) (k sid handle : ℕ) → name_in k s.views ≡ Some (sid, handle)
-    → slot_layer s k ≡ Some (layer_of s.layers sid)
-layer_by_name s k sid handle e = go (slot_view_in k s.views) e
-  where
-    go : (o : Option SlotView) → option_map name_of o ≡ Some (sid, handle) → option_map (slot_view_layer s.layers) o
-        ≡ Some (layer_of s.layers sid)
-    go None e = cc
-    go (Some a) e = ap (λ (t : ℕ). Some (layer_of s.layers t)) (some_pair_parts a.view.sid sid a.view.handle handle e).0
 
 -- ---- ranges, from the tests of a refusal
 
@@ -55,13 +39,18 @@ rectangle_range x y w h e =
 
 -- ---- calls that leave the machine as it is
 
-pub kept_views : (layers : ℕ → ℕ) (sid : ℕ) (c : Call) (views : List View)
-    → after_accepted layers sid c reply.Done views ≡ stack_after_call layers sid c reply.Done views
-unfolding stack_after_call
-kept_views layers sid c views = refl
+-- the layer of a slot's view, by its name
+layer_by_name : (s : StackModel) (k sid handle : ℕ) → name_in k s.views ≡ Some (sid, handle)
+    → slot_layer s k ≡ Some (layer_of s.layers sid)
+layer_by_name s k sid handle e = go (slot_view_in k s.views) e
+  where
+    go : (o : Option SlotView) → option_map name_of o ≡ Some (sid, handle) → option_map (slot_view_layer s.layers) o
+        ≡ Some (layer_of s.layers sid)
+    go None e = cc
+    go (Some a) e = rw (some_pair_parts a.view.sid sid a.view.handle handle e).0
 
-pub changed_by : (config : Configuration) (stack stack' : StackModel) (members : List KeptSessionModel)
-    (slots : SlotsModel) (user : InputState) (now : ServerModel) (sid : ℕ) (c : Call) (views : List SlotView)
+changed_by : {config : Configuration} {stack stack' : StackModel} {members : List KeptSessionModel}
+    {slots : SlotsModel} {user : InputState} {now : ServerModel} {sid : ℕ} (c : Call) (views : List SlotView)
     → AreServerParts config stack members slots
     → server_of config stack members user ≡ now
     → refusal (session_in now.sessions sid) c ≡ None
@@ -71,45 +60,29 @@ pub changed_by : (config : Configuration) (stack stack' : StackModel) (members :
     → IsRestacked stack views
     → views_of views ≡ after_accepted (layer config) sid c reply.Done (views_of stack.views)
     → IsDone config stack' members slots user sid c reply.Done now
-changed_by config stack stack' members slots user now sid c views s is free same input becomes r along =
-    subst (λ (n : ServerModel). IsDone config stack' members slots user sid c reply.Done n) is
-    (subst (λ (z : StackModel). IsDone config z members slots user sid c reply.Done before) (sym becomes) (record {
-      server = restacked config stack members slots views s r;
-      served = served_by before (server_of config (record stack { views = views }) members user) sid c reply.Done
-          (subst (λ (n : ServerModel). refusal (session_in n.sessions sid) c ≡ None) (sym is) free)
-          (ap (λ a. a.reply) (sym (same own)))
-          refl
-          (sym (ap (λ a. set before.sessions sid a.session) (same own)
-          ∙ set-get_or before.sessions sid (first_session 0)))
-          (along ∙ kept_views (layer config) sid c (views_of stack.views))
-          (sym (input before.input))
-          (λ k handle n. record { slots = r.standing.slots; names = r.standing.names; name = r.names k ∙ n.name });
-    }))
-  where
-    before : ServerModel
-    before = server_of config stack members user
+unfolding stack_after_call
+changed_by {stack = stack} {members = members} {user = user} {sid = sid} c views s is free same input becomes r along =
+    let own : Session = session_in (map (λ m. m.session) members) sid in
+    rw (becomes, ← is) (record {
+      server = restacked s r;
+      served = served_by (rw (← is) at free) (sym (ap (λ a. a.reply) (same own))) refl
+          (rw (same own) (sym (set-get_or (map (λ m. m.session) members) sid (first_session 0)))) along
+          (sym (input user))
+          (λ k handle n. agree_by k sid handle views
+          (record { slots = r.standing.slots; names = r.standing.names; name = r.names k ∙ n.name }));
+    })
 
-    own : Session
-    own = session_in before.sessions sid
-
-module _ (config : Configuration) (stack : StackModel) (members : List KeptSessionModel) (slots : SlotsModel)
-    (user : InputState) (now : ServerModel) (s : AreServerParts config stack members slots)
-    (is : server_of config stack members user ≡ now) (k sid handle : ℕ)
-    (named : IsNamedBy k sid handle now.stack.views) where
+module _ {config : Configuration} {stack : StackModel} {members : List KeptSessionModel} {slots : SlotsModel}
+    {user : InputState} {now : ServerModel} {k sid handle : ℕ} (s : AreServerParts config stack members slots)
+    (is : server_of config stack members user ≡ now) (named : IsNamedBy k sid handle now.stack.views) where
   here : IsNamedBy k sid handle stack.views
-  here = subst (λ (n : ServerModel). IsNamedBy k sid handle n.stack.views) (sym is) named
+  here = rw (← is) at named
 
   pub there : has_slot k stack.views ≡ true
-  there = is_there k sid handle stack.views here.name
-
-  pub same_layer : (n next : ℕ) → IsNamedBy n sid next now.stack.views → slot_layer stack k ≡ slot_layer stack n
-  same_layer n next other =
-      let also : IsNamedBy n sid next stack.views =
-      subst (λ (z : ServerModel). IsNamedBy n sid next z.stack.views) (sym is) other in
-      layer_by_name stack k sid handle here.name ∙ sym (layer_by_name stack n sid next also.name)
+  there = has-name k stack.views ∙ ap is_some here.name
 
   -- the view in its slot is another, of the same name
-  changes : (stack' : StackModel) (c : Call) (change : View → View)
+  changes : {stack' : StackModel} (c : Call) (change : View → View)
       → refusal (session_in now.sessions sid) c ≡ None
       → ((z : Session) → accepted z c ≡ answered reply.Done z)
       → ((i : InputState) → input_after_call sid c reply.Done i ≡ i)
@@ -120,117 +93,113 @@ module _ (config : Configuration) (stack : StackModel) (members : List KeptSessi
       → ((views : List View) → changed (is_view sid handle) change views
       ≡ after_accepted (layer config) sid c reply.Done views)
       → IsDone config stack' members slots user sid c reply.Done now
-  changes stack' c change free same input becomes name sound along =
-      changed_by config stack stack' members slots user now sid c (changed (is_slot k) (on_view change) stack.views) s
-      is free same input becomes
+  changes c change free same input becomes name sound along =
+      changed_by c (changed (is_slot k) (on_view change) stack.views) s is free same input becomes
       (record {
         standing = keeps_changed stack k change s.standing name sound;
-        names =
-            λ j. name-changed j k change stack.views name;
+        names = λ j. name-changed j k change stack.views name;
       })
       (views_changed k sid handle change stack.views here ∙ along (views_of stack.views))
 
-  pub placed : (stack' : StackModel) (x y left top : ℤ) (w h : ℕ) (r : Rectangle)
+  pub placed : {stack' : StackModel} {left top : ℤ} {r : Rectangle} (x y : ℤ) (w h : ℕ)
       → refusal (session_in now.sessions sid) (call.Place handle x y w h) ≡ None
       → left ≡ x
       → top ≡ y
       → r ≡ rectangle left top w h
       → stack' ≡ record stack { views = changed (is_slot k) (on_view (with_rect r)) stack.views }
       → IsDone config stack' members slots user sid (call.Place handle x y w h) reply.Done now
-  placed stack' x y left top w h r free across down is_rect becomes =
-      let same : r ≡ rectangle x y w h = is_rect ∙ (λ i. rectangle (across i) (down i) w h) in
-      let own = session_in now.sessions sid in
+  placed {r = r} x y w h free across down is_rect becomes =
+      let same : r ≡ rectangle x y w h = rw (across, down) at is_rect in
       let tested : is_rectangle x y w h ≡ true =
       holds_of (is_rectangle x y w h) reply.BadRect
-      (second_none (by_handle own handle) (unless (is_rectangle x y w h) reply.BadRect)
-      (by_call_none own (call.Place handle x y w h) free)) in
-      let range : IsRectInRange r = subst IsRectInRange (sym same) (rectangle_range x y w h tested) in
-      changes stack' (call.Place handle x y w h) (with_rect r) free (λ z. refl) (λ i. refl) becomes (λ v. (refl, refl))
+      (second_none (by_handle (session_in now.sessions sid) handle) _
+      (by_call_none (session_in now.sessions sid) (call.Place handle x y w h) free))
+      in
+      let range : IsRectInRange r = rw same (rectangle_range x y w h tested) in
+      changes (call.Place handle x y w h) (with_rect r) free (λ z. refl) (λ i. refl) becomes (λ v. (refl, refl))
       (λ a f. record { slot = f.slot; session = f.session; column = f.column; row = f.row; rect = range })
       (λ views. ap (λ (z : Rectangle). changed (is_view sid handle) (with_rect z) views) same)
 
-  pub offset_range : (ox oy column row : ℤ) → refusal (session_in now.sessions sid) (call.Offset handle ox oy) ≡ None
+  pub offset_range : {column row : ℤ} (ox oy : ℤ)
+      → refusal (session_in now.sessions sid) (call.Offset handle ox oy) ≡ None
       → column ≡ ox → row ≡ oy → IsPlace column × IsPlace row
-  offset_range ox oy column row free across down =
-      let own = session_in now.sessions sid in
+  offset_range ox oy free across down =
       let tested : (is_place ox && is_place oy) ≡ true =
       holds_of (is_place ox && is_place oy) reply.BadRect
-      (second_none (by_handle own handle) (unless (is_place ox && is_place oy) reply.BadRect)
-      (by_call_none own (call.Offset handle ox oy) free)) in
+      (second_none (by_handle (session_in now.sessions sid) handle) _
+      (by_call_none (session_in now.sessions sid) (call.Offset handle ox oy) free))
+      in
       let both = and_parts (is_place ox) (is_place oy) tested in
-      (subst IsPlace (sym across) (place_range ox both.0), subst IsPlace (sym down) (place_range oy both.1))
+      rw (across, down) (place_range ox both.0, place_range oy both.1)
 
-  pub offset_by : (stack' : StackModel) (ox oy column row : ℤ)
+  pub offset_by : {stack' : StackModel} {column row : ℤ} (ox oy : ℤ)
       → refusal (session_in now.sessions sid) (call.Offset handle ox oy) ≡ None
       → column ≡ ox
       → row ≡ oy
       → stack' ≡ record stack { views = changed (is_slot k) (on_view (with_offset column row)) stack.views }
       → IsDone config stack' members slots user sid (call.Offset handle ox oy) reply.Done now
-  offset_by stack' ox oy column row free across down becomes =
-      let range = offset_range ox oy column row free across down in
-      changes stack' (call.Offset handle ox oy) (with_offset column row) free (λ z. refl) (λ i. refl) becomes
+  offset_by {column = column} {row} ox oy free across down becomes =
+      let range = offset_range ox oy free across down in
+      changes (call.Offset handle ox oy) (with_offset column row) free (λ z. refl) (λ i. refl) becomes
       (λ v. (refl, refl))
       (λ a f. record { slot = f.slot; session = f.session; column = range.0; row = range.1; rect = f.rect })
       (λ views. λ i. changed (is_view sid handle) (with_offset (across i) (down i)) views)
 
-  pub titled : (stack' : StackModel) (text title : List ℕ)
+  pub titled : {stack' : StackModel} {text title : List ℕ}
       → refusal (session_in now.sessions sid) (call.Title handle text) ≡ None
       → title ≡ text
       → stack' ≡ record stack { views = changed (is_slot k) (on_view (with_title title)) stack.views }
       → IsDone config stack' members slots user sid (call.Title handle text) reply.Done now
-  titled stack' text title free same becomes =
-      changes stack' (call.Title handle text) (with_title title) free (λ z. refl) (λ i. refl) becomes
-      (λ v. (refl, refl))
+  titled {text = text} {title} free same becomes =
+      changes (call.Title handle text) (with_title title) free (λ z. refl) (λ i. refl) becomes (λ v. (refl, refl))
       (λ a f. record { slot = f.slot; session = f.session; column = f.column; row = f.row; rect = f.rect })
       (λ views. ap (λ (z : List ℕ). changed (is_view sid handle) (with_title z) views) same)
 
-  pub fronted : (stack' : StackModel)
+  pub fronted : {stack' : StackModel}
       → refusal (session_in now.sessions sid) (call.Front handle) ≡ None
       → stack' ≡ record stack { views = moved (is_slot k) (put_own_front (slot_view_layer stack.layers)) stack.views }
       → IsDone config stack' members slots user sid (call.Front handle) reply.Done now
-  fronted stack' free becomes =
-      changed_by config stack stack' members slots user now sid (call.Front handle)
-      (moved (is_slot k) (put_own_front (slot_view_layer stack.layers)) stack.views) s is free (λ z. refl)
-      (λ i. refl) becomes
+  fronted free becomes =
+      changed_by (call.Front handle) _ s is free (λ z. refl) (λ i. refl) becomes
       (record {
         standing = keeps_front stack k s.standing there;
-        names =
-            λ j. name-front j k (slot_view_layer stack.layers) stack.views there;
+        names = λ j. name-front j k (slot_view_layer stack.layers) stack.views there;
       })
       (views_fronted k sid handle (layer_of stack.layers) stack.views here
       ∙ ap (λ (l : ℕ → ℕ). after_accepted l sid (call.Front handle) reply.Done (views_of stack.views))
       (layers_are config stack.layers s.layers))
 
-  pub backed : (stack' : StackModel)
+  pub backed : {stack' : StackModel}
       → refusal (session_in now.sessions sid) (call.Back handle) ≡ None
       → stack' ≡ record stack { views = moved (is_slot k) (put_own_back (slot_view_layer stack.layers)) stack.views }
       → IsDone config stack' members slots user sid (call.Back handle) reply.Done now
-  backed stack' free becomes =
-      changed_by config stack stack' members slots user now sid (call.Back handle)
-      (moved (is_slot k) (put_own_back (slot_view_layer stack.layers)) stack.views) s is free (λ z. refl)
-      (λ i. refl) becomes
+  backed free becomes =
+      changed_by (call.Back handle) _ s is free (λ z. refl) (λ i. refl) becomes
       (record {
         standing = keeps_back stack k s.standing there;
-        names =
-            λ j. name-back j k (slot_view_layer stack.layers) stack.views there;
+        names = λ j. name-back j k (slot_view_layer stack.layers) stack.views there;
       })
       (views_backed k sid handle (layer_of stack.layers) stack.views here
       ∙ ap (λ (l : ℕ → ℕ). after_accepted l sid (call.Back handle) reply.Done (views_of stack.views))
       (layers_are config stack.layers s.layers))
 
-  pub put_above_next : (stack' : StackModel) (n next : ℕ)
+  -- two views of a session have one layer
+  pub same_layer : {n next : ℕ} → IsNamedBy n sid next now.stack.views → slot_layer stack k ≡ slot_layer stack n
+  same_layer {n} {next} other =
+      let also : IsNamedBy n sid next stack.views = rw (← is) at other in
+      layer_by_name stack k sid handle here.name ∙ sym (layer_by_name stack n sid next also.name)
+
+  pub put_above_next : {stack' : StackModel} {n next : ℕ}
       → IsNamedBy n sid next now.stack.views
       → refusal (session_in now.sessions sid) (call.Above handle next) ≡ None
       → stack' ≡ record stack { views = moved_above k n stack.views }
       → IsDone config stack' members slots user sid (call.Above handle next) reply.Done now
-  put_above_next stack' n next other free becomes =
-      let also : IsNamedBy n sid next stack.views =
-      subst (λ (z : ServerModel). IsNamedBy n sid next z.stack.views) (sym is) other in
-      changed_by config stack stack' members slots user now sid (call.Above handle next) (moved_above k n stack.views) s
-      is free (λ z. refl) (λ i. refl) becomes
+  put_above_next {n = n} {next} other free becomes =
+      let also : IsNamedBy n sid next stack.views = rw (← is) at other in
+      changed_by (call.Above handle next) _ s is free (λ z. refl) (λ i. refl) becomes
       (record {
-        standing = keeps_above stack k n s.standing there (is_there n sid next stack.views also.name)
-            (same_layer n next other);
+        standing = keeps_above stack k n s.standing there (has-name n stack.views ∙ ap is_some also.name)
+            (same_layer other);
         names = λ j. name-above j k n stack.views there;
       })
       (views_above k n sid handle next stack.views here also)
@@ -239,9 +208,7 @@ module _ (config : Configuration) (stack : StackModel) (members : List KeptSessi
 pub refreshed : (now : ServerModel) (sid : ℕ) (x y : ℤ) (w h : ℕ)
     → refusal (session_in now.sessions sid) (call.Refresh x y w h) ≡ None
     → IsServed sid (call.Refresh x y w h) reply.Done now now
+unfolding stack_after_call
 refreshed now sid x y w h free =
-    served_by now now sid (call.Refresh x y w h) reply.Done free refl refl
-    (sym (set-get_or now.sessions sid (first_session 0)))
-    (kept_views (layer now.config) sid (call.Refresh x y w h) (views_of now.stack.views))
-    refl
-    (λ k handle n. n)
+    served_by free refl refl (sym (set-get_or now.sessions sid (first_session 0))) refl refl
+    (λ k handle n. agree_by k sid handle now.stack.views n)

@@ -12,6 +12,6 @@ with_opened sid label s =
       sessions = slice_set s.sessions sid (first_session (donation_of s.config sid));
     }
 
--- the same, once all that was left of it is gone
+-- a server on which a session has ended and one of this label has opened in its seat
 abbrev pub with_reopened : ℕ → List ℕ → ServerModel → ServerModel
 with_reopened sid label s = with_opened sid label (with_ended sid status.Killed s)

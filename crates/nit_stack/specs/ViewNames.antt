@@ -34,7 +34,7 @@ MeanSame k sid handle seats = AllByRecursion (λ s. is_slot k s ≡ is_named sid
 abbrev pub view_layer : (ℕ → ℕ) → View → ℕ
 view_layer layer v = layer v.sid
 
--- the same of a view in its slot
+-- the layer of a view that stands in a slot
 abbrev pub layer_of_slot_view : (ℕ → ℕ) → SlotView → ℕ
 layer_of_slot_view layer s = layer s.view.sid
 

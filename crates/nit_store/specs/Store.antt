@@ -45,11 +45,11 @@ PutIn name bytes None new = new ≡ None
 PutIn name bytes (Some old) new =
     (files : List File) × (new ≡ Some files) × IsPut name bytes old files
 
--- the same, with this text at the end of what was said, where that is told
+-- a store with this text at the end of what was said, where that is told
 abbrev pub with_said : StoreModel → List ℕ → StoreModel
 with_said shown text = record shown { said = option_map (λ said. said ++ text) shown.said }
 
--- the same, with this name at the end of the names that were asked for, where they are told
+-- a store with this name at the end of the names that were asked for, where they are told
 abbrev pub with_asked : StoreModel → List ℕ → StoreModel
 with_asked shown name =
     record shown { asked = option_map (λ names. names ++ name ∷ []) shown.asked }

@@ -23,7 +23,7 @@ pub(crate) fn copied(alloc: Global, config: &Config) -> Result<Config, NoMemory>
     })
 }
 
-/// The same clients in the same order.
+/// A list of equal clients in the same order, in memory of its own.
 fn copied_clients(alloc: Global, clients: &[Member]) -> Result<Vec<Member>, NoMemory>
     requires { All IsMember clients.now }
     ensures { IfOk result (λ v. v.items ≡ clients.now) }
@@ -35,7 +35,7 @@ fn copied_clients(alloc: Global, clients: &[Member]) -> Result<Vec<Member>, NoMe
     Ok(copies)
 }
 
-/// The same client.
+/// A client of the same values, in memory of its own.
 fn copied_client(alloc: Global, client: &Member) -> Result<Member, NoMemory>
     requires { IsTrue (is_file_name client.now.script) }
     ensures { IfOk result (λ c. c ≡ client.now) }
@@ -50,7 +50,7 @@ fn copied_client(alloc: Global, client: &Member) -> Result<Member, NoMemory>
     })
 }
 
-/// The same name.
+/// A file name of the same bytes, in memory of its own.
 fn copied_name(alloc: Global, name: &FileName) -> Result<FileName, NoMemory>
     requires { IsTrue (is_file_name name.now) }
     ensures { IfOk result (λ n. n ≡ name.now) }

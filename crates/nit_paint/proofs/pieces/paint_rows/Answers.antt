@@ -8,8 +8,7 @@ use Rattle.nit_paint.proofs.pieces.paint_rows.Goals as goal
 pub rows-init : goal.rows-init
 rows-init g c = record {
   painted = λ source sid others told. rows_none source c.args.block.now _ _ _;
-  size =
-      refl;
+  size = refl;
   rest = refl;
 }
 

@@ -1,47 +1,36 @@
 use Rattle.nit_paint.proofs.Lemmas.{arith, ints, no_sight, own_seen_by, repainted_words, rows_fit}
-use Rattle.nit_paint.proofs.Lemmas.{seat_stands, session_shown, view_told, whole_piece, width_is}
+use Rattle.nit_paint.proofs.Lemmas.{seat_stands, session_shown, view_told, whole_piece}
 use Rattle.nit_paint.proofs.pieces.paint_view.Goals as goal
 
 pub buffer-w-requires : goal.buffer-w-requires
-buffer-w-requires g c =
-    let s = c.args.stack.now in
-    let seat = seat_stands s c.in-Some.v c.view-view.result c.view-view.ensures.standing c.view-view.ensures.value in
-    seat.session
+buffer-w-requires g c = (seat_stands c.view-view.ensures.standing c.view-view.ensures.value).session
 
 pub buffer_place-column-requires-clause-offset : goal.buffer_place-column-requires-clause-offset
 buffer_place-column-requires-clause-offset g c =
-    let seat = seat_stands c.args.stack.now c.in-Some.v c.view-view.result c.view-view.ensures.standing
-    c.view-view.ensures.value in
-    let column = seat.column in
+    let column = (seat_stands c.view-view.ensures.standing c.view-view.ensures.value).column in
     (omega (arith, ints), omega (arith, ints))
 
 pub buffer_place-row-requires-clause-offset : goal.buffer_place-row-requires-clause-offset
 buffer_place-row-requires-clause-offset g c =
-    let seat = seat_stands c.args.stack.now c.in-Some.v c.view-view.result c.view-view.ensures.standing
-    c.view-view.ensures.value in
-    let row = seat.row in
+    let row = (seat_stands c.view-view.ensures.standing c.view-view.ensures.value).row in
     (omega (arith, ints), omega (arith, ints))
 
 pub paint_rows-requires-clause-pixels : goal.paint_rows-requires-clause-pixels
 paint_rows-requires-clause-pixels g c =
     let b = c.new-block.result in
-    let width = width_is b.width c.size-width.result c.args.stack.now.width c.args.stack.now.height
-    c.new-block.ensures.width c.size-width.ensures.size in
-    let fit = rows_fit c.args.stack.now c.args.piece.now b c.new-block.ensures.rectangle width b.across
-    c.requires.piece in
-    rw c.requires.raw fit
+    let width = rw c.size-width.ensures.size at c.new-block.ensures.width in
+    rw c.requires.raw (rows_fit b c.requires.piece c.new-block.ensures.rectangle width b.across)
 
 pub returns-clause-painted : goal.returns-clause-painted
 returns-clause-painted g c others =
     let b = c.new-block.result in
     let is = c.new-block.ensures.rectangle in
-    let width = width_is b.width c.size-width.result c.args.stack.now.width c.args.stack.now.height
-    c.new-block.ensures.width c.size-width.ensures.size in
+    let width = rw c.size-width.ensures.size at c.new-block.ensures.width in
     whole_piece _ b _ _ _ _ _ _ _ is width
     (c.paint_rows.ensures.painted _ _ others
-    (view_told c.args.stack.now c.args.piece.now b is width b.across c.requires.piece c.in-Some.v c.view-view.result _ _
-    _ _ c.new-reach.result c.in-Some.is c.view-view.ensures.standing c.view-view.ensures.value
-    c.buffer-w.ensures.size (omega (arith, ints)) (omega (arith, ints)) c.new-reach.ensures.places))
+    (view_told b c.requires.piece is width b.across c.new-reach.result c.in-Some.is c.view-view.ensures.standing
+    c.view-view.ensures.value c.buffer-w.ensures.size (omega (arith, ints)) (omega (arith, ints))
+    c.new-reach.ensures.places))
 
 pub returns-clause-kept : goal.returns-clause-kept
 returns-clause-kept g c =

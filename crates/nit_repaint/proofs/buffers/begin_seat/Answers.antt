@@ -1,6 +1,5 @@
-use Rattle.std.proofs.Common.{ap, sym, ◌∙◌}
-use Rattle.nit_repaint.proofs.Basics.{SlotView, slice_get}
-use Rattle.nit_repaint.proofs.Lemmas.{once, same_Some, seat_session, seat_set, seat_unset, wanted_here}
+use Rattle.nit_repaint.proofs.Lemmas.{ap, once, same_Some, seat_session, seat_set}
+use Rattle.nit_repaint.proofs.Lemmas.{seat_unset, sym, wanted_here, ◌∙◌}
 use Rattle.nit_repaint.proofs.buffers.begin_seat.Goals as goal
 
 pub returns-then-session-of-clause-none : goal.returns-then-session-of-clause-none

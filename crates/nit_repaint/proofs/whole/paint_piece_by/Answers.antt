@@ -13,6 +13,7 @@ returns-in-Some g c =
           _ _ _ _ _ _ (shown_session c.args.stack.now c.args.piece.now c.in-Some.v t c.in-Some.is
           c.session_of-session.ensures.session) c.load_view.ensures.painted;
       count = c.load_view.ensures.count;
-      rests = left_at g.C.Glass.rest gs this c.load_view.new.glass t (get_or_default gs t _ _ within) within
+      rests =
+          left_at g.C.Glass.rest gs this c.load_view.new.glass t (get_or_default gs t _ _ within)
           c.load_view.ensures.rest;
     }

@@ -9,11 +9,4 @@ returns-clause-painted g c before change =
 
 pub returns-clause-kept : goal.returns-clause-kept
 returns-clause-kept g c =
-    let e = c.paint_to_come.ensures.kept in
-    record {
-      count = e.count;
-      room = e.room ∙ c.begin_changed.ensures.room;
-      idle = e.idle;
-      rest_of_own = e.rest_of_own;
-      rests = e.rests;
-    }
+    assumption (c.paint_to_come.ensures.kept.room ∙ c.begin_changed.ensures.room, c.paint_to_come.ensures.kept)

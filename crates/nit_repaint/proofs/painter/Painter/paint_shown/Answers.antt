@@ -16,7 +16,7 @@ returns-else-session-sid g c = record {
           c.args.sid c.if-session-sid.false;
       rest_of_own = refl;
       rests = left_at g.G.Glass.rest c.args.self.now.glasses.items c.index_mut-glass.result.now
-          c.load_view-else-session-sid.new.glass c.args.session c.index_mut-glass.ensures.value c.requires.glass
+          c.load_view-else-session-sid.new.glass c.args.session c.index_mut-glass.ensures.value
           c.load_view-else-session-sid.ensures.rest;
     };
   };

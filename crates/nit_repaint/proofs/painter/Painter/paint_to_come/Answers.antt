@@ -7,7 +7,7 @@ pub pieces-init : goal.pieces-init
 pieces-init g c = record {
   fits = c.requires.fits;
   less = λ p. omega arith;
-  marked = nothing_painted _ _ _ _ _ _ _ _ _ (none_came (source_of_number c.args.stack.now) c.args.stack.now _
+  marked = nothing_painted (none_came (source_of_number c.args.stack.now) c.args.stack.now _
       c.args.self.now.cutter _ c.args.self.now.raw.items);
 }
 
@@ -39,7 +39,7 @@ pieces-preserved g c =
     record {
       fits = rw p'.cutter e.fits;
       less = rw p'.cutter (λ p. let was = i.less p in let now = e.count p in omega arith);
-      marked = more_painted _ _ _ _ _ _ _ _ _ _ _ _ _ _ _ _ i.marked e.room p'.marked
+      marked = more_painted i.marked e.room p'.marked
           (rw p'.cutter (one_came (source_of_number c.args.stack.now) c.args.stack.now _ c.args.self.now.cutter
           c.pieces.self.cutter c.next.new.self c.in-Some.piece.rect _ _ _ _ _ _
           c.requires.fits.once i.less e.count e.came i.marked.painted
@@ -52,11 +52,5 @@ returns g c =
     record {
       painted = all_came (source_of_number c.args.stack.now) c.args.stack.now _ c.args.self.now.cutter
           c.pieces.self.cutter _ _ _ _ c.in_default.ensures.came i.painted;
-      kept = record {
-        count = i.kept.count;
-        room = c.in_default.ensures.room ∙ i.kept.room;
-        idle = i.kept.idle;
-        rest_of_own = i.kept.rest_of_own;
-        rests = i.kept.rests;
-      };
+      kept = assumption (c.in_default.ensures.room ∙ i.kept.room, i.kept);
     }

@@ -1,4 +1,5 @@
-use Rattle.nit_repaint.proofs.Lemmas.{all_came, all_painted, arith, none_came, one_came}
+use Rattle.nit_repaint.proofs.Lemmas.{true}
+use Rattle.nit_repaint.proofs.Lemmas.{all_came, arith, comes_as, none_came, one_came}
 use Rattle.nit_repaint.proofs.Lemmas.{other_count, refl, screen_of, source_of_number, still_held}
 use Rattle.nit_repaint.proofs.Lemmas.{◌∙◌}
 use Rattle.nit_repaint.proofs.painter.Painter.paint_whole.Goals as goal
@@ -60,7 +61,7 @@ pub returns-clause-painted : goal.returns-clause-painted
 returns-clause-painted g c =
     let i = c.pieces.invariant.marked in
     record {
-      painted = all_painted (source_of_number c.args.stack.now) c.args.stack.now c.begin_all.new.self _ _ _ _ _
+      painted = comes_as (source_of_number c.args.stack.now) c.args.stack.now c.begin_all.new.self (λ p. true) _ _ _ _ _
           c.requires.owns.pixels c.begin_all.ensures.to_come
           (all_came (source_of_number c.args.stack.now) c.args.stack.now _ c.begin_all.new.self c.pieces.self.cutter
           _ _ _ _ c.in_default.ensures.came i.painted);

@@ -1,8 +1,7 @@
 use Rattle.std.proofs.Common.{◌&&◌}
-use Rattle.nit_repaint.proofs.Basics.{nothing_set, pixel}
 use Rattle.nit_repaint.proofs.Lemmas.{Point, arith, first_shown, is_slot, is_wanted, last_shown}
-use Rattle.nit_repaint.proofs.Lemmas.{length, next_shown, owner_passes, refl, seat_here, seat_there}
-use Rattle.nit_repaint.proofs.Lemmas.{shown_as, shown_at, ◌∙◌}
+use Rattle.nit_repaint.proofs.Lemmas.{length, next_shown, nothing_set, owner_passes, pixel, refl}
+use Rattle.nit_repaint.proofs.Lemmas.{seat_there, shown_as, shown_at, ◌∙◌}
 use Rattle.nit_repaint.proofs.painter.Painter.show_session.Goals as goal
 
 pub views-init : goal.views-init
@@ -25,10 +24,8 @@ views-preserved g c =
       room = e.room ∙ c.begin_seat-is_of_session.ensures.room ∙ v.room;
       raw = v.raw;
       glasses = v.glasses;
-      shown = next_shown s (length c.args.self.now.raw.items) c.args.of c.args.part.now c.views.i x.0 word word
-          c.args.frame.now c.views.frame c.show_to_come.new.frame
-          c.len-views.ensures.standing.slots (seat_here s.views c.views.i x.0 c.len-views.ensures.standing.slots x.1)
-          x.1 (λ k out. refl) v.shown
+      shown = next_shown s _ c.args.of c.args.part.now c.views.i x.0 word word _ _ _
+          c.len-views.ensures.standing.slots x.1 (λ k out. refl) v.shown
           (shown_as s c.begin_seat-is_of_session.new.cutter
           (λ (p : Point). owner_passes (is_slot x.0.slot) s p && is_wanted c.args.of c.args.part.now s p x.0) _ _ _
           _ c.requires.look.pixels (c.begin_seat-is_of_session.ensures.to_come c.if-not-is_of_session.false x.0 x.1)
@@ -45,10 +42,8 @@ views-preserved-then-not-is_of_session g c =
       room = c.begin_seat-is_of_session.ensures.room ∙ v.room;
       raw = v.raw;
       glasses = v.glasses;
-      shown = next_shown s (length c.args.self.now.raw.items) c.args.of c.args.part.now c.views.i x.0 word word
-          c.args.frame.now c.views.frame c.views.frame
-          c.len-views.ensures.standing.slots (seat_here s.views c.views.i x.0 c.len-views.ensures.standing.slots x.1)
-          x.1 (λ k out. refl) v.shown
+      shown = next_shown s _ c.args.of c.args.part.now c.views.i x.0 word word _ _ _
+          c.len-views.ensures.standing.slots x.1 (λ k out. refl) v.shown
           (nothing_set _ _ _ _ (λ k l. c.begin_seat-is_of_session.ensures.none c.if-not-is_of_session.true x.0 x.1
           (pixel s.width k)));
     }

@@ -2,12 +2,13 @@ use Rattle.nit_server.proofs.Lemmas.{buffered}
 use Rattle.nit_server.proofs.server.Server.buffer.Goals as goal
 
 pub invariant_of-self : goal.invariant_of-self
-invariant_of-self c = (
-  (buffered _ _ _ _ _ _ c.self.invariant.0 c.self.view_is _ c.requires.session _
-      c.index_mut.ensures.value _ _ _ _ c.requires.accepted c.buffer.ensures c.set_buffer.ensures).server,
-  c.self.invariant.1,
-)
+invariant_of-self c =
+    let done =
+    buffered c.self.invariant.0 c.self.view_is c.requires.session c.index_mut.ensures.value c.requires.accepted
+    c.buffer.ensures c.set_buffer.ensures in
+    (done.server, c.self.invariant.1)
 
 pub returns : goal.returns
-returns c = (buffered _ _ _ _ _ _ c.self.invariant.0 c.self.view_is _ c.requires.session _ c.index_mut.ensures.value _ _
-    _ _ c.requires.accepted c.buffer.ensures c.set_buffer.ensures).served
+returns c =
+    (buffered c.self.invariant.0 c.self.view_is c.requires.session c.index_mut.ensures.value c.requires.accepted
+    c.buffer.ensures c.set_buffer.ensures).served

@@ -1,23 +1,16 @@
-use Rattle.std.proofs.Common.{ap, ◌∙◌, ◌≡◌}
-use Rattle.nit_server.proofs.Lemmas.{Routing, routed_as, routed_is, routing_of, server_of}
+use Rattle.std.proofs.Common.{◌≡◌, ap, ◌∙◌}
+use Rattle.nit_server.proofs.Lemmas.{Routing, routed_as, routed_is, routing_of}
 use Rattle.nit_focus.specs.Focus as focusing
 use Rattle.nit_server.proofs.server.Server.route.Goals as goal
 
 -- the step of the focus is the one of the state
 step : (c : goal.After-input) → focusing.routing_at c.self.inside.focus c.pointed-pointed.result c.args.dev
     ≡ routing_of c.args.self.now c.args.dev
-step c =
-    let i = c.self.inside in
-    routed_is i.config i.stack i.members.items i.slots i.focus c.self.invariant.0 c.self.invariant.1 c.args.dev
-    c.args.self.now c.self.view_is c.pointed-pointed.result c.pointed-pointed.ensures.session
+step c = routed_is c.self.invariant.0 c.self.invariant.1 c.args.dev c.self.view_is c.pointed-pointed.ensures.session
     c.pointed-pointed.ensures.known
 
 pub returns-clause-server : goal.returns-clause-server
-returns-clause-server c =
-    let i = c.self.inside in
-    (λ j. server_of i.config i.stack i.members.items (c.input.ensures.state j).input)
-    ∙ (λ j. server_of i.config i.stack i.members.items (step c j).state)
-    ∙ (λ j. record (c.self.view_is j) { input = (routing_of c.args.self.now c.args.dev).state })
+returns-clause-server c = rw (c.input.ensures.state, step c, ← c.self.view_is)
 
 pub returns-clause-routed : goal.returns-clause-routed
 returns-clause-routed c = c.input.ensures.routed ∙ ap (λ (r : Routing). routed_as r.deliveries) (step c)
