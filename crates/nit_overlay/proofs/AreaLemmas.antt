@@ -1,10 +1,9 @@
 -- An area is painted row by row.
-use Rattle.std.proofs.Common.{Bool, List, ap, ap₂, arith, cond, false, get_or, inl, inr, leb}
-use Rattle.std.proofs.Common.{length, ltb, refl, rules, subst, sym, true, ℕ, ◌%◌, ◌&&◌, ◌*◌, ◌+◌}
-use Rattle.std.proofs.Common.{◌-◌, ◌/◌, ◌<◌, ◌∙◌, ◌≡◌, ◌≤◌}
-use Rattle.nit_overlay.proofs.Basics.{Area, IsOverlaid, IsPainted, between, cases_lt}
-use Rattle.nit_overlay.proofs.Basics.{div-lt_iff_lt-mul, div-mul-add, get_or-between, in_area}
-use Rattle.nit_overlay.proofs.Basics.{le-div, mod-mul-add, nat_tests, places}
+use Rattle.std.proofs.Common.{List, ap, arith, cond, false, get_or, inl, inr, length, rules, true}
+use Rattle.std.proofs.Common.{ℕ, ◌%◌, ◌*◌, ◌+◌, ◌-◌, ◌/◌, ◌<◌, ◌∙◌, ◌≡◌, ◌≤◌}
+use Rattle.nit_overlay.proofs.Basics.{Area, IsOverlaid, IsPainted, between, cases_lt, div-mul-add}
+use Rattle.nit_overlay.proofs.Basics.{get_or-between, in_area, le-div, mod-mul-add, nat_tests}
+use Rattle.nit_overlay.proofs.Basics.{places}
 use borrow.Rule.Slice.PartMut.{put_mid}
 use Rattle.nit_overlay.proofs.RowParts.{painted_by}
 
@@ -13,17 +12,6 @@ use Rattle.nit_overlay.proofs.RowParts.{painted_by}
 put_in : (a n : ℕ) (xs mid : List ℕ) (k : ℕ) → a + n ≤ length xs → length mid ≡ n → k < n
     → get_or (put_mid a n xs mid) (a + k) 0 ≡ get_or mid k 0
 put_in a n xs mid k room long lt = search (rules, places)
-
-put_before : (a n : ℕ) (xs mid : List ℕ) (k : ℕ) → a + n ≤ length xs → length mid ≡ n → k < a
-    → get_or (put_mid a n xs mid) k 0 ≡ get_or xs k 0
-put_before a n xs mid k room long lt = search (rules, places)
-
-put_after : (a n : ℕ) (xs mid : List ℕ) (k : ℕ) → a + n ≤ length xs → length mid ≡ n → a + n ≤ k
-    → get_or (put_mid a n xs mid) k 0 ≡ get_or xs k 0
-put_after a n xs mid k room long le = search (rules, places)
-
-in_row : (xs : List ℕ) (a n x : ℕ) → x < n → get_or (between a (a + n) xs) x 0 ≡ get_or xs (a + x) 0
-in_row xs a n x lt = get_or-between xs a (a + n) x 0 (omega arith)
 
 -- a row that was painted by its columns, in the whole
 pub put_back : (f : ℕ → ℕ → ℕ) (raw old mid : List ℕ) (start n from to : ℕ) → start + n ≤ length old → length mid ≡ n
@@ -34,75 +22,37 @@ put_back f raw old mid start n from to room long order short row = record {
   painted =
       λ k le lt.
       let e : start + (k - start) ≡ k = omega arith in
-      subst (λ i. get_or (put_mid start n old mid) i 0 ≡ f i (get_or raw i 0)) e
-      (put_in start n old mid (k - start) room long (omega arith) ∙ row.painted (k - start) (omega arith) (omega arith)
-      ∙ ap (λ w. f (start + (k - start)) w) (in_row raw start n (k - start) (omega arith)));
+      put_there k (omega arith) (omega arith) ∙ (rw e at (row.painted (k - start) (omega arith) (omega arith)))
+      ∙ ap (f k) (in_row raw k (omega arith) (omega arith));
   before =
       λ k lt.
       elim (cases_lt k start) [
-        | inl less ↦ put_before start n old mid k room long less
-        | inr ge ↦
-            let e : start + (k - start) ≡ k = omega arith in
-            subst (λ i. get_or (put_mid start n old mid) i 0 ≡ get_or old i 0) e
-            (put_in start n old mid (k - start) room long (omega arith) ∙ row.before (k - start) (omega arith)
-            ∙ in_row old start n (k - start) (omega arith))
+        | inl less ↦ search (rules, places)
+        | inr ge ↦ kept k ge (omega arith) (row.before (k - start) (omega arith))
       ];
   after =
       λ k ge.
       elim (cases_lt k (start + n)) [
-        | inl less ↦
-            let e : start + (k - start) ≡ k = omega arith in
-            subst (λ i. get_or (put_mid start n old mid) i 0 ≡ get_or old i 0) e
-            (put_in start n old mid (k - start) room long (omega arith) ∙ row.after (k - start) (omega arith)
-            ∙ in_row old start n (k - start) (omega arith))
-        | inr past ↦ put_after start n old mid k room long past
+        | inl less ↦ kept k (omega arith) less (row.after (k - start) (omega arith))
+        | inr past ↦ search (rules, places)
       ];
 }
+  where
+    put_there : (k : ℕ) → start ≤ k → k < start + n → get_or (put_mid start n old mid) k 0 ≡ get_or mid (k - start) 0
+    put_there k from lt =
+        let e : start + (k - start) ≡ k = omega arith in
+        rw e at (put_in start n old mid (k - start) room long (omega arith))
 
--- ---- one more row
+    in_row : (xs : List ℕ) (k : ℕ) → start ≤ k → k < start + n
+        → get_or (between start (start + n) xs) (k - start) 0 ≡ get_or xs k 0
+    in_row xs k from lt =
+        let e : start + (k - start) ≡ k = omega arith in
+        rw e at (get_or-between xs start (start + n) (k - start) 0 (omega arith))
 
--- the words before the next row
-more_words : (f : ℕ → ℕ → ℕ) (chosen : ℕ → Bool) (raw old now new : List ℕ) (start n left right : ℕ) → left ≤ right
-    → right ≤ n → IsOverlaid f chosen raw old now start
-    → ((x : ℕ) → x < n → chosen (start + x) ≡ (leb left x && ltb x right))
-    → IsPainted f raw now new (start + left) (start + right)
-    → (x : ℕ) → x < n → get_or new (start + x) 0 ≡ cond (chosen (start + x)) (f (start + x) (get_or raw (start + x) 0))
-    (get_or old (start + x) 0)
-more_words f chosen raw old now new start n left right order short far in_it part x lt =
-    rw (in_it x lt)
-    (elim (cases_lt x left) [
-      | inl before ↦
-          let outside : (leb left x && ltb x right) ≡ false = grind (arith, nat_tests) in
-          rw outside (part.before (start + x) (omega arith) ∙ far.rest (start + x) (omega arith))
-      | inr from ↦
-          elim (cases_lt x right) [
-            | inl less ↦
-                let inside : (leb left x && ltb x right) ≡ true =
-                grind (arith, nat_tests) in rw inside (part.painted (start + x) (omega arith) (omega arith))
-            | inr past ↦
-                let outside : (leb left x && ltb x right) ≡ false = grind (arith, nat_tests) in
-                rw outside (part.after (start + x) (omega arith) ∙ far.rest (start + x) (omega arith))
-          ]
-    ])
-
-pub one_more : (f : ℕ → ℕ → ℕ) (chosen : ℕ → Bool) (raw old now new : List ℕ) (start n left right : ℕ) → left ≤ right
-    → right ≤ n → IsOverlaid f chosen raw old now start
-    → ((x : ℕ) → x < n → chosen (start + x) ≡ (leb left x && ltb x right))
-    → IsPainted f raw now new (start + left) (start + right)
-    → IsOverlaid f chosen raw old new (start + n)
-one_more f chosen raw old now new start n left right order short far in_it part = record {
-  words =
-      λ k lt.
-      elim (cases_lt k start) [
-        | inl less ↦ part.before k (omega arith) ∙ far.words k less
-        | inr ge ↦
-            let e : start + (k - start) ≡ k = omega arith in
-            subst (λ i. get_or new i 0 ≡ cond (chosen i) (f i (get_or raw i 0)) (get_or old i 0)) e
-            (more_words f chosen raw old now new start n left right order short far in_it part (k - start)
-            (omega arith))
-      ];
-  rest = λ k ge. part.after k (omega arith) ∙ far.rest k (omega arith);
-}
+    kept : (k : ℕ) → start ≤ k → k < start + n
+        → get_or mid (k - start) 0 ≡ get_or (between start (start + n) old) (k - start) 0
+        → get_or (put_mid start n old mid) k 0 ≡ get_or old k 0
+    kept k from lt same = put_there k from lt ∙ same ∙ in_row old k from lt
 
 -- ---- the rows of an area
 
@@ -112,85 +62,75 @@ pub record RowsSoFar (f : ℕ → ℕ → ℕ) (a : Area) (width : ℕ) (raw old
   pub inside : y ≤ a.bottom
   pub whole : IsOverlaid f (λ k. in_area a (k % width) (k / width)) raw old now (y * width)
 
-above : (a : Area) (width k : ℕ) → 0 < width → k < a.top * width → in_area a (k % width) (k / width) ≡ false
-above a width k some lt =
-    let row : k / width < a.top = (div-lt_iff_lt-mul some).1 lt in grind (arith, nat_tests)
-
 below : (a : Area) (width k : ℕ) → 0 < width → a.bottom * width ≤ k → in_area a (k % width) (k / width) ≡ false
 below a width k some ge =
     let row : a.bottom ≤ k / width = le-div a.bottom k width some ge in grind (arith, nat_tests)
-
--- a pixel of the row y
-in_the_row : (a : Area) (width y x : ℕ) → a.top ≤ y → y < a.bottom → x < width
-    → in_area a ((y * width + x) % width) ((y * width + x) / width) ≡ (leb a.left x && ltb x a.right)
-in_the_row a width y x from less lt =
-    ap₂ (λ p q. in_area a p q) (mod-mul-add y width x lt) (div-mul-add y width x lt)
-    ∙ grind (arith, nat_tests)
-
-pub first_row : (f : ℕ → ℕ → ℕ) (a : Area) (width : ℕ) (raw old : List ℕ) → 0 < width → a.top ≤ a.bottom
-    → RowsSoFar f a width raw old old a.top
-first_row f a width raw old some order = record {
-  after = omega arith;
-  inside = order;
-  whole = record {
-    words = λ k lt. let no : in_area a (k % width) (k / width) ≡ false =
-        above a width k some lt in sym (ap (λ b. cond b (f k (get_or raw k 0)) (get_or old k 0)) no);
-    rest = λ k ge. refl;
-  };
-}
 
 -- a row whose words are told by their indexes
 pub next_part : (f : ℕ → ℕ → ℕ) (a : Area) (width y : ℕ) (raw old now new : List ℕ) → a.left ≤ a.right → a.right ≤ width
     → y < a.bottom → RowsSoFar f a width raw old now y
     → IsPainted f raw now new (y * width + a.left) (y * width + a.right) → RowsSoFar f a width raw old new (y + 1)
-next_part f a width y raw old now new order short less far part = record {
+next_part f a width y raw old now new order short down far part = record {
   after = omega (arith, far.after);
   inside = omega arith;
-  whole =
-      let e : y * width + width ≡ (y + 1) * width = omega arith in
-      subst (IsOverlaid f (λ k. in_area a (k % width) (k / width)) raw old new) e
-      (one_more f (λ k. in_area a (k % width) (k / width)) raw old now new (y * width) width a.left a.right order short
-      far.whole
-      (λ x lt. in_the_row a width y x far.after less lt) part);
+  whole = record {
+    words =
+        λ k lt.
+        elim (cases_lt k (y * width)) [
+          | inl less ↦ part.before k (omega arith) ∙ far.whole.words k less
+          | inr ge ↦ in_the_row k ge (omega arith)
+        ];
+    rest = λ k ge. part.after k (omega arith) ∙ far.whole.rest k (omega arith);
+  };
 }
-
--- a row that was painted by its columns
-pub next_row : (f : ℕ → ℕ → ℕ) (a : Area) (width y n : ℕ) (raw old now mid : List ℕ) → n ≡ width → a.left ≤ a.right
-    → a.right ≤ width → y < a.bottom
-    → y * width + n ≤ length now → length mid ≡ n → RowsSoFar f a width raw old now y
-    → IsPainted (λ x w. f (y * width + x) w) (between (y * width) (y * width + width) raw)
-    (between (y * width) (y * width + width) now) mid a.left a.right
-    → RowsSoFar f a width raw old (put_mid (y * width) n now mid) (y + 1)
-next_row f a width y n raw old now mid is order short less room long far row =
-    next_part f a width y raw old now (put_mid (y * width) n now mid) order short less far
-    (put_back f raw now mid (y * width) n a.left a.right room long order (omega arith)
-    (subst (λ m. IsPainted (λ x w. f (y * width + x) w) (between (y * width) (y * width + m) raw)
-    (between (y * width) (y * width + m) now) mid a.left a.right) (sym is) row))
+  where
+    in_the_row : (k : ℕ) → y * width ≤ k → k < y * width + width
+        → get_or new k 0 ≡ cond (in_area a (k % width) (k / width)) (f k (get_or raw k 0)) (get_or old k 0)
+    in_the_row k ge lt =
+        let e : y * width + (k - y * width) ≡ k = omega arith in
+        let column = rw e at (mod-mul-add y width (k - y * width) (omega arith)) in
+        let row = rw e at (div-mul-add y width (k - y * width) (omega arith)) in
+        let top = far.after in
+        elim (cases_lt k (y * width + a.left)) [
+          | inl before ↦
+              let outside : in_area a (k % width) (k / width) ≡ false = grind (arith, nat_tests) in
+              rw outside (part.before k before ∙ far.whole.rest k ge)
+          | inr from ↦
+              elim (cases_lt k (y * width + a.right)) [
+                | inl less ↦
+                    let inside : in_area a (k % width) (k / width) ≡ true =
+                    grind (arith, nat_tests) in rw inside (part.painted k from less)
+                | inr past ↦
+                    let outside : in_area a (k % width) (k / width) ≡ false = grind (arith, nat_tests) in
+                    rw outside (part.after k past ∙ far.whole.rest k ge)
+              ]
+        ]
 
 -- a row that was painted by columns and rows
-pub next_of : (f : ℕ → ℕ → ℕ → ℕ) (a : Area) (width y n : ℕ) (raw old now mid : List ℕ) → n ≡ width → a.left ≤ a.right
-    → a.right ≤ width → y < a.bottom
-    → y * width + n ≤ length now → length mid ≡ n → RowsSoFar (λ k w. f (k % width) (k / width) w) a width raw old now y
+pub next_of : (f : ℕ → ℕ → ℕ → ℕ) {a : Area} {width y : ℕ} {raw old now mid : List ℕ}
+    → RowsSoFar (λ k w. f (k % width) (k / width) w) a width raw old now y
     → IsPainted (λ x w. f x y w) (between (y * width) (y * width + width) raw)
     (between (y * width) (y * width + width) now) mid a.left a.right
-    → RowsSoFar (λ k w. f (k % width) (k / width) w) a width raw old (put_mid (y * width) n now mid) (y + 1)
-next_of f a width y n raw old now mid is order short less room long far row =
-    next_row (λ k w. f (k % width) (k / width) w) a width y n raw old now mid is order short less room long far
+    → a.left ≤ a.right → a.right ≤ width → y < a.bottom → y * width + width ≤ length now → length mid ≡ width
+    → RowsSoFar (λ k w. f (k % width) (k / width) w) a width raw old
+    (put_mid (y * width) (y * width + width - y * width) now mid) (y + 1)
+next_of f {a} {width} {y} {raw} {old} {now} {mid} far row order short less room long =
+    let g = λ (k w : ℕ). f (k % width) (k / width) w in
+    let is : y * width + width - y * width ≡ width = omega arith in
+    rw is (next_part g a width y raw old now (put_mid (y * width) width now mid) order short less far
+    (put_back g raw now mid (y * width) width a.left a.right room long order short
     (painted_by (λ x w. f x y w) (λ x w. f ((y * width + x) % width) ((y * width + x) / width) w) _ _ mid a.left a.right
-    (λ x w from lt. let on : x < width =
-    omega arith in ap₂ (λ p q. f p q w) (sym (mod-mul-add y width x on)) (sym (div-mul-add y width x on))) row)
+    (λ x w from lt. let on : x < width = omega arith in rw (mod-mul-add y width x on, div-mul-add y width x on)) row)))
 
-pub last_row : (f : ℕ → ℕ → ℕ) (a : Area) (width count : ℕ) (raw old now : List ℕ) → 0 < width
-    → a.bottom * width ≤ count → RowsSoFar f a width raw old now a.bottom
+pub last_row : (f : ℕ → ℕ → ℕ) (count : ℕ) {a : Area} {width : ℕ} {raw old now : List ℕ}
+    → RowsSoFar f a width raw old now a.bottom → 0 < width → a.bottom * width ≤ count
     → IsOverlaid f (λ k. in_area a (k % width) (k / width)) raw old now count
-last_row f a width count raw old now some room far = record {
+last_row f count {a} {width} far some room = record {
   words =
       λ k lt.
       elim (cases_lt k (a.bottom * width)) [
         | inl less ↦ far.whole.words k less
-        | inr ge ↦
-            let no : in_area a (k % width) (k / width) ≡ false = below a width k some ge in
-            far.whole.rest k ge ∙ sym (ap (λ b. cond b (f k (get_or raw k 0)) (get_or old k 0)) no)
+        | inr ge ↦ rw (below a width k some ge) (far.whole.rest k ge)
       ];
   rest = λ k ge. far.whole.rest k (omega arith);
 }

@@ -1,11 +1,10 @@
 -- The rows of the status bar.
-use Rattle.std.proofs.Common.{Bool, List, ap, arith, cond, false, inl, inr, length, min}
-use Rattle.std.proofs.Common.{slice_index, subst, sym, true, ℕ, ◌%◌, ◌&&◌, ◌*◌, ◌-◌, ◌/◌, ◌<◌, ◌∙◌}
-use Rattle.std.proofs.Common.{◌≡◌, ◌≤◌}
-use Rattle.nit_overlay.proofs.Basics.{Area, IsPainted, Scenery, bar_text, bar_word, bare_word}
-use Rattle.nit_overlay.proofs.Basics.{cases_lt, div-lt_iff_lt-mul, dot, in_area, in_bar, ink_of}
-use Rattle.nit_overlay.proofs.Basics.{ints, is_in_picture, max, nat_lt, nat_tests, owner}
-use Rattle.nit_overlay.proofs.Basics.{owner_word, picture_width, pixel, point, shown, unowned_word}
+use Rattle.std.proofs.Common.{List, ap, arith, cond, false, inl, inr, length, min, slice_index}
+use Rattle.std.proofs.Common.{true, ℕ, ◌%◌, ◌*◌, ◌-◌, ◌/◌, ◌<◌, ◌∙◌, ◌≡◌, ◌≤◌}
+use Rattle.nit_overlay.proofs.Basics.{Area, IsPainted, Scenery, bar_text, bar_word, cases_lt}
+use Rattle.nit_overlay.proofs.Basics.{div-lt_iff_lt-mul, dot, in_area, in_bar, ink_of, ints}
+use Rattle.nit_overlay.proofs.Basics.{is_in_picture, max, nat_lt, nat_tests, picture_width, pixel}
+use Rattle.nit_overlay.proofs.Basics.{point, shown, unowned_word}
 use Rattle.nit_overlay.proofs.AreaLemmas.{RowsSoFar}
 use Rattle.nit_overlay.proofs.RowParts.{joined, nothing, painted_by}
 
@@ -17,26 +16,23 @@ bar_area width bar = record { left = 0; top = 0; right = width; bottom = bar }
 in_text : (s : Scenery) (x y : ℕ) → x < picture_width (length (bar_text s)) → y < 7
     → ink_of (dot (bar_text s) (x - 0) (y - 0)) ≡ bar_word s (point x y)
 in_text s x y left row =
-    let here : is_in_picture (bar_text s) 0 0 (point x y) ≡ true =
-    grind (arith, ints) in sym (ap (λ (b : Bool). ink_of (b && dot (bar_text s) (x - 0) (y - 0))) here)
+    let here : is_in_picture (bar_text s) 0 0 (point x y) ≡ true = grind (arith, ints) in rw here
 
 past_text : (s : Scenery) (x y : ℕ) → picture_width (length (bar_text s)) ≤ x → 0 ≡ bar_word s (point x y)
 past_text s x y right =
-    let no : is_in_picture (bar_text s) 0 0 (point x y) ≡ false =
-    grind (arith, ints) in sym (ap (λ (b : Bool). ink_of (b && dot (bar_text s) (x - 0) (y - 0))) no)
+    let no : is_in_picture (bar_text s) 0 0 (point x y) ≡ false = grind (arith, ints) in rw no
 
 -- a row of the bar: the picture of its text, and black behind it
 module _ (s : Scenery) (y from cut to wide : ℕ) (text raw old new : List ℕ) (is : text ≡ bar_text s)
     (width : wide ≡ picture_width (length text)) (least : cut ≡ max (min wide to) from) (order : from ≤ to) where
-  behind : (x : ℕ) → cut ≤ x → x < to → picture_width (length (bar_text s)) ≤ x
-  behind x f l = let w = width ∙ ap (λ (t : List ℕ). picture_width (length t)) is in omega (arith, w, least)
-
   pub bar_ground : from ≤ cut → (mid : List ℕ) → IsPainted (λ x w. bar_word s (point x y)) raw old mid from cut
       → IsPainted (λ x w. 0) raw mid new cut to → IsPainted (λ x w. bar_word s (point x y)) raw old new from to
   bar_ground le mid first ground =
       joined (λ x w. bar_word s (point x y)) raw old mid new from cut to le (omega (arith, least)) first
       (painted_by (λ x w. 0) (λ x w. bar_word s (point x y)) raw mid new cut to
-      (λ x w f l. past_text s x y (behind x f l)) ground)
+      (λ x w f l.
+      let wide_ = width ∙ ap (λ (t : List ℕ). picture_width (length t)) is in
+      past_text s x y (omega (arith, wide_, least))) ground)
 
   pub bar_row : y < 7 → from < cut → (mid : List ℕ)
       → IsPainted (λ x w. ink_of (dot text (x - 0) (y - 0))) raw old mid from cut
@@ -53,9 +49,8 @@ module _ (s : Scenery) (y from cut to wide : ℕ) (text raw old new : List ℕ) 
   pub bar_black : cut ≤ from → IsPainted (λ x w. 0) raw old new cut to
       → IsPainted (λ x w. bar_word s (point x y)) raw old new from to
   bar_black none ground =
-      bar_ground (omega (arith, least)) old
-      (subst (λ (n : ℕ). IsPainted (λ x w. bar_word s (point x y)) raw old old from n) (omega (arith, none, least))
-      (nothing (λ x w. bar_word s (point x y)) raw old from)) ground
+      let all : cut ≡ from = omega (arith, none, least) in
+      bar_ground (omega (arith, least)) old (rw all (nothing (λ x w. bar_word s (point x y)) raw old from)) ground
 
 in_row : (bar x y : ℕ) → y < bar → in_bar bar (point x y) ≡ true
 in_row bar x y less = grind (arith, ints)
@@ -67,15 +62,14 @@ pub bar_shown : (s : Scenery) (y from to : ℕ) (raw old now : List ℕ) → y <
     → IsPainted (λ x w. shown s (point x y) w) raw old now from to
 bar_shown s y from to raw old now less row =
     painted_by (λ x w. bar_word s (point x y)) (λ x w. shown s (point x y) w) raw old now from to
-    (λ x w f l. sym (ap (λ (b : Bool). cond b (bar_word s (point x y))
-    (owner_word s (point x y) w (owner s.bar s.stack (point x y)))) (in_row s.bar x y less))) row
+    (λ x w f l. rw (in_row s.bar x y less)) row
 
 pub bar_unowned : (s : Scenery) (y from to : ℕ) (raw old now : List ℕ) → y < s.bar
     → IsPainted (λ x w. bar_word s (point x y)) raw old now from to
     → IsPainted (λ x w. unowned_word s (point x y)) raw old now from to
 bar_unowned s y from to raw old now less row =
     painted_by (λ x w. bar_word s (point x y)) (λ x w. unowned_word s (point x y)) raw old now from to
-    (λ x w f l. sym (ap (λ (b : Bool). cond b (bar_word s (point x y)) bare_word) (in_row s.bar x y less))) row
+    (λ x w f l. rw (in_row s.bar x y less)) row
 
 -- ---- the rows
 
@@ -90,9 +84,7 @@ bar_done s width bar old now some far k =
           let column : k % width < width = omega arith in
           let chosen : in_area (bar_area width bar) (k % width) (k / width) ≡ true = grind (arith, nat_tests) in
           let first : nat_lt k (width * bar) ≡ true = grind (arith, nat_tests) in
-          far.whole.words k less ∙ ap (λ (b : Bool). cond b (bar_word s (pixel width k)) (slice_index old k))
-          (chosen ∙ sym first)
+          rw first (rw chosen at (far.whole.words k less))
       | inr ge ↦
-          let past : nat_lt k (width * bar) ≡ false = grind (arith, nat_tests) in far.whole.rest k ge
-          ∙ sym (ap (λ (b : Bool). cond b (bar_word s (pixel width k)) (slice_index old k)) past)
+          let past : nat_lt k (width * bar) ≡ false = grind (arith, nat_tests) in rw past (far.whole.rest k ge)
     ]

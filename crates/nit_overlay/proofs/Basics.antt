@@ -3,22 +3,21 @@ pub use Rattle.nit_overlay.specs.Terms.{Area, Flat, IsAreaBy, IsBright, IsMark, 
 pub use Rattle.nit_overlay.specs.Terms.{IsOverlaid, IsPainted, IsPlaced, IsReddish, IsRenewed}
 pub use Rattle.nit_overlay.specs.Terms.{IsShownIn, IsSlotView, IsWord, Kill, Look, Mode, NoPair}
 pub use Rattle.nit_overlay.specs.Terms.{Point, Rectangle, Scenery, SlotView, Text, View, ViewRef}
-pub use Rattle.nit_overlay.specs.Terms.{Xray, bar_text, bar_text_of, bar_word, bare_word, between}
-pub use Rattle.nit_overlay.specs.Terms.{by_label, by_mode, codes, covering, covers, dim, dot, frame}
-pub use Rattle.nit_overlay.specs.Terms.{grey_word, has_dot, in_area, in_bar, in_label, ink_of}
-pub use Rattle.nit_overlay.specs.Terms.{is_dot_of_text, is_in_picture, is_in_text, is_label_dot}
-pub use Rattle.nit_overlay.specs.Terms.{is_on_ring, is_same, is_slot, is_some, label_of}
-pub use Rattle.nit_overlay.specs.Terms.{label_place_of, max, mode_word, nat_lt, option_map, owner}
-pub use Rattle.nit_overlay.specs.Terms.{owner_word, picture_width, pixel, point, range_with_len}
-pub use Rattle.nit_overlay.specs.Terms.{rectangle, red_word, same_slot, scenery, seat_owner, shown}
-pub use Rattle.nit_overlay.specs.Terms.{slice_get, slot_view_in, stripe_rule, tint, unowned_word}
+pub use Rattle.nit_overlay.specs.Terms.{Xray, bar_text, bar_word, bare_word, between, by_label}
+pub use Rattle.nit_overlay.specs.Terms.{by_mode, codes, covers, dim, dot, frame, grey_word, has_dot}
+pub use Rattle.nit_overlay.specs.Terms.{in_area, in_bar, in_label, ink_of, is_dot_of_text}
+pub use Rattle.nit_overlay.specs.Terms.{is_in_picture, is_in_text, is_label_dot, is_on_ring}
+pub use Rattle.nit_overlay.specs.Terms.{is_same, is_slot, is_some, label_place_of, max, nat_lt}
+pub use Rattle.nit_overlay.specs.Terms.{option_map, owner, owner_word, picture_width, pixel, point}
+pub use Rattle.nit_overlay.specs.Terms.{range_with_len, rectangle, same_slot, scenery, seat_owner}
+pub use Rattle.nit_overlay.specs.Terms.{shown, slice_get, slot_view_in, stripe_rule, unowned_word}
 pub use Rattle.nit_overlay.specs.Terms.{view_ref, view_text, view_word, views_of, white_word}
 pub use Rattle.nit_overlay.specs.Terms.{word_by}
 pub use Rattle.nit_stack.proofs.ForCallers.{All_found, owner_is, owner_of_views}
 pub use Rattle.nit_word.proofs.ForCallers.{column_and_row}
-pub use Rattle.std.proofs.Common.{List, ap, arith, length, subst, sym, ℕ, ◌∙◌}
+pub use Rattle.std.proofs.Common.{ap, arith, inl, length, rules, sym, ℕ, ◌∙◌}
 pub use Rattle.std.proofs.Math.Nat.{div-lt_iff_lt-mul, mul-le-mul_right}
-pub use Rattle.std.proofs.lemmas.Bool.{cases_lt, eqb-true, le-ltb}
+pub use Rattle.std.proofs.lemmas.Bool.{cases_lt, eqb-true, le-ltb, true_from_ne_false}
 pub use Rattle.std.proofs.lemmas.Bool.Decides.{nat_tests}
 pub use Rattle.std.proofs.lemmas.Grind.{same_number_lists}
 pub use Rattle.std.proofs.lemmas.Int.{ints}

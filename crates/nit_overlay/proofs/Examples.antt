@@ -11,8 +11,7 @@ view_of sid width = record {
   handle = 1;
   rect = rectangle (pos 0) (pos 0) width 7;
   ox = pos 0;
-  oy =
-      pos 0;
+  oy = pos 0;
   title = [];
 }
 
@@ -22,8 +21,7 @@ labelled = record {
   height = 7;
   bar = 0;
   stack = view_of 1 3 ∷ view_of 0 12 ∷ [];
-  labels =
-      codes "ab" ∷ codes "b" ∷ [];
+  labels = codes "ab" ∷ codes "b" ∷ [];
   mode = Xray;
   focus = None;
 }
@@ -62,12 +60,10 @@ with_bar = record {
   width = 12;
   height = 12;
   bar = 7;
-  stack =
-      record (view_of 0 12) { rect = rectangle (pos 0) (pos 0) 12 12 } ∷ [];
+  stack = record (view_of 0 12) { rect = rectangle (pos 0) (pos 0) 12 12 } ∷ [];
   labels = codes "a" ∷ [];
   mode = Flat;
-  focus =
-      None;
+  focus = None;
 }
 
 bar_row : map (λ x. shown with_bar (point x 1) 0xFF0000) (range_with_len 0 12) ≡ 0 ∷ F ∷ F ∷ F ∷ 0 ∷ F ∷ 0 ∷ 0 ∷ 0 ∷ 0

@@ -7,7 +7,7 @@ use Rattle.nit_overlay.proofs.Basics.{is_in_picture, length-map-range_with_len, 
 use Rattle.nit_overlay.proofs.Basics.{owner_word, pixel, point, same_number_lists, scenery, shown}
 use Rattle.nit_overlay.proofs.Basics.{view_word, white_word}
 use Rattle.std.proofs.Common.{Bool, List, None, Option, Some, ap, arith, cond, false, get_or}
-use Rattle.std.proofs.Common.{length, slice_index, sym, true, ℕ, ◌%◌, ◌*◌, ◌/◌, ◌<◌, ◌∙◌, ◌≡◌}
+use Rattle.std.proofs.Common.{length, slice_index, sym, true, ℕ, ◌%◌, ◌*◌, ◌/◌, ◌<◌, ◌∙◌, ◌≡◌, refl}
 use Rattle.nit_overlay.specs.Frame.{frame}
 
 pub length-frame : (s : Scenery) (raw : List ℕ) → length (frame s raw) ≡ s.width * s.height
@@ -30,6 +30,20 @@ same_frame s a b same =
     let within : k < s.width * s.height = omega (arith, length-frame s a) in
     get_or-frame s a k within ∙ ap (λ (w : ℕ). shown s (pixel s.width k) w) (same k within)
     ∙ sym (get_or-frame s b k within))
+
+-- ---- a pixel below the bar
+
+pub shown_below : (s : Scenery) (p : Point) (w : ℕ) → in_bar s.bar p ≡ false
+    → shown s p w ≡ owner_word s p w (owner s.bar s.stack p)
+shown_below s p w below = rw below
+
+pub shown_of_owner : (s : Scenery) (p : Point) (w : ℕ) (v : View) → owner s.bar s.stack p ≡ Some v
+    → shown s p w ≡ view_word s.mode s v p w
+shown_of_owner s p w v owns = go (in_bar s.bar p) refl
+  where
+    go : (b : Bool) → in_bar s.bar p ≡ b → shown s p w ≡ view_word s.mode s v p w
+    go true e = let none = rw e at owns in cc
+    go false e = shown_below s p w e ∙ ap (owner_word s p w) owns
 
 -- ---- each word that is shown is below 2^24
 
@@ -76,32 +90,23 @@ pub rect_shown : (a : Area) (look : Look) (r : Rectangle) (raw old now : List �
     (shown (scenery look) (pixel look.stack.now.width k) (get_or raw k 0)) (get_or old k 0)
 rect_shown a look r raw old now all same k lt =
     let on = column_and_row look.stack.now.width look.stack.now.height k lt in
-    all.words k lt
-    ∙ ap (λ b. cond b (shown (scenery look) (pixel look.stack.now.width k) (get_or raw k 0)) (get_or old k 0))
-    (same (k % look.stack.now.width) (k / look.stack.now.width) on.0 on.1)
+    rw (← same (k % look.stack.now.width) (k / look.stack.now.width) on.0 on.1) (all.words k lt)
 
 pub is_whole : (width height wide high x y : ℕ) → wide ≡ width → high ≡ height → x < width → y < height
     → in_area (record { left = 0; top = 0; right = wide; bottom = high }) x y ≡ true
 is_whole width height wide high x y w h lt less = grind (arith, nat_tests)
 
 -- where the area is the whole screen
-all_shown : (a : Area) (look : Look) (raw old now : List ℕ) → IsShownIn a look raw old now
-    → ((x y : ℕ) → x < look.stack.now.width → y < look.stack.now.height → in_area a x y ≡ true)
-    → (k : ℕ) → k < look.stack.now.width * look.stack.now.height
-    → get_or now k 0 ≡ shown (scenery look) (pixel look.stack.now.width k) (get_or raw k 0)
-all_shown a look raw old now all same k lt =
-    let on = column_and_row look.stack.now.width look.stack.now.height k lt in
-    all.words k lt
-    ∙ ap (λ b. cond b (shown (scenery look) (pixel look.stack.now.width k) (get_or raw k 0)) (get_or old k 0))
-    (same (k % look.stack.now.width) (k / look.stack.now.width) on.0 on.1)
-
 pub is_frame : (a : Area) (look : Look) (raw old now : List ℕ) → IsShownIn a look raw old now
     → ((x y : ℕ) → x < look.stack.now.width → y < look.stack.now.height → in_area a x y ≡ true)
     → length now ≡ look.stack.now.width * look.stack.now.height → now ≡ frame (scenery look) raw
 is_frame a look raw old now all same long =
     same_number_lists now (frame (scenery look) raw) (long ∙ sym (length-frame (scenery look) raw))
-    (λ k lt. all_shown a look raw old now all same k (omega arith)
-    ∙ sym (get_or-frame (scenery look) raw k (omega arith)))
+    (λ k lt.
+    let within : k < look.stack.now.width * look.stack.now.height = omega arith in
+    let on = column_and_row look.stack.now.width look.stack.now.height k within in
+    (rw (same (k % look.stack.now.width) (k / look.stack.now.width) on.0 on.1) at (all.words k within))
+    ∙ sym (get_or-frame (scenery look) raw k within))
 
 pub frame_fits : (s : Scenery) (raw : List ℕ) → length raw ≡ s.width * s.height
     → ((k d : ℕ) → k < length raw → IsWord (get_or raw k d))

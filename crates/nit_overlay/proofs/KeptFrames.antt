@@ -1,10 +1,9 @@
 -- Frames that are kept.
 use Rattle.std.proofs.Common.{Bool, List, None, Option, Some, ap, arith, cond, false, refl}
-use Rattle.std.proofs.Common.{slice_index, subst, sym, true, ℕ, ◌*◌, ◌<◌, ◌∙◌, ◌≡◌}
-use Rattle.nit_overlay.proofs.Basics.{Flat, IsRenewed, Mode, Point, Scenery, View, bar_word}
-use Rattle.nit_overlay.proofs.Basics.{bare_word, ext_get_or, frame, in_bar, is_some, owner}
-use Rattle.nit_overlay.proofs.Basics.{owner_word, pixel, shown, view_word}
-use Rattle.nit_overlay.proofs.FrameLemmas.{get_or-frame, length-frame}
+use Rattle.std.proofs.Common.{slice_index, sym, true, ℕ, ◌*◌, ◌<◌, ◌∙◌, ◌≡◌}
+use Rattle.nit_overlay.proofs.Basics.{Flat, IsRenewed, Point, Scenery, View, bare_word, ext_get_or}
+use Rattle.nit_overlay.proofs.Basics.{frame, in_bar, is_some, owner, owner_word, pixel, shown}
+use Rattle.nit_overlay.proofs.FrameLemmas.{get_or-frame, length-frame, shown_below}
 
 pub renewed : (before now : Scenery) (chosen : ℕ → Bool) (raw raw' old new : List ℕ)
     → IsRenewed before now chosen raw raw' old new → old ≡ frame before raw → new ≡ frame now raw'
@@ -20,19 +19,18 @@ renewed before now chosen raw raw' old new r was =
     at k l true e = r.set k l e ∙ sym (get_or-frame now raw' k l)
     at k l false e =
         r.left k l e ∙ ap (λ (xs : List ℕ). slice_index xs k) was
-        ∙ get_or-frame before raw k (subst (λ (n : ℕ). k < n) many l)
+        ∙ get_or-frame before raw k (rw many at l)
         ∙ ap (λ (w : ℕ). shown before (pixel w k) (slice_index raw k)) (sym r.size.0)
         ∙ sym (r.same k l e) ∙ sym (get_or-frame now raw' k l)
 
 -- in mode Flat, below the bar
 pub flat_shown : (s : Scenery) (p : Point) (w : ℕ) → s.mode ≡ Flat → in_bar s.bar p ≡ false
     → shown s p w ≡ cond (is_some (owner s.bar s.stack p)) w bare_word
-flat_shown s p w flat below = ap (λ (b : Bool). cond b (bar_word s p) (owner_word s p w (owner s.bar s.stack p))) below
-    ∙ owned_or_bare (owner s.bar s.stack p)
+flat_shown s p w flat below = shown_below s p w below ∙ owned_or_bare (owner s.bar s.stack p)
   where
     owned_or_bare : (o : Option View) → owner_word s p w o ≡ cond (is_some o) w bare_word
     owned_or_bare None = refl
-    owned_or_bare (Some v) = ap (λ (m : Mode). view_word m s v p w) flat
+    owned_or_bare (Some v) = rw flat
 
 pub flat_same : (before now : Scenery) (p : Point) (w : ℕ) → before.mode ≡ Flat → now.mode ≡ Flat → before.bar ≡ now.bar
     → in_bar now.bar p ≡ false

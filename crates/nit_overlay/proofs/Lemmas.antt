@@ -1,16 +1,15 @@
 -- What answers use: all that lemmas use, and this crate's lemmas.
-pub use Rattle.nit_overlay.proofs.AreaLemmas.{RowsSoFar, last_row, next_of, next_row}
+pub use Rattle.nit_overlay.proofs.AreaLemmas.{RowsSoFar, last_row, next_of}
 pub use Rattle.nit_overlay.proofs.AreaParts.{area_as, in_columns, in_rows, more_columns, more_rows}
-pub use Rattle.nit_overlay.proofs.AreaParts.{no_columns, no_rows, part_at}
+pub use Rattle.nit_overlay.proofs.AreaParts.{no_pixels, part_at}
 pub use Rattle.nit_overlay.proofs.BarLemmas.{bar_area, bar_black, bar_done, bar_row, bar_shown}
 pub use Rattle.nit_overlay.proofs.BarLemmas.{bar_unowned}
-pub use Rattle.nit_overlay.proofs.Basics.{All_found, IsAreaBy, IsOverlaid, IsPainted, IsPlaced}
-pub use Rattle.nit_overlay.proofs.Basics.{IsSlotView, List, Text, ap, arith, bar_word, between}
-pub use Rattle.nit_overlay.proofs.Basics.{div-mul-add, frame, in_area, is_slot, length, max}
-pub use Rattle.nit_overlay.proofs.Basics.{mod-mul-add, mul-le-mul_right, nat_lt, option_map, owner}
-pub use Rattle.nit_overlay.proofs.Basics.{owner_word, pixel, point, scenery, seat_owner, shown}
-pub use Rattle.nit_overlay.proofs.Basics.{stripe_rule, subst, sym, unowned_word, view_ref}
-pub use Rattle.nit_overlay.proofs.Basics.{view_word, word_by, ℕ, ◌∙◌}
+pub use Rattle.nit_overlay.proofs.Basics.{All_found, IsAreaBy, IsPlaced, IsSlotView, Text, ap}
+pub use Rattle.nit_overlay.proofs.Basics.{arith, bar_word, frame, in_area, inl, is_slot, length}
+pub use Rattle.nit_overlay.proofs.Basics.{max, mul-le-mul_right, option_map, owner, owner_word}
+pub use Rattle.nit_overlay.proofs.Basics.{pixel, point, rules, scenery, seat_owner, shown}
+pub use Rattle.nit_overlay.proofs.Basics.{stripe_rule, sym, unowned_word, view_ref, view_word}
+pub use Rattle.nit_overlay.proofs.Basics.{word_by, ℕ, ◌∙◌}
 pub use Rattle.nit_overlay.proofs.FrameLemmas.{frame_fits, get_or-frame, is_frame, is_whole}
 pub use Rattle.nit_overlay.proofs.FrameLemmas.{length-frame, rect_shown, same_frame}
 pub use Rattle.nit_overlay.proofs.KeptFrames.{renewed}

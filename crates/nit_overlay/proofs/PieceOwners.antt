@@ -1,37 +1,21 @@
 -- What a pixel shows whose owner is known.
 use Rattle.nit_overlay.proofs.Basics.{Look, NoPair, Point, SlotView, View, ViewRef, bar_word}
-use Rattle.nit_overlay.proofs.Basics.{covering, in_bar, option_map, owner, owner_is, owner_of_views}
-use Rattle.nit_overlay.proofs.Basics.{owner_word, same_slot, scenery, seat_owner, shown}
-use Rattle.nit_overlay.proofs.Basics.{slot_view_in, unowned_word, view_ref, view_word, views_of}
-use Rattle.std.proofs.Common.{Bool, List, None, Option, Some, ap, cond, false, refl, true, ℕ, ◌∙◌}
-use Rattle.std.proofs.Common.{◌≡◌}
+use Rattle.nit_overlay.proofs.Basics.{in_bar, option_map, owner_is, owner_of_views, owner_word}
+use Rattle.nit_overlay.proofs.Basics.{same_slot, scenery, seat_owner, shown, slot_view_in}
+use Rattle.nit_overlay.proofs.Basics.{unowned_word, view_ref, view_word}
+use Rattle.nit_overlay.proofs.FrameLemmas.{shown_of_owner}
+use Rattle.std.proofs.Common.{None, Option, Some, ap, cond, refl, ℕ, ◌∙◌, ◌≡◌}
 
 -- a view's pixel
 pub shown_owned : (look : Look) (p : Point) (w : ℕ) (v : ViewRef) (view : View) → NoPair same_slot look.stack.now.views
     → Some v ≡ option_map view_ref (seat_owner look.stack.now.bar look.stack.now.views p)
     → slot_view_in v.0 look.stack.now.views ≡ Some (record { slot = v.0; view = view })
     → shown (scenery look) p w ≡ view_word look.mode (scenery look) view p w
-shown_owned look p w v view apart owned at = below look.stack.now.bar look.stack.now.views apart owned at
-  where
-    some_none : Some v ≡ None → ⊥
-    some_none e = cc
-
-    below : (bar : ℕ) (views : List SlotView) → NoPair same_slot views
-        → Some v ≡ option_map view_ref (seat_owner bar views p)
-        → slot_view_in v.0 views ≡ Some (record { slot = v.0; view = view })
-        → cond (in_bar bar p) (bar_word (scenery look) p) (owner_word (scenery look) p w (owner bar (views_of views) p))
-        ≡ view_word look.mode (scenery look) view p w
-    below bar views apart owned at = in_bar_or_below (in_bar bar p) refl
-      where
-        is : owner bar (views_of views) p ≡ Some view
-        is = owner_of_views bar views p ∙ ap (option_map (λ s. s.view)) (owner_is bar views p v view apart owned at)
-
-        in_bar_or_below : (b : Bool) → in_bar bar p ≡ b
-            → cond b (bar_word (scenery look) p) (owner_word (scenery look) p w (owner bar (views_of views) p))
-            ≡ view_word look.mode (scenery look) view p w
-        in_bar_or_below true e = absurd (some_none
-            (owned ∙ ap (λ b. option_map view_ref (cond b None (covering (λ s. s.view) views p))) e))
-        in_bar_or_below false e = ap (owner_word (scenery look) p w) is
+shown_owned look p w v view apart owned at =
+    let bar = look.stack.now.bar in
+    let views = look.stack.now.views in
+    shown_of_owner (scenery look) p w view (owner_of_views bar views p
+    ∙ ap (option_map (λ s. s.view)) (owner_is bar views p v view apart owned at))
 
 -- a pixel that no view owns
 pub shown_unowned : (look : Look) (p : Point) (w : ℕ)

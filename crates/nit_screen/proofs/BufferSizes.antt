@@ -1,10 +1,10 @@
 -- The sizes of the sessions' buffers after a call or an item, and the sources of pixels by them.
 use Rattle.nit_screen.proofs.Basics.{Bool, Buffer, Call, Close, Event, IsSpared, List, None, Option}
 use Rattle.nit_screen.proofs.Basics.{Point, Reply, Session, Size, Some, Status, Take, [], accepted}
-use Rattle.nit_screen.proofs.Basics.{accepted_reply, ap, buffer_size, by_life, by_refusal}
-use Rattle.nit_screen.proofs.Basics.{eqb-false, false, first_session, get_or, get_or-map}
-use Rattle.nit_screen.proofs.Basics.{is_accepted, is_session, map-set_same, receive, refusal}
-use Rattle.nit_screen.proofs.Basics.{session_in, source_under, taking}
+use Rattle.nit_screen.proofs.Basics.{accepted_reply, ap, buffer_size, by_life, by_refusal, cond}
+use Rattle.nit_screen.proofs.Basics.{covers, eqb-false, false, find, first_session, get_or}
+use Rattle.nit_screen.proofs.Basics.{get_or-map, in_bar, is_accepted, is_session, map-set_same}
+use Rattle.nit_screen.proofs.Basics.{owner, refusal, session_in, source_under, taking}
 use Rattle.std.proofs.Common.{get_or-set_other, length, nat_lt, refl, set, sym, true, ℕ, ◌++◌, ◌+◌}
 use Rattle.std.proofs.Common.{◌∙◌, ◌∷◌, ◌≡◌, if◌then◌else◌}
 use Rattle.nit_journal.specs.Session.{serve}
@@ -34,38 +34,38 @@ accepted_keeps_size t Close no_resize = cc
 accepted_keeps_size t Take no_resize = taking_keeps_size t.queue t
 accepted_keeps_size t other no_resize = refl
 
-kept_unless_refused : (t : Session) (call : Call) (refused : Option Reply) → resizes call ≡ false
-    → size_of (by_refusal t call refused).session ≡ size_of t
-kept_unless_refused t call (Some r) no_resize = refl
-kept_unless_refused t call None no_resize = accepted_keeps_size t call no_resize
-
 pub serve_keeps_size : (t : Session) (call : Call) → resizes call ≡ false → size_of (serve t call).session ≡ size_of t
 unfolding serve
-serve_keeps_size t call no_resize = kept_unless_refused t call (refusal t call) no_resize
-
-refused_by : (t : Session) (call : Call) (refused : Option Reply) → is_accepted (by_refusal t call refused).reply
-    ≡ false → (by_refusal t call refused).session ≡ t
-refused_by t call (Some r) h = refl
-refused_by t call None h = let yes_ = accepted_reply t call in cc
+serve_keeps_size t call no_resize = go (refusal t call)
+  where
+    go : (refused : Option Reply) → size_of (by_refusal t call refused).session ≡ size_of t
+    go (Some r) = refl
+    go None = accepted_keeps_size t call no_resize
 
 -- a call that is refused changes nothing
 pub refused_is_unchanged : (t : Session) (call : Call) → is_accepted (serve t call).reply ≡ false
     → (serve t call).session ≡ t
 unfolding serve
-refused_is_unchanged t call h = refused_by t call (refusal t call) h
+refused_is_unchanged t call h = go (refusal t call) h
+  where
+    go : (refused : Option Reply) → is_accepted (by_refusal t call refused).reply ≡ false
+        → (by_refusal t call refused).session ≡ t
+    go (Some r) h = refl
+    go None h = let yes_ = accepted_reply t call in cc
 
-queued_keeps_size : (room : Bool) (e : Event) (t : Session)
-    → size_of (if room then record t { queue = t.queue ++ e ∷ [] } else record t { lost = t.lost + 1 }) ≡ size_of t
-queued_keeps_size true e t = refl
-queued_keeps_size false e t = refl
+-- a session but for its events
+abbrev pub eventless : Session → Session
+eventless t = record t { queue = []; lost = 0 }
 
-by_life_keeps_size : (was : Status) (e : Event) (t : Session) → size_of (by_life was (item.Event e) t) ≡ size_of t
-by_life_keeps_size status.Live e t = queued_keeps_size (nat_lt (length t.queue) 64) e t
-by_life_keeps_size other e t = refl
+queued_alike : (room : Bool) (e : Event) (t : Session)
+    → eventless (if room then record t { queue = t.queue ++ e ∷ [] } else record t { lost = t.lost + 1 }) ≡ eventless t
+queued_alike true e t = refl
+queued_alike false e t = refl
 
--- an event does not change the size of the buffer
-pub event_keeps_size : (t : Session) (e : Event) → size_of (receive t (item.Event e)) ≡ size_of t
-event_keeps_size t e = by_life_keeps_size t.status e t
+-- an event changes no more
+pub event_keeps : (was : Status) (e : Event) (t : Session) → eventless (by_life was (item.Event e) t) ≡ eventless t
+event_keeps status.Live e t = queued_alike (nat_lt (length t.queue) 64) e t
+event_keeps other e t = refl
 
 -- ---- all sessions
 
@@ -99,3 +99,13 @@ pub by_other_sizes : (sid : ℕ) (sizes sizes' : ℕ → Size) (p : Point) (o : 
     → source_under sizes' p o ≡ source_under sizes p o
 by_other_sizes sid sizes sizes' p None same spared = refl
 by_other_sizes sid sizes sizes' p (Some v) same spared = rw (same v.sid (eqb-false v.sid sid spared)) refl
+
+-- the owner of a pixel is spared where each view that is found there is
+pub owner_spared : (is : ViewOf → Bool) (rows : ℕ) (stack : List ViewOf) (p : Point)
+    → ((v : ViewOf) → find (λ v. covers v.rect p) stack ≡ Some v → is v ≡ false) → IsSpared is (owner rows stack p)
+owner_spared is rows stack p each = go (in_bar rows p) (find (λ v. covers v.rect p) stack) refl
+  where
+    go : (b : Bool) (o : Option ViewOf) → find (λ v. covers v.rect p) stack ≡ o → IsSpared is (cond b None o)
+    go true o e = refl
+    go false None e = refl
+    go false (Some v) e = each v e

@@ -1,12 +1,12 @@
 -- The source of a pixel that no killed session owned.
-use Rattle.std.proofs.Common.{List, Option, [], ap, false, refl, set, ℕ, ◌||◌, ◌∙◌, ◌∷◌, ◌≡◌}
+use Rattle.std.proofs.Common.{List, Option, [], ap, false, refl, set, ℕ, ◌∙◌, ◌∷◌, ◌≡◌}
 use Rattle.nit_screen.proofs.Basics.{Delivery, Item, Point, State, after_deliveries, after_delivery}
 use Rattle.nit_screen.proofs.Basics.{bar_rows, buffer_size, delivered, is_killed, is_session}
 use Rattle.nit_screen.proofs.Basics.{list_any, option_map_or, or_parts, owner_of, receive, session}
 use Rattle.nit_screen.proofs.Basics.{source_of, source_under}
 use Rattle.nit_events.specs.declared.event.Item.TheVariants as item
 use Rattle.nit_stack.specs.declared.view.View.{View as ViewOf}
-use Rattle.nit_screen.proofs.BufferSizes.{event_keeps_size, sizes_stay, others_stay, by_sizes}
+use Rattle.nit_screen.proofs.BufferSizes.{event_keeps, size_of, sizes_stay, others_stay, by_sizes}
 use Rattle.nit_screen.proofs.BufferSizes.{by_other_sizes}
 use Rattle.nit_screen.proofs.CleanCalls.{owner-without}
 
@@ -16,8 +16,7 @@ use Rattle.nit_screen.proofs.CleanCalls.{owner-without}
 abbrev handed : ℕ → Item → State → State
 handed sid i s = record s {
   sessions = set s.sessions sid (receive (session s sid) i);
-  stack =
-      after_delivery (record { sid = sid; item = i }) s.stack;
+  stack = after_delivery (record { sid = sid; item = i }) s.stack;
 }
 
 owner_stays : (s : State) (sid : ℕ) (i : Item) (p : Point) → is_killed s p sid i ≡ false
@@ -28,8 +27,9 @@ owner_stays s sid item.Kill p clean = owner-without (is_session sid) (bar_rows s
 source_stays : (s : State) (sid : ℕ) (i : Item) (p : Point) → is_killed s p sid i ≡ false
     → source_of (handed sid i s) p ≡ source_of s p
 source_stays s sid (item.Event e) p clean =
+    let same = ap size_of (event_keeps (session s sid).status e (session s sid)) in
     by_sizes (buffer_size s.sessions) (buffer_size (handed sid (item.Event e) s).sessions) p (owner_of s p)
-    (sizes_stay s.sessions sid (receive (session s sid) (item.Event e)) (event_keeps_size (session s sid) e))
+    (sizes_stay s.sessions sid (receive (session s sid) (item.Event e)) same)
 source_stays s sid item.Kill p clean =
     ap (source_under (buffer_size (handed sid item.Kill s).sessions) p) (owner_stays s sid item.Kill p clean)
     ∙ by_other_sizes sid (buffer_size s.sessions) (buffer_size (handed sid item.Kill s).sessions) p (owner_of s p)
@@ -46,9 +46,7 @@ same_killed s t p sid item.Kill same = ap (λ (o : Option ViewOf). option_map_or
 none_killed : (s t : State) (p : Point) (ds : List Delivery) → owner_of t p ≡ owner_of s p
     → list_any (λ d. is_killed t p d.sid d.item) ds ≡ list_any (λ d. is_killed s p d.sid d.item) ds
 none_killed s t p [] same = refl
-none_killed s t p (d ∷ ds) same =
-    ap (λ b. b || list_any (λ d. is_killed t p d.sid d.item) ds) (same_killed s t p d.sid d.item same)
-    ∙ ap (λ b. is_killed s p d.sid d.item || b) (none_killed s t p ds same)
+none_killed s t p (d ∷ ds) same = rw (same_killed s t p d.sid d.item same, none_killed s t p ds same)
 
 pub deliveries_are_clean : (ds : List Delivery) (s : State) (p : Point) → list_any (λ d. is_killed s p d.sid d.item) ds
     ≡ false

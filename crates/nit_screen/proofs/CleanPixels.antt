@@ -1,11 +1,9 @@
 -- A pixel that an entry does not make dirty keeps its source, and what its source allows of its raw word.
 use Rattle.nit_journal.proofs.ForCallers.{same_config}
-use Rattle.std.proofs.Common.{Bool, List, ap, false, refl, slice_index_or, subst, sym, true, ℕ, ◌*◌}
-use Rattle.std.proofs.Common.{◌<◌, ◌∙◌, ◌≡◌}
-use Rattle.nit_screen.proofs.Basics.{Agrees, Configuration, Delivery, Device, Entry, IsWordOfSource}
-use Rattle.nit_screen.proofs.Basics.{Painted, PixelSource, Point, Routed, Sight, State, after}
-use Rattle.nit_screen.proofs.Basics.{deliveries_of, dirty, is_killed, list_any, pixel, pixel_count}
-use Rattle.nit_screen.proofs.Basics.{route, source_at, source_of}
+use Rattle.std.proofs.Common.{Bool, List, ap, false, refl, slice_index_or, true, ℕ, ◌<◌, ◌∙◌, ◌≡◌}
+use Rattle.nit_screen.proofs.Basics.{Agrees, Configuration, Device, Entry, IsWordOfSource, Painted}
+use Rattle.nit_screen.proofs.Basics.{PixelSource, Point, Routed, Sight, State, after, deliveries_of}
+use Rattle.nit_screen.proofs.Basics.{dirty, pixel, pixel_count, route, source_at, source_of}
 use Rattle.nit_events.specs.declared.entry.Entry.TheVariants as entry
 use Rattle.nit_screen.proofs.CleanCalls.{call_is_clean}
 use Rattle.nit_screen.proofs.CleanInput.{deliveries_are_clean}
@@ -17,12 +15,10 @@ DeliveriesFit = (s : State) (taken : ℕ) (dev : Device) (routed : Routed) → A
 
 pub keeps_source : DeliveriesFit → (s : State) (taken : ℕ) (e : Entry) (p : Point) → Agrees s taken e
     → dirty s e (after s e) p ≡ false → source_of (after s e) p ≡ source_of s p
-keeps_source fit s taken (entry.Call sid call r) p agrees clean = call_is_clean s taken sid call r p agrees clean
+keeps_source fit s taken (entry.Call sid call r) p agrees clean = call_is_clean s sid call r p agrees.1 clean
 keeps_source fit s taken (entry.Input dev routed) p agrees clean =
     let ds = (route s.config s.input s.stack dev).deliveries in
-    deliveries_are_clean ds s p (sym
-    (ap (λ (es : List Delivery). list_any (λ d. is_killed s p d.sid d.item) es) (fit s taken dev routed agrees))
-    ∙ clean)
+    deliveries_are_clean ds s p (rw (fit s taken dev routed agrees) at clean)
 keeps_source fit s taken (entry.Shot number) p agrees clean = refl
 keeps_source fit s taken entry.Final p agrees clean = cc
 
@@ -39,7 +35,7 @@ keeps_each fit P s taken e glasses glasses' raw raw' agrees painted held before 
     go (dirty s e (after s e) (pixel s.config.width k)) refl
   where
     within : k < pixel_count s
-    within = subst (λ (config : Configuration). k < config.width * config.height) (same_config s e) on_screen
+    within = rw (same_config s e) at on_screen
 
     here : pixel (after s e).config.width k ≡ pixel s.config.width k
     here = ap (λ (config : Configuration). pixel config.width k) (same_config s e)
@@ -51,5 +47,4 @@ keeps_each fit P s taken e glasses glasses' raw raw' agrees painted held before 
         let same : source_at (after s e) k ≡ source_at s k = ap (source_of (after s e)) here
         ∙ keeps_source fit s taken e (pixel s.config.width k) agrees d in
         let as_before : slice_index_or raw' k 0 ≡ slice_index_or raw k 0 = painted.others k (λ lt. d) in
-        subst (λ (x : PixelSource). P x (slice_index_or raw' k 0)) (sym same)
-        (subst (λ (w : ℕ). P (source_at s k) w) (sym as_before) (before k within))
+        rw (same, as_before) (before k within)

@@ -1,16 +1,16 @@
 -- Labels in a frame: each stands in pixels of its own view, so nothing covers it.
 use Rattle.nit_screen.proofs.Basics.{AreLabelsApart, Bool, Configuration, Entry, Flat, HaveOwnNames}
-use Rattle.nit_screen.proofs.Basics.{IfSome, IsLabelShown, IsLegal, IsTrue, Kill, List, Mode, None}
-use Rattle.nit_screen.proofs.Basics.{Option, Point, Scenery, ShowsLabels, Some, Xray, [], ap, apart}
-use Rattle.nit_screen.proofs.Basics.{arith, bar_word, cond, covering, covers, dot, draws_labels}
-use Rattle.nit_screen.proofs.Basics.{false, find, fits, fits_within, found_passes, frame}
-use Rattle.nit_screen.proofs.Basics.{get_or-frame, has_dot, in_bar, ink_of, is_in_picture, is_owner}
-use Rattle.nit_screen.proofs.Basics.{is_view, label_place_of, label_width, length, list_any}
-use Rattle.nit_screen.proofs.Basics.{list_any_at, mul-le-mul_right, name_both, nat_tests, owner}
-use Rattle.nit_screen.proofs.Basics.{owner_word, picture_height, picture_width, pixel, pixel_owned}
-use Rattle.nit_screen.proofs.Basics.{point, refl, replay, rows, scenery_of, shown, slice_index}
-use Rattle.nit_screen.proofs.Basics.{slice_index_or, subst, suc, true, view_text, view_word}
-use Rattle.std.proofs.Common.{zero, ℕ, ◌%◌, ◌*◌, ◌+◌, ◌-◌, ◌/◌, ◌<◌, ◌||◌, ◌∙◌, ◌∷◌, ◌≡◌, ◌≤◌}
+use Rattle.nit_screen.proofs.Basics.{IfSome, IsLabelShown, IsLegal, IsTrue, List, Mode, None}
+use Rattle.nit_screen.proofs.Basics.{Option, Point, Scenery, ShowsLabels, Some, [], any_found, ap}
+use Rattle.nit_screen.proofs.Basics.{apart, arith, cond, covering, covers, dot, draws_labels, false}
+use Rattle.nit_screen.proofs.Basics.{false_from_ne_true, find, fits, fits_within, found_passes}
+use Rattle.nit_screen.proofs.Basics.{frame, get_or-frame, has_dot, in_bar, ink_of, is_in_picture}
+use Rattle.nit_screen.proofs.Basics.{is_owner, is_view, label_place_of, label_width, length}
+use Rattle.nit_screen.proofs.Basics.{list_any, list_any_at, name_both, nat_tests, owner, owner_word}
+use Rattle.nit_screen.proofs.Basics.{picture_height, picture_width, pixel, pixel_owned, point, refl}
+use Rattle.nit_screen.proofs.Basics.{replay, rows, scenery_of, shown, slice_index, slice_index_or}
+use Rattle.nit_screen.proofs.Basics.{suc, true, view_text, view_word}
+use Rattle.std.proofs.Common.{zero, ℕ, ◌%◌, ◌*◌, ◌+◌, ◌-◌, ◌/◌, ◌<◌, ◌∙◌, ◌∷◌, ◌≡◌}
 use Rattle.nit_stack.specs.declared.view.View.{View}
 use Rattle.nit_screen.proofs.Handles.{named_throughout}
 
@@ -19,15 +19,12 @@ use Rattle.nit_screen.proofs.Handles.{named_throughout}
 -- what is found is one of the list
 is_among : (v : View) (p : View → Bool) (xs : List View) → is_owner v.sid v.handle (find p xs) ≡ true
     → list_any (is_view v.sid v.handle) xs ≡ true
-is_among v p [] h = cc
-is_among v p (x ∷ xs) h = go (p x) (is_view v.sid v.handle x) refl h (is_among v p xs)
+is_among v p xs h = go (find p xs) refl h
   where
-    go : (b t : Bool) → is_view v.sid v.handle x ≡ t → is_owner v.sid v.handle (cond b (Some x) (find p xs)) ≡ true
-        → (is_owner v.sid v.handle (find p xs) ≡ true → list_any (is_view v.sid v.handle) xs ≡ true)
-        → (t || list_any (is_view v.sid v.handle) xs) ≡ true
-    go b true e h later = refl
-    go true false e h later = cc
-    go false false e h later = later h
+    go : (o : Option View) → find p xs ≡ o → is_owner v.sid v.handle o ≡ true
+        → list_any (is_view v.sid v.handle) xs ≡ true
+    go None e h = cc
+    go (Some u) e h = any_found p (is_view v.sid v.handle) xs u e h
 
 -- a view that is found by its name is the one of that name
 found_itself : (p : View → Bool) (xs : List View) → HaveOwnNames xs → (i : ℕ) (d v : View) → i < length xs
@@ -40,8 +37,7 @@ found_itself p (x ∷ xs) own zero d v within at found = go (p x) found
     go true h = ap (λ (u : View). Some u) at
     go false h =
         let some = is_among v p xs h in
-        let none : list_any (is_view v.sid v.handle) xs ≡ false =
-        subst (λ (u : View). list_any (is_view u.sid u.handle) xs ≡ false) at own.0 in
+        let none = rw at at own.0 in
         cc
 found_itself p (x ∷ xs) own (suc i) d v within at found =
     go (p x) found (found_itself p xs own.1 i d v (omega arith) at)
@@ -61,15 +57,8 @@ differ : (xs : List View) → HaveOwnNames xs → (i j : ℕ) (d : View) → i <
     → is_view (slice_index_or xs i d).sid (slice_index_or xs i d).handle (slice_index_or xs j d) ≡ false
 differ [] own i j d less within = absurd (omega arith)
 differ (x ∷ xs) own i zero d less within = absurd (omega arith)
-differ (x ∷ xs) own zero (suc j) d less within =
-    go (is_view x.sid x.handle (slice_index_or xs j d)) refl
-  where
-    go : (b : Bool) → is_view x.sid x.handle (slice_index_or xs j d) ≡ b → b ≡ false
-    go true e =
-        let some = list_any_at (is_view x.sid x.handle) xs j d (omega arith) e in
-        let none = own.0 in
-        cc
-    go false e = refl
+differ (x ∷ xs) own zero (suc j) d less within = false_from_ne_true (is_view x.sid x.handle (slice_index_or xs j d))
+    (λ e. let some = list_any_at (is_view x.sid x.handle) xs j d (omega arith) e in let none = own.0 in cc)
 differ (x ∷ xs) own (suc i) (suc j) d less within = differ xs own.1 i j d (omega arith) (omega arith)
 
 -- ---- the place of a label
@@ -85,33 +74,28 @@ by_label : (m : Mode) (s : Scenery) (v : View) (q : ℕ × ℕ) (p : Point) (w :
     → label_place_of s v ≡ Some q
     → is_in_picture (view_text s v) q.0 q.1 p ≡ true → view_word m s v p w ≡ ink_of (has_dot (view_text s v) q.0 q.1 p)
 by_label Flat s v q p w draws at inside = cc
-by_label Xray s v q p w draws at inside = rw at (rw inside refl)
-by_label Kill s v q p w draws at inside = rw at (rw inside refl)
+by_label other s v q p w draws at inside = rw at (rw inside refl)
 
 -- a pixel that a view owns shows the view's word, and not the bar's
 shown_by : (s : Scenery) (p : Point) (w : ℕ) (v : View)
     → (is_owner v.sid v.handle (covering (λ (u : View). u) s.stack p) ≡ true → covering (λ (u : View). u) s.stack p
     ≡ Some v)
     → is_owner v.sid v.handle (owner s.bar s.stack p) ≡ true → shown s p w ≡ view_word s.mode s v p w
-shown_by s p w v found owned = go (in_bar s.bar p) owned
+shown_by s p w v found owned = go (in_bar s.bar p) refl
   where
-    go : (b : Bool) → is_owner v.sid v.handle (cond b None (covering (λ (u : View). u) s.stack p)) ≡ true
-        → cond b (bar_word s p) (owner_word s p w (cond b None (covering (λ (u : View). u) s.stack p)))
-        ≡ view_word s.mode s v p w
-    go true h = cc
-    go false h = ap (owner_word s p w) (found h)
+    go : (b : Bool) → in_bar s.bar p ≡ b → shown s p w ≡ view_word s.mode s v p w
+    go true e = let none = rw e at owned in cc
+    go false e = rw e (ap (owner_word s p w) (found (rw e at owned)))
 
 -- the pixel of a screen by its column and its row
 number_fits : (width height x y : ℕ) → x < width → y < height → y * width + x < width * height
-number_fits width height x y left above =
-    let below : suc y * width ≤ height * width = mul-le-mul_right width above in
-    grind arith
+number_fits width height x y left above = grind (arith, rows)
 
 pixel_of : (width x y : ℕ) → x < width → pixel width (y * width + x) ≡ point x y
 pixel_of width x y left =
     let column : (y * width + x) % width ≡ x = grind (arith, rows) in
     let row : (y * width + x) / width ≡ y = grind (arith, rows) in
-    λ i. point (column i) (row i)
+    rw (column, row)
 
 in_its_picture : (text : List ℕ) (left top x y : ℕ) → x < picture_width (length text) → y < picture_height
     → is_in_picture text left top (point (left + x) (top + y)) ≡ true
@@ -121,7 +105,7 @@ dot_there : (text : List ℕ) (left top x y : ℕ) → has_dot text left top (po
 dot_there text left top x y =
     let column : (left + x) - left ≡ x = omega arith in
     let row : (top + y) - top ≡ y = omega arith in
-    λ i. dot text (column i) (row i)
+    rw (column, row)
 
 -- ---- the labels of a frame
 

@@ -1,23 +1,23 @@
 -- Handles count up: each view's is below the next one of its session.
 use Rattle.nit_screen.proofs.Basics.{Agrees, All, All-changed, All-filter, All-head, All-nil}
-use Rattle.nit_screen.proofs.Basics.{All-put, All-tail, All-weaker, All_found, AreBelowNext, Bool}
-use Rattle.nit_screen.proofs.Basics.{Call, Configuration, Delivery, Entry, Event, HaveOwnNames}
-use Rattle.nit_screen.proofs.Basics.{IsLegal, IsNewlyNamed, IsPutIn, IsSpared, Item, LegalFrom}
-use Rattle.nit_screen.proofs.Basics.{List, None, Option, Reply, Session, Some, State, Status, Take}
-use Rattle.nit_screen.proofs.Basics.{View, [], accepted, after, ap, arith, by_life, by_refusal}
-use Rattle.nit_screen.proofs.Basics.{by_status, delivered, false, find, first_session, first_state}
-use Rattle.nit_screen.proofs.Basics.{get_or, get_or-set_same, is_accepted, is_view, length}
-use Rattle.nit_screen.proofs.Basics.{list_any, nat_lt, new_view, not, or_from, put_again, receive}
-use Rattle.nit_screen.proofs.Basics.{refl, refusal, replay, replay_from, route, session, session_in}
-use Rattle.nit_screen.proofs.Basics.{set, subst, suc, taking, unless, without, ◌orelse◌}
-use Rattle.std.proofs.Common.{sym, true, zero, ℕ, ◌++◌, ◌+◌, ◌<◌, ◌∙◌, ◌∷◌, ◌≡◌, ◌≤◌, if◌then◌else◌}
+use Rattle.nit_screen.proofs.Basics.{All-put, All-tail, All-weaker, All_found, AreBelowNext, Call}
+use Rattle.nit_screen.proofs.Basics.{Configuration, Delivery, Entry, Event, HaveOwnNames, IsLegal}
+use Rattle.nit_screen.proofs.Basics.{IsNewlyNamed, Item, LegalFrom, List, None, Option, Reply}
+use Rattle.nit_screen.proofs.Basics.{Session, Some, State, Status, Take, View, [], accepted, after}
+use Rattle.nit_screen.proofs.Basics.{ap, arith, by_life, by_refusal, delivered, false}
+use Rattle.nit_screen.proofs.Basics.{false_from_ne_true, first_session, first_state, get_or}
+use Rattle.nit_screen.proofs.Basics.{get_or-set_same, is_accepted, is_view, list_any, new_view, not}
+use Rattle.nit_screen.proofs.Basics.{or_from, receive, refl, refusal, refused_reply, replay}
+use Rattle.nit_screen.proofs.Basics.{replay_from, route, session, session_in, set, suc, taking}
+use Rattle.nit_screen.proofs.Basics.{without}
+use Rattle.std.proofs.Common.{sym, true, zero, ℕ, ◌+◌, ◌<◌, ◌∙◌, ◌∷◌, ◌≡◌, ◌≤◌}
 use Rattle.nit_journal.specs.Session.{serve}
 use Rattle.nit_events.specs.declared.event.Item.TheVariants as item
 use Rattle.nit_events.specs.declared.event.Status.TheVariants as status
 use Rattle.nit_events.specs.declared.call.Reply.TheVariants as reply
 use Rattle.nit_events.specs.declared.entry.Entry.TheVariants as entry
 use Rattle.nit_stack.specs.declared.view.View.{View as ViewOf}
-use Rattle.nit_screen.proofs.BufferSizes.{alike_at}
+use Rattle.nit_screen.proofs.BufferSizes.{alike_at, event_keeps}
 use Rattle.nit_screen.proofs.StackFacts.{KeepsName, IsKept, TakesNew, entry_keeps}
 use Rattle.nit_screen.proofs.ViewNameLemmas.{its_name, keeps_own}
 
@@ -32,63 +32,35 @@ accepted_counts t View = omega arith
 accepted_counts t Take = let same = taking_keeps_next t.queue t in omega arith
 accepted_counts t other = omega arith
 
-counts_unless_refused : (t : Session) (call : Call) (refused : Option Reply)
-    → t.next ≤ (by_refusal t call refused).session.next
-counts_unless_refused t call (Some r) = omega arith
-counts_unless_refused t call None = accepted_counts t call
-
 serve_counts : (t : Session) (call : Call) → t.next ≤ (serve t call).session.next
 unfolding serve
-serve_counts t call = counts_unless_refused t call (refusal t call)
-
-queued_keeps_next : (room : Bool) (e : Event) (t : Session)
-    → (if room then record t { queue = t.queue ++ e ∷ [] } else record t { lost = t.lost + 1 }).next ≡ t.next
-queued_keeps_next true e t = refl
-queued_keeps_next false e t = refl
-
-by_life_keeps_next : (was : Status) (i : Item) (t : Session) → (by_life was i t).next ≡ t.next
-by_life_keeps_next status.Live (item.Event e) t = queued_keeps_next (nat_lt (length t.queue) 64) e t
-by_life_keeps_next status.Live item.Kill t = refl
-by_life_keeps_next other i t = refl
+serve_counts t call = go (refusal t call)
+  where
+    go : (refused : Option Reply) → t.next ≤ (by_refusal t call refused).session.next
+    go None = accepted_counts t call
+    go (Some r) = omega arith
 
 receive_keeps_next : (t : Session) (i : Item) → (receive t i).next ≡ t.next
-receive_keeps_next t i = by_life_keeps_next t.status i t
+receive_keeps_next t (item.Event e) = ap (λ (u : Session). u.next) (event_keeps t.status e t)
+receive_keeps_next t item.Kill = go t.status
+  where
+    go : (was : Status) → (by_life was item.Kill t).next ≡ t.next
+    go status.Live = refl
+    go other = refl
 
 -- ---- the handle that is answered
-
--- a refusal is no acceptance
-pub either_refuses : (o q : Option Reply) → IsSpared is_accepted o → IsSpared is_accepted q
-    → IsSpared is_accepted (o orelse q)
-either_refuses None q a b = b
-either_refuses (Some r) q a b = a
-
-pub unless_refuses : (holds : Bool) (r : Reply) → is_accepted r ≡ false → IsSpared is_accepted (unless holds r)
-unless_refuses true r h = refl
-unless_refuses false r h = h
-
-pub status_refuses : (s : Status) → IsSpared is_accepted (by_status s)
-status_refuses status.Live = refl
-status_refuses status.Closed = refl
-status_refuses status.Killed = refl
-
-view_refuses : (t : Session) → IsSpared is_accepted (refusal t View)
-view_refuses t =
-    either_refuses (by_status t.status) _ (status_refuses t.status)
-    (either_refuses (unless (nat_lt (length t.handles) 64) reply.TooManyViews) _
-    (unless_refuses (nat_lt (length t.handles) 64) reply.TooManyViews refl)
-    (unless_refuses _ _ refl))
-
-answers_next : (t : Session) (h : ℕ) (refused : Option Reply) → IsSpared is_accepted refused
-    → (by_refusal t View refused).reply ≡ reply.Handle h
-    → (h ≡ t.next) × ((by_refusal t View refused).session.next ≡ t.next + 1)
-answers_next t h None spared e = (cc, refl)
-answers_next t h (Some r) spared e = let accepted_too : is_accepted r ≡ true = ap is_accepted e in cc
 
 -- the new handle is the next one, and the next one counts up
 new_handle : (t : Session) (h : ℕ) → (serve t View).reply ≡ reply.Handle h
     → (h ≡ t.next) × ((serve t View).session.next ≡ t.next + 1)
 unfolding serve
-new_handle t h e = answers_next t h (refusal t View) (view_refuses t) e
+new_handle t h e = go (refusal t View) refl e
+  where
+    go : (refused : Option Reply) → refusal t View ≡ refused → (by_refusal t View refused).reply ≡ reply.Handle h
+        → (h ≡ t.next) × ((by_refusal t View refused).session.next ≡ t.next + 1)
+    go None is e = (cc, refl)
+    go (Some r) is e =
+        let no_ = refused_reply t View r is in let yes_ : is_accepted r ≡ true = ap is_accepted e in cc
 
 -- ---- all sessions
 
@@ -115,8 +87,7 @@ counts_up s (entry.Call sid call r) t =
     (serve_counts (session s sid) call) t
 counts_up s (entry.Input dev routed) t = let same =
     delivered_keeps_next (route s.config s.input s.stack dev).deliveries s.sessions t in omega arith
-counts_up s (entry.Shot number) t = omega arith
-counts_up s entry.Final t = omega arith
+counts_up s other t = omega arith
 
 -- ---- new names
 
@@ -125,18 +96,13 @@ none_named : (bound : ℕ → ℕ) (sid h : ℕ) (views : List ViewOf) → h ≡
     → list_any (is_view sid h) views ≡ false
 none_named bound sid h [] at all = refl
 none_named bound sid h (v ∷ views) at all =
-    or_from (is_view sid h v) (list_any (is_view sid h) views) (go (is_view sid h v) refl)
+    or_from (is_view sid h v) (list_any (is_view sid h) views)
+    (false_from_ne_true (is_view sid h v) (λ e. let name = its_name sid h v e in
+    let same : bound v.sid ≡ bound sid = ap bound name.0 in omega (arith, below, name.1, same)))
     (none_named bound sid h views at (All-tail (λ (v : ViewOf). v.handle < bound v.sid) v views all))
   where
     below : v.handle < bound v.sid
     below = All-head (λ (v : ViewOf). v.handle < bound v.sid) v views all
-
-    go : (b : Bool) → is_view sid h v ≡ b → b ≡ false
-    go false e = refl
-    go true e =
-        let name = its_name sid h v e in
-        let same : bound v.sid ≡ bound sid = ap bound name.0 in
-        absurd (omega (arith, below, name.1, same))
 
 pub names_anew : (s : State) (taken : ℕ) (e : Entry) → AreBelowNext s → Agrees s taken e → IsNewlyNamed e s.stack
 names_anew s taken (entry.Call sid View (reply.Handle h)) below agrees =
@@ -153,22 +119,13 @@ below_is_kept : (s : State) → IsKept (All (IsBelow s))
 below_is_kept s = record {
   out = λ is xs all. All-filter (λ v. not (is v)) (IsBelow s) xs all;
   change = λ is change same xs all. All-changed (IsBelow s) is change (renamed change same) xs all;
-  again = λ sid v put puts xs all. go sid v put puts xs all (find (is_view sid v) xs) refl;
+  again = λ sid v a xs now found put all. All-put (IsBelow s) a (without (is_view sid v) xs) now put
+      (All_found (IsBelow s) (is_view sid v) xs a all found)
+      (All-filter (λ x. not (is_view sid v x)) (IsBelow s) xs all);
 }
   where
     renamed : (change : ViewOf → ViewOf) → KeepsName change → (v : ViewOf) → IsBelow s v → IsBelow s (change v)
     renamed change same v below = let name = same v in rw (name.0, name.1) below
-
-    go : (sid v : ℕ) (put : ViewOf → List ViewOf → List ViewOf)
-        → ((x : ViewOf) (xs : List ViewOf) → IsPutIn x xs (put x xs)) → (xs : List ViewOf) → All (IsBelow s) xs
-        → (o : Option ViewOf) → find (is_view sid v) xs ≡ o
-        → All (IsBelow s) (put_again put (without (is_view sid v) xs) xs o)
-    go sid v put puts xs all None found = all
-    go sid v put puts xs all (Some a) found =
-        let others = without (is_view sid v) xs in
-        All-put (IsBelow s) a others (put a others) (puts a others)
-        (All_found (IsBelow s) (is_view sid v) xs a all found)
-        (All-filter (λ x. not (is_view sid v x)) (IsBelow s) xs all)
 
 below_takes_new : (s : State) (taken : ℕ) (e : Entry) → Agrees s taken e → All (IsBelow (after s e)) s.stack
     → TakesNew (All (IsBelow (after s e))) e s.stack
@@ -206,15 +163,10 @@ named_after s taken e named agrees =
 replayed : (s : State) (taken : ℕ) (journal : List Entry) → LegalFrom s taken journal → AreNamed s
     → AreNamed (replay_from s journal)
 replayed s taken [] legal named = named
-replayed s taken (entry.Call sid call r ∷ rest) legal named =
-    replayed (after s (entry.Call sid call r)) taken rest legal.1
-    (named_after s taken (entry.Call sid call r) named legal.0)
-replayed s taken (entry.Input dev routed ∷ rest) legal named =
-    replayed (after s (entry.Input dev routed)) taken rest legal.1
-    (named_after s taken (entry.Input dev routed) named legal.0)
 replayed s taken (entry.Shot number ∷ rest) legal named = replayed s (taken + 1) rest legal.1 named
-replayed s taken (entry.Final ∷ rest) legal named =
-    subst (λ (js : List Entry). AreNamed (replay_from s js)) (sym legal) named
+replayed s taken (entry.Final ∷ rest) legal named = rw legal named
+replayed s taken (other ∷ rest) legal named =
+    replayed (after s other) taken rest legal.1 (named_after s taken other named legal.0)
 
 pub named_throughout : (config : Configuration) (journal : List Entry) → IsLegal config journal
     → HaveOwnNames (replay config journal).stack × AreBelowNext (replay config journal)

@@ -1,12 +1,12 @@
 -- Places of labels that are written one after the other, each at the slot of its view.
 use Rattle.nit_screen.proofs.Basics.{All, AreLabelled, IsLabelled, IsSlotView, IsStack, List}
 use Rattle.nit_screen.proofs.Basics.{NoPair, Option, Point, SlotView, Some, StackModel, ViewRef, []}
-use Rattle.nit_screen.proofs.Basics.{ap, arith, cases_lt, eq-eqb, false≢true, get_or_from_slice_get}
-use Rattle.nit_screen.proofs.Basics.{inl, inr, label_place, label_place_of, label_scenery}
-use Rattle.nit_screen.proofs.Basics.{label_text_of, length, length-set, list_any_at, map}
-use Rattle.nit_screen.proofs.Basics.{picture_height, picture_width, pixel_at, same_slot, slice_get}
-use Rattle.nit_screen.proofs.Basics.{slice_get-get_or, slice_get_within, slot_at, view_ref}
-use Rattle.nit_screen.proofs.Basics.{views_of}
+use Rattle.nit_screen.proofs.Basics.{ap, arith, cases_lt, eq-eqb, false≢true, get_or-set_same}
+use Rattle.nit_screen.proofs.Basics.{get_or_from_slice_get, inl, inr, label_place, label_place_of}
+use Rattle.nit_screen.proofs.Basics.{label_scenery, label_text_of, length, length-set, list_any_at}
+use Rattle.nit_screen.proofs.Basics.{map, picture_height, picture_width, pixel_at, same_Some}
+use Rattle.nit_screen.proofs.Basics.{same_slot, slice_get, slice_get-get_or, slice_get_within}
+use Rattle.nit_screen.proofs.Basics.{slot_at, view_ref, views_of}
 use Rattle.std.proofs.Common.{option_map, refl, set, slice_index_or, subst, suc, sym, zero, ℕ, ◌+◌}
 use Rattle.std.proofs.Common.{◌<◌, ◌∙◌, ◌∷◌, ◌≡◌, ◌≢◌, ◌≤◌}
 
@@ -25,8 +25,7 @@ slots_differ (a ∷ views) k zero s t apart lt at_k at_i same = absurd (omega ar
 slots_differ (a ∷ views) zero (suc i) s t apart lt at_k at_i same =
     let first : a ≡ s = cc in
     let here = get_or_from_slice_get views i t t at_i in
-    let equal = eq-eqb _ _ (ap (λ (x : SlotView). x.slot) here ∙ sym same
-    ∙ ap (λ (x : SlotView). x.slot) (sym first)) in
+    let equal = eq-eqb (slice_index_or views i t).slot a.slot (cc) in
     false≢true (sym apart.0 ∙ list_any_at (same_slot a) views i t (slice_get_within views i t at_i) equal)
 slots_differ (a ∷ views) (suc k) (suc i) s t apart lt at_k at_i same =
     slots_differ views k i s t apart.1 (omega arith) at_k at_i same
@@ -36,15 +35,15 @@ pub slot_within : (stack : StackModel) (i : ℕ) (v : ViewRef) → IsStack stack
     ≡ Some v → v.0 < stack.most
 slot_within stack i v standing at =
     let seat = slot_at stack.views i v at in
-    subst (λ (m : ℕ). m < stack.most) seat.2
+    rw (← seat.2)
     (holds_at (IsSlotView stack.most (length stack.sizes)) stack.views i seat.0 standing.seats seat.1).slot
 
 -- ---- a value written at a place
 
 written_there : {A : Type 0} (xs : List A) (i : ℕ) (a : A) → i < length xs → slice_get (set xs i a) i ≡ Some a
-written_there [] i a lt = absurd (omega arith)
-written_there (x ∷ xs) zero a lt = refl
-written_there (x ∷ xs) (suc i) a lt = written_there xs i a (omega arith)
+written_there xs i a lt =
+    let long = length-set xs i a in
+    slice_get-get_or (set xs i a) i a (omega arith) ∙ ap (λ x. Some x) (get_or-set_same xs i a a lt)
 
 written_elsewhere : {A : Type 0} (xs : List A) (i j : ℕ) (a : A) → j ≢ i → slice_get (set xs i a) j ≡ slice_get xs j
 written_elsewhere [] i j a other = refl
@@ -63,11 +62,7 @@ pub own_label : (stack : StackModel) (labels : List (List ℕ)) (a s : SlotView)
     → o ≡ option_map pixel_at (label_place stack.width stack.height stack.bar (views_of stack.views) a.view size.0
     size.1) → o ≡ option_map pixel_at (label_place_of (label_scenery stack labels) s.view)
 own_label stack labels a s label text n size o same label_ text_ n_ size_ o_ =
-    let one : a ≡ s = cc in
-    o_ ∙ subst (λ (x : SlotView). option_map pixel_at
-    (label_place stack.width stack.height stack.bar (views_of stack.views) a.view size.0 size.1)
-    ≡ option_map pixel_at (label_place_of (label_scenery stack labels) x.view)) one
-    (rw (size_, n_, text_, label_) refl)
+    let one : a ≡ s = cc in rw (← one, o_, size_, n_, text_, label_)
 
 -- ---- one place after the other
 
@@ -88,8 +83,7 @@ labelled_more stack labels n room places v o standing slots at placed far =
       count = length-set places v.0 o ∙ far.count;
       done = λ k s lt at_k. elim (cases_lt k n) [
         | inl less ↦ written_elsewhere places v.0 s.slot o (other k s less at_k) ∙ far.done k s less at_k
-        | inr le ↦ let same : n ≡ k =
-            omega arith in here s (subst (λ (m : ℕ). slice_get stack.views m ≡ Some s) (sym same) at_k)
+        | inr le ↦ let same : n ≡ k = omega arith in here s (rw same at_k)
       ];
     }
   where
@@ -105,12 +99,9 @@ labelled_more stack labels n room places v o standing slots at placed far =
     here : (s : SlotView) → slice_get stack.views n ≡ Some s → slice_get (set places v.0 o) s.slot
         ≡ Some (option_map pixel_at (label_place_of (label_scenery stack labels) s.view))
     here s at_n =
-        let both : Some seat.0 ≡ Some s = sym seat.1 ∙ at_n in
-        let one : seat.0 ≡ s = cc in
-        let slot : s.slot ≡ v.0 = sym (ap (λ (x : SlotView). x.slot) one) ∙ seat.2 in
-        subst (λ (m : ℕ). slice_get (set places v.0 o) m
-        ≡ Some (option_map pixel_at (label_place_of (label_scenery stack labels) s.view))) (sym slot)
-        (written_there places v.0 o within ∙ ap (λ (x : Option Point). Some x) (placed s at_n))
+        let one : seat.0 ≡ s = same_Some _ _ (sym seat.1 ∙ at_n) in
+        let slot : s.slot ≡ v.0 = rw (← one) seat.2 in
+        rw slot (written_there places v.0 o within ∙ ap (λ (x : Option Point). Some x) (placed s at_n))
 
 -- all of them
 pub all_labelled : (stack : StackModel) (labels : List (List ℕ)) (n room : ℕ) (places : List (Option Point))

@@ -1,33 +1,24 @@
 -- What a load gives, and that loads leave the inks as they are.
-use Rattle.std.proofs.Common.{List, ap, slice_index_or, subst, sym, ℕ, ◌≡◌}
-use Rattle.nit_screen.proofs.Basics.{Agrees, AreInked, AreRaw, Bare, Black, Entry, Ink, IsInked}
-use Rattle.nit_screen.proofs.Basics.{IsInkedBy, IsRawOf, IsWordOfSource, Painted, PixelSource}
-use Rattle.nit_screen.proofs.Basics.{Sight, State, Word, after, source_at}
+use Rattle.std.proofs.Common.{List, ap, slice_index_or, ℕ, ◌≡◌}
+use Rattle.nit_screen.proofs.Basics.{Agrees, AreInked, Entry, IsInkedBy, IsRawOf, IsWordOfSource}
+use Rattle.nit_screen.proofs.Basics.{Painted, PixelSource, Sight, State, Word, after, source_at}
 use Rattle.nit_screen.proofs.CleanPixels.{DeliveriesFit, keeps_each}
 
-held_is_raw : (glasses : ℕ → Sight) (source : PixelSource) (w : ℕ) → IsWordOfSource glasses source w → IsRawOf source w
-held_is_raw glasses Bare w h = h
-held_is_raw glasses Black w h = h
+pub held_is_raw : (glasses : ℕ → Sight) (source : PixelSource) (w : ℕ) → IsWordOfSource glasses source w
+    → IsRawOf source w
 held_is_raw glasses (Word t i) w h = h.fits
-
-pub keeps_raw : DeliveriesFit → (s : State) (taken : ℕ) (e : Entry) (glasses glasses' : ℕ → Sight) (raw raw' : List ℕ)
-    → Agrees s taken e
-    → Painted s e (after s e) glasses glasses' raw raw' → AreRaw s raw → AreRaw (after s e) raw'
-keeps_raw fit s taken e glasses glasses' raw raw' agrees painted before =
-    keeps_each fit IsRawOf s taken e glasses glasses' raw raw' agrees painted (held_is_raw glasses) before
+held_is_raw glasses other w h = h
 
 -- by glasses of the same inks
 same_inks : (glasses glasses' : ℕ → Sight) → ((t : ℕ) → (glasses' t).ink ≡ (glasses t).ink)
     → (source : PixelSource) (w : ℕ) → IsInkedBy glasses source w → IsInkedBy glasses' source w
-same_inks glasses glasses' same Bare w h = h
-same_inks glasses glasses' same Black w h = h
-same_inks glasses glasses' same (Word t i) w h = subst (λ (ink : Ink). IsInked ink i w) (sym (same t)) h
+same_inks glasses glasses' same (Word t i) w h = rw (same t) h
+same_inks glasses glasses' same other w h = h
 
 held_is_inked : (glasses : ℕ → Sight) (source : PixelSource) (w : ℕ) → IsWordOfSource glasses source w
     → IsInkedBy glasses source w
-held_is_inked glasses Bare w h = tt
-held_is_inked glasses Black w h = tt
 held_is_inked glasses (Word t i) w h = h.inked
+held_is_inked glasses other w h = tt
 
 pub keeps_inked : DeliveriesFit → (s : State) (taken : ℕ) (e : Entry) (glasses glasses' : ℕ → Sight) (raw raw' : List ℕ)
     → Agrees s taken e

@@ -1,48 +1,36 @@
 -- A session that is over opens again: what stays, where whoever has a view is live.
 use Rattle.nit_screen.proofs.Basics.{All, All-head, All-tail, All_found, AreBelowNext, AreLive}
-use Rattle.nit_screen.proofs.Basics.{AreRaw, Bool, IfSome, IsLive, IsRawOf, List, None, Option}
-use Rattle.nit_screen.proofs.Basics.{PixelSource, Point, Repainted, ServerModel, Session, Sight}
-use Rattle.nit_screen.proofs.Basics.{Some, State, [], ap, arith, bar_rows, buffer_size, cond}
-use Rattle.nit_screen.proofs.Basics.{covers, ended, eq-eqb, eqb-true, ext_get_or, false, find}
-use Rattle.nit_screen.proofs.Basics.{first_session, forget, get_or, get_or-set_other, in_bar}
-use Rattle.nit_screen.proofs.Basics.{is_session, length, loads_at, member, not, opened}
-use Rattle.nit_screen.proofs.Basics.{option_map_or, owner_of, pixel, refl, relabelled, seen}
-use Rattle.nit_screen.proofs.Basics.{seen_none, session, session_in, session_owns, set, set-set}
-use Rattle.nit_screen.proofs.Basics.{source_of, state_of, subst, sum_by-cons, times_shown}
-use Rattle.nit_screen.proofs.Basics.{unless_it_is, views_closed, views_of, with_reopened, without}
-use Rattle.std.proofs.Common.{suc, sym, true, zero, ℕ, ◌<◌, ◌==◌, ◌∙◌, ◌∷◌, ◌≡◌, ◌≢◌}
+use Rattle.nit_screen.proofs.Basics.{AreRaw, Bool, IfSome, IsLive, List, None, Option, PixelSource}
+use Rattle.nit_screen.proofs.Basics.{Point, Repainted, ServerModel, Session, Sight, Some, State, []}
+use Rattle.nit_screen.proofs.Basics.{ap, arith, bar_rows, buffer_size, cond, covers, eq-eqb}
+use Rattle.nit_screen.proofs.Basics.{ext_get_or, false, first_session, forget, get_or}
+use Rattle.nit_screen.proofs.Basics.{get_or-set_other, is_session, length, loads_at, member, ne_eqb}
+use Rattle.nit_screen.proofs.Basics.{opened, owner_of, pixel, refl, seen, seen_none, session}
+use Rattle.nit_screen.proofs.Basics.{session_owns, set, set-set, source_of, state_of, sum_by-cons}
+use Rattle.nit_screen.proofs.Basics.{times_shown, unless_it_is, views_closed, views_of}
+use Rattle.nit_screen.proofs.Basics.{with_reopened, without}
+use Rattle.std.proofs.Common.{suc, sym, true, zero, ℕ, ◌==◌, ◌∙◌, ◌∷◌, ◌≡◌, ◌≢◌}
 use Rattle.nit_events.specs.declared.event.Status.TheVariants as status
 use Rattle.nit_stack.specs.declared.view.View.{View}
-use Rattle.nit_screen.proofs.BufferSizes.{by_other_sizes, others_stay}
+use Rattle.nit_screen.proofs.BufferSizes.{by_other_sizes, others_stay, owner_spared}
 
 module _ (s : State) (sid : ℕ) (over : (session s sid).status ≢ status.Live) where
   -- it is none of those that are live
   apart : (t : ℕ) → IsLive s t → t ≢ sid
-  apart t live e = over (subst (λ (n : ℕ). (session s n).status ≡ status.Live) e live.1)
-
-  other : (t : ℕ) → IsLive s t → (t == sid) ≡ false
-  other t live = go (t == sid) refl
-    where
-      go : (b : Bool) → (t == sid) ≡ b → b ≡ false
-      go true e = absurd (apart t live (eqb-true t sid e))
-      go false e = refl
+  apart t live e = over (rw e at live.1)
 
   -- it has no view
   pub no_views : (stack : List View) → All (λ v. IsLive s v.sid) stack → without (λ v. v.sid == sid) stack ≡ stack
   no_views [] all = refl
   no_views (v ∷ rest) all =
-      ap (λ (b : Bool). cond (not b) (v ∷ without (λ v. v.sid == sid) rest) (without (λ v. v.sid == sid) rest))
-      (other v.sid (All-head (λ v. IsLive s v.sid) v rest all))
-      ∙ ap (λ (l : List View). v ∷ l) (no_views rest (All-tail (λ v. IsLive s v.sid) v rest all))
+      let other = ne_eqb v.sid sid (apart v.sid (All-head (λ v. IsLive s v.sid) v rest all)) in
+      let same = no_views rest (All-tail (λ v. IsLive s v.sid) v rest all) in
+      rw (other, same)
 
   -- and the input does not know it
   not_known : (o : Option ℕ) → IfSome o (IsLive s) → unless_it_is sid o ≡ o
   not_known None k = refl
-  not_known (Some t) k = ap (λ (b : Bool). cond b None (Some t)) (flipped (sid == t) refl)
-    where
-      flipped : (b : Bool) → (sid == t) ≡ b → (sid == t) ≡ false
-      flipped true e = absurd (apart t k (sym (eqb-true sid t e)))
-      flipped false e = e
+  not_known (Some t) k = let other = ne_eqb sid t (λ e. apart t k (sym e)) in rw other
 
   module _ (h : AreLive s) where
     pub forgotten : forget s.input sid ≡ s.input
@@ -54,13 +42,8 @@ module _ (s : State) (sid : ℕ) (over : (session s sid).status ≢ status.Live)
 
     -- so it owns no pixel
     pub owns_none : (p : Point) → session_owns sid s p ≡ false
-    owns_none p = go (in_bar (bar_rows s.config) p) (find (λ v. covers v.rect p) s.stack) refl
-      where
-        go : (b : Bool) (o : Option View) → find (λ v. covers v.rect p) s.stack ≡ o
-            → option_map_or (is_session sid) (cond b None o) false ≡ false
-        go true o e = refl
-        go false None e = refl
-        go false (Some v) e = other v.sid (All_found (λ v. IsLive s v.sid) (λ v. covers v.rect p) s.stack v h.views e)
+    owns_none p = owner_spared (is_session sid) (bar_rows s.config) s.stack p (λ v e. ne_eqb v.sid sid
+        (apart v.sid (All_found (λ v. IsLive s v.sid) (λ v. covers v.rect p) s.stack v h.views e)))
 
     module _ (label : List ℕ) where
       abbrev begun : Session
@@ -72,16 +55,13 @@ module _ (s : State) (sid : ℕ) (over : (session s sid).status ≢ status.Live)
           (owner_of s p) (others_stay s.sessions sid begun) (owns_none p)
 
       pub opens_raw : (raw : List ℕ) → AreRaw s raw → AreRaw (opened sid label s) raw
-      opens_raw raw all = λ k l. subst (λ (source : PixelSource). IsRawOf source (get_or raw k 0))
-          (sym (opens_sources (pixel s.config.width k))) (all k l)
+      opens_raw raw all = λ k l. rw (opens_sources (pixel s.config.width k)) (all k l)
 
       -- and each view's handle is below the same one
       pub opens_below : AreBelowNext s → AreBelowNext (opened sid label s)
       opens_below all = λ k v l.
           let w = get_or s.stack k v in
-          subst (λ (u : Session). w.handle < u.next)
-          (sym (get_or-set_other s.sessions sid w.sid begun (first_session 0) (apart w.sid (h.views k v l))))
-          (all k v l)
+          rw (get_or-set_other s.sessions sid w.sid begun (first_session 0) (apart w.sid (h.views k v l))) (all k v l)
 
 -- ---- at a screen
 
@@ -90,14 +70,8 @@ pub only_opens : (s s' : ServerModel) (sid : ℕ) (label : List ℕ) → s' ≡ 
     → (session (state_of s) sid).status ≢ status.Live → AreLive (state_of s)
     → state_of s' ≡ opened sid label (state_of s)
 only_opens s s' sid label is over h =
-    ap state_of is
-    ∙ (λ i. record {
-      config = relabelled sid label s.config;
-      sessions = set-set s.sessions sid (ended status.Killed (session_in s.sessions sid))
-          (first_session (member s.config sid).donation) i;
-      stack = (views_closed sid s.stack.views ∙ no_views (state_of s) sid over (views_of s.stack.views) h.views) i;
-      input = forgotten (state_of s) sid over h i;
-    })
+    let no_view = no_views (state_of s) sid over (views_of s.stack.views) h.views in
+    rw (is, set-set, views_closed, no_view, forgotten (state_of s) sid over h)
 
 -- ---- where no pixel is marked
 

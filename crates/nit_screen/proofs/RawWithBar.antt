@@ -1,15 +1,13 @@
 -- The raw words of a list that has the bar in its first words.
 use Rattle.nit_screen.proofs.Basics.{All, All-append, All-drop, All-replicate, Bare, Bool, IsWord}
-use Rattle.nit_screen.proofs.Basics.{List, None, ServerModel, State, ap, arith, bar_rows, bare_word}
-use Rattle.nit_screen.proofs.Basics.{buffer_size, cond, covering, drop, ext_get_or, false}
-use Rattle.nit_screen.proofs.Basics.{false≢true, get_or, get_or-append_right, get_or-drop}
-use Rattle.nit_screen.proofs.Basics.{get_or-replicate, get_or_append_left, in_bar, ints, length}
-use Rattle.nit_screen.proofs.Basics.{length-append, length-drop, length-replicate, mul-le-mul_right}
-use Rattle.nit_screen.proofs.Basics.{nat_lt, nat_tests, pixel, raw_in, refl, replicate, rows}
-use Rattle.nit_screen.proofs.Basics.{slice_index, source_at, source_under, subst, suc, sym, true}
-use Rattle.nit_screen.proofs.Basics.{unbarred}
-use Rattle.std.proofs.Common.{ℕ, ◌%◌, ◌*◌, ◌+◌, ◌-◌, ◌/◌, ◌<◌, ◌∙◌, ◌≡◌, ◌≤◌}
-use Rattle.nit_stack.specs.declared.view.View.{View as ViewOf}
+use Rattle.nit_screen.proofs.Basics.{List, State, ap, arith, bar_rows, bare_word, cases_lt, cond}
+use Rattle.nit_screen.proofs.Basics.{drop, ext_get_or, false, get_or, get_or-append_right}
+use Rattle.nit_screen.proofs.Basics.{get_or-drop, get_or-replicate, get_or_append_left, in_bar}
+use Rattle.nit_screen.proofs.Basics.{ints, le-div, length, length-append, length-drop}
+use Rattle.nit_screen.proofs.Basics.{length-replicate, nat_lt, nat_tests, pixel, pixel_count}
+use Rattle.nit_screen.proofs.Basics.{raw_in, refl, replicate, rows, slice_index, source_at, subst}
+use Rattle.nit_screen.proofs.Basics.{suc, sym, true, unbarred}
+use Rattle.std.proofs.Common.{ℕ, ◌*◌, ◌-◌, ◌/◌, ◌<◌, ◌∙◌, ◌≡◌, ◌≤◌, inl, inr, zero}
 
 -- ---- the raw words of such a list
 
@@ -39,15 +37,13 @@ unbarred_words n xs words = All-append IsWord (replicate n bare_word) (drop n xs
 pub unbarred_same : (n : ℕ) (xs ys : List ℕ) → n ≤ length xs → length ys ≡ length xs
     → ((k : ℕ) → nat_lt k n ≡ false → slice_index ys k ≡ slice_index xs k) → unbarred n ys ≡ unbarred n xs
 unbarred_same n xs ys fits long same =
-    ext_get_or 0 (unbarred n ys) (unbarred n xs) (unbarred_long n ys (subst (λ (m : ℕ). n ≤ m) (sym long) fits) ∙ long
-    ∙ sym (unbarred_long n xs fits))
+    ext_get_or 0 (unbarred n ys) (unbarred n xs)
+    (unbarred_long n ys (omega (arith, fits, long)) ∙ long ∙ sym (unbarred_long n xs fits))
     (λ k l. unbarred_at n ys k ∙ go k (nat_lt k n) refl ∙ sym (unbarred_at n xs k))
   where
-    go : (k : ℕ) (b : Bool) → nat_lt k n ≡ b → cond (nat_lt k n) bare_word (slice_index ys k)
-        ≡ cond (nat_lt k n) bare_word (slice_index xs k)
-    go k true e = ap (λ (b : Bool). cond b bare_word (slice_index ys k)) e
-        ∙ ap (λ (b : Bool). cond b bare_word (slice_index xs k)) (sym e)
-    go k false e = ap (λ (w : ℕ). cond (nat_lt k n) bare_word w) (same k e)
+    go : (k : ℕ) (b : Bool) → nat_lt k n ≡ b → cond b bare_word (slice_index ys k) ≡ cond b bare_word (slice_index xs k)
+    go k true e = refl
+    go k false e = same k e
 
 -- both kinds
 pub raw_long : (b : Bool) (n : ℕ) (xs : List ℕ) → n ≤ length xs → length (raw_in b n xs) ≡ length xs
@@ -56,38 +52,26 @@ raw_long false n xs fits = unbarred_long n xs fits
 
 -- ---- the pixels of the bar
 
-pub bar_at : (width bar k : ℕ) → k < width * bar → in_bar bar (pixel width k) ≡ true
+bar_at : (width bar k : ℕ) → k < width * bar → in_bar bar (pixel width k) ≡ true
 bar_at width bar k l = let row : k / width < bar = grind (arith, rows) in grind (arith, ints)
 
-pub bar_below : (width bar k : ℕ) → 0 < width → in_bar bar (pixel width k) ≡ true → k < width * bar
-bar_below width bar k some is =
-    let row : k / width < bar = grind (arith, ints) in
-    let m : suc (k / width) * width ≤ bar * width = mul-le-mul_right width row in
-    let p : suc (k / width) * width ≡ k / width * width + width =
-    omega (arith, Rattle.std.proofs.Common.suc-mul (k / width) width) in
-    let whole : k / width * width + k % width ≡ k = omega arith in
-    let column : k % width < width = omega arith in
-    omega arith
+some_columns : (width height k : ℕ) → k < width * height → 0 < width
+some_columns zero height k l = absurd (omega arith)
+some_columns (suc width) height k l = omega arith
 
-pub bar_first : (width bar k : ℕ) → 0 < width → nat_lt k (width * bar) ≡ in_bar bar (pixel width k)
-bar_first width bar k some = go (in_bar bar (pixel width k)) refl
-  where
-    go : (b : Bool) → in_bar bar (pixel width k) ≡ b → nat_lt k (width * bar) ≡ b
-    go true e = let l = bar_below width bar k some e in grind (arith, nat_tests)
-    go false e = below (nat_lt k (width * bar)) refl
-      where
-        below : (b : Bool) → nat_lt k (width * bar) ≡ b → nat_lt k (width * bar) ≡ false
-        below false f = f
-        below true f = let l : k < width * bar =
-            grind (arith, nat_tests) in absurd (false≢true (sym e ∙ bar_at width bar k l))
+-- they are the first ones
+pub bar_first : (s : State) (bar k : ℕ) → k < pixel_count s → bar ≡ s.config.width * bar_rows s.config
+    → in_bar (bar_rows s.config) (pixel s.config.width k) ≡ nat_lt k bar
+bar_first s bar k l is =
+    let width = s.config.width in
+    let rows = bar_rows s.config in
+    elim (cases_lt k bar) [
+      | inl less ↦ let in_ = bar_at width rows k (omega (arith, less, is)) in grind (arith, nat_tests)
+      | inr ge ↦
+          let some = some_columns width s.config.height k l in
+          let row : rows ≤ k / width = le-div rows k width some (omega (arith, ge, is)) in
+          grind (arith, ints, nat_tests)
+    ]
 
 pub bar_is_bare : (s : State) (k : ℕ) → k < s.config.width * bar_rows s.config → source_at s k ≡ Bare
-bar_is_bare s k l =
-    ap (λ (b : Bool). source_under (buffer_size s.sessions) (pixel s.config.width k)
-    (cond b None (covering (λ (v : ViewOf). v) s.stack (pixel s.config.width k))))
-    (bar_at s.config.width (bar_rows s.config) k l)
-
--- as many pixels, where the configuration stays
-pub bar_kept : (s s' : ServerModel) (bar : ℕ) → s'.config ≡ s.config → bar ≡ s.config.width * bar_rows s.config
-    → bar ≡ s'.config.width * bar_rows s'.config
-bar_kept s s' bar same is = rw same is
+bar_is_bare s k l = rw (bar_at s.config.width (bar_rows s.config) k l)

@@ -18,11 +18,11 @@ can_paint_gone glasses s s' k p now can =
     let few = gone_room s s' k p.cutter.room now can.room in
     rw now (record { room = rw now at few; pixels = can.pixels; held = can.held })
 
-module _ {G C R S : Type 0} (sight : G → Sight) (rest : G → R) (own_sight : C → Sight) (own_rest : C → S) where
+module _ {G C R S : Type 0} {sight : G → Sight} {rest : G → R} {own_sight : C → Sight} {own_rest : C → S} where
   -- nothing is loaded
-  pub no_repaint : (source : ℕ → PixelSource) (chosen : ℕ → Bool) (sid : ℕ) (own : C) (p : Painter G)
+  pub no_repaint : {source : ℕ → PixelSource} {chosen : ℕ → Bool} {sid : ℕ} {own : C} {p : Painter G}
       → ((k : ℕ) → chosen k ≡ false) → IsRepaint sight rest own_sight own_rest source chosen sid own own p p
-  no_repaint source chosen sid own p none = record {
+  no_repaint {source} {chosen} {p = p} none = record {
     room = refl;
     painted = repainted_none source chosen (length p.raw.items) _ p.raw.items (λ k l. none k);
     count = refl;
@@ -32,7 +32,7 @@ module _ {G C R S : Type 0} (sight : G → Sight) (rest : G → R) (own_sight : 
   }
 
   -- one more view of a session is taken away
-  pub repaint_more : (of i sid : ℕ) (before now next : StackModel) (a b c : C) (p q r : Painter G)
+  pub repaint_more : {of i sid : ℕ} {before now next : StackModel} {a b c : C} {p q r : Painter G}
       → IsRemovedFrom of (i + 1) before now → IsRemovedFrom of i now next
       → IsRepaint sight rest own_sight own_rest (source_of_number (without_session of before))
       (λ k. uncovered of before now (pixel before.width k)) sid a b p q
@@ -40,7 +40,7 @@ module _ {G C R S : Type 0} (sight : G → Sight) (rest : G → R) (own_sight : 
       (λ k. uncovered of now next (pixel now.width k)) sid b c q r
       → IsRepaint sight rest own_sight own_rest (source_of_number (without_session of before))
       (λ k. uncovered of before next (pixel before.width k)) sid a c p r
-  repaint_more of i sid before now next a b c p q r first then one two = record {
+  repaint_more {of} {i} {sid} {before} {now} {next} first then one two = record {
     room = two.room ∙ one.room;
     painted = painted_more of i _ before now next _ _ _ _ _ _ first then one.painted
         (other_count _ _ _ _ _ _ _ _ one.count two.painted);
@@ -51,12 +51,12 @@ module _ {G C R S : Type 0} (sight : G → Sight) (rest : G → R) (own_sight : 
   }
 
   -- a painter can still load where views were taken away
-  pub can_paint_rest : (of i sid : ℕ) (before now : StackModel) (source : ℕ → PixelSource) (chosen : ℕ → Bool)
-      (a b : C) (p q : Painter G) → IsRemovedFrom of i before now
+  pub can_paint_rest : {of i sid : ℕ} {before now : StackModel} {source : ℕ → PixelSource} {chosen : ℕ → Bool}
+      {a b : C} {p q : Painter G} → IsRemovedFrom of i before now
       → IsRepaint sight rest own_sight own_rest source chosen sid a b p q
       → CanRepaint (glasses_of_call (map sight p.glasses.items) sid (own_sight a)) before p
       → CanRepaint (glasses_of_call (map sight q.glasses.items) sid (own_sight b)) now q
-  can_paint_rest of i sid before now source chosen a b p q taken one can = record {
+  can_paint_rest {of} {i} {before = before} {now = now} taken one can = record {
     room = let m = one.room in let n = taken.fewer in let l = can.room in omega (arith, m, n, l);
     pixels = one.count ∙ can.pixels ∙ ap (λ (t : StackModel). t.width * t.height) (sym taken.rest);
     held = taken_held of i _ _ before now _ _ one.painted.loads taken (as_many_as rest _ _ one.rests) one.painted.sights

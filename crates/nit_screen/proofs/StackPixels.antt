@@ -1,11 +1,10 @@
 -- What holds of a pixel of a server's stack, told of the state that the server is in.
 use Rattle.nit_screen.proofs.Basics.{IsServer, MeanSame, Point, Rectangle, ServerModel, ap}
-use Rattle.nit_screen.proofs.Basics.{bar_rows, buffer_size, false, first_session, get_or-map}
-use Rattle.nit_screen.proofs.Basics.{is_of_session, is_session, is_slot, is_view, is_word_in}
-use Rattle.nit_screen.proofs.Basics.{option_map_or, owner, owner_named, owner_of_session}
-use Rattle.nit_screen.proofs.Basics.{owner_passes, pixel, session_owns, shows_part, size_of}
-use Rattle.nit_screen.proofs.Basics.{size_of_buffer, source, source_at, source_in, state_of}
-use Rattle.nit_screen.proofs.Basics.{view_owns, views_of}
+use Rattle.nit_screen.proofs.Basics.{bar_rows, buffer_size, first_session, get_or-map}
+use Rattle.nit_screen.proofs.Basics.{is_of_session, is_slot, is_word_in, owner_named}
+use Rattle.nit_screen.proofs.Basics.{owner_of_session, owner_passes, pixel, session_owns}
+use Rattle.nit_screen.proofs.Basics.{shows_part, size_of, size_of_buffer, source, source_at}
+use Rattle.nit_screen.proofs.Basics.{source_in, state_of, view_owns, views_of}
 use Rattle.std.proofs.Common.{ℕ, ◌∙◌, ◌≡◌}
 use Rattle.nit_paint.specs.Pieces as pieces
 
@@ -25,14 +24,12 @@ source_of_number s h k = source_same s h (pixel s.stack.width k)
 pub view_meant : (s : ServerModel) → IsServer s → (k sid handle : ℕ) → MeanSame k sid handle s.stack.views → (p : Point)
     → owner_passes (is_slot k) s.stack p ≡ view_owns sid handle (state_of s) p
 view_meant s h k sid handle same p =
-    owner_named k sid handle s.stack.bar s.stack.views p same
-    ∙ ap (λ rows. option_map_or (is_view sid handle) (owner rows (views_of s.stack.views) p) false) h.screen.2
+    rw (← h.screen.2) (owner_named k sid handle s.stack.bar s.stack.views p same)
 
 pub session_meant : (s : ServerModel) → IsServer s → (sid : ℕ) (p : Point) → owner_passes (is_of_session sid) s.stack p
     ≡ session_owns sid (state_of s) p
 session_meant s h sid p =
-    owner_of_session sid s.stack.bar s.stack.views p
-    ∙ ap (λ rows. option_map_or (is_session sid) (owner rows (views_of s.stack.views) p) false) h.screen.2
+    rw (← h.screen.2) (owner_of_session sid s.stack.bar s.stack.views p)
 
 pub part_meant : (s : ServerModel) → IsServer s → (sid : ℕ) (part : Rectangle) (p : Point)
     → is_word_in sid (size_of s.stack.sizes sid).w part (source_in s.stack p) ≡ shows_part sid part (state_of s) p

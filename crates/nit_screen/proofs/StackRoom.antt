@@ -1,12 +1,11 @@
 -- A stack has room for its views, and as much after a call.
-use Rattle.nit_screen.proofs.Basics.{All, AllByRecursion, All_found, Call, IsServed, IsServer}
+use Rattle.nit_screen.proofs.Basics.{AllByRecursion, All_found, Call, IsServed, IsServer}
 use Rattle.nit_screen.proofs.Basics.{IsSlotView, IsStack, List, NoPair, Reply, ServerModel}
 use Rattle.nit_screen.proofs.Basics.{SlotView, StackModel, State, [], ap, arith, eqb, eqb-true}
 use Rattle.nit_screen.proofs.Basics.{false, flip, found_passes, found_some, length}
 use Rattle.nit_screen.proofs.Basics.{length-le_from_distinct_below, length-map, list_any}
-use Rattle.nit_screen.proofs.Basics.{list_any-map, map, or_parts, same_slot, subst, sum, sym}
-use Rattle.nit_screen.proofs.Basics.{view_slots}
-use Rattle.std.proofs.Common.{true, ℕ, ◌<◌, ◌==◌, ◌∙◌, ◌∷◌, ◌≡◌, ◌≤◌}
+use Rattle.nit_screen.proofs.Basics.{list_any-map, map, or_parts, same_slot, sum, sym, view_slots}
+use Rattle.std.proofs.Common.{Bool, ℕ, ◌==◌, ◌∙◌, ◌∷◌, ◌≡◌, ◌≤◌}
 use Rattle.std.specs.List.{IsDistinct}
 
 slots_apart : (views : List SlotView) → NoPair same_slot views → IsDistinct eqb (map (λ (s : SlotView). s.slot) views)
@@ -27,20 +26,15 @@ pub few_views : (s : StackModel) → IsStack s → length s.views ≤ s.most
 few_views s h =
     let n = length-map s.views (λ (a : SlotView). a.slot) in
     let m = length-le_from_distinct_below (map (λ (a : SlotView). a.slot) s.views) s.most (slots_apart s.views h.slots)
-    (λ q there. below s.views h.seats q there) in
+    (λ q there.
+    let is : SlotView → Bool = λ a. eqb q a.slot in
+    let f = found_some is s.views (sym (list_any-map (eqb q) (λ (a : SlotView). a.slot) s.views) ∙ there) in
+    let seat = All_found (IsSlotView s.most (length s.sizes)) is s.views f.0 h.seats f.1 in
+    rw (eqb-true q f.0.slot (found_passes is s.views f.0 f.1)) seat.slot) in
     omega (arith, n, m)
-  where
-    below : (views : List SlotView) → All (IsSlotView s.most (length s.sizes)) views → (q : ℕ)
-        → list_any (eqb q) (map (λ (a : SlotView). a.slot) views) ≡ true → q < s.most
-    below views all q there =
-        let f = found_some (λ (a : SlotView). eqb q a.slot) views
-        (sym (list_any-map (eqb q) (λ (a : SlotView). a.slot) views) ∙ there) in
-        let seat = All_found (IsSlotView s.most (length s.sizes)) (λ (a : SlotView). eqb q a.slot) views f.0 all f.1 in
-        subst (λ (m : ℕ). m < s.most)
-        (sym (eqb-true q f.0.slot (found_passes (λ (a : SlotView). eqb q a.slot) views f.0 f.1))) seat.slot
 
 -- the stack has as many slots as before
-pub same_most : (before after' : ServerModel) (sid : ℕ) (call : Call) (r : Reply) → IsServer before → IsServer after'
+pub same_most : {before after' : ServerModel} {sid : ℕ} {call : Call} {r : Reply} → IsServer before → IsServer after'
     → IsServed sid call r before after' → after'.stack.most ≡ before.stack.most
-same_most before after' sid call r hb ha s = ha.most
+same_most hb ha s = ha.most
     ∙ ap (λ (t : State). sum (map (λ m. view_slots m.donation) t.config.clients)) s.state ∙ sym hb.most

@@ -1,10 +1,9 @@
 -- No two views have the same session and handle.
 use Rattle.nit_screen.proofs.Basics.{Bool, Entry, HaveOwnNames, IsNewlyNamed, IsPutIn, List}
-use Rattle.nit_screen.proofs.Basics.{NoPair-map, NoPair-put, NoPair-without, None, Option, Some}
-use Rattle.nit_screen.proofs.Basics.{State, View, after, and_parts, ap, cond, eqb-true, false, find}
-use Rattle.nit_screen.proofs.Basics.{flip, found_passes, is_view, list_any, none_left, put_again}
-use Rattle.nit_screen.proofs.Basics.{refl, subst, without}
-use Rattle.std.proofs.Common.{sym, true, ℕ, ◌&&◌, ◌==◌, ◌∙◌, ◌≡◌}
+use Rattle.nit_screen.proofs.Basics.{NoPair-map, NoPair-put, NoPair-without, Some, State, View}
+use Rattle.nit_screen.proofs.Basics.{after, and_parts, ap, cond, eqb-true, false, find, flip}
+use Rattle.nit_screen.proofs.Basics.{found_passes, is_view, list_any, none_left, refl, without}
+use Rattle.std.proofs.Common.{true, ℕ, ◌&&◌, ◌==◌, ◌∙◌, ◌≡◌}
 use Rattle.nit_events.specs.declared.call.Reply.TheVariants as reply
 use Rattle.nit_events.specs.declared.entry.Entry.TheVariants as entry
 use Rattle.nit_stack.specs.declared.view.View.{View as ViewOf}
@@ -32,18 +31,13 @@ its_name sid handle v named =
     let parts = and_parts (v.sid == sid) (v.handle == handle) named in
     (eqb-true v.sid sid parts.0, eqb-true v.handle handle parts.1)
 
-own_again : (sid handle : ℕ) (put : ViewOf → List ViewOf → List ViewOf)
-    → ((x : ViewOf) (xs : List ViewOf) → IsPutIn x xs (put x xs)) → (xs : List ViewOf) (o : Option ViewOf)
-    → find (is_view sid handle) xs ≡ o → HaveOwnNames xs
-    → HaveOwnNames (put_again put (without (is_view sid handle) xs) xs o)
-own_again sid handle put puts xs None found own = own
-own_again sid handle put puts xs (Some v) found own =
+own_again : (sid handle : ℕ) (v : ViewOf) (xs now : List ViewOf) → find (is_view sid handle) xs ≡ Some v
+    → IsPutIn v (without (is_view sid handle) xs) now → HaveOwnNames xs → HaveOwnNames now
+own_again sid handle v xs now found put own =
     let name = its_name sid handle v (found_passes (is_view sid handle) xs v found) in
-    let others = without (is_view sid handle) xs in
-    let none : list_any (is_view v.sid v.handle) others ≡ false =
-    subst (λ (n : ℕ). list_any (is_view n v.handle) others ≡ false) (sym name.0)
-    (subst (λ (n : ℕ). list_any (is_view sid n) others ≡ false) (sym name.1) (none_left (is_view sid handle) xs)) in
-    NoPair-put same_name both_ways v others (put v others) (puts v others) none
+    let none : list_any (is_view v.sid v.handle) (without (is_view sid handle) xs) ≡ false =
+    rw (name.0, name.1) (none_left (is_view sid handle) xs) in
+    NoPair-put same_name both_ways v (without (is_view sid handle) xs) now put none
     (NoPair-without same_name (is_view sid handle) xs own)
 
 own_is_kept : IsKept HaveOwnNames
@@ -52,7 +46,7 @@ own_is_kept = record {
   change = λ is change same xs own. NoPair-map same_name (λ v. cond (is v) (change v) v)
       (λ a b. let n = change_or_not is change same a in let m =
       change_or_not is change same b in rw (n.0, n.1, m.0, m.1) refl) xs own;
-  again = λ sid handle put puts xs own. own_again sid handle put puts xs (find (is_view sid handle) xs) refl own;
+  again = own_again;
 }
 
 own_takes_new : (e : Entry) (stack : List ViewOf) → HaveOwnNames stack → IsNewlyNamed e stack

@@ -25,9 +25,8 @@ pub use Rattle.nit_glyph.specs.Texts.{label_text_of}
 pub use Rattle.nit_journal.specs.Deliveries.{IsKillAlone, IsLive, is_kill, kills}
 pub use Rattle.nit_journal.specs.Live.{AreLive}
 pub use Rattle.nit_journal.specs.Replay.{Agrees, IsLegal, LegalFrom, replay, replay_from}
-pub use Rattle.nit_journal.specs.Session.{Session, accepted, by_life, by_refusal, by_status, ended}
+pub use Rattle.nit_journal.specs.Session.{Session, accepted, by_life, by_refusal, ended}
 pub use Rattle.nit_journal.specs.Session.{first_session, has_view, receive, refusal, serve, taking}
-pub use Rattle.nit_journal.specs.Session.{unless, ◌orelse◌}
 pub use Rattle.nit_journal.specs.StackAfter.{after_accepted, after_deliveries, after_delivery}
 pub use Rattle.nit_journal.specs.StackAfter.{is_accepted, new_view, with_new}
 pub use Rattle.nit_journal.specs.State.{State, after, buffer_size, delivered, first_state}
@@ -46,7 +45,7 @@ pub use Rattle.nit_rect.specs.Limits.{most_slots}
 pub use Rattle.nit_rect.specs.Rectangle.{Rectangle, covers, is_rectangle, rectangle, spans}
 pub use Rattle.nit_rect.specs.declared.point.Point.{Point}
 pub use Rattle.nit_repaint.specs.Glasses.{HoldBuffers, glasses_of_call}
-pub use Rattle.nit_repaint.specs.Painting.{CanRepaint, IsOnlyCut}
+pub use Rattle.nit_repaint.specs.Painting.{CanRepaint, IsOnlyCut, KeepsPainter}
 pub use Rattle.nit_repaint.specs.PixelOwners.{is_word_in, owner_passes, source_in}
 pub use Rattle.nit_repaint.specs.ViewChange.{IsViewChange, slot_owns_either}
 pub use Rattle.nit_repaint.specs.ViewRemoval.{IsRemovedFrom, uncovered, without_session}
@@ -55,8 +54,7 @@ pub use Rattle.nit_repaint.specs.declared.painter.Painter.{Painter}
 pub use Rattle.nit_screen.specs.declared.screen.pixels.Pixels.{Pixels}
 pub use Rattle.nit_server.specs.Seats.{with_opened, with_reopened}
 pub use Rattle.nit_server.specs.Server.{IsServed, IsServer, ServerModel, size_of_buffer, state_of}
-pub use Rattle.nit_server.specs.ServerInput.{MayLose, killed_by, killed_in, routing_of}
-pub use Rattle.nit_server.specs.ServerInput.{with_delivered, with_routed}
+pub use Rattle.nit_server.specs.ServerInput.{MayLose, killed_by, killed_in, routing_of, with_routed}
 pub use Rattle.nit_server.specs.ViewsTaken.{with_ended, without_view, without_views}
 pub use Rattle.nit_slots.specs.Account.{table_size, view_slots}
 pub use Rattle.nit_stack.specs.LabelPlaces.{fits, is_owner, is_view, label_place}
@@ -72,11 +70,10 @@ pub use Rattle.nit_stack.specs.Stack.{size_of, slot_view_in, view_ref}
 pub use Rattle.nit_stack.specs.ViewNames.{IsNamedBy, MeanSame, is_session, name_of, views_of}
 pub use Rattle.nit_stack.specs.declared.view.ViewRef.{ViewRef}
 pub use Rattle.nit_word.specs.Channels.{bare_word}
-pub use Rattle.nit_word.specs.Inks.{Ink, IsInked, IsWord}
+pub use Rattle.nit_word.specs.Inks.{IsInked, IsWord}
 pub use Rattle.nit_word.specs.Sight.{Sight, seen, stored, told_at}
 pub use Rattle.nit_word.specs.Updates.{is_between, set_where, with_words}
 pub use Rattle.std.specs.List.{AllByRecursion, list_any, position_or_len, range_with_len}
 pub use Rattle.std.specs.Option.{is_some, option_map_or}
 pub use Rattle.std.specs.Prelude.{AllPairs, IfSome, IsTrue, Some, [], drop, false, length, map}
 pub use Rattle.std.specs.Prelude.{option_map, pos, replicate, slice_get, slice_index, vec_capacity}
-pub use Rattle.std.specs.Prelude.{ℕ}

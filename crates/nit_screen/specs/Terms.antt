@@ -1,22 +1,21 @@
 -- The words that clauses use: those that come from outside, and those of this crate.
 pub use Rattle.nit_screen.specs.Below.{Above, Agrees, AllByRecursion, AreLive, AreSet, Back, Bare}
-pub use Rattle.nit_screen.specs.Below.{Black, Buffer, Call, Close, Configuration, Delivery, Destroy}
-pub use Rattle.nit_screen.specs.Below.{Device, Entry, Event, Flat, Front, HoldBuffers, IfSome}
-pub use Rattle.nit_screen.specs.Below.{InputState, IsAmongLoads, IsConfiguration, IsCopied}
-pub use Rattle.nit_screen.specs.Below.{Ink, IsDevice, IsForgottenIfKilled, IsFreeLabel, IsInked}
-pub use Rattle.nit_screen.specs.Below.{IsKillAlone, IsLegal, IsLive, IsNamedBy, IsRemovedFrom}
-pub use Rattle.nit_screen.specs.Below.{IsServed, IsServer, IsSlotView, IsStack, IsTrue}
-pub use Rattle.nit_screen.specs.Below.{IsViewChange, IsWord, IsWordOfSource, Item, Kill, LegalFrom}
-pub use Rattle.nit_screen.specs.Below.{MayLose, MeanSame, Member, Mode, NoPair, Offset, Painter}
-pub use Rattle.nit_screen.specs.Below.{CanRepaint, IsOnlyCut}
-pub use Rattle.nit_screen.specs.Below.{PixelSource, Pixels, Place, Point, Rectangle, Refresh}
-pub use Rattle.nit_screen.specs.Below.{Repainted, Reply, Routed, Routing, Scenery, ServerModel}
-pub use Rattle.nit_screen.specs.Below.{Session, Sight, Size, SlotView, Some, StackModel, State}
-pub use Rattle.nit_screen.specs.Below.{Status, Take, Title, Upgrade, View, ViewRef, Word, Xray, []}
-pub use Rattle.nit_screen.specs.Below.{accepted, after, after_accepted, after_deliveries}
-pub use Rattle.nit_screen.specs.Below.{after_delivery, bar_rows, bar_word, bare_word, black_or_word}
-pub use Rattle.nit_screen.specs.Below.{buffer_size, by_life, by_refusal, by_status, changed}
-pub use Rattle.nit_screen.specs.Below.{covering, covers, delivered, deliveries_of, dot}
+pub use Rattle.nit_screen.specs.Below.{Buffer, Call, CanRepaint, Close, Configuration, Delivery}
+pub use Rattle.nit_screen.specs.Below.{Destroy, Device, Entry, Event, Flat, Front, HoldBuffers}
+pub use Rattle.nit_screen.specs.Below.{IfSome, InputState, IsAmongLoads, IsConfiguration, IsCopied}
+pub use Rattle.nit_screen.specs.Below.{IsDevice, IsForgottenIfKilled, IsFreeLabel, IsInked}
+pub use Rattle.nit_screen.specs.Below.{IsKillAlone, IsLegal, IsLive, IsNamedBy, IsOnlyCut}
+pub use Rattle.nit_screen.specs.Below.{IsRemovedFrom, IsServed, IsServer, IsSlotView, IsStack}
+pub use Rattle.nit_screen.specs.Below.{IsTrue, IsViewChange, IsWord, IsWordOfSource, Item}
+pub use Rattle.nit_screen.specs.Below.{KeepsPainter, Kill, LegalFrom, MayLose, MeanSame, Member}
+pub use Rattle.nit_screen.specs.Below.{Mode, NoPair, Offset, Painter, PixelSource, Pixels, Place}
+pub use Rattle.nit_screen.specs.Below.{Point, Rectangle, Refresh, Repainted, Reply, Routed, Routing}
+pub use Rattle.nit_screen.specs.Below.{Scenery, ServerModel, Session, Sight, Size, SlotView, Some}
+pub use Rattle.nit_screen.specs.Below.{StackModel, State, Status, Take, Title, Upgrade, View}
+pub use Rattle.nit_screen.specs.Below.{ViewRef, Word, Xray, [], accepted, after, after_accepted}
+pub use Rattle.nit_screen.specs.Below.{after_deliveries, after_delivery, bar_rows, bar_word}
+pub use Rattle.nit_screen.specs.Below.{bare_word, black_or_word, buffer_size, by_life, by_refusal}
+pub use Rattle.nit_screen.specs.Below.{changed, covering, covers, delivered, deliveries_of, dot}
 pub use Rattle.nit_screen.specs.Below.{draws_labels, drop, ended, false, first_session, first_state}
 pub use Rattle.nit_screen.specs.Below.{fits, forget, frame, glasses_of_call, has_dot, has_slot}
 pub use Rattle.nit_screen.specs.Below.{has_view, in_bar, ink_of, input_after_call, is_accepted}
@@ -36,17 +35,14 @@ pub use Rattle.nit_screen.specs.Below.{shown, shown_index, size_of, size_of_buff
 pub use Rattle.nit_screen.specs.Below.{slice_index, slot_owns_either, slot_view_in, source}
 pub use Rattle.nit_screen.specs.Below.{source_in, source_of, source_of_number, source_under, spans}
 pub use Rattle.nit_screen.specs.Below.{state_of, stored, table_size, taking, times_shown, told_at}
-pub use Rattle.nit_screen.specs.Below.{uncovered, unless, unless_it_is, vec_capacity, view_ref}
-pub use Rattle.nit_screen.specs.Below.{view_slots, view_text, view_word, views_of, wanted}
-pub use Rattle.nit_screen.specs.Below.{with_delivered, with_ended, with_new, with_opened}
-pub use Rattle.nit_screen.specs.Below.{with_reopened, with_routed, with_words, without}
-pub use Rattle.nit_screen.specs.Below.{without_session, without_view, without_views, word_count, ℕ}
-pub use Rattle.nit_screen.specs.Below.{◌orelse◌}
+pub use Rattle.nit_screen.specs.Below.{uncovered, unless_it_is, vec_capacity, view_ref, view_slots}
+pub use Rattle.nit_screen.specs.Below.{view_text, view_word, views_of, wanted, with_ended, with_new}
+pub use Rattle.nit_screen.specs.Below.{with_opened, with_reopened, with_routed, with_words, without}
+pub use Rattle.nit_screen.specs.Below.{without_session, without_view, without_views, word_count}
 pub use Rattle.nit_screen.specs.CallKinds.{IsClean, IsOn, IsPartOf, IsQuiet}
-pub use Rattle.nit_screen.specs.DirtyPixels.{dirty, dirty_by_call, is_killed, is_owned_by}
-pub use Rattle.nit_screen.specs.DirtyPixels.{owns_either, session_owns, shows_part, view_owns}
-pub use Rattle.nit_screen.specs.FrameLabels.{AreLabelsApart, IsFrameShown, IsLabelShown}
-pub use Rattle.nit_screen.specs.FrameLabels.{ShowsLabels, label_width}
+pub use Rattle.nit_screen.specs.DirtyPixels.{dirty, dirty_by_call, is_killed, owns_either}
+pub use Rattle.nit_screen.specs.DirtyPixels.{session_owns, shows_part, view_owns}
+pub use Rattle.nit_screen.specs.FrameLabels.{AreLabelsApart, IsLabelShown, ShowsLabels, label_width}
 pub use Rattle.nit_screen.specs.LabelSlots.{AreLabelled, IsLabelled, label_scenery}
 pub use Rattle.nit_screen.specs.Painting.{IsRepaint}
 pub use Rattle.nit_screen.specs.Pixels.{ArePixels, CanShow, CanShowBy, IsFrameOf, IsPartShown}

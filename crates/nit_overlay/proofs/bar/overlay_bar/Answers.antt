@@ -1,5 +1,4 @@
-use Rattle.nit_overlay.proofs.Lemmas.{IsPainted, List, ap, arith, bar_black, bar_row, max, scenery}
-use Rattle.nit_overlay.proofs.Lemmas.{subst, sym, ℕ, ◌∙◌}
+use Rattle.nit_overlay.proofs.Lemmas.{ap, arith, bar_black, bar_row, max, scenery, ◌∙◌}
 use Rattle.nit_overlay.proofs.bar.overlay_bar.Goals.{then-part-cut, else-part-cut}
 use Rattle.nit_overlay.proofs.bar.overlay_bar.Goals as goal
 
@@ -11,11 +10,9 @@ returns c = λ raw.
       | then-part-cut w ↦ bar_row s c.args.part.y c.args.part.from c.max-cut.result c.args.part.to c.width_of.result
           c.text_of-text.result raw c.args.out.now c.fill_part.new.out c.text_of-text.ensures c.width_of.ensures.width
           least c.requires.part.in_order c.requires.down w.if-part-cut.true c.if-part-cut.out
-          (subst (λ (mid : List ℕ). IsPainted _ raw c.args.out.now mid c.args.part.from c.max-cut.result) (sym w.out-is)
-          (w.paint_tag.ensures raw)) (c.fill_part.ensures raw)
+          (rw w.out-is (w.paint_tag.ensures raw)) (c.fill_part.ensures raw)
       | else-part-cut w ↦ bar_black s c.args.part.y c.args.part.from c.max-cut.result c.args.part.to c.width_of.result
           c.text_of-text.result raw c.args.out.now c.fill_part.new.out c.text_of-text.ensures c.width_of.ensures.width
           least c.requires.part.in_order (omega (arith, w.if-part-cut.false))
-          (subst (λ (mid : List ℕ). IsPainted (λ x w. 0) raw mid c.fill_part.new.out c.max-cut.result c.args.part.to)
-          w.out-is (c.fill_part.ensures raw))
+          (rw w.out-is at (c.fill_part.ensures raw))
     ]

@@ -1,13 +1,10 @@
-use Rattle.std.proofs.Common.{ap, arith, rules, ◌≡◌}
+use Rattle.nit_overlay.proofs.Lemmas.{ap, arith, rect_shown, rules, ℕ}
 use Rattle.nit_overlay.proofs.overlay.overlay_rect.Goals as goal
-use Rattle.nit_overlay.proofs.Lemmas.{rect_shown}
 
 pub returns : goal.returns
 returns c =
-    let wide : c.size-width.result.0 ≡ c.args.look.now.stack.now.width =
-    ap (λ size. size.0) c.size-width.ensures.size in
-    let high : c.size-width.result.1 ≡ c.args.look.now.stack.now.height =
-    ap (λ size. size.1) c.size-width.ensures.size in
+    let wide = ap (λ (size : ℕ × ℕ). size.0) c.size-width.ensures.size in
+    let high = ap (λ (size : ℕ × ℕ). size.1) c.size-width.ensures.size in
     record {
       pixels = rect_shown c.area_of-area.result c.args.look.now c.args.r c.args.raw.now c.args.out.now
           c.overlay_area.new.out c.overlay_area.ensures

@@ -1,5 +1,5 @@
-use Rattle.nit_overlay.proofs.Lemmas.{ap, area_as, arith, in_columns, length, more_columns}
-use Rattle.nit_overlay.proofs.Lemmas.{no_columns, part_at, stripe_rule, sym, word_by}
+use Rattle.nit_overlay.proofs.Lemmas.{ap, area_as, arith, in_columns, inl, length, more_columns}
+use Rattle.nit_overlay.proofs.Lemmas.{no_pixels, part_at, stripe_rule, sym, word_by}
 use Rattle.nit_overlay.proofs.piece.overlay_band.Goals as goal
 
 pub runs-init : goal.runs-init
@@ -8,8 +8,8 @@ runs-init c =
     record {
       after = omega arith;
       inside = c.requires.area.area.across;
-      painted = no_columns (λ x y w. word_by (stripe_rule c.args.stripe.now x) x y w) c.args.width c.args.raw.now
-          (length c.args.raw.now) a.left a.top a.bottom c.args.out.now;
+      painted = no_pixels (λ x y w. word_by (stripe_rule c.args.stripe.now x) x y w) c.args.width c.args.raw.now
+          (length c.args.raw.now) a.left a.top a.left a.bottom c.args.out.now (inl (omega arith));
     }
 
 pub runs-preserved : goal.runs-preserved

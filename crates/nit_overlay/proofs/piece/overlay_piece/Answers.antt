@@ -1,7 +1,7 @@
-use Rattle.std.proofs.Common.{Some, ap, arith, length, rules, subst, sym, true, ℕ, ◌<◌, ◌∙◌, ◌≡◌}
-use Rattle.nit_overlay.proofs.Lemmas.{IsAreaBy, area_as, in_area, in_columns, in_rows, option_map}
-use Rattle.nit_overlay.proofs.Lemmas.{point, rect_shown, scenery, seat_owner, shown, shown_owned}
-use Rattle.nit_overlay.proofs.Lemmas.{view_ref, view_word}
+use Rattle.std.proofs.Common.{Some, ap, arith, length, rules, sym, true, ℕ, ◌<◌, ◌∙◌, ◌≡◌}
+use Rattle.nit_overlay.proofs.Lemmas.{area_as, in_area, in_columns, in_rows, option_map, point}
+use Rattle.nit_overlay.proofs.Lemmas.{rect_shown, scenery, seat_owner, shown, shown_owned, view_ref}
+use Rattle.nit_overlay.proofs.Lemmas.{view_word}
 use Rattle.nit_overlay.proofs.piece.overlay_piece.Goals as goal
 
 pub returns-in-Some : goal.returns-in-Some
@@ -24,8 +24,7 @@ returns-in-Some c =
     sym c.in-Some.is ∙ c.requires.owner (point x y) (sym (c.area_of-area.ensures.same x y left above) ∙ on) in
     record {
       pixels = rect_shown area look c.args.piece.now.rect c.args.raw.now c.args.out.now now
-          (subst (λ m. IsAreaBy (λ x y w. shown s (point x y) w) area stack.width c.args.raw.now c.args.out.now now m)
-          c.requires.words.raw
+          (rw c.requires.words.raw at
           (area_as (λ x y w. view_word look.mode s view (point x y) w) (λ x y w. shown s (point x y) w) area stack.width
           c.args.raw.now c.args.out.now now (length c.args.raw.now)
           (λ x y w on. sym (shown_owned look (point x y) w c.in-Some.v view c.owner_of-owner.ensures.standing.slots
@@ -37,10 +36,8 @@ returns-in-Some c =
 
 pub returns-in-None : goal.returns-in-None
 returns-in-None c =
-    let wide : c.size-width.result.0 ≡ c.args.look.now.stack.now.width =
-    ap (λ size. size.0) c.size-width.ensures.size in
-    let high : c.size-width.result.1 ≡ c.args.look.now.stack.now.height =
-    ap (λ size. size.1) c.size-width.ensures.size in
+    let wide = ap (λ (size : ℕ × ℕ). size.0) c.size-width.ensures.size in
+    let high = ap (λ (size : ℕ × ℕ). size.1) c.size-width.ensures.size in
     record {
       pixels = rect_shown c.area_of-area.result c.args.look.now c.args.piece.now.rect c.args.raw.now c.args.out.now
           c.overlay_unowned.new.out c.overlay_unowned.ensures

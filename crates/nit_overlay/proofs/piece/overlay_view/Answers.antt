@@ -1,6 +1,6 @@
-use Rattle.std.proofs.Common.{ap, arith, subst, ℕ, ◌≡◌}
-use Rattle.nit_overlay.proofs.Lemmas.{IsAreaBy, area_as, in_rows, length, more_rows, no_rows}
-use Rattle.nit_overlay.proofs.Lemmas.{part_at, point, scenery, stripe_rule, view_word, word_by}
+use Rattle.std.proofs.Common.{ap, arith, inr, ◌≡◌}
+use Rattle.nit_overlay.proofs.Lemmas.{area_as, in_rows, length, more_rows, no_pixels, part_at}
+use Rattle.nit_overlay.proofs.Lemmas.{point, scenery, stripe_rule, view_word, word_by}
 use Rattle.nit_overlay.proofs.piece.overlay_view.Goals as goal
 
 pub bands-init : goal.bands-init
@@ -9,9 +9,9 @@ bands-init c =
     record {
       after = omega arith;
       inside = c.requires.area.area.down;
-      painted = no_rows (λ x y w. view_word c.args.look.now.mode (scenery c.args.look.now) c.args.owner.now.view
+      painted = no_pixels (λ x y w. view_word c.args.look.now.mode (scenery c.args.look.now) c.args.owner.now.view
           (point x y) w) c.size-width.result.0 c.args.raw.now (length c.args.raw.now) a.left a.top a.right
-          c.args.out.now;
+          a.top c.args.out.now (inr (omega arith));
     }
 
 pub bands-preserved : goal.bands-preserved
@@ -39,9 +39,5 @@ pub returns : goal.returns
 returns c =
     let i = c.bands.invariant in
     let done : c.bands.y ≡ c.args.area.now.bottom = omega (arith, i.inside, c.bands-test.false) in
-    let word = λ (x y w : ℕ). view_word c.args.look.now.mode (scenery c.args.look.now) c.args.owner.now.view (point x y)
-    w in
-    subst (λ n. IsAreaBy word c.args.area.now n c.args.raw.now c.args.out.now c.bands.out (length c.args.raw.now))
-    (ap (λ size. size.0) c.size-width.ensures.size)
-    (subst (λ b. IsAreaBy word (part_at c.args.area.now.left c.args.area.now.top c.args.area.now.right b)
-    c.size-width.result.0 c.args.raw.now c.args.out.now c.bands.out (length c.args.raw.now)) done i.painted)
+    let wide = ap (λ size. size.0) c.size-width.ensures.size in
+    rw (done, wide) at i.painted

@@ -1,6 +1,6 @@
-use Rattle.nit_screen.proofs.Lemmas.{ap, false≢true, is_accepted, refused_clean, refused_reply}
-use Rattle.nit_screen.proofs.Lemmas.{refused_state, serve_refused, session, session_in, state_of}
-use Rattle.nit_screen.proofs.Lemmas.{sym, unpainted, unrefused_reply, ◌∙◌}
+use Rattle.nit_screen.proofs.Lemmas.{ap, false≢true, is_accepted, refused_reply, refused_state}
+use Rattle.nit_screen.proofs.Lemmas.{serve_refused, session, session_in, state_of, sym, unpainted}
+use Rattle.nit_screen.proofs.Lemmas.{unrefused_reply, ◌∙◌}
 use Rattle.nit_events.specs.declared.entry.Entry.TheVariants as entry
 use Rattle.nit_screen.proofs.screen.Screen.call.Goals as goal
 
@@ -21,7 +21,7 @@ returns-in-Some-clause-painted g c =
     let no_ = refused_reply (session s c.args.sid) c.args.call.now c.in-Some.reply (sym c.refused.ensures
     ∙ c.in-Some.is) in
     rw (← c.self.view_is) (unpainted s (entry.Call c.args.sid c.args.call.now c.in-Some.reply) s _ _
-    (λ p. refused_clean s s c.args.sid c.args.call.now c.in-Some.reply p no_))
+    (λ p. rw no_))
 
 pub serve-requires : goal.serve-requires
 serve-requires g c = record {

@@ -5,21 +5,16 @@ pub paint_session-requires : goal.paint_session-requires
 paint_session-requires g c =
     let can = rw (← c.self.view_is) at c.requires.can in
     let is = c.stack-stack.ensures.stack in
-    let paint = can_paint_served g.G.Glass.sight c.self.inside.server c.accept-reply.new.self c.args.sid c.args.call.now
-    c.accept-reply.result _ c.self.inside.pixels c.make_one.new.self c.facts.ensures c.stack-stack.ensures.facts
-    c.accept-reply.ensures c.self.invariant c.make_one.ensures.shown can in
-    record { room = rw is paint.room; pixels = rw is paint.pixels; held = rw is paint.held }
+    rw is (can_paint_served _ c.facts.ensures c.stack-stack.ensures.facts c.accept-reply.ensures c.self.invariant
+    c.make_one.ensures.shown can)
 
 pub show_part-requires : goal.show_part-requires
 show_part-requires g c =
     let can = rw (← c.self.view_is) at c.requires.can in
     let made = c.make_one.ensures in
     let e = c.paint_session.ensures in
-    let done = part_call g.G.Glass.sight g.G.Glass.rest g.C.Glass.sight g.C.Glass.rest c.args.own.now
-    c.paint_session.new.own c.paint_session.new.self c.facts.ensures c.stack-stack.ensures.facts can
-    c.accept-reply.ensures c.self.invariant made.shown made.one c.stack-stack.ensures.stack e.kept.room e.kept.count
-    e.kept.idle
-    e.kept.rest_of_own e.kept.rests c.args.part.now c.requires.on e.painted in
+    let done = part_call g.C.Glass.sight c.facts.ensures c.stack-stack.ensures.facts can c.accept-reply.ensures
+    c.self.invariant made.shown made.one c.stack-stack.ensures.stack e.kept c.args.part.now c.requires.on e.painted in
     record { can = done.0; apart = done.1 }
 
 pub invariant_of-self : goal.invariant_of-self
@@ -27,11 +22,8 @@ invariant_of-self g c =
     let can = rw (← c.self.view_is) at c.requires.can in
     let made = c.make_one.ensures in
     let e = c.paint_session.ensures in
-    ((part_call g.G.Glass.sight g.G.Glass.rest g.C.Glass.sight g.C.Glass.rest c.args.own.now c.paint_session.new.own
-    c.paint_session.new.self c.facts.ensures c.stack-stack.ensures.facts can c.accept-reply.ensures c.self.invariant
-    made.shown made.one c.stack-stack.ensures.stack e.kept.room e.kept.count e.kept.idle e.kept.rest_of_own
-    e.kept.rests c.args.part.now c.requires.on
-    e.painted).2
+    ((part_call g.C.Glass.sight c.facts.ensures c.stack-stack.ensures.facts can c.accept-reply.ensures c.self.invariant
+    made.shown made.one c.stack-stack.ensures.stack e.kept c.args.part.now c.requires.on e.painted).2
     c.show_part.new.self c.show_part.ensures.flat c.show_part.ensures.labelled).0
 
 pub returns : goal.returns
@@ -39,10 +31,7 @@ returns g c =
     let can = rw (← c.self.view_is) at c.requires.can in
     let made = c.make_one.ensures in
     let e = c.paint_session.ensures in
-    rw (← c.self.view_is) ((part_call g.G.Glass.sight g.G.Glass.rest g.C.Glass.sight g.C.Glass.rest c.args.own.now
-    c.paint_session.new.own c.paint_session.new.self c.facts.ensures c.stack-stack.ensures.facts can
-    c.accept-reply.ensures c.self.invariant
-    made.shown made.one c.stack-stack.ensures.stack e.kept.room e.kept.count e.kept.idle e.kept.rest_of_own
-    e.kept.rests c.args.part.now c.requires.on
-    e.painted).2
+    rw (← c.self.view_is) ((part_call g.C.Glass.sight c.facts.ensures c.stack-stack.ensures.facts can
+    c.accept-reply.ensures c.self.invariant made.shown made.one c.stack-stack.ensures.stack e.kept c.args.part.now
+    c.requires.on e.painted).2
     c.show_part.new.self c.show_part.ensures.flat c.show_part.ensures.labelled).1

@@ -1,8 +1,7 @@
-use Rattle.nit_screen.proofs.Lemmas.{Mode, Scenery, ServerModel, can_stay, deliveries_of}
-use Rattle.nit_screen.proofs.Lemmas.{draws_labels, frame, input_scenery, kill_alone, kill_is_live}
-use Rattle.nit_screen.proofs.Lemmas.{killed_painted, killed_state, kills, no_kill, raw_of}
-use Rattle.nit_screen.proofs.Lemmas.{scenery_of, state_of, told_paints_nothing}
-use Rattle.std.proofs.Common.{IsTrue, ap, length, subst, sym, ◌<◌, ◌∙◌}
+use Rattle.nit_screen.proofs.Lemmas.{ap, can_stay, deliveries_of, kill_alone, kill_is_live}
+use Rattle.nit_screen.proofs.Lemmas.{killed_painted, killed_state, kills, no_kill, none_dirty}
+use Rattle.nit_screen.proofs.Lemmas.{raw_of, state_of, unpainted, ◌∙◌}
+use Rattle.nit_events.specs.declared.entry.Entry.TheVariants as entry
 use Rattle.nit_screen.proofs.screen.Screen.input.Goals as goal
 
 pub kill_session-requires-clause-session : goal.kill_session-requires-clause-session
@@ -12,39 +11,28 @@ kill_session-requires-clause-session g c =
     let alone = kill_alone c.kills_stand_alone.ensures s c.args.dev c.route-routed.result r.routed c.killed.result
     c.killed.ensures c.in-Some.sid c.in-Some.is in
     let live = kill_is_live s c.in-Some.sid _ alone (rw (← c.self.view_is) at c.requires.live) in
-    subst (λ (z : ServerModel). c.in-Some.sid < length z.sessions) (sym r.server) live.0
+    rw r.server live.0
 
 pub kill_session-requires-clause-can : goal.kill_session-requires-clause-can
 kill_session-requires-clause-can g c =
     let r = c.route-routed.ensures.server in
-    can_stay c.self.inside.server c.route-routed.new.self c.self.inside.pixels (ap (λ (t : ServerModel). t.config) r)
-    (ap (λ (t : ServerModel). t.stack.most) r) c.self.invariant.shown.0
+    can_stay c.self.inside.server c.route-routed.new.self c.self.inside.pixels (rw r) (rw r) c.self.invariant.shown.0
 
 pub show_input-requires-clause-can : goal.show_input-requires-clause-can
 show_input-requires-clause-can g c =
     let r = c.route-routed.ensures.server in
     let e = c.tell_all.ensures in
-    can_stay c.self.inside.server c.tell_all.new.self c.self.inside.pixels
-    (ap (λ (t : ServerModel). t.config) e ∙ ap (λ (t : ServerModel). t.config) r)
-    (ap (λ (t : ServerModel). t.stack.most) e ∙ ap (λ (t : ServerModel). t.stack.most) r) c.self.invariant.shown.0
+    can_stay c.self.inside.server c.tell_all.new.self c.self.inside.pixels (rw (e, r)) (rw (e, r))
+    c.self.invariant.shown.0
 
+-- what is routed to live sessions changes the input and queues alone
 pub show_input-requires-clause-before : goal.show_input-requires-clause-before
 show_input-requires-clause-before g c =
-    let s = c.self.inside.server in
-    let p = c.self.inside.pixels in
-    let s' = c.tell_all.new.self in
-    c.self.invariant.shown.1 ∙ ap (λ (sc : Scenery). frame sc (raw_of p))
-    (input_scenery s c.route-routed.new.self s' c.args.dev (deliveries_of c.route-routed.result)
-    c.route-routed.ensures.server c.tell_all.ensures)
-    ∙ (λ i. frame (record (scenery_of (state_of s')) {
-      mode = sym c.mode-mode.ensures i;
-      focus =
-          sym c.focus-focus.ensures.focus i;
-    }) (raw_of p))
+    rw (c.tell_all.ensures, c.route-routed.ensures.server, c.mode-mode.ensures, c.focus-focus.ensures.focus)
+    c.self.invariant.shown.1
 
 pub show_input-requires-clause-apart : goal.show_input-requires-clause-apart
-show_input-requires-clause-apart g c =
-    λ d. c.self.invariant.shown.2 (subst (λ (m : Mode). IsTrue (draws_labels m)) c.mode-mode.ensures d)
+show_input-requires-clause-apart g c = λ d. c.self.invariant.shown.2 (rw c.mode-mode.ensures at d)
 
 pub returns-in-Some-clause-state : goal.returns-in-Some-clause-state
 returns-in-Some-clause-state g c =
@@ -72,6 +60,7 @@ returns-clause-painted g c =
     let r = c.route-routed.ensures in
     let none = no_kill c.kills_stand_alone.ensures s c.args.dev c.route-routed.result r.routed c.killed.result
     c.killed.ensures c.in_default.is in
-    rw (← c.self.view_is) (rw c.show_input.ensures.glasses
-    (rw c.show_input.ensures.raw (told_paints_nothing (state_of s) (state_of c.tell_all.new.self) c.args.dev
-    c.route-routed.result _ (raw_of c.self.inside.pixels) (ap kills r.all ∙ none))))
+    rw (← c.self.view_is, c.show_input.ensures.glasses, c.show_input.ensures.raw)
+    (unpainted (state_of s) (entry.Input c.args.dev c.route-routed.result) (state_of c.tell_all.new.self) _
+    (raw_of c.self.inside.pixels) (λ p. none_dirty (state_of s) p (deliveries_of c.route-routed.result)
+    (ap kills r.all ∙ none)))

@@ -39,7 +39,7 @@ show_again-requires-clause-below g c = λ flat one.
     let all = painted_whole s (length p.painter.raw.items) _ _ p.painter.raw.items raw' c.facts.ensures
     c.self.invariant.shown.0.pixels (rw c.stack.ensures.stack at c.paint_whole.ensures.painted.painted) in
     flat_below (state_of s) raw' flat
-    (λ k l below bare. painted_bare _ _ _ _ _ p.painter.raw.items raw' k all l refl bare)
+    (λ k l bare. painted_bare _ _ _ _ _ p.painter.raw.items raw' k all l refl bare)
 
 pub returns-clause-painted : goal.returns-clause-painted
 returns-clause-painted g c =

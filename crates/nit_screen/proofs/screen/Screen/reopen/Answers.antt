@@ -1,7 +1,5 @@
-use Rattle.nit_screen.proofs.Lemmas.{PixelSource, Repainted, arith, as_many, as_many_as}
-use Rattle.nit_screen.proofs.Lemmas.{can_relabel, glass_in, label_there, length-map, map, pixel}
-use Rattle.nit_screen.proofs.Lemmas.{pixel_count, raw_of, same_source, session_owns, state_of}
-use Rattle.nit_screen.proofs.Lemmas.{subst, sym, tables_stay, ℕ, ◌∙◌}
+use Rattle.nit_screen.proofs.Lemmas.{arith, as_many, as_many_as, can_relabel, label_there}
+use Rattle.nit_screen.proofs.Lemmas.{length-map, map, same_source, sym, tables_stay, ◌∙◌}
 use Rattle.nit_screen.proofs.screen.Screen.reopen.Goals as goal
 
 pub index_mut-requires : goal.index_mut-requires
@@ -40,12 +38,7 @@ returns-clause-painted g c =
     let s = c.self.inside.server in
     let mid = c.kill_session.new.server in
     let s' = c.open.new.self in
-    let gs = c.self.inside.pixels.painter.glasses.items in
-    let gs' = c.kill_session.new.pixels.painter.glasses.items in
     let e = c.kill_session.ensures in
     let lt = rw (← c.self.view_is) at c.requires.session in
-    rw (← c.self.view_is) (rw c.redraw.ensures.glasses (rw c.redraw.ensures.raw
-    (subst (λ (f : ℕ → PixelSource). Repainted f (λ k. session_owns c.args.sid (state_of s) (pixel s.config.width k))
-    (pixel_count (state_of s)) (glass_in (map g.G.Glass.sight gs)) (glass_in (map g.G.Glass.sight gs'))
-    (raw_of c.self.inside.pixels) (raw_of c.kill_session.new.pixels))
-    (sym (same_source s mid s' c.args.sid c.args.label e.server c.open.ensures lt)) e.painted)))
+    rw (← c.self.view_is, c.redraw.ensures.glasses, c.redraw.ensures.raw)
+    (rw (same_source s mid s' c.args.sid c.args.label e.server c.open.ensures lt) e.painted)

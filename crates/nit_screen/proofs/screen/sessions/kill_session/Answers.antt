@@ -1,7 +1,7 @@
-use Rattle.nit_screen.proofs.Lemmas.{ServerModel, as_many_as, bar_is_bare, bar_kept, can_paint_by}
+use Rattle.nit_screen.proofs.Lemmas.{ServerModel, as_many_as, bar_is_bare, can_paint_by}
 use Rattle.nit_screen.proofs.Lemmas.{can_show_loaded, ended_painted, ended_server, glass_in}
 use Rattle.nit_screen.proofs.Lemmas.{held_by_all, holds, nobody_ends, painted_in, state_of}
-use Rattle.std.proofs.Common.{ap, arith, length, map, refl, subst, ℕ, ◌<◌, ◌≤◌}
+use Rattle.std.proofs.Common.{ap, arith, length, map, refl, ◌≤◌}
 use Rattle.nit_events.specs.declared.event.Status.TheVariants as status
 use Rattle.nit_screen.proofs.screen.sessions.kill_session.Goals as goal
 
@@ -44,8 +44,7 @@ returns-clause-painted g c =
     c.end_session.ensures in
     rw (c.redraw.ensures.glasses, c.redraw.ensures.raw)
     (painted_in p.is_apart _ _ _ p.bar _ _ p.painter.raw.items c.take_views_away.new.painter.raw.items
-    (λ k l. bar_is_bare (state_of s') k
-    (subst (λ (n : ℕ). k < n) (bar_kept s s' p.bar (ap (λ (t : ServerModel). t.config) now) c.requires.can.bar) l))
+    (λ k l. bar_is_bare (state_of s') k (rw (now, ← c.requires.can.bar) l))
     (nobody_ends g.G.Glass.sight _ _ _ c.len-nobody.result gs gs' p.painter.raw.items
     c.take_views_away.new.painter.raw.items many (omega (arith, many, same_))
     (ended_painted s s' c.args.of status.Killed _ _ _ p.painter.raw.items c.take_views_away.new.painter.raw.items

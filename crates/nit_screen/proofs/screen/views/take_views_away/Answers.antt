@@ -2,7 +2,7 @@ use Rattle.nit_screen.proofs.Lemmas.{IsRemovedFrom, IsViewChange, all_painted, a
 use Rattle.nit_screen.proofs.Lemmas.{can_paint_gone, can_paint_rest, goes, goes_painted}
 use Rattle.nit_screen.proofs.Lemmas.{gone_by_slot, gone_change, gone_painted, no_repaint, one_less}
 use Rattle.nit_screen.proofs.Lemmas.{pixel, place_is, repaint_more, seat_here, stays, stays_clean}
-use Rattle.nit_screen.proofs.Lemmas.{still_there, taken_more, taken_none, uncovered, without_views}
+use Rattle.nit_screen.proofs.Lemmas.{still_there, taken_more, taken_none, without_views}
 use Rattle.std.proofs.Common.{ap, arith, refl, subst, sym, ℕ, ◌+◌, ◌-◌, ◌<◌, ◌∙◌, ◌≡◌, ◌≤◌}
 use Rattle.nit_screen.proofs.screen.views.take_views_away.Goals as goal
 
@@ -13,8 +13,7 @@ views-init g c =
       taken = subst (λ (n : ℕ). IsRemovedFrom c.args.of n s s) (sym c.view_count-i.ensures) (taken_none c.args.of s);
       left = refl;
       session = c.requires.session;
-      painted = no_repaint _ _ _ _ _ (λ k. uncovered c.args.of s s (pixel s.width k)) _ _ _
-          (λ k. stays_clean c.args.of s (pixel s.width k));
+      painted = no_repaint (λ k. stays_clean c.args.of s (pixel s.width k));
     }
 
 -- the place that is looked at, and those behind it
@@ -45,12 +44,11 @@ paint_changed-requires g c =
     let mid = c.views.server in
     let next = c.remove_view.new.self in
     let by = rw c.if-view-of.false at c.seated-view.ensures.named in
-    let can = can_paint_rest _ _ _ _ c.args.of c.views.i c.args.sid c.args.server.now.stack mid.stack _ _ _ _ _ _
-    i.taken i.painted c.requires.can in
+    let can = can_paint_rest i.taken i.painted c.requires.can in
     let gone = can_paint_gone _ mid.stack next.stack c.seated-view.result.0.0 _
     (gone_by_slot mid next c.args.of _ _ by c.remove_view.ensures) can in
     let is = c.stack.ensures.stack in
-    record { room = rw is gone.room; pixels = rw is gone.pixels; held = rw is gone.held }
+    rw is gone
 
 -- the view at the place goes
 pub views-preserved : goal.views-preserved
@@ -71,22 +69,14 @@ views-preserved g c =
     gone_change mid.stack next.stack k (c.views.i - 1) view by.slots
     (seat_here mid.stack.views (c.views.i - 1) _ by.slots at)
     (sym (place_is mid.stack.views (c.views.i - 1) _ by.slots at)) now in
+    let painted = goes_painted c.args.of (c.views.i - 1) k mid.stack next.stack _ by.slots at refl c.if-view-of.false
+    first.behind now _ _ _ _ _ (gone_painted mid.stack next.stack k _ _ _ _ _ now
+    ((rw c.stack.ensures.stack at e.painted) mid.stack change)) in
     record {
       taken = taken_more c.args.of (c.views.i - 1) c.args.server.now.stack mid.stack next.stack first gone;
       left = ap (without_views c.args.of) c.remove_view.ensures ∙ one_less c.args.of view.handle mid i.session ∙ i.left;
       session = still_there mid next c.args.of view.handle c.remove_view.ensures i.session;
-      painted = repaint_more _ _ _ _ c.args.of (c.views.i - 1) c.args.sid c.args.server.now.stack mid.stack next.stack
-          _ _ _ _ _ _ first gone i.painted (record {
-            room = e.kept.room;
-            painted = goes_painted c.args.of (c.views.i - 1) k mid.stack next.stack _ by.slots at refl
-                c.if-view-of.false first.behind now _ _ _ _ _
-                (gone_painted mid.stack next.stack k _ _ _ _ _ now
-                ((rw c.stack.ensures.stack at e.painted) mid.stack change));
-            count = e.kept.count;
-            idle = e.kept.idle;
-            own_stays = e.kept.rest_of_own;
-            rests = e.kept.rests;
-          });
+      painted = repaint_more first gone i.painted (assumption (painted, e.kept));
     }
 
 -- no place is left
@@ -99,13 +89,6 @@ returns-clause-stack g c = all_taken c.args.of c.args.server.now.stack c.views.s
 
 pub returns-clause-painted : goal.returns-clause-painted
 returns-clause-painted g c =
-    let i = c.views.invariant.painted in
-    record {
-      room = i.room;
-      painted = all_painted c.args.of _ c.args.server.now.stack c.views.server.stack _ _ _ _
-          (rw (none_left c.views.i c.views-test.false) at c.views.invariant.taken) i.painted;
-      count = i.count;
-      idle = i.idle;
-      own_stays = i.own_stays;
-      rests = i.rests;
-    }
+    let all = all_painted c.args.of _ c.args.server.now.stack c.views.server.stack _ _ _ _
+    (rw (none_left c.views.i c.views-test.false) at c.views.invariant.taken) c.views.invariant.painted.painted in
+    assumption (all, c.views.invariant.painted)

@@ -1,5 +1,4 @@
-use Rattle.std.proofs.Common.{Some, refl, subst, ◌≡◌}
-use Rattle.nit_screen.proofs.Lemmas.{StackModel, named_stands, slot_view_in}
+use Rattle.nit_screen.proofs.Lemmas.{named_stands, refl}
 use Rattle.nit_screen.proofs.screen.views.view_before.Goals as goal
 
 pub view-requires : goal.view-requires
@@ -9,8 +8,6 @@ view-requires c = rw c.stack-stack.ensures.stack
 pub returns-clause-seat : goal.returns-clause-seat
 returns-clause-seat c = (
   record { slot = c.slot-view.result.0; view = c.view.result },
-  subst (λ (t : StackModel). slot_view_in c.slot-view.result.0 t.views
-      ≡ Some (record { slot = c.slot-view.result.0; view = c.view.result })) c.stack-stack.ensures.stack
-      c.view.ensures.value,
+  rw c.stack-stack.ensures.stack at c.view.ensures.value,
   refl,
 )

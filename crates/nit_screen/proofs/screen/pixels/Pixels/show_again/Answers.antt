@@ -1,5 +1,5 @@
 use Rattle.nit_screen.proofs.Lemmas.{Flat, bar_again}
-use Rattle.std.proofs.Common.{arith, refl, sym, ◌<◌, ◌∙◌, ◌≡◌}
+use Rattle.std.proofs.Common.{refl, sym, ◌∙◌, ◌≡◌}
 use Rattle.nit_screen.proofs.screen.pixels.Pixels.show_again.Goals as goal
 
 pub returns-in-Flat : goal.returns-in-Flat
@@ -7,8 +7,6 @@ returns-in-Flat g c =
     let s = c.args.server.now in
     let p = c.args.self.now in
     let e = c.draw_bar.ensures in
-    let some : 0 < s.config.width = let a = e.facts.standing.screen.0 in let b =
-    e.facts.screen.0 in omega (arith, a, b) in
     let flat : s.input.mode ≡ Flat = sym c.mode.ensures ∙ c.in-Flat.is in
-    bar_again s p (record p.painter { raw = c.draw_bar.new.words }) c.if-self.false flat some c.requires.can refl
+    bar_again s p (record p.painter { raw = c.draw_bar.new.words }) c.if-self.false flat c.requires.can refl
     e.length e.shown (c.requires.below flat c.if-self.false)
