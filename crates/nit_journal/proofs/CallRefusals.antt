@@ -1,13 +1,10 @@
 -- What it tells that a call is refused, and that no refusal meets it; and which replies are refusals.
-use Rattle.std.proofs.Common.{Bool, IfSome, List, None, Option, Some, [], false, length, nat_le}
-use Rattle.std.proofs.Common.{nat_lt, refl, subst, true, ℕ, ◌&&◌, ◌*◌, ◌∷◌, ◌≡◌, ◌≤◌}
-use Rattle.nit_journal.proofs.Basics.{Above, Back, Buffer, Call, Close, Destroy, Event, Front}
-use Rattle.nit_journal.proofs.Basics.{Offset, Place, Refresh, Reply, Session, Status, Take, Title}
-use Rattle.nit_journal.proofs.Basics.{Upgrade, View, accepted, answered, buffer_left, buffer_need}
-use Rattle.nit_journal.proofs.Basics.{by_call, by_handle, by_quota, by_reserve, by_status, has_view}
-use Rattle.nit_journal.proofs.Basics.{is_accepted, is_place, is_rectangle, is_side, is_title}
-use Rattle.nit_journal.proofs.Basics.{leb-true, most_views, refusal, taking, unless, view_left}
-use Rattle.nit_journal.proofs.Basics.{view_need, ◌orelse◌}
+use Rattle.std.proofs.Common.{Bool, IfSome, List, None, Option, Some, [], false, nat_le, refl, true}
+use Rattle.std.proofs.Common.{ℕ, ◌∷◌, ◌≡◌, ◌≤◌, ◌<◌}
+use Rattle.nit_journal.proofs.Basics.{Answered, Call, Event, Reply, Session, Status, Take, accepted}
+use Rattle.nit_journal.proofs.Basics.{answered, by_call, by_handle, by_quota, by_refusal}
+use Rattle.nit_journal.proofs.Basics.{by_reserve, by_status, has_view, is_accepted, leb-false}
+use Rattle.nit_journal.proofs.Basics.{leb-true, refusal, taking, unless, ◌orelse◌}
 use Rattle.nit_journal.specs.Session.{serve}
 use Rattle.nit_events.specs.declared.call.Reply.TheVariants as reply
 use Rattle.nit_events.specs.declared.event.Status.TheVariants as status
@@ -42,62 +39,78 @@ within_quota need left none = leb-true need left (holds_of (nat_le need left) (r
 pub within_reserve : (need left : ℕ) → by_reserve need left ≡ None → need ≤ left
 within_reserve need left none = leb-true need left (holds_of (nat_le need left) (reply.NoReserve need left) none)
 
--- ---- no refusal is an acceptance
+-- ---- a session that is over refuses every call
+
+-- so an answer of which this holds is that of a live session
+pub live_if : (Q : Answered → Type 0) (t : Session) (call : Call)
+    → (Q (answered reply.Closed t) → t.status ≡ status.Live) → (Q (answered reply.Killed t) → t.status ≡ status.Live)
+    → Q (serve t call) → t.status ≡ status.Live
+unfolding serve
+live_if Q t call closed killed = go t.status refl
+  where
+    go : (was : Status) → t.status ≡ was → Q (by_refusal t call (by_status was orelse by_call t call))
+        → t.status ≡ status.Live
+    go status.Live is q = is
+    go status.Closed is q = closed q
+    go status.Killed is q = killed q
+
+-- a session that is live after a call was so before it
+pub live_before : (t : Session) (call : Call) → (serve t call).session.status ≡ status.Live → t.status ≡ status.Live
+live_before t call now = live_if (λ a. a.session.status ≡ status.Live) t call (λ h. h) (λ h. h) now
+
+-- ---- no refusal is an acceptance, and where it says what is needed less is left
+
+abbrev pub IsShort : Reply → Type 0
+IsShort (reply.OutOfQuota need left) = left < need
+IsShort (reply.NoReserve need left) = left < need
+IsShort other = Unit {0}
 
 IsRefusal : Option Reply → Type 0
-IsRefusal o = IfSome o (λ r. is_accepted r ≡ false)
+IsRefusal o = IfSome o (λ r. (is_accepted r ≡ false) × IsShort r)
 
-either : (p q : Option Reply) → IsRefusal p → IsRefusal q → IsRefusal (p orelse q)
+first_of : (p q : Option Reply) → IsRefusal p → IsRefusal q → IsRefusal (p orelse q)
 unfolding IsRefusal
-either None q hp hq = hq
-either (Some r) q hp hq = hp
+first_of None q hp hq = hq
+first_of (Some r) q hp hq = hp
 
-when : (b : Bool) (r : Reply) → is_accepted r ≡ false → IsRefusal (unless b r)
+where_not : (b : Bool) (r : Reply) → is_accepted r ≡ false → (b ≡ false → IsShort r) → IsRefusal (unless b r)
 unfolding IsRefusal
-when true r h = tt
-when false r h = h
+where_not true r refuses short = tt
+where_not false r refuses short = (refuses, short refl)
 
 of_status : (s : Status) → IsRefusal (by_status s)
 unfolding IsRefusal
 of_status status.Live = tt
-of_status status.Closed = refl
-of_status status.Killed = refl
+of_status other = (refl, tt)
 
 of_handle : (s : Session) (v : ℕ) → IsRefusal (by_handle s v)
-of_handle s v = when (has_view s v) (reply.NoSuchView v) refl
+of_handle s v = where_not (has_view s v) (reply.NoSuchView v) refl (λ e. tt)
+
+of_shape : (b : Bool) (r : Reply) → is_accepted r ≡ false → IsShort r → IsRefusal (unless b r)
+of_shape b r refuses short = where_not b r refuses (λ e. short)
 
 of_quota : (need left : ℕ) → IsRefusal (by_quota need left)
-of_quota need left = when (nat_le need left) (reply.OutOfQuota need left) refl
+of_quota need left = where_not (nat_le need left) (reply.OutOfQuota need left) refl (leb-false need left)
+
+of_reserve : (need left : ℕ) → IsRefusal (by_reserve need left)
+of_reserve need left = where_not (nat_le need left) (reply.NoReserve need left) refl (leb-false need left)
+
+none : IsRefusal None
+unfolding IsRefusal
+none = tt
+
+ruleset refusals = (none, first_of, of_handle, of_quota, of_reserve, of_shape)
 
 of_call : (s : Session) (call : Call) → IsRefusal (by_call s call)
-unfolding IsRefusal
-of_call s (Buffer w h) = either (unless (is_side w && is_side h) reply.BadSize)
-    (by_quota (buffer_need w h) (buffer_left s.donation (length s.handles)))
-    (when (is_side w && is_side h) reply.BadSize refl)
-    (of_quota (buffer_need w h) (buffer_left s.donation (length s.handles)))
-of_call s View = either (unless (nat_lt (length s.handles) most_views) reply.TooManyViews)
-    (by_quota view_need (view_left s.donation (length s.handles) (s.bw * s.bh)))
-    (when (nat_lt (length s.handles) most_views) reply.TooManyViews refl)
-    (of_quota view_need (view_left s.donation (length s.handles) (s.bw * s.bh)))
-of_call s (Place v x y w h) = either (by_handle s v) (unless (is_rectangle x y w h) reply.BadRect) (of_handle s v)
-    (when (is_rectangle x y w h) reply.BadRect refl)
-of_call s (Offset v ox oy) = either (by_handle s v) (unless (is_place ox && is_place oy) reply.BadRect) (of_handle s v)
-    (when (is_place ox && is_place oy) reply.BadRect refl)
-of_call s (Front v) = of_handle s v
-of_call s (Back v) = of_handle s v
-of_call s (Above v n) = either (by_handle s v) (by_handle s n) (of_handle s v) (of_handle s n)
-of_call s (Title v text) = either (by_handle s v) (unless (is_title text) reply.BadTitle) (of_handle s v)
-    (when (is_title text) reply.BadTitle refl)
-of_call s (Destroy v) = of_handle s v
-of_call s (Refresh x y w h) = when (is_rectangle x y w h) reply.BadRect refl
-of_call s Take = tt
-of_call s (Upgrade n) = when (nat_le n s.reserve) (reply.NoReserve n s.reserve) refl
-of_call s Close = tt
+of_call s Take = none
+of_call s call = search refusals
+
+of_both : (s : Session) (call : Call) → IsRefusal (refusal s call)
+of_both s call = first_of (by_status s.status) (by_call s call) (of_status s.status) (of_call s call)
 
 pub refused_reply : (s : Session) (call : Call) (r : Reply) → refusal s call ≡ Some r → is_accepted r ≡ false
 unfolding IsRefusal
-refused_reply s call r is = subst IsRefusal is
-    (either (by_status s.status) (by_call s call) (of_status s.status) (of_call s call))
+refused_reply s call r is = (rw is at (of_both s call)).0
 
 -- ---- what an accepted call answers
 
@@ -106,16 +119,21 @@ taken_reply [] s = refl
 taken_reply (e ∷ es) s = refl
 
 pub accepted_reply : (s : Session) (call : Call) → is_accepted (accepted s call).reply ≡ true
-accepted_reply s (Buffer w h) = refl
-accepted_reply s View = refl
-accepted_reply s (Place v x y w h) = refl
-accepted_reply s (Offset v ox oy) = refl
-accepted_reply s (Front v) = refl
-accepted_reply s (Back v) = refl
-accepted_reply s (Above v n) = refl
-accepted_reply s (Title v text) = refl
-accepted_reply s (Destroy v) = refl
-accepted_reply s (Refresh x y w h) = refl
 accepted_reply s Take = taken_reply s.queue s
-accepted_reply s (Upgrade n) = refl
-accepted_reply s Close = refl
+accepted_reply s other = refl
+
+pub short_answer : (t : Session) (call : Call) → IsShort (serve t call).reply
+unfolding serve IsRefusal
+short_answer t call = go (refusal t call) (of_both t call)
+  where
+    taken : (queue : List Event) → IsShort (taking queue t).reply
+    taken [] = tt
+    taken (e ∷ es) = tt
+
+    let_in : (call : Call) → IsShort (accepted t call).reply
+    let_in Take = taken t.queue
+    let_in other = tt
+
+    go : (o : Option Reply) → IsRefusal o → IsShort (by_refusal t call o).reply
+    go (Some r) h = h.1
+    go None h = let_in call

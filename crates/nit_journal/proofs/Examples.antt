@@ -4,11 +4,11 @@ use Rattle.std.proofs.Common.{ℕ, ◌++◌, ◌∷◌, ◌≡◌}
 use Rattle.nit_journal.proofs.Basics.{AreSteps, Bare, Buffer, Call, Calls, Close, Configuration}
 use Rattle.nit_journal.proofs.Basics.{Destroy, Entry, IsFreeLabel, IsLegal, Member, Observation}
 use Rattle.nit_journal.proofs.Basics.{Opens, Place, Refresh, Serves, Step, Take, Title, Upgrade}
-use Rattle.nit_journal.proofs.Basics.{View, Word, after_steps, alone, codes, first_session}
-use Rattle.nit_journal.proofs.Basics.{first_state, is_key, opened, opening_of, own_machine, point}
-use Rattle.nit_journal.proofs.Basics.{replay, replies_to, routed_as, session, since_opening}
-use Rattle.nit_journal.proofs.Basics.{source_of, still_configuration, to, under_pointer}
-use Rattle.nit_journal.proofs.Basics.{vacant_state}
+use Rattle.nit_journal.proofs.Basics.{Word, after_steps, alone, codes, first_session, first_state}
+use Rattle.nit_journal.proofs.Basics.{is_key, opened, opening_of, own_machine, point, replay}
+use Rattle.nit_journal.proofs.Basics.{replies_to, routed_as, session, since_opening, source_of}
+use Rattle.nit_journal.proofs.Basics.{still_configuration, to, under_pointer, vacant_state}
+use Rattle.nit_events.specs.declared.call.Call.TheVariants.{View}
 use Rattle.nit_journal.specs.Session.{serve}
 use Rattle.nit_journal.specs.StackAfter.{stack_after_call}
 use Rattle.nit_journal.specs.State.{route}
@@ -68,17 +68,10 @@ first =
     ∷ entry.Final
     ∷ []
 
-first_at_1_1 : source_of (replay (still_configuration 8 4) first) (point 1 1) ≡ Word 0 0
+first_shows : map (source_of (replay (still_configuration 8 4) first)) (point 1 1 ∷ point 4 2 ∷ point 0 0 ∷ [])
+    ≡ Word 0 0 ∷ Word 0 7 ∷ Bare ∷ []
 unfolding serve stack_after_call
-first_at_1_1 = refl
-
-first_at_4_2 : source_of (replay (still_configuration 8 4) first) (point 4 2) ≡ Word 0 7
-unfolding serve stack_after_call
-first_at_4_2 = refl
-
-first_at_0_0 : source_of (replay (still_configuration 8 4) first) (point 0 0) ≡ Bare
-unfolding serve stack_after_call
-first_at_0_0 = refl
+first_shows = refl
 
 -- the view is clicked, and its session takes an event
 abbrev clicked : List Entry

@@ -1,118 +1,149 @@
--- Each session of a legal journal is served as if it were alone.
-use Rattle.std.proofs.Common.{List, [], ap, inl, inr, length, refl, subst, sym, ℕ, ◌++◌, ◌+◌, ◌<◌}
-use Rattle.std.proofs.Common.{◌∙◌, ◌∷◌, ◌≡◌}
-use Rattle.nit_journal.proofs.Basics.{Agrees, Call, Calls, Configuration, Delivery, Device, Entry}
-use Rattle.nit_journal.proofs.Basics.{Gets, IsLegal, LegalFrom, Observation, Reply, Routed, Session}
-use Rattle.nit_journal.proofs.Basics.{State, after, alone, cases_eq, delivered, deliveries_of}
-use Rattle.nit_journal.proofs.Basics.{donation_of, eq-eqb, first_session, first_state, items_to}
-use Rattle.nit_journal.proofs.Basics.{ne_eqb, projection, receive, replies_from, replies_to, route}
-use Rattle.nit_journal.proofs.Basics.{serve, session, session_in}
+-- Each session is served as if it were alone: along a legal journal, and along any steps since it last opened.
+use Rattle.std.proofs.Common.{List, [], append-nil, length, length-set, refl, sym, ℕ, ◌++◌, ◌<◌}
+use Rattle.std.proofs.Common.{◌==◌, ◌∷◌, ◌≡◌, if◌then◌else◌}
+use Rattle.nit_journal.proofs.Basics.{Agrees, AreSteps, Calls, Configuration, Delivery, Entry, Gets}
+use Rattle.nit_journal.proofs.Basics.{IsLegal, Member, Observation, Opens, Reply, Session, State}
+use Rattle.nit_journal.proofs.Basics.{Step, after, after_observations, after_steps, alone}
+use Rattle.nit_journal.proofs.Basics.{alone_machine, delivered, donation_of, first_session}
+use Rattle.nit_journal.proofs.Basics.{first_state, items_to, opened, opening_of, projection}
+use Rattle.nit_journal.proofs.Basics.{receive, replay, replies_from, replies_to, route, serve}
+use Rattle.nit_journal.proofs.Basics.{session, session_in, since_opening}
 use Rattle.nit_events.specs.declared.entry.Entry.TheVariants as entry
-use Rattle.nit_journal.proofs.SessionLists.{opens, there_at_first, call_of_its_own, call_of_another}
-use Rattle.nit_journal.proofs.SessionLists.{handed, still_handed, handed_to_it, handed_to_another}
-use Rattle.nit_journal.proofs.SessionLists.{still_there}
-use Rattle.nit_journal.proofs.DeliveryLemmas.{all_kept}
+use Rattle.nit_journal.proofs.Along.{IsKept, along, behind}
+use Rattle.nit_journal.proofs.DeliveryLemmas.{entry_keeps_all}
+use Rattle.nit_journal.proofs.ProjectionLemmas.{machine_both, projection_both, replies_both}
+use Rattle.nit_journal.proofs.ProjectionLemmas.{replies_to_both}
+use Rattle.nit_journal.proofs.SessionLists.{after_set, as_many, at_change, handed, opens}
+use Rattle.nit_journal.proofs.SessionLists.{same_config, still_there, there_at_first}
 
--- ---- the replies of one session
+-- these moments get these replies of a machine, and leave this one
+abbrev Served : Session → List Observation → List Reply → Session → Type 0
+Served m seen replies now = (replies ≡ replies_from m seen) × (now ≡ after_observations m seen)
+
+served_both : (m : Session) (xs ys : List Observation) (rs qs : List Reply) (t u : Session) → Served m xs rs t
+    → Served t ys qs u → Served m (xs ++ ys) (rs ++ qs) u
+served_both m xs ys rs qs t u p q =
+    rw (p.0, q.0, q.1, p.1) (sym (replies_both m xs ys), sym (machine_both m xs ys))
+
+-- ---- one entry
 
 -- the deliveries that go to it are items of its machine, and no others matter
-items : (ds : List Delivery) (sessions : List Session) (x : ℕ) (more : List Observation) → x < length sessions
-    → replies_from (session_in sessions x) (items_to x ds ++ more) ≡ replies_from (session_in (delivered ds sessions) x)
-    more
-items [] sessions x more lt = refl
-items (d ∷ ds) sessions x more lt =
-    let later : replies_from (session_in (handed d sessions) x) (items_to x ds ++ more)
-    ≡ replies_from (session_in (delivered ds (handed d sessions)) x) more =
-    items ds (handed d sessions) x more (still_handed d sessions x lt) in
-    elim (cases_eq d.sid x) [
-      | inl same ↦ rw (eq-eqb d.sid x same)
-          (ap (λ (t : Session). replies_from t (items_to x ds ++ more)) (sym (handed_to_it d sessions x lt same))
-          ∙ later)
-      | inr other ↦ rw (ne_eqb d.sid x other)
-          (ap (λ (t : Session). replies_from t (items_to x ds ++ more)) (sym (handed_to_another d sessions x other))
-          ∙ later)
-    ]
+items : (ds : List Delivery) (sessions : List Session) (x : ℕ) → x < length sessions
+    → Served (session_in sessions x) (items_to x ds) [] (session_in (delivered ds sessions) x)
+items [] sessions x lt = (refl, refl)
+items (d ∷ ds) sessions x lt =
+    let now = session_in (delivered ds (handed d sessions)) x in
+    at_change (λ b t. Served t (items_to x ds) [] now
+    → Served (session_in sessions x) (if b then Gets d.item ∷ items_to x ds else items_to x ds) [] now)
+    (λ t. receive t d.item) sessions d.sid x lt (λ own h. h) (λ h. h)
+    (items ds (handed d sessions) x (rw length-set lt))
 
--- one call of the session itself
-its_own : (s : State) (sid : ℕ) (call : Call) (r : Reply) (rest : List Entry) → sid < length s.sessions
-    → r ≡ (serve (session s sid) call).reply
-    → replies_to sid rest ≡ replies_from (session (after s (entry.Call sid call r)) sid) (projection sid rest)
-    → r ∷ replies_to sid rest ≡ replies_from (session s sid) (Calls call ∷ projection sid rest)
-its_own s sid call r rest lt agrees more =
-    ap (λ (q : Reply). q ∷ replies_to sid rest) agrees
-    ∙ ap (λ (rs : List Reply). (serve (session s sid) call).reply ∷ rs)
-    (more ∙ ap (λ (t : Session). replies_from t (projection sid rest)) (call_of_its_own s sid call r lt))
+served_entry : (s : State) (taken : ℕ) (e : Entry) (x : ℕ) → Agrees s taken e → x < length s.sessions
+    → Served (session s x) (projection x (e ∷ [])) (replies_to x (e ∷ [])) (session (after s e) x)
+served_entry s taken (entry.Call sid call r) x agrees lt =
+    at_change (λ b t. Served (session s x) (if b then Calls call ∷ [] else []) (if b then r ∷ [] else []) t)
+    (λ t. (serve t call).session) s.sessions sid x lt (λ own. (rw (agrees.1, own) refl, refl)) (refl, refl)
+served_entry s taken (entry.Input dev routed) x agrees lt =
+    rw (append-nil, entry_keeps_all s taken dev routed agrees)
+    (items (route s.config s.input s.stack dev).deliveries s.sessions x lt)
+served_entry s taken other x agrees lt = (refl, refl)
 
--- an entry that agrees keeps all that was routed
-pub entry_keeps_all : (s : State) (taken : ℕ) (dev : Device) (routed : Routed) → Agrees s taken (entry.Input dev routed)
-    → deliveries_of routed ≡ (route s.config s.input s.stack dev).deliveries
-entry_keeps_all s taken dev routed agrees = ap deliveries_of agrees ∙ all_kept s.config s.input s.stack dev
+-- ---- entry after entry
 
-pub isolated : (s : State) (taken : ℕ) (journal : List Entry) (x : ℕ) → LegalFrom s taken journal
-    → x < length s.sessions → replies_to x journal ≡ replies_from (session s x) (projection x journal)
-isolated s taken [] x legal lt = refl
-isolated s taken (entry.Final ∷ rest) x legal lt =
-    subst (λ (js : List Entry). replies_to x js ≡ replies_from (session s x) (projection x js)) (sym legal) refl
-isolated s taken (entry.Shot n ∷ rest) x legal lt = isolated s (taken + 1) rest x legal.1 lt
-isolated s taken (entry.Input dev routed ∷ rest) x legal lt =
-    let e = entry.Input dev routed in
-    let ds = (route s.config s.input s.stack dev).deliveries in
-    let all : deliveries_of routed ≡ ds = entry_keeps_all s taken dev routed legal.0 in
-    let more : replies_to x rest ≡ replies_from (session (after s e) x) (projection x rest) =
-    isolated (after s e) taken rest x legal.1 (still_there s e x lt) in
-    more ∙ sym (items ds s.sessions x (projection x rest) lt)
-    ∙ ap (λ (es : List Delivery). replies_from (session s x) (items_to x es ++ projection x rest)) (sym all)
-isolated s taken (entry.Call sid call r ∷ rest) x legal lt =
-    let e = entry.Call sid call r in
-    let more : replies_to x rest ≡ replies_from (session (after s e) x) (projection x rest) =
-    isolated (after s e) taken rest x legal.1 (still_there s e x lt) in
-    elim (cases_eq sid x) [
-      | inl same ↦
-          let here : replies_to sid rest ≡ replies_from (session (after s e) sid) (projection sid rest) =
-          subst (λ (y : ℕ). replies_to y rest ≡ replies_from (session (after s e) y) (projection y rest)) (sym same)
-          more in
-          let own : r ∷ replies_to x rest ≡ replies_from (session s x) (Calls call ∷ projection x rest) =
-          subst (λ (y : ℕ). r ∷ replies_to y rest ≡ replies_from (session s y) (Calls call ∷ projection y rest))
-          same (its_own s sid call r rest legal.0.0 legal.0.1 here) in
-          rw (eq-eqb sid x same) own
-      | inr other ↦
-          let theirs : replies_to x rest ≡ replies_from (session s x) (projection x rest) = more
-          ∙ ap (λ (t : Session). replies_from t (projection x rest))
-          (call_of_another s sid call r x (λ q. other (sym q))) in
-          rw (ne_eqb sid x other) theirs
-    ]
+-- the session's machine is this one behind the entries, and their replies are its
+abbrev IsAlone : ℕ → Session → State → List Entry → Type 0
+IsAlone x m s done = (x < length s.sessions) × Served m (projection x done) (replies_to x done) (session s x)
+
+one_more : (x : ℕ) (m : Session) → IsKept (IsAlone x m)
+one_more x m s taken e done agrees h = (
+  still_there s e x h.0,
+  rw (projection_both x done (e ∷ []), replies_to_both x done (e ∷ []))
+      (served_both m (projection x done) _ (replies_to x done) _ (session s x) _ h.1
+      (served_entry s taken e x agrees h.0)),
+)
+
+-- ---- a session opens
+
+-- each session has its client, and this one has this donation
+abbrev AreClients : ℕ → ℕ → State → Type 0
+AreClients x donation s = (length s.sessions ≡ length s.config.clients) × (donation_of s.config x ≡ donation)
+
+abbrev IsSeat : ℕ → ℕ → Session → State → List Entry → Type 0
+IsSeat x donation m s done = AreClients x donation s × IsAlone x m s done
+
+seat_kept : (x donation : ℕ) (m : Session) → IsKept (IsSeat x donation m)
+seat_kept x donation m s taken e done agrees h = (
+  (rw (as_many s e, same_config s e) h.0.0, rw (same_config s e) h.0.1),
+  one_more x m s taken e done agrees h.1,
+)
+
+seat_opens : (x donation : ℕ) (m : Session) (s : State) (sid : ℕ) (label : List ℕ) (done : List Entry)
+    → AreSteps s (Opens sid label ∷ []) → IsSeat x donation m s done
+    → IsSeat x donation (if sid == x then first_session donation else m) (opened sid label s)
+    (if sid == x then [] else done)
+seat_opens x donation m s sid label done are h = (
+  (
+    simp length-set h.0.0,
+    after_set (λ (c : Member). c.donation ≡ donation) s.config.clients sid x _ _ (λ own. rw own h.0.1) h.0.1,
+  ),
+  (
+    rw length-set h.1.0,
+    at_change (λ c t. Served (if c then first_session donation else m) (projection x (if c then [] else done))
+        (replies_to x (if c then [] else done)) t) (λ t. first_session (donation_of s.config sid)) s.sessions sid x
+        h.1.0 (λ own. (refl, rw (own, h.0.1) refl)) h.1.1,
+  ),
+)
+
+seat : (s : State) (steps : List Step) (x : ℕ) → length s.sessions ≡ length s.config.clients → AreSteps s steps
+    → x < length s.sessions → IsSeat x (donation_of s.config x) (opening_of s x steps) (after_steps s steps)
+    (since_opening x steps)
+seat s steps x each are lt =
+    let donation = donation_of s.config x in
+    along x (IsSeat x donation) (first_session donation) (seat_kept x donation) (seat_opens x donation) (session s x) s
+    steps [] are ((each, refl), (lt, (refl, refl)))
+
+pub seat_replies : (s : State) (steps : List Step) (x : ℕ) → length s.sessions ≡ length s.config.clients
+    → AreSteps s steps → x < length s.sessions
+    → replies_to x (since_opening x steps) ≡ replies_from (opening_of s x steps) (projection x (since_opening x steps))
+seat_replies s steps x each are lt = (seat s steps x each are lt).1.1.0
+
+pub seat_machine : (s : State) (steps : List Step) (x : ℕ) → length s.sessions ≡ length s.config.clients
+    → AreSteps s steps → x < length s.sessions
+    → session (after_steps s steps) x ≡ after_observations (opening_of s x steps) (projection x (since_opening x steps))
+seat_machine s steps x each are lt = (seat s steps x each are lt).1.1.1
+
+-- ---- a whole journal
+
+whole : (config : Configuration) (journal : List Entry) (x : ℕ) → IsLegal config journal → x < length config.clients
+    → IsAlone x (first_session (donation_of config x)) (replay config journal) journal
+whole config journal x legal lt =
+    let m = first_session (donation_of config x) in
+    behind (IsAlone x m) (one_more x m) (first_state config) 0 journal [] legal
+    (there_at_first config x lt, (refl, opens config x lt))
 
 pub served_alone : (config : Configuration) (journal : List Entry) (s : ℕ) → IsLegal config journal
     → s < length config.clients → replies_to s journal ≡ alone (donation_of config s) (projection s journal)
-served_alone config journal s legal lt = isolated (first_state config) 0 journal s legal (there_at_first config s lt)
-    ∙ ap (λ (t : Session). replies_from t (projection s journal)) (opens config s lt)
+served_alone config journal s legal lt = (whole config journal s legal lt).1.0
+
+pub stands_alone : (config : Configuration) (journal : List Entry) (x : ℕ) → IsLegal config journal
+    → x < length config.clients → session (replay config journal) x
+    ≡ alone_machine (donation_of config x) (projection x journal)
+stands_alone config journal x legal lt = (whole config journal x legal lt).1.1
 
 -- ---- two worlds
-
--- more moments add replies at the end
-longer : (t : Session) (moments more : List Observation) → (rest : List Reply)
-    × (replies_from t (moments ++ more) ≡ replies_from t moments ++ rest)
-longer t [] more = (replies_from t more, refl)
-longer t (Calls call ∷ moments) more =
-    let next = longer (serve t call).session moments more in
-    (next.0, ap (λ (rs : List Reply). (serve t call).reply ∷ rs) next.1)
-longer t (Gets i ∷ moments) more = longer (receive t i) moments more
 
 pub two_fronts : (c d : Configuration) (js ks : List Entry) (s t : ℕ) → IsLegal c js → IsLegal d ks
     → s < length c.clients → t < length d.clients
     → donation_of c s ≡ donation_of d t → (more : List Observation) → projection t ks ≡ projection s js ++ more
     → (rest : List Reply) × (replies_to t ks ≡ replies_to s js ++ rest)
-two_fronts c d js ks s t p q lt ld same more longer_by =
-    let there = longer (first_session (donation_of d t)) (projection s js) more in
-    let mine : replies_to s js ≡ alone (donation_of d t) (projection s js) = served_alone c js s p lt
-    ∙ ap (λ (n : ℕ). alone n (projection s js)) same in
-    let theirs : replies_to t ks ≡ alone (donation_of d t) (projection s js ++ more) = served_alone d ks t q ld
-    ∙ ap (alone (donation_of d t)) longer_by in
-    (there.0, theirs ∙ there.1 ∙ ap (λ (rs : List Reply). rs ++ there.0) (sym mine))
+two_fronts c d js ks s t p q lt ld same more longer =
+    let m = first_session (donation_of d t) in (
+      replies_from (after_observations m (projection s js)) more,
+      rw (served_alone d ks t q ld, longer, served_alone c js s p lt, same) (replies_both m (projection s js) more),
+    )
 
 pub two_worlds : (c d : Configuration) (js ks : List Entry) (s t : ℕ) → IsLegal c js → IsLegal d ks
     → s < length c.clients → t < length d.clients
     → donation_of c s ≡ donation_of d t → projection s js ≡ projection t ks → replies_to s js ≡ replies_to t ks
 two_worlds c d js ks s t p q lt ld same seen =
-    served_alone c js s p lt ∙ ap (λ (n : ℕ). alone n (projection s js)) same ∙ ap (alone (donation_of d t)) seen
-    ∙ sym (served_alone d ks t q ld)
+    rw (served_alone c js s p lt, served_alone d ks t q ld, same, seen) refl

@@ -13,7 +13,6 @@ pub mod KnownSessions
 pub mod LiveSessions
 pub mod LiveAlong
 pub mod ProjectionLemmas
-pub mod StepLemmas
 pub mod PressLemmas
 pub mod HeldInput
 pub mod HeldCodes
@@ -21,7 +20,8 @@ pub mod PressesSince
 pub mod ReachLemmas
 pub mod QuietInput
 pub mod Examples
-pub mod Machines
+pub mod Along
+pub mod Ways
 pub mod CallRefusals
 pub mod ForCallers
 pub mod Basics

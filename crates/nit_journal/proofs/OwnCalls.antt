@@ -1,21 +1,20 @@
 -- While a session is live, the user's input is seen in its queue and its losses alone. The rest of it is as its
 -- calls alone would have it.
-use Rattle.std.proofs.Common.{Bool, List, None, Option, Some, [], ap, false, inl, inr, length}
-use Rattle.std.proofs.Common.{nat_lt, refl, subst, sym, true, ℕ, ◌++◌, ◌+◌, ◌<◌, ◌∙◌, ◌∷◌, ◌≡◌}
-use Rattle.std.proofs.Common.{if◌then◌else◌}
-use Rattle.nit_journal.proofs.Basics.{Call, Configuration, Delivery, Entry, Event, Item, Reply}
-use Rattle.nit_journal.proofs.Basics.{Session, State, Status, Take, accepted, after, after_calls}
-use Rattle.nit_journal.proofs.Basics.{by_call, by_life, by_refusal, by_status, calls_of, cases_eq}
-use Rattle.nit_journal.proofs.Basics.{delivered, donation_of, eq-eqb, first_session, first_state}
-use Rattle.nit_journal.proofs.Basics.{ne_eqb, own_machine, receive, refusal, replay, replay_from}
-use Rattle.nit_journal.proofs.Basics.{route, session, session_in, taking, ◌orelse◌}
+use Rattle.std.proofs.Common.{Bool, List, None, Option, Some, [], ap, false, length, nat_lt, refl}
+use Rattle.std.proofs.Common.{sym, true, ℕ, ◌++◌, ◌+◌, ◌<◌, ◌∙◌, ◌∷◌, ◌≡◌, ◌≢◌, if◌then◌else◌}
+use Rattle.nit_journal.proofs.Basics.{Answered, Call, Configuration, Delivery, Entry, Event, Item}
+use Rattle.nit_journal.proofs.Basics.{Reply, Session, State, Status, Take, accepted, after}
+use Rattle.nit_journal.proofs.Basics.{after_calls, by_life, by_refusal, calls_of, delivered}
+use Rattle.nit_journal.proofs.Basics.{donation_of, first_session, first_state, own_machine, receive}
+use Rattle.nit_journal.proofs.Basics.{refusal, replay, replay_from, route, session, session_in}
+use Rattle.nit_journal.proofs.Basics.{taking}
 use Rattle.nit_journal.specs.Session.{serve}
 use Rattle.nit_events.specs.declared.event.Item.TheVariants as item
 use Rattle.nit_events.specs.declared.event.Status.TheVariants as status
 use Rattle.nit_events.specs.declared.entry.Entry.TheVariants as entry
-use Rattle.nit_journal.proofs.SessionLists.{opens, there_at_first, call_of_its_own, call_of_another}
-use Rattle.nit_journal.proofs.SessionLists.{handed, still_handed, handed_to_it, handed_to_another}
-use Rattle.nit_journal.proofs.SessionLists.{still_there}
+use Rattle.nit_journal.proofs.CallRefusals.{live_before}
+use Rattle.nit_journal.proofs.SessionLists.{after_set, at_change, handed, opens, still_there}
+use Rattle.nit_journal.proofs.SessionLists.{there_at_first}
 
 -- without its queue and its losses
 abbrev quiet : Session → Session
@@ -27,59 +26,34 @@ Matches t u = t.status ≡ status.Live → quiet t ≡ quiet u
 
 -- ---- one call
 
+-- what a call leaves does not come from queue and losses, nor does an answer that takes no event
+abbrev AreAlike : Call → Answered → Answered → Type 0
+AreAlike call a b = (quiet a.session ≡ quiet b.session) × (call ≢ Take → a.reply ≡ b.reply)
+
 quiet_taking : (queue : List Event) (t : Session) → quiet (taking queue t).session ≡ quiet t
 quiet_taking [] t = refl
 quiet_taking (event ∷ events) t = refl
 
-quiet_accepted : (t : Session) (call : Call) → quiet (accepted t call).session ≡ quiet (accepted (quiet t) call).session
-quiet_accepted t Take = quiet_taking t.queue t
-quiet_accepted t other = refl
-
-quiet_unless : (t : Session) (call : Call) (refused : Option Reply) → quiet (by_refusal t call refused).session
-    ≡ quiet (by_refusal (quiet t) call refused).session
-quiet_unless t call (Some r) = refl
-quiet_unless t call None = quiet_accepted t call
+alike_accepted : (t : Session) (call : Call) → AreAlike call (accepted t call) (accepted (quiet t) call)
+alike_accepted t Take = (quiet_taking t.queue t, λ other. absurd (other refl))
+alike_accepted t call = (refl, λ other. refl)
 
 -- no refusal looks at the queue
 quiet_refusal : (t : Session) (call : Call) → refusal t call ≡ refusal (quiet t) call
 quiet_refusal t Take = refl
 quiet_refusal t other = refl
 
-quiet_served : (t : Session) (call : Call) → quiet (serve t call).session ≡ quiet (serve (quiet t) call).session
+alike : (t : Session) (call : Call) → AreAlike call (serve t call) (serve (quiet t) call)
 unfolding serve
-quiet_served t call = quiet_unless t call (refusal t call)
-    ∙ ap (λ (refused : Option Reply). quiet (by_refusal (quiet t) call refused).session) (quiet_refusal t call)
-
-live_by : (t : Session) (call : Call) (was : Status) → t.status ≡ was
-    → (by_refusal t call (by_status was orelse by_call t call)).session.status ≡ status.Live → t.status ≡ status.Live
-live_by t call status.Live was now = was
-live_by t call status.Closed was now = now
-live_by t call status.Killed was now = now
-
--- a session that is live after a call was so before it
-was_live : (t : Session) (call : Call) → (serve t call).session.status ≡ status.Live → t.status ≡ status.Live
-unfolding serve
-was_live t call now = live_by t call t.status refl now
+alike t call = rw (quiet_refusal t call) (go (refusal (quiet t) call))
+  where
+    go : (o : Option Reply) → AreAlike call (by_refusal t call o) (by_refusal (quiet t) call o)
+    go (Some r) = (refl, λ other. refl)
+    go None = alike_accepted t call
 
 matches_served : (t u : Session) (call : Call) → Matches t u → Matches (serve t call).session (serve u call).session
-matches_served t u call h live = quiet_served t call
-    ∙ ap (λ (v : Session). quiet (serve v call).session) (h (was_live t call live)) ∙ sym (quiet_served u call)
-
--- the answer to a call is the same, unless it takes an event
-replied_accepted : (t : Session) (call : Call) → (call ≡ Take → ⊥)
-    → (accepted t call).reply ≡ (accepted (quiet t) call).reply
-replied_accepted t Take h = absurd (h refl)
-replied_accepted t other h = refl
-
-replied_unless : (t : Session) (call : Call) (refused : Option Reply) → (call ≡ Take → ⊥)
-    → (by_refusal t call refused).reply ≡ (by_refusal (quiet t) call refused).reply
-replied_unless t call (Some r) h = refl
-replied_unless t call None h = replied_accepted t call h
-
-replied : (t : Session) (call : Call) → (call ≡ Take → ⊥) → (serve t call).reply ≡ (serve (quiet t) call).reply
-unfolding serve
-replied t call h = replied_unless t call (refusal t call) h
-    ∙ ap (λ (refused : Option Reply). (by_refusal (quiet t) call refused).reply) (quiet_refusal t call)
+matches_served t u call h live = (alike t call).0
+    ∙ ap (λ (v : Session). quiet (serve v call).session) (h (live_before t call live)) ∙ sym (alike u call).0
 
 -- ---- one item
 
@@ -99,41 +73,31 @@ matches_received t u i h = received_by t u i t.status refl h
 
 -- ---- all entries
 
-matches_delivered : (ds : List Delivery) (sessions : List Session) (u : Session) (x : ℕ) → x < length sessions
+matches_delivered : (ds : List Delivery) (sessions : List Session) (u : Session) (x : ℕ)
     → Matches (session_in sessions x) u → Matches (session_in (delivered ds sessions) x) u
-matches_delivered [] sessions u x lt h = h
-matches_delivered (d ∷ ds) sessions u x lt h =
-    matches_delivered ds (handed d sessions) u x (still_handed d sessions x lt) (elim (cases_eq d.sid x) [
-      | inl same ↦ subst (λ (t : Session). Matches t u) (sym (handed_to_it d sessions x lt same))
-          (matches_received (session_in sessions x) u d.item h)
-      | inr other ↦ subst (λ (t : Session). Matches t u) (sym (handed_to_another d sessions x other)) h
-    ])
+matches_delivered [] sessions u x h = h
+matches_delivered (d ∷ ds) sessions u x h =
+    matches_delivered ds (handed d sessions) u x
+    (after_set (λ t. Matches t u) sessions d.sid x (receive (session_in sessions d.sid) d.item) (first_session 0)
+    (λ own. matches_received (session_in sessions d.sid) u d.item (rw own h)) h)
 
 matches_replayed : (journal : List Entry) (s : State) (u : Session) (x : ℕ) → x < length s.sessions
     → Matches (session s x) u → Matches (session (replay_from s journal) x) (after_calls u (calls_of x journal))
 matches_replayed [] s u x lt h = h
-matches_replayed (entry.Input dev routed ∷ rest) s u x lt h =
-    matches_replayed rest (after s (entry.Input dev routed)) u x (still_there s (entry.Input dev routed) x lt)
-    (matches_delivered (route s.config s.input s.stack dev).deliveries s.sessions u x lt h)
-matches_replayed (entry.Shot n ∷ rest) s u x lt h = matches_replayed rest s u x lt h
-matches_replayed (entry.Final ∷ rest) s u x lt h = matches_replayed rest s u x lt h
 matches_replayed (entry.Call sid call r ∷ rest) s u x lt h =
     let e = entry.Call sid call r in
-    let there : x < length (after s e).sessions = still_there s e x lt in
-    elim (cases_eq sid x) [
-      | inl same ↦
-          let its : session (after s e) x ≡ (serve (session s x) call).session =
-          subst (λ (y : ℕ). session (after s (entry.Call y call r)) x ≡ (serve (session s x) call).session)
-          (sym same) (call_of_its_own s x call r lt) in
-          let here : Matches (session (after s e) x) (serve u call).session =
-          subst (λ (t : Session). Matches t (serve u call).session) (sym its)
-          (matches_served (session s x) u call h) in
-          rw (eq-eqb sid x same) (matches_replayed rest (after s e) (serve u call).session x there here)
-      | inr other ↦
-          let here : Matches (session (after s e) x) u =
-          subst (λ (t : Session). Matches t u) (sym (call_of_another s sid call r x (λ q. other (sym q)))) h in
-          rw (ne_eqb sid x other) (matches_replayed rest (after s e) u x there here)
-    ]
+    let calls = calls_of x rest in
+    let now = session (replay_from (after s e) rest) x in
+    at_change (λ b t. ((v : Session) → Matches t v → Matches now (after_calls v calls))
+    → Matches now (after_calls u (if b then call ∷ calls else calls)))
+    (λ t. (serve t call).session) s.sessions sid x lt
+    (λ own later. later (serve u call).session (matches_served (session s x) u call h)) (λ later. later u h)
+    (λ v. matches_replayed rest (after s e) v x (still_there s e x lt))
+matches_replayed (entry.Input dev routed ∷ rest) s u x lt h =
+    let e = entry.Input dev routed in
+    matches_replayed rest (after s e) u x (still_there s e x lt)
+    (matches_delivered (route s.config s.input s.stack dev).deliveries s.sessions u x h)
+matches_replayed (other ∷ rest) s u x lt h = matches_replayed rest s u x lt h
 
 matches_calls : (config : Configuration) (journal : List Entry) (s : ℕ) → s < length config.clients
     → Matches (session (replay config journal) s) (own_machine config s journal)
@@ -156,7 +120,7 @@ pub answered_alike : (config : Configuration) (journal : List Entry) (s : ℕ) �
     → (session (replay config journal) s).status ≡ status.Live
     → (call : Call) → (call ≡ Take → ⊥) → (serve (session (replay config journal) s) call).reply
     ≡ (serve (own_machine config s journal) call).reply
-answered_alike config journal s lt live call h =
-    let own = own_machine config s journal in
-    replied (session (replay config journal) s) call h
-    ∙ ap (λ (t : Session). (serve t call).reply) (matches_calls config journal s lt live) ∙ sym (replied own call h)
+answered_alike config journal s lt live call other =
+    (alike (session (replay config journal) s) call).1 other
+    ∙ ap (λ (t : Session). (serve t call).reply) (matches_calls config journal s lt live)
+    ∙ sym ((alike (own_machine config s journal) call).1 other)

@@ -1,8 +1,8 @@
 -- Worked rows of scripts, computed from the definitions.
 use Rattle.std.proofs.Common.{List, [], refl, take, ℕ, ◌∷◌, ◌≡◌}
 use Rattle.nit_plan.proofs.Basics.{Buffer, Check, Close, Expect, Fill, Line, Nothing, Step, Take}
-use Rattle.nit_plan.proofs.Basics.{Taken, View, calls_in, calls_to_make, ink, plan_of_script}
-use Rattle.nit_plan.proofs.Basics.{map, stages_within, words_left}
+use Rattle.nit_plan.proofs.Basics.{Taken, View, calls_in, calls_to_make, ink, map, plan_of_script}
+use Rattle.nit_plan.proofs.Basics.{stages_within, words_left}
 use Rattle.nit_journal.specs.Session.{serve}
 use Rattle.nit_plan.specs.Strokes.{cleared, stroked}
 use Rattle.nit_word.specs.Zeros.{zeros}

@@ -1,15 +1,16 @@
 -- The words that a script leaves are 0 or of its colours.
-use Rattle.nit_plan.proofs.Basics.{AllByRecursion, Bool, Buffer, IsOfColours, Line, List, Painting}
-use Rattle.nit_plan.proofs.Basics.{Size, Some, Stroke, [], after_line, arith, blank, colours, cond}
-use Rattle.nit_plan.proofs.Basics.{drop, enumerate_from, false, ink, is_accepted, length, map}
-use Rattle.nit_plan.proofs.Basics.{painted_from, refl, serve, session_size, slice_get}
-use Rattle.nit_plan.proofs.Basics.{slice_index, stroke_colour, table_size, take_all}
-use Rattle.nit_plan.proofs.Basics.{word_after_stroke, words_after, words_left}
-use Rattle.std.proofs.Common.{subst, suc, take, true, zero, ℕ, ◌%◌, ◌*◌, ◌++◌, ◌+◌, ◌/◌, ◌∷◌, ◌≡◌}
+use Rattle.nit_plan.proofs.Basics.{AllByRecursion, Buffer, IsOfColours, Line, List, Painting, Size}
+use Rattle.nit_plan.proofs.Basics.{Some, Stroke, [], after_line, arith, blank, colours, drop}
+use Rattle.nit_plan.proofs.Basics.{either, enumerate_from, ink, is_accepted, length, map}
+use Rattle.nit_plan.proofs.Basics.{painted_from, refl, serve, session_size, slice_get, slice_index}
+use Rattle.nit_plan.proofs.Basics.{stroke_colour, table_size, word_after_stroke, words_after}
+use Rattle.nit_plan.proofs.Basics.{words_left}
+use Rattle.std.proofs.Common.{subst, suc, take, zero, ℕ, ◌%◌, ◌*◌, ◌++◌, ◌+◌, ◌/◌, ◌∷◌, ◌≡◌}
 use Rattle.nit_plan.specs.Strokes.{cleared, stroked}
 use Rattle.nit_word.specs.Zeros.{zeros}
 use Rattle.nit_script.specs.declared.line.Line.TheVariants as line
 use Rattle.nit_plan.proofs.LineColours.{colours_inked}
+use Rattle.nit_plan.proofs.LineWords.{last_line}
 use Rattle.nit_plan.proofs.Places.{colour_inked, one_of}
 
 -- each of the words is 0 or in the ink
@@ -53,19 +54,14 @@ stroked_inked : (ink : List ℕ) (size : Size) (s : Stroke) (words : List ℕ)
 unfolding stroked
 stroked_inked ink size s words named inked = stroked_from ink size s 0 words named inked
 
-buffer_inked : (ink : List ℕ) (took : Bool) (w h : ℕ) (words : List ℕ) → AreInked ink words
-    → AreInked ink (cond took (cleared w h words) words)
-buffer_inked ink true w h words inked = cleared_inked ink w h words inked
-buffer_inked ink false w h words inked = inked
-
 line_inked : (ink : List ℕ) (p : Painting) (l : Line) → AllByRecursion (IsOfColours ink) (colours l)
     → AreInked ink p.words
     → AreInked ink (after_line p l).words
 line_inked ink p (line.Call (Buffer w h)) named inked =
-    buffer_inked ink (is_accepted (serve p.session (Buffer w h)).reply) w h p.words inked
-line_inked ink p (line.Call other) named inked = inked
+    either (AreInked ink) (is_accepted (serve p.session (Buffer w h)).reply) (cleared w h p.words) p.words
+    (cleared_inked ink w h p.words inked) inked
 line_inked ink p (line.Stroke s) named inked = stroked_inked ink (session_size p.session) s p.words named inked
-line_inked ink p line.Phase named inked = inked
+line_inked ink p other named inked = inked
 
 -- ---- the lines of a script
 
@@ -96,8 +92,5 @@ word_inked script donation k i =
 pub left_inked : (script : List Line) (donation i : ℕ)
     → IsOfColours (ink script) (slice_index (words_left script donation) i)
 left_inked script donation i =
-    subst (λ (lines : List Line). IsOfColours (ink script) (slice_index (painted_from (blank donation) lines).words i))
-    (take_whole script) (word_inked script donation (length script) i)
-  where
-    take_whole : (lines : List Line) → take (length lines) lines ≡ lines
-    take_whole lines = take_all (length lines) lines (omega arith)
+    subst (λ (p : Painting). IsOfColours (ink script) (slice_index p.words i))
+    (last_line (blank donation) script (length script) (omega arith)) (word_inked script donation (length script) i)

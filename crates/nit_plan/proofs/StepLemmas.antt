@@ -1,9 +1,9 @@
 -- The steps of a script's lines.
 use Rattle.nit_plan.proofs.Basics.{All, All-cons, Line, List, Painting, Session, Some, Step, []}
-use Rattle.nit_plan.proofs.Basics.{after_line, ap, ap₂, arith, first_session, fold, fold-append}
-use Rattle.nit_plan.proofs.Basics.{get_or, length, painted_from, refl, session_after, slice_get}
-use Rattle.nit_plan.proofs.Basics.{step_of, steps_from, suc, table_size, take_all, take_more}
-use Rattle.std.proofs.Common.{sym, take, zero, ℕ, ◌*◌, ◌++◌, ◌+◌, ◌<◌, ◌∙◌, ◌∷◌, ◌≡◌, ◌≤◌}
+use Rattle.nit_plan.proofs.Basics.{after_line, ap, arith, first_session, fold, fold-append, get_or}
+use Rattle.nit_plan.proofs.Basics.{length, painted_from, refl, session_after, slice_get, step_of}
+use Rattle.nit_plan.proofs.Basics.{steps_from, suc, table_size, take_all, take_more}
+use Rattle.std.proofs.Common.{sym, take, zero, ℕ, ◌*◌, ◌++◌, ◌+◌, ◌<◌, ◌∷◌, ◌≡◌, ◌≤◌}
 use Rattle.nit_script.specs.declared.line.Line.TheVariants as line
 use Rattle.nit_plan.proofs.Donations.{PaidFor, opened_paid, serve_paid}
 use Rattle.nit_plan.proofs.LineWords.{buffer_in_table}
@@ -23,19 +23,17 @@ steps_more : (s : Session) (lines : List Line) (l : Line)
     → steps_from s (lines ++ l ∷ []) ≡ steps_from s lines
     ++ step_of (session_by s lines) (session_after (session_by s lines) l) l ∷ []
 steps_more s [] l = refl
-steps_more s (first ∷ lines) l = ap (λ (rest : List Step). step_of s (session_after s first) first ∷ rest)
-    (steps_more (session_after s first) lines l)
+steps_more s (first ∷ lines) l = rw (steps_more (session_after s first) lines l) refl
 
 next_step : (s : Session) (lines : List Line) (k : ℕ) (d : Line) → k < length lines
     → steps_from s (take (k + 1) lines) ≡ steps_from s (take k lines) ++ step_of (session_by s (take k lines))
     (session_after (session_by s (take k lines)) (get_or lines k d)) (get_or lines k d) ∷ []
-next_step s lines k d inside = ap (steps_from s) (take_more lines k d inside)
-    ∙ steps_more s (take k lines) (get_or lines k d)
+next_step s lines k d inside = rw (take_more lines k d inside) (steps_more s (take k lines) (get_or lines k d))
 
 next_session : (s : Session) (lines : List Line) (k : ℕ) (d : Line) → k < length lines
     → session_by s (take (k + 1) lines) ≡ session_after (session_by s (take k lines)) (get_or lines k d)
-next_session s lines k d inside = ap (session_by s) (take_more lines k d inside)
-    ∙ fold-append session_after s (take k lines) (get_or lines k d ∷ [])
+next_session s lines k d inside =
+    rw (take_more lines k d inside) (fold-append session_after s (take k lines) (get_or lines k d ∷ []))
 
 -- the steps of the first k lines are these, and their session is this
 pub record IsPlannedTo (s : Session) (lines : List Line) (k : ℕ) (steps : List Step) (now : Session) : Type 0 where
@@ -47,11 +45,8 @@ pub planned_more : (s : Session) (lines : List Line) (k : ℕ) (l : Line) (steps
     → step ≡ step_of now (session_after now l) l → steps' ≡ steps ++ step ∷ [] → now' ≡ session_after now l
     → IsPlannedTo s lines (k + 1) steps' now'
 planned_more s lines k l steps steps' step now now' inside at so_far is more goes = record {
-  done =
-      more ∙ ap₂ (λ (xs : List Step) (x : Step). xs ++ x ∷ []) so_far.done
-      (is ∙ ap₂ (λ (n : Session) (m : Line). step_of n (session_after n m) m) so_far.served at)
-      ∙ sym (next_step s lines k l inside);
-  served = goes ∙ ap₂ session_after so_far.served at ∙ sym (next_session s lines k l inside);
+  done = rw (more, so_far.done, is, so_far.served, at) (sym (next_step s lines k l inside));
+  served = rw (goes, so_far.served, at) (sym (next_session s lines k l inside));
 }
 
 pub all_steps : (s : Session) (lines : List Line) (k : ℕ) → length lines ≤ k
@@ -61,9 +56,8 @@ all_steps s lines k past = ap (steps_from s) (take_all k lines past)
 -- ---- the step of a line, by the painting that the lines before it leave
 
 pub painted_session : (p : Painting) (l : Line) → (after_line p l).session ≡ session_after p.session l
-painted_session p (line.Call c) = refl
-painted_session p (line.Stroke s) = refl
 painted_session p line.Phase = refl
+painted_session p other = refl
 
 step_there : (p : Painting) (script : List Line) (k : ℕ) (l : Line) → slice_get script k ≡ Some l
     → slice_get (steps_from p.session script) k
@@ -71,10 +65,9 @@ step_there : (p : Painting) (script : List Line) (k : ℕ) (l : Line) → slice_
 step_there p [] k l here = cc
 step_there p (first ∷ script) zero l here =
     let same : first ≡ l = cc in
-    rw (← same) (ap (λ (s : Session). Some (step_of p.session s first)) (sym (painted_session p first)))
+    rw (← same, painted_session p first) refl
 step_there p (first ∷ script) (suc k) l here =
-    ap (λ (s : Session). slice_get (steps_from s script) k) (sym (painted_session p first))
-    ∙ step_there (after_line p first) script k l here
+    rw (← painted_session p first) (step_there (after_line p first) script k l here)
 
 pub step_at : (p : Painting) (script : List Line) (k : ℕ) (l : Line) → slice_get script k ≡ Some l
     → slice_get (steps_from p.session script) k
@@ -85,8 +78,7 @@ step_at p script k l here = let next : k + 1 ≡ suc k = omega arith in rw next 
 
 line_paid : (opening : ℕ) (s : Session) (l : Line) → PaidFor opening s → PaidFor opening (session_after s l)
 line_paid opening s (line.Call c) paid = serve_paid opening s c paid
-line_paid opening s (line.Stroke x) paid = paid
-line_paid opening s line.Phase paid = paid
+line_paid opening s other paid = paid
 
 -- the sides are at most 4096, and the words stand in the table
 pub record IsSized (opening : ℕ) (step : Step) : Type 0 where

@@ -1,11 +1,11 @@
 -- The words of places that a line sets, and of those that it does not set.
-use Rattle.nit_plan.proofs.Basics.{Bool, Buffer, Line, List, Some, Step, Stroke, accepts, ap, arith}
+use Rattle.nit_plan.proofs.Basics.{Bool, Buffer, HasStage, HasStages, IsAmong, IsLineInked, Line}
+use Rattle.nit_plan.proofs.Basics.{List, MayHold, Sight, Some, Step, Stroke, accepts, ap, arith}
 use Rattle.nit_plan.proofs.Basics.{column_and_row, cond, drop, false, get_or, get_or-append_right}
-use Rattle.nit_plan.proofs.Basics.{get_or-drop, get_or-eq_default, is_set_by, is_stroked, length}
-use Rattle.nit_plan.proofs.Basics.{length-zeros, nat_tests, place_colour, slice_get, slice_index}
-use Rattle.nit_plan.proofs.Basics.{static, step_of, stroked, word_at, words_after, words_by_step}
-use Rattle.nit_plan.proofs.Basics.{HasStage, HasStages, IsAmong, IsLineInked, MayHold, Sight}
-use Rattle.nit_plan.proofs.Basics.{get_or_append_left, subst, zero_at, zeros}
+use Rattle.nit_plan.proofs.Basics.{get_or-drop, get_or-eq_default, get_or_append_left, is_set_by}
+use Rattle.nit_plan.proofs.Basics.{is_stroked, length, length-zeros, nat_tests, place_colour}
+use Rattle.nit_plan.proofs.Basics.{slice_get, slice_index, static, step_of, stroked, word_at}
+use Rattle.nit_plan.proofs.Basics.{words_after, words_by_step, zero_at, zeros}
 use Rattle.std.proofs.Common.{nat_lt, refl, sym, true, ℕ, ◌%◌, ◌&&◌, ◌*◌, ◌+◌, ◌-◌, ◌/◌, ◌∙◌, ◌≡◌}
 use Rattle.std.proofs.Common.{◌<◌, ◌≤◌}
 use Rattle.nit_plan.specs.Strokes.{cleared}
@@ -29,9 +29,11 @@ stroke_stays : (w h : ℕ) (s : Stroke) (words : List ℕ) (n : ℕ)
     → slice_index (stroked (record { w = w; h = h }) s words) n ≡ slice_index words n
 stroke_stays w h s words n outside =
     dite (dec_lt n (length words))
-    (λ told.
-    ap (λ (ws : List ℕ). get_or ws n 0) (stroke_set w h s words) ∙ word_at (whole w h s) (place_colour w s) words n told
-    ∙ ap (λ b. cond b (place_colour w s n) (get_or words n 0)) (none_stroked w h s n outside))
+    (λ told. rw (
+      stroke_set w h s words,
+      word_at (whole w h s) (place_colour w s) words n told,
+      none_stroked w h s n outside,
+    ) refl)
     (λ past.
     get_or-eq_default (stroked (record { w = w; h = h }) s words) 0
     (omega (arith, stroked_long (record { w = w; h = h }) s words)) ∙ sym (get_or-eq_default words 0 (omega arith)))
@@ -54,9 +56,8 @@ step_stays : (l : Line) (step : Step) (words : List ℕ) (n : ℕ) → is_set_by
     → slice_index (words_by_step l step words) n ≡ slice_index words n
 step_stays (line.Call (Buffer w h)) step words n outside =
     buffer_stays (accepts step.expect) step.w step.h words n outside
-step_stays (line.Call other) step words n outside = refl
 step_stays (line.Stroke s) step words n outside = stroke_stays step.w step.h s words n outside
-step_stays line.Phase step words n outside = refl
+step_stays other step words n outside = refl
 
 pub line_stays : (script : List Line) (donation k n : ℕ) (l : Line) → slice_get script k ≡ Some l
     → let step = step_of (static script donation k) (static script donation (k + 1)) l in is_set_by l step (n % step.w)
@@ -64,8 +65,7 @@ pub line_stays : (script : List Line) (donation k n : ℕ) (l : Line) → slice_
     → slice_index (words_after script donation (k + 1)) n ≡ slice_index (words_after script donation k) n
 line_stays script donation k n l here outside =
     let step : Step = step_of (static script donation k) (static script donation (k + 1)) l in
-    ap (λ (ws : List ℕ). slice_index ws n) (sym (words_next script donation k l step here refl))
-    ∙ step_stays l step (words_after script donation k) n outside
+    rw (← words_next script donation k l step here refl) (step_stays l step (words_after script donation k) n outside)
 
 -- ---- a line whose words the ink and the known stages have
 
@@ -92,27 +92,24 @@ stroke_sets : (w h : ℕ) (s : Stroke) (words : List ℕ) (n : ℕ) → whole w 
     → slice_index (stroked (record { w = w; h = h }) s words) n ≡ place_colour w s n
 stroke_sets w h s words n inside room =
     let told : n < length words = grind (arith, nat_tests) in
-    ap (λ (ws : List ℕ). get_or ws n 0) (stroke_set w h s words) ∙ word_at (whole w h s) (place_colour w s) words n told
-    ∙ ap (λ b. cond b (place_colour w s n) (get_or words n 0)) inside
+    rw (stroke_set w h s words, word_at (whole w h s) (place_colour w s) words n told, inside) refl
 
 pub line_inked : (sight : Sight) (script : List Line) (donation k : ℕ) (l : Line) (step : Step) → donation ≤ 8388608
     → HasStages script donation sight.ink → HasStage sight (words_after script donation (k + 1))
     → IsAt script donation k l step → IsLineInked sight step l
 line_inked sight script donation k (line.Call (Buffer w h)) step most has next at = λ took n first inside.
-    let words : List ℕ = words_after script donation k in
-    subst (MayHold sight n)
-    (ap (λ (ws : List ℕ). slice_index ws n)
-    (sym (words_next script donation k (line.Call (Buffer w h)) step at.here at.is))
-    ∙ ap (λ b. slice_index (cond b (cleared step.w step.h words) words) n) took
-    ∙ cleared_sets step.w step.h words n inside)
+    rw (
+      ← words_next script donation k (line.Call (Buffer w h)) step at.here at.is,
+      took,
+      cleared_sets step.w step.h (words_after script donation k) n inside,
+    ) at
     (left_may_hold sight script donation (k + 1) has next n)
-line_inked sight script donation k (line.Call other) step most has next at = tt
-line_inked sight script donation k line.Phase step most has next at = tt
 line_inked sight script donation k (line.Stroke s) step most has next at = λ n inside.
     let words : List ℕ = words_after script donation k in
     let room : step.w * step.h ≤ length words =
     omega (arith, at.sized.inside, (in_table script donation k most).long) in
-    subst (MayHold sight n)
-    (ap (λ (ws : List ℕ). slice_index ws n) (sym (words_next script donation k (line.Stroke s) step at.here at.is))
-    ∙ stroke_sets step.w step.h s words n inside room)
-    (left_may_hold sight script donation (k + 1) has next n)
+    rw (
+      ← words_next script donation k (line.Stroke s) step at.here at.is,
+      stroke_sets step.w step.h s words n inside room,
+    ) at (left_may_hold sight script donation (k + 1) has next n)
+line_inked sight script donation k other step most has next at = tt

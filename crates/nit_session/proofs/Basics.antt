@@ -1,8 +1,9 @@
 -- What lemmas use: the words of clauses, the library's lemmas, and those of the crates below.
+pub use Rattle.nit_events.proofs.ForCallers.{either}
 pub use Rattle.nit_journal.proofs.ForCallers.{holds_of, second_none, serve_accepted, serve_refused}
-pub use Rattle.nit_session.specs.Terms.{AccountModel, Answered, AreRising, Destroy, IsMachine}
-pub use Rattle.nit_session.specs.Terms.{Session, by_call, by_status, has_view, list_any, refusal}
+pub use Rattle.nit_session.specs.Terms.{AccountModel, AreRising, Destroy, IsMachine, Session}
+pub use Rattle.nit_session.specs.Terms.{by_call, by_status, has_view, list_any, refusal}
 pub use Rattle.std.proofs.Common.{Bool, List, None, [], ap, arith, cond, false, filter, length}
-pub use Rattle.std.proofs.Common.{rules, sym, ◌∙◌}
-pub use Rattle.std.proofs.lemmas.Bool.{eqb-true, false≢true, ne_eqb}
+pub use Rattle.std.proofs.Common.{refl, rules, sym, ◌∙◌}
+pub use Rattle.std.proofs.lemmas.Bool.{cases_eq, eq-eqb, eqb-true, false≢true, ne_eqb}
 pub use Rattle.std.proofs.lemmas.Fn.{filter_same}

@@ -1,11 +1,11 @@
 -- The handles of a session, and what is kept of it.
 use Rattle.nit_session.proofs.Basics.{AccountModel, AreRising, Bool, Destroy, IsMachine, List, None}
-use Rattle.nit_session.proofs.Basics.{Session, [], ap, arith, by_call, by_status, cond, eqb-true}
-use Rattle.nit_session.proofs.Basics.{false, false≢true, filter, has_view, holds_of, length}
-use Rattle.nit_session.proofs.Basics.{list_any, ne_eqb, refusal, second_none, serve_accepted}
-use Rattle.nit_session.proofs.Basics.{serve_refused}
-use Rattle.std.proofs.Common.{length-append, not, refl, true, ℕ, ◌++◌, ◌+◌, ◌-◌, ◌<◌, ◌==◌, ◌||◌}
-use Rattle.std.proofs.Common.{◌∷◌, ◌≡◌, ◌≤◌}
+use Rattle.nit_session.proofs.Basics.{Session, [], ap, arith, by_call, by_status, cases_eq, cond}
+use Rattle.nit_session.proofs.Basics.{either, eq-eqb, eqb-true, false, false≢true, filter, has_view}
+use Rattle.nit_session.proofs.Basics.{holds_of, length, list_any, ne_eqb, refusal, second_none}
+use Rattle.nit_session.proofs.Basics.{serve_accepted, serve_refused}
+use Rattle.std.proofs.Common.{inl, inr, length-append, not, refl, true, ℕ, ◌++◌, ◌+◌, ◌-◌, ◌<◌}
+use Rattle.std.proofs.Common.{◌==◌, ◌∷◌, ◌≡◌, ◌≤◌}
 use Rattle.nit_events.specs.declared.call.Reply.TheVariants as reply
 
 -- a call that is refused, and one that is not
@@ -32,12 +32,10 @@ rising_lower low from (h ∷ hs) next l r = (omega (arith, r.0), r.1)
 pub rising_fewer : (test : ℕ → Bool) (low : ℕ) (hs : List ℕ) (next : ℕ) → AreRising low hs next
     → AreRising low (filter test hs) next
 rising_fewer test low [] next r = r
-rising_fewer test low (h ∷ hs) next r = go (test h) (rising_fewer test (h + 1) hs next r.1)
-  where
-    go : (b : Bool) → AreRising (h + 1) (filter test hs) next
-        → AreRising low (cond b (h ∷ filter test hs) (filter test hs)) next
-    go true more = (r.0, more)
-    go false more = rising_lower low (h + 1) (filter test hs) next (omega (arith, r.0)) more
+rising_fewer test low (h ∷ hs) next r =
+    let more = rising_fewer test (h + 1) hs next r.1 in
+    either (λ ks. AreRising low ks next) (test h) (h ∷ filter test hs) (filter test hs) (r.0, more)
+    (rising_lower low (h + 1) (filter test hs) next (omega (arith, r.0)) more)
 
 -- these handles without one of them
 abbrev pub without : ℕ → List ℕ → List ℕ
@@ -52,16 +50,13 @@ without_below v low (h ∷ hs) next l r =
 -- a handle stands once among those that rise
 pub one_less : (v low : ℕ) (hs : List ℕ) (next : ℕ) → AreRising low hs next → list_any (λ h. h == v) hs ≡ true
     → length (without v hs) + 1 ≡ length hs
-one_less v low [] next r held = absurd (false≢true held)
-one_less v low (h ∷ hs) next r held = go (h == v) refl held (one_less v (h + 1) hs next r.1)
-  where
-    go : (b : Bool) → (h == v) ≡ b → (b || list_any (λ k. k == v) hs) ≡ true
-        → (list_any (λ k. k == v) hs ≡ true → length (without v hs) + 1 ≡ length hs)
-        → length (cond (not b) (h ∷ without v hs) (without v hs)) + 1 ≡ length (h ∷ hs)
-    go true e held more =
-        let at = eqb-true h v e in
-        omega (arith, ap length (without_below v (h + 1) hs next (omega arith) r.1))
-    go false e held more = omega (arith, more held)
+one_less v low [] next r held = cc
+one_less v low (h ∷ hs) next r held =
+    elim (cases_eq h v) [
+      | inl at ↦ rw (eq-eqb h v at) (omega (arith, ap length (without_below v (h + 1) hs next (omega arith) r.1)))
+      | inr other ↦ rw (ne_eqb h v other)
+          (omega (arith, one_less v (h + 1) hs next r.1 (rw (ne_eqb h v other) at held)))
+    ]
 
 -- ---- what is kept of the session
 
