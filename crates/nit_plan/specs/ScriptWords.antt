@@ -48,11 +48,6 @@ static script donation k = (painted_from (blank donation) (take k script)).sessi
 abbrev pub words_after : List Line → ℕ → ℕ → List ℕ
 words_after script donation k = (painted_from (blank donation) (take k script)).words
 
--- a session without what items do to it, as that of a script is: no event is queued, and none is
--- lost
-abbrev pub session_of_script : Session → Session
-session_of_script s = record s { queue = []; lost = 0 }
-
 -- the words that a whole script leaves
 abbrev pub words_left : List Line → ℕ → List ℕ
 words_left script donation = (painted_from (blank donation) script).words

@@ -20,7 +20,7 @@ pub use Rattle.nit_plan.specs.Plan.{plan_of_script, session_after, step_of, step
 pub use Rattle.nit_plan.specs.Plan.{words_by_step}
 pub use Rattle.nit_plan.specs.ScriptWords.{HasStages, script_ink, stages_from, stages_within}
 pub use Rattle.nit_plan.specs.ScriptWords.{Painting, after_line, blank, colours, ink, painted_from}
-pub use Rattle.nit_plan.specs.ScriptWords.{session_of_script, session_size, static, table_size}
+pub use Rattle.nit_plan.specs.ScriptWords.{session_size, static, table_size}
 pub use Rattle.nit_plan.specs.ScriptWords.{words_after, words_after_call, words_left}
 pub use Rattle.nit_plan.specs.Strokes.{IsStrokeInked, cleared, is_in_area, is_stroked, is_within}
 pub use Rattle.nit_plan.specs.Strokes.{place_colour}
