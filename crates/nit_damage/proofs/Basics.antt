@@ -4,25 +4,24 @@ pub use Rattle.nit_damage.specs.Terms.{IfSome, IsApart, IsCut, IsCutStep, IsDivi
 pub use Rattle.nit_damage.specs.Terms.{IsOnScreen, IsPieceOf, IsScreenRectangle, IsScreenSize}
 pub use Rattle.nit_damage.specs.Terms.{IsSkip, IsStack, IsTrue, Job, LiesIn, MatchOption, NoPair}
 pub use Rattle.nit_damage.specs.Terms.{Piece, Point, Rectangle, SlotView, StackModel, Strips}
-pub use Rattle.nit_damage.specs.Terms.{ViewRef, bar_part, begun_cutter, covered, covers, fold}
-pub use Rattle.nit_damage.specs.Terms.{has_slot, in_bar, in_front_of, is_behind, is_of_gone}
-pub use Rattle.nit_damage.specs.Terms.{is_of_moved, is_owned, is_slot, job_at, job_to_come}
-pub use Rattle.nit_damage.specs.Terms.{jobs_to_come, once, option_map, option_map_or, owner_in}
-pub use Rattle.nit_damage.specs.Terms.{part_below_bar, piece_times, pieces_left, place_of, point}
-pub use Rattle.nit_damage.specs.Terms.{position_or_len, rectangle, same_slot, slice_get}
-pub use Rattle.nit_damage.specs.Terms.{slot_view_covers, slot_view_in, spans, times, times_all}
-pub use Rattle.nit_damage.specs.Terms.{to_come, view_ref, weight, weight_of, with_pixels}
+pub use Rattle.nit_damage.specs.Terms.{ViewRef, bar_part, begun_cutter, covered, covers, has_slot}
+pub use Rattle.nit_damage.specs.Terms.{in_bar, in_front_of, is_behind, is_of_gone, is_of_moved}
+pub use Rattle.nit_damage.specs.Terms.{is_owned, is_slot, job_at, job_to_come, jobs_to_come, once}
+pub use Rattle.nit_damage.specs.Terms.{option_map, option_map_or, owner_in, part_below_bar}
+pub use Rattle.nit_damage.specs.Terms.{piece_times, pieces_left, place_of, point, position_or_len}
+pub use Rattle.nit_damage.specs.Terms.{rectangle, same_slot, slice_get, slot_view_covers}
+pub use Rattle.nit_damage.specs.Terms.{slot_view_in, spans, times, times_all, to_come, view_ref}
+pub use Rattle.nit_damage.specs.Terms.{weight, weight_of, with_pixels}
 pub use Rattle.nit_rect.proofs.ForCallers.{IsSpanned, IsWithin, and_true, covers_none, no_pixels}
 pub use Rattle.nit_rect.proofs.ForCallers.{pixels_of, same_tests, spans_holds, spans_tells, within}
 pub use Rattle.nit_stack.proofs.ForCallers.{found_fails, slot_at}
-pub use Rattle.std.proofs.Common.{None, Some, ap, arith, length, refl, subst, sym, ◌∙◌}
-pub use Rattle.std.proofs.Math.Nat.{pow-suc}
-pub use Rattle.std.proofs.lemmas.Bool.{and_parts, eq-eqb, eqb-true, false_from_ne_true, not-true}
+pub use Rattle.std.proofs.Common.{None, Some, ap, arith, length, refl, sym, ◌∙◌}
+pub use Rattle.std.proofs.Math.Nat.{mul-le-mul_right, pow-suc}
+pub use Rattle.std.proofs.lemmas.Bool.{and_parts, cond_both, eqb-true, false_from_ne_true, not-true}
 pub use Rattle.std.proofs.lemmas.Bool.Decides.{nat_tests}
 pub use Rattle.std.proofs.lemmas.Int.{ints}
 pub use Rattle.std.proofs.lemmas.List.{drop_all, get_or-append-add, get_or-map, get_or_append_left}
 pub use Rattle.std.proofs.lemmas.List.{get_or_push, length-map, length-take, map-append, take_all}
 pub use Rattle.std.proofs.lemmas.List.Elements.{All-append, All-cons, All-nil}
-pub use Rattle.std.proofs.lemmas.List.Folds.{fold-map}
-pub use Rattle.std.proofs.lemmas.List.Sums.{get_or-le-sum_by, sum_by-append}
-pub use Rattle.std.proofs.lemmas.Option.{slice_get_within}
+pub use Rattle.std.proofs.lemmas.List.Sums.{get_or-le-sum_by, sum_by-append, sum_by-cons}
+pub use Rattle.std.proofs.lemmas.Option.{IfSome_then, slice_get_within}

@@ -1,8 +1,8 @@
 -- Worked rows of the sets of pixels, computed from the definitions.
-use Rattle.std.proofs.Common.{None, Some, [], false, pos, refl, true, ℕ, ◌∷◌, ◌≡◌}
-use Rattle.nit_damage.proofs.Basics.{Rectangle, SlotView, StackModel, ViewRef, begun_cutter}
-use Rattle.nit_damage.proofs.Basics.{is_of_gone, is_of_moved, is_owned, place_of, point, rectangle}
-use Rattle.nit_damage.proofs.Basics.{to_come}
+use Rattle.nit_damage.proofs.Basics.{None, Rectangle, SlotView, Some, StackModel, ViewRef}
+use Rattle.nit_damage.proofs.Basics.{begun_cutter, is_of_gone, is_of_moved, is_owned, place_of}
+use Rattle.nit_damage.proofs.Basics.{point, rectangle, refl, to_come}
+use Rattle.std.proofs.Common.{[], false, pos, true, ℕ, ◌∷◌, ◌≡◌}
 
 abbrev seat : ℕ → Rectangle → SlotView
 seat k r = record { slot = k; view = record { sid = 0; handle = k; rect = r; ox = pos 0; oy = pos 0; title = [] } }

@@ -1,10 +1,10 @@
 -- Rectangles of the screen.
 use Rattle.nit_damage.proofs.Basics.{HasPixels, IsOnScreen, IsScreenRectangle, IsSpanned, IsStack}
 use Rattle.nit_damage.proofs.Basics.{IsWithin, LiesIn, Point, Rectangle, StackModel, and_parts}
-use Rattle.nit_damage.proofs.Basics.{and_true, bar_part, covers, false_from_ne_true, in_bar, ints}
-use Rattle.nit_damage.proofs.Basics.{not-true, part_below_bar, rectangle, same_tests, spans}
-use Rattle.nit_damage.proofs.Basics.{spans_holds, spans_tells, within}
-use Rattle.std.proofs.Common.{ap, arith, false, not, pos, true, ℕ, ◌+◌, ◌-◌, ◌≡◌, ◌≤◌, ◌<ℤ◌, ◌≤ℤ◌}
+use Rattle.nit_damage.proofs.Basics.{and_true, ap, arith, bar_part, covers, false_from_ne_true}
+use Rattle.nit_damage.proofs.Basics.{in_bar, ints, not-true, part_below_bar, rectangle, same_tests}
+use Rattle.nit_damage.proofs.Basics.{spans, spans_holds, spans_tells, within}
+use Rattle.std.proofs.Common.{false, not, pos, true, ℕ, ◌+◌, ◌-◌, ◌<ℤ◌, ◌≡◌, ◌≤ℤ◌, ◌≤◌}
 
 -- a pixel in rows of the screen, from one row on
 pub record IsAmong (width from high : ℕ) (p : Point) : Type 0 where
@@ -27,18 +27,6 @@ rows_hold width from high p is = and_true
     (spans_holds (pos 0) width p.x record { low = is.left; high = omega (arith, ints) })
     (spans_holds (pos from) high p.y record { low = is.top; high = omega (arith, ints) })
 
-in_bar_tells : (bar : ℕ) (p : Point) → in_bar bar p ≡ true → p.y <ℤ pos bar
-in_bar_tells bar p is = omega (arith, ints)
-
-in_bar_holds : (bar : ℕ) (p : Point) → p.y <ℤ pos bar → in_bar bar p ≡ true
-in_bar_holds bar p is = grind (arith, ints)
-
-below_bar_holds : (bar : ℕ) (p : Point) → pos bar ≤ℤ p.y → in_bar bar p ≡ false
-below_bar_holds bar p is = grind (arith, ints)
-
-below_bar_tells : (bar : ℕ) (p : Point) → in_bar bar p ≡ false → pos bar ≤ℤ p.y
-below_bar_tells bar p is = omega (arith, ints)
-
 pub below_on_screen : (s : StackModel) (p : Point) → s.bar ≤ s.height → covers (part_below_bar s) p ≡ true
     → IsOnScreen s.width s.height p
 below_on_screen s p fits is =
@@ -52,12 +40,14 @@ bar_on_screen s p fits is =
     (among.left, among.right, among.top, omega (arith, ints))
 
 pub below_not_in_bar : (s : StackModel) (p : Point) → covers (part_below_bar s) p ≡ true → in_bar s.bar p ≡ false
-below_not_in_bar s p is = below_bar_holds s.bar p (rows_tell s.width s.bar (s.height - s.bar) p is).top
+below_not_in_bar s p is =
+    let among = rows_tell s.width s.bar (s.height - s.bar) p is in
+    grind (arith, ints)
 
 pub bar_in_bar : (s : StackModel) (p : Point) → covers (bar_part s) p ≡ true → in_bar s.bar p ≡ true
 bar_in_bar s p is =
-    let among : IsAmong s.width 0 s.bar p = rows_tell s.width 0 s.bar p is in
-    in_bar_holds s.bar p (omega (arith, ints))
+    let among = rows_tell s.width 0 s.bar p is in
+    grind (arith, ints)
 
 -- on the screen the part below the bar is what the bar leaves
 pub below_is : (s : StackModel) (p : Point) → s.bar ≤ s.height → IsOnScreen s.width s.height p
@@ -65,24 +55,17 @@ pub below_is : (s : StackModel) (p : Point) → s.bar ≤ s.height → IsOnScree
 below_is s p fits on = same_tests (covers (part_below_bar s) p) (not (in_bar s.bar p))
     (λ is. ap not (below_not_in_bar s p is))
     (λ out.
-    let left = on.0 in
-    let right = on.1 in
-    let bottom = on.3 in
-    let top : pos s.bar ≤ℤ p.y = below_bar_tells s.bar p (not-true (in_bar s.bar p) out) in
+    let above = not-true (in_bar s.bar p) out in
     rows_hold s.width s.bar (s.height - s.bar) p record {
-      left = left;
-      right = right;
-      top = top;
-      bottom =
-          omega (arith, ints);
+      left = on.0;
+      right = on.1;
+      top = omega (arith, ints);
+      bottom = omega (arith, ints, on.3);
     })
 
 pub bar_is : (s : StackModel) (p : Point) → IsOnScreen s.width s.height p → covers (bar_part s) p ≡ in_bar s.bar p
-bar_is s p on = same_tests (covers (bar_part s) p) (in_bar s.bar p)
-    (bar_in_bar s p)
-    (λ is.
-    let low : p.y <ℤ pos s.bar = in_bar_tells s.bar p is in
-    rows_hold s.width 0 s.bar p record { left = on.0; right = on.1; top = on.2; bottom = omega (arith, ints) })
+bar_is s p on = same_tests (covers (bar_part s) p) (in_bar s.bar p) (bar_in_bar s p)
+    (λ is. rows_hold s.width 0 s.bar p record { left = on.0; right = on.1; top = on.2; bottom = omega (arith, ints) })
 
 -- off the screen neither part has the pixel
 pub below_off : (s : StackModel) (p : Point) → s.bar ≤ s.height → (IsOnScreen s.width s.height p → ⊥)
@@ -93,20 +76,14 @@ pub bar_off : (s : StackModel) (p : Point) → s.bar ≤ s.height → (IsOnScree
     → covers (bar_part s) p ≡ false
 bar_off s p fits off = false_from_ne_true (covers (bar_part s) p) (λ is. off (bar_on_screen s p fits is))
 
--- the bar leaves rows of the screen
-pub bar_fits : (s : StackModel) → IsStack s → s.bar ≤ s.height
-bar_fits s is = let low = is.bar.1 in omega arith
-
 -- what lies below the bar is a rectangle of the screen
 pub on_screen : (s : StackModel) (r : Rectangle) → IsStack s → HasPixels r → LiesIn r (part_below_bar s)
     → IsScreenRectangle r
 on_screen s r is some lie =
     let edges : IsWithin r (part_below_bar s) = within r (part_below_bar s) some lie in
-    let left = edges.left in
-    let right = edges.right in
-    let top = edges.top in
-    let bottom = edges.bottom in
-    let wide = is.screen.1 in
-    let high = is.screen.3 in
-    let low = is.bar.1 in
-    record { left = edges.left; top = omega (arith, ints); right = omega (arith, ints); bottom = omega (arith, ints) }
+    record {
+      left = edges.left;
+      top = omega (arith, ints);
+      right = omega (arith, ints, is.screen.1);
+      bottom = omega (arith, ints, is.screen.3, is.bar.1);
+    }

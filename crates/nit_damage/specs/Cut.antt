@@ -36,8 +36,9 @@ pub record IsCutStep (from : ℕ) (s : StackModel) (j : Job) (old new : List Job
   pub fewer : weight (length s.views) new
       < weight (length s.views) old + weight_of (length s.views) j
 
--- A rectangle's next view is further back, behind views that have no pixel in common with it: it
--- fits where it did, comes as often, and what it may still give is no more.
+-- The second rectangle with its next view may take the place of the first: it fits where the first
+-- did, comes as often, and what it may still give is no more. So it is where views are passed over
+-- that have no pixel in common with the rectangle.
 pub record IsSkip (s : StackModel) (j j' : Job) : Type 0 where
   pub fits : (k : ℕ) → IsJob s k j → IsJob s k j'
   pub count : (from : ℕ) (p : Point) → job_to_come from s p j ≡ job_to_come from s p j'

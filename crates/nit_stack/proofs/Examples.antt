@@ -1,7 +1,8 @@
 -- Worked rows of the stack, computed from the definitions.
-use Rattle.std.proofs.Common.{Bool, [], eqb, false, negsuc, pos, refl, true, ℕ, ◌∷◌, ◌≡◌}
-use Rattle.nit_stack.proofs.Basics.{Bare, Black, Size, View, Word, moved, point, put_above}
-use Rattle.nit_stack.proofs.Basics.{put_back, put_front, rectangle, source}
+use Rattle.nit_stack.proofs.Basics.{Bare, Black, Bool, Size, View, Word, [], eqb, false, moved}
+use Rattle.nit_stack.proofs.Basics.{point, put_above, put_back, put_front, rectangle, refl, source}
+use Rattle.nit_stack.proofs.Basics.{true}
+use Rattle.std.proofs.Common.{negsuc, pos, ℕ, ◌∷◌, ◌≡◌}
 
 -- a view that shows a buffer of 4 by 2 from (-2, -1) on
 abbrev reaching : View

@@ -2,8 +2,8 @@
 use Rattle.nit_stack.proofs.Basics.{All-nil, All-replicate, IsBufferSize, IsScreenSize, IsSlotView}
 use Rattle.nit_stack.proofs.Basics.{IsStack, List, View, [], ap, arith, empty_stack, inl, length}
 use Rattle.nit_stack.proofs.Basics.{length-replicate, map, no_size, refl, replicate, size}
-use Rattle.nit_stack.proofs.Basics.{slot_view, stack_model, suc, sym}
-use Rattle.std.proofs.Common.{zero, ℕ, ◌∙◌, ◌∷◌, ◌≡◌, ◌≤◌}
+use Rattle.nit_stack.proofs.Basics.{stack_model, suc, zero}
+use Rattle.std.proofs.Common.{ℕ, ◌∷◌, ◌≡◌, ◌≤◌}
 
 sizes_are : (n : ℕ) → map size (replicate n (0, 0)) ≡ replicate n no_size
 sizes_are zero = refl
@@ -13,16 +13,13 @@ pub opened_as : (order : List ℕ) (slots : List View) (sizes : List (ℕ × ℕ
     → order ≡ [] → length slots ≡ most → sizes ≡ replicate sessions (0, 0) → layers ≡ replicate sessions 0
     → stack_model order slots sizes layers w h 0 ≡ empty_stack w h sessions most
 opened_as order slots sizes layers w h sessions most none room no_sizes no_layers =
-    let s = ap (map size) no_sizes ∙ sizes_are sessions in
-    let v = ap (map (slot_view slots)) none in
-    λ i. record { views = v i; sizes = s i; layers = no_layers i; width = w; height = h; bar = 0; most = room i }
+    rw (none, room, no_sizes, no_layers, sizes_are sessions) refl
 
 pub opened_stands : (w h sessions most : ℕ) → IsScreenSize w h → (1 ≤ sessions) × (sessions ≤ 16) → most ≤ 1024
     → IsStack (empty_stack w h sessions most)
-opened_stands w h sessions most screen many few =
+opened_stands w h sessions most screen many below =
     let n = length-replicate sessions no_size in
     let m = length-replicate {A = ℕ} sessions 0 in
-    let low : 1 ≤ h = screen.2 in
     record {
       slots = tt;
       names = tt;
@@ -30,8 +27,8 @@ opened_stands w h sessions most screen many few =
       seats = All-nil (IsSlotView most (length (replicate sessions no_size)));
       sizes = All-replicate IsBufferSize sessions no_size (omega arith, omega arith);
       layers = All-replicate (λ (l : ℕ). l ≤ 7) sessions 0 (omega arith);
-      sessions = (omega (arith, n), omega (arith, n), m ∙ sym n);
+      sessions = (omega (arith, n), omega (arith, n), cc);
       screen = screen;
-      bar = (inl refl, omega arith);
-      room = few;
+      bar = (inl refl, screen.2);
+      room = below;
     }

@@ -1,16 +1,14 @@
-use Rattle.nit_damage.proofs.Lemmas.{HasPixels, both_lie, cut_in_four, pixels_of, refl, sym, uncut}
-use Rattle.nit_damage.proofs.Lemmas.{wider, ◌∙◌}
+use Rattle.nit_damage.proofs.Lemmas.{both_lie, cut_in_four, pixels_of, refl, uncut, wider}
 use Rattle.nit_damage.proofs.cutting.cut_out.Goals as goal
 
 pub returns-then-area-eq0-clause-cut : goal.returns-then-area-eq0-clause-cut
 returns-then-area-eq0-clause-cut c =
     uncut c.args.at c.args.rect c.args.by c.meet-part.result c.args.jobs.now.items _ c.meet-part.ensures.both
-    (sym c.area.ensures ∙ c.if-area-eq0.true) c.put_in.ensures.items
+    (rw c.area.ensures at c.if-area-eq0.true) c.put_in.ensures.items
 
 pub strips-rest-requires-clause-screen : goal.strips-rest-requires-clause-screen
 strips-rest-requires-clause-screen c =
-    let some : HasPixels c.meet-part.result =
-    pixels_of c.meet-part.result (λ none. c.if-area-eq0.false (c.area.ensures ∙ none)) in
+    let some = pixels_of c.meet-part.result (rw c.area.ensures at c.if-area-eq0.false) in
     c.requires.screen (wider c.meet-part.result c.args.rect some
     (both_lie c.args.rect c.args.by c.meet-part.result c.meet-part.ensures.both))
 
@@ -19,8 +17,7 @@ strips-rest-requires-clause-inside c = both_lie c.args.rect c.args.by c.meet-par
 
 pub returns-clause-cut : goal.returns-clause-cut
 returns-clause-cut c =
-    let some : HasPixels c.meet-part.result =
-    pixels_of c.meet-part.result (λ none. c.if-area-eq0.false (c.area.ensures ∙ none)) in
+    let some = pixels_of c.meet-part.result (rw c.area.ensures at c.if-area-eq0.false) in
     cut_in_four c.args.at c.args.rect c.args.by c.meet-part.result c.strips-rest.result c.args.jobs.now.items _
     c.meet-part.ensures.both some c.strips-rest.ensures
-    (rw (c.put_in-5.ensures.items, c.put_in-4.ensures.items, c.put_in-3.ensures.items, c.put_in-2.ensures.items) (refl))
+    (rw (c.put_in-5.ensures.items, c.put_in-4.ensures.items, c.put_in-3.ensures.items, c.put_in-2.ensures.items) refl)

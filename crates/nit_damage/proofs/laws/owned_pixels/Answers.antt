@@ -1,8 +1,5 @@
-use Rattle.nit_damage.proofs.Lemmas.{owned_behind, owned_by_none}
+use Rattle.nit_damage.proofs.Lemmas.{arith, owned_behind, unowned}
 use Rattle.nit_damage.proofs.laws.owned_pixels.Goals as goal
 
-pub returns-clause-owned : goal.returns-clause-owned
-returns-clause-owned c = owned_behind
-
-pub returns-clause-none : goal.returns-clause-none
-returns-clause-none c = owned_by_none
+pub returns : goal.returns
+returns c = record { owned = owned_behind; none = λ s k p gone. grind (arith, unowned k p s.views gone) }

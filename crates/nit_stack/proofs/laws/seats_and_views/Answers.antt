@@ -1,21 +1,14 @@
-use Rattle.nit_stack.proofs.Lemmas.{any_named, any_session, owner_of_views, views_closed}
-use Rattle.nit_stack.proofs.Lemmas.{views_put_back, views_put_front}
+use Rattle.nit_stack.proofs.Lemmas.{is_session, is_view, list_any-map, map-put_back, owner_of_views}
+use Rattle.nit_stack.proofs.Lemmas.{view_layer, views_closed, views_put_front}
 use Rattle.nit_stack.proofs.laws.seats_and_views.Goals as goal
 
-pub returns-clause-put_front : goal.returns-clause-put_front
-returns-clause-put_front c = views_put_front
-
-pub returns-clause-put_back : goal.returns-clause-put_back
-returns-clause-put_back c = views_put_back
-
-pub returns-clause-closed : goal.returns-clause-closed
-returns-clause-closed c = views_closed
-
-pub returns-clause-session : goal.returns-clause-session
-returns-clause-session c = any_session
-
-pub returns-clause-named : goal.returns-clause-named
-returns-clause-named c = any_named
-
-pub returns-clause-owner : goal.returns-clause-owner
-returns-clause-owner c = owner_of_views
+pub returns : goal.returns
+returns c =
+    record {
+      put_front = views_put_front;
+      put_back = λ layer. map-put_back (λ s. s.view) (view_layer layer);
+      closed = views_closed;
+      session = λ sid. list_any-map (is_session sid) (λ s. s.view);
+      named = λ sid handle. list_any-map (is_view sid handle) (λ s. s.view);
+      owner = owner_of_views;
+    }

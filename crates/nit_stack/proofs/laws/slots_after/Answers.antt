@@ -1,27 +1,19 @@
-use Rattle.nit_stack.proofs.Lemmas.{has-above, has-back, has-changed, has-front, has-put_front}
-use Rattle.nit_stack.proofs.Lemmas.{has-without, without_none, without_one}
+use Rattle.nit_stack.proofs.Lemmas.{Put-back, Put-front, has-above, has-changed, has-moved}
+use Rattle.nit_stack.proofs.Lemmas.{has-put_front, has-without, put_own_back, put_own_front}
+use Rattle.nit_stack.proofs.Lemmas.{without_none, without_one}
 use Rattle.nit_stack.proofs.laws.slots_after.Goals as goal
 
-pub returns-clause-push_front : goal.returns-clause-push_front
-returns-clause-push_front c = has-put_front
-
-pub returns-clause-remove : goal.returns-clause-remove
-returns-clause-remove c = has-without
-
-pub returns-clause-changed : goal.returns-clause-changed
-returns-clause-changed c = has-changed
-
-pub returns-clause-front : goal.returns-clause-front
-returns-clause-front c = has-front
-
-pub returns-clause-back : goal.returns-clause-back
-returns-clause-back c = has-back
-
-pub returns-clause-above : goal.returns-clause-above
-returns-clause-above c = has-above
-
-pub returns-clause-one_less : goal.returns-clause-one_less
-returns-clause-one_less c = without_one
-
-pub returns-clause-none_left : goal.returns-clause-none_left
-returns-clause-none_left c = without_none
+pub returns : goal.returns
+returns c =
+    record {
+      push_front = has-put_front;
+      remove = has-without;
+      changed = has-changed;
+      front = λ j k layer seats there.
+          has-moved j k (put_own_front layer) seats there (λ s. Put-front layer (layer s) s);
+      back = λ j k layer seats there.
+          has-moved j k (put_own_back layer) seats there (λ s. Put-back layer (layer s) s);
+      above = has-above;
+      one_less = without_one;
+      none_left = without_none;
+    }

@@ -1,21 +1,15 @@
-use Rattle.nit_stack.proofs.Lemmas.{views_above, views_backed, views_changed, views_fronted}
-use Rattle.nit_stack.proofs.Lemmas.{views_moved, views_without}
+use Rattle.nit_stack.proofs.Lemmas.{is_slot, moved_to, views_above, views_backed}
+use Rattle.nit_stack.proofs.Lemmas.{views_changed, views_fronted, views_without, without}
 use Rattle.nit_stack.proofs.laws.slots_and_names.Goals as goal
 
-pub returns-clause-removed : goal.returns-clause-removed
-returns-clause-removed c = views_without
-
-pub returns-clause-changed : goal.returns-clause-changed
-returns-clause-changed c = views_changed
-
-pub returns-clause-moved : goal.returns-clause-moved
-returns-clause-moved c = views_moved
-
-pub returns-clause-front : goal.returns-clause-front
-returns-clause-front c = views_fronted
-
-pub returns-clause-back : goal.returns-clause-back
-returns-clause-back c = views_backed
-
-pub returns-clause-above : goal.returns-clause-above
-returns-clause-above c = views_above
+pub returns : goal.returns
+returns c =
+    record {
+      removed = views_without;
+      changed = views_changed;
+      moved = λ k sid handle put put_view seats h along.
+          moved_to k sid handle put put_view seats h (λ a e. along a (without (is_slot k) seats));
+      front = views_fronted;
+      back = views_backed;
+      above = views_above;
+    }

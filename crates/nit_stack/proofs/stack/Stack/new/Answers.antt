@@ -1,5 +1,5 @@
-use Rattle.std.proofs.Common.{arith, length, rules, subst, sym, ◌≡◌}
-use Rattle.nit_stack.proofs.Lemmas.{IsStack, opened_as, opened_stands}
+use Rattle.std.proofs.Common.{arith, length, rules, ◌≡◌}
+use Rattle.nit_stack.proofs.Lemmas.{opened_as, opened_stands}
 use Rattle.nit_stack.proofs.stack.Stack.new.Goals as goal
 
 pub invariant_of-result : goal.invariant_of-result
@@ -9,10 +9,7 @@ invariant_of-result c =
     let room : length c.in_ok-slots.slots.items ≡ c.args.most =
     omega (arith, c.in_ok-slots.ensures.len, c.in_ok-slots.slots.ok.0) in
     record {
-      standing = subst (λ s. IsStack s)
-          (sym (opened_as c.in_ok-order.order.items c.in_ok-slots.slots.items c.in_ok-sizes.sizes.items
-          c.in_ok-layers.layers.items c.args.width c.args.height c.args.sessions c.args.most
-          c.in_ok-order.ensures.items room sizes layers))
+      standing = rw (opened_as _ _ _ _ _ _ c.args.sessions c.args.most c.in_ok-order.ensures.items room sizes layers)
           (opened_stands c.args.width c.args.height c.args.sessions c.args.most c.requires.screen c.requires.sessions
           c.requires.most);
       space = omega (arith, room, c.in_ok-order.ensures.capacity);

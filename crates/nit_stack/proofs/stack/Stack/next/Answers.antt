@@ -1,4 +1,4 @@
-use Rattle.std.proofs.Common.{◌+◌, ◌∙◌}
+use Rattle.std.proofs.Common.{◌+◌}
 use Rattle.nit_stack.proofs.Lemmas.{ref_behind, ref_stands}
 use Rattle.nit_stack.proofs.stack.Stack.next.Goals as goal
 
@@ -6,8 +6,8 @@ pub returns-clause-place : goal.returns-clause-place
 returns-clause-place c i =
     let result = rw (c.as_slice-2.ensures.value, c.place_of-place.ensures.place, c.as_slice.ensures.value) at
     c.ref_at.ensures in
-    rw (← c.self.view_is) (λ at. result ∙ ref_behind c.self.inside.slots.items c.self.inside.order.items c.args.v i
-    c.self.invariant.standing.slots at)
+    rw (← c.self.view_is, result) (ref_behind c.self.inside.slots.items c.self.inside.order.items c.args.v i
+    c.self.invariant.standing.slots)
 
 pub returns-clause-stands : goal.returns-clause-stands
 returns-clause-stands c =

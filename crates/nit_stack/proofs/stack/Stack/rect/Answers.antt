@@ -1,31 +1,19 @@
-use Rattle.nit_stack.proofs.Lemmas.{SlotView, Some, View, ap, arith, fresh, get_or_default}
-use Rattle.nit_stack.proofs.Lemmas.{option_map, ref_slot, seat_at, seat_found, slot_kept, sym, ◌∙◌}
+use Rattle.nit_stack.proofs.Lemmas.{ap, arith, option_map, slot_kept, view_at, view_in}
 use Rattle.nit_stack.proofs.stack.Stack.rect.Goals as goal
 
 pub index-requires : goal.index-requires
 index-requires c =
-    let kept = slot_kept _ c.self.inside.slots.items _ _ _ _ _ c.args.v.0 c.self.invariant.standing
-    (rw (← c.self.view_is) at c.requires) in
+    let kept = slot_kept c.self.inside c.args.v.0 c.self.invariant.standing (rw (← c.self.view_is) at c.requires) in
     omega (arith, kept.0, c.self.inside.slots.ok.0)
 
 pub returns-clause-rect : goal.returns-clause-rect
 returns-clause-rect c =
-    let there = rw (← c.self.view_is) at c.requires in
-    let kept = slot_kept _ c.self.inside.slots.items _ _ _ _ _ c.args.v.0 c.self.invariant.standing there in
-    let at = c.index.ensures ∙ get_or_default c.self.inside.slots.items c.args.v.0 c.index.result.now (fresh 0 0)
-    kept.0 in
-    rw (← c.self.view_is) (ap (option_map (λ (s : SlotView). s.view.rect))
-    (seat_found c.self.inside.slots.items c.args.v.0 c.self.inside.order.items there)
-    ∙ ap (λ (u : View). Some u.rect) (sym at))
+    let view = view_in c.self.inside c.args.v.0 c.index.result.now c.self.invariant.standing
+    (rw (← c.self.view_is) at c.requires) c.index.ensures in
+    rw (← c.self.view_is) (ap (option_map (λ s. s.view.rect)) view)
 
 pub returns-clause-place : goal.returns-clause-place
 returns-clause-place c i =
-    let there = rw (← c.self.view_is) at c.requires in
-    let kept = slot_kept _ c.self.inside.slots.items _ _ _ _ _ c.args.v.0 c.self.invariant.standing there in
-    let at = c.index.ensures ∙ get_or_default c.self.inside.slots.items c.args.v.0 c.index.result.now (fresh 0 0)
-    kept.0 in
-    rw (← c.self.view_is)
-    (λ is. ap (option_map (λ (s : SlotView). s.view.rect))
-    (seat_at c.self.inside.slots.items c.self.inside.order.items i c.args.v.0
-    (ref_slot c.self.inside.slots.items c.self.inside.order.items i c.args.v is))
-    ∙ ap (λ (u : View). Some u.rect) (sym at))
+    let view = view_at c.self.inside i c.args.v c.index.result.now c.self.invariant.standing
+    (rw (← c.self.view_is) at c.requires) c.index.ensures in
+    rw (← c.self.view_is) (λ at. ap (option_map (λ s. s.view.rect)) (view at))

@@ -1,36 +1,25 @@
-use Rattle.nit_stack.proofs.Lemmas.{IsStack, arith, changed_as, keeps_changed, length-set, refl}
-use Rattle.nit_stack.proofs.Lemmas.{slot_kept, subst, sym, with_title}
+use Rattle.nit_stack.proofs.Lemmas.{arith, keeps_changed, length-set, refl, rewritten, slot_kept}
+use Rattle.nit_stack.proofs.Lemmas.{with_title}
 use Rattle.nit_stack.proofs.stack.Stack.title.Goals as goal
 
 pub index_mut-requires : goal.index_mut-requires
 index_mut-requires c =
-    let kept = slot_kept _ c.self.inside.slots.items _ _ _ _ _ c.args.v.0 c.self.invariant.standing
-    (rw (← c.self.view_is) at c.requires) in
+    let kept = slot_kept c.self.inside c.args.v.0 c.self.invariant.standing (rw (← c.self.view_is) at c.requires) in
     omega (arith, kept.0, c.self.inside.slots.ok.0)
 
 pub invariant_of-self : goal.invariant_of-self
 invariant_of-self c =
-    let kept = slot_kept _ c.self.inside.slots.items _ _ _ _ _ c.args.v.0 c.self.invariant.standing
-    (rw (← c.self.view_is) at c.requires) in
+    let views = rewritten c.self.inside c.args.v.0 (with_title c.args.t) c.index_mut.result.now
+    c.self.invariant.standing (rw (← c.self.view_is) at c.requires) c.index_mut.ensures.value in
     record {
-      standing = subst (λ s. IsStack s)
-          (sym (changed_as _ c.self.inside.slots.items _ _ _ _ _ c.args.v.0 c.index_mut.result.now (with_title c.args.t)
-          kept.0 c.index_mut.ensures.value))
+      standing = rw (views, length-set)
           (keeps_changed _ c.args.v.0 (with_title c.args.t) c.self.invariant.standing (λ v. (refl, refl))
-          (λ a is. record {
-            slot = is.slot;
-            session = is.session;
-            column = is.column;
-            row = is.row;
-            rect =
-                is.rect;
-          }));
+          (λ a is. assumption is));
       space = rw length-set c.self.invariant.space;
     }
 
 pub returns : goal.returns
 returns c =
-    let kept = slot_kept _ c.self.inside.slots.items _ _ _ _ _ c.args.v.0 c.self.invariant.standing
-    (rw (← c.self.view_is) at c.requires) in
-    rw (← c.self.view_is) (changed_as c.self.inside.order.items c.self.inside.slots.items c.self.inside.sizes.items _ _
-    _ _ c.args.v.0 c.index_mut.result.now (with_title c.args.t) kept.0 c.index_mut.ensures.value)
+    let views = rewritten c.self.inside c.args.v.0 (with_title c.args.t) c.index_mut.result.now
+    c.self.invariant.standing (rw (← c.self.view_is) at c.requires) c.index_mut.ensures.value in
+    rw (← c.self.view_is, views, length-set) refl

@@ -1,28 +1,19 @@
-use Rattle.nit_stack.proofs.Lemmas.{Some, ap, arith, fresh, get_or_default, ref_slot, seat_at}
-use Rattle.nit_stack.proofs.Lemmas.{seat_found, slot_kept, sym, ◌∙◌}
+use Rattle.nit_stack.proofs.Lemmas.{arith, slot_kept, view_at, view_in}
 use Rattle.nit_stack.proofs.stack.Stack.view.Goals as goal
 
 pub index-requires : goal.index-requires
 index-requires c =
-    let kept = slot_kept _ c.self.inside.slots.items _ _ _ _ _ c.args.v.0 c.self.invariant.standing
-    (rw (← c.self.view_is) at c.requires) in
+    let kept = slot_kept c.self.inside c.args.v.0 c.self.invariant.standing (rw (← c.self.view_is) at c.requires) in
     omega (arith, kept.0, c.self.inside.slots.ok.0)
 
 pub returns-clause-value : goal.returns-clause-value
 returns-clause-value c =
-    let there = rw (← c.self.view_is) at c.requires in
-    let kept = slot_kept _ c.self.inside.slots.items _ _ _ _ _ c.args.v.0 c.self.invariant.standing there in
-    let at = c.index.ensures ∙ get_or_default c.self.inside.slots.items c.args.v.0 c.index.result.now (fresh 0 0)
-    kept.0 in
-    rw (← c.self.view_is) (seat_found c.self.inside.slots.items c.args.v.0 c.self.inside.order.items there
-    ∙ ap (λ u. Some (record { slot = c.args.v.0; view = u })) (sym at))
+    let view = view_in c.self.inside c.args.v.0 c.index.result.now c.self.invariant.standing
+    (rw (← c.self.view_is) at c.requires) c.index.ensures in
+    rw (← c.self.view_is) view
 
 pub returns-clause-place : goal.returns-clause-place
 returns-clause-place c i =
-    let there = rw (← c.self.view_is) at c.requires in
-    let kept = slot_kept _ c.self.inside.slots.items _ _ _ _ _ c.args.v.0 c.self.invariant.standing there in
-    let at = c.index.ensures ∙ get_or_default c.self.inside.slots.items c.args.v.0 c.index.result.now (fresh 0 0)
-    kept.0 in
-    rw (← c.self.view_is) (λ is. seat_at c.self.inside.slots.items c.self.inside.order.items i c.args.v.0
-    (ref_slot c.self.inside.slots.items c.self.inside.order.items i c.args.v is)
-    ∙ ap (λ u. Some (record { slot = c.args.v.0; view = u })) (sym at))
+    let view = view_at c.self.inside i c.args.v c.index.result.now c.self.invariant.standing
+    (rw (← c.self.view_is) at c.requires) c.index.ensures in
+    rw (← c.self.view_is) view
