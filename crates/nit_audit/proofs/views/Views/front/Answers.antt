@@ -24,5 +24,6 @@ returns c =
     on_ok c.put_in.result (λ put. ap (views_at c.self.inside.records) put ∙ rw (← c.self.view_is, c.take_out.ensures)
     (moves (is_view c.args.sid c.args.handle) (put_front (λ v. layer c.args.config.now v.sid)
     (layer c.args.config.now c.args.sid)) c.self.inside.records c.self.inside.keys.items _ c.in-Some.key found
-    (fronted c.self.inside.records _ c.in-Some.key c.front_place-place.result (λ v. layer c.args.config.now v.sid) _ at)))
+    (fronted c.self.inside.records _ c.in-Some.key c.front_place-place.result
+    (λ v. layer c.args.config.now v.sid) _ at)))
     c.put_in.ensures.put
