@@ -43,12 +43,8 @@ pub one_stream : (w h v g : ℕ) (a b : List (List ℕ)) → IsPictureSize w h �
     → AllByRecursion (IsPicture w h) a → AllByRecursion (IsPicture v g) b
     → stream w h a ≡ stream v g b → (w ≡ v) × (h ≡ g) × (a ≡ b)
 one_stream w h v g a b s s' all_a all_b e =
-    let w0 : w % 256 ≡ v % 256 = ap (λ (l : List ℕ). slice_index l 4) e in
-    let w1 : w / 256 ≡ v / 256 = ap (λ (l : List ℕ). slice_index l 5) e in
-    let h0 : h % 256 ≡ g % 256 = ap (λ (l : List ℕ). slice_index l 6) e in
-    let h1 : h / 256 ≡ g / 256 = ap (λ (l : List ℕ). slice_index l 7) e in
-    let width : w ≡ v = same_number w v w0 w1 in
-    let height : h ≡ g = same_number h g h0 h1 in
+    let width : w ≡ v = same_number w v (cc) (cc) in
+    let height : h ≡ g = same_number h g (cc) (cc) in
     let rest = ap (drop 8) e in (
       width,
       height,
@@ -68,19 +64,18 @@ same_cut : (width height : ℕ) (r : Rectangle) (a b : List ℕ) → LiesIn r (s
 unfolding crop_place
 same_cut width height r a b lies some agree =
     let i = within r (screen width height) some lies in
-    same_map (λ k. slice_index a (crop_place width r k)) (λ k. slice_index b (crop_place width r k)) 0 (r.w * r.h)
-    (λ k low high.
-    let c = in_cut r k some (omega arith) in
+    same_map (λ k. slice_index a (crop_place width r k)) (λ k. slice_index b (crop_place width r k)) (r.w * r.h)
+    (λ k below.
+    let c = in_cut r k some below in
     agree (nat_abs r.x + k % r.w) (nat_abs r.y + k / r.w)
     (and_true (spans_at r.x r.w (k % r.w) i.left c.across) (spans_at r.y r.h (k / r.w) i.top c.down)))
 
 same_cuts : (width height : ℕ) (r : Rectangle) (a b : List (List ℕ)) → LiesIn r (screen width height) → HasPixels r
     → AllAgree width r a b → map (crop width r) a ≡ map (crop width r) b
 same_cuts width height r [] [] lies some all = refl
-same_cuts width height r [] (y ∷ b) lies some all = absurd all
-same_cuts width height r (x ∷ a) [] lies some all = absurd all
 same_cuts width height r (x ∷ a) (y ∷ b) lies some (all_x, all) =
     rw (same_cut width height r x y lies some all_x, same_cuts width height r a b lies some all) refl
+same_cuts width height r a b lies some all = absurd all
 
 pub same_film : (width height : ℕ) (r : Rectangle) (a b : List (List ℕ)) → LiesIn r (screen width height) → HasPixels r
     → AllAgree width r a b → stream r.w r.h (map (crop width r) a) ≡ stream r.w r.h (map (crop width r) b)

@@ -1,8 +1,8 @@
+pub mod Pictures
 pub mod Tiles
 pub mod TileDifferences
 pub mod PixelRows
 pub mod ReaderSteps
-pub mod Pictures
 pub mod RunsRead
 pub mod TilesRead
 pub mod RecordsRead

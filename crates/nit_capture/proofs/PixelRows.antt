@@ -1,12 +1,11 @@
 -- Pixels that stand side by side in a row.
 use Rattle.nit_capture.proofs.Basics.{IsPictureSize, List, ap, append-nil, append_assoc, arith}
-use Rattle.nit_capture.proofs.Basics.{cases_Bool, cases_lt, differs, div-mul-add, drop, ext_get_or}
-use Rattle.nit_capture.proofs.Basics.{false, get_or-drop, get_or-map-range_with_len, get_or-take}
-use Rattle.nit_capture.proofs.Basics.{high, inl, inr, left_of, length-drop}
-use Rattle.nit_capture.proofs.Basics.{length-map-range_with_len, length-take}
+use Rattle.nit_capture.proofs.Basics.{cases_lt, differs, div-mul-add, drop, false, fill_by_all}
+use Rattle.nit_capture.proofs.Basics.{get_or-drop, get_or-take, high, inl, inr, left_of}
+use Rattle.nit_capture.proofs.Basics.{length-drop, length-map-range_with_len, length-take}
 use Rattle.nit_capture.proofs.Basics.{map-range_with_len_more, mod-mul-add, mul-add-lt, mul-le}
-use Rattle.nit_capture.proofs.Basics.{range_with_len, slice_index, take-put_mid, tile_count}
-use Rattle.nit_capture.proofs.Basics.{tile_pixels, top_of, wide}
+use Rattle.nit_capture.proofs.Basics.{range_with_len, slice_index, take-put_mid, tile_count, top_of}
+use Rattle.nit_capture.proofs.Basics.{true_from_ne_false, wide}
 use Rattle.std.proofs.Common.{[], length, map, mul_comm, refl, suc, sym, take, true, zero, ℕ, ◌*◌}
 use Rattle.std.proofs.Common.{◌++◌, ◌+◌, ◌-◌, ◌<◌, ◌∙◌, ◌∷◌, ◌≡◌, ◌≤◌}
 use Rattle.nit_capture.specs.Tiles.{area, place, row_place}
@@ -36,16 +35,13 @@ map_joined f g m (suc n) same =
 pub part_long : (p : List ℕ) (at n : ℕ) → at + n ≤ length p → length (take n (drop at p)) ≡ n
 part_long p at n le = omega (arith, length-take n (drop at p), length-drop at p)
 
+pub part_at : (p : List ℕ) (at n j : ℕ) → j < n → slice_index (take n (drop at p)) j ≡ slice_index p (at + j)
+part_at p at n j lt = get_or-take n (drop at p) j 0 lt ∙ get_or-drop at p j 0
+
 -- the words of a list from one place on
 pub part_is : (p : List ℕ) (at n : ℕ) → at + n ≤ length p
     → take n (drop at p) ≡ map (λ j. slice_index p (at + j)) (range_with_len 0 n)
-part_is p at n le =
-    let long = part_long p at n le in
-    ext_get_or 0 (take n (drop at p)) (map (λ j. slice_index p (at + j)) (range_with_len 0 n))
-    (rw (long, length-map-range_with_len) refl) (λ i lt.
-    let below : i < n = omega (arith, long) in
-    rw (get_or-take n (drop at p) i 0 below, get_or-drop at p i 0)
-    (sym (get_or-map-range_with_len (λ j. slice_index p (at + j)) 0 n i i 0 below (omega arith))))
+part_is p at n le = fill_by_all _ (take n (drop at p)) n 0 (part_long p at n le) (part_at p at n)
 
 -- ---- the rows of a tile
 
@@ -64,9 +60,6 @@ row_within w h t row some below lt =
     omega (arith, last, W.some)
 
 -- ---- rows of two pictures
-
-part_at : (p : List ℕ) (at n j : ℕ) → j < n → slice_index (take n (drop at p)) j ≡ slice_index p (at + j)
-part_at p at n j lt = get_or-take n (drop at p) j 0 lt ∙ get_or-drop at p j 0
 
 -- two pictures have the same pixels in the first rows of tile t
 abbrev pub SameRows : ℕ → ℕ → ℕ → List ℕ → List ℕ → Type 0
@@ -96,18 +89,15 @@ pub row_differs : (w h t row : ℕ) (a b : List ℕ) → 1 ≤ w → t < tile_co
     → (take (wide w t) (drop (row_place w t row) a) ≡ take (wide w t) (drop (row_place w t row) b) → ⊥)
     → differs w h a b t ≡ true
 unfolding area
-row_differs w h t row a b some below lt size_a size_b ne = elim (cases_Bool (differs w h a b t)) [
-  | inl differ ↦ differ
-  | inr alike ↦
-      let at : ℕ = row_place w t row in
-      let within = row_within w h t row some below lt in
-      absurd (ne (
-      rw (part_is a at (wide w t) (omega (arith, size_a)), part_is b at (wide w t) (omega (arith, size_b)))
-      (same_map (λ j. slice_index a (at + j)) (λ j. slice_index b (at + j)) 0 (wide w t) (λ j low high_.
-      let inside = mul-add-lt row (wide w t) j (high w h t) lt (omega arith) in
-      rw (← place_in_row w t row j (omega arith)) (same_pixel w h a b t alike (row * wide w t + j)
-      (omega (arith, mul_comm (wide w t) (high w h t))))))))
-]
+row_differs w h t row a b some below lt size_a size_b ne =
+    let at : ℕ = row_place w t row in
+    let within = row_within w h t row some below lt in
+    true_from_ne_false _ (λ alike. ne (
+    rw (part_is a at (wide w t) (omega (arith, size_a)), part_is b at (wide w t) (omega (arith, size_b)))
+    (same_map _ _ (wide w t) (λ j small.
+    let inside = mul-add-lt row (wide w t) j (high w h t) lt small in
+    rw (← place_in_row w t row j small) (same_pixel w h a b t alike (row * wide w t + j)
+    (omega (arith, mul_comm (wide w t) (high w h t))))))))
 
 -- ---- bounds
 
@@ -116,11 +106,6 @@ pub place_small : (w h : ℕ) → IsPictureSize w h → w * h ≤ 786432
 place_small w h s = mul-le w h 1024 768 s.columns s.rows
 
 -- ---- a row that was copied
-
-pub part_taken : (w h t row : ℕ) (p : List ℕ) → 1 ≤ w → t < tile_count w h → row < high w h t → length p ≡ w * h
-    → length (take (wide w t) (drop (row_place w t row) p)) ≡ wide w t
-part_taken w h t row p some below lt size =
-    part_long p (row_place w t row) (wide w t) (omega (arith, row_within w h t row some below lt, size))
 
 -- A row was written behind the rows before it.
 pub row_put : (f g : ℕ → ℕ) (row wide k : ℕ) (words part : List ℕ) → row * wide + wide ≤ length words
@@ -132,17 +117,6 @@ row_put f g row wide k words part room before is same =
     let next = next_row row wide in
     take-put_mid (row * wide) k words part ((row + 1) * wide) (omega (arith, next, long)) (omega (arith, room))
     ∙ rw (before, is, next) (sym (map_joined f g (row * wide) wide same))
-
-pub row_copied : (w h t row k : ℕ) (p words part : List ℕ) → 1 ≤ w → t < tile_count w h → row < high w h t
-    → length p ≡ w * h → row * wide w t + wide w t ≤ length words
-    → take (row * wide w t) words ≡ tile_pixels w p t 0 (row * wide w t)
-    → part ≡ take (wide w t) (drop (row_place w t row) p)
-    → take ((row + 1) * wide w t) (put_mid (row * wide w t) k words part) ≡ tile_pixels w p t 0 ((row + 1) * wide w t)
-row_copied w h t row k p words part some below lt size room before is =
-    row_put (λ j. slice_index p (place w t j)) (λ j. slice_index p (row_place w t row + j)) row (wide w t) k words part
-    room before
-    (is ∙ part_is p (row_place w t row) (wide w t) (omega (arith, row_within w h t row some below lt, size)))
-    (λ j lt. rw (place_in_row w t row j lt) refl)
 
 -- a row of a tile has room among so many words
 pub row_room : (w h t row : ℕ) → 1 ≤ w → t < tile_count w h → row < high w h t → row * wide w t + wide w t ≤ 256

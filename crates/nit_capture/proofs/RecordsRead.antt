@@ -1,33 +1,36 @@
 -- A whole record read back.
-use Rattle.nit_capture.proofs.Basics.{All, AllByRecursion, Bool, HasRecord, IsWord, List, None}
-use Rattle.nit_capture.proofs.Basics.{Some, ap, append_assoc, area, arith, behind_two, bind_some}
-use Rattle.nit_capture.proofs.Basics.{cases_Bool, cases_eq, cases_lt, changed_tiles, cond, differs}
-use Rattle.nit_capture.proofs.Basics.{eq-eqb, filter, flat_map, get_or_past, is_next, nat_tests}
-use Rattle.nit_capture.proofs.Basics.{ne_eqb, place, range_with_len, record_at, run_bytes, runs}
-use Rattle.nit_capture.proofs.Basics.{slice_index, some_pair_parts, tile, tile_at, tile_count}
-use Rattle.nit_capture.proofs.Basics.{two_bytes}
-use Rattle.std.proofs.Common.{[], false, inl, inr, length, refl, suc, sym, true, zero, ℕ, ◌%◌, ◌*◌}
-use Rattle.std.proofs.Common.{◌++◌, ◌+◌, ◌/◌, ◌<◌, ◌^◌, ◌∙◌, ◌∷◌, ◌≡◌, ◌≤◌, ◌⊎◌}
+use Rattle.nit_capture.proofs.Basics.{All, All-filter, Bool, HasRecord, IsPicture, List, None, Some}
+use Rattle.nit_capture.proofs.Basics.{ap, append_assoc, area, arith, behind_two, bind_some}
+use Rattle.nit_capture.proofs.Basics.{cases_Bool, cases_eq, changed_tiles, eq-eqb, false, filter}
+use Rattle.nit_capture.proofs.Basics.{flat_map, get_or-range_with_len, inl, inr, is_next, length}
+use Rattle.nit_capture.proofs.Basics.{length-range_with_len, lit<, nat_tests, ne_eqb, no_word}
+use Rattle.nit_capture.proofs.Basics.{range_with_len, record_at, refl, run_bytes, runs, slice_index}
+use Rattle.nit_capture.proofs.Basics.{some_pair_parts, suc, sym, tile, tile_at, tile_count, true}
+use Rattle.nit_capture.proofs.Basics.{two_bytes, ℕ, ◌∙◌}
+use Rattle.std.proofs.Common.{[], zero, ◌%◌, ◌*◌, ◌++◌, ◌+◌, ◌/◌, ◌<◌, ◌∷◌, ◌≡◌, ◌≤◌, ◌⊎◌}
 use Rattle.nit_capture.specs.Film.{record_of, tile_bytes}
 use Rattle.nit_capture.specs.RecordReaders.{tiles_at, turn_at}
-use Rattle.nit_capture.proofs.TileDifferences.{differs_at, differs_where, same_tile, same_pixel}
-use Rattle.nit_capture.proofs.RunsRead.{AreBytes}
-use Rattle.nit_capture.proofs.TilesRead.{IsOther, TookTile, tile_take, tile_again, rest_changed}
-use Rattle.nit_capture.proofs.TilesRead.{same_differs, same_filter, same_pixels, other_tile}
-use Rattle.nit_capture.proofs.TilesRead.{same_picture}
+use Rattle.nit_capture.specs.Tiles.{differs}
+use Rattle.nit_capture.proofs.Pictures.{tile_fits}
+use Rattle.nit_capture.proofs.TileDifferences.{SameTile, same_differs, same_filter, same_picture}
+use Rattle.nit_capture.proofs.TileDifferences.{same_pixel, same_pixels, same_tile}
+use Rattle.nit_capture.proofs.RunsRead.{AreBytes, tile_spelled, tile_spelled_back}
+use Rattle.nit_capture.proofs.TilesRead.{Frame, IsButFor, others_stay, pixels_again, pixels_take}
+
+-- the numbers of the tiles from t on, so many, that differ
+abbrev rest_changed : ℕ → ℕ → ℕ → ℕ → List ℕ → List ℕ → List ℕ
+rest_changed w h t count frame p = filter (differs w h frame p) (range_with_len t count)
 
 -- ---- what one turn did
 
-pub record Skipped (w h t left : ℕ) (frame bytes : List ℕ) (x : List ℕ × (ℕ × List ℕ)) : Type 0 where
-  pub is : ◌≡◌ {A = List ℕ × (ℕ × List ℕ)} (frame, (left, bytes)) x
-
-pub record Turned (w h t left : ℕ) (frame bytes : List ℕ) (x : List ℕ × (ℕ × List ℕ)) : Type 0 where
-  pub left_is : left ≡ suc x.1.0
-  pub next : is_next t bytes ≡ true
-  pub tile : tile_at w h t frame (behind_two bytes) ≡ Some (x.0, x.1.1)
+record Turned (w h t left : ℕ) (frame bytes : List ℕ) (x : List ℕ × (ℕ × List ℕ)) : Type 0 where
+  left_is : left ≡ suc x.1.0
+  next : is_next t bytes ≡ true
+  tile : tile_at w h t frame (behind_two bytes) ≡ Some (x.0, x.1.1)
 
 turn_cases : (w h t left : ℕ) (frame bytes : List ℕ) (x : List ℕ × (ℕ × List ℕ))
-    → turn_at w h t left frame bytes ≡ Some x → Skipped w h t left frame bytes x ⊎ Turned w h t left frame bytes x
+    → turn_at w h t left frame bytes ≡ Some x
+    → ◌≡◌ {A = List ℕ × (ℕ × List ℕ)} (frame, (left, bytes)) x ⊎ Turned w h t left frame bytes x
 unfolding turn_at
 turn_cases w h t left frame bytes x e = grind arith
 
@@ -37,25 +40,13 @@ two_are : (t : ℕ) (bytes : List ℕ) → AreBytes bytes → is_next t bytes �
 two_are t bytes are e = let low = are 0 in grind (arith, nat_tests)
 
 behind_are : (bytes : List ℕ) → AreBytes bytes → AreBytes (behind_two bytes)
-behind_are [] are = are
-behind_are (a ∷ []) are = λ i. are (suc i)
 behind_are (a ∷ b ∷ rest) are = λ i. are (suc (suc i))
+behind_are bytes are = λ i. lit< tt
 
 two_number : (n : ℕ) → n % 256 + n / 256 * 256 ≡ n
 two_number n = omega arith
 
 -- ---- tiles, one after another
-
--- what reading the tiles from t on did
-pub record TookTiles (w h t count left : ℕ) (frame bytes p rest : List ℕ) : Type 0 where
-  pub text : bytes ≡ flat_map (tile_bytes w h p) (rest_changed w h t count frame p) ++ rest
-  pub number : length (rest_changed w h t count frame p) ≡ left
-  pub before : (u k : ℕ) → u < t → k < area w h u → slice_index p (place w u k) ≡ slice_index frame (place w u k)
-
--- the frame that is read into
-pub record Frame (w h : ℕ) (frame : List ℕ) : Type 0 where
-  pub some : 1 ≤ w
-  pub size : length frame ≡ w * h
 
 tile_text : (w h t : ℕ) (p : List ℕ) → tile_bytes w h p t ≡ two_bytes t ++ flat_map run_bytes (runs (tile w h p t))
 unfolding tile_bytes
@@ -63,166 +54,103 @@ tile_text w h t p = refl
 
 -- the tiles behind tile t do not see what was read into it
 later_changed : (w h t count : ℕ) (frame q p : List ℕ) → 1 ≤ w → t + suc count ≡ tile_count w h
-    → ((i : ℕ) → IsOther w t 0 (area w h t) i → slice_index q i ≡ slice_index frame i)
-    → rest_changed w h (t + 1) count frame p ≡ rest_changed w h (t + 1) count q p
+    → IsButFor w h t 0 frame q → rest_changed w h (t + 1) count frame p ≡ rest_changed w h (t + 1) count q p
 later_changed w h t count frame q p some sum others =
-    same_filter (differs w h frame p) (differs w h q p) (t + 1) count
-    (λ u low high. same_differs w h frame q p u (λ k below.
-    sym (others (place w u k) (other_tile w h t u k some (omega arith) (omega arith) (λ e. absurd (omega arith))
-    below))))
+    same_filter (differs w h frame p) (differs w h q p) (t + 1) count (λ u low high.
+    same_differs w h frame q p p u
+    (others_stay w h t frame q some (omega arith) others u (omega arith) (λ e. absurd (omega arith))) (λ k below. refl))
 
-pub tiles_take : (w h count t left : ℕ) (frame bytes p rest : List ℕ) → Frame w h frame → t + count ≡ tile_count w h
+-- what reading the tiles from t on did
+record TookTiles (w h t count left : ℕ) (frame bytes p rest : List ℕ) : Type 0 where
+  text : bytes ≡ flat_map (tile_bytes w h p) (rest_changed w h t count frame p) ++ rest
+  number : length (rest_changed w h t count frame p) ≡ left
+  before : (u : ℕ) → u < t → SameTile w h u frame p
+
+tiles_take : (w h count t left : ℕ) (frame bytes p rest : List ℕ) → Frame w h frame → t + count ≡ tile_count w h
     → AreBytes bytes
     → tiles_at w h count t left frame bytes ≡ Some (p, rest) → TookTiles w h t count left frame bytes p rest
-unfolding tiles_at
+unfolding tiles_at differs
 tiles_take w h zero t zero frame bytes p rest here sum are e =
-    let s = some_pair_parts frame p bytes rest e in
-    record {
-      text = s.1;
-      number = refl;
-      before =
-          λ u k low below. ap (λ (l : List ℕ). slice_index l (place w u k)) (sym s.0);
-    }
+    let (whole, left) = some_pair_parts frame p bytes rest e in
+    record { text = left; number = refl; before = λ u low k below. rw whole refl }
 tiles_take w h zero t (suc left) frame bytes p rest here sum are e = absurd cc
 tiles_take w h (suc count) t left frame bytes p rest here sum are e =
-    let b = bind_some (turn_at w h t left frame bytes) (λ x. tiles_at w h count (t + 1) x.1.0 x.0 x.1.1) (p, rest) e in
-    elim (turn_cases w h t left frame bytes b.0 b.1) [
+    let (x, turn, after) = bind_some (turn_at w h t left frame bytes) _ (p, rest) e in
+    elim (turn_cases w h t left frame bytes x turn) [
       | inl s ↦
-          let m = tiles_take w h count (t + 1) left frame bytes p rest here (omega arith) are (rw (← s.is) at b.2) in
-          let same = same_tile w h frame p t (λ j below. sym (m.before t j (omega arith) below)) in
+          let m = tiles_take w h count (t + 1) left frame bytes p rest here (omega arith) are (rw (← s) at after) in
+          let same = same_tile w h frame p t (m.before t (omega arith)) in
           record {
             text = rw same m.text;
             number = rw same m.number;
-            before = λ u j low below. m.before u j (omega arith) below;
+            before = λ u low. m.before u (omega arith);
           }
       | inr s ↦
-          let k = tile_take w h t frame (behind_two bytes) b.0.0 b.0.1.1
-          (record { some = here.some; below = omega arith; size = here.size }) (behind_are bytes are) s.tile in
-          taken w h count t left frame bytes p rest b.0.0 b.0.1.0 b.0.1.1 here sum are s.left_is s.next k
-          (tiles_take w h count (t + 1) b.0.1.0 b.0.0 b.0.1.1 p rest
-          (record { some = here.some; size = k.size ∙ here.size }) (omega arith) k.are_bytes b.2)
+          let k = pixels_take w h t (area w h t) 0 0 no_word false frame (behind_two bytes) x.0 x.1.1 here
+          (omega arith) (omega arith) (behind_are bytes are) s.tile in
+          let m = tiles_take w h count (t + 1) x.1.0 x.0 x.1.1 p rest
+          (record { some = here.some; size = k.others.size ∙ here.size }) (omega arith) k.are_bytes after in
+          let same = m.before t (omega arith) in
+          let new = sym (same_differs w h frame frame x.0 p t (λ j below. refl) same) ∙ k.fresh in
+          let later = later_changed w h t count frame x.0 p here.some sum k.others in
+          let mine = same_pixels w h x.0 p t same in
+          let runs_are = tile_spelled (tile w h x.0 t) (behind_two bytes) x.1.1 k.text in
+          record {
+            text = rw (new, later, tile_text w h t p) (simp append_assoc (cc (two_are t bytes are s.next, m.text)));
+            number = rw (new, later) (ap suc m.number ∙ sym s.left_is);
+            before = λ u low j below.
+                others_stay w h t frame x.0 here.some (omega arith) k.others u (omega arith) (λ e. absurd (omega arith))
+                j below ∙ m.before u (omega arith) j below;
+          }
     ]
-  where
-    taken : (w h count t left : ℕ) (frame bytes p rest q : List ℕ) (still : ℕ) (middle : List ℕ) → Frame w h frame
-        → t + suc count ≡ tile_count w h → AreBytes bytes → left ≡ suc still → is_next t bytes ≡ true
-        → TookTile w h t frame (behind_two bytes) q middle → TookTiles w h (t + 1) count still q middle p rest
-        → TookTiles w h t (suc count) left frame bytes p rest
-    taken w h count t left frame bytes p rest q still middle here sum are left_is next k m =
-        let d = differs_where w h frame q t k.new in
-        let new : differs w h frame p t ≡ true =
-        differs_at w h frame p t d.pixel d.below
-        (λ same. d.unequal (same ∙ m.before t d.pixel (omega arith) d.below)) in
-        let later = later_changed w h t count frame q p here.some sum k.others in
-        let mine = same_pixels w h q p t (λ j below. sym (m.before t j (omega arith) below)) in
-        record {
-          text = rw (new, later, tile_text w h t p) (simp append_assoc (cc (two_are t bytes are next)));
-          number = rw (new, later) (ap suc m.number ∙ sym left_is);
-          before = λ u j low below. m.before u j (omega arith) below
-              ∙ k.others (place w u j) (other_tile w h t u j here.some (omega arith) (omega arith)
-              (λ e. absurd (omega arith)) below);
-        }
-
--- every word that a picture has, and 0 behind its end
-pub words_fit : (p : List ℕ) → All IsWord p → (i : ℕ) → slice_index p i < 2 ^ 24
-words_fit p all i = elim (cases_lt i (length p)) [
-  | inl below ↦ all i 0 below
-  | inr above ↦ let past : slice_index p i ≡ 0 = get_or_past p i 0 above in omega (arith, past)
-]
-
--- the frame, and what stays to be read, where the first tiles are read
-pub record Given (w h t : ℕ) (frame p : List ℕ) : Type 0 where
-  pub some : 1 ≤ w
-  pub size : length frame ≡ w * h
-  pub size_p : length p ≡ w * h
-  pub fits : (i : ℕ) → slice_index p i < 2 ^ 24
-  pub before : (u k : ℕ) → u < t → k < area w h u → slice_index p (place w u k) ≡ slice_index frame (place w u k)
 
 -- no tile from t on has a number below t
-turn_of_another : (w h t : ℕ) (frame p bytes rest : List ℕ) (us : List ℕ) → AllByRecursion (λ u. t < u) us
+turn_of_another : (w h t : ℕ) (frame p bytes rest : List ℕ) (us : List ℕ) → All (λ u. t < u) us
     → bytes ≡ flat_map (tile_bytes w h p) us ++ rest → turn_at w h t (length us) frame bytes
     ≡ Some (frame, (length us, bytes))
 unfolding turn_at tile_bytes
 turn_of_another w h t frame p bytes rest [] all e = refl
-turn_of_another w h t frame p bytes rest (u ∷ us) (lt, all) e =
-    let ne : u ≡ t → ⊥ = λ same. absurd (omega arith) in
-    rw (e, two_number u, ne_eqb u t ne) refl
+turn_of_another w h t frame p bytes rest (u ∷ us) all e =
+    let lt = all 0 0 (omega arith) in
+    rw (e, two_number u, ne_eqb u t (λ same. absurd (omega arith))) refl
 
-filter_above : (f : ℕ → Bool) (t from count : ℕ) → t < from
-    → AllByRecursion (λ u. t < u) (filter f (range_with_len from count))
-filter_above f t from zero lt = tt
-filter_above f t from (suc count) lt =
-    chosen (f from) from (filter f (range_with_len (from + 1) count)) lt
-    (filter_above f t (from + 1) count (omega arith))
-  where
-    chosen : (b : Bool) (u : ℕ) (us : List ℕ) → t < u → AllByRecursion (λ u. t < u) us
-        → AllByRecursion (λ u. t < u) (cond b (u ∷ us) us)
-    chosen true u us lt all = (lt, all)
-    chosen false u us lt all = all
+rest_above : (f : ℕ → Bool) (t count : ℕ) → All (λ u. t < u) (filter f (range_with_len (t + 1) count))
+rest_above f t count = All-filter f (λ u. t < u) (range_with_len (t + 1) count) (λ k d lt.
+    rw (get_or-range_with_len (t + 1) count k d (rw length-range_with_len at lt)) (omega arith))
 
 -- the tiles from t on are read
-abbrev AreRead : ℕ → ℕ → ℕ → ℕ → List ℕ → List ℕ → Type 0
-AreRead w h count t p rest = (frame bytes : List ℕ) → Given w h t frame p
+tiles_again : (w h count t : ℕ) (p rest frame bytes : List ℕ) → t + count ≡ tile_count w h → IsPicture w h p
+    → Frame w h frame → ((u : ℕ) → u < t → SameTile w h u frame p)
     → bytes ≡ flat_map (tile_bytes w h p) (rest_changed w h t count frame p) ++ rest
     → tiles_at w h count t (length (rest_changed w h t count frame p)) frame bytes ≡ Some (p, rest)
-
-skip_again : (w h count t : ℕ) (frame bytes p rest : List ℕ) → t + suc count ≡ tile_count w h → Given w h t frame p
-    → bytes ≡ flat_map (tile_bytes w h p) (rest_changed w h t (suc count) frame p) ++ rest
-    → differs w h frame p t ≡ false → AreRead w h count (t + 1) p rest
-    → tiles_at w h (suc count) t (length (rest_changed w h t (suc count) frame p)) frame bytes ≡ Some (p, rest)
-unfolding tiles_at
-skip_again w h count t frame bytes p rest sum g e is again =
+unfolding tiles_at turn_at differs
+tiles_again w h zero t p rest frame bytes sum picture here before e =
+    let same = same_picture w h frame p here.some here.size picture.size (λ u below. before u (omega arith)) in cc
+tiles_again w h (suc count) t p rest frame bytes sum picture here before e =
     let us : List ℕ = rest_changed w h (t + 1) count frame p in
-    let here = rw is at e in
-    let turn = turn_of_another w h t frame p bytes rest us
-    (filter_above (differs w h frame p) t (t + 1) count (omega arith)) here in
-    rw (is, turn) (again frame bytes (record {
-      some = g.some;
-      size = g.size;
-      size_p = g.size_p;
-      fits = g.fits;
-      before = λ u k low below. elim (cases_eq u t) [
-        | inl same ↦ rw same (sym (same_pixel w h frame p t is k (rw same at below)))
-        | inr ne ↦ g.before u k (omega arith) below
-      ];
-    }) here)
-
-take_again : (w h count t : ℕ) (frame bytes p rest : List ℕ) → t + suc count ≡ tile_count w h → Given w h t frame p
-    → bytes ≡ flat_map (tile_bytes w h p) (rest_changed w h t (suc count) frame p) ++ rest
-    → differs w h frame p t ≡ true → AreRead w h count (t + 1) p rest
-    → tiles_at w h (suc count) t (length (rest_changed w h t (suc count) frame p)) frame bytes ≡ Some (p, rest)
-unfolding tiles_at turn_at
-take_again w h count t frame bytes p rest sum g e is again =
-    let us : List ℕ = rest_changed w h (t + 1) count frame p in
-    let tail : List ℕ = flat_map (tile_bytes w h p) us ++ rest in
-    let mine : List ℕ = flat_map run_bytes (runs (tile w h p t)) in
-    let here : bytes ≡ two_bytes t ++ (mine ++ tail) = rw (is, tile_text w h t p, append_assoc) at e in
-    let k = tile_again w h t frame (mine ++ tail) p tail (record { some = g.some; below = omega arith; size = g.size })
-    g.fits is refl in
-    let later = later_changed w h t count frame k.picture p g.some sum k.others in
-    rw (is, here, two_number t, eq-eqb t t refl, k.is)
-    (ap (λ (vs : List ℕ). tiles_at w h count (t + 1) (length vs) k.picture tail) later ∙ again k.picture tail (record {
-      some = g.some;
-      size = k.size ∙ g.size;
-      size_p = g.size_p;
-      fits = g.fits;
-      before = λ u j low below. elim (cases_eq u t) [
-        | inl same ↦ rw same (sym (k.mine j (rw same at below)))
-        | inr ne ↦ g.before u j (omega arith) below
-            ∙ sym (k.others (place w u j) (other_tile w h t u j g.some (omega arith) (omega arith) ne below))
-      ];
-    }) (ap (λ (vs : List ℕ). flat_map (tile_bytes w h p) vs ++ rest) later))
-
-pub tiles_again : (w h count t : ℕ) (p rest : List ℕ) → t + count ≡ tile_count w h → AreRead w h count t p rest
-unfolding tiles_at
-tiles_again w h zero t p rest sum frame bytes g e =
-    let same = same_picture w h frame p g.some g.size g.size_p
-    (λ u k below_u below_k. sym (g.before u k (omega arith) below_k)) in
-    cc
-tiles_again w h (suc count) t p rest sum frame bytes g e =
-    let again = tiles_again w h count (t + 1) p rest (omega arith) in
     elim (cases_Bool (differs w h frame p t)) [
-      | inl is ↦ take_again w h count t frame bytes p rest sum g e is again
-      | inr is ↦ skip_again w h count t frame bytes p rest sum g e is again
+      | inl is ↦
+          let tail : List ℕ = flat_map (tile_bytes w h p) us ++ rest in
+          let mine : List ℕ = flat_map run_bytes (runs (tile w h p t)) ++ tail in
+          let text : bytes ≡ two_bytes t ++ mine = rw (is, tile_text w h t p, append_assoc) at e in
+          let k = pixels_again w h t (area w h t) 0 0 no_word false frame mine p tail here (omega arith) (omega arith)
+          picture is (tile_spelled_back (tile w h p t) mine tail (tile_fits w h t p picture) refl) in
+          let later = later_changed w h t count frame k.picture p here.some sum k.others in
+          let again = tiles_again w h count (t + 1) p rest k.picture tail (omega arith) picture
+          (record { some = here.some; size = k.others.size ∙ here.size }) (λ u low j below. elim (cases_eq u t) [
+            | inl same ↦ rw same (k.mine j (omega arith) (rw same at below))
+            | inr ne ↦
+                sym (others_stay w h t frame k.picture here.some (omega arith) k.others u (omega arith) ne j below)
+                ∙ before u (omega arith) j below
+          ]) (ap (λ (vs : List ℕ). flat_map (tile_bytes w h p) vs ++ rest) later) in
+          rw (is, text, two_number t, eq-eqb t t refl, k.is) (rw (← later) at again)
+      | inr is ↦
+          let text = rw is at e in
+          rw (is, turn_of_another w h t frame p bytes rest us (rest_above (differs w h frame p) t count) text)
+          (tiles_again w h count (t + 1) p rest frame bytes (omega arith) picture here (λ u low. elim (cases_eq u t) [
+            | inl same ↦ rw same (same_pixel w h frame p t is)
+            | inr ne ↦ before u (omega arith)
+          ]) text)
     ]
 
 -- ---- records
@@ -231,9 +159,6 @@ tiles_again w h (suc count) t p rest sum frame bytes g e =
 pub record_take : (w h : ℕ) (frame bytes p rest : List ℕ) → 1 ≤ w → length frame ≡ w * h → AreBytes bytes
     → record_at w h frame bytes ≡ Some (p, rest) → bytes ≡ record_of w h frame p ++ rest
 unfolding record_of
-record_take w h frame [] p rest some size are e = absurd cc
-record_take w h frame (a ∷ []) p rest some size are e = absurd cc
-record_take w h frame (a ∷ b ∷ []) p rest some size are e = absurd cc
 record_take w h frame (one ∷ low ∷ high ∷ bytes) p rest some size are e = elim (cases_eq one 1) [
   | inl is_one ↦
       let k = tiles_take w h (tile_count w h) 0 (low + high * 256) frame bytes p rest
@@ -245,6 +170,7 @@ record_take w h frame (one ∷ low ∷ high ∷ bytes) p rest some size are e = 
       cc
   | inr other ↦ let none = rw (ne_eqb one 1 other) at e in absurd cc
 ]
+record_take w h frame bytes p rest some size are e = absurd cc
 
 -- what is a record is read
 pub record_again : (w h : ℕ) (frame bytes p rest : List ℕ) → 1 ≤ w → length frame ≡ w * h
@@ -252,13 +178,8 @@ pub record_again : (w h : ℕ) (frame bytes p rest : List ℕ) → 1 ≤ w → l
 unfolding record_of
 record_again w h frame bytes p rest some size r =
     rw (r.bytes_are, two_number (length (changed_tiles w h frame p)))
-    (tiles_again w h (tile_count w h) 0 p rest (omega arith) frame _ (record {
-      some = some;
-      size = size;
-      size_p = r.picture.size;
-      fits = words_fit p r.picture.words;
-      before = λ u k low below. absurd (omega arith);
-    }) refl)
+    (tiles_again w h (tile_count w h) 0 p rest frame _ (omega arith) r.picture (record { some = some; size = size })
+    (λ u low. absurd (omega arith)) refl)
 
 -- 0 begins no record
 pub no_record : (w h : ℕ) (frame bytes p rest : List ℕ) → HasRecord w h frame bytes p rest → slice_index bytes 0 ≡ 0 → ⊥

@@ -1,21 +1,18 @@
 -- Records written from left to right.
-use Rattle.nit_capture.proofs.Basics.{All, Appends, Bool, Err, IsErr, IsPicture, IsPictureSize}
-use Rattle.nit_capture.proofs.Basics.{IsWord, List, Ok, Result, [], ap, append-nil, append_assoc}
-use Rattle.nit_capture.proofs.Basics.{area, arith, cases_Bool, changed_tiles, cond, false, filter}
-use Rattle.nit_capture.proofs.Basics.{filter-append, flat_map, flat_map-append}
-use Rattle.nit_capture.proofs.Basics.{get_or-map-range_with_len, inl, inr, length, length-append}
-use Rattle.nit_capture.proofs.Basics.{length-map-range_with_len, map, map-range_with_len_more}
-use Rattle.nit_capture.proofs.Basics.{mul-le, place, range_with_len, refl, slice_index, slice_set}
-use Rattle.nit_capture.proofs.Basics.{suc, take, take_more_set, tile, tile_bytes, true, ℕ}
-use Rattle.std.proofs.Common.{◌%◌, ◌++◌, ◌+◌, ◌/◌, ◌<◌, ◌^◌, ◌∷◌, ◌≡◌, ◌≤◌}
+use Rattle.nit_capture.proofs.Basics.{Appends, Bool, Err, IsErr, IsPictureSize, List, Ok, Result}
+use Rattle.nit_capture.proofs.Basics.{[], ap, append-nil, append_assoc, arith, cases_Bool}
+use Rattle.nit_capture.proofs.Basics.{changed_tiles, cond, false, filter}
+use Rattle.nit_capture.proofs.Basics.{filter_of_map_range_with_len_more, flat_map, flat_map-append}
+use Rattle.nit_capture.proofs.Basics.{inl, inr, length, length-append, map, map-id}
+use Rattle.nit_capture.proofs.Basics.{map-range_with_len_more, mul-le, range_with_len, refl}
+use Rattle.nit_capture.proofs.Basics.{slice_set, suc, take, take_more_set, tile_bytes, true, ℕ}
+use Rattle.std.proofs.Common.{◌%◌, ◌++◌, ◌+◌, ◌/◌, ◌<◌, ◌∷◌, ◌≡◌, ◌≤◌}
 use Rattle.nit_capture.specs.Film.{record_of}
 use Rattle.nit_capture.specs.Tiles.{tile_count, tiles_along}
-use Rattle.nit_capture.proofs.RecordsRead.{words_fit}
-use Rattle.nit_capture.proofs.TileDifferences.{range_more}
 
 pub one_changed : (f : ℕ → Bool) (n : ℕ) → filter f (range_with_len 0 (n + 1))
     ≡ filter f (range_with_len 0 n) ++ cond (f n) (n ∷ []) []
-one_changed f n = rw range_more (filter-append f (range_with_len 0 n) (n ∷ []))
+one_changed f n = simp map-id at (filter_of_map_range_with_len_more f (λ (k : ℕ). k) 0 n n (omega arith))
 
 -- ---- tiles
 
@@ -27,15 +24,6 @@ words_more f words k v lt e is =
 pub tiles_few : (w h : ℕ) → IsPictureSize w h → tile_count w h ≤ 3072
 unfolding tile_count tiles_along
 tiles_few w h s = mul-le ((w + 15) / 16) ((h + 15) / 16) 64 48 (omega (arith, s.columns)) (omega (arith, s.rows))
-
-pub map_fits : (f : ℕ → ℕ) (n : ℕ) → ((i : ℕ) → f i < 2 ^ 24) → All IsWord (map f (range_with_len 0 n))
-map_fits f n fits k d lt =
-    let size : k < n = omega (arith, length-map-range_with_len f 0 n) in
-    rw (get_or-map-range_with_len f 0 n k k d size (omega arith)) (fits k)
-
-pub tile_fits : (w h t : ℕ) (p : List ℕ) → IsPicture w h p → All IsWord (tile w h p t)
-tile_fits w h t p is = map_fits (λ j. slice_index p (place w t j)) (area w h t)
-    (λ i. words_fit p is.words (place w t i))
 
 -- what is appended behind a first part
 pub appends_behind : {T E : Type 0} (r : Result T E) (start front middle more whole now : List ℕ)

@@ -5,30 +5,18 @@ use Rattle.nit_capture.proofs.Basics.{mul-add-lt, same_from_place}
 use Rattle.nit_capture.specs.Tiles.{area, high, left_of, place, tile_count, tiles_along, top_of}
 use Rattle.nit_capture.specs.Tiles.{wide}
 
--- there is a tile in each row and column
-pub some_tiles : (n : ℕ) → 1 ≤ n → 1 ≤ tiles_along n
-unfolding tiles_along
-some_tiles n some = omega arith
-
 pub left_fits : (w t : ℕ) → 1 ≤ w → left_of w t < w
 unfolding left_of tiles_along
 left_fits w t some =
     let across : 0 < (w + 15) / 16 = omega arith in
-    let column : t % ((w + 15) / 16) < (w + 15) / 16 = mod_below t ((w + 15) / 16) across in
+    let column = mod_below t ((w + 15) / 16) across in
     omega arith
 
--- the row of a tile is one of the rows
-row_below : (w h t : ℕ) → 1 ≤ w → t < tile_count w h → t / tiles_along w < tiles_along h
-unfolding tile_count
-row_below w h t some lt =
-    let turned =
-    mul_comm (tiles_along w) (tiles_along h) in
-    div_below t (tiles_along w) (tiles_along h) (some_tiles w some) (omega (arith, lt, turned))
-
 pub top_fits : (w h t : ℕ) → 1 ≤ w → t < tile_count w h → top_of w t < h
-unfolding top_of tiles_along
+unfolding top_of tile_count tiles_along
 top_fits w h t some lt =
-    let row : t / ((w + 15) / 16) < (h + 15) / 16 = row_below w h t some lt in
+    let turned = mul_comm ((w + 15) / 16) ((h + 15) / 16) in
+    let row = div_below t ((w + 15) / 16) ((h + 15) / 16) (omega arith) (omega (arith, lt, turned)) in
     omega arith
 
 pub record Wide (w t : ℕ) : Type 0 where
@@ -38,8 +26,9 @@ pub record Wide (w t : ℕ) : Type 0 where
 
 pub wide_some : (w t : ℕ) → 1 ≤ w → Wide w t
 unfolding wide
-wide_some w t some = let within =
-    left_fits w t some in record { some = omega arith; few = omega arith; within = omega arith }
+wide_some w t some =
+    let within = left_fits w t some in
+    record { some = omega arith; few = omega arith; within = omega arith }
 
 pub record High (w h t : ℕ) : Type 0 where
   pub some : 1 ≤ high w h t
@@ -48,8 +37,9 @@ pub record High (w h t : ℕ) : Type 0 where
 
 pub high_some : (w h t : ℕ) → 1 ≤ w → t < tile_count w h → High w h t
 unfolding high
-high_some w h t some lt = let within =
-    top_fits w h t some lt in record { some = omega arith; few = omega arith; within = omega arith }
+high_some w h t some lt =
+    let within = top_fits w h t some lt in
+    record { some = omega arith; few = omega arith; within = omega arith }
 
 -- where a pixel lies within its tile
 pub record Within (w h t k : ℕ) : Type 0 where
@@ -119,8 +109,6 @@ sixteenth_below x w lt = omega arith
 pub lies_at : (w h i : ℕ) → 1 ≤ w → i < w * h → LiesAt w h i
 unfolding place area tile_count wide high left_of top_of
 lies_at w h i some lt =
-    let x : ℕ = i % w in
-    let y : ℕ = i / w in
     let turned : w * h ≡ h * w = mul_comm w h in
     let x_below : i % w < w = mod_below i w some in
     let y_below : i / w < h = div_below i w h some (omega (arith, turned)) in

@@ -1,43 +1,34 @@
 -- At the end of each phase the script's buffer has the phase's frame.
 use Rattle.nit_nested.proofs.Basics.{AllByRecursion, Buffer, CanPay, IsFrame, IsNest, Line, List}
-use Rattle.nit_nested.proofs.Basics.{NestModel, None, Painting, Refresh, ColourRun, ShowsFrames, []}
-use Rattle.nit_nested.proofs.Basics.{after_line, ap, append_assoc, arith, blank, buffer_size}
-use Rattle.nit_nested.proofs.Basics.{cases_Bool, cond, count_by, drop, false, fills}
+use Rattle.nit_nested.proofs.Basics.{NestModel, None, Painting, ShowsFrames, [], after_line, arith}
+use Rattle.nit_nested.proofs.Basics.{blank, buffer_size, cases_Bool, count_by, drop, false}
 use Rattle.nit_nested.proofs.Basics.{first_forbidden, first_session, fold-append, frame_lines}
 use Rattle.nit_nested.proofs.Basics.{frame_script, get_or, inl, inr, is_forbidden, is_phase, length}
 use Rattle.nit_nested.proofs.Basics.{length-append, length-map, length-zeros, lines_before_end, map}
-use Rattle.nit_nested.proofs.Basics.{painted_from, phases, pos, row_lines, row_runs, rows_lines}
-use Rattle.nit_nested.proofs.Basics.{subst, suc, sym, take-append-add, words_of_lines, woven, zeros}
-use Rattle.std.proofs.Common.{take, zero, ℕ, ◌*◌, ◌++◌, ◌+◌, ◌<◌, ◌∙◌, ◌∷◌, ◌≡◌, ◌≤◌}
+use Rattle.nit_nested.proofs.Basics.{painted_from, phases, suc, sym, take-append-add}
+use Rattle.nit_nested.proofs.Basics.{words_of_lines, woven, zeros}
+use Rattle.std.proofs.Common.{take, zero, ℕ, ◌*◌, ◌++◌, ◌+◌, ◌<◌, ◌∙◌, ◌∷◌, ◌≡◌, ◌≤◌, refl}
 use Rattle.nit_plan.specs.Strokes.{cleared}
 use Rattle.nit_script.specs.declared.line.Line.TheVariants as line
+use Rattle.nit_nested.proofs.FrameWords.{frame_all}
 use Rattle.nit_nested.proofs.ScriptAnswers.{kept_frames}
 use Rattle.nit_nested.proofs.GrammarLemmas.{phase_lines_more}
 use Rattle.nit_nested.proofs.FillLemmas.{Shows, line_shows, frame_shows}
 
 -- ---- where phases end
 
-fills_before : (k x y : ℕ) (rs : List ColourRun) (more : List Line) → lines_before_end k (fills x y rs ++ more)
-    ≡ length (fills x y rs) + lines_before_end k more
-fills_before k x y [] more = omega arith
-fills_before k x y (r ∷ rs) more = omega (arith, fills_before k (x + r.long) y rs more)
+-- no line ends a phase
+abbrev pub EndNone : List Line → Type 0
+EndNone lines = AllByRecursion (λ l. is_phase l ≡ false) lines
 
-rows_before : (k w y n : ℕ) (words : List ℕ) (more : List Line) → lines_before_end k (rows_lines w y n words ++ more)
-    ≡ length (rows_lines w y n words) + lines_before_end k more
-rows_before k w y zero words more = omega arith
-rows_before k w y (suc n) words more =
-    let row : List Line = row_lines y (take w words) in
-    let rest : List Line = rows_lines w (y + 1) n (drop w words) in
-    rw (append_assoc, fills_before k 0 y (row_runs (take w words)) (rest ++ more), length-append)
-    (omega (arith, rows_before k w (y + 1) n (drop w words) more))
+pub frame_ends_none : (w h : ℕ) (frame : List ℕ) → EndNone (frame_lines w h frame)
+frame_ends_none w h frame = frame_all (λ l. is_phase l ≡ false) w h (λ x y n c. refl) refl frame
 
--- no phase ends within the lines of a frame
-frame_before : (k w h : ℕ) (frame : List ℕ) (more : List Line) → lines_before_end k (frame_lines w h frame ++ more)
-    ≡ length (frame_lines w h frame) + lines_before_end k more
-frame_before k w h frame more =
-    let rows : List Line = rows_lines w 0 h frame in
-    let last : List Line = line.Call (Refresh (pos 0) (pos 0) w h) ∷ [] in
-    rw (append_assoc, rows_before k w 0 h frame (last ++ more), length-append) (omega arith)
+none_before : (k : ℕ) (lines more : List Line) → EndNone lines
+    → lines_before_end k (lines ++ more) ≡ length lines + lines_before_end k more
+none_before k [] more none = omega arith
+none_before k (line.Phase ∷ lines) more none = absurd cc
+none_before k (other ∷ lines) more none = omega (arith, none_before k lines more none.1)
 
 -- ---- lines that may stand in the script
 
@@ -62,7 +53,7 @@ behind_frame : (k w h : ℕ) (frame : List ℕ) (more : List Line) (p : Painting
     → at_end k p (frame_lines w h frame ++ more) ≡ at_end k (painted_from p (frame_lines w h frame)) more
 behind_frame k w h frame more p =
     let lines : List Line = frame_lines w h frame in
-    rw (frame_before k w h frame more, take-append-add lines more (lines_before_end k more))
+    rw (none_before k lines more (frame_ends_none w h frame), take-append-add lines more (lines_before_end k more))
     (fold-append after_line p lines (take (lines_before_end k more) more))
 
 woven_shows : (w h k : ℕ) (current : List ℕ) (frames : List (List ℕ)) (own : List Line) (p : Painting) → 0 < w
@@ -101,8 +92,7 @@ made_shows w h (f ∷ fs) own donation k some all none counted pays within =
     let p : Painting = after_line (blank donation) (line.Call (Buffer w h)) in
     let size = buffer_size (first_session donation) w h pays in
     let room : w * h ≤ length p.words =
-    subst (λ b. w * h ≤ length (cond b (cleared w h (blank donation).words) (blank donation).words)) (sym pays)
-    (cleared_room w h (blank donation).words) in
+    rw pays (cleared_room w h (blank donation).words) in
     rw (behind_frame k w h f (woven (map (frame_lines w h) fs) own) p)
     (woven_shows w h k f fs own (painted_from p (frame_lines w h f)) some all.1 (may_stand 1 own none)
     (omega (arith, counted)) (omega (arith, within))
@@ -114,11 +104,8 @@ pub kept_shows : (n : NestModel) (w h held : ℕ) (frames : List (List Line)) (o
     → lines ≡ frame_script w h frames own → (donation : ℕ) → CanPay donation n.w n.h
     → ShowsFrames n.w n.h n.frames lines donation
 kept_shows n w h held frames own lines is kept none counted are =
-    subst (λ (m : NestModel). (donation : ℕ) → CanPay donation m.w m.h → ShowsFrames m.w m.h m.frames lines donation)
-    (sym is)
-    (λ donation pays k within.
-    let all : lines ≡ frame_script w h (map (frame_lines w h) (map words_of_lines frames)) own = are
-    ∙ ap (λ (fs : List (List Line)). frame_script w h fs own) kept.lines in
-    ap (λ (ls : List Line). take (w * h) (at_end k (blank donation) ls).words) all
-    ∙ (made_shows w h (map words_of_lines frames) own donation k (omega (arith, kept.size.0)) kept.words none (counted
-    ∙ sym (length-map frames words_of_lines)) pays within).shown)
+    rw is (λ donation pays k within.
+    let all : lines ≡ frame_script w h (map (frame_lines w h) (map words_of_lines frames)) own =
+    rw (← kept.lines) are in
+    rw all (made_shows w h (map words_of_lines frames) own donation k (omega (arith, kept.size.0)) kept.words none
+    (counted ∙ sym (length-map frames words_of_lines)) pays within).shown)

@@ -1,12 +1,12 @@
 -- Deliveries are read exactly, up to three in a row.
 use Rattle.nit_report.proofs.Basics.{AllByRecursion, Delivery, Exact, FitsDelivery, FitsRouted}
 use Rattle.nit_report.proofs.Basics.{IsKind, Item, Routed, at_most_one, both, codes, deliveries_at}
-use Rattle.nit_report.proofs.Basics.{deliveries_of, delivery, delivery_spelling, eqb-true, flat_map}
-use Rattle.nit_report.proofs.Basics.{kind, one_in_front, routed_as, some_pair_parts, spaced, stops}
+use Rattle.nit_report.proofs.Basics.{deliveries_of, delivery_spelling, eqb-true, flat_map, kind}
+use Rattle.nit_report.proofs.Basics.{one_in_front, routed_as, some_pair_parts, spaced, stops}
 use Rattle.nit_report.proofs.Basics.{true≢false}
 use Rattle.std.proofs.Common.{Bool, List, None, Option, Some, [], ap, append_assoc, arith, eqb}
-use Rattle.std.proofs.Common.{false, length, length-append, refl, subst, suc, sym, true, zero, ℕ}
-use Rattle.std.proofs.Common.{◌++◌, ◌∙◌, ◌∷◌, ◌≡◌, ◌≤◌}
+use Rattle.std.proofs.Common.{false, length, length-append, refl, suc, sym, true, zero, ℕ, ◌++◌}
+use Rattle.std.proofs.Common.{◌∷◌, ◌≡◌, ◌≤◌}
 use Rattle.nit_report.specs.EntryReaders.{delivery_at, routed_at}
 use Rattle.nit_report.proofs.EventLaws.{sessions, items}
 
@@ -19,7 +19,7 @@ ends (b ∷ rest) = eqb b 10
 
 pub line_end : (rest : List ℕ) → ends rest ≡ true → (more : List ℕ) × (rest ≡ 10 ∷ more)
 line_end [] ok = absurd (true≢false (sym ok))
-line_end (b ∷ rest) ok = (rest, ap (λ (c : ℕ). c ∷ rest) (eqb-true _ _ ok))
+line_end (b ∷ rest) ok = (rest, rw (eqb-true _ _ ok) refl)
 
 -- ---- one delivery
 
@@ -34,7 +34,7 @@ one_again d rest fits ok = one.again (d.sid, d.item) rest fits ok
 
 none_at_end : (rest : List ℕ) → ends rest ≡ true → delivery_at rest ≡ None
 unfolding delivery_at
-none_at_end rest ok = ap delivery_at (line_end rest ok).1
+none_at_end rest ok = rw (line_end rest ok).1 refl
 
 -- ---- several
 
@@ -57,8 +57,8 @@ many_takes (suc n) bytes = by_first (λ rest. many_takes n rest) (delivery_at by
     by_first behind (Some (d, rest)) was =
         let t = one.takes bytes d rest was in
         let more = behind rest in record {
-          spelled = t.0 ∙ ap (λ (r : List ℕ). delivery_spelling d ++ r) more.spelled
-              ∙ sym (append_assoc (delivery_spelling d) (all (deliveries_at n rest).0) (deliveries_at n rest).1);
+          spelled = rw (append_assoc (delivery_spelling d) (all (deliveries_at n rest).0) (deliveries_at n rest).1)
+              (cc (t.0, more.spelled));
           fits = (t.1, more.fits);
           few = omega (arith, more.few);
         }
@@ -72,36 +72,23 @@ many_again : (n : ℕ) (ds : List Delivery) (rest : List ℕ) → length ds ≤ 
     → ends rest ≡ true → deliveries_at n (all ds ++ rest) ≡ (ds, rest)
 many_again zero [] rest le fits ok = refl
 many_again zero (d ∷ ds) rest le fits ok = absurd (omega arith)
-many_again (suc n) [] rest le fits ok = ap (λ (o : Option (Delivery × List ℕ)). one_in_front o (deliveries_at n) rest)
-    (none_at_end rest ok)
+many_again (suc n) [] rest le fits ok = rw (none_at_end rest ok) refl
 many_again (suc n) (d ∷ ds) rest le fits ok =
-    let first : delivery_at (all (d ∷ ds) ++ rest) ≡ Some (d, all ds ++ rest) =
-    ap delivery_at (append_assoc (delivery_spelling d) (all ds) rest)
-    ∙ one_again d (all ds ++ rest) fits.0 (stops_behind ds rest ok) in
-    let behind : deliveries_at n (all ds ++ rest) ≡ (ds, rest) = many_again n ds rest (omega arith) fits.1 ok in
-    ap (λ (o : Option (Delivery × List ℕ)). one_in_front o (deliveries_at n) (all (d ∷ ds) ++ rest)) first
-    ∙ ap (λ (p : List Delivery × List ℕ). (d ∷ p.0, p.1)) behind
+    rw (
+      append_assoc (delivery_spelling d) (all ds) rest,
+      one_again d (all ds ++ rest) fits.0 (stops_behind ds rest ok),
+      many_again n ds rest (omega arith) fits.1 ok,
+    ) refl
 
 -- ---- as an entry keeps them
 
 -- three deliveries are kept
 kept : (ds : List Delivery) → length ds ≤ 3 → deliveries_of (routed_as ds) ≡ ds
-kept [] le = refl
-kept (a ∷ []) le = refl
-kept (a ∷ b ∷ []) le = refl
-kept (a ∷ b ∷ c ∷ []) le = refl
 kept (a ∷ b ∷ c ∷ d ∷ ds) le = absurd (omega arith)
+kept ds le = refl
 
 few_deliveries : (r : Routed) → length (deliveries_of r) ≤ 3
-few_deliveries r =
-    omega (
-      arith,
-      length-append (delivery r.a ++ delivery r.b) (delivery r.c),
-      length-append (delivery r.a) (delivery r.b),
-      at_most_one r.a,
-      at_most_one r.b,
-      at_most_one r.c,
-    )
+few_deliveries r = simp length-append (omega (arith, at_most_one r.a, at_most_one r.b, at_most_one r.c))
 
 routed_takes : (bytes : List ℕ) (r : Routed) (rest : List ℕ) → routed_at bytes ≡ Some (r, rest)
     → (bytes ≡ all (deliveries_of r) ++ rest) × FitsRouted r
@@ -109,25 +96,13 @@ unfolding routed_at
 routed_takes bytes r rest e =
     let read = deliveries_at 3 bytes in
     let told = many_takes 3 bytes in
-    let same = some_pair_parts (routed_as read.0) r read.1 rest e in
-    let keeps : read.0 ≡ deliveries_of (routed_as read.0) = sym (kept read.0 told.few) in
-    let whole : bytes ≡ all (deliveries_of (routed_as read.0)) ++ rest = told.spelled
-    ∙ ap (λ (ds : List Delivery). all ds ++ read.1) keeps
-    ∙ ap (λ (t : List ℕ). all (deliveries_of (routed_as read.0)) ++ t) same.1 in
-    subst (λ (z : Routed). (bytes ≡ all (deliveries_of z) ++ rest) × FitsRouted z) same.0
-    (whole, (subst (λ (ds : List Delivery). AllByRecursion FitsDelivery ds) keeps told.fits, ap routed_as keeps))
+    let (same, left) = some_pair_parts (routed_as read.0) r read.1 rest e in
+    rw (← same, ← left, kept read.0 told.few) (told.spelled, (told.fits, refl))
 
 routed_again : (r : Routed) (rest : List ℕ) → FitsRouted r → ends rest ≡ true
     → routed_at (all (deliveries_of r) ++ rest) ≡ Some (r, rest)
 unfolding routed_at
-routed_again r rest fits ok =
-    ap (λ (p : List Delivery × List ℕ). Some (routed_as p.0, p.1))
-    (many_again 3 (deliveries_of r) rest (few_deliveries r) fits.0 ok)
-    ∙ ap (λ (z : Routed). Some (z, rest)) (sym fits.1)
+routed_again r rest fits ok = rw (many_again 3 (deliveries_of r) rest (few_deliveries r) fits.0 ok, ← fits.1) refl
 
 pub routes : Exact routed_at (λ r. all (deliveries_of r)) FitsRouted ends
-routes = record {
-  takes = λ bytes r rest e. routed_takes bytes r rest e;
-  again =
-      λ r rest fits ok. routed_again r rest fits ok;
-}
+routes = record { takes = routed_takes; again = routed_again }

@@ -1,34 +1,27 @@
 -- Entries are read exactly.
 use Rattle.nit_report.proofs.Basics.{Call, Device, Entry, Exact, FitsCall, FitsDevice, FitsEntry}
 use Rattle.nit_report.proofs.Basics.{HasOneReading, IsKind, IsReader, Reply, Routed, Takes}
-use Rattle.nit_report.proofs.Basics.{anything, both, call_again, call_at, call_spelling, call_takes}
+use Rattle.nit_report.proofs.Basics.{both, call_again, call_at, call_spelling, call_takes}
 use Rattle.nit_report.proofs.Basics.{codes, deliveries_of, device_again, device_at, device_spelling}
 use Rattle.nit_report.proofs.Basics.{device_takes, ended_again, ended_takes, entry_spelling}
-use Rattle.nit_report.proofs.Basics.{first_takes, kind, nothing, one_reading, spaced, stops}
-use Rattle.std.proofs.Common.{List, Some, ap, refl, sym, ℕ, ◌++◌, ◌∙◌, ◌∷◌, ◌≡◌}
+use Rattle.nit_report.proofs.Basics.{first_takes, kind, one_reading, spaced, stops}
+use Rattle.std.proofs.Common.{List, Some, refl, ℕ, ◌++◌, ◌∷◌, ◌≡◌}
 use Rattle.nit_report.specs.EntryReaders.{answered_at, behind_reply_at, entry_at, entry_front_at}
 use Rattle.nit_report.specs.EntryReaders.{final_at, input_entry_at, shot_entry_at}
 use Rattle.nit_events.specs.declared.entry.Entry.TheVariants as entry
-use Rattle.nit_report.proofs.EventLaws.{first_some, sessions, shots}
+use Rattle.nit_report.proofs.EventLaws.{first_some, plain_takes, sessions, shots}
 use Rattle.nit_report.proofs.DeliveryLaws.{ends, line_end, routes, stops_behind}
 use Rattle.nit_report.proofs.ReplyLaws.{replies}
 
 -- a call in front of the end of its line
 calls : Exact call_at call_spelling FitsCall ends
 calls = record {
-  takes = λ bytes c rest e. call_takes bytes c rest e;
-  again = λ c rest fits ok.
-      let e = line_end rest ok in
-      ap (λ (r : List ℕ). call_at (call_spelling c ++ r)) e.1 ∙ call_again c e.0 fits
-      ∙ ap (λ (r : List ℕ). Some (c, r)) (sym e.1);
+  takes = call_takes;
+  again = λ c rest fits ok. let e = line_end rest ok in rw e.1 (call_again c e.0 fits);
 }
 
 devices : Exact device_at device_spelling FitsDevice stops
-devices = record {
-  takes = λ bytes d rest e. device_takes bytes d rest e;
-  again =
-      λ d rest fits ok. device_again d rest fits ok;
-}
+devices = record { takes = device_takes; again = device_again }
 
 abbrev behind : Call → List ℕ
 behind c = codes " < " ++ call_spelling c
@@ -38,11 +31,7 @@ unfolding behind_reply_at
 behind_kind = kind calls behind FitsCall (codes " < ") _ (λ c h. h) (λ c h. h) (λ c. refl)
 
 behind_replies : Exact behind_reply_at behind FitsCall ends
-behind_replies = record {
-  takes = λ bytes c rest e. behind_kind.takes bytes c rest e;
-  again =
-      λ c rest fits ok. behind_kind.again c rest fits ok;
-}
+behind_replies = record { takes = behind_kind.takes; again = behind_kind.again }
 
 -- ---- kinds of entries
 
@@ -60,16 +49,13 @@ shots_taken : IsKind shot_entry_at entry_spelling FitsEntry stops (λ (n : ℕ).
 unfolding shot_entry_at
 shots_taken = kind shots entry_spelling FitsEntry (codes "shot") _ (λ n h. h) (λ n h. h) (λ n. refl)
 
-finals : IsKind final_at entry_spelling FitsEntry anything (λ (_ : Unit {0}). entry.Final)
-unfolding final_at
-finals = kind nothing entry_spelling FitsEntry (codes "final") _ (λ p h. tt) (λ p h. tt) (λ p. refl)
-
 front_takes : Takes entry_front_at entry_spelling FitsEntry
-unfolding entry_front_at
+unfolding entry_front_at final_at
 front_takes =
     first_takes answered_at _ entry_spelling FitsEntry answers.takes
     (first_takes input_entry_at _ entry_spelling FitsEntry inputs.takes
-    (first_takes shot_entry_at final_at entry_spelling FitsEntry shots_taken.takes finals.takes))
+    (first_takes shot_entry_at final_at entry_spelling FitsEntry shots_taken.takes
+    (plain_takes entry_spelling FitsEntry (codes "final") entry.Final refl tt)))
 
 front_again : (e : Entry) (rest : List ℕ) → FitsEntry e → entry_front_at (entry_spelling e ++ 10 ∷ rest)
     ≡ Some (e, 10 ∷ rest)

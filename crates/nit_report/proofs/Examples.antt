@@ -50,8 +50,7 @@ untold = refl
 clicked : entry_spelling (entry.Input (device.Press 272)
     (record {
       a = Some (record { sid = 0; item = item.Event event.FocusEnter });
-      b =
-          Some (record { sid = 0; item = item.Event (event.Press 272) });
+      b = Some (record { sid = 0; item = item.Event (event.Press 272) });
       c = None;
     }))
     ≡ codes "input press 272 > 0 focus-enter > 0 press 272"
@@ -61,8 +60,7 @@ clicked = refl
 dragged : entry_spelling (entry.Input (device.Motion 6 1)
     (record {
       a = Some (record { sid = 0; item = item.Event event.Leave });
-      b =
-          Some (record { sid = 1; item = item.Event (event.Motion 6 1) });
+      b = Some (record { sid = 1; item = item.Event (event.Motion 6 1) });
       c = None;
     }))
     ≡ codes "input motion 6 1 > 0 leave > 1 motion 6 1"

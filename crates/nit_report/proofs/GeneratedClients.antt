@@ -1,6 +1,6 @@
 -- The configuration of a generated run is within the ranges of the format.
-use Rattle.std.proofs.Common.{IsTrue, ap, arith, drop, get_or, le-leb, map, refl, subst, sym, true}
-use Rattle.std.proofs.Common.{ℕ, ◌+◌, ◌<◌, ◌∙◌, ◌≡◌, ◌≢◌}
+use Rattle.std.proofs.Common.{IsTrue, ap, arith, drop, get_or, le-leb, map, refl, true, ℕ, ◌+◌, ◌<◌}
+use Rattle.std.proofs.Common.{◌≡◌, ◌≢◌}
 use Rattle.nit_report.proofs.Basics.{IsConfiguration, IsMember, Member, client_label, decimal_digit}
 use Rattle.nit_report.proofs.Basics.{decimal_injective, false≢true, generated_member}
 use Rattle.nit_report.proofs.Basics.{get_or-map-range_with_len, is_file_name, is_label}
@@ -41,8 +41,7 @@ generated_is_configured = record {
   bar = λ there. absurd (false≢true there);
   input = refl;
   count = (omega arith, omega arith);
-  clients = λ k d few. subst IsMember (sym (client_at k d few)) (member_configured k few);
+  clients = λ k d few. rw (client_at k d few) (member_configured k few);
   labels = λ i j d less few same. labels_differ i j less few
-      (ap (λ (m : Member). m.label) (sym (client_at i d (omega arith))) ∙ same
-      ∙ ap (λ (m : Member). m.label) (client_at j d few));
+      (rw (client_at i d (omega arith), client_at j d few) at same);
 }

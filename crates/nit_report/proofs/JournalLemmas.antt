@@ -5,7 +5,7 @@ use Rattle.nit_report.proofs.Basics.{UnlessNoMemory, begins_more, entry_at, entr
 use Rattle.nit_report.proofs.Basics.{flat_map, no_reading, nothing_spelled, reads_begins}
 use Rattle.nit_report.proofs.Basics.{same_lines, same_read, spelled, taken_begins}
 use Rattle.std.proofs.Common.{Err, List, None, Ok, Result, Some, [], ap, arith, length}
-use Rattle.std.proofs.Common.{length-append, subst, sym, ℕ, ◌++◌, ◌+◌, ◌<◌, ◌∷◌, ◌≡◌, ◌≤◌}
+use Rattle.std.proofs.Common.{length-append, sym, ℕ, ◌++◌, ◌+◌, ◌<◌, ◌∷◌, ◌≡◌, ◌≤◌}
 use Rattle.nit_report.proofs.EntryLaws.{journal_reader, journal_reading}
 
 -- what a loop over the lines has read
@@ -22,29 +22,19 @@ has_read_more bytes entries rest e after so_far found =
 pub shorter : (bytes : List ℕ) (e : Entry) (rest : List ℕ) → entry_at bytes ≡ Some (e, rest)
     → length rest < length bytes
 shorter bytes e rest found =
-    let t = (journal_reader.takes bytes e rest found).0 in
-    omega (
-      arith,
-      ap length t,
-      length-append (spelled entry_spelling e) rest,
-      length-append (entry_spelling e) (10 ∷ []),
-    )
+    let long = simp length-append at (ap length (journal_reader.takes bytes e rest found).0) in
+    omega arith
 
 -- there are no more entries than bytes
 few : (entries : List Entry) → length entries ≤ length (flat_map (spelled entry_spelling) entries)
 few [] = omega arith
-few (e ∷ entries) =
-    omega (
-      arith,
-      few entries,
-      length-append (spelled entry_spelling e) (flat_map (spelled entry_spelling) entries),
-      length-append (entry_spelling e) (10 ∷ []),
-    )
+few (e ∷ entries) = let rest = few entries in simp length-append (omega arith)
 
 pub few_entries : (bytes : List ℕ) (entries : List Entry) (rest : List ℕ) → HasRead bytes entries rest
     → length entries ≤ length bytes
 few_entries bytes entries rest so_far =
-    omega (arith, few entries, ap length so_far.1, length-append (flat_map (spelled entry_spelling) entries) rest)
+    let long = simp length-append at (ap length so_far.1) in
+    omega (arith, few entries)
 
 -- a line that is not read is the first bad one
 pub first_bad : (bytes : List ℕ) (entries : List Entry) (rest : List ℕ) (line : ℕ) → HasRead bytes entries rest
@@ -88,8 +78,3 @@ pub is_bad : {V : Type 0} (view : V → List Entry) (bytes : List ℕ) (r : Resu
 is_bad view bytes (Ok v) line a h = absurd (read_and_bad bytes (view v) line a h)
 is_bad view bytes (Err (Bad n)) line a h = ap (λ (k : ℕ). Err (Bad k)) (bad_is_one bytes n line a h)
 is_bad view bytes (Err NoMemory) line a h = tt
-
--- the answer, where it is known
-pub answer_at : {V : Type 0} (view : V → List Entry) (bytes : List ℕ) (r s : Result V JournalError)
-    → IsJournalAnswer view bytes r → r ≡ s → IsJournalAnswer view bytes s
-answer_at {V = V} view bytes r s a e = subst (λ (x : Result V JournalError). IsJournalAnswer view bytes x) e a

@@ -1,19 +1,16 @@
 -- Replies are read exactly.
-use Rattle.nit_report.proofs.Basics.{Event, Exact, FitsReply, IsKind, Reply, Takes, anything, both}
-use Rattle.nit_report.proofs.Basics.{codes, first_of, first_takes, kind, nat_fields, nothing}
+use Rattle.nit_report.proofs.Basics.{Event, Exact, FitsReply, IsKind, Reply, Takes, both}
+use Rattle.nit_report.proofs.Basics.{codes, first_of, first_takes, kind, nat_fields}
 use Rattle.nit_report.proofs.Basics.{plain_at, reply_spelling, spaced, stops}
 use Rattle.std.proofs.Common.{List, Option, Some, [], refl, true, ℕ, ◌++◌, ◌≡◌}
 use Rattle.nit_report.specs.EntryReaders.{bad_at, done_at, event_reply_at, handle_at, holding_at}
 use Rattle.nit_report.specs.EntryReaders.{no_view_at, quota_at, reply_at, reserve_at}
 use Rattle.nit_events.specs.declared.call.Reply.TheVariants as reply
-use Rattle.nit_report.proofs.EventLaws.{events}
+use Rattle.nit_report.proofs.EventLaws.{events, plain_takes}
 
-plain_takes : (w : List ℕ) (r : Reply) → w ++ [] ≡ reply_spelling r → FitsReply r
+plain : (w : List ℕ) (r : Reply) → w ++ [] ≡ reply_spelling r → FitsReply r
     → Takes (plain_at w r) reply_spelling FitsReply
-plain_takes w r is fits = plain.takes
-  where
-    plain : IsKind (plain_at w r) reply_spelling FitsReply anything (λ (_ : Unit {0}). r)
-    plain = kind nothing reply_spelling FitsReply w _ (λ p h. fits) (λ p h. tt) (λ p. is)
+plain w r is fits = plain_takes reply_spelling FitsReply w r is fits
 
 takings : IsKind event_reply_at reply_spelling FitsReply stops (λ (e : Event). reply.Event e)
 unfolding event_reply_at
@@ -44,19 +41,19 @@ first f g p q = first_takes f g reply_spelling FitsReply p q
 done_takes : Takes done_at reply_spelling FitsReply
 unfolding done_at
 done_takes =
-    first (plain_at (codes "done") reply.Done) _ (plain_takes (codes "done") reply.Done refl tt)
-    (first (plain_at (codes "no-event") reply.NoEvent) _ (plain_takes (codes "no-event") reply.NoEvent refl tt)
+    first (plain_at (codes "done") reply.Done) _ (plain (codes "done") reply.Done refl tt)
+    (first (plain_at (codes "no-event") reply.NoEvent) _ (plain (codes "no-event") reply.NoEvent refl tt)
     (first (plain_at (codes "closed") reply.Closed) (plain_at (codes "killed") reply.Killed)
-    (plain_takes (codes "closed") reply.Closed refl tt) (plain_takes (codes "killed") reply.Killed refl tt)))
+    (plain (codes "closed") reply.Closed refl tt) (plain (codes "killed") reply.Killed refl tt)))
 
 bad_takes : Takes bad_at reply_spelling FitsReply
 unfolding bad_at
 bad_takes =
-    first (plain_at (codes "bad-rect") reply.BadRect) _ (plain_takes (codes "bad-rect") reply.BadRect refl tt)
-    (first (plain_at (codes "bad-size") reply.BadSize) _ (plain_takes (codes "bad-size") reply.BadSize refl tt)
+    first (plain_at (codes "bad-rect") reply.BadRect) _ (plain (codes "bad-rect") reply.BadRect refl tt)
+    (first (plain_at (codes "bad-size") reply.BadSize) _ (plain (codes "bad-size") reply.BadSize refl tt)
     (first (plain_at (codes "bad-title") reply.BadTitle) (plain_at (codes "too-many-views") reply.TooManyViews)
-    (plain_takes (codes "bad-title") reply.BadTitle refl tt)
-    (plain_takes (codes "too-many-views") reply.TooManyViews refl tt)))
+    (plain (codes "bad-title") reply.BadTitle refl tt)
+    (plain (codes "too-many-views") reply.TooManyViews refl tt)))
 
 holding_takes : Takes holding_at reply_spelling FitsReply
 unfolding holding_at
@@ -71,23 +68,12 @@ reply_takes = first done_at _ done_takes (first bad_at holding_at bad_takes hold
 reply_again : (r : Reply) (rest : List ℕ) → FitsReply r → stops rest ≡ true → reply_at (reply_spelling r ++ rest)
     ≡ Some (r, rest)
 unfolding reply_at done_at bad_at holding_at event_reply_at handle_at no_view_at quota_at reserve_at
-reply_again reply.Done rest fits ok = refl
 reply_again (reply.Handle v) rest fits ok = rw (handles.again v rest fits ok) refl
 reply_again (reply.Event e) rest fits ok = rw (takings.again e rest fits ok) refl
-reply_again reply.NoEvent rest fits ok = refl
 reply_again (reply.NoSuchView v) rest fits ok = rw (no_views.again v rest fits ok) refl
-reply_again reply.BadRect rest fits ok = refl
-reply_again reply.BadSize rest fits ok = refl
-reply_again reply.BadTitle rest fits ok = refl
-reply_again reply.TooManyViews rest fits ok = refl
 reply_again (reply.OutOfQuota need left) rest fits ok = rw (quotas.again (need, left) rest fits ok) refl
 reply_again (reply.NoReserve need left) rest fits ok = rw (reserves.again (need, left) rest fits ok) refl
-reply_again reply.Closed rest fits ok = refl
-reply_again reply.Killed rest fits ok = refl
+reply_again other rest fits ok = refl
 
 pub replies : Exact reply_at reply_spelling FitsReply stops
-replies = record {
-  takes = λ bytes r rest e. reply_takes bytes r rest e;
-  again =
-      λ r rest fits ok. reply_again r rest fits ok;
-}
+replies = record { takes = reply_takes; again = reply_again }

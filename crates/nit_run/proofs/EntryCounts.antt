@@ -1,14 +1,14 @@
 -- How many entries a whole journal has, and how many a generated run has.
-use Rattle.std.proofs.Common.{◌≡◌, ◌∙◌, ℕ, zero, suc, ◌+◌, ◌*◌, ◌<◌, ◌≤◌, true, false, List, []}
-use Rattle.std.proofs.Common.{◌∷◌, ◌++◌, length, map, refl, sym, ap, subst, arith, inl, inr, ◌==◌}
-use Rattle.nit_run.proofs.Basics.{Call, Does, Entry, InputLine, IsJournal, IsLegal, IsOpen}
-use Rattle.nit_run.proofs.Basics.{LegalFrom, Line, Reply, Shoots, State, UserAction, after, as_many}
+use Rattle.std.proofs.Common.{◌≡◌, ◌∙◌, ℕ, zero, suc, ◌+◌, ◌*◌, ◌<◌, List, [], ◌∷◌, ◌++◌, length}
+use Rattle.std.proofs.Common.{map, refl, ap, arith, ◌==◌, cond, nat_lt, zero-add}
+use Rattle.nit_run.proofs.Basics.{Call, Does, Entry, InputLine, IsJournal, IsOpen, LegalFrom, Line}
+use Rattle.nit_run.proofs.Basics.{Reply, Shoots, State, UserAction, after, as_many}
 use Rattle.nit_run.proofs.Basics.{as_many_as_clients, calls_from, calls_of, calls_to_make}
-use Rattle.nit_run.proofs.Basics.{cases_Bool, client_script, count_by, done, filter, first_state}
-use Rattle.nit_run.proofs.Basics.{front_open, generated_setup, is_call, is_device, is_shot_line}
-use Rattle.nit_run.proofs.Basics.{length-filter, length-map, nat_tests, range_with_len, shots}
-use Rattle.nit_run.proofs.Basics.{to_do, user_actions_from, user_actions_of, user_actions_to_do}
-use Rattle.nit_run.proofs.Basics.{user_script}
+use Rattle.nit_run.proofs.Basics.{client_script, count_by, done, filter, first_state, front_open}
+use Rattle.nit_run.proofs.Basics.{generated_setup, get_or-map, get_or-map-range_with_len, is_call}
+use Rattle.nit_run.proofs.Basics.{is_device, is_shot_line, length-filter, length-map, nat_tests}
+use Rattle.nit_run.proofs.Basics.{range_with_len, shots, to_do, user_actions_from, user_actions_of}
+use Rattle.nit_run.proofs.Basics.{user_actions_to_do, user_script}
 use Rattle.nit_report.specs.Generator.{generated_configuration}
 use Rattle.nit_events.specs.declared.entry.Entry.TheVariants as entry
 use Rattle.nit_script.specs.declared.line.Line.TheVariants as line
@@ -21,54 +21,24 @@ abbrev all_calls : ℕ → List Entry → ℕ
 all_calls zero es = 0
 all_calls (suc n) es = all_calls n es + length (calls_of n es)
 
-calls_at : (t sid : ℕ) (c : Call) (r : Reply) (es : List Entry) → (sid == t) ≡ true
-    → length (calls_of t (entry.Call sid c r ∷ es)) ≡ suc (length (calls_of t es))
-calls_at t sid c r es is = rw is refl
-
-calls_else : (t sid : ℕ) (c : Call) (r : Reply) (es : List Entry) → (sid == t) ≡ false
-    → length (calls_of t (entry.Call sid c r ∷ es)) ≡ length (calls_of t es)
-calls_else t sid c r es is = rw is refl
-
-not_it : (a b : ℕ) → (a ≡ b → ⊥) → (a == b) ≡ false
-not_it a b ne = grind (arith, nat_tests)
-
-it_is : (a b : ℕ) → (a == b) ≡ true → a ≡ b
-it_is a b e = grind (arith, nat_tests)
-
-it_is_not : (a b : ℕ) → (a == b) ≡ false → a ≡ b → ⊥
-it_is_not a b e same = grind (arith, nat_tests)
-
 same_all : (n : ℕ) (xs ys : List Entry) → ((t : ℕ) → length (calls_of t xs) ≡ length (calls_of t ys))
     → all_calls n xs ≡ all_calls n ys
 same_all zero xs ys same = refl
 same_all (suc n) xs ys same = let a = same_all n xs ys same in let b = same n in omega (arith, a, b)
 
-none_more : (n sid : ℕ) (c : Call) (r : Reply) (es : List Entry) → n ≤ sid → all_calls n (entry.Call sid c r ∷ es)
-    ≡ all_calls n es
-none_more zero sid c r es le = refl
-none_more (suc n) sid c r es le =
-    let a = none_more n sid c r es (omega arith) in
-    let b = calls_else n sid c r es (not_it sid n (λ e. absurd (omega arith))) in
-    omega (arith, a, b)
+-- a call is one more, where its session is one of them
+split_count : (n sid : ℕ) (c : Call) (cs : List Call)
+    → length (cond (sid == n) (c ∷ cs) cs) + cond (nat_lt sid n) 1 0 ≡ length cs + cond (nat_lt sid (suc n)) 1 0
+split_count n sid c cs = grind (arith, nat_tests)
+
+call_counts : (n sid : ℕ) (c : Call) (r : Reply) (es : List Entry)
+    → all_calls n (entry.Call sid c r ∷ es) ≡ all_calls n es + cond (nat_lt sid n) 1 0
+call_counts zero sid c r es = grind (arith, nat_tests)
+call_counts (suc n) sid c r es = omega (arith, call_counts n sid c r es, split_count n sid c (calls_of n es))
 
 one_more : (n sid : ℕ) (c : Call) (r : Reply) (es : List Entry) → sid < n → all_calls n (entry.Call sid c r ∷ es)
     ≡ all_calls n es + 1
-one_more zero sid c r es lt = absurd (omega arith)
-one_more (suc n) sid c r es lt = elim (cases_Bool (sid == n)) [
-  | inl is ↦
-      let same = it_is sid n is in
-      let a = none_more n sid c r es (omega (arith, same)) in
-      let b = calls_at n sid c r es is in
-      omega (arith, a, b)
-  | inr other ↦
-      let ne = it_is_not sid n other in
-      let a = one_more n sid c r es (below n sid lt ne) in
-      let b = calls_else n sid c r es other in
-      omega (arith, a, b)
-]
-  where
-    below : (n sid : ℕ) → sid < suc n → (sid ≡ n → ⊥) → sid < n
-    below n sid lt ne = grind (arith, nat_tests)
+one_more n sid c r es lt = let here = call_counts n sid c r es in grind (arith, nat_tests)
 
 no_calls : (n : ℕ) → all_calls n [] ≡ 0
 no_calls zero = refl
@@ -78,10 +48,8 @@ no_calls (suc n) = let a = no_calls n in omega (arith, a)
 
 abbrev finals : List Entry → ℕ
 finals [] = 0
-finals (entry.Call sid c r ∷ es) = finals es
-finals (entry.Input dev routed ∷ es) = finals es
-finals (entry.Shot number ∷ es) = finals es
 finals (entry.Final ∷ es) = suc (finals es)
+finals (other ∷ es) = finals es
 
 -- each entry is a call, an action or the last picture
 counted : (n : ℕ) (s : State) (taken : ℕ) (es : List Entry) → length s.sessions ≡ n → LegalFrom s taken es
@@ -101,28 +69,23 @@ counted n s taken (entry.Shot number ∷ rest) e l =
     let more = counted n s (taken + 1) rest e l.1 in
     omega (arith, here, more)
 counted n s taken (entry.Final ∷ rest) e l =
-    subst (λ (es : List Entry). length (entry.Final ∷ es)
-    ≡ all_calls n (entry.Final ∷ es) + length (user_actions_of (entry.Final ∷ es)) + finals (entry.Final ∷ es))
-    (sym l)
-    (let here = same_all n (entry.Final ∷ []) [] (λ t. refl) in let a = no_calls n in omega (arith, here, a))
+    rw l (let here = same_all n (entry.Final ∷ []) [] (λ t. refl) in let a = no_calls n in omega (arith, here, a))
 
 open_finals : (es : List Entry) → IsOpen es → finals (es ++ entry.Final ∷ []) ≡ 1
 open_finals [] o = refl
-open_finals (entry.Call sid c r ∷ es) o = open_finals es o
-open_finals (entry.Input dev routed ∷ es) o = open_finals es o
-open_finals (entry.Shot number ∷ es) o = open_finals es o
 open_finals (entry.Final ∷ es) o = absurd o
+open_finals (other ∷ es) o = open_finals es o
 
 -- where each of so many sessions makes as many calls
 as_many_calls : (n : ℕ) (es : List Entry) → ((t : ℕ) → t < n → length (calls_of t es) ≡ 1507)
     → all_calls n es ≡ n * 1507
 as_many_calls zero es each = omega arith
-as_many_calls (suc n) es each = let a = as_many_calls n es (λ t lt. each t (omega arith)) in let b =
-    each n (omega arith) in omega (arith, a, b)
+as_many_calls (suc n) es each =
+    omega (arith, as_many_calls n es (λ t lt. each t (omega arith)), each n (omega arith))
 
 -- ---- the lines of scripts
 
-calls_counted : (phase : ℕ) (lines : List Line) → length (calls_from phase lines) ≡ length (filter is_call lines)
+pub calls_counted : (phase : ℕ) (lines : List Line) → length (calls_from phase lines) ≡ length (filter is_call lines)
 calls_counted phase [] = refl
 calls_counted phase (line.Call c ∷ lines) = ap suc (calls_counted phase lines)
 calls_counted phase (line.Stroke s ∷ lines) = calls_counted phase lines
@@ -142,10 +105,8 @@ shoots (Shoots ∷ ds) = suc (shoots ds)
 
 shots_are : (es : List Entry) → shots es ≡ shoots (user_actions_of es)
 shots_are [] = refl
-shots_are (entry.Call sid c r ∷ es) = shots_are es
-shots_are (entry.Input dev routed ∷ es) = shots_are es
 shots_are (entry.Shot number ∷ es) = ap suc (shots_are es)
-shots_are (entry.Final ∷ es) = shots_are es
+shots_are (other ∷ es) = shots_are es
 
 shots_counted : (phase : ℕ) (lines : List InputLine) → shoots (done (user_actions_from phase lines))
     ≡ length (filter is_shot_line lines)
@@ -167,21 +128,18 @@ ShotsLaw = (n : ℕ) → count_by is_shot_line (user_script n) ≡ 1
 
 made_by_client : CallsLaw → (n c : ℕ) → length (done (calls_to_make (client_script n c))) ≡ 1507
 made_by_client law n c =
-    length-map (calls_to_make (client_script n c)) (λ t. t.1) ∙ calls_counted 0 (client_script n c)
-    ∙ length-filter is_call (client_script n c) ∙ law n c
+    rw (
+      length-map (calls_to_make (client_script n c)) (λ t. t.1),
+      calls_counted 0 (client_script n c),
+      length-filter is_call (client_script n c),
+    ) (law n c)
 
 -- what each of the eight clients is to do
 to_do_of : (n t : ℕ) → t < 8 → to_do (map calls_to_make (map (client_script n) (range_with_len 0 8))) t
     ≡ calls_to_make (client_script n t)
-to_do_of n zero lt = refl
-to_do_of n (suc zero) lt = refl
-to_do_of n (suc (suc zero)) lt = refl
-to_do_of n (suc (suc (suc zero))) lt = refl
-to_do_of n (suc (suc (suc (suc zero)))) lt = refl
-to_do_of n (suc (suc (suc (suc (suc zero))))) lt = refl
-to_do_of n (suc (suc (suc (suc (suc (suc zero)))))) lt = refl
-to_do_of n (suc (suc (suc (suc (suc (suc (suc zero))))))) lt = refl
-to_do_of n (suc (suc (suc (suc (suc (suc (suc (suc t)))))))) lt = absurd (omega arith)
+to_do_of n t lt =
+    get_or-map calls_to_make (map (client_script n) (range_with_len 0 8)) t [] [] lt
+    ∙ ap calls_to_make (get_or-map-range_with_len (client_script n) 0 8 t t [] lt (zero-add t))
 
 pub generated_entries : CallsLaw → DevicesLaw → ShotsLaw → (n : ℕ) (journal : List Entry)
     → IsJournal (generated_setup n) journal → (length journal ≡ 12260) × (shots journal ≡ 1)
@@ -200,7 +158,7 @@ generated_entries calls devices pictures n journal j =
     let ended = j.whole.ends in
     let last : finals journal ≡ 1 = ap finals ended.1
     ∙ open_finals ended.0 (front_open (first_state config) 0 ended.0 entry.Final []
-    (subst (λ (es : List Entry). IsLegal config es) ended.1 j.legal)) in
+    (rw ended.1 at j.legal)) in
     let shot : shots journal ≡ 1 = shots_are journal ∙ ap shoots j.whole.actions ∙ shots_counted 0 (user_script n)
     ∙ length-filter is_shot_line (user_script n) ∙ pictures n in
     (omega (arith, all, made, actions, last), shot)

@@ -1,14 +1,10 @@
 -- The events that a client takes are those among its replies.
-use Rattle.std.proofs.Common.{◌≡◌, ◌∙◌, ℕ, ◌+◌, ◌*◌, ◌==◌, Bool, true, false, cond, ◌&&◌, nat_lt}
-use Rattle.std.proofs.Common.{nat_le, List, [], ◌∷◌, ◌++◌, length, Option, Some, None, refl, sym}
-use Rattle.std.proofs.Common.{ap, subst}
-use Rattle.nit_run.proofs.Basics.{Above, Back, Buffer, Call, Close, Destroy, Entry, Event, Front}
-use Rattle.nit_run.proofs.Basics.{LegalFrom, Offset, Place, Refresh, Reply, Session, State, Status}
-use Rattle.nit_run.proofs.Basics.{Take, Title, Upgrade, View, accepted, after, buffer_left}
-use Rattle.nit_run.proofs.Basics.{buffer_need, by_call, by_handle, by_quota, by_refusal, by_status}
-use Rattle.nit_run.proofs.Basics.{events_among, flat_map, has_view, is_place, is_rectangle, is_side}
-use Rattle.nit_run.proofs.Basics.{is_title, refusal, replies_to, session, taken, unless, view_left}
-use Rattle.nit_run.proofs.Basics.{view_need, ◌orelse◌}
+use Rattle.std.proofs.Common.{◌≡◌, ℕ, ◌+◌, ◌==◌, Bool, true, false, cond, List, [], ◌∷◌, ◌++◌}
+use Rattle.std.proofs.Common.{Option, Some, None, refl, sym, rules}
+use Rattle.nit_run.proofs.Basics.{Above, Buffer, Call, Close, Entry, Event, LegalFrom, Offset}
+use Rattle.nit_run.proofs.Basics.{Place, Reply, Session, State, Status, Take, Title, View, accepted}
+use Rattle.nit_run.proofs.Basics.{after, by_call, by_refusal, by_status, events_among, flat_map}
+use Rattle.nit_run.proofs.Basics.{refusal, replies_to, session, taken, unless, ◌orelse◌}
 use Rattle.nit_journal.specs.Session.{serve}
 use Rattle.nit_events.specs.declared.event.Status.TheVariants as status
 use Rattle.nit_events.specs.declared.call.Reply.TheVariants as reply
@@ -29,35 +25,17 @@ by_first : (p q : Option Reply) → no_event p ≡ true → no_event q ≡ true 
 by_first (Some r) q first second = first
 by_first None q first second = second
 
-by_view : (t : Session) (v : ℕ) → no_event (by_handle t v) ≡ true
-by_view t v = by_unless (has_view t v) (reply.NoSuchView v) refl
-
 -- no refusal is an event
 call_refused : (t : Session) (call : Call) → no_event (by_call t call) ≡ true
-call_refused t (Buffer w h) =
-    by_first (unless (is_side w && is_side h) reply.BadSize)
-    (by_quota (buffer_need w h) (buffer_left t.donation (length t.handles)))
-    (by_unless (is_side w && is_side h) reply.BadSize refl)
-    (by_unless (nat_le (buffer_need w h) (buffer_left t.donation (length t.handles)))
-    (reply.OutOfQuota (buffer_need w h) (buffer_left t.donation (length t.handles))) refl)
-call_refused t View =
-    let left = view_left t.donation (length t.handles) (t.bw * t.bh) in
-    by_first (unless (nat_lt (length t.handles) 64) reply.TooManyViews) (by_quota view_need left)
-    (by_unless (nat_lt (length t.handles) 64) reply.TooManyViews refl)
-    (by_unless (nat_le view_need left) (reply.OutOfQuota view_need left) refl)
-call_refused t (Place v x y w h) = by_first (by_handle t v) (unless (is_rectangle x y w h) reply.BadRect) (by_view t v)
-    (by_unless (is_rectangle x y w h) reply.BadRect refl)
-call_refused t (Offset v x y) = by_first (by_handle t v) (unless (is_place x && is_place y) reply.BadRect) (by_view t v)
-    (by_unless (is_place x && is_place y) reply.BadRect refl)
-call_refused t (Front v) = by_view t v
-call_refused t (Back v) = by_view t v
-call_refused t (Above v w) = by_first (by_handle t v) (by_handle t w) (by_view t v) (by_view t w)
-call_refused t (Title v text) = by_first (by_handle t v) (unless (is_title text) reply.BadTitle) (by_view t v)
-    (by_unless (is_title text) reply.BadTitle refl)
-call_refused t (Destroy v) = by_view t v
-call_refused t (Refresh x y w h) = by_unless (is_rectangle x y w h) reply.BadRect refl
-call_refused t (Upgrade m) = by_unless (nat_le m t.reserve) (reply.NoReserve m t.reserve) refl
-call_refused t other = refl
+call_refused t (Buffer w h) = search (rules, by_first, by_unless)
+call_refused t View = search (rules, by_first, by_unless)
+call_refused t (Place v x y w h) = search (rules, by_first, by_unless)
+call_refused t (Offset v x y) = search (rules, by_first, by_unless)
+call_refused t (Above v w) = search (rules, by_first, by_unless)
+call_refused t (Title v text) = search (rules, by_first, by_unless)
+call_refused t Take = refl
+call_refused t Close = refl
+call_refused t other = search (rules, by_unless)
 
 status_refused : (s : Status) → no_event (by_status s) ≡ true
 status_refused status.Live = refl
@@ -106,31 +84,17 @@ one_taken false e rest = refl
 taken_here : (s sid : ℕ) (call : Call) (r : Reply) (rest : List Reply) → MayAnswer call r
     → taken s (entry.Call sid call r) ++ events_among rest ≡ events_among (cond (sid == s) (r ∷ rest) rest)
 taken_here s sid Take (reply.Event e) rest may = one_taken (sid == s) e rest
-taken_here s sid (Buffer w h) r rest may = not_taken (sid == s) r rest may
-taken_here s sid View r rest may = not_taken (sid == s) r rest may
-taken_here s sid (Place v x y w h) r rest may = not_taken (sid == s) r rest may
-taken_here s sid (Offset v x y) r rest may = not_taken (sid == s) r rest may
-taken_here s sid (Front v) r rest may = not_taken (sid == s) r rest may
-taken_here s sid (Back v) r rest may = not_taken (sid == s) r rest may
-taken_here s sid (Above v w) r rest may = not_taken (sid == s) r rest may
-taken_here s sid (Title v text) r rest may = not_taken (sid == s) r rest may
-taken_here s sid (Destroy v) r rest may = not_taken (sid == s) r rest may
-taken_here s sid (Refresh x y w h) r rest may = not_taken (sid == s) r rest may
-taken_here s sid (Upgrade m) r rest may = not_taken (sid == s) r rest may
-taken_here s sid Close r rest may = not_taken (sid == s) r rest may
 taken_here s sid Take other rest may = not_taken (sid == s) other rest refl
+taken_here s sid other r rest may = not_taken (sid == s) r rest may
 
 pub events_taken : (s : ℕ) (t : State) (n : ℕ) (journal : List Entry) → LegalFrom t n journal
     → flat_map (taken s) journal ≡ events_among (replies_to s journal)
 events_taken s t n [] legal = refl
 events_taken s t n (entry.Call sid call r ∷ rest) legal =
-    let may : MayAnswer call r = subst (λ (q : Reply). MayAnswer call q) (sym legal.0.1)
-    (answered_so (session t sid) call) in
-    ap (λ (es : List Event). taken s (entry.Call sid call r) ++ es)
-    (events_taken s (after t (entry.Call sid call r)) n rest legal.1)
-    ∙ taken_here s sid call r (replies_to s rest) may
+    let may : MayAnswer call r = rw legal.0.1 (answered_so (session t sid) call) in
+    rw (events_taken s (after t (entry.Call sid call r)) n rest legal.1)
+    (taken_here s sid call r (replies_to s rest) may)
 events_taken s t n (entry.Input dev routed ∷ rest) legal =
     events_taken s (after t (entry.Input dev routed)) n rest legal.1
 events_taken s t n (entry.Shot number ∷ rest) legal = events_taken s t (n + 1) rest legal.1
-events_taken s t n (entry.Final ∷ rest) legal =
-    subst (λ (es : List Entry). flat_map (taken s) es ≡ events_among (replies_to s es)) (sym legal) refl
+events_taken s t n (entry.Final ∷ rest) legal = rw legal refl

@@ -1,13 +1,13 @@
 -- The names of files that a run puts: those of its shots, and all by their first letters.
-use Rattle.std.proofs.Common.{◌≡◌, ℕ, ◌<◌, ◌^◌, ◌++◌, ◌≢◌, Bool, true, false, cond, List, [], ◌∷◌}
-use Rattle.std.proofs.Common.{length, Some, refl, sym, ap, ◌∙◌, subst, suc, ◌+◌, arith, is_none}
-use Rattle.std.proofs.Common.{zero, map}
+use Rattle.std.proofs.Common.{◌≡◌, ℕ, ◌<◌, ◌^◌, ◌++◌, ◌≢◌, true, false, List, [], ◌∷◌, length, refl}
+use Rattle.std.proofs.Common.{sym, ap, ◌∙◌, suc, ◌+◌, arith, is_none, zero, map, inl, inr}
 use Rattle.nit_run.proofs.Basics.{AllByRecursion, Configuration, Entry, File, HasDifferentNames}
 use Rattle.nit_run.proofs.Basics.{LegalFrom, PutEach, ShotsBehind, State, after, all_append}
 use Rattle.nit_run.proofs.Basics.{and_parts, append_cancel_left, append_cancel_right, bytes_eq}
-use Rattle.nit_run.proofs.Basics.{bytes_eq-Decides, codes, decimal, decimal_injective, events_file}
-use Rattle.nit_run.proofs.Basics.{events_files, file_at, have_different_names, journal_file}
-use Rattle.nit_run.proofs.Basics.{range_with_len, shot_name, shots, slice_index}
+use Rattle.nit_run.proofs.Basics.{bytes_eq-Decides, cases_Bool, codes, decimal, decimal_injective}
+use Rattle.nit_run.proofs.Basics.{events_file, events_files, false_from_ne_true, file_at}
+use Rattle.nit_run.proofs.Basics.{have_different_names, journal_file, range_with_len, shot_name}
+use Rattle.nit_run.proofs.Basics.{shots, slice_index}
 use Rattle.nit_events.specs.declared.entry.Entry.TheVariants as entry
 
 -- ---- names
@@ -39,11 +39,7 @@ apart_front (f ∷ front) back apart = (other_front f.0 front back apart.0, apar
 -- ---- as the store says it
 
 other_name : (a name : List ℕ) → a ≢ name → bytes_eq a name ≡ false
-other_name a name other = by (bytes_eq a name) refl
-  where
-    by : (b : Bool) → bytes_eq a name ≡ b → b ≡ false
-    by true same = absurd (other ((bytes_eq-Decides a name).0 same))
-    by false same = refl
+other_name a name other = false_from_ne_true _ (λ same. other ((bytes_eq-Decides a name).0 same))
 
 absent : (name : List ℕ) (files : List File) → OtherThan name files → is_none (file_at name files) ≡ true
 absent name [] other = refl
@@ -55,16 +51,13 @@ differ (f ∷ files) apart = rw (absent f.0 files apart.0) (differ files apart.1
 
 other_than : (name : List ℕ) (files : List File) → is_none (file_at name files) ≡ true → OtherThan name files
 other_than name [] none = tt
-other_than name (f ∷ files) none = by (bytes_eq f.0 name) refl none (λ h. other_than name files h)
-  where
-    by : (b : Bool) → bytes_eq f.0 name ≡ b → is_none (cond b (Some f.1) (file_at name files)) ≡ true
-        → (is_none (file_at name files) ≡ true → OtherThan name files) → OtherThan name (f ∷ files)
-    by true same none rest = absurd cc
-    by false same none rest = (
-      (λ is. let equal : bytes_eq f.0 name ≡ true =
-          (bytes_eq-Decides f.0 name).1 (sym is) in cc),
-      rest none,
-    )
+other_than name (f ∷ files) none = elim (cases_Bool (bytes_eq f.0 name)) [
+  | inl same ↦ let some = rw same at none in absurd cc
+  | inr other ↦ (
+    (λ is. let equal : bytes_eq f.0 name ≡ true = (bytes_eq-Decides f.0 name).1 (sym is) in absurd cc),
+    other_than name files (rw other at none),
+  )
+]
 
 pub apart_of : (files : List File) → HasDifferentNames files → Apart files
 apart_of [] different = tt
@@ -76,7 +69,7 @@ apart_of (f ∷ files) different =
 
 pub stays : (files : List File) (name : List ℕ) (old new : List File) → PutEach files old new → OtherThan name files
     → file_at name new ≡ file_at name old
-stays [] name old new puts other = ap (λ (fs : List File). file_at name fs) puts
+stays [] name old new puts other = ap (file_at name) puts
 stays (f ∷ files) name old new (mid, p, puts) other = stays files name mid new puts other.1 ∙ p.others name other.0
 
 -- ---- names by their first letter
@@ -124,24 +117,15 @@ Numbered first (f ∷ files) = (f.0 ≡ shot_name first) × Numbered (first + 1)
 -- so it is with those of a legal journal
 pub numbered : (P : List Entry → List ℕ → Type 0) (s : State) (taken : ℕ) (before es : List Entry) (files : List File)
     → LegalFrom s taken es → ShotsBehind P before es files → Numbered (taken + 1) files × (length files ≡ shots es)
-numbered P s taken before [] files legal is =
-    (subst (λ (fs : List File). Numbered (taken + 1) fs) (sym is) tt, ap (λ (fs : List File). length fs) is)
-numbered P s taken before (entry.Call sid call r ∷ es) files legal are =
-    numbered P (after s (entry.Call sid call r)) taken (before ++ entry.Call sid call r ∷ []) es files legal.1 are
-numbered P s taken before (entry.Input dev routed ∷ es) files legal are =
-    numbered P (after s (entry.Input dev routed)) taken (before ++ entry.Input dev routed ∷ []) es files legal.1 are
+numbered P s taken before [] files legal is = rw is (tt, refl)
 numbered P s taken before (entry.Shot number ∷ es) files legal (bytes, more, is, picture, rest) =
-    let others = numbered P s (taken + 1) (before ++ entry.Shot number ∷ []) es more legal.1 rest in (
-      subst (λ (fs : List File). Numbered (taken + 1) fs) (sym is) (ap shot_name legal.0, others.0),
-      ap (λ (fs : List File). length fs) is ∙ ap (λ (n : ℕ). suc n) others.1,
-    )
+    let others = numbered P s (taken + 1) (before ++ entry.Shot number ∷ []) es more legal.1 rest in
+    rw is ((ap shot_name legal.0, others.0), ap suc others.1)
 numbered P s taken before (entry.Final ∷ es) files legal are =
-    let none : files ≡ [] = subst (λ (rest : List Entry). ShotsBehind P (before ++ entry.Final ∷ []) rest files) legal
-    are in (
-      subst (λ (fs : List File). Numbered (taken + 1) fs) (sym none) tt,
-      ap (λ (fs : List File). length fs) none
-          ∙ sym (ap (λ (rest : List Entry). shots rest) legal),
-    )
+    let none : files ≡ [] = rw legal at are in
+    rw (none, legal) (tt, refl)
+numbered P s taken before (e ∷ es) files legal are =
+    numbered P (after s e) taken (before ++ e ∷ []) es files legal.1 are
 
 -- the shots behind one have other names
 pub later_shots : (n first : ℕ) (files : List File) → n < first → first + length files < 2 ^ 64 → Numbered first files
@@ -156,15 +140,14 @@ pub shots_apart_all : (first : ℕ) (files : List File) → first + length files
     → Apart files
 shots_apart_all first [] few is = tt
 shots_apart_all first (f ∷ files) few is = (
-  subst (λ (name : List ℕ). OtherThan name files) (sym is.0)
-      (later_shots first (first + 1) files (omega arith) (omega arith) is.1),
+  rw is.0 (later_shots first (first + 1) files (omega arith) (omega arith) is.1),
   shots_apart_all (first + 1) files (omega arith) is.1,
 )
 
 -- their names begin with an s
 pub shots_begin : (first : ℕ) (files : List File) → Numbered first files → Begin 115 files
 shots_begin first [] is = tt
-shots_begin first (f ∷ files) is = (ap (λ (name : List ℕ). slice_index name 0) is.0, shots_begin (first + 1) files is.1)
+shots_begin first (f ∷ files) is = (rw is.0 refl, shots_begin (first + 1) files is.1)
 
 -- the names of events begin with an e
 pub events_begin : (config : Configuration) (journal : List Entry) (first count : ℕ)

@@ -2,18 +2,17 @@
 use Rattle.std.proofs.Common.{◌≡◌, ◌≢◌, ◌∙◌, ℕ, suc, ◌+◌, ◌*◌, ◌<◌, Bool, true, false, cond, List}
 use Rattle.std.proofs.Common.{[], ◌∷◌, ◌++◌, length, map, Some, None, refl, sym, ap, subst, arith}
 use Rattle.std.proofs.Common.{inl, inr, ◌⊎◌, zero-add}
-use Rattle.nit_run.proofs.Basics.{Action, All, AllByRecursion, AreNearShots, AreOutputs}
-use Rattle.nit_run.proofs.Basics.{AreRoundsOf, AreShotsOf, AreTexts, Call, Close, Configuration}
-use Rattle.nit_run.proofs.Basics.{Contains, Contains-append_left, Contains-append_right}
-use Rattle.nit_run.proofs.Basics.{Contains-push, Delivery, Device, Ends, Entry, File, FitsEntry}
-use Rattle.nit_run.proofs.Basics.{Flat, HasPicture, HoldsAtEnd, HoldsAtShot, HoldsByWay, InputLine}
-use Rattle.nit_run.proofs.Basics.{IsClickOn, IsDrawnPicture, IsJournal, IsLegal, IsMeant, IsNear}
-use Rattle.nit_run.proofs.Basics.{IsNearFrame, IsNearPicture, Kill, KillsPointed, Line, Reply}
-use Rattle.nit_run.proofs.Basics.{Routed, Scenery, Session, Setup, ShowsBy, State, TellsFocus}
-use Rattle.nit_run.proofs.Basics.{TellsLeave, Xray, action_of, actions_of_turns, after}
-use Rattle.nit_run.proofs.Basics.{alone_machine, as_many_files, deliveries_of, donation_of}
-use Rattle.nit_run.proofs.Basics.{drawn_by_shot, ending_of, events_file, events_files, events_name}
-use Rattle.nit_run.proofs.Basics.{events_text, file_of_a_shot, final_name, final_picture}
+use Rattle.nit_run.proofs.Basics.{All, AllByRecursion, AreNearShots, AreOutputs, AreRoundsOf}
+use Rattle.nit_run.proofs.Basics.{AreShotsOf, AreTexts, Call, Close, Configuration, Contains}
+use Rattle.nit_run.proofs.Basics.{Contains-append_left, Contains-append_right, Contains-push}
+use Rattle.nit_run.proofs.Basics.{Delivery, Device, Ends, Entry, File, FitsEntry, Flat, HasPicture}
+use Rattle.nit_run.proofs.Basics.{HoldsAtEnd, HoldsAtShot, HoldsByWay, InputLine, IsClickOn}
+use Rattle.nit_run.proofs.Basics.{IsDrawnPicture, IsJournal, IsLegal, IsMeant, IsNear, IsNearFrame}
+use Rattle.nit_run.proofs.Basics.{IsNearPicture, Kill, KillsPointed, Line, Reply, Routed, Scenery}
+use Rattle.nit_run.proofs.Basics.{Setup, ShowsBy, State, TellsFocus, TellsLeave, Xray, action_of}
+use Rattle.nit_run.proofs.Basics.{actions_of_turns, after, alone_machine, as_many_files, cases_Bool}
+use Rattle.nit_run.proofs.Basics.{deliveries_of, donation_of, drawn_by_shot, events_file}
+use Rattle.nit_run.proofs.Basics.{events_files, file_of_a_shot, final_name, final_picture}
 use Rattle.nit_run.proofs.Basics.{focus_after, frame, get_or-map-range_with_len}
 use Rattle.nit_run.proofs.Basics.{get_or_from_slice_get, is_accepted, is_button, is_key}
 use Rattle.nit_run.proofs.Basics.{is_mode_key, journal_file, length-append}
@@ -47,18 +46,16 @@ pub record InputLaw (s : State) : Type 0 where
 
 pub meant : (s : State) (dev : Device) (routed : Routed) → InputLaw s
     → deliveries_of routed ≡ (route s.config s.input s.stack dev).deliveries → IsMeant s dev (deliveries_of routed)
-meant s dev routed law kept =
-    let routes = λ (d : Device). (route s.config s.input s.stack d).deliveries in
-    subst (λ (ds : List Delivery). IsMeant s dev ds) (sym kept) (record {
-      keys = λ code is key flat none. ap routes is ∙ law.keys code flat none key;
-      buttons = λ code is button flat none. let (news, told, all) =
-          law.buttons code flat none button in (news, told, ap routes is ∙ all);
-      held = law.held dev;
-      mode_keys = λ code is key. subst (λ (d : Device). All (TellsLeave s) (routes d)) (sym is)
-          (law.mode_keys code key);
-      xray = law.xray dev;
-      kill = law.kill dev;
-    })
+meant s dev routed law kept = rw kept (record {
+  keys = λ code is key flat none. rw is (law.keys code flat none key);
+  buttons = λ code is button flat none.
+      let (news, told, all) = law.buttons code flat none button in
+      (news, told, rw is all);
+  held = law.held dev;
+  mode_keys = λ code is key. rw is (law.mode_keys code key);
+  xray = law.xray dev;
+  kill = law.kill dev;
+})
 
 -- ---- the focus
 
@@ -77,12 +74,9 @@ pub focus_by_call : (config : Configuration) (front : List Entry) (sid : ℕ) (c
     → (focus_after config (front ++ entry.Call sid call r ∷ []) ≡ focus_after config front)
     ⊎ ((call ≡ Close) × (is_accepted r ≡ true) × (focus_after config front ≡ Some sid)
     × (focus_after config (front ++ entry.Call sid call r ∷ []) ≡ None))
-focus_by_call config front sid call r leads (inl same) closed = inl (ap (λ (s : State). s.input.focus) leads ∙ same)
+focus_by_call config front sid call r leads (inl same) closed = inl (rw (focus_after, leads) same)
 focus_by_call config front sid call r leads (inr (is, accepted, had)) closed =
-    let none : (after (replay config front) (entry.Call sid call r)).input.focus ≡ None =
-    subst (λ (k : Call). (after (replay config front) (entry.Call sid k r)).input.focus ≡ None) (sym is)
-    (closed accepted had) in
-    inr (is, accepted, had, ap (λ (s : State). s.input.focus) leads ∙ none)
+    inr (is, accepted, had, rw (focus_after, leads, is) (closed accepted had))
 
 -- what gives the focus to a session
 abbrev pub FocusByClick : State → Device → ℕ → Type 0
@@ -99,17 +93,11 @@ pub focus_by_click : (config : Configuration) (front : List Entry) (dev : Device
     → focus_after config (front ++ entry.Input dev routed ∷ []) ≡ Some x → (focus_after config front ≡ Some x)
     ⊎ IsClickOn (replay config front) dev x
 focus_by_click config front dev routed x leads law has =
-    elim (law (sym (ap (λ (s : State). s.input.focus) leads) ∙ has)) [
+    elim (law (rw (focus_after, leads) at has)) [
       | inl had ↦ inl had
-      | inr click ↦ inr (record {
-        code = click.0;
-        pressed = click.1;
-        button = click.2;
-        mode = click.3;
-        owns =
-            click.4;
-        by_clicks = click.5;
-      })
+      | inr click ↦
+          let (code, pressed, button, mode, owns, clicks) = click in
+          inr (record { code = code; pressed = pressed; button = button; mode = mode; owns = owns; by_clicks = clicks })
     ]
 
 -- ---- a picture
@@ -126,34 +114,24 @@ shows : FrameCount → FrameEach → (s : State) (word : ℕ → ℕ)
     → ShowsBy s (λ k w. w ≡ word k) (frame (scenery_of s) (words_of s word))
 shows count each s word = record {
   count = count (scenery_of s) (words_of s word);
-  each = λ k inside. (
-    word k,
-    refl,
-    each (scenery_of s) (words_of s word) k inside
-        ∙ ap (λ (w : ℕ). shown (scenery_of s) (pixel s.config.width k) w)
-        (get_or-map-range_with_len word 0 (pixel_count s) k k 0 inside (zero-add k)),
-  );
+  each = λ k inside.
+      let here = get_or-map-range_with_len word 0 (pixel_count s) k k 0 inside (zero-add k) in
+      (word k, refl, rw here at (each (scenery_of s) (words_of s word) k inside));
 }
 
 has_picture : FrameCount → FrameEach
     → (config : Configuration) (files : List File) (name bytes : List ℕ) (s : State) (word : ℕ → ℕ)
     → bytes ≡ picture_of config s word → Contains files (name, bytes)
     → HasPicture config files name s (λ k w. w ≡ word k)
-has_picture count each config files name bytes s word is has = (
-  frame (scenery_of s) (words_of s word),
-  subst (λ (b : List ℕ). Contains files (name, b)) is has,
-  shows count each s word,
-)
+has_picture count each config files name bytes s word is has =
+    (frame (scenery_of s) (words_of s word), rw is at has, shows count each s word)
 
 pub contains_at : {X : Type 0} (xs : List X) (k : ℕ) (x : X) → slice_get xs k ≡ Some x → Contains xs x
 contains_at xs k x e = (k, slice_get_within xs k x e, get_or_from_slice_get xs k x x e)
 
 contains_map : {X : Type 0} (f : ℕ → X) (n k : ℕ) → k < n → Contains (map f (range_with_len 0 n)) (f k)
-contains_map f n k inside = (
-  k,
-  subst (λ (m : ℕ). k < m) (sym (length-map-range_with_len f 0 n)) inside,
-  get_or-map-range_with_len f 0 n k k (f k) inside (zero-add k),
-)
+contains_map f n k inside =
+    (k, rw length-map-range_with_len inside, get_or-map-range_with_len f 0 n k k (f k) inside (zero-add k))
 
 -- ---- the files of a run by rounds
 
@@ -200,13 +178,9 @@ module _ (s : Setup) (journal : List Entry) (outputs : List File) (j : IsJournal
 
   pub drawn_along : s.beside ≡ false → ShotsLaw → FrontsLaw → AreShotsOf IsDrawn journal shot_list
   drawn_along alone law fronts =
-      let r = j.rounds alone in
-      let entries = r.0 in
-      subst (λ (fs : List File). AreShotsOf IsDrawn journal fs) (sym (are.1.by_rounds alone))
-      (subst (λ (es : List Entry). AreShotsOf IsDrawn es (shots_of s.config s.scripts s.input)) (sym r.2)
-      (law s.config s.scripts s.input entries
-      (fronts s.config entries (entry.Final ∷ []) (subst (λ (es : List Entry). IsLegal s.config es) r.2 j.legal))
-      r.1))
+      let (entries, moves, is) = j.rounds alone in
+      rw (are.1.by_rounds alone, is) (law s.config s.scripts s.input entries
+      (fronts s.config entries (entry.Final ∷ []) (rw is at j.legal)) moves)
 
   abbrev last_file : File
   last_file = (final_name, final_picture s journal)
@@ -216,7 +190,7 @@ module _ (s : Setup) (journal : List Entry) (outputs : List File) (j : IsJournal
   own = shot_list ++ last_file ∷ text_files s journal
 
   among_own : (f : File) → Contains own f → Contains outputs f
-  among_own f has = subst (λ (fs : List File). Contains fs f) (sym are.2) (Contains-append_right s.made own f has)
+  among_own f has = rw are.2 (Contains-append_right s.made own f has)
 
   -- a file among the shots, the last picture, or a text, is among all
   pub among_shots : (f : File) → Contains shot_list f → Contains outputs f
@@ -250,10 +224,9 @@ module _ (s : Setup) (journal : List Entry) (outputs : List File) (j : IsJournal
       let t = replay s.config front in
       let (bytes, there, (words, frame_is, is)) =
       near.files s.config s.scripts s.input front rest number shot_list
-      (subst (λ (es : List Entry). AreNearShots s.config s.scripts s.input es shot_list) parts
-      (are.1.beside together)) in (
+      (rw parts at (are.1.beside together)) in (
         words,
-        subst (λ (b : List ℕ). Contains outputs (shot_name number, b)) is
+        rw is at
             (among_shots (shot_name number, bytes)
             (contains_at shot_list (shots front) (shot_name number, bytes) there)),
         record {
@@ -284,7 +257,7 @@ module _ (s : Setup) (journal : List Entry) (outputs : List File) (j : IsJournal
       let t = replay s.config journal in
       let word = raw_word t (tables_left s.config s.scripts) in
       has_picture count each s.config outputs final_name (final_picture s journal) t word
-      (ap (λ (c : Configuration). picture_of c t word) same) the_last
+      (rw same refl) the_last
 
   -- the texts
   pub texts_tell : MachinesLaw → AllByRecursion FitsEntry journal → s.texts ≡ true → AreTexts s.config journal outputs
@@ -294,15 +267,11 @@ module _ (s : Setup) (journal : List Entry) (outputs : List File) (j : IsJournal
         let there : Contains (events_files s.config journal) f =
         contains_map (events_file s.config journal) (length s.config.clients) sid inside in
         let told : Contains outputs f =
-        among_texts f (subst (λ (fs : List File). Contains fs f) (sym on)
+        among_texts f (rw on
         (Contains-append_left (events_files s.config journal) (journal_file journal ∷ []) f there)) in
-        subst (λ (m : Session). Contains outputs (
-          events_name (member s.config sid).label,
-          events_text journal sid (ending_of m),
-        )) (law s.config journal sid j.legal inside) told;
+        rw (law s.config journal sid j.legal inside) at told;
     journal_too = among_texts (journal_file journal)
-        (subst (λ (fs : List File). Contains fs (journal_file journal)) (sym on)
-        (Contains-push (events_files s.config journal) (journal_file journal)));
+        (rw on (Contains-push (events_files s.config journal) (journal_file journal)));
     reads = (fits, refl);
   }
     where
@@ -310,11 +279,10 @@ module _ (s : Setup) (journal : List Entry) (outputs : List File) (j : IsJournal
       on = with_texts s journal has
 
   shots_counted : ShotsLaw → FrontsLaw → NearLaws → length shot_list ≡ shots journal
-  shots_counted law fronts near = by s.beside refl
-    where
-      by : (b : Bool) → s.beside ≡ b → length shot_list ≡ shots journal
-      by false alone = as_many_files IsDrawn [] journal shot_list (drawn_along alone law fronts)
-      by true together = near.counted s.config s.scripts s.input journal shot_list (are.1.beside together)
+  shots_counted law fronts near = elim (cases_Bool s.beside) [
+    | inl together ↦ near.counted s.config s.scripts s.input journal shot_list (are.1.beside together)
+    | inr alone ↦ as_many_files IsDrawn [] journal shot_list (drawn_along alone law fronts)
+  ]
 
   pub files_counted : ShotsLaw → FrontsLaw → NearLaws
       → length outputs ≡ length s.made + (shots journal + 1 + cond s.texts (length s.config.clients + 1) 0)
@@ -342,9 +310,8 @@ ActsLaw = (config : Configuration) (js ks : List Entry) → IsLegal config js �
 acts_of_run : (s : Setup) (journal : List Entry) → s.beside ≡ false → IsJournal s journal
     → map action_of journal ≡ actions_of_turns (rounds s.scripts s.input) ++ Ends ∷ []
 acts_of_run s journal alone j =
-    let r = j.rounds alone in
-    ap (λ (es : List Entry). map action_of es) r.2 ∙ map-append action_of r.0 (entry.Final ∷ [])
-    ∙ ap (λ (done : List Action). done ++ Ends ∷ []) r.1
+    let (entries, moves, is) = j.rounds alone in
+    rw (is, map-append action_of entries (entry.Final ∷ []), moves) refl
 
 pub same_journal : ActsLaw → (s : Setup) (js ks : List Entry) → s.beside ≡ false → IsJournal s js → IsJournal s ks
     → js ≡ ks
@@ -354,10 +321,4 @@ same_journal law s js ks alone j k =
 pub same_files : ActsLaw → (s : Setup) (js ks : List Entry) (fs gs : List File) → s.beside ≡ false → IsJournal s js
     → IsJournal s ks → AreOutputs s js fs → AreOutputs s ks gs → fs ≡ gs
 same_files law s js ks fs gs alone j k f g =
-    let drawn = shots_of s.config s.scripts s.input in
-    f.2 ∙ ap (λ (shots : List File). s.made ++ (shots ++ (final_name, final_picture s js) ∷ text_files s js))
-    (f.1.by_rounds alone)
-    ∙ ap (λ (es : List Entry). s.made ++ (drawn ++ (final_name, final_picture s es) ∷ text_files s es))
-    (same_journal law s js ks alone j k)
-    ∙ sym (g.2 ∙ ap (λ (shots : List File). s.made ++ (shots ++ (final_name, final_picture s ks) ∷ text_files s ks))
-    (g.1.by_rounds alone))
+    rw (f.2, f.1.by_rounds alone, same_journal law s js ks alone j k, g.2, g.1.by_rounds alone) refl

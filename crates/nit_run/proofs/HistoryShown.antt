@@ -1,10 +1,9 @@
 -- The shots of a run beside others show one history of raw words.
-use Rattle.std.proofs.Common.{◌≡◌, ◌∙◌, ◌*◌, ℕ, true, [], List, ◌∷◌, ◌++◌, ◌<◌, length, sym, ap}
-use Rattle.std.proofs.Common.{subst}
-use Rattle.nit_run.proofs.Basics.{AreOfOneHistory, AreOutputs, AreShotsOf, Configuration, Contains}
-use Rattle.nit_run.proofs.Basics.{Entry, File, HasPicture, HoldsAtShot, HoldsByWay, IsHeldPicture}
-use Rattle.nit_run.proofs.Basics.{IsJournal, Setup, ShowsOneHistory, file_of_a_shot, replay}
-use Rattle.nit_run.proofs.Basics.{same_throughout, scenery_of, shot_name, shots, slice_index_or}
+use Rattle.std.proofs.Common.{◌≡◌, ℕ, true, [], List, ◌∷◌, ◌++◌, length, sym, subst}
+use Rattle.nit_run.proofs.Basics.{AreOfOneHistory, AreOutputs, AreShotsOf, Entry, File, HasPicture}
+use Rattle.nit_run.proofs.Basics.{HoldsAtShot, HoldsByWay, IsHeldPicture, IsJournal, Setup}
+use Rattle.nit_run.proofs.Basics.{ShowsOneHistory, file_of_a_shot, replay, same_throughout}
+use Rattle.nit_run.proofs.Basics.{scenery_of, shot_name, shots, slice_index_or}
 use Rattle.nit_run.proofs.HeadlineLemmas.{FrameCount, FrameEach, among_shots, contains_at}
 use Rattle.nit_events.specs.declared.entry.Entry.TheVariants as entry
 
@@ -32,18 +31,18 @@ history_shows s journal outputs j are count each together = record {
         (subst (λ (es : List Entry). AreShotsOf Pic es are.0) parts one.shown) in
         let same : t.config ≡ s.config = same_throughout s.config front in (
           words,
-          subst (λ (b : List ℕ). Contains outputs (shot_name number, b)) is
+          rw is at
               (among_shots s journal outputs j are (shot_name number, bytes)
               (contains_at are.0 (shots front) (shot_name number, bytes) there)),
           record {
-            count = ap (λ (ws : List ℕ). length ws) frame_is ∙ count (scenery_of t) raw;
+            count = rw frame_is (count (scenery_of t) raw);
             each = λ k inside. (
               slice_index_or raw k 0,
               (
-                by_held k (subst (λ (c : Configuration). k < c.width * c.height) same inside),
+                by_held k (rw same at inside),
                 subst (λ b. HoldsByWay b s front k (slice_index_or raw k 0)) (sym together) (near k inside),
               ),
-              ap (λ (ws : List ℕ). slice_index_or ws k 0) frame_is ∙ each (scenery_of t) raw k inside,
+              rw frame_is (each (scenery_of t) raw k inside),
             );
           },
         )

@@ -1,24 +1,26 @@
 -- The entries of a run's journal are within the format of texts.
-use Rattle.std.proofs.Common.{◌≡◌, ◌∙◌, ℕ, suc, ◌+◌, ◌<◌, ◌≤◌, Bool, true, false, cond, List, []}
-use Rattle.std.proofs.Common.{◌∷◌, ◌++◌, length, get_or, refl, sym, ap, subst, arith, zero-add}
-use Rattle.std.proofs.Common.{append_assoc, ◌==◌}
+use Rattle.std.proofs.Common.{◌≡◌, ◌∙◌, ℕ, suc, ◌+◌, ◌<◌, ◌≤◌, List, [], ◌∷◌, ◌++◌, length, get_or}
+use Rattle.std.proofs.Common.{refl, sym, ap, arith, zero-add, append_assoc, ◌==◌, inl, inr}
 use Rattle.nit_run.proofs.Basics.{Agrees, All, AllByRecursion, AreLines, Call, Calls, Close}
 use Rattle.nit_run.proofs.Basics.{Configuration, Delivery, Device, Does, Entry, FitsCall}
 use Rattle.nit_run.proofs.Basics.{FitsDelivery, FitsDevice, FitsEntry, FitsInputLine, FitsItem}
-use Rattle.nit_run.proofs.Basics.{FitsLine, FitsReply, Gets, InputLine, InputState, IsJournal}
-use Rattle.nit_run.proofs.Basics.{IsLegal, IsLive, IsRunnable, Line, Observation, Reply, Routed}
-use Rattle.nit_run.proofs.Basics.{Session, Setup, Shoots, State, UserAction, after, alone_machine}
+use Rattle.nit_run.proofs.Basics.{FitsLine, Gets, InputLine, InputState, IsJournal, IsLegal, IsLive}
+use Rattle.nit_run.proofs.Basics.{IsRunnable, Line, Observation, Reply, Routed, Setup, Shoots}
+use Rattle.nit_run.proofs.Basics.{State, UserAction, actions_of-append, after, alone_machine}
 use Rattle.nit_run.proofs.Basics.{bar_rows, calls_from, calls_of, calls_of-append, calls_to_make}
-use Rattle.nit_run.proofs.Basics.{clicks_on, deliveries_of, donation_of, done, each_at, eq-eqb}
-use Rattle.nit_run.proofs.Basics.{first_session, first_state, forget, get_or-map, input_after_call}
-use Rattle.nit_run.proofs.Basics.{is_accepted, items_to, length-append, length-map, option_map}
-use Rattle.nit_run.proofs.Basics.{owner, point, pointer_after, projection, replay, replay_from}
-use Rattle.nit_run.proofs.Basics.{routed_as, session, shots, user_actions_from, user_actions_of}
+use Rattle.nit_run.proofs.Basics.{cases_Bool, clicks_on, count_by-le-length, deliveries_of}
+use Rattle.nit_run.proofs.Basics.{donation_of, done, each_at, either, eq-eqb, first_session}
+use Rattle.nit_run.proofs.Basics.{first_state, get_or-map, input_after_call, is_accepted, is_call}
+use Rattle.nit_run.proofs.Basics.{items_to, length-append, length-filter, length-map, option_map}
+use Rattle.nit_run.proofs.Basics.{owner, point, pointer_after, projection, recursion_from_All}
+use Rattle.nit_run.proofs.Basics.{replay, replay_from, routed_as, session, shots, user_actions_from}
+use Rattle.nit_run.proofs.Basics.{user_actions_of}
 use Rattle.nit_journal.specs.State.{route}
 use Rattle.nit_stack.specs.declared.view.View.{View}
 use Rattle.nit_run.proofs.RoutesFit.{ItemsFit, PointsFit, moved_fits, routing_fits}
 use Rattle.nit_run.proofs.MachinesFit.{IsFine, MomentFits, answer_fits, calls_among, moments_fine}
 use Rattle.nit_run.proofs.MachinesFit.{opens_fine}
+use Rattle.nit_run.proofs.EntryCounts.{calls_counted}
 use Rattle.nit_events.specs.declared.entry.Entry.TheVariants as entry
 use Rattle.nit_script.specs.declared.line.Line.TheVariants as line
 use Rattle.nit_script.specs.declared.line.InputLine.TheVariants as input
@@ -53,47 +55,40 @@ actions_fit phase (input.Phase ∷ rest) f = actions_fit (suc phase) rest f.1
 
 pub actions_few : (phase : ℕ) (lines : List InputLine) → length (done (user_actions_from phase lines)) ≤ length lines
 actions_few phase [] = omega arith
-actions_few phase (input.Device d ∷ rest) = let more = actions_few phase rest in omega arith
-actions_few phase (input.Shot ∷ rest) = let more = actions_few phase rest in omega arith
 actions_few phase (input.Phase ∷ rest) = let more = actions_few (suc phase) rest in omega arith
+actions_few phase (other ∷ rest) = let more = actions_few phase rest in omega arith
 
-calls_short : (phase : ℕ) (lines : List Line) → length (done (calls_from phase lines)) ≤ length lines
-calls_short phase [] = omega arith
-calls_short phase (line.Call c ∷ rest) = let more = calls_short phase rest in omega arith
-calls_short phase (line.Stroke x ∷ rest) = let more = calls_short phase rest in omega arith
-calls_short phase (line.Phase ∷ rest) = let more = calls_short (suc phase) rest in omega arith
+calls_short : (lines : List Line) → length (done (calls_to_make lines)) ≤ length lines
+calls_short lines =
+    rw (length-map (calls_to_make lines) (λ t. t.1), calls_counted 0 lines, length-filter is_call lines)
+    (count_by-le-length is_call lines)
 
 -- ---- what stands in a journal
 
-call_behind : (b : Bool) (c : Call) (cs : List Call) → AllByRecursion FitsCall (cond b (c ∷ cs) cs)
-    → AllByRecursion FitsCall cs
-call_behind true c cs h = h.1
-call_behind false c cs h = h
+-- what all have, one of them has
+all_at : {A : Type 0} (P : A → Type 0) (front : List A) (x : A) (rest : List A) → AllByRecursion P (front ++ x ∷ rest)
+    → P x
+all_at P [] x rest h = h.0
+all_at P (y ∷ front) x rest h = all_at P front x rest h.1
 
 call_there : (front : List Entry) (sid : ℕ) (call : Call) (r : Reply) (rest : List Entry)
     → AllByRecursion FitsCall (calls_of sid (front ++ entry.Call sid call r ∷ rest)) → FitsCall call
-call_there [] sid call r rest h = (rw (eq-eqb sid sid refl) at h).0
-call_there (entry.Call t c q ∷ front) sid call r rest h =
-    call_there front sid call r rest (call_behind (t == sid) c (calls_of sid (front ++ entry.Call sid call r ∷ rest)) h)
-call_there (entry.Input d q ∷ front) sid call r rest h = call_there front sid call r rest h
-call_there (entry.Shot n ∷ front) sid call r rest h = call_there front sid call r rest h
-call_there (entry.Final ∷ front) sid call r rest h = call_there front sid call r rest h
+call_there front sid call r rest h =
+    all_at FitsCall (calls_of sid front) call (calls_of sid rest)
+    (rw (calls_of-append sid front (entry.Call sid call r ∷ rest), eq-eqb sid sid refl) at h)
 
 action_there : (front : List Entry) (dev : Device) (routed : Routed) (rest : List Entry)
     → AllByRecursion ActionFits (user_actions_of (front ++ entry.Input dev routed ∷ rest)) → FitsDevice dev
-action_there [] dev routed rest h = h.0
-action_there (entry.Call t c q ∷ front) dev routed rest h = action_there front dev routed rest h
-action_there (entry.Input d q ∷ front) dev routed rest h = action_there front dev routed rest h.1
-action_there (entry.Shot n ∷ front) dev routed rest h = action_there front dev routed rest h.1
-action_there (entry.Final ∷ front) dev routed rest h = action_there front dev routed rest h
+action_there front dev routed rest h =
+    all_at ActionFits (user_actions_of front) (Does dev) (user_actions_of rest)
+    (rw (actions_of-append front (entry.Input dev routed ∷ rest)) at h)
 
 shot_there : (front : List Entry) (number : ℕ) (rest : List Entry)
     → shots front + 1 ≤ length (user_actions_of (front ++ entry.Shot number ∷ rest))
 shot_there [] number rest = omega arith
 shot_there (entry.Call t c q ∷ front) number rest = shot_there front number rest
-shot_there (entry.Input d q ∷ front) number rest = let more = shot_there front number rest in omega arith
-shot_there (entry.Shot n ∷ front) number rest = let more = shot_there front number rest in omega arith
 shot_there (entry.Final ∷ front) number rest = shot_there front number rest
+shot_there (other ∷ front) number rest = let more = shot_there front number rest in omega arith
 
 -- ---- the pointer
 
@@ -116,17 +111,12 @@ route_fits config i stack dev f p =
     let r = routing_fits (clicks_on config pointed) pointed moved dev f m.x m.y in
     record {
       items = r.items;
-      points =
-          record { x = subst (λ (n : ℕ). n ≤ 65535) (sym r.x) m.x; y = subst (λ (n : ℕ). n ≤ 65535) (sym r.y) m.y };
+      points = record { x = rw r.x m.x; y = rw r.y m.y };
     }
 
 call_points : (sid : ℕ) (call : Call) (r : Reply) (i : InputState) → PointsFit i
     → PointsFit (input_after_call sid call r i)
-call_points sid Close r i p = by (is_accepted r)
-  where
-    by : (b : Bool) → PointsFit (cond b (forget i sid) i)
-    by true = record { x = p.x; y = p.y }
-    by false = p
+call_points sid Close r i p = either PointsFit (is_accepted r) _ _ (record { x = p.x; y = p.y }) p
 call_points sid call r i p = p
 
 points : (t : State) (front : List Entry) → PointsFit t.input → AllByRecursion DevFits front
@@ -136,8 +126,7 @@ points t (entry.Call sid call r ∷ front) p h =
     points (after t (entry.Call sid call r)) front (call_points sid call r t.input p) h.1
 points t (entry.Input dev routed ∷ front) p h =
     points (after t (entry.Input dev routed)) front (route_fits t.config t.input t.stack dev h.0 p).points h.1
-points t (entry.Shot n ∷ front) p h = points t front p h.1
-points t (entry.Final ∷ front) p h = points t front p h.1
+points t (other ∷ front) p h = points t front p h.1
 
 -- ---- what a session sees
 
@@ -149,56 +138,39 @@ EntryGood other = Unit {0}
 item_moments : (x : ℕ) (ds : List Delivery) (more : List Observation) → ItemsFit ds → AllByRecursion MomentFits more
     → AllByRecursion MomentFits (items_to x ds ++ more)
 item_moments x [] more f h = h
-item_moments x (d ∷ ds) more f h = by (d.sid == x) (item_moments x ds more f.1 h)
-  where
-    by : (b : Bool) → AllByRecursion MomentFits (items_to x ds ++ more)
-        → AllByRecursion MomentFits (cond b (Gets d.item ∷ items_to x ds) (items_to x ds) ++ more)
-    by true g = (f.0, g)
-    by false g = g
+item_moments x (d ∷ ds) more f h =
+    let g = item_moments x ds more f.1 h in
+    either (λ (os : List Observation). AllByRecursion MomentFits (os ++ more)) (d.sid == x)
+    (Gets d.item ∷ items_to x ds) (items_to x ds) (f.0, g) g
 
 moments_fit : (x : ℕ) (front : List Entry) → AllByRecursion EntryGood front
     → AllByRecursion MomentFits (projection x front)
 moments_fit x [] h = tt
-moments_fit x (entry.Call sid call r ∷ front) h = by (sid == x) (moments_fit x front h.1)
-  where
-    by : (b : Bool) → AllByRecursion MomentFits (projection x front)
-        → AllByRecursion MomentFits (cond b (Calls call ∷ projection x front) (projection x front))
-    by true g = (h.0, g)
-    by false g = g
+moments_fit x (entry.Call sid call r ∷ front) h =
+    let g = moments_fit x front h.1 in
+    either (AllByRecursion MomentFits) (sid == x) (Calls call ∷ projection x front) (projection x front) (h.0, g) g
 moments_fit x (entry.Input dev routed ∷ front) h =
     item_moments x (deliveries_of routed) (projection x front) h.0 (moments_fit x front h.1)
-moments_fit x (entry.Shot n ∷ front) h = moments_fit x front h.1
-moments_fit x (entry.Final ∷ front) h = moments_fit x front h.1
+moments_fit x (other ∷ front) h = moments_fit x front h.1
 
 item_calls : (x : ℕ) (ds : List Delivery) (more : List Observation) → calls_among (items_to x ds ++ more)
     ≡ calls_among more
 item_calls x [] more = refl
-item_calls x (d ∷ ds) more = by (d.sid == x) (item_calls x ds more)
-  where
-    by : (b : Bool) → calls_among (items_to x ds ++ more) ≡ calls_among more
-        → calls_among (cond b (Gets d.item ∷ items_to x ds) (items_to x ds) ++ more) ≡ calls_among more
-    by true g = g
-    by false g = g
+item_calls x (d ∷ ds) more =
+    let g = item_calls x ds more in
+    either (λ (os : List Observation). calls_among (os ++ more) ≡ calls_among more) (d.sid == x)
+    (Gets d.item ∷ items_to x ds) (items_to x ds) g g
 
 calls_few : (x : ℕ) (front : List Entry) → calls_among (projection x front) ≤ length (calls_of x front)
 calls_few x [] = omega arith
-calls_few x (entry.Call sid call r ∷ front) = by (sid == x) (calls_few x front)
-  where
-    by : (b : Bool) → calls_among (projection x front) ≤ length (calls_of x front)
-        → calls_among (cond b (Calls call ∷ projection x front) (projection x front)) ≤ length
-        (cond b (call ∷ calls_of x front) (calls_of x front))
-    by true g = omega arith
-    by false g = g
-calls_few x (entry.Input dev routed ∷ front) = let same =
-    item_calls x (deliveries_of routed) (projection x front) in let more = calls_few x front in omega arith
-calls_few x (entry.Shot n ∷ front) = calls_few x front
-calls_few x (entry.Final ∷ front) = calls_few x front
+calls_few x (entry.Call sid call r ∷ front) =
+    let g = calls_few x front in
+    elim (cases_Bool (sid == x)) [ inl e ↦ rw e (omega arith) | inr e ↦ rw e g ]
+calls_few x (entry.Input dev routed ∷ front) = rw (item_calls x (deliveries_of routed) (projection x front))
+    (calls_few x front)
+calls_few x (other ∷ front) = calls_few x front
 
 -- ---- all entries
-
-all_from : {A : Type 0} (P : A → Type 0) (xs : List A) → All P xs → AllByRecursion P xs
-all_from P [] h = tt
-all_from P (x ∷ xs) h = (h 0 x (omega arith), all_from P xs (λ k d inside. h (suc k) d (omega arith)))
 
 both_all : {A : Type 0} (P Q R : A → Type 0) (xs : List A) → ((x : A) → P x → Q x → R x) → AllByRecursion P xs
     → AllByRecursion Q xs → AllByRecursion R xs
@@ -225,52 +197,46 @@ pub record Laws : Type 0 where
 
 module _ (laws : Laws) (s : Setup) (runnable : IsRunnable s) (journal : List Entry) (j : IsJournal s journal) where
   legal_at : (all : List Entry) → journal ≡ all → IsLegal s.config all
-  legal_at all parts = subst (λ (es : List Entry). IsLegal s.config es) parts j.legal
+  legal_at all parts = rw (← parts) j.legal
 
   -- the calls of a client are those of its script
-  calls_are : (sid : ℕ) → sid < length s.scripts → calls_of sid journal ≡ done (calls_to_make (get_or s.scripts sid []))
-  calls_are sid there = j.whole.calls sid (subst (λ (n : ℕ). sid < n) (sym (length-map s.scripts calls_to_make)) there)
-      ∙ ap done (get_or-map calls_to_make s.scripts sid [] [] there)
+  there : (sid : ℕ) → sid < length s.config.clients → sid < length s.scripts
+  there sid inside = rw runnable.scripts inside
+
+  lines_are : (sid : ℕ) → sid < length s.config.clients → AreLines FitsLine (get_or s.scripts sid [])
+  lines_are sid inside = each_at (AreLines FitsLine) s.scripts sid [] (there sid inside) runnable.lines
+
+  calls_are : (sid : ℕ) → sid < length s.config.clients
+      → calls_of sid journal ≡ done (calls_to_make (get_or s.scripts sid []))
+  calls_are sid inside = j.whole.calls sid (rw (length-map s.scripts calls_to_make) (there sid inside))
+      ∙ ap done (get_or-map calls_to_make s.scripts sid [] [] (there sid inside))
 
   -- so a front has few of them
   front_few : (front : List Entry) (e : Entry) (rest : List Entry) (sid : ℕ) → journal ≡ front ++ e ∷ rest
       → sid < length s.config.clients → calls_among (projection sid front) ≤ 65536
   front_few front e rest sid parts inside =
-      let there : sid < length s.scripts = subst (λ (n : ℕ). sid < n) (sym runnable.scripts) inside in
-      let script = get_or s.scripts sid [] in
-      let lines = (each_at (AreLines FitsLine) s.scripts sid [] there runnable.lines).1 in
-      let short = calls_short 0 script in
+      let lines = (lines_are sid inside).1 in
+      let short = calls_short (get_or s.scripts sid []) in
       let few = calls_few sid front in
-      let all = ap length (sym (calls_are sid there) ∙ ap (calls_of sid) parts ∙ calls_of-append sid front (e ∷ rest))
-      ∙ length-append (calls_of sid front) (calls_of sid (e ∷ rest)) in
-      omega arith
+      let all = rw (parts, calls_of-append sid front (e ∷ rest)) at (ap length (calls_are sid inside)) in
+      omega (arith, length-append (calls_of sid front) (calls_of sid (e ∷ rest)))
 
   call_fits : (front : List Entry) (sid : ℕ) (call : Call) (r : Reply) (rest : List Entry)
       → journal ≡ front ++ entry.Call sid call r ∷ rest → sid < length s.config.clients → FitsCall call
   call_fits front sid call r rest parts inside =
-      let there : sid < length s.scripts = subst (λ (n : ℕ). sid < n) (sym runnable.scripts) inside in
-      let script = get_or s.scripts sid [] in
-      let fits : AllByRecursion FitsCall (done (calls_to_make script)) =
-      calls_fit 0 script (each_at (AreLines FitsLine) s.scripts sid [] there runnable.lines).0 in
-      let calls : calls_of sid journal ≡ done (calls_to_make script) = calls_are sid there in
-      call_there front sid call r rest
-      (subst (λ (es : List Entry). AllByRecursion FitsCall (calls_of sid es)) parts
-      (subst (λ (cs : List Call). AllByRecursion FitsCall cs) (sym calls) fits))
+      call_there front sid call r rest (rw (← parts, calls_are sid inside) (calls_fit 0 _ (lines_are sid inside).0))
 
   dev_fits : (front : List Entry) (dev : Device) (routed : Routed) (rest : List Entry)
       → journal ≡ front ++ entry.Input dev routed ∷ rest → FitsDevice dev
   dev_fits front dev routed rest parts =
       action_there front dev routed rest
-      (subst (λ (es : List Entry). AllByRecursion ActionFits (user_actions_of es)) parts
-      (subst (λ (ds : List UserAction). AllByRecursion ActionFits ds) (sym j.whole.actions)
-      (actions_fit 0 s.input runnable.input_lines.0)))
+      (rw (← parts, j.whole.actions) (actions_fit 0 s.input runnable.input_lines.0))
 
   -- the caller is a session
   caller : (front : List Entry) (sid : ℕ) (call : Call) (r : Reply) (rest : List Entry)
       → journal ≡ front ++ entry.Call sid call r ∷ rest → sid < length s.config.clients
   caller front sid call r rest parts =
-      subst (λ (n : ℕ). sid < n) (laws.sessions s.config front)
-      (laws.agrees s.config front (entry.Call sid call r) rest
+      rw (← laws.sessions s.config front) (laws.agrees s.config front (entry.Call sid call r) rest
       (legal_at (front ++ entry.Call sid call r ∷ rest) parts)).0
 
   device_at : (front : List Entry) (e : Entry) (rest : List Entry) → journal ≡ front ++ e ∷ rest → DevFits e
@@ -280,8 +246,8 @@ module _ (laws : Laws) (s : Setup) (runnable : IsRunnable s) (journal : List Ent
   -- a place of a front is one of the journal
   within_front : (front : List Entry) (e : Entry) (rest before : List Entry) (x : Entry) (after' : List Entry)
       → journal ≡ front ++ e ∷ rest → front ≡ before ++ x ∷ after' → journal ≡ before ++ x ∷ (after' ++ e ∷ rest)
-  within_front front e rest before x after' parts is = parts ∙ ap (λ (es : List Entry). es ++ e ∷ rest) is
-      ∙ append_assoc before (x ∷ after') (e ∷ rest)
+  within_front front e rest before x after' parts is =
+      parts ∙ rw is (append_assoc before (x ∷ after') (e ∷ rest))
 
   pointer_at : (front : List Entry) (e : Entry) (rest : List Entry) → journal ≡ front ++ e ∷ rest
       → PointsFit (replay s.config front).input
@@ -295,8 +261,7 @@ module _ (laws : Laws) (s : Setup) (runnable : IsRunnable s) (journal : List Ent
   items_at front dev routed rest parts =
       let t = replay s.config front in
       let e = entry.Input dev routed in
-      subst ItemsFit (sym (laws.kept t (shots front) dev routed
-      (laws.agrees s.config front e rest (legal_at (front ++ e ∷ rest) parts))))
+      rw (laws.kept t (shots front) dev routed (laws.agrees s.config front e rest (legal_at (front ++ e ∷ rest) parts)))
       (route_fits t.config t.input t.stack dev (dev_fits front dev routed rest parts)
       (pointer_at front e rest parts)).items
 
@@ -318,12 +283,9 @@ module _ (laws : Laws) (s : Setup) (runnable : IsRunnable s) (journal : List Ent
       let few : 0 + calls_among (projection sid front) ≤ 2000000 = let few =
       front_few front e rest sid parts inside in omega arith in
       let donation : donation_of s.config sid ≤ 8388608 = (runnable.configured.clients sid _ inside).donation.1 in
-      subst (λ (t : Session). IsFine t (calls_among (projection sid front)))
-      (sym (laws.machines s.config front sid legal inside))
-      (subst (λ (n : ℕ). IsFine (alone_machine (donation_of s.config sid) (projection sid front)) n)
-      (zero-add (calls_among (projection sid front)))
+      rw (laws.machines s.config front sid legal inside, ← zero-add (calls_among (projection sid front)))
       (moments_fine (first_session (donation_of s.config sid)) 0 (projection sid front)
-      (opens_fine (donation_of s.config sid) donation) few moments))
+      (opens_fine (donation_of s.config sid) donation) few moments)
 
   session_small : (sid : ℕ) → sid < length s.config.clients → sid ≤ 15
   session_small sid inside = let few = runnable.configured.count.1 in omega arith
@@ -337,7 +299,7 @@ module _ (laws : Laws) (s : Setup) (runnable : IsRunnable s) (journal : List Ent
       front_few front e rest sid parts inside in omega arith in
       let fits = call_fits front sid call r rest parts inside in (
         session_small sid inside,
-        subst FitsReply (sym agrees.1)
+        rw agrees.1
             (answer_fits (session (replay s.config front) sid) (calls_among (projection sid front)) call
             (fine_at front e rest sid parts inside) few fits),
         fits,
@@ -349,12 +311,12 @@ module _ (laws : Laws) (s : Setup) (runnable : IsRunnable s) (journal : List Ent
       let ds = deliveries_of routed in
       let kept : ds ≡ (route t.config t.input t.stack dev).deliveries = laws.kept t (shots front) dev routed agrees in
       let alive : AllByRecursion (λ d. IsLive t d.sid) ds =
-      all_from (λ d. IsLive t d.sid) ds
+      recursion_from_All (λ d. IsLive t d.sid) ds
       (laws.live s.config front dev routed rest (legal_at (front ++ e ∷ rest) parts)) in
       let each : AllByRecursion FitsDelivery ds =
       both_all (λ d. IsLive t d.sid) (λ d. FitsItem d.item) FitsDelivery ds
       (λ d lives fits. (
-        session_small d.sid (subst (λ (n : ℕ). d.sid < n) (laws.sessions s.config front) lives.0),
+        session_small d.sid (rw (← laws.sessions s.config front) lives.0),
         fits,
       )) alive (items_at front dev routed rest parts) in
       (dev_fits front dev routed rest parts, (each, agrees ∙ ap routed_as (sym kept)))
@@ -363,7 +325,7 @@ module _ (laws : Laws) (s : Setup) (runnable : IsRunnable s) (journal : List Ent
       let agrees = laws.agrees s.config front e rest (legal_at (front ++ e ∷ rest) parts) in
       let there = shot_there front number rest in
       let actions : length (user_actions_of (front ++ e ∷ rest)) ≡ length (done (user_actions_from 0 s.input)) =
-      ap (λ (es : List Entry). length (user_actions_of es)) (sym parts) ∙ ap length j.whole.actions in
+      rw (← parts, j.whole.actions) refl in
       let few = actions_few 0 s.input in
       let lines = runnable.input_lines.1 in
       (omega (arith, agrees), omega (arith, agrees))

@@ -1,7 +1,6 @@
 -- What answers use: all that lemmas use, and this crate's lemmas.
-pub use Rattle.nit_run.proofs.Basics.{Entry, IsLegal, Reply, after, calls_to_make, done}
-pub use Rattle.nit_run.proofs.Basics.{events_among, first_state, get_or-map, length-map, replay}
-pub use Rattle.nit_run.proofs.Basics.{shots}
+pub use Rattle.nit_run.proofs.Basics.{Entry, IsLegal, after, calls_to_make, done, events_among}
+pub use Rattle.nit_run.proofs.Basics.{first_state, get_or-map, length-map, replay, shots}
 pub use Rattle.nit_run.proofs.EntryCounts.{generated_entries}
 pub use Rattle.nit_run.proofs.Events.{events_taken}
 pub use Rattle.nit_run.proofs.HeadlineLemmas.{NearLaws, end_shows, files_counted, focus_by_call}

@@ -1,16 +1,17 @@
 -- What the machine of a session answers is within the format of texts.
-use Rattle.std.proofs.Common.{◌≡◌, ℕ, ◌+◌, ◌*◌, ◌<◌, ◌≤◌, ◌^◌, Bool, true, false, cond, ◌&&◌}
+use Rattle.std.proofs.Common.{rules, ◌≡◌, ℕ, ◌+◌, ◌*◌, ◌<◌, ◌≤◌, ◌^◌, Bool, true, false, cond, ◌&&◌}
 use Rattle.std.proofs.Common.{nat_lt, nat_le, List, [], ◌∷◌, ◌++◌, length, Option, Some, None, refl}
-use Rattle.std.proofs.Common.{subst, arith}
+use Rattle.std.proofs.Common.{arith, add-zero, add_assoc, inl, inr}
 use Rattle.nit_run.proofs.Basics.{Above, AllByRecursion, Answered, Back, Buffer, Call, Calls, Close}
 use Rattle.nit_run.proofs.Basics.{Destroy, Event, FitsCall, FitsEvent, FitsItem, FitsReply, Front}
 use Rattle.nit_run.proofs.Basics.{Gets, Item, Observation, Offset, Place, Refresh, Reply, Session}
 use Rattle.nit_run.proofs.Basics.{Status, Take, Title, Upgrade, View, accepted, after_observations}
-use Rattle.nit_run.proofs.Basics.{and_parts, buffer_left, buffer_need, by_call, by_handle, by_life}
-use Rattle.nit_run.proofs.Basics.{by_quota, by_refusal, by_reserve, by_status, first_session}
-use Rattle.nit_run.proofs.Basics.{has_view, is_place, is_rectangle, is_side, is_title, leb-true}
-use Rattle.nit_run.proofs.Basics.{min-le_right, mul-le-mul_left, mul-le-mul_right, receive, refusal}
-use Rattle.nit_run.proofs.Basics.{second_none, taking, unless, view_left, view_need, ◌orelse◌}
+use Rattle.nit_run.proofs.Basics.{all_append, buffer_left, buffer_need, by_call, by_life}
+use Rattle.nit_run.proofs.Basics.{by_quota, by_refusal, by_reserve, by_status, cases_Bool}
+use Rattle.nit_run.proofs.Basics.{first_session, has_view, is_rectangle, is_side}
+use Rattle.nit_run.proofs.Basics.{leb-true, min-le_right, mul-le, nat_tests, receive}
+use Rattle.nit_run.proofs.Basics.{refusal, second_none, taking, unless, view_left, view_need}
+use Rattle.nit_run.proofs.Basics.{◌orelse◌}
 use Rattle.nit_journal.specs.Session.{serve}
 use Rattle.nit_events.specs.declared.event.Item.TheVariants as item
 use Rattle.nit_events.specs.declared.event.Status.TheVariants as status
@@ -23,12 +24,9 @@ pub record IsFine (t : Session) (n : ℕ) : Type 0 where
   pub queue : AllByRecursion FitsEvent t.queue
 
 pub opens_fine : (donation : ℕ) → donation ≤ 8388608 → IsFine (first_session donation) 0
-opens_fine donation most = record {
-  sum = let less = min-le_right (2 * donation) 8388608 in omega arith;
-  next =
-      omega arith;
-  queue = tt;
-}
+opens_fine donation most =
+    let less = min-le_right (2 * donation) 8388608 in
+    record { sum = omega arith; next = omega arith; queue = tt }
 
 -- ---- refusals
 
@@ -44,26 +42,17 @@ fits_first : (p q : Option Reply) → RefusalFits p → RefusalFits q → Refusa
 fits_first (Some r) q f g = f
 fits_first None q f g = g
 
-fits_shape : (t : Session) (v : ℕ) (b : Bool) (r : Reply) → v < 10 ^ 9 → FitsReply r
-    → RefusalFits (by_handle t v orelse unless b r)
-fits_shape t v b r small f = fits_first (by_handle t v) (unless b r)
-    (fits_unless (has_view t v) (reply.NoSuchView v) small) (fits_unless b r f)
-
 need_small : (w h : ℕ) → (is_side w && is_side h) ≡ true → buffer_need w h < 10 ^ 9
 need_small w h is =
-    let wide : w ≤ 4096 = leb-true w 4096
-    (and_parts (nat_le 1 w) (nat_le w 4096) (and_parts (is_side w) (is_side h) is).0).1 in
-    let tall : h ≤ 4096 = leb-true h 4096
-    (and_parts (nat_le 1 h) (nat_le h 4096) (and_parts (is_side w) (is_side h) is).1).1 in
-    let a : w * h ≤ w * 4096 = mul-le-mul_left w tall in
-    let b : w * 4096 ≤ 4096 * 4096 = mul-le-mul_right 4096 wide in
+    let sides : (w ≤ 4096) × (h ≤ 4096) = grind (arith, nat_tests) in
+    let most = mul-le w h 4096 4096 sides.0 sides.1 in
     omega arith
 
 fits_buffer : (b : Bool) (t : Session) (n w h : ℕ) → IsFine t n → (is_side w && is_side h) ≡ b
     → RefusalFits (unless b reply.BadSize orelse by_quota (buffer_need w h) (buffer_left t.donation (length t.handles)))
 fits_buffer false t n w h f is = tt
 fits_buffer true t n w h f is =
-    let left : buffer_left t.donation (length t.handles) < 10 ^ 9 = let most = f.sum in omega arith in
+    let left : buffer_left t.donation (length t.handles) < 10 ^ 9 = omega (arith, f.sum) in
     fits_unless (nat_le (buffer_need w h) (buffer_left t.donation (length t.handles)))
     (reply.OutOfQuota (buffer_need w h) (buffer_left t.donation (length t.handles))) (need_small w h is, left)
 
@@ -71,23 +60,21 @@ fits_by_call : (t : Session) (n : ℕ) (call : Call) → IsFine t n → FitsCall
 fits_by_call t n (Buffer w h) f c = fits_buffer (is_side w && is_side h) t n w h f refl
 fits_by_call t n View f c =
     let left = view_left t.donation (length t.handles) (t.bw * t.bh) in
-    let small : left < 10 ^ 9 = let most = f.sum in omega arith in
+    let small : left < 10 ^ 9 = omega (arith, f.sum) in
     let need : view_need < 10 ^ 9 = omega arith in
     fits_first (unless (nat_lt (length t.handles) 64) reply.TooManyViews) (by_quota view_need left)
     (fits_unless (nat_lt (length t.handles) 64) reply.TooManyViews tt)
     (fits_unless (nat_le view_need left) (reply.OutOfQuota view_need left) (need, small))
-fits_by_call t n (Place v x y w h) f c = fits_shape t v (is_rectangle x y w h) reply.BadRect c.0 tt
-fits_by_call t n (Offset v x y) f c = fits_shape t v (is_place x && is_place y) reply.BadRect c.0 tt
+fits_by_call t n (Place v x y w h) f c = search (rules, fits_first, fits_unless)
+fits_by_call t n (Offset v x y) f c = search (rules, fits_first, fits_unless)
 fits_by_call t n (Front v) f c = fits_unless (has_view t v) (reply.NoSuchView v) c
 fits_by_call t n (Back v) f c = fits_unless (has_view t v) (reply.NoSuchView v) c
-fits_by_call t n (Above v w) f c =
-    fits_first (by_handle t v) (by_handle t w) (fits_unless (has_view t v) (reply.NoSuchView v) c.0)
-    (fits_unless (has_view t w) (reply.NoSuchView w) c.1)
-fits_by_call t n (Title v text) f c = fits_shape t v (is_title text) reply.BadTitle c.0 tt
+fits_by_call t n (Above v w) f c = search (rules, fits_first, fits_unless)
+fits_by_call t n (Title v text) f c = search (rules, fits_first, fits_unless)
 fits_by_call t n (Destroy v) f c = fits_unless (has_view t v) (reply.NoSuchView v) c
 fits_by_call t n (Refresh x y w h) f c = fits_unless (is_rectangle x y w h) reply.BadRect tt
-fits_by_call t n (Upgrade m) f c = let small : t.reserve < 10 ^ 9 = let most =
-    f.sum in omega arith in fits_unless (nat_le m t.reserve) (reply.NoReserve m t.reserve) (c, small)
+fits_by_call t n (Upgrade m) f c =
+    fits_unless (nat_le m t.reserve) (reply.NoReserve m t.reserve) (c, (let most = f.sum in omega arith))
 fits_by_call t n other f c = tt
 
 fits_status : (s : Status) → RefusalFits (by_status s)
@@ -106,45 +93,39 @@ record AnswerFits (a : Answered) (n : ℕ) : Type 0 where
   fine : IsFine a.session (n + 1)
 
 later : (t : Session) (n : ℕ) → IsFine t n → IsFine t (n + 1)
-later t n f = record { sum = f.sum; next = let most = f.next in omega arith; queue = f.queue }
+later t n f = record { sum = f.sum; next = omega (arith, f.next); queue = f.queue }
 
 taking_fits : (queue : List Event) (t : Session) (n : ℕ) → IsFine t n → AllByRecursion FitsEvent queue
     → AnswerFits (taking queue t) n
 taking_fits [] t n f q = record { reply_fits = tt; fine = later t n f }
 taking_fits (e ∷ es) t n f q =
-    record { reply_fits = q.0; fine = record { sum = f.sum; next = let most = f.next in omega arith; queue = q.1 } }
+    record { reply_fits = q.0; fine = record { sum = f.sum; next = omega (arith, f.next); queue = q.1 } }
 
 -- an upgrade that is not refused is within the reserve
 within : (t : Session) (m : ℕ) → by_reserve m t.reserve ≡ None → m ≤ t.reserve
-within t m none = by (nat_le m t.reserve) refl none
-  where
-    by : (b : Bool) → nat_le m t.reserve ≡ b → unless b (reply.NoReserve m t.reserve) ≡ None → m ≤ t.reserve
-    by true is e = leb-true m t.reserve is
-    by false is e = absurd cc
+within t m none = elim (cases_Bool (nat_le m t.reserve)) [
+  | inl is ↦ leb-true m t.reserve is
+  | inr is ↦ let some = rw is at none in absurd cc
+]
 
 accepted_fits : (t : Session) (n : ℕ) (call : Call) → IsFine t n → n ≤ 2000000 → by_call t call ≡ None
     → AnswerFits (accepted t call) n
-accepted_fits t n (Buffer w h) f few none =
-    record { reply_fits = tt; fine = record { sum = f.sum; next = let most = f.next in omega arith; queue = f.queue } }
 accepted_fits t n View f few none =
     record {
-      reply_fits = let most = f.next in omega arith;
-      fine =
-          record { sum = f.sum; next = let most = f.next in omega arith; queue = f.queue };
+      reply_fits = omega (arith, f.next);
+      fine = record { sum = f.sum; next = omega (arith, f.next); queue = f.queue };
     }
-accepted_fits t n (Destroy v) f few none =
-    record { reply_fits = tt; fine = record { sum = f.sum; next = let most = f.next in omega arith; queue = f.queue } }
 accepted_fits t n Take f few none = taking_fits t.queue t n f f.queue
 accepted_fits t n (Upgrade m) f few none =
     let room_there = within t m none in
     record {
       reply_fits = tt;
-      fine =
-          record { sum = let most = f.sum in omega arith; next = let most = f.next in omega arith; queue = f.queue };
+      fine = record { sum = omega (arith, f.sum); next = omega (arith, f.next); queue = f.queue };
     }
 accepted_fits t n Close f few none =
-    record { reply_fits = tt; fine = record { sum = f.sum; next = let most = f.next in omega arith; queue = tt } }
-accepted_fits t n other f few none = record { reply_fits = tt; fine = later t n f }
+    record { reply_fits = tt; fine = record { sum = f.sum; next = omega (arith, f.next); queue = tt } }
+accepted_fits t n other f few none =
+    record { reply_fits = tt; fine = record { sum = f.sum; next = omega (arith, f.next); queue = f.queue } }
 
 served : (t : Session) (n : ℕ) (call : Call) → IsFine t n → n ≤ 2000000 → FitsCall call → AnswerFits (serve t call) n
 unfolding serve
@@ -160,14 +141,10 @@ answer_fits t n call f few c = (served t n call f few c).reply_fits
 
 -- ---- items, and moments
 
-more_events : (queue : List Event) (e : Event) → AllByRecursion FitsEvent queue → FitsEvent e
-    → AllByRecursion FitsEvent (queue ++ e ∷ [])
-more_events [] e q f = (f, tt)
-more_events (x ∷ queue) e q f = (q.0, more_events queue e q.1 f)
-
 queued_fine : (b : Bool) (t : Session) (n : ℕ) (e : Event) → IsFine t n → FitsEvent e
     → IsFine (cond b (record t { queue = t.queue ++ e ∷ [] }) (record t { lost = t.lost + 1 })) n
-queued_fine true t n e f g = record { sum = f.sum; next = f.next; queue = more_events t.queue e f.queue g }
+queued_fine true t n e f g =
+    record { sum = f.sum; next = f.next; queue = all_append FitsEvent t.queue (e ∷ []) f.queue (g, tt) }
 queued_fine false t n e f g = record { sum = f.sum; next = f.next; queue = f.queue }
 
 receive_fine : (s : Status) (t : Session) (n : ℕ) (i : Item) → IsFine t n → FitsItem i → IsFine (by_life s i t) n
@@ -188,9 +165,8 @@ calls_among (Gets i ∷ rest) = calls_among rest
 
 pub moments_fine : (t : Session) (n : ℕ) (moments : List Observation) → IsFine t n → n + calls_among moments ≤ 2000000
     → AllByRecursion MomentFits moments → IsFine (after_observations t moments) (n + calls_among moments)
-moments_fine t n [] f few g = subst (λ (m : ℕ). IsFine t m) (let e : n ≡ n + 0 = omega arith in e) f
+moments_fine t n [] f few g = rw add-zero f
 moments_fine t n (Calls call ∷ rest) f few g =
-    subst (λ (m : ℕ). IsFine (after_observations (serve t call).session rest) m) (let e : n + 1 + calls_among rest
-    ≡ n + (1 + calls_among rest) = omega arith in e)
+    rw (← add_assoc n 1 (calls_among rest))
     (moments_fine (serve t call).session (n + 1) rest (served t n call f (omega arith) g.0).fine (omega arith) g.1)
 moments_fine t n (Gets i ∷ rest) f few g = moments_fine (receive t i) n rest (receive_fine t.status t n i f g.0) few g.1

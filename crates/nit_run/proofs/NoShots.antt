@@ -1,21 +1,19 @@
 -- The pictures of a run whose user takes no shot.
-use Rattle.std.proofs.Common.{◌≡◌, List, [], ◌∷◌, refl, ℕ, zero, suc, ◌++◌, map, replicate, ap, ◌∙◌}
+use Rattle.std.proofs.Common.{◌≡◌, List, [], ◌∷◌, refl, ℕ, zero, suc, ◌++◌, replicate, ap, ◌∙◌}
 use Rattle.nit_run.proofs.Basics.{ActorLine, AreOutputs, ByClient, ByUser, Configuration, Drawing}
 use Rattle.nit_run.proofs.Basics.{Entry, File, InputLine, IsJournal, Line, LineTurn, after_turn}
 use Rattle.nit_run.proofs.Basics.{count_by, done, final_name, final_picture, fold, input_by_user}
-use Rattle.nit_run.proofs.Basics.{input_lines_of, is_phase, opening_drawing, rounds, shot_file}
-use Rattle.nit_run.proofs.Basics.{shots, shots_after, still_setup, user_actions_from}
-use Rattle.nit_run.proofs.Basics.{user_actions_of}
+use Rattle.nit_run.proofs.Basics.{input_lines_of, is_phase, opening_drawing, rounds, shots}
+use Rattle.nit_run.proofs.Basics.{shots_after, still_setup, user_actions_from, user_actions_of}
 use Rattle.nit_rounds.specs.Drawing.{drawn}
 use Rattle.nit_events.specs.declared.entry.Entry.TheVariants as entry
 use Rattle.nit_script.specs.declared.line.InputLine.TheVariants as input
 
 pub no_shots : (es : List Entry) → user_actions_of es ≡ [] → shots es ≡ 0
 no_shots [] none = refl
-no_shots (entry.Call s c r ∷ es) none = no_shots es none
 no_shots (entry.Input dev routed ∷ es) none = absurd cc
 no_shots (entry.Shot n ∷ es) none = absurd cc
-no_shots (entry.Final ∷ es) none = no_shots es none
+no_shots (other ∷ es) none = no_shots es none
 
 -- ---- a user who does nothing
 
@@ -63,9 +61,11 @@ pub one_file : UserOnce → (width height : ℕ) (lines : List Line) (journal : 
     → files ≡ (final_name, final_picture (still_setup width height lines) journal) ∷ []
 one_file once width height lines journal files j are =
     let s = still_setup width height lines in
-    are.2 ∙ ap (λ (fs : List File). fs ++ (final_name, final_picture s journal) ∷ [])
-    (are.1.by_rounds refl ∙ ap (map shot_file)
-    (no_picture s.config s.scripts (rounds s.scripts s.input) (count_by is_phase lines) (once s.scripts s.input)))
+    rw (
+      are.2,
+      are.1.by_rounds refl,
+      no_picture s.config s.scripts (rounds s.scripts s.input) (count_by is_phase lines) (once s.scripts s.input),
+    ) refl
 
 pub no_shot : (width height : ℕ) (lines : List Line) (journal : List Entry)
     → IsJournal (still_setup width height lines) journal → shots journal ≡ 0

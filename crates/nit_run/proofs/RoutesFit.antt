@@ -1,13 +1,14 @@
 -- What the user's input delivers is within the format of texts.
-use Rattle.std.proofs.Common.{◌≡◌, ℕ, ◌-◌, ◌≤◌, Bool, true, false, cond, not, ◌&&◌, List, [], ◌∷◌}
-use Rattle.std.proofs.Common.{◌++◌, Option, Some, None, refl, arith, ◌==◌}
+use Rattle.std.proofs.Common.{◌≡◌, ℕ, ◌-◌, ◌≤◌, Bool, cond, not, ◌&&◌, List, [], ◌∷◌, ◌++◌, Option}
+use Rattle.std.proofs.Common.{Some, None, refl, arith, ◌==◌}
 use Rattle.nit_run.proofs.Basics.{AllByRecursion, Delivery, Device, Event, FitsDevice, FitsEvent}
 use Rattle.nit_run.proofs.Basics.{FitsItem, Flat, InputState, IsCode, Kill, Mode, Routing, Xray}
-use Rattle.nit_run.proofs.Basics.{filter, first_press, focusing, hovering, ignored, is_button}
-use Rattle.nit_run.proofs.Basics.{is_held, is_same, kill_button, kill_key, kill_mode, killing}
-use Rattle.nit_run.proofs.Basics.{leaving, letting_go, min-le_left, moving, pointer_after, press}
-use Rattle.nit_run.proofs.Basics.{pressing, received, release, routing, switching, takes_focus, to}
-use Rattle.nit_run.proofs.Basics.{unreceived, with_held, xray_key, xray_mode}
+use Rattle.nit_run.proofs.Basics.{all_append, either, filter, first_press, focusing, hovering}
+use Rattle.nit_run.proofs.Basics.{ignored, is_button, is_held, is_same, kill_button, kill_key}
+use Rattle.nit_run.proofs.Basics.{kill_mode, killing, leaving, letting_go, min-le_left, moving}
+use Rattle.nit_run.proofs.Basics.{pointer_after, press, pressing, received, release, routing}
+use Rattle.nit_run.proofs.Basics.{switching, takes_focus, to, unreceived, with_held, xray_key}
+use Rattle.nit_run.proofs.Basics.{xray_mode}
 use Rattle.nit_events.specs.declared.event.Event.TheVariants as event
 use Rattle.nit_events.specs.declared.device.Device.TheVariants as device
 
@@ -16,8 +17,7 @@ abbrev pub ItemsFit : List Delivery → Type 0
 ItemsFit ds = AllByRecursion (λ d. FitsItem d.item) ds
 
 both : (xs ys : List Delivery) → ItemsFit xs → ItemsFit ys → ItemsFit (xs ++ ys)
-both [] ys f g = g
-both (d ∷ xs) ys f g = (f.0, both xs ys f.1 g)
+both xs ys f g = all_append (λ d. FitsItem d.item) xs ys f g
 
 -- what is delivered fits, and the pointer stays where it is
 pub record RouteFits (i : InputState) (r : Routing) : Type 0 where
@@ -29,10 +29,6 @@ to_fits : (o : Option ℕ) (e : Event) → FitsEvent e → ItemsFit (to o e)
 to_fits None e f = tt
 to_fits (Some s) e f = (f, tt)
 
-either : (b : Bool) (i : InputState) (r q : Routing) → RouteFits i r → RouteFits i q → RouteFits i (cond b r q)
-either true i r q f g = f
-either false i r q f g = g
-
 ignored_fits : (i : InputState) → RouteFits i (ignored i)
 ignored_fits i = record { items = tt; x = refl; y = refl }
 
@@ -41,14 +37,10 @@ hovering_fits : (m : Mode) (pointed : Option ℕ) (i : InputState) (e : Event) �
 hovering_fits Flat pointed i e f =
     record {
       items = both (cond (is_same i.hover pointed) [] (to i.hover event.Leave)) (to pointed e)
-          (left_or_not (is_same i.hover pointed)) (to_fits pointed e f);
+          (either ItemsFit (is_same i.hover pointed) _ _ tt (to_fits i.hover event.Leave tt)) (to_fits pointed e f);
       x = refl;
       y = refl;
     }
-  where
-    left_or_not : (b : Bool) → ItemsFit (cond b [] (to i.hover event.Leave))
-    left_or_not true = tt
-    left_or_not false = to_fits i.hover event.Leave tt
 hovering_fits other pointed i e f = ignored_fits i
 
 moving_fits : (held : List ℕ) (pointed : Option ℕ) (i : InputState) (e : Event) → FitsEvent e
@@ -66,12 +58,7 @@ switching_fits (k ∷ ks) i new = ignored_fits i
 
 focusing_fits : (clicks : Bool) (pointed : Option ℕ) (i : InputState) → RouteFits i (focusing clicks pointed i)
 focusing_fits clicks pointed i =
-    either (takes_focus clicks pointed && not (is_same pointed i.focus)) i
-    (record {
-      state = record i { focus = pointed };
-      deliveries =
-          to i.focus event.FocusLeave ++ to pointed event.FocusEnter;
-    }) (ignored i)
+    either (RouteFits i) (takes_focus clicks pointed && not (is_same pointed i.focus)) _ _
     (record {
       items = both (to i.focus event.FocusLeave) (to pointed event.FocusEnter)
           (to_fits i.focus event.FocusLeave tt) (to_fits pointed event.FocusEnter tt);
@@ -80,12 +67,13 @@ focusing_fits clicks pointed i =
     })
     (ignored_fits i)
 
-received_fits : (s : Option ℕ) (e : Event) (i : InputState) (r : Routing) → FitsEvent e → RouteFits i r
+received_fits : {i : InputState} {r : Routing} (s : Option ℕ) (e : Event) → FitsEvent e → RouteFits i r
     → RouteFits i (received s e r)
-received_fits s e i r f h = record { items = both r.deliveries (to s e) h.items (to_fits s e f); x = h.x; y = h.y }
+received_fits {r = r} s e f h =
+    record { items = both r.deliveries (to s e) h.items (to_fits s e f); x = h.x; y = h.y }
 
-unreceived_fits : (i : InputState) (r : Routing) → RouteFits i r → RouteFits i (unreceived r)
-unreceived_fits i r h = record { items = h.items; x = h.x; y = h.y }
+unreceived_fits : {i : InputState} {r : Routing} → RouteFits i r → RouteFits i (unreceived r)
+unreceived_fits h = record { items = h.items; x = h.x; y = h.y }
 
 killing_fits : (pointed : Option ℕ) (i : InputState) → RouteFits i (killing pointed i)
 killing_fits None i = record { items = tt; x = refl; y = refl }
@@ -94,17 +82,13 @@ killing_fits (Some s) i = record { items = (tt, tt); x = refl; y = refl }
 first_press_fits : (m : Mode) (clicks : Bool) (pointed : Option ℕ) (i : InputState) (k : ℕ) → IsCode k
     → RouteFits i (first_press m clicks pointed i k)
 first_press_fits Flat clicks pointed i k f =
-    either (is_button k) i (received pointed (event.Press k) (focusing clicks pointed i))
-    (received i.focus (event.Press k) (ignored i))
-    (received_fits pointed (event.Press k) i (focusing clicks pointed i) f (focusing_fits clicks pointed i))
-    (received_fits i.focus (event.Press k) i (ignored i) f (ignored_fits i))
+    either (RouteFits i) (is_button k) _ _
+    (received_fits pointed (event.Press k) f (focusing_fits clicks pointed i))
+    (received_fits i.focus (event.Press k) f (ignored_fits i))
 first_press_fits Xray clicks pointed i k f =
-    unreceived_fits i (cond (is_button k) (focusing clicks pointed i) (ignored i))
-    (either (is_button k) i (focusing clicks pointed i) (ignored i) (focusing_fits clicks pointed i)
-    (ignored_fits i))
+    unreceived_fits (either (RouteFits i) (is_button k) _ _ (focusing_fits clicks pointed i) (ignored_fits i))
 first_press_fits Kill clicks pointed i k f =
-    unreceived_fits i (cond (k == kill_button) (killing pointed i) (ignored i))
-    (either (k == kill_button) i (killing pointed i) (ignored i) (killing_fits pointed i) (ignored_fits i))
+    unreceived_fits (either (RouteFits i) (k == kill_button) _ _ (killing_fits pointed i) (ignored_fits i))
 
 pressing_fits : (held : List ℕ) (clicks : Bool) (pointed : Option ℕ) (i : InputState) (k : ℕ) → IsCode k
     → RouteFits i (pressing held clicks pointed i k)
@@ -116,27 +100,21 @@ pressing_fits (j ∷ js) clicks pointed i k f =
 press_fits : (clicks : Bool) (pointed : Option ℕ) (i : InputState) (k : ℕ) → IsCode k
     → RouteFits i (press clicks pointed i k)
 press_fits clicks pointed i k f =
-    let last = cond (is_held i k) (ignored i) (pressing i.held clicks pointed i k) in
-    let rest = cond (k == kill_key) (switching i.held i (kill_mode i.mode)) last in
-    either (k == xray_key) i (switching i.held i (xray_mode i.mode)) rest (switching_fits i.held i (xray_mode i.mode))
-    (either (k == kill_key) i (switching i.held i (kill_mode i.mode)) last (switching_fits i.held i (kill_mode i.mode))
-    (either (is_held i k) i (ignored i) (pressing i.held clicks pointed i k) (ignored_fits i)
-    (pressing_fits i.held clicks pointed i k f)))
+    either (RouteFits i) (k == xray_key) _ _ (switching_fits i.held i (xray_mode i.mode))
+    (either (RouteFits i) (k == kill_key) _ _ (switching_fits i.held i (kill_mode i.mode))
+    (either (RouteFits i) (is_held i k) _ _ (ignored_fits i) (pressing_fits i.held clicks pointed i k f)))
+
+letting_go_fits : (held : List ℕ) (i : InputState) (ds : List Delivery) → ItemsFit ds
+    → RouteFits i (record { state = letting_go held i; deliveries = ds })
+letting_go_fits [] i ds f = record { items = f; x = refl; y = refl }
+letting_go_fits (j ∷ js) i ds f = record { items = f; x = refl; y = refl }
 
 release_fits : (i : InputState) (k : ℕ) → IsCode k → RouteFits i (release i k)
 release_fits i k f =
-    let held = filter (λ j. not (j == k)) i.held in
-    either (is_held i k) i (record { state = letting_go held i; deliveries = to i.receiver (event.Release k) })
-    (ignored i)
-    (record { items = to_fits i.receiver (event.Release k) f; x = column held; y = row held }) (ignored_fits i)
-  where
-    column : (held : List ℕ) → (letting_go held i).x ≡ i.x
-    column [] = refl
-    column (j ∷ js) = refl
-
-    row : (held : List ℕ) → (letting_go held i).y ≡ i.y
-    row [] = refl
-    row (j ∷ js) = refl
+    either (RouteFits i) (is_held i k) _ _
+    (letting_go_fits (filter (λ j. not (j == k)) i.held) i (to i.receiver (event.Release k))
+    (to_fits i.receiver (event.Release k) f))
+    (ignored_fits i)
 
 pub routing_fits : (clicks : Bool) (pointed : Option ℕ) (i : InputState) (dev : Device) → FitsDevice dev → i.x ≤ 65535
     → i.y ≤ 65535 → RouteFits i (routing clicks pointed i dev)
@@ -153,7 +131,7 @@ pub record PointsFit (i : InputState) : Type 0 where
 pub moved_fits : (width height : ℕ) (i : InputState) (dev : Device) → FitsDevice dev → PointsFit i
     → PointsFit (pointer_after width height i dev)
 moved_fits width height i (device.Motion x y) f p = record {
-  x = let less = min-le_left x (width - 1) in let most = f.0 in omega arith;
-  y = let less = min-le_left y (height - 1) in let most = f.1 in omega arith;
+  x = let less = min-le_left x (width - 1) in omega (arith, f.0);
+  y = let less = min-le_left y (height - 1) in omega (arith, f.1);
 }
 moved_fits width height i other f p = p

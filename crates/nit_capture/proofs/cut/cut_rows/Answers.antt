@@ -17,18 +17,12 @@ loop-row-preserved c =
     (λ k. word_of_bytes c.row_bytes.result.now (3 * k)) row r.w _ c.loop-row.into c.words_into.new.into
     room c.loop-row.invariant part (λ j below. sym (c.row_bytes.ensures.pixels j below)))
 
-pub returns-clause-value : goal.returns-clause-value
-returns-clause-value c =
+pub returns : goal.returns
+returns c =
     let test = c.loop-row-test.false in
-    all_cut _ _ _ _ _ c.loop-row.row (c.loop-row.auto.into ∙ c.requires.room)
-    (omega (arith, c.loop-row.auto.row-end, c.h-row-end.ensures.value)) (omega (arith, c.h-row-end.ensures.value))
-    c.loop-row.invariant
-
-pub returns-clause-picture : goal.returns-clause-picture
-returns-clause-picture c =
-    let test = c.loop-row-test.false in
+    let r = c.args.rect.now in
     let size = c.loop-row.auto.into ∙ c.requires.room in
-    cut_is_picture c.args.grid.width c.args.grid.height c.args.rect.now c.args.ppm.now _
-    (λ i. (c.type_inv.ppm i).fits) size (all_cut _ _ _ _ _ c.loop-row.row size
+    let value = all_cut _ _ r c.args.ppm.now _ c.loop-row.row size
     (omega (arith, c.loop-row.auto.row-end, c.h-row-end.ensures.value)) (omega (arith, c.h-row-end.ensures.value))
-    c.loop-row.invariant)
+    c.loop-row.invariant in
+    record { value = value; picture = cut_is_picture _ _ r _ _ (λ i. (c.type_inv.ppm i).fits) size value }

@@ -1,6 +1,6 @@
 use Rattle.std.proofs.Common.{take, ◌+◌, ◌∙◌}
-use Rattle.nit_capture.proofs.Lemmas.{arith, length-drop, refl, run_written, runs_written, tail_is}
-use Rattle.nit_capture.proofs.Lemmas.{take-put_mid}
+use Rattle.nit_capture.proofs.Lemmas.{arith, length-drop, refl, run_written, runs_written}
+use Rattle.nit_capture.proofs.Lemmas.{take-put_mid, take_rest}
 use Rattle.nit_capture.proofs.runs.write_runs.Goals as goal
 
 pub loop-at-preserved : goal.loop-at-preserved
@@ -8,8 +8,8 @@ loop-at-preserved c =
     let text = c.copy_from_slice.ensures.after ∙ c.run.ensures in
     let i = c.loop-at.invariant in
     let words = c.args.words.now in
-    let more = rw (tail_is words c.loop-at.at) at c.more_of-more.ensures.value in
-    let within = rw (tail_is words c.loop-at.at) at c.more_of-more.ensures.within in
+    let more = rw (take_rest words c.loop-at.at) at c.more_of-more.ensures.value in
+    let within = rw (take_rest words c.loop-at.at) at c.more_of-more.ensures.within in
     record {
       written = run_written (take c.loop-at.end c.loop-at.bytes) _ words _ c.loop-at.at c.more_of-more.result
           c.loop-at-test.true i.written more

@@ -1,7 +1,6 @@
-use Rattle.std.proofs.Common.{List, [], ap, arith, length, subst, sym, ℕ, ◌++◌, ◌∙◌, ◌≡◌, ◌≤◌}
-use Rattle.nit_report.proofs.Lemmas.{AllByRecursion, AppendsDraws, FitsLine, Line, appends_then}
-use Rattle.nit_report.proofs.Lemmas.{client_fits, client_lines, draws_in_turn, first_phase}
-use Rattle.nit_report.proofs.Lemmas.{second_phase, seed}
+use Rattle.std.proofs.Common.{List, [], arith, ℕ, ◌≡◌}
+use Rattle.nit_report.proofs.Lemmas.{AppendsDraws, Line, appends_then, client_fits, client_lines}
+use Rattle.nit_report.proofs.Lemmas.{first_phase, second_phase, seed}
 use Rattle.nit_report.specs.Generator.{client_script}
 use Rattle.nit_report.proofs.generated_client.client_script.Goals as goal
 use Rattle.nit_report.proofs.generated_client.client_script.Goals.{In_ok-put_second_phase}
@@ -9,9 +8,7 @@ use Rattle.nit_report.proofs.generated_client.client_script.Goals.{In_ok-put_sec
 script_is : (n c s t u : ℕ) (xs ys zs : List Line) → xs ≡ [] → s ≡ seed n c → AppendsDraws first_phase s xs t ys
     → AppendsDraws second_phase t ys u zs → zs ≡ client_script n c
 unfolding client_script
-script_is n c s t u xs ys zs none at p q =
-    (appends_then p q).values ∙ ap (λ (ls : List Line). ls ++ (draws_in_turn (first_phase ++ second_phase) s).0) none
-    ∙ ap (λ (k : ℕ). (draws_in_turn (first_phase ++ second_phase) k).0) at
+script_is n c s t u xs ys zs none at p q = rw (none, at) at (appends_then p q).values
 
 are_its : (c : In_ok-put_second_phase) → c.put_second_phase.new.lines.items ≡ client_script c.args.n c.args.client
 are_its c = script_is c.args.n c.args.client _ _ _ _ _ _ c.in_ok-lines.ensures.items c.new-stream.ensures
@@ -21,8 +18,5 @@ pub returns : goal.returns
 returns c = are_its c
 
 pub invariant_of-result : goal.invariant_of-result
-invariant_of-result c = subst (λ (lines : List Line). AllByRecursion FitsLine lines × (length lines ≤ 65536))
-    (sym (are_its c)) (
-      client_fits c.args.n c.args.client,
-      (let few = client_lines c.args.n c.args.client in omega arith),
-    )
+invariant_of-result c =
+    rw (are_its c) (client_fits c.args.n c.args.client, (let few = client_lines c.args.n c.args.client in omega arith))

@@ -1,4 +1,4 @@
-use Rattle.std.proofs.Common.{List, ap, append_assoc, ℕ, ◌++◌, ◌∙◌, ◌≡◌}
+use Rattle.std.proofs.Common.{List, append_assoc, ℕ, ◌++◌, ◌≡◌}
 use Rattle.nit_report.proofs.Lemmas.{client_label, codes, script_name}
 use Rattle.nit_report.proofs.generated_config.put_block.Goals as goal
 
@@ -10,8 +10,6 @@ pub returns : goal.returns
 returns c =
     five_pieces c.args.out.now.items
     (codes "\n[[client]]\nlabel = \"") (client_label c.args.client) (codes "\"\ndonation = 262144\nscript = \"")
-    (script_name c.args.client) (codes "\"\n") _ _ _ _ _
-    c.in_ok-put_text.ensures (c.in_ok-put_text-2.ensures
-    ∙ ap (λ (bytes : List ℕ). c.put_text.new.out.items ++ bytes) c.label_text.ensures.text)
-    c.in_ok-put_text-3.ensures (c.in_ok-put_text-4.ensures
-    ∙ ap (λ (bytes : List ℕ). c.put_text-3.new.out.items ++ bytes) c.script_name.ensures) c.in_ok-put_text-5.ensures
+    (script_name c.args.client) (codes "\"\n") _ _ _ _ _ c.in_ok-put_text.ensures
+    (rw c.label_text.ensures.text at c.in_ok-put_text-2.ensures) c.in_ok-put_text-3.ensures
+    (rw c.script_name.ensures at c.in_ok-put_text-4.ensures) c.in_ok-put_text-5.ensures

@@ -1,6 +1,5 @@
-use Rattle.std.proofs.Common.{List, [], ap, arith, length, refl, subst, sym, ℕ, ◌++◌, ◌∙◌, ◌≡◌, ◌≤◌}
-use Rattle.nit_report.proofs.Lemmas.{AllByRecursion, AppendsDraws, FitsInputLine, InputLine}
-use Rattle.nit_report.proofs.Lemmas.{appends_one, appends_then, draws_in_turn, just, seed}
+use Rattle.std.proofs.Common.{List, [], arith, refl, ℕ, ◌≡◌}
+use Rattle.nit_report.proofs.Lemmas.{AppendsDraws, InputLine, appends_one, appends_then, just, seed}
 use Rattle.nit_report.proofs.Lemmas.{user_fits, user_lines, user_phases}
 use Rattle.nit_report.specs.Generator.{user_script}
 use Rattle.nit_script.specs.declared.line.InputLine.TheVariants as input
@@ -10,8 +9,7 @@ use Rattle.nit_report.proofs.generated_user.user_script.Goals.{In_ok-put_xray_sh
 script_is : (n s u : ℕ) (xs zs : List InputLine) → xs ≡ [] → s ≡ seed n 8 → AppendsDraws user_phases s xs u zs
     → zs ≡ user_script n
 unfolding user_script
-script_is n s u xs zs none at p = p.values ∙ ap (λ (ls : List InputLine). ls ++ (draws_in_turn user_phases s).0) none
-    ∙ ap (λ (k : ℕ). (draws_in_turn user_phases k).0) at
+script_is n s u xs zs none at p = rw (none, at) at p.values
 
 are_its : (c : In_ok-put_xray_shot) → c.put_xray_shot.new.lines.items ≡ user_script c.args.n
 are_its c =
@@ -25,5 +23,4 @@ pub returns : goal.returns
 returns c = are_its c
 
 pub invariant_of-result : goal.invariant_of-result
-invariant_of-result c = subst (λ (lines : List InputLine). AllByRecursion FitsInputLine lines × (length lines ≤ 65536))
-    (sym (are_its c)) (user_fits c.args.n, (let few = user_lines c.args.n in omega arith))
+invariant_of-result c = rw (are_its c) (user_fits c.args.n, (let few = user_lines c.args.n in omega arith))

@@ -3,22 +3,14 @@ use Rattle.std.proofs.Common.{arith, ◌+◌}
 use Rattle.nit_report.proofs.parse.entries_of.Goals as goal
 
 pub overflow_cast-result : goal.overflow_cast-result
-overflow_cast-result c = omega (
-  arith,
-  few_entries c.args.bytes.now c.loop-rest.entries.items c.loop-rest.rest.now
-      c.loop-rest.invariant,
-  c.requires,
-  c.len.ensures,
-)
+overflow_cast-result c =
+    let few = few_entries c.args.bytes.now c.loop-rest.entries.items c.loop-rest.rest.now c.loop-rest.invariant in
+    omega arith
 
 pub overflow_add-result : goal.overflow_add-result
-overflow_add-result c = omega (
-  arith,
-  few_entries c.args.bytes.now c.loop-rest.entries.items c.loop-rest.rest.now
-      c.loop-rest.invariant,
-  c.requires,
-  c.len.ensures,
-)
+overflow_add-result c =
+    let few = few_entries c.args.bytes.now c.loop-rest.entries.items c.loop-rest.rest.now c.loop-rest.invariant in
+    omega arith
 
 pub returns-in_default : goal.returns-in_default
 returns-in_default c =

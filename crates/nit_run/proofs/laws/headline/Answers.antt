@@ -1,6 +1,6 @@
-use Rattle.std.proofs.Common.{◌≡◌, ◌∙◌, ◌++◌, ◌∷◌, [], ℕ, ◌<◌, List, length, sym, ap, subst}
-use Rattle.nit_run.proofs.Lemmas.{Entry, IsLegal, NearLaws, Reply, after, calls_to_make, done}
-use Rattle.nit_run.proofs.Lemmas.{end_shows, events_among, events_taken, files_counted, first_state}
+use Rattle.std.proofs.Common.{◌≡◌, ◌∙◌, ◌++◌, ◌∷◌, [], ◌<◌, List, length, ap}
+use Rattle.nit_run.proofs.Lemmas.{Entry, IsLegal, NearLaws, after, calls_to_make, done, end_shows}
+use Rattle.nit_run.proofs.Lemmas.{events_among, events_taken, files_counted, first_state}
 use Rattle.nit_run.proofs.Lemmas.{focus_by_call, focus_by_click, get_or-map, history_shows}
 use Rattle.nit_run.proofs.Lemmas.{length-map, meant, replay, shot_shows, shots, texts_tell}
 use Rattle.nit_events.specs.declared.call.Reply.TheVariants as reply
@@ -13,7 +13,7 @@ returns c = λ s journal outputs runnable j are.
     let same : (front : List Entry) (e : Entry) → replay config (front ++ e ∷ []) ≡ after (replay config front) e =
     λ front e. c.one_more_entry.ensures.replayed (first_state config) front e in
     let legal : (all : List Entry) → journal ≡ all → IsLegal config all =
-    λ all parts. subst (λ (es : List Entry). IsLegal config es) parts j.legal in
+    λ all parts. rw parts at j.legal in
     let law = c.shots_as_replayed.ensures.along in
     let fronts = c.fronts_are_legal.ensures.legal in
     let near : NearLaws = record {
@@ -25,13 +25,13 @@ returns c = λ s journal outputs runnable j are.
     record {
       one_journal = j;
       clients = λ sid inside.
-          let there : sid < length s.scripts = subst (λ (n : ℕ). sid < n) (sym runnable.scripts) inside in
+          let there : sid < length s.scripts = rw runnable.scripts inside in
           record {
-            calls = j.whole.calls sid (subst (λ (n : ℕ). sid < n) (sym (length-map s.scripts calls_to_make)) there)
+            calls = j.whole.calls sid (rw (length-map s.scripts calls_to_make) there)
                 ∙ ap done (get_or-map calls_to_make s.scripts sid [] [] there);
             replies = c.isolation.ensures config journal sid j.legal inside;
             events = events_taken sid (first_state config) 0 journal j.legal
-                ∙ ap (λ (rs : List Reply). events_among rs) (c.isolation.ensures config journal sid j.legal inside);
+                ∙ ap events_among (c.isolation.ensures config journal sid j.legal inside);
             quota = λ front rest call need left parts. c.refusals_are_its_own.ensures.quota config front rest sid call
                 need left (legal (front ++ entry.Call sid call (reply.OutOfQuota need left) ∷ rest) parts);
             reserve = λ front rest call need left parts. c.refusals_are_its_own.ensures.reserve config front rest sid
