@@ -1,52 +1,42 @@
 -- The clip scripts of the clients, read and judged one after the other.
-use Rattle.std.proofs.Common.{◌≡◌, ℕ, List, [], ◌∷◌, ◌++◌, map, Option, Some, None, refl, sym, ap}
-use Rattle.std.proofs.Common.{subst, ◌∙◌, arith}
-use Rattle.nit_setup.proofs.Basics.{AreClipScripts, AreClipsRead, ClipLine, File, IfSome}
-use Rattle.nit_setup.proofs.Basics.{IsClipFault, IsClipScript, IsNameOf, Stop, StoppedAt}
-use Rattle.nit_setup.proofs.Basics.{StoppedAtClip, StoreModel, asking_all, asking_more, asking_none}
-use Rattle.nit_setup.proofs.Basics.{bytes_of, clip_name, fits_push, length_push, map_push}
-use Rattle.nit_setup.proofs.Basics.{with_asked, wrong_clip}
-use Rattle.nit_setup.proofs.ScriptsRead.{told_so_both, zip_more}
+use Rattle.nit_setup.proofs.ScriptsRead.{both_told, names_at, script_of, zip_more}
+use Rattle.nit_setup.proofs.Basics.{AreClipsRead, ClipLine, End, IfSome, IsClipFault, IsClipScript}
+use Rattle.nit_setup.proofs.Basics.{IsNameOf, Member, Stop, StoppedAt, StoppedAtClip, StoreModel}
+use Rattle.nit_setup.proofs.Basics.{asking_more, bytes_of, clip_name, fits_push, length_push}
+use Rattle.nit_setup.proofs.Basics.{map_push, with_asked, wrong_clip}
+use Rattle.std.proofs.Common.{drop, get_or, length, take, ◌+◌, ◌<◌, ◌≡◌, ℕ, List, [], ◌∷◌, ◌++◌}
+use Rattle.std.proofs.Common.{map, Option, None, arith}
 
-pub one_more_clip_read : (wanted : Option ℕ) (old : StoreModel) (scripts : List (List ℕ)) (clips : List (List ClipLine))
-    (mid : StoreModel) (script : List ℕ) (lines : List ClipLine) (new : StoreModel)
-    → AreClipsRead wanted old scripts clips mid
+pub one_more_clip_read : {wanted : Option ℕ} {old mid new : StoreModel} {scripts : List (List ℕ)}
+    {clips : List (List ClipLine)} (script : List ℕ) (lines : List ClipLine) → AreClipsRead wanted old scripts clips mid
     → new ≡ with_asked mid (clip_name script)
     → IfSome mid.files (λ files. IsClipScript wanted (bytes_of (clip_name script) files) lines)
     → wrong_clip wanted lines ≡ None → AreClipsRead wanted old (scripts ++ script ∷ []) (clips ++ lines ∷ []) new
-one_more_clip_read wanted old scripts clips mid script lines new far asked valid right =
-    let names : map clip_name (scripts ++ script ∷ []) ≡ map clip_name scripts ++ clip_name script ∷ [] =
-    map_push clip_name scripts script in
+one_more_clip_read {wanted = wanted} {old = old} {scripts = scripts} {clips = clips} script lines
+    far asked valid right =
+    let names = map_push clip_name scripts script in
     record {
-      asked = asked ∙ ap (λ (s : StoreModel). with_asked s (clip_name script)) far.asked
-          ∙ asking_more old (map clip_name scripts) (clip_name script)
-          ∙ ap (λ (ns : List (List ℕ)). asking_all old ns) (sym names);
+      asked = rw (asked, far.asked, names) (asking_more old (map clip_name scripts) (clip_name script));
       count = omega (arith, far.count, length_push clips lines, length_push scripts script);
       right = fits_push (λ ls. wrong_clip wanted ls ≡ None) clips lines far.right right;
-      valid =
-          subst (λ (ns : List (List ℕ)).
-          IfSome old.files (λ files. AreClipScripts files wanted ns (clips ++ lines ∷ []))) (sym names)
-          (told_so_both (λ files. AreClipScripts files wanted (map clip_name scripts) clips)
-          (λ files. IsClipScript wanted (bytes_of (clip_name script) files) lines)
-          (λ files. AreClipScripts files wanted (map clip_name scripts ++ clip_name script ∷ []) (clips ++ lines ∷ []))
-          old.files (λ files p q. zip_more _ (map clip_name scripts) clips (clip_name script) lines p q) far.valid
-          (subst (λ (s : StoreModel). IfSome s.files
-          (λ files. IsClipScript wanted (bytes_of (clip_name script) files) lines)) far.asked valid));
+      valid = rw names (both_told old.files far.valid (rw far.asked at valid)
+          (λ files p q. zip_more _ (map clip_name scripts) clips (clip_name script) lines p q));
     }
 
-pub stopped_at_clip : (wanted : Option ℕ) (old : StoreModel) (scripts before behind : List (List ℕ))
-    (clips : List (List ClipLine)) (mid : StoreModel) (script : List ℕ) (new : StoreModel) (stop : Stop)
-    → scripts ≡ before ++ script ∷ behind
-    → AreClipsRead wanted old before clips mid → IsNameOf stop.name (clip_name script)
-    → StoppedAt (IsClipFault wanted) mid (clip_name script) new stop.end → StoppedAtClip wanted old scripts new stop
-stopped_at_clip wanted old scripts before behind clips mid script new stop parts far is stopped = record {
-  before = before;
-  behind = behind;
+pub stopped_at_clip : {wanted : Option ℕ} {old mid new : StoreModel} {clips : List (List ClipLine)} {stop : Stop}
+    (clients : List Member) (i : ℕ) {m : Member} {script : List ℕ} {end : End} → i < length clients
+    → m ≡ get_or clients i m → script ≡ m.script → AreClipsRead wanted old (map script_of (take i clients)) clips mid
+    → (stop.end ≡ end) × IsNameOf stop.name (clip_name script)
+    → StoppedAt (IsClipFault wanted) mid (clip_name script) new end
+    → StoppedAtClip wanted old (map script_of clients) new stop
+stopped_at_clip {mid = mid} {clips = clips} clients i {script = script} lt is named far ended stopped = record {
+  before = map script_of (take i clients);
+  behind = map script_of (drop (i + 1) clients);
   script = script;
-  parts = parts;
-  named = is;
+  parts = names_at clients i lt is named;
+  named = ended.1;
   clips = clips;
   between = mid;
   read = far;
-  stopped = stopped;
+  stopped = rw ended.0 stopped;
 }

@@ -1,51 +1,39 @@
 -- The files of a command are judged in one way.
-use Rattle.std.proofs.Common.{◌≡◌, ℕ, List, [], ◌∷◌, ◌++◌, map, take, Option, None, refl, sym}
-use Rattle.std.proofs.Common.{subst, ◌∙◌, arith, inl, inr, ◌⊎◌}
-use Rattle.nit_setup.proofs.Basics.{AreClipScripts, Audit, Capture, Clip, ClipLine, Command}
-use Rattle.nit_setup.proofs.Basics.{Configuration, Entry, Fault, File, FitsClipLine, Gen}
-use Rattle.nit_setup.proofs.Basics.{HasVerdict, InputLine, IsClipFault, IsClipScript}
-use Rattle.nit_setup.proofs.Basics.{IsFirstClipFault, IsGood, IsJournalFault, IsJournalText}
-use Rattle.nit_setup.proofs.Basics.{IsValid, IsVerdict, IsVerdictOn, Judged, Line, Nested}
-use Rattle.nit_setup.proofs.Basics.{NoCommand, Refused, Run, Setup, Still, Verdict, bytes_of}
-use Rattle.nit_setup.proofs.Basics.{calls_to_make, client_reading, clip_line_spelling, clip_names}
-use Rattle.nit_setup.proofs.Basics.{clip_phases, clip_reading, fault_code, good_fewer}
-use Rattle.nit_setup.proofs.Basics.{journal_reading, one_verdict, same_read, user_actions_to_do}
-use Rattle.nit_setup.proofs.Basics.{wanted_by, wrong_client, wrong_clip}
+use Rattle.nit_setup.proofs.SetupJudgements.{agree_either, Agree, one_code, phased_code}
+use Rattle.nit_setup.proofs.SetupJudgements.{IsSameSetup, not_faulty, one_setup, setup_codes}
+use Rattle.nit_setup.proofs.SetupJudgements.{setup_not_refused}
+use Rattle.nit_setup.proofs.Basics.{AreClipScripts, Audit, Capture, Clip, ClipLine, Command, Entry}
+use Rattle.nit_setup.proofs.Basics.{Fault, File, FitsClipLine, FitsLine, Gen, HasVerdict}
+use Rattle.nit_setup.proofs.Basics.{IsClipScript, IsFirstClipFault, IsGood, IsJournalFault}
+use Rattle.nit_setup.proofs.Basics.{IsJournalText, IsValid, IsVerdictOn, Judged, Nested, NoCommand}
+use Rattle.nit_setup.proofs.Basics.{Refused, Run, Setup, Still, bytes_of, calls_to_make}
+use Rattle.nit_setup.proofs.Basics.{client_reading, clip_line_spelling, clip_names, clip_reading}
+use Rattle.nit_setup.proofs.Basics.{fault_code, good_fewer, is_clip_phase, is_phase}
+use Rattle.nit_setup.proofs.Basics.{journal_reading, line_spelling, one_verdict, same_read}
+use Rattle.nit_setup.proofs.Basics.{user_actions_to_do, wanted_by, wrong_client, wrong_clip}
+use Rattle.std.proofs.Common.{◌≡◌, ℕ, List, [], ◌∷◌, ◌++◌, map, Option, None, refl, sym, ◌∙◌, arith}
+use Rattle.std.proofs.Common.{inl, inr, ◌⊎◌}
 use Rattle.nit_report.proofs.ForCallers.{read_and_bad as journal_and_bad}
-use Rattle.nit_setup.proofs.SetupJudgements.{IsSameSetup, client_code, no_script_code, not_faulty}
-use Rattle.nit_setup.proofs.SetupJudgements.{one_setup, phases_code, setup_codes, setup_not_refused}
 use Rattle.nit_setup.proofs.NestedJudgements.{nested_codes, nested_not_refused}
 use Rattle.nit_setup.specs.declared.stop.Fault.TheVariants as fault
 use Rattle.nit_audit.specs.declared.auditing.Verdict.TheVariants as verdict
 
 -- ---- a journal
 
--- and one setup gives one verdict
-same_verdict : (s t : Setup) (entries : List Entry) (v : Verdict) → IsSameSetup s t → IsVerdictOn t entries v
-    → IsVerdictOn s entries v
-same_verdict s t entries v (config, scripts, input) h =
-    subst (λ (k : Configuration). IsVerdict (IsGood k s.scripts s.input) entries v) (sym config)
-    (subst (λ (ss : List (List Line)). IsVerdict (IsGood t.config ss s.input) entries v) (sym scripts)
-    (subst (λ (ls : List InputLine). IsVerdict (IsGood t.config t.scripts ls) entries v) (sym input) h))
-
 not_yes_and_no : (s : Setup) (entries : List Entry) (k : ℕ) → IsVerdictOn s entries verdict.Yes
     → IsVerdictOn s entries (verdict.No k) → ⊥
 not_yes_and_no s entries k yes_ no_ =
-    let fewer : (j : ℕ) (xs : List Entry) → IsGood s.config s.scripts s.input xs
-    → IsGood s.config s.scripts s.input (take j xs) =
-    λ j xs g. good_fewer s.config (map calls_to_make s.scripts) (user_actions_to_do s.input) j xs g in
-    let same : verdict.Yes ≡ verdict.No k = one_verdict (IsGood s.config s.scripts s.input) fewer entries verdict.Yes
-    (verdict.No k) yes_ no_ in
+    let same = one_verdict (IsGood s.config s.scripts s.input)
+    (good_fewer s.config (map calls_to_make s.scripts) (user_actions_to_do s.input)) entries verdict.Yes (verdict.No k)
+    yes_ no_ in
     cc
 
 -- a journal on which the verdict is yes has no fault
 journal_not_refused : (s t : Setup) (bytes : List ℕ) (f : Fault) → IsSameSetup s t → HasVerdict s bytes verdict.Yes
     → IsJournalFault t bytes f → ⊥
-journal_not_refused s t bytes (fault.NotARun k) same (entries, text, yes_) (more, is, no_) =
-    let one : more ≡ entries = same_read journal_reading bytes more entries is.1 text.1 in
+journal_not_refused s t bytes (fault.NotARun k) (config, scripts, input) (entries, text, yes_) (more, is, no_) =
     not_yes_and_no s entries k yes_
-    (subst (λ (es : List Entry). IsVerdictOn s es (verdict.No k)) one
-    (same_verdict s t more (verdict.No k) same no_))
+    (rw (config, scripts, input, same_read journal_reading bytes entries more text.1 is.1) no_)
 journal_not_refused s t bytes (fault.BadEntry line) same (entries, text, yes_) r =
     journal_and_bad bytes entries line text.1 r.1
 journal_not_refused s t bytes fault.LongJournal same (entries, text, yes_) r = let few = text.0 in absurd (omega arith)
@@ -73,16 +61,12 @@ journal_codes s t bytes f g p q = elim (journal_code s bytes f p) [
   | inr a ↦ elim (journal_code t bytes g q) [ inl b ↦ absurd (b.1 a.1.0 a.1.1) | inr b ↦ a.0 ∙ sym b.0 ]
 ]
 
-audit_codes : (configuration journal : List ℕ) (files : List File) (m n : List ℕ) (f g : Fault)
-    → Judged (Audit configuration journal) files (Refused m f)
-    → Judged (Audit configuration journal) files (Refused n g) → fault_code f ≡ fault_code g
-audit_codes configuration journal files m n f g (inl p) (inl q) = setup_codes configuration files m n f g p q
-audit_codes configuration journal files m n f g (inl p) (inr (is, (t, are, q))) =
-    absurd (setup_not_refused configuration files t m f are p)
-audit_codes configuration journal files m n f g (inr (is, (s, are, p))) (inl q) =
-    absurd (setup_not_refused configuration files s n g are q)
-audit_codes configuration journal files m n f g (inr (is, (s, are, p))) (inr (is_too, (t, are_too, q))) =
-    journal_codes s t (bytes_of journal files) f g p q
+audit_codes : (configuration journal : List ℕ) (files : List File)
+    → Agree (λ n f. Judged (Audit configuration journal) files (Refused n f))
+audit_codes configuration journal files =
+    agree_either (setup_codes configuration files)
+    (λ m n f g p q. setup_not_refused configuration files q.1.0 m f q.1.1 p)
+    (λ m n f g p q. journal_codes p.1.0 q.1.0 (bytes_of journal files) f g p.1.2 q.1.2)
 
 -- ---- clip scripts
 
@@ -95,45 +79,22 @@ clip_at files wanted [] name behind (lines ∷ clips) v = (lines, v.0)
 clip_at files wanted (b ∷ before) name behind [] v = absurd v
 clip_at files wanted (b ∷ before) name behind (lines ∷ clips) v = clip_at files wanted before name behind clips v.1
 
-first_clip_fault_not : (files : List File) (wanted : Option ℕ) (names : List (List ℕ)) (clips : List (List ClipLine))
-    (name : List ℕ) (f : Fault) → AreClipScripts files wanted names clips → IsFirstClipFault files wanted names name f
-    → ⊥
-first_clip_fault_not files wanted names clips name f v r =
-    let at = clip_at files wanted r.before name r.behind clips
-    (subst (λ (ns : List (List ℕ)). AreClipScripts files wanted ns clips) r.parts v) in
-    not_faulty clip_reading (wrong_clip wanted) (bytes_of name files) at.0 f at.1.0 at.1.1 r.fault
-
--- the clip scripts of two setups with the same scripts have the same fault
-same_clip_fault : (files : List File) (s t : Setup) (name : List ℕ) (f : Fault) → IsSameSetup s t
-    → IsFirstClipFault files (wanted_by t.scripts) (clip_names t.config) name f
-    → IsFirstClipFault files (wanted_by s.scripts) (clip_names s.config) name f
-same_clip_fault files s t name f (config, scripts, input) r =
-    subst (λ (k : Configuration). IsFirstClipFault files (wanted_by s.scripts) (clip_names k) name f) (sym config)
-    (subst (λ (ss : List (List Line)). IsFirstClipFault files (wanted_by ss) (clip_names t.config) name f)
-    (sym scripts) r)
-
 clips_not_refused : (configuration : List ℕ) (files : List File) (s : Setup) (name : List ℕ) (f : Fault)
     → IsValid (Clip configuration) files s → Judged (Clip configuration) files (Refused name f) → ⊥
 clips_not_refused configuration files s name f v (inl r) = setup_not_refused configuration files s name f v.0 r
 clips_not_refused configuration files s name f v (inr (t, are, r)) =
-    first_clip_fault_not files (wanted_by s.scripts) (clip_names s.config) s.clips name f v.4
-    (same_clip_fault files s t name f (one_setup configuration files s t v.0 are) r)
+    let same = one_setup configuration files t s are v.0 in
+    let a : IsFirstClipFault files (wanted_by s.scripts) (clip_names s.config) name f = rw (same.0, same.1) at r in
+    let here = clip_at files (wanted_by s.scripts) a.before name a.behind s.clips (rw a.parts at v.4) in
+    not_faulty clip_reading (wrong_clip (wanted_by s.scripts)) (bytes_of name files) here.0 f here.1.0 here.1.1 a.fault
 
-clip_code : (wanted : Option ℕ) (bytes : List ℕ) (f : Fault) → IsClipFault wanted bytes f → fault_code f ≡ 6
-clip_code wanted bytes f (inl r) = no_script_code FitsClipLine clip_line_spelling bytes f r
-clip_code wanted bytes f (inr (lines, is, w)) = phases_code wanted (clip_phases lines) f w
-
-clips_codes : (configuration : List ℕ) (files : List File) (m n : List ℕ) (f g : Fault)
-    → Judged (Clip configuration) files (Refused m f) → Judged (Clip configuration) files (Refused n g)
-    → fault_code f ≡ fault_code g
-clips_codes configuration files m n f g (inl p) (inl q) = setup_codes configuration files m n f g p q
-clips_codes configuration files m n f g (inl p) (inr (t, are, q)) =
-    absurd (setup_not_refused configuration files t m f are p)
-clips_codes configuration files m n f g (inr (s, are, p)) (inl q) =
-    absurd (setup_not_refused configuration files s n g are q)
-clips_codes configuration files m n f g (inr (s, are, p)) (inr (t, are_too, q)) =
-    clip_code (wanted_by s.scripts) (bytes_of m files) f p.fault
-    ∙ sym (clip_code (wanted_by t.scripts) (bytes_of n files) g q.fault)
+clips_codes : (configuration : List ℕ) (files : List File)
+    → Agree (λ n f. Judged (Clip configuration) files (Refused n f))
+clips_codes configuration files =
+    agree_either (setup_codes configuration files)
+    (λ m n f g p q. setup_not_refused configuration files q.0 m f q.1 p)
+    (one_code 6 (λ n f p. phased_code FitsClipLine clip_line_spelling is_clip_phase (wanted_by p.0.scripts)
+    (bytes_of n files) f p.2.fault))
 
 -- ---- the files of a command
 
@@ -156,11 +117,11 @@ valid_not_refused NoCommand files s name f v r = v
 -- two refusals of the same files have the same status
 pub codes_agree : (c : Command) (files : List File) (m n : List ℕ) (f g : Fault) → Judged c files (Refused m f)
     → Judged c files (Refused n g) → fault_code f ≡ fault_code g
-codes_agree (Still width height script) files m n f g p q = client_code None (bytes_of script files) f p.1
-    ∙ sym (client_code None (bytes_of script files) g q.1)
-codes_agree (Run beside configuration) files m n f g p q = setup_codes configuration files m n f g p q
-codes_agree (Audit configuration journal) files m n f g p q = audit_codes configuration journal files m n f g p q
-codes_agree (Clip configuration) files m n f g p q = clips_codes configuration files m n f g p q
-codes_agree (Capture configuration region) files m n f g p q = setup_codes configuration files m n f g p q
-codes_agree (Nested outer inner) files m n f g p q = nested_codes outer inner files m n f g p q
-codes_agree other files m n f g p q = absurd p
+codes_agree (Still width height script) files = one_code 6
+    (λ n f p. phased_code FitsLine line_spelling is_phase None (bytes_of script files) f p.1)
+codes_agree (Run beside configuration) files = setup_codes configuration files
+codes_agree (Audit configuration journal) files = audit_codes configuration journal files
+codes_agree (Clip configuration) files = clips_codes configuration files
+codes_agree (Capture configuration region) files = setup_codes configuration files
+codes_agree (Nested outer inner) files = nested_codes outer inner files
+codes_agree other files = λ m n f g p q. absurd p

@@ -1,14 +1,13 @@
 -- The script of a picture, and the user who does nothing.
-use Rattle.std.proofs.Common.{◌≡◌, ◌∙◌, ℕ, zero, suc, ◌+◌, ◌≤◌, ◌*◌, List, [], ◌∷◌, length}
-use Rattle.std.proofs.Common.{replicate, None, refl, sym, ap, subst, arith, cond, inl}
-use Rattle.nit_setup.proofs.Basics.{AllByRecursion, AllFiles, AreLines, Command, Fault}
-use Rattle.nit_setup.proofs.Basics.{FitsInputLine, FitsLine, IfSome, IsClientFault, IsClientScript}
-use Rattle.nit_setup.proofs.Basics.{IsRunnable, IsValid, Judged, Line, NoFile, ReadsTo, Refused}
-use Rattle.nit_setup.proofs.Basics.{Still, Stop, StoppedAt, StoppedReading, StoreModel, asking_none}
-use Rattle.nit_setup.proofs.Basics.{bytes_of, count_by, count_by-le-length, idle_user}
-use Rattle.nit_setup.proofs.Basics.{is_input_phase, is_phase, length-replicate, name_text}
-use Rattle.nit_setup.proofs.Basics.{still_configured, still_setup, sum_by-replicate, with_asked}
-use Rattle.nit_setup.proofs.ScriptsRead.{told_so}
+use Rattle.nit_setup.proofs.Basics.{AllByRecursion, AllFiles, AreLines, End, FitsInputLine}
+use Rattle.nit_setup.proofs.Basics.{FitsLine, IfSome, IfSome_then, IsClientFault, IsClientScript}
+use Rattle.nit_setup.proofs.Basics.{IsRunnable, Line, NoFile, ReadsTo, Still, Stop, StoppedAt}
+use Rattle.nit_setup.proofs.Basics.{StoppedReading, StoreModel, asking_none, bytes_of, count_by}
+use Rattle.nit_setup.proofs.Basics.{count_by-le-length, idle_user, is_input_phase, is_phase}
+use Rattle.nit_setup.proofs.Basics.{length-replicate, name_text, phases, still_configured}
+use Rattle.nit_setup.proofs.Basics.{still_setup, sum_by-replicate, with_asked}
+use Rattle.std.proofs.Common.{◌≡◌, ◌∙◌, ℕ, zero, suc, ◌+◌, ◌≤◌, ◌*◌, List, length, replicate, None}
+use Rattle.std.proofs.Common.{refl, sym, ap, arith, cond, inl}
 use Rattle.nit_setup.proofs.Stopping.{stopped_reading}
 use Rattle.nit_script.specs.declared.line.InputLine.TheVariants as input
 use Rattle.nit_setup.specs.declared.stop.StopName.TheVariants as file_name
@@ -40,29 +39,23 @@ still_runnable width height lines some few tall short fits = record {
 
 -- ---- the script
 
-module _ (width height : ℕ) (script : List ℕ) (old : StoreModel) where
-  abbrev still : Command
-  still = Still width height script
+module _ {width height : ℕ} {script : List ℕ} {old new : StoreModel} where
+  pub picture_stopped : {stop : Stop} {end : End} → (stop.end ≡ end) × (stop.name ≡ file_name.First)
+      → StoppedAt (IsClientFault None) old script new end → StoppedReading (Still width height script) old new stop
+  picture_stopped {stop = stop} is h =
+      stopped_reading (Still width height script) old NoFile tt script refl (IsClientFault None) new
+      (λ f p. IfSome_then old.files p (λ files q. (refl, q)))
+      old stop (asking_none old) (ap (name_text (Still width height script)) is.1) (rw is.0 h)
 
-  pub picture_stopped : (new : StoreModel) (stop : Stop) → stop.name ≡ file_name.First
-      → StoppedAt (IsClientFault None) old script new stop.end → StoppedReading still old new stop
-  picture_stopped new stop is h =
-      stopped_reading still old NoFile tt script refl (IsClientFault None) new
-      (λ f p. told_so (λ files. IsClientFault None (bytes_of script files) f)
-      (λ files. Judged still files (Refused script f)) old.files (λ files q. (refl, q)) p)
-      old stop (asking_none old) (ap (name_text still) is) h
-
-  pub picture_read : (new : StoreModel) (lines : List Line) → new ≡ with_asked old script
+  pub picture_read : {lines : List Line} → new ≡ with_asked old script
       → IfSome old.files (λ files. IsClientScript None (bytes_of script files) lines)
       → IsRunnable (still_setup width height lines)
-      → ReadsTo still old (AllFiles (still_setup width height lines)) new
-  picture_read new lines asked valid runnable = record {
+      → ReadsTo (Still width height script) old (AllFiles (still_setup width height lines)) new
+  picture_read {lines = lines} asked valid runnable = record {
     asked = asked;
     valid = record {
       runnable = runnable;
       of_command = (lines, refl);
-      valid = told_so (λ files. IsClientScript None (bytes_of script files) lines)
-          (λ files. IsValid still files (still_setup width height lines)) old.files (λ files q. (lines, q, refl))
-          valid;
+      valid = IfSome_then old.files valid (λ files q. (lines, q, refl));
     };
   }

@@ -1,378 +1,263 @@
 -- A configuration and its scripts, read for any command.
-use Rattle.std.proofs.Common.{◌≡◌, ℕ, Bool, true, false, List, [], ◌∷◌, ◌++◌, length, take, Some}
-use Rattle.std.proofs.Common.{Ok, Err, Result, refl, sym, ap, subst, ◌∙◌, arith, inl, inr}
-use Rattle.std.proofs.Common.{append_assoc, ◌⊎◌}
-use Rattle.nit_setup.proofs.Basics.{AllByRecursion, AreAllFiles, AreAllOuterFiles, AreAllScripts}
-use Rattle.nit_setup.proofs.Basics.{AreFirstFiles, AreLines, AreOuterFiles, AreScripts, AreSetup}
-use Rattle.nit_setup.proofs.Basics.{Audit, BothFiles, Capture, Clip, Command, ConfigRead}
-use Rattle.nit_setup.proofs.Basics.{Configuration, Fault, File, FilesRead, FirstFiles, FitsLine}
-use Rattle.nit_setup.proofs.Basics.{HasRead, HasReadScripts, HaveSamePhases, IfSome, InnerFiles}
-use Rattle.nit_setup.proofs.Basics.{InputLine, IsClientFault, IsConfig, IsConfigFault, IsInputFault}
-use Rattle.nit_setup.proofs.Basics.{IsInputScript, IsLoaded, IsRunnable, IsSetupFault, IsValid}
-use Rattle.nit_setup.proofs.Basics.{Judged, Line, Loaded, Nested, NoFile, OuterFiles, ReadScripts}
-use Rattle.nit_setup.proofs.Basics.{ReadsTo, Refused, Region, Run, RunFiles, RunRead, Setup}
-use Rattle.nit_setup.proofs.Basics.{SetupRead, SoFar, SpellScripts, Stop, StopName, StoppedAmong}
-use Rattle.nit_setup.proofs.Basics.{StoppedAt, StoppedReading, StoreModel, asking_all, asking_both}
-use Rattle.nit_setup.proofs.Basics.{asking_more, asking_none, bytes_of, files_in, first_names}
-use Rattle.nit_setup.proofs.Basics.{name_text, names_in, names_read, next_name, script_names}
-use Rattle.nit_setup.proofs.Basics.{setup_in, slice_get, take_all, wanted_by, with_asked}
-use Rattle.nit_setup.proofs.ScriptsRead.{told_so, told_so_both}
+use Rattle.nit_setup.proofs.ScriptsRead.{both_of, both_told}
+use Rattle.nit_setup.proofs.Basics.{AllByRecursion, AreAllOuterFiles, AreAllScripts, AreFirstFiles}
+use Rattle.nit_setup.proofs.Basics.{AreLines, AreSetup, Audit, BothFiles, Capture, Clip, Command}
+use Rattle.nit_setup.proofs.Basics.{ConfigRead, Configuration, Fault, File, FilesRead, FirstFiles}
+use Rattle.nit_setup.proofs.Basics.{FitsLine, HasRead, HaveSamePhases, IfSome, IfSome_then}
+use Rattle.nit_setup.proofs.Basics.{InnerFiles, IsClientFault, IsConfig, IsConfigFault}
+use Rattle.nit_setup.proofs.Basics.{IsConfiguration, IsInputFault, IsLoaded, IsSetupFault}
+use Rattle.nit_setup.proofs.Basics.{IsSetupOf, IsValid, Judged, Line, Loaded, Nested, NoFile}
+use Rattle.nit_setup.proofs.Basics.{OuterFiles, ReadsTo, Refused, Region, Run, RunFiles, RunRead}
+use Rattle.nit_setup.proofs.Basics.{Setup, SetupRead, SpellScripts, Stop, StopName, StoppedAt}
+use Rattle.nit_setup.proofs.Basics.{StoppedReading, StoreModel, append-nil, asking_all, asking_both}
+use Rattle.nit_setup.proofs.Basics.{asking_none, bytes_of, files_in, first_names, name_text}
+use Rattle.nit_setup.proofs.Basics.{names_in, names_read, next_name, phases, reads, script_names}
+use Rattle.nit_setup.proofs.Basics.{setup_in, slice_get, wanted_by, with_asked}
+use Rattle.std.proofs.Common.{◌≡◌, ℕ, Bool, true, false, List, [], ◌∷◌, ◌++◌, length, Some, Ok, Err}
+use Rattle.std.proofs.Common.{Result, refl, sym, ap, ◌∙◌, inl, inr, append_assoc}
 use Rattle.nit_setup.proofs.Stopping.{get_behind, stopped_reading, take_front}
 use Rattle.nit_setup.specs.declared.stop.StopName.TheVariants as file_name
 
--- A command reads the configuration of this name behind these files, and then its scripts. What is refused of these
--- is refused of the command.
-pub record ReadsRun (c : Command) (old : StoreModel) (name : List ℕ) (front : List (List ℕ)) : Type 0 where
+-- A command reads the configuration of this name behind these files, and then its scripts, which are to stand rightly
+-- beside each other. What is refused of these is refused of the command.
+pub record ReadsRun (Right : List (List Line) → Type 0) (Refuses : List ℕ → List File → List ℕ → Fault → Type 0)
+    (c : Command) (old : StoreModel) (name : List ℕ) (front : List (List ℕ)) : Type 0 where
   pub start : FilesRead
   pub start_read : HasRead c old.files start
   pub start_names : front ≡ names_read c start
   pub start_next : next_name c start ≡ Some name
   pub further : Configuration → List (List Line) → FilesRead
-  pub further_read : (config : Configuration) (scripts : List (List Line))
-      → AreFirstFiles name old.files config scripts → HasRead c old.files (further config scripts)
+  pub further_read : (config : Configuration) (scripts : List (List Line)) → IsConfiguration config
+      → AllByRecursion (AreLines FitsLine) scripts → Right scripts
+      → IfSome old.files (λ files. IsConfig (bytes_of name files) config
+      × (SpellScripts files (first_names config scripts) scripts × Right scripts))
+      → HasRead c old.files (further config scripts)
   pub further_names : (config : Configuration) (scripts : List (List Line))
       → front ++ name ∷ first_names config scripts ≡ names_read c (further config scripts)
   pub further_next : (config : Configuration) (scripts : List (List Line))
       → next_name c (further config scripts) ≡ slice_get (names_in config) (length scripts)
-  pub refused : (n : List ℕ) (f : Fault) → IfSome old.files (λ files. IsSetupFault name files n f)
+  pub refused : (n : List ℕ) (f : Fault) → IfSome old.files (λ files. Refuses name files n f)
       → IfSome old.files (λ files. Judged c files (Refused n f))
 
-module _ (old : StoreModel) (name : List ℕ) (front : List (List ℕ)) where
-  -- what was read before
-  abbrev first : StoreModel
-  first = asking_all old front
+-- ---- where reading stops
 
-  module _ (config : Configuration) (mid : StoreModel) (is : ConfigRead name first config mid) where
-    -- the names behind that of the configuration
-    behind : (before : List (List ℕ)) → asking_all (with_asked first name) before
-        ≡ asking_all old (front ++ name ∷ before)
-    behind before = asking_both first (name ∷ []) before ∙ asking_both old front (name ∷ before)
+module _ {Right : List (List Line) → Type 0} {Refuses : List ℕ → List File → List ℕ → Fault → Type 0} (c : Command)
+    (old : StoreModel) (name : List ℕ) (front : List (List ℕ)) (r : ReadsRun Right Refuses c old name front)
+    (new : StoreModel) (stop : Stop) where
+  -- the configuration was not read, or is refused
+  pub config_stopped : ((files : List File) (f : Fault) → IsConfigFault (bytes_of name files) f
+      → Refuses name files name f) → name_text c stop.name ≡ name
+      → StoppedAt IsConfigFault (asking_all old front) name new stop.end → StoppedReading c old new stop
+  config_stopped refuses is h =
+      stopped_reading c old r.start r.start_read name r.start_next IsConfigFault new
+      (λ f p. r.refused name f (IfSome_then old.files p (λ files q. refuses files f q))) (asking_all old front)
+      stop (ap (asking_all old) r.start_names) is h
 
-    -- the configuration and these scripts are valid
-    valid_too : (names : List (List ℕ)) (scripts : List (List Line))
-        → IfSome old.files (λ files. AreScripts files names scripts)
-        → IfSome old.files (λ files. IsConfig (bytes_of name files) config × AreScripts files names scripts)
-    valid_too names scripts valid =
-        told_so_both (λ files. IsConfig (bytes_of name files) config) (λ files. AreScripts files names scripts)
-        (λ files. IsConfig (bytes_of name files) config × AreScripts files names scripts) old.files
-        (λ files p q. (p, q)) is.valid valid
+  -- a file behind some scripts of the configuration was not read, or is refused
+  pub stopped_behind : (config : Configuration) (mid : StoreModel) → ConfigRead name (asking_all old front) config mid
+      → (before rest : List (List ℕ)) (n : List ℕ) (behind : List (List ℕ)) (scripts : List (List Line))
+      → script_names config ≡ before ++ rest → rest ++ config.input ∷ [] ≡ n ∷ behind
+      → length scripts ≡ length before → AllByRecursion (AreLines FitsLine) scripts → Right scripts
+      → IfSome mid.files (λ files. SpellScripts files before scripts) → (Faulty : List ℕ → Fault → Type 0)
+      → ((files : List File) (f : Fault) → IsConfig (bytes_of name files) config → SpellScripts files before scripts
+      → Faulty (bytes_of n files) f → Refuses name files n f)
+      → (now : StoreModel) → now ≡ asking_all mid before → name_text c stop.name ≡ n
+      → StoppedAt Faulty now n new stop.end → StoppedReading c old new stop
+  stopped_behind config mid is before rest n behind scripts parts next count lines right spelled Faulty refuses now
+      asked named h =
+      let told = rw is.asked at spelled in
+      let names : first_names config scripts ≡ before = rw parts (take_front before rest scripts count) in
+      let here : now ≡ asking_all old (front ++ name ∷ before) = rw (asked, is.asked)
+      (asking_both (asking_all old front) (name ∷ []) before ∙ asking_both old front (name ∷ before)) in
+      stopped_reading c old (r.further config scripts)
+      (r.further_read config scripts is.configured lines right
+      (rw names (both_told old.files is.valid told (λ files v w. (v, (w, right)))))) n
+      (r.further_next config scripts
+      ∙ rw (parts, append_assoc before rest (config.input ∷ []), next) (get_behind before n behind scripts count))
+      Faulty new
+      (λ f p. r.refused n f (both_told old.files (both_of old.files _ _ is.valid told) p
+      (λ files v q. refuses files f v.0 v.1 q)))
+      now stop (here ∙ ap (asking_all old) (rw names at (r.further_names config scripts))) named h
 
-    -- the first files were read
-    first_files : (names : List (List ℕ)) (scripts : List (List Line)) → AllByRecursion (AreLines FitsLine) scripts
-        → HaveSamePhases scripts → first_names config scripts ≡ names
-        → IfSome old.files (λ files. AreScripts files names scripts)
-        → AreFirstFiles name old.files config scripts
-    first_files names scripts lines phases are valid = record {
-      configured = is.configured;
-      lines = lines;
-      phases = phases;
-      valid = subst (λ (ns : List (List ℕ)). IfSome old.files (λ files. IsConfig (bytes_of name files) config
-          × AreScripts files ns scripts)) (sym are) (valid_too names scripts valid);
-    }
+-- ---- where all was read
 
-    module _ (scripts : List (List Line)) (now : StoreModel) (far : SoFar mid (script_names config) scripts now) where
-      asked_now : now ≡ asking_all old (front ++ name ∷ script_names config)
-      asked_now = far.asked ∙ ap (λ (s : StoreModel). asking_all s (script_names config)) is.asked
-          ∙ behind (script_names config)
+-- all names were asked for
+pub whole_asked : (old : StoreModel) (front : List (List ℕ)) (name : List ℕ) (config : Configuration)
+    {mid between now : StoreModel} → mid ≡ with_asked (asking_all old front) name
+    → between ≡ asking_all mid (script_names config) → now ≡ with_asked between config.input
+    → now ≡ asking_all old (front ++ name ∷ names_in config)
+whole_asked old front name config at_config at_scripts at_input =
+    rw (at_input, at_scripts, at_config)
+    (asking_both (with_asked (asking_all old front) name) (script_names config) (config.input ∷ [])
+    ∙ asking_both (asking_all old front) (name ∷ []) (names_in config)
+    ∙ asking_both old front (name ∷ names_in config))
 
-      -- the scripts are valid
-      valid_scripts : IfSome old.files (λ files. AreScripts files (script_names config) scripts)
-      valid_scripts =
-          told_so (λ files. SpellScripts files (script_names config) scripts)
-          (λ files. AreScripts files (script_names config) scripts) old.files (λ files p. (p, far.phases))
-          (subst (λ (s : StoreModel). IfSome s.files (λ files. SpellScripts files (script_names config) scripts))
-          is.asked
-          far.valid)
+-- ---- a configuration whose clients are beside each other
 
-      all_names : first_names config scripts ≡ script_names config
-      all_names = take_all (length scripts) (script_names config) (let same = far.count in omega arith)
+abbrev ReadsOne : Command → StoreModel → List ℕ → List (List ℕ) → Type 0
+ReadsOne = ReadsRun HaveSamePhases IsSetupFault
 
-    -- all scripts were read
-    module _ (scripts : List (List Line)) (lines : List InputLine) (now : StoreModel)
-        (h : HasReadScripts config mid scripts lines now) where
-      -- all names were asked for
-      pub all_asked : now ≡ asking_all old (front ++ name ∷ names_in config)
-      all_asked = h.asked ∙ ap (λ (s : StoreModel). with_asked s config.input) (asked_now scripts h.between h.clients)
-          ∙ asking_more old (front ++ name ∷ script_names config) config.input
-          ∙ ap (λ (ns : List (List ℕ)). asking_all old ns) (append_assoc front (name ∷ script_names config)
-          (config.input ∷ []))
+-- the configuration or one of its scripts was not read, or is refused
+run_stopped : {c : Command} {old new : StoreModel} {name : List ℕ} {front : List (List ℕ)} {stop : Stop}
+    → ReadsOne c old name front → (said : StopName) → name_text c said ≡ name
+    → IsLoaded name said (asking_all old front) new (Err stop) → StoppedReading c old new stop
+run_stopped {c = c} {old = old} {new = new} {name = name} {front = front} {stop = stop} r said is (inl (at, h)) =
+    config_stopped c old name front r new stop (λ files f q. inl (refl, q)) (ap (name_text c) at ∙ is) h
+run_stopped {c = c} {old = old} {new = new} {name = name} {front = front} {stop = stop} r said is
+    (inr (config, mid, read, inl a)) =
+    stopped_behind c old name front r new stop config mid read a.before (a.name ∷ a.behind) a.name
+    (a.behind ++ config.input ∷ []) a.scripts a.parts refl a.count a.lines a.phases
+    (IfSome_then mid.files a.valid (λ files v. v.0)) (IsClientFault (wanted_by a.scripts))
+    (λ files f v w q. inr (
+      config,
+      v,
+      inl (record {
+        before = a.before;
+        behind = a.behind;
+        parts = a.parts;
+        scripts = a.scripts;
+        valid = (w, a.phases);
+        fault = q;
+      }),
+    ))
+    (asking_all mid a.before) refl (a.named c) a.stopped
+run_stopped {c = c} {old = old} {new = new} {name = name} {front = front} {stop = stop} r said is
+    (inr (config, mid, read, inr s)) =
+    let far = s.clients in
+    stopped_behind c old name front r new stop config mid read (script_names config) [] config.input [] s.scripts
+    (sym (append-nil (script_names config))) refl far.count far.lines far.phases far.valid
+    (IsInputFault (wanted_by s.scripts))
+    (λ files f v w q. inr (
+      config,
+      v,
+      inr (record { scripts = s.scripts; valid = (w, far.phases); name_is = refl; fault = q }),
+    ))
+    s.between far.asked (s.named c) s.stopped
 
-      -- all files are valid
-      pub all_valid : (s : Setup) → s.config ≡ config → s.scripts ≡ scripts → s.input ≡ lines
-          → IfSome old.files (λ files. AreSetup name files s)
-      all_valid s c_is s_is l_is =
-          told_so_both (λ files. IsConfig (bytes_of name files) config
-          × AreScripts files (script_names config) scripts)
-          (λ files. IsInputScript (wanted_by scripts) (bytes_of config.input files) lines)
-          (λ files. AreSetup name files s) old.files
-          (λ files v q. (
-            subst (λ (k : Configuration). IsConfig (bytes_of name files) k) (sym c_is) v.0,
-            record {
-              scripts = subst (λ (k : Configuration). AreScripts files (script_names k) s.scripts) (sym c_is)
-                  (subst (λ (ss : List (List Line)). AreScripts files (script_names config) ss) (sym s_is) v.1);
-              input = subst (λ (k : Configuration). IsInputScript (wanted_by s.scripts) (bytes_of k.input files)
-                  s.input)
-                  (sym c_is)
-                  (subst (λ (ss : List (List Line)). IsInputScript (wanted_by ss) (bytes_of config.input files) s.input)
-                  (sym s_is) (subst (λ (ls : List InputLine). IsInputScript (wanted_by scripts)
-                  (bytes_of config.input files) ls) (sym l_is) q));
-            },
-          ))
-          (valid_too (script_names config) scripts (valid_scripts scripts h.between h.clients))
-          (subst (λ (s : StoreModel). IfSome s.files
-          (λ files. IsInputScript (wanted_by scripts) (bytes_of config.input files) lines))
-          (asked_now scripts h.between h.clients) h.valid)
+module _ (old : StoreModel) (name : List ℕ) (front : List (List ℕ)) (l : Loaded) (new : StoreModel)
+    (h : RunRead name (asking_all old front) l new) where
+  run_asked : new ≡ asking_all old (front ++ name ∷ names_in l.config)
+  run_asked = whole_asked old front name l.config h.config.asked h.scripts.clients.asked h.scripts.asked
 
-  -- ---- where reading stops
-
-  module _ (c : Command) (r : ReadsRun c old name front) (new : StoreModel) (stop : Stop) where
-    config_stopped : name_text c stop.name ≡ name → StoppedAt IsConfigFault first name new stop.end
-        → StoppedReading c old new stop
-    config_stopped is h =
-        stopped_reading c old r.start r.start_read name r.start_next IsConfigFault new
-        (λ f p. r.refused name f (told_so (λ files. IsConfigFault (bytes_of name files) f)
-        (λ files. IsSetupFault name files name f) old.files (λ files q. inl (refl, q)) p))
-        first stop (ap (λ (ns : List (List ℕ)). asking_all old ns) r.start_names) is h
-
-    module _ (config : Configuration) (mid : StoreModel) (is : ConfigRead name first config mid) where
-      scripts_stopped : StoppedAmong mid (script_names config) new stop → StoppedReading c old new stop
-      scripts_stopped among =
-          let a : StoppedAmong (with_asked first name) (script_names config) new stop =
-          subst (λ (s : StoreModel). StoppedAmong s (script_names config) new stop) is.asked among in
-          let n : List ℕ = a.name in
-          let are : first_names config a.scripts ≡ a.before =
-          ap (λ (ns : List (List ℕ)). take (length a.scripts) ns) a.parts
-          ∙ take_front a.before (n ∷ a.behind) a.scripts a.count in
-          let parts : names_in config ≡ a.before ++ (n ∷ (a.behind ++ config.input ∷ [])) =
-          ap (λ (ns : List (List ℕ)). ns ++ config.input ∷ []) a.parts
-          ∙ append_assoc a.before (n ∷ a.behind) (config.input ∷ []) in
-          stopped_reading c old (r.further config a.scripts)
-          (r.further_read config a.scripts
-          (first_files config mid is a.before a.scripts a.lines a.phases are a.valid)) n
-          (r.further_next config a.scripts
-          ∙ ap (λ (ns : List (List ℕ)). slice_get ns (length a.scripts)) parts
-          ∙ get_behind a.before n (a.behind ++ config.input ∷ []) a.scripts a.count)
-          (IsClientFault (wanted_by a.scripts)) new
-          (λ f p. r.refused n f
-          (told_so_both (λ files. IsConfig (bytes_of name files) config × AreScripts files a.before a.scripts)
-          (λ files. IsClientFault (wanted_by a.scripts) (bytes_of n files) f)
-          (λ files. IsSetupFault name files n f) old.files
-          (λ files v q. inr (
-            config,
-            v.0,
-            inl (record {
-              before = a.before;
-              behind = a.behind;
-              parts = a.parts;
-              scripts = a.scripts;
-              valid =
-                  v.1;
-              fault = q;
-            }),
-          ))
-          (valid_too config mid is a.before a.scripts a.valid) p))
-          (asking_all (with_asked first name) a.before) stop
-          (behind config mid is a.before
-          ∙ ap (λ (ns : List (List ℕ)). asking_all old (front ++ name ∷ ns)) (sym are)
-          ∙ ap (λ (ns : List (List ℕ)). asking_all old ns) (r.further_names config a.scripts)) (a.named c) a.stopped
-
-      input_stopped : (scripts : List (List Line)) (now : StoreModel)
-          (far : SoFar mid (script_names config) scripts now)
-          → name_text c stop.name ≡ config.input
-          → StoppedAt (IsInputFault (wanted_by scripts)) now config.input new stop.end → StoppedReading c old new stop
-      input_stopped scripts now far named h =
-          let all_names = all_names config mid is scripts now far in
-          let valid = valid_scripts config mid is scripts now far in
-          stopped_reading c old (r.further config scripts)
-          (r.further_read config scripts
-          (first_files config mid is (script_names config) scripts far.lines far.phases all_names valid)) config.input
-          (r.further_next config scripts ∙ get_behind (script_names config) config.input [] scripts far.count)
-          (IsInputFault (wanted_by scripts)) new
-          (λ f p. r.refused config.input f
-          (told_so_both (λ files. IsConfig (bytes_of name files) config
-          × AreScripts files (script_names config) scripts)
-          (λ files. IsInputFault (wanted_by scripts) (bytes_of config.input files) f)
-          (λ files. IsSetupFault name files config.input f) old.files
-          (λ files v q. inr (config, v.0, inr (record { scripts = scripts; valid = v.1; name_is = refl; fault = q })))
-          (valid_too config mid is (script_names config) scripts valid) p))
-          now stop
-          (asked_now config mid is scripts now far
-          ∙ ap (λ (ns : List (List ℕ)). asking_all old (front ++ name ∷ ns)) (sym all_names)
-          ∙ ap (λ (ns : List (List ℕ)). asking_all old ns) (r.further_names config scripts)) named h
-
-    -- the configuration or one of its scripts was not read, or is refused
-    pub run_stopped : (said : StopName) → name_text c said ≡ name → IsLoaded name said first new (Err stop)
-        → StoppedReading c old new stop
-    run_stopped said is (inl (at, h)) = config_stopped (ap (λ (n : StopName). name_text c n) at ∙ is) h
-    run_stopped said is (inr (config, mid, read, inl among)) = scripts_stopped config mid read among
-    run_stopped said is (inr (config, mid, read, inr s)) =
-        input_stopped config mid read s.scripts s.between s.clients (s.named c) s.stopped
-
-  -- ---- where all was read
-
-  module _ (l : Loaded) (new : StoreModel) (h : RunRead name first l new) where
-    pub run_asked : new ≡ asking_all old (front ++ name ∷ names_in l.config)
-    run_asked = all_asked l.config h.between h.config l.scripts.clients.items l.scripts.input new h.scripts
-
-    pub run_valid : (beside : Bool) → AreAllScripts name old.files (setup_in l beside)
-    run_valid beside = record {
-      runnable = h.runnable beside;
-      valid = all_valid l.config h.between h.config l.scripts.clients.items l.scripts.input new h.scripts
-          (setup_in l beside) refl refl refl;
-    }
+  run_valid : (beside : Bool) → AreAllScripts name old.files (setup_in l beside)
+  run_valid beside = let far = h.scripts.clients in record {
+    runnable = h.runnable beside;
+    valid = both_told old.files
+        (both_of old.files _ _ h.config.valid (rw h.config.asked at far.valid))
+        (rw (far.asked, h.config.asked) at h.scripts.valid)
+        (λ files v q. (v.0, record { scripts = (v.1, far.phases); input = q }));
+  }
 
 -- ---- a command that reads nothing before
 
-module _ (old : StoreModel) (name : List ℕ) where
-  reads_run : (beside : Bool) → ReadsRun (Run beside name) old name []
-  reads_run beside = record {
-    start = NoFile;
-    start_read = tt;
-    start_names = refl;
-    start_next = refl;
-    further = FirstFiles;
-    further_read = λ config scripts h. h;
-    further_names = λ config scripts. refl;
-    further_next = λ config scripts. refl;
-    refused = λ n f p. p;
-  }
+pub reads_first : (c : Command) (old : StoreModel) (name : List ℕ) → next_name c NoFile ≡ Some name
+    → ((config : Configuration) (scripts : List (List Line)) → AreFirstFiles name old.files config scripts
+    → HasRead c old.files (FirstFiles config scripts))
+    → ((config : Configuration) (scripts : List (List Line)) → name ∷ first_names config scripts
+    ≡ names_read c (FirstFiles config scripts))
+    → ((config : Configuration) (scripts : List (List Line)) → next_name c (FirstFiles config scripts)
+    ≡ slice_get (names_in config) (length scripts))
+    → ((n : List ℕ) (f : Fault) → IfSome old.files (λ files. IsSetupFault name files n f)
+    → IfSome old.files (λ files. Judged c files (Refused n f))) → ReadsOne c old name []
+reads_first c old name first read names next refused = record {
+  start = NoFile;
+  start_read = tt;
+  start_names = refl;
+  start_next = first;
+  further = FirstFiles;
+  further_read = λ config scripts configured lines phases valid. read config scripts
+      (record { configured = configured; lines = lines; phases = phases; valid = valid });
+  further_names = names;
+  further_next = next;
+  refused = refused;
+}
 
-  reads_film : (region : Region) → ReadsRun (Capture name region) old name []
-  reads_film region = record {
-    start = NoFile;
-    start_read = tt;
-    start_names = refl;
-    start_next = refl;
-    further = FirstFiles;
-    further_read = λ config scripts h. h;
-    further_names = λ config scripts. refl;
-    further_next = λ config scripts. refl;
-    refused = λ n f p. p;
-  }
+pub reads_clips : (old : StoreModel) (name : List ℕ) → ReadsOne (Clip name) old name []
+reads_clips old name = reads_first (Clip name) old name refl (λ config scripts h. h) (λ config scripts. refl)
+    (λ config scripts. refl) (λ n f p. IfSome_then old.files p (λ files q. inl q))
 
-  reads_clips : ReadsRun (Clip name) old name []
-  reads_clips = record {
-    start = NoFile;
-    start_read = tt;
-    start_names = refl;
-    start_next = refl;
-    further = FirstFiles;
-    further_read = λ config scripts h. h;
-    further_names = λ config scripts. refl;
-    further_next = λ config scripts. refl;
-    refused = λ n f p. told_so (λ files. IsSetupFault name files n f)
-        (λ files. Judged (Clip name) files (Refused n f)) old.files (λ files q. inl q) p;
-  }
+pub reads_audit : (old : StoreModel) (name journal : List ℕ) → ReadsOne (Audit name journal) old name []
+reads_audit old name journal = reads_first (Audit name journal) old name refl (λ config scripts h. h)
+    (λ config scripts. refl) (λ config scripts. refl) (λ n f p. IfSome_then old.files p (λ files q. inl q))
 
-  reads_audit : (journal : List ℕ) → ReadsRun (Audit name journal) old name []
-  reads_audit journal = record {
-    start = NoFile;
-    start_read = tt;
-    start_names = refl;
-    start_next = refl;
-    further = FirstFiles;
-    further_read = λ config scripts h. h;
-    further_names = λ config scripts. refl;
-    further_next = λ config scripts. refl;
-    refused = λ n f p. told_so (λ files. IsSetupFault name files n f)
-        (λ files. Judged (Audit name journal) files (Refused n f)) old.files (λ files q. inl q) p;
-  }
+pub stopped_first : {c : Command} {old new : StoreModel} {name : List ℕ} {stop : Stop} → ReadsOne c old name []
+    → name_text c file_name.First ≡ name → IsLoaded name file_name.First old new (Err stop)
+    → StoppedReading c old new stop
+stopped_first {old = old} r is h = run_stopped r file_name.First is (rw (asking_none old) at h)
 
-  -- nothing was asked for before
-  at_start : (said : StopName) (new : StoreModel) (r : Result Loaded Stop) → IsLoaded name said old new r
-      → IsLoaded name said (asking_all old []) new r
-  at_start said new r h = subst (λ (s : StoreModel). IsLoaded name said s new r) (asking_none old) h
+pub first_asked : {old new : StoreModel} {name : List ℕ} {l : Loaded} → RunRead name old l new
+    → new ≡ asking_all old (name ∷ names_in l.config)
+first_asked {old = old} {new = new} {name = name} {l = l} h =
+    run_asked old name [] l new (rw (asking_none old) at h)
 
-  pub stopped_first : (c : Command) → ReadsRun c old name [] → name_text c file_name.First ≡ name
-      → (new : StoreModel) (stop : Stop) → IsLoaded name file_name.First old new (Err stop)
-      → StoppedReading c old new stop
-  stopped_first c r is new stop h =
-      run_stopped old name [] c r new stop file_name.First is (at_start file_name.First new (Err stop) h)
+pub first_valid : {old new : StoreModel} {name : List ℕ} {l : Loaded} → RunRead name old l new
+    → (beside : Bool) → AreAllScripts name old.files (setup_in l beside)
+first_valid {old = old} {new = new} {name = name} {l = l} h =
+    run_valid old name [] l new (rw (asking_none old) at h)
 
-  pub clips_stopped_first : (new : StoreModel) (stop : Stop) → IsLoaded name file_name.First old new (Err stop)
-      → StoppedReading (Clip name) old new stop
-  clips_stopped_first new stop h = stopped_first (Clip name) reads_clips refl new stop h
+-- all files of a command were read that reads no others
+first_read : (c : Command) (old : StoreModel) (name : List ℕ) (beside : Bool) → ReadsOne c old name []
+    → name_text c file_name.First ≡ name → ((s : Setup) → name ∷ names_in s.config ≡ reads c s)
+    → ((l : Loaded) → IsSetupOf c (setup_in l beside))
+    → ((l : Loaded) (files : List File) → AreSetup name files (setup_in l beside)
+    → IsValid c files (setup_in l beside))
+    → (new : StoreModel) (r : Result Loaded Stop) → IsLoaded name file_name.First old new r
+    → SetupRead c beside old new r
+first_read c old name beside reads_one is names of_command valid new (Ok l) h =
+    let all = first_valid h beside in
+    record {
+      asked = first_asked h ∙ ap (asking_all old) (names (setup_in l beside));
+      valid = record {
+        runnable = all.runnable;
+        of_command = of_command l;
+        valid = IfSome_then old.files all.valid (valid l);
+      };
+    }
+first_read c old name beside reads_one is names of_command valid new (Err stop) h = stopped_first reads_one is h
 
-  pub audit_stopped_first : (journal : List ℕ) (new : StoreModel) (stop : Stop)
-      → IsLoaded name file_name.First old new (Err stop) → StoppedReading (Audit name journal) old new stop
-  audit_stopped_first journal new stop h =
-      stopped_first (Audit name journal) (reads_audit journal) refl new stop h
+pub run_read : (old : StoreModel) (name : List ℕ) (beside : Bool) (new : StoreModel) (r : Result Loaded Stop)
+    → IsLoaded name file_name.First old new r → SetupRead (Run beside name) beside old new r
+run_read old name beside = first_read (Run beside name) old name beside
+    (reads_first (Run beside name) old name refl (λ config scripts h. h) (λ config scripts. refl)
+    (λ config scripts. refl) (λ n f p. p)) refl (λ s. refl) (λ l. (refl, refl, refl, refl))
+    (λ l files v. (v.0, v.1, refl, refl, refl, refl))
 
-  module _ (said : StopName) (l : Loaded) (new : StoreModel) (h : IsLoaded name said old new (Ok l)) where
-    abbrev whole : RunRead name (asking_all old []) l new
-    whole = at_start said new (Ok l) h
-
-    pub first_asked : new ≡ asking_all old (name ∷ names_in l.config)
-    first_asked = run_asked old name [] l new whole
-
-    pub first_valid : (beside : Bool) → AreAllScripts name old.files (setup_in l beside)
-    first_valid beside = run_valid old name [] l new whole beside
-
-  -- all files of a run were read
-  pub run_read : (beside : Bool) (new : StoreModel) (r : Result Loaded Stop) → IsLoaded name file_name.First old new r
-      → SetupRead (Run beside name) beside old new r
-  run_read beside new (Ok l) h =
-      let all = first_valid file_name.First l new h beside in
-      record {
-        asked = first_asked file_name.First l new h;
-        valid = record {
-          runnable = all.runnable;
-          of_command = (refl, refl, refl, refl);
-          valid = told_so (λ files. AreSetup name files (setup_in l beside))
-              (λ files. IsValid (Run beside name) files (setup_in l beside)) old.files
-              (λ files v. (v.0, v.1, refl, refl, refl, refl)) all.valid;
-        };
-      }
-  run_read beside new (Err stop) h = stopped_first (Run beside name) (reads_run beside) refl new stop h
-
-  pub film_read : (region : Region) (new : StoreModel) (r : Result Loaded Stop)
-      → IsLoaded name file_name.First old new r → SetupRead (Capture name region) true old new r
-  film_read region new (Ok l) h =
-      let all = first_valid file_name.First l new h true in
-      record {
-        asked = first_asked file_name.First l new h;
-        valid = record {
-          runnable = all.runnable;
-          of_command = (refl, refl, refl, refl);
-          valid = told_so (λ files. AreSetup name files (setup_in l true))
-              (λ files. IsValid (Capture name region) files (setup_in l true)) old.files
-              (λ files v. (v.0, v.1, refl, refl, refl, refl)) all.valid;
-        };
-      }
-  film_read region new (Err stop) h = stopped_first (Capture name region) (reads_film region) refl new stop h
+pub film_read : (old : StoreModel) (name : List ℕ) (region : Region) (new : StoreModel) (r : Result Loaded Stop)
+    → IsLoaded name file_name.First old new r → SetupRead (Capture name region) true old new r
+film_read old name region = first_read (Capture name region) old name true
+    (reads_first (Capture name region) old name refl (λ config scripts h. h) (λ config scripts. refl)
+    (λ config scripts. refl) (λ n f p. p)) refl (λ s. refl) (λ l. (refl, refl, refl, refl))
+    (λ l files v. (v.0, v.1, refl, refl, refl, refl))
 
 -- ---- the inner files, behind the outer ones
 
-module _ (outer inner : List ℕ) (old : StoreModel) (o : RunFiles) (all : AreAllOuterFiles outer old.files o) where
-  reads_inner : ReadsRun (Nested outer inner) old inner (outer ∷ names_in o.config)
+module _ (outer inner : List ℕ) (old : StoreModel) (o : RunFiles) (all : AreAllOuterFiles outer old.files o)
+    (mid new : StoreModel) (asked : mid ≡ asking_all old (outer ∷ names_in o.config)) where
+  reads_inner : ReadsOne (Nested outer inner) old inner (outer ∷ names_in o.config)
   reads_inner = record {
     start = OuterFiles o;
     start_read = all;
     start_names = refl;
     start_next = refl;
     further = InnerFiles o;
-    further_read = λ config scripts h. (all, h);
+    further_read = λ config scripts configured lines phases valid.
+        (all, record { configured = configured; lines = lines; phases = phases; valid = valid });
     further_names = λ config scripts. refl;
     further_next = λ config scripts. refl;
-    refused = λ n f p. told_so_both (λ files. AreOuterFiles outer files o) (λ files. IsSetupFault inner files n f)
-        (λ files. Judged (Nested outer inner) files (Refused n f)) old.files (λ files v q. inr (o, v, inl q)) all.valid
-        p;
+    refused = λ n f p. both_told old.files all.valid p (λ files v q. inr (o, v, inl q));
   }
 
   -- the inner files were read, or it stopped at one of them
-  pub inner_stopped : (mid new : StoreModel) (stop : Stop) → mid ≡ asking_all old (outer ∷ names_in o.config)
-      → IsLoaded inner file_name.Second mid new (Err stop) → StoppedReading (Nested outer inner) old new stop
-  inner_stopped mid new stop asked h =
-      run_stopped old inner (outer ∷ names_in o.config) (Nested outer inner) reads_inner new stop file_name.Second refl
-      (subst (λ (s : StoreModel). IsLoaded inner file_name.Second s new (Err stop)) asked h)
+  pub inner_stopped : (stop : Stop) → IsLoaded inner file_name.Second mid new (Err stop)
+      → StoppedReading (Nested outer inner) old new stop
+  inner_stopped stop h = run_stopped reads_inner file_name.Second refl (rw asked at h)
 
-  pub inner_whole : (mid new : StoreModel) (i : Loaded) → mid ≡ asking_all old (outer ∷ names_in o.config)
-      → IsLoaded inner file_name.Second mid new (Ok i)
+  pub inner_whole : (i : Loaded) → RunRead inner mid i new
       → ReadsTo (Nested outer inner) old (BothFiles o (files_in i)) new
-  inner_whole mid new i asked h =
-      let whole : RunRead inner (asking_all old (outer ∷ names_in o.config)) i new =
-      subst (λ (s : StoreModel). RunRead inner s i new) asked h in
+  inner_whole i h =
+      let whole = rw asked at h in
+      let front = outer ∷ names_in o.config in
       record {
-        asked = run_asked old inner (outer ∷ names_in o.config) i new whole;
-        valid = (all, run_valid old inner (outer ∷ names_in o.config) i new whole false);
+        asked = run_asked old inner front i new whole;
+        valid = (all, run_valid old inner front i new whole false);
       }

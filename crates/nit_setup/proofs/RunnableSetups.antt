@@ -18,11 +18,8 @@ all_phases : (scripts : List (List Line)) (lines : List InputLine) → 1 ≤ len
     → AllByRecursion (λ ls. phases ls ≡ input_phases lines) scripts
 all_phases [] lines some same right = absurd (omega arith)
 all_phases (first ∷ rest) lines some same right =
-    let is : input_phases lines ≡ phases first = phases_are (phases first) (input_phases lines) right in (
-      sym is,
-      all_so (λ ls. phases ls ≡ phases first) (λ ls. phases ls ≡ input_phases lines) rest (λ ls e. e ∙ sym is)
-          same,
-    )
+    let is = sym (phases_are (phases first) (input_phases lines) right) in
+    (is, all_so _ (λ ls. phases ls ≡ input_phases lines) rest (λ ls e. e ∙ is) same)
 
 -- the setup of a configuration
 pub run_runnable : (beside : Bool) (config : Configuration) (scripts : List (List Line)) (lines : List InputLine)
@@ -31,14 +28,12 @@ pub run_runnable : (beside : Bool) (config : Configuration) (scripts : List (Lis
     → AreLines FitsInputLine lines → wrong_input (wanted_by scripts) lines ≡ None
     → IsRunnable (setup_of config scripts lines true beside)
 run_runnable beside config scripts lines configured counted fit same input_fits right =
-    let count : length scripts ≡ length config.clients = counted ∙ length-map config.clients (λ m. m.script) in
-    let some : 1 ≤ length scripts = let c = configured.count.0 in omega arith in
+    let count = rw length-map at counted in
     record {
       configured = configured;
       scripts = count;
-      phases = all_phases scripts lines some same right;
-      lines =
-          fit;
+      phases = all_phases scripts lines (omega (arith, configured.count.0)) same right;
+      lines = fit;
       input_lines = input_fits;
       clips_each = inl refl;
     }

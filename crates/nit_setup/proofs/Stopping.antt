@@ -1,7 +1,6 @@
 -- How a command stops at a file that it reads.
-use Rattle.std.proofs.Common.{◌≡◌, ℕ, List, [], ◌∷◌, ◌++◌, length, take, Option, Some, refl, ap}
-use Rattle.std.proofs.Common.{◌∙◌, subst}
-use Rattle.nit_setup.proofs.Basics.{Command, End, Fault, File, FilesRead, HasRead, IfSome, Judged}
+use Rattle.std.proofs.Common.{◌≡◌, ℕ, List, [], ◌∷◌, ◌++◌, length, take, Some, refl, ap, ◌∙◌, subst}
+use Rattle.nit_setup.proofs.Basics.{Command, End, Fault, FilesRead, HasRead, IfSome, Judged}
 use Rattle.nit_setup.proofs.Basics.{Refused, Stop, StoppedAt, StoppedBy, StoppedReading, StoreModel}
 use Rattle.nit_setup.proofs.Basics.{asking_all, bytes_of, name_text, names_read, next_name}
 use Rattle.nit_setup.proofs.Basics.{slice_get, take-append_seam}

@@ -1,9 +1,11 @@
-use Rattle.nit_setup.proofs.Lemmas.{List, ReadsClient, client_script, subst, sym, text_at, ℕ, ◌∙◌}
+use Rattle.nit_setup.proofs.Lemmas.{text_at}
 use Rattle.nit_setup.proofs.generated.read_clients.Goals as goal
 
 pub read_client-requires : goal.read_client-requires
 read_client-requires c =
-    subst (λ (bytes : List ℕ). ReadsClient bytes (client_script c.args.number c.clients.client))
-    (sym (c.deref.ensures.value ∙ text_at c.args.texts.now c.args.number c.clients.client c.index-texts-client.result
-    c.requires.texts c.clients-test.true c.index-texts-client.is))
+    rw (
+      c.deref.ensures.value,
+      text_at c.args.texts.now c.args.number c.clients.client c.index-texts-client.result
+          c.requires.texts c.clients-test.true c.index-texts-client.is,
+    )
     (c.requires.reads c.clients.client c.clients-test.true)

@@ -1,9 +1,6 @@
-use Rattle.nit_setup.proofs.Lemmas.{Member, Some, [], ap, false, found_other, one_more_wanted}
-use Rattle.nit_setup.proofs.Lemmas.{phases, sym, ◌∙◌}
+use Rattle.nit_setup.proofs.Lemmas.{Some, [], ap, false, found_other, one_more_wanted, phases, sym}
+use Rattle.nit_setup.proofs.Lemmas.{◌∙◌}
 use Rattle.nit_setup.proofs.misfit.first_other_client.Goals as goal
-
-no_member : Member
-no_member = record { label = []; donation = 0; script = []; layer = 0; clicks = false }
 
 pub returns-then-phases-wanted-clause-some : goal.returns-then-phases-wanted-clause-some
 returns-then-phases-wanted-clause-some c =
@@ -14,6 +11,7 @@ returns-then-phases-wanted-clause-some c =
 
 pub loop-k-preserved : goal.loop-k-preserved
 loop-k-preserved c =
-    one_more_wanted c.args.wanted c.args.clients.now c.args.scripts.now c.loop-k.k no_member c.index-scripts-k.result
+    one_more_wanted c.args.wanted c.args.clients.now c.args.scripts.now c.loop-k.k
+    (record { label = []; donation = 0; script = []; layer = 0; clicks = false }) c.index-scripts-k.result
     c.requires c.loop-k-test.true c.index-scripts-k.is c.loop-k.invariant
-    (ap phases (sym c.lines.ensures.value) ∙ sym c.phases.ensures ∙ c.if-phases-wanted.false)
+    (rw (← c.lines.ensures.value, ← c.phases.ensures) c.if-phases-wanted.false)

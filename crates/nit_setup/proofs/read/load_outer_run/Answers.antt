@@ -1,13 +1,8 @@
-use Rattle.nit_setup.proofs.Lemmas.{End, IsConfigFault, StoppedAt, inl, inr, subst, sym}
+use Rattle.nit_setup.proofs.Lemmas.{inl, inr}
 use Rattle.nit_setup.proofs.read.load_outer_run.Goals as goal
 
 pub returns-in-Err : goal.returns-in-Err
-returns-in-Err g c =
-    inl (
-      c.at_first.ensures.1,
-      subst (λ (e : End). StoppedAt IsConfigFault (g.S.Store.shown c.args.store.now) c.args.name.now
-          (g.S.Store.shown c.load_config.new.store) e) (sym c.at_first.ensures.0) c.in-Err.ensures.loaded,
-    )
+returns-in-Err g c = inl (c.at_first.ensures.1, rw c.at_first.ensures.0 c.in-Err.ensures.loaded)
 
 pub returns-in-Err-read_outer : goal.returns-in-Err-read_outer
 returns-in-Err-read_outer g c =

@@ -1,8 +1,7 @@
-use Rattle.std.proofs.Common.{◌≡◌, ◌^◌, ℕ, List, subst}
-use Rattle.nit_setup.proofs.Lemmas.{number_among, number_is}
+use Rattle.nit_setup.proofs.Lemmas.{number_is}
 use Rattle.nit_setup.proofs.words.whole_number.Goals as goal
 
 pub returns-clause-number : goal.returns-clause-number
 returns-clause-number c =
-    subst (λ (word : List ℕ). c.natural.result ≡ number_among 0 (10 ^ 9) word) c.as_bytes.ensures.value
+    rw (← c.as_bytes.ensures.value)
     (number_is c.natural.result c.as_bytes.result.now c.natural.ensures.found c.natural.ensures.none)
