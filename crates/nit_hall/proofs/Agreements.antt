@@ -28,7 +28,7 @@ end_of_buffer (e ∷ rest) (suc n) buffer at = let h = end_of_buffer rest n buff
 -- the sight of the end there
 sight_at : (ends : List End) (sid : ℕ) (e : End) → slice_get ends sid ≡ Some e → glass_in (sights_of ends) sid ≡ e.sight
 sight_at ends sid e at = get_or_from_slice_get (sights_of ends) sid e.sight no_sight
-    (slice_get-map (λ (e : End). e.sight) ends sid ∙ ap (option_map (λ (e : End). e.sight)) at)
+    (rw (slice_get-map (λ (e : End). e.sight) ends sid, at) refl)
 
 -- a client's pass can agree with the room that it belongs to
 pub can_agree : {r : RoomModel} {p : PassModel} {share : ShareModel} (spare : End) → IsRoom r → Belongs r.parts p
@@ -112,24 +112,3 @@ pub room_and_pass_met : {r₀ r r' : RoomModel} {p₀ p p' : PassModel} → r �
 room_and_pass_met {r₀ = r₀} {p₀ = p₀} er ep met of ready =
     let belongs : Belongs r₀.parts (knowing (without_final r₀.scene.entries) p₀) = assumption in
     rw (er ∙ met.room, ep ∙ met.pass) (record { belongs = belongs; counted = met.counted; phase = ready })
-
--- ---- the room and its scene
-
--- the room whose scene has an end that knows other stages, part by part
-pub staged_room : (r : RoomModel) (scene' : SceneModel End) (sid : ℕ) (stages : List (List ℕ))
-    → r.scene.config ≡ r.parts.config → r.parts.buffers ≡ buffers_of r.scene.glasses
-    → scene' ≡ record r.scene { glasses = with_end_stages sid stages r.scene.glasses }
-    → ◌≡◌ {A = RoomModel} (record r {
-      parts = record r.parts { config = scene'.config; buffers = buffers_of scene'.glasses };
-      scene = scene';
-    }) (with_room_stages r sid stages)
-staged_room r scene' sid stages config buffers is =
-    let same : buffers_of (with_end_stages sid stages r.scene.glasses) ≡ buffers_of r.scene.glasses =
-    same_buffers _ _ (same_stands sid stages r.scene.glasses) in
-    λ i. record r {
-      parts = record r.parts {
-        config = (ap (λ (s : SceneModel End). s.config) is ∙ config) i;
-        buffers = (ap (λ (s : SceneModel End). buffers_of s.glasses) is ∙ same ∙ sym buffers) i;
-      };
-      scene = is i;
-    }

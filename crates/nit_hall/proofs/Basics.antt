@@ -25,23 +25,22 @@ pub use Rattle.nit_hall.specs.Terms.{blank, buffers_of, call_entry, calls_from, 
 pub use Rattle.nit_hall.specs.Terms.{calls_to_make, calls_up_to, clip_answer, clip_calls_in}
 pub use Rattle.nit_hall.specs.Terms.{clip_calls_of, clip_entry, clip_phases_before, clip_script_in}
 pub use Rattle.nit_hall.specs.Terms.{clipboard_of, clips_to_do, clips_to_make, count_by}
-pub use Rattle.nit_hall.specs.Terms.{device_entry, donation_of, done, entries_in, first_pass}
-pub use Rattle.nit_hall.specs.Terms.{first_state, first_user, frame, glass_in, glasses_of_call}
-pub use Rattle.nit_hall.specs.Terms.{in_line, ink_in, input_phases_before, into_iter_items}
-pub use Rattle.nit_hall.specs.Terms.{is_accepted, is_clip_phase, is_dirtied, is_input_phase}
-pub use Rattle.nit_hall.specs.Terms.{is_phase, is_served, knowing, knowing_clip, left_after}
-pub use Rattle.nit_hall.specs.Terms.{left_word, length, lenses, line_stages, lines_of_all}
-pub use Rattle.nit_hall.specs.Terms.{lines_of_clips, lines_to_call, map, nat_le, new_sight}
-pub use Rattle.nit_hall.specs.Terms.{next_call, next_clip, next_device, next_phase, no_sight}
-pub use Rattle.nit_hall.specs.Terms.{option_map, painted_from, parts_of, phase_of_entry}
-pub use Rattle.nit_hall.specs.Terms.{phases_along, phases_before, phases_ended, pixel, pixel_count}
-pub use Rattle.nit_hall.specs.Terms.{plan_in, raised, range_with_len, raw_behind, raws_in, replay}
-pub use Rattle.nit_hall.specs.Terms.{replicate, rest_of, scenery_of, script_in, script_ink, seen}
-pub use Rattle.nit_hall.specs.Terms.{serve, served, session, shots, sight_after_line, slice_get}
-pub use Rattle.nit_hall.specs.Terms.{slice_index, slice_index_or, source_at, source_of, stands}
-pub use Rattle.nit_hall.specs.Terms.{state_now, stretch, stretch_end, stretch_from}
-pub use Rattle.nit_hall.specs.Terms.{strokes_in_front, sum, sum_by, table_size, take, to_do}
-pub use Rattle.nit_hall.specs.Terms.{user_actions_from, user_actions_in, user_actions_of}
+pub use Rattle.nit_hall.specs.Terms.{donation_of, done, entries_in, first_pass, first_state}
+pub use Rattle.nit_hall.specs.Terms.{first_user, frame, glass_in, glasses_of_call, in_line, ink_in}
+pub use Rattle.nit_hall.specs.Terms.{input_phases_before, into_iter_items, is_accepted}
+pub use Rattle.nit_hall.specs.Terms.{is_clip_phase, is_dirtied, is_input_phase, is_phase, is_served}
+pub use Rattle.nit_hall.specs.Terms.{knowing, knowing_clip, left_after, left_word, length, lenses}
+pub use Rattle.nit_hall.specs.Terms.{line_stages, lines_of_all, lines_of_clips, lines_to_call, map}
+pub use Rattle.nit_hall.specs.Terms.{nat_le, new_sight, next_call, next_clip, next_device}
+pub use Rattle.nit_hall.specs.Terms.{next_phase, no_sight, option_map, painted_from, parts_of}
+pub use Rattle.nit_hall.specs.Terms.{phase_of_entry, phases_along, phases_before, phases_ended}
+pub use Rattle.nit_hall.specs.Terms.{pixel, pixel_count, plan_in, raised, range_with_len}
+pub use Rattle.nit_hall.specs.Terms.{raw_behind, raws_in, replay, replicate, rest_of, scenery_of}
+pub use Rattle.nit_hall.specs.Terms.{script_in, script_ink, seen, serve, served, session, shots}
+pub use Rattle.nit_hall.specs.Terms.{sight_after_line, slice_get, slice_index, slice_index_or}
+pub use Rattle.nit_hall.specs.Terms.{source_at, source_of, stands, state_now, stretch, stretch_end}
+pub use Rattle.nit_hall.specs.Terms.{stretch_from, strokes_in_front, sum, sum_by, table_size, take}
+pub use Rattle.nit_hall.specs.Terms.{to_do, user_actions_from, user_actions_in, user_actions_of}
 pub use Rattle.nit_hall.specs.Terms.{user_actions_to_do, watching_sight, with_clip}
 pub use Rattle.nit_hall.specs.Terms.{with_clip_scripts, with_end_stages, with_entry, with_final}
 pub use Rattle.nit_hall.specs.Terms.{with_room_stages, with_stages, with_words, without_final}
@@ -58,7 +57,8 @@ pub use Rattle.std.proofs.Common.{Bool, IfSome, None, [], ap, append_assoc, ap�
 pub use Rattle.std.proofs.Common.{false, filter, get_or, get_or-set_other, get_or-set_same, inl}
 pub use Rattle.std.proofs.Common.{inr, length-append, length-set, refl, rules, set, subst, suc, sym}
 pub use Rattle.std.proofs.Common.{ℕ, ◌∙◌}
-pub use Rattle.std.proofs.Math.Seq.{get_or-append_seam, take-set-lt}
+pub use Rattle.std.proofs.Math.ListN.{get_or-map}
+pub use Rattle.std.proofs.Math.Seq.{get_or-append_seam, map-set_same, take-set-lt}
 pub use Rattle.std.proofs.lemmas.Bool.{cases_Bool, cases_eq, cases_lt, eq-eqb, eqb-true, ne_eqb}
 pub use Rattle.std.proofs.lemmas.Bool.Decides.{nat_tests}
 pub use Rattle.std.proofs.lemmas.Grind.{common_steps}

@@ -3,10 +3,10 @@ use Rattle.nit_hall.proofs.Basics.{AllByRecursion, Bool, ClipCall, ClipEntry, Cl
 use Rattle.nit_hall.proofs.Basics.{IsNonDecreasing, Line, List, Some, [], ap, arith, calls_from}
 use Rattle.nit_hall.proofs.Basics.{calls_in, calls_up_to, cases_Bool, clip_calls_in, clip_calls_of}
 use Rattle.nit_hall.proofs.Basics.{clip_script_in, clips_to_do, clips_to_make, cond, eq-eqb, false}
-use Rattle.nit_hall.proofs.Basics.{inl, inr, is_phase, length, map, nat_le, nat_tests, ne_eqb}
-use Rattle.nit_hall.proofs.Basics.{phases_before, slice_index}
-use Rattle.std.proofs.Common.{refl, slice_get, suc, take, true, zero, ℕ, ◌++◌, ◌+◌, ◌<◌, ◌==◌}
-use Rattle.std.proofs.Common.{◌∷◌, ◌≡◌, ◌≢◌, ◌≤◌, ◌⊎◌}
+use Rattle.nit_hall.proofs.Basics.{get_or-map, inl, inr, is_phase, length, map, nat_le, nat_tests}
+use Rattle.nit_hall.proofs.Basics.{ne_eqb, phases_before, slice_index}
+use Rattle.std.proofs.Common.{refl, slice_get, suc, take, true, zero, ℕ, ◌++◌, ◌+◌, ◌<◌, ◌==◌, ◌∷◌}
+use Rattle.std.proofs.Common.{◌≡◌, ◌≢◌, ◌≤◌, ◌⊎◌}
 use Rattle.nit_script.specs.declared.line.Line.TheVariants as line
 use Rattle.nit_clip.specs.declared.line.ClipLine.TheVariants as clips
 use Rattle.nit_hall.proofs.LineLemmas.{count_cons}
@@ -29,25 +29,22 @@ clips_short (clips.Phase ∷ lines) = omega (arith, clips_short lines)
 
 pub made_by : (scripts : List (List ClipLine)) (t : ℕ) → clips_to_do (map clips_to_make scripts) t
     ≡ clips_to_make (clip_script_in scripts t)
-made_by [] t = refl
-made_by (s ∷ scripts) zero = refl
-made_by (s ∷ scripts) (suc t) = made_by scripts t
+made_by scripts t = get_or-map clips_to_make scripts t []
 
 -- ---- clip lists
 
 pub own_clip : (s : ℕ) (es : List ClipEntry) (e : ClipEntry) → e.sid ≡ s
     → clip_calls_of s (es ++ e ∷ []) ≡ clip_calls_of s es ++ e.call ∷ []
-own_clip s [] e own = ap (λ (b : Bool). cond {A = List ClipCall} b (e.call ∷ []) []) (eq-eqb e.sid s own)
+own_clip s [] e own = rw (eq-eqb e.sid s own) refl
 own_clip s (x ∷ es) e own = elim (cases_Bool (x.sid == s)) [
-  | inl is ↦ rw is (ap (λ (cs : List ClipCall). x.call ∷ cs) (own_clip s es e own))
+  | inl is ↦ rw (is, own_clip s es e own) refl
   | inr not ↦ rw not (own_clip s es e own)
 ]
 
 pub other_clip : (s : ℕ) (es : List ClipEntry) (e : ClipEntry) → e.sid ≢ s
     → clip_calls_of s (es ++ e ∷ []) ≡ clip_calls_of s es
-other_clip s [] e other = ap (λ (b : Bool). cond {A = List ClipCall} b (e.call ∷ []) []) (ne_eqb e.sid s other)
-other_clip s (x ∷ es) e other = ap (λ (cs : List ClipCall). cond {A = List ClipCall} (x.sid == s) (x.call ∷ cs) cs)
-    (other_clip s es e other)
+other_clip s [] e other = rw (ne_eqb e.sid s other) refl
+other_clip s (x ∷ es) e other = rw (other_clip s es e other) refl
 
 -- ---- the calls up to the end of a phase
 
@@ -68,11 +65,9 @@ pub calls_of_phases : (script : List Line) (p k : ℕ) → (slice_get script k �
     → length (calls_up_to (p + phases_before script k) (calls_from p script)) ≡ length (calls_in (take k script))
 calls_of_phases [] p zero at = refl
 calls_of_phases [] p (suc k) at = refl
-calls_of_phases (line.Call c ∷ script) p zero (inl e) = absurd cc
-calls_of_phases (line.Call c ∷ script) p zero (inr e) = absurd (omega (arith, e))
-calls_of_phases (line.Stroke s ∷ script) p zero (inl e) = absurd cc
-calls_of_phases (line.Stroke s ∷ script) p zero (inr e) = absurd (omega (arith, e))
 calls_of_phases (line.Phase ∷ script) p zero at = ap length (later (p + 0) (suc p) script (omega arith))
+calls_of_phases (other ∷ script) p zero (inl e) = absurd cc
+calls_of_phases (other ∷ script) p zero (inr e) = absurd (omega (arith, e))
 calls_of_phases (line.Call c ∷ script) p (suc k) at =
     let n : p + phases_before (line.Call c ∷ script) (suc k) ≡ p + phases_before script k =
     omega (arith, count_cons is_phase (line.Call c) (take k script)) in

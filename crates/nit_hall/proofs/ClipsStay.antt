@@ -35,12 +35,9 @@ follow_on laws parts counts entries e clips f = assumption (
 abbrev pub parts_with : RoomModel → SceneModel End → OpeningParts
 parts_with r scene = record r.parts { config = scene.config; buffers = buffers_of scene.glasses }
 
--- the clip list has nothing to do with the buffers
-pub clips_same : {r : RoomModel} (scene : SceneModel End) → scene.config ≡ r.scene.config → IsRoom r
-    → FollowsClips (parts_with r scene) r.clip_counts r.scene.entries r.clips
-clips_same {r = r} scene same room = let f = room.clips_follow in rw (same ∙ room.config) (assumption f)
-
 pub clips_then : ClipsStay → (r : RoomModel) (new : SceneModel End) (e : Entry) → IsRoom r → new.config ≡ r.scene.config
     → new.entries ≡ r.scene.entries ++ e ∷ [] → FollowsClips (parts_with r new) r.clip_counts new.entries r.clips
 clips_then stay r new e room config recorded =
-    rw recorded (stay (parts_with r new) r.clip_counts r.scene.entries e r.clips (clips_same new config room))
+    let f = room.clips_follow in
+    rw recorded (stay (parts_with r new) r.clip_counts r.scene.entries e r.clips
+    (rw (config ∙ room.config) (assumption f)))

@@ -1,6 +1,5 @@
 -- The counts of a book in two parts: the first so many, and those behind them.
-use Rattle.std.proofs.Common.{List, ap, arith, drop, length, sym, take, ℕ, ◌+◌, set, ◌<◌, ◌∙◌}
-use Rattle.std.proofs.Common.{◌≡◌}
+use Rattle.std.proofs.Common.{List, ap, arith, drop, length, sym, take, ℕ, ◌+◌, set, ◌<◌, ◌∙◌, ◌≡◌}
 use Rattle.nit_hall.proofs.Basics.{drop-set-add, get_or-drop, get_or-take, length-drop, length-take}
 use Rattle.nit_hall.proofs.Basics.{raised, slice_index, take-set-lt}
 

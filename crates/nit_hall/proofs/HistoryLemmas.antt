@@ -17,12 +17,11 @@ use Rattle.nit_events.specs.declared.entry.Entry.TheVariants as entry
 behind_front : (raws more : List (List ℕ)) (n k : ℕ) → n ≤ length raws
     → raw_behind (raws ++ more) n k ≡ raw_behind raws n k
 behind_front raws more zero k few = refl
-behind_front raws more (suc n) k few =
-    ap (λ (raw : List ℕ). slice_index_or raw k 0) (get_or_append_left raws more [] n (omega (arith, few)))
+behind_front raws more (suc n) k few = rw (get_or_append_left raws more [] n (omega (arith, few))) refl
 
 behind_new : (raws : List (List ℕ)) (raw : List ℕ) (k : ℕ)
     → raw_behind (raws ++ raw ∷ []) (suc (length raws)) k ≡ slice_index_or raw k 0
-behind_new raws raw k = ap (λ (ws : List ℕ). slice_index_or ws k 0) (get_or-append_seam raws raw [] [])
+behind_new raws raw k = rw (get_or-append_seam raws raw [] []) refl
 
 -- ---- one more entry
 
@@ -72,9 +71,9 @@ module _ (config : Configuration) (entries : List Entry) (e : Entry) (raws : Lis
       }
 
   pub last_more : AreLast config (raws ++ raw' ∷ []) raw'
-  last_more =
+  last_more k inside =
       let long : length (raws ++ raw' ∷ []) ≡ suc (length raws) = omega (arith, length-append raws (raw' ∷ [])) in
-      λ k inside. sym (ap (λ (m : ℕ). raw_behind (raws ++ raw' ∷ []) m k) long ∙ behind_new raws raw' k)
+      rw (long, behind_new raws raw' k) refl
 
 -- ---- a room
 
@@ -107,33 +106,19 @@ clean_painted old new e {glasses = glasses} {glasses' = glasses'} now painted k 
     let p : Painted s e (after s e) glasses glasses' old.raw new.raw = rw now at painted in
     p.others k (λ _. clean)
 
--- the last picture has no raw words in the book
-pub goes_no_further : {r : RoomModel} {new : SceneModel End} → IsRoom r
-    → new.entries ≡ r.scene.entries ++ entry.Final ∷ [] → without_final r.scene.entries ≡ without_final new.entries
-    → GoesOn r.scene.config new r.raws
-goes_no_further {r = r} {new = new} room recorded same = record {
-  history = rw (← same, room.config) room.history;
-  ends = λ o. absurd (not_open r.scene.entries (subst IsOpen recorded o));
-}
-
 -- ---- what shares know
 
 -- a front of recorded entries has a front of what each of them holds
 pub front_of_each : {X : Type 0} (part : Recorded → X) (known all : List Recorded) → IsPrefix known all
     → IsPrefix (map part known) (map part all)
-front_of_each part known all (more, is) =
-    (map part more, sym (map-append part known more) ∙ ap (λ (rs : List Recorded). map part rs) is)
-
-pub entries_more : (recorded : List Recorded) (e : Entry) (raw : List ℕ)
-    → entries_in (recorded ++ record { entry = e; raw = raw } ∷ []) ≡ entries_in recorded ++ e ∷ []
-entries_more recorded e raw =
-    map-append (λ (r : Recorded). r.entry) recorded (record { entry = e; raw = raw } ∷ [])
+front_of_each part known all (more, is) = (map part more, rw (← map-append part known more, is) refl)
 
 -- so the book, or a share, has one more entry than were known
 pub seen_more : (recorded : List Recorded) {now : List Recorded} {known : List Entry} (e : Entry) (raw : List ℕ)
     → now ≡ recorded ++ record { entry = e; raw = raw } ∷ [] → entries_in recorded ≡ known
     → entries_in now ≡ known ++ e ∷ []
-seen_more recorded e raw is all = rw (is, ← all) (entries_more recorded e raw)
+seen_more recorded e raw is all =
+    rw (is, ← all) (map-append (λ (r : Recorded). r.entry) recorded (record { entry = e; raw = raw } ∷ []))
 
 pub raws_more : (recorded : List Recorded) (e : Entry) (raw : List ℕ)
     → raws_in (recorded ++ record { entry = e; raw = raw } ∷ []) ≡ raws_in recorded ++ raw ∷ []
@@ -143,12 +128,3 @@ raws_more recorded e raw = map-append (λ (r : Recorded). r.raw) recorded (recor
 pub whole_history : {r : RoomModel} → IsRoom r → IsOpen r.scene.entries
     → IsHistory r.parts.config r.scene.entries r.raws
 whole_history {r = r} room o = rw (open_whole r.scene.entries o) at room.history
-
--- so it is by the scene and the book behind an entry, and the room in front of it
-pub history_then : {r r₀ : RoomModel} {new : SceneModel End} {e : Entry} (recorded : List Recorded) → IsRoom r → r ≡ r₀
-    → r.scene.config ≡ r.parts.config → IsOpen r.scene.entries → IsOpen new.entries → IsAdded r.scene new e
-    → KeepsClean r.scene.config r.scene.entries e r.scene.raw new.raw → raws_in recorded ≡ r.raws ++ new.raw ∷ []
-    → IsHistory r₀.parts.config new.entries (raws_in recorded)
-history_then {r = r} {r₀ = r₀} {new = new} recorded room er of was is added others grown =
-    let went = goes_on room was is added others in
-    rw (grown, ← er, ← of) (rw (open_whole new.entries is) at went.history)

@@ -52,11 +52,10 @@ module _ (config : Configuration) (journal : List Entry) (e : Entry) (k : ℕ) (
     (rest : List Entry) where
   -- where an entry makes the pixel dirty it is the last one behind which nothing stands
   pub last_is_last : is_dirtied config journal e k ≡ true
-      → IsLastDirtied config (journal ++ e ∷ []) k front f rest → (front ≡ journal) × (f ≡ e) × (rest ≡ [])
+      → IsLastDirtied config (journal ++ e ∷ []) k front f rest → (front ≡ journal) × (f ≡ e)
   last_is_last is last = elim (places front f rest journal e [] (sym last.split)) [
-    | same a b c ↦ (a, b, c)
-    | behind less a b ↦ absurd (not_both (is_dirtied config journal e k) is
-        (subst (λ (js : List Entry). is_dirtied config js e k ≡ false) (sym b) (last.clean_behind less e [] a)))
+    | same a b c ↦ (a, b)
+    | behind less a b ↦ absurd (let dirty = rw b at is in let clean = last.clean_behind less e [] a in cc)
     | before less a b ↦ absurd (none_behind less f rest a)
   ]
 
@@ -65,16 +64,14 @@ module _ (config : Configuration) (journal : List Entry) (e : Entry) (k : ℕ) (
       → IsLastDirtied config (journal ++ e ∷ []) k front f rest → (less : List Entry)
       × IsLastDirtied config journal k front f less
   last_before clean last = elim (places front f rest journal e [] (sym last.split)) [
-    | same a b c ↦ absurd (not_both (is_dirtied config front f k) last.dirty_here
-        (ap₂ (λ (js : List Entry) (x : Entry). is_dirtied config js x k) a b ∙ clean))
+    | same a b c ↦ absurd (let dirty = rw (a, b) at last.dirty_here in cc)
     | behind less a b ↦ (
       less,
       record {
         split = b;
         dirty_here = last.dirty_here;
         clean_behind = λ between g more at.
-            last.clean_behind between g (more ++ e ∷ []) (a ∙ ap (λ (xs : List Entry). xs ++ e ∷ []) at
-            ∙ append_assoc between (g ∷ more) (e ∷ []));
+            last.clean_behind between g (more ++ e ∷ []) (rw (a, at, append_assoc between (g ∷ more) (e ∷ [])) refl);
       },
     )
     | before less a b ↦ absurd (none_behind less f rest a)
@@ -85,11 +82,10 @@ module _ (config : Configuration) (journal : List Entry) (e : Entry) (k : ℕ) (
       → IsLastDirtied config (journal ++ e ∷ []) k front f (rest ++ e ∷ [])
   last_more clean last =
       record {
-        split = ap (λ (js : List Entry). js ++ e ∷ []) last.split ∙ append_assoc front (f ∷ rest) (e ∷ []);
+        split = rw (last.split, append_assoc front (f ∷ rest) (e ∷ [])) refl;
         dirty_here = last.dirty_here;
         clean_behind = λ between g more at. elim (places between g more rest e [] (sym at)) [
-          | same a b c ↦ ap₂ (λ (js : List Entry) (x : Entry). is_dirtied config (front ++ f ∷ js) x k) a b
-              ∙ ap (λ (js : List Entry). is_dirtied config js e k) (sym last.split) ∙ clean
+          | same a b c ↦ rw (a, b, ← last.split) clean
           | behind less a b ↦ last.clean_behind between g less b
           | before less a b ↦ absurd (none_behind less g more a)
         ];
@@ -119,7 +115,7 @@ OneIsLast config journal k = (front : List Entry) × (e : Entry) × (rest : List
 none_more : (config : Configuration) (journal : List Entry) (e : Entry) (k : ℕ) → is_dirtied config journal e k ≡ false
     → NoneDirties config journal k → NoneDirties config (journal ++ e ∷ []) k
 none_more config journal e k clean none front f rest at = elim (places front f rest journal e [] (sym at)) [
-  | same a b c ↦ ap₂ (λ (js : List Entry) (x : Entry). is_dirtied config js x k) a b ∙ clean
+  | same a b c ↦ rw (a, b) clean
   | behind less a b ↦ none front f less b
   | before less a b ↦ absurd (none_behind less f rest a)
 ]
@@ -139,7 +135,7 @@ found_behind : (config : Configuration) (k : ℕ) (journal more : List Entry) �
     ⊎ OneIsLast config journal k → NoneDirties config (journal ++ more) k ⊎ OneIsLast config (journal ++ more) k
 found_behind config k journal [] found = rw append-nil found
 found_behind config k journal (e ∷ more) found =
-    subst (λ (js : List Entry). NoneDirties config js k ⊎ OneIsLast config js k) (append_assoc journal (e ∷ []) more)
+    rw (← append_assoc journal (e ∷ []) more)
     (found_behind config k (journal ++ e ∷ []) more (found_more config journal e k found))
 
 pub last_found : (config : Configuration) (journal : List Entry) (k : ℕ) → NoneDirties config journal k
@@ -156,9 +152,8 @@ pub one_last : (config : Configuration) (journal : List Entry) (k : ℕ) (front 
 one_last config journal k front other_front e other rest other_rest a b =
     elim (places front e rest other_front other other_rest (sym a.split ∙ b.split)) [
       | same x y z ↦ (x, y, z)
-      | behind between x y ↦ absurd (not_both (is_dirtied config other_front other k) b.dirty_here
-          (subst (λ (js : List Entry). is_dirtied config js other k ≡ false) (sym y)
-          (a.clean_behind between other other_rest x)))
-      | before between x y ↦ absurd (not_both (is_dirtied config front e k) a.dirty_here
-          (subst (λ (js : List Entry). is_dirtied config js e k ≡ false) (sym y) (b.clean_behind between e rest x)))
+      | behind between x y ↦
+          absurd (let dirty = rw y at b.dirty_here in let clean = a.clean_behind between other other_rest x in cc)
+      | before between x y ↦
+          absurd (let dirty = rw y at a.dirty_here in let clean = b.clean_behind between e rest x in cc)
     ]

@@ -39,36 +39,27 @@ front_filter p (suc n) (x ∷ xs) = elim (cases_Bool (p x)) [
 pub front_short : {X : Type 0} (n : ℕ) (xs ys : List X) → take n xs ≡ ys → length ys ≡ n → n ≤ length xs
 front_short n xs ys e long = omega (arith, length-take n xs, ap length e, long)
 
-pub served_line : (script : List Line) (k : ℕ) (l : Line) → slice_get script k ≡ Some l → is_served l ≡ true
-    → served (take (k + 1) script) ≡ served (take k script) ++ l ∷ []
-served_line script k l at is = ap served (take_line script k l at) ∙ filter-append is_served (take k script) (l ∷ [])
-    ∙ ap (λ b. served (take k script) ++ cond b (l ∷ []) []) is
-
 pub unserved_line : (script : List Line) (k : ℕ) (l : Line) → slice_get script k ≡ Some l → is_served l ≡ false
     → length (served (take (k + 1) script)) ≡ length (served (take k script))
 unserved_line script k l at is =
-    ap (λ ls. length (served ls)) (take_line script k l at)
-    ∙ ap length (filter-append is_served (take k script) (l ∷ [])
-    ∙ ap (λ b. served (take k script) ++ cond b (l ∷ []) []) is ∙ append-nil (served (take k script)))
+    rw (take_line script k l at, filter-append is_served (take k script) (l ∷ []), is, append-nil) refl
 
 pub served_counted : (script : List Line) (k : ℕ) (l : Line) → slice_get script k ≡ Some l → is_served l ≡ true
     → length (served (take (k + 1) script)) ≡ length (served (take k script)) + 1
-served_counted script k l at is = ap length (served_line script k l at is)
-    ∙ omega (arith, length-append (served (take k script)) (l ∷ []))
+served_counted script k l at is =
+    rw (take_line script k l at, filter-append is_served (take k script) (l ∷ []), is, length-append) refl
 
 -- ---- calls
 
 pub calls_append : (xs ys : List Line) → calls_in (xs ++ ys) ≡ calls_in xs ++ calls_in ys
 calls_append [] ys = refl
 calls_append (line.Call c ∷ xs) ys = ap (λ cs. c ∷ cs) (calls_append xs ys)
-calls_append (line.Stroke s ∷ xs) ys = calls_append xs ys
-calls_append (line.Phase ∷ xs) ys = calls_append xs ys
+calls_append (other ∷ xs) ys = calls_append xs ys
 
 pub calls_served : (xs : List Line) → calls_in (served xs) ≡ calls_in xs
 calls_served [] = refl
 calls_served (line.Call c ∷ xs) = ap (λ cs. c ∷ cs) (calls_served xs)
-calls_served (line.Stroke s ∷ xs) = calls_served xs
-calls_served (line.Phase ∷ xs) = calls_served xs
+calls_served (other ∷ xs) = calls_served xs
 
 -- the calls among the served lines before the next line are those among the lines before it
 pub calls_front : (script : List Line) (k : ℕ) → calls_in (take (length (served (take k script))) (served script))
@@ -81,8 +72,7 @@ calls_line script k l at = ap calls_in (take_line script k l at) ∙ calls_appen
 
 pub no_more_calls : (script : List Line) (k : ℕ) (l : Line) → slice_get script k ≡ Some l → calls_in (l ∷ []) ≡ []
     → calls_in (take (k + 1) script) ≡ calls_in (take k script)
-no_more_calls script k l at none = calls_line script k l at
-    ∙ ap (λ (cs : List Call). calls_in (take k script) ++ cs) none ∙ append-nil (calls_in (take k script))
+no_more_calls script k l at none = rw (calls_line script k l at, none) (append-nil (calls_in (take k script)))
 
 -- the line behind so many calls is the one that was counted
 pub line_counted : (script : List Line) (k : ℕ) (c : Call) → slice_get script k ≡ Some (line.Call c)
@@ -96,8 +86,7 @@ line_counted script k c at =
     go [] k at = absurd cc
     go (x ∷ ls) zero at = let e : x ≡ line.Call c = cc in rw e refl
     go (line.Call d ∷ ls) (suc k) at = omega (arith, go ls k at)
-    go (line.Stroke s ∷ ls) (suc k) at = omega (arith, go ls k at)
-    go (line.Phase ∷ ls) (suc k) at = omega (arith, go ls k at)
+    go (other ∷ ls) (suc k) at = omega (arith, go ls k at)
 
 -- ---- phases
 
@@ -110,12 +99,10 @@ pub phase_of_call : (script : List Line) (p k : ℕ) (c : Call) → slice_get sc
     → next_phase (drop (length (calls_in (take k script))) (calls_from p script)) ≡ p + phases_before script k
 phase_of_call [] p k c at = absurd cc
 phase_of_call (x ∷ ls) p zero c at = let e : x ≡ line.Call c = cc in rw e (omega arith)
-phase_of_call (line.Call d ∷ ls) p (suc k) c at =
-    omega (arith, phase_of_call ls p k c at, count_cons is_phase (line.Call d) (take k ls))
-phase_of_call (line.Stroke s ∷ ls) p (suc k) c at =
-    omega (arith, phase_of_call ls p k c at, count_cons is_phase (line.Stroke s) (take k ls))
 phase_of_call (line.Phase ∷ ls) p (suc k) c at =
     omega (arith, phase_of_call ls (suc p) k c at, count_cons is_phase line.Phase (take k ls))
+phase_of_call (other ∷ ls) p (suc k) c at =
+    omega (arith, phase_of_call ls p k c at, count_cons is_phase other (take k ls))
 
 pub counted_more : {X : Type 0} (p : X → Bool) (xs : List X) (k : ℕ) (x : X) → slice_get xs k ≡ Some x → p x ≡ true
     → count_by p (take (k + 1) xs) ≡ count_by p (take k xs) + 1
@@ -150,19 +137,14 @@ pub phase_of_action : (script : List InputLine) (p k : ℕ) (l : InputLine) → 
     (drop (length (user_actions_in (take k script))) (user_actions_from p script))
     ≡ p + input_phases_before script k
 phase_of_action [] p k l at action = absurd cc
-phase_of_action (inputs.Device d ∷ ls) p zero l at action = omega arith
-phase_of_action (inputs.Shot ∷ ls) p zero l at action = omega arith
 phase_of_action (inputs.Phase ∷ ls) p zero l at action =
-    absurd (let same : inputs.Phase ≡ l = cc in let ends : is_input_phase l ≡ true = sym (ap is_input_phase same) in cc)
-phase_of_action (inputs.Device d ∷ ls) p (suc k) l at action =
-    omega (arith, phase_of_action ls p k l at action, count_cons is_input_phase (inputs.Device d) (take k ls))
-phase_of_action (inputs.Shot ∷ ls) p (suc k) l at action =
-    omega (arith, phase_of_action ls p k l at action, count_cons is_input_phase inputs.Shot (take k ls))
+    absurd (let same : inputs.Phase ≡ l = cc in let none = rw (← same) at action in cc)
+phase_of_action (other ∷ ls) p zero l at action = omega arith
 phase_of_action (inputs.Phase ∷ ls) p (suc k) l at action =
     omega (arith, phase_of_action ls (suc p) k l at action, count_cons is_input_phase inputs.Phase (take k ls))
+phase_of_action (other ∷ ls) p (suc k) l at action =
+    omega (arith, phase_of_action ls p k l at action, count_cons is_input_phase other (take k ls))
 
 pub device_fits : (dev : Device) → FitsDevice dev → IsDevice dev
-device_fits (device.Press k) h = h
-device_fits (device.Release k) h = h
-device_fits (device.Wheel n) h = h
 device_fits (device.Motion x y) h = tt
+device_fits other h = h

@@ -43,18 +43,21 @@ same_glasses scene sid stages own = λ i t. each t i
     each : (t : ℕ) → glasses_of_call (sights (scene_with scene sid stages)) sid own t
         ≡ glasses_of_call (sights scene) sid own t
     each t = elim (cases_eq t sid) [
-      | inl e ↦ rw e (own_there (sights (scene_with scene sid stages)) sid own ∙ sym (own_there (sights scene) sid own))
-      | inr ne ↦ other_there (sights (scene_with scene sid stages)) sid own t ne
-          ∙ other_end sid stages scene.glasses t ne ∙ sym (other_there (sights scene) sid own t ne)
+      | inl e ↦ rw (e, own_there (sights (scene_with scene sid stages)) sid own, own_there (sights scene) sid own) refl
+      | inr ne ↦ rw (
+        other_there (sights (scene_with scene sid stages)) sid own t ne,
+        other_there (sights scene) sid own t ne,
+      ) (other_end sid stages scene.glasses t ne)
     ]
 
-served_so : (r : RoomModel) (p : PassModel) (called : SceneModel End) (rep : Reply) (own' : Sight)
-    → p.sid < length r.scene.glasses
-    → CallDid (scene_with r.scene p.sid (line_stages p.script p.donation p.next)) called p.sid (next_call p) rep
-    (in_line p (sight_after_line p)) own'
-    → ServedClauses r p (scene_with called p.sid (stretch_from p (p.next + 1)))
-    (with_stages (stretch_from p (p.next + 1)) own') rep
-served_so r p called rep own' many did =
+pub served_clauses : {r : RoomModel} {p : PassModel} {called scene' : SceneModel End} {rep : Reply}
+    {own₀ own' sight' : Sight} (c : Call)
+    → c ≡ next_call p → own₀ ≡ in_line p (sight_after_line p) → p.sid < length r.scene.glasses
+    → CallDid (scene_with r.scene p.sid (line_stages p.script p.donation p.next)) called p.sid c rep own₀ own'
+    → scene' ≡ scene_with called p.sid (stretch_from p (p.next + 1))
+    → sight' ≡ with_stages (stretch_from p (p.next + 1)) own' → ServedClauses r p scene' sight' rep
+served_clauses {r = r} {p = p} {called = called} {rep = rep} {own' = own'} c call own_is many had scene_is sight_is =
+    let did = rw (call, own_is) at had in
     let line = line_stages p.script p.donation p.next in
     let behind = stretch_from p (p.next + 1) in
     let own = in_line p (sight_after_line p) in
@@ -63,37 +66,16 @@ served_so r p called rep own' many did =
     let again : in_line p own' ≡ own' = ap (in_line p) saw.1 ∙ sym saw.1 in
     let rests = did.rests ∙ same_stands p.sid line r.scene.glasses in
     let there : p.sid < length called.glasses = omega (arith, many, simp length-map at (ap length rests)) in
-    record {
+    rw (scene_is, sight_is) (record {
       reply_is = did.reply_is;
-      painted = subst (λ (f : ℕ → Sight). Painted (state_now r.scene) (call_entry p rep) (state_now called) f
-          (glasses_of_call (lenses (scene_with called p.sid behind)) p.sid (in_line p own')) r.scene.raw called.raw)
-          (same_glasses r.scene p.sid line own)
-          (subst (λ (f : ℕ → Sight). Painted (state_now r.scene) (call_entry p rep) (state_now called)
-          (glasses_of_call (sights (scene_with r.scene p.sid line)) p.sid own) f r.scene.raw called.raw)
-          (sym (same_glasses called p.sid behind own')
-          ∙ ap (glasses_of_call (sights (scene_with called p.sid behind)) p.sid) (sym again)) did.is.painted);
-      idle = own_end p.sid behind called.glasses there
-          ∙ ap (with_stages behind) (did.is.idle ∙ own_end p.sid line r.scene.glasses many);
+      painted = rw (again, same_glasses called p.sid behind own', ← same_glasses r.scene p.sid line own) did.is.painted;
+      idle = rw (own_end p.sid behind called.glasses there, did.is.idle, own_end p.sid line r.scene.glasses many) refl;
       stand_still = same_stands p.sid behind called.glasses ∙ rests;
-      refused = λ no. let x = did.refused no in (
-        x.0,
-        x.1,
-        ap (with_end_stages p.sid behind) x.2 ∙ stages_again p.sid behind line r.scene.glasses,
-        ap (with_stages behind) x.3,
-      );
+      refused = λ no. let x = did.refused no in
+          (x.0, x.1, rw (x.2, stages_again p.sid behind line r.scene.glasses) refl, rw x.3 refl);
       loaded = (saw.0, ap (with_stages behind) saw.1);
       agreed = refl;
-    }
-
--- so for the scene and the sight that stand there
-pub served_clauses : {r : RoomModel} {p : PassModel} {called scene' : SceneModel End} {rep : Reply}
-    {own own' sight' : Sight} (c : Call)
-    → c ≡ next_call p → own ≡ in_line p (sight_after_line p) → p.sid < length r.scene.glasses
-    → CallDid (scene_with r.scene p.sid (line_stages p.script p.donation p.next)) called p.sid c rep own own'
-    → scene' ≡ scene_with called p.sid (stretch_from p (p.next + 1))
-    → sight' ≡ with_stages (stretch_from p (p.next + 1)) own' → ServedClauses r p scene' sight' rep
-served_clauses {r = r} {p = p} {called = called} {rep = rep} {own' = own'} c call own_is many did scene_is sight_is =
-    rw (scene_is, sight_is) (served_so r p called rep own' many (rw (call, own_is) at did))
+    })
 
 -- what a pass knows has no part in it
 pub before_it_knew : {r : RoomModel} {p : PassModel} {scene' : SceneModel End} {sight' : Sight} {rep : Reply}

@@ -12,54 +12,6 @@ use Rattle.std.proofs.Common.{nat_lt, true, ℕ, ◌++◌, ◌+◌, ◌<◌, ◌
 use Rattle.nit_events.specs.declared.entry.Entry.TheVariants as entry
 use Rattle.nit_hall.proofs.LastDirty.{last_is_last, last_before, last_more, one_more_last}
 
--- ---- one more entry
-
--- a pixel that the next entry leaves clean may hold what it might before
-near_still : (config : Configuration) (scripts : List (List Line)) (input : List InputLine) (journal : List Entry)
-    (e : Entry) (k : ℕ) (source : PixelSource) (w : ℕ) → is_dirtied config journal e k ≡ false
-    → IsNearBy config scripts input journal k source w → IsNearBy config scripts input (journal ++ e ∷ []) k source w
-near_still config scripts input journal e k Bare w clean near = near
-near_still config scripts input journal e k Black w clean near = near
-near_still config scripts input journal e k (Word t i) w clean near =
-    record {
-      left = let l = near.left in record {
-        front = l.front;
-        last = l.last;
-        rest = l.rest ++ e ∷ [];
-        is_last = last_more config journal e k l.front l.last l.rest clean l.is_last;
-        lines = l.lines;
-        done = l.done;
-        word = l.word;
-      };
-      exact = λ front call r rest last. let before =
-          last_before config journal e k front (entry.Call t call r) rest clean last in near.exact front call r before.0
-          before.1;
-    }
-
-pub near_more : EntryLaws → (config : Configuration) (scripts : List (List Line)) (input : List InputLine)
-    (journal : List Entry) (e : Entry) (raw raw' : List ℕ)
-    → IsLegal config (journal ++ e ∷ [])
-    → ((k : ℕ) → k < pixel_count (replay config journal) → is_dirtied config journal e k ≡ true
-    → IsNearBy config scripts input (journal ++ e ∷ []) k (source_at (after (replay config journal) e) k)
-    (slice_index_or raw' k 0))
-    → ((k : ℕ) → is_dirtied config journal e k ≡ false → slice_index_or raw' k 0 ≡ slice_index_or raw k 0)
-    → AreNear config scripts input journal raw → AreNear config scripts input (journal ++ e ∷ []) raw'
-near_more laws config scripts input journal e raw raw' legal loaded others near k on_screen =
-    let s : State = replay config journal in
-    let now : replay config (journal ++ e ∷ []) ≡ after s e = laws.more (first_state config) journal e in
-    let inside : k < pixel_count s = rw (now, same_config s e) at on_screen in
-    let at : source_at (replay config (journal ++ e ∷ [])) k ≡ source_of (after s e) (pixel s.config.width k) =
-    rw (now, same_config s e) refl in
-    elim (cases_Bool (is_dirtied config journal e k)) [
-      | inl is ↦ rw now (loaded k inside is)
-      | inr clean ↦
-          let source : source_at (replay config (journal ++ e ∷ [])) k ≡ source_at s k = at
-          ∙ laws.keeps s (0 + shots journal) e (pixel s.config.width k)
-          (laws.agrees (first_state config) 0 journal e legal) clean in
-          rw (source, others k clean)
-          (near_still config scripts input journal e k (source_at s k) (slice_index_or raw k 0) clean (near k inside))
-    ]
-
 -- ---- what glasses give
 
 -- each glass has the ink of its session
@@ -98,50 +50,80 @@ told_word (Some ws) words i w is told = let same : ws ≡ words = cc in told ∙
 abbrev pub IsInPhase : List (List Line) → List InputLine → ℕ → List Entry → Entry → Type 0
 IsInPhase scripts input phase journal e = IsOpen (journal ++ e ∷ []) → phase ≤ phase_of_entry scripts input journal e
 
--- what the glasses give a pixel that the next entry makes dirty is a word that it may hold then
-held_near : (config : Configuration) (scripts : List (List Line)) (input : List InputLine) (phase : ℕ)
-    (journal : List Entry) (e : Entry) (glasses : ℕ → Sight) (k : ℕ) (source : PixelSource) (w : ℕ)
-    → is_dirtied config journal e k ≡ true → IsInPhase scripts input phase journal e
-    → ShowsThen config scripts phase journal e glasses → TellsWords config scripts journal e glasses
-    → IsWordOfSource glasses source w → IsNearBy config scripts input (journal ++ e ∷ []) k source w
-held_near config scripts input phase journal e glasses k Bare w is served_ shows tells held = held
-held_near config scripts input phase journal e glasses k Black w is served_ shows tells held = held
-held_near config scripts input phase journal e glasses k (Word t i) w is served_ shows tells held =
-    record {
-      left = let n = shows t i w held in record {
-        front = journal;
-        last = e;
-        rest = [];
-        is_last = one_more_last config journal e k is;
-        lines = n.0;
-        done = record {
-          calls = n.1.calls;
-          phases = λ still. let few = n.1.phases still in let here = served_ still in omega (arith, few, here);
-        };
-        word = n.2;
-      };
-      exact = λ front call r rest last.
-          let at = last_is_last config journal e k front (entry.Call t call r) rest is last in
-          told_word (glasses t).words (words_at_call config scripts t front) i w (tells t call r at.1
-          ∙ ap (λ (js : List Entry). Some (words_at_call config scripts t js)) (sym at.0)) held.told;
-    }
+-- ---- one more entry
 
--- an entry that loads its dirty pixels by such glasses
-pub near_painted : EntryLaws → (config : Configuration) (scripts : List (List Line)) (input : List InputLine)
-    (phase : ℕ) (journal : List Entry) (e : Entry) (s' : State) (glasses glasses' : ℕ → Sight) (raw raw' : List ℕ)
-    → IsLegal config (journal ++ e ∷ []) → s' ≡ after (replay config journal) e
-    → IsInPhase scripts input phase journal e
-    → ShowsThen config scripts phase journal e glasses → TellsWords config scripts journal e glasses
-    → Painted (replay config journal) e s' glasses glasses' raw raw' → AreNear config scripts input journal raw
-    → AreNear config scripts input (journal ++ e ∷ []) raw'
-near_painted laws config scripts input phase journal e s' glasses glasses' raw raw' legal now served_ shows tells
-    painted near =
-    let s : State = replay config journal in
-    let p : Painted s e (after s e) glasses glasses' raw raw' = rw now at painted in
-    near_more laws config scripts input journal e raw raw' legal
-    (λ k inside is. held_near config scripts input phase journal e glasses k (source_at (after s e) k)
-    (slice_index_or raw' k 0) is served_ shows tells (p.marked k inside is).0)
-    (λ k clean. p.others k (λ _. clean)) near
+module _ (config : Configuration) (scripts : List (List Line)) (input : List InputLine) (journal : List Entry)
+    (e : Entry) where
+  -- a pixel that the next entry leaves clean may hold what it might before
+  near_still : (k : ℕ) (source : PixelSource) (w : ℕ) → is_dirtied config journal e k ≡ false
+      → IsNearBy config scripts input journal k source w → IsNearBy config scripts input (journal ++ e ∷ []) k source w
+  near_still k Bare w clean near = near
+  near_still k Black w clean near = near
+  near_still k (Word t i) w clean near =
+      record {
+        left = let l = near.left in record {
+          front = l.front;
+          last = l.last;
+          rest = l.rest ++ e ∷ [];
+          is_last = last_more config journal e k l.front l.last l.rest clean l.is_last;
+          lines = l.lines;
+          done = l.done;
+          word = l.word;
+        };
+        exact = λ front call r rest last.
+            let before = last_before config journal e k front (entry.Call t call r) rest clean last in
+            near.exact front call r before.0 before.1;
+      }
+
+  -- what the glasses give a pixel that the next entry makes dirty is a word that it may hold then
+  pub held_near : (phase : ℕ) (glasses : ℕ → Sight) (k : ℕ) (source : PixelSource) (w : ℕ)
+      → is_dirtied config journal e k ≡ true → IsInPhase scripts input phase journal e
+      → ShowsThen config scripts phase journal e glasses → TellsWords config scripts journal e glasses
+      → IsWordOfSource glasses source w → IsNearBy config scripts input (journal ++ e ∷ []) k source w
+  held_near phase glasses k Bare w is served_ shows tells held = held
+  held_near phase glasses k Black w is served_ shows tells held = held
+  held_near phase glasses k (Word t i) w is served_ shows tells held =
+      record {
+        left = let n = shows t i w held in record {
+          front = journal;
+          last = e;
+          rest = [];
+          is_last = one_more_last config journal e k is;
+          lines = n.0;
+          done = record {
+            calls = n.1.calls;
+            phases = λ still. let few = n.1.phases still in let here = served_ still in omega (arith, few, here);
+          };
+          word = n.2;
+        };
+        exact = λ front call r rest last.
+            let at = last_is_last config journal e k front (entry.Call t call r) rest is last in
+            told_word (glasses t).words (words_at_call config scripts t front) i w
+            (rw at.0 (tells t call r at.1)) held.told;
+      }
+
+  module _ (laws : EntryLaws) (raw raw' : List ℕ) (legal : IsLegal config (journal ++ e ∷ []))
+      (near : AreNear config scripts input journal raw) where
+    pub near_more : ((k : ℕ) → k < pixel_count (replay config journal) → is_dirtied config journal e k ≡ true
+        → IsNearBy config scripts input (journal ++ e ∷ []) k (source_at (after (replay config journal) e) k)
+        (slice_index_or raw' k 0))
+        → ((k : ℕ) → is_dirtied config journal e k ≡ false → slice_index_or raw' k 0 ≡ slice_index_or raw k 0)
+        → AreNear config scripts input (journal ++ e ∷ []) raw'
+    near_more loaded others k on_screen =
+        let s : State = replay config journal in
+        let now : replay config (journal ++ e ∷ []) ≡ after s e = laws.more (first_state config) journal e in
+        let inside : k < pixel_count s = rw (now, same_config s e) at on_screen in
+        let at : source_at (replay config (journal ++ e ∷ [])) k ≡ source_of (after s e) (pixel s.config.width k) =
+        rw (now, same_config s e) refl in
+        elim (cases_Bool (is_dirtied config journal e k)) [
+          | inl is ↦ rw now (loaded k inside is)
+          | inr clean ↦ rw (
+            at,
+            laws.keeps s (0 + shots journal) e (pixel s.config.width k)
+                (laws.agrees (first_state config) 0 journal e legal) clean,
+            others k clean,
+          ) (near_still k (source_at s k) (slice_index_or raw k 0) clean (near k inside))
+        ]
 
 -- ---- what the scripts alone say of it
 

@@ -21,7 +21,6 @@ use Rattle.nit_hall.proofs.NearLemmas.{AreInks, ink_behind, ink_inside, told_wor
 use Rattle.nit_hall.proofs.RoomSteps.{inks_before, legal_then, near_then, room_grown, room_then}
 use Rattle.nit_hall.proofs.ServedCalls.{calls_made}
 use Rattle.nit_hall.proofs.WatchedWords.{lens_shows, told_shows}
-use Rattle.nit_hall.proofs.HistoryLemmas.{goes_no_further}
 
 -- ---- a list that is changed in place
 
@@ -40,8 +39,8 @@ unchanged_at f (x ∷ xs) (suc i) d h = unchanged_at f xs i d (omega arith)
 pub still_there : {X : Type 0} (f : X → X) (xs ys : List X) (i : ℕ) (x : X) → i < length ys
     → ys ≡ map f (take i xs) ++ drop i xs → x ≡ get_or ys i x → (i < length xs) × (slice_get xs i ≡ Some x)
 still_there f xs ys i x inside is at =
-    let long : i < length xs = let n = ap length is in let m = as_long f xs i in omega (arith, n, m, inside) in
-    (long, slice_get_read xs (length xs) i x refl long (at ∙ ap (λ zs. get_or zs i x) is ∙ unchanged_at f xs i x long))
+    let long : i < length xs = omega (arith, as_long f xs i, ap length is, inside) in
+    (long, slice_get_read xs (length xs) i x refl long (rw (is, unchanged_at f xs i x long) at at))
 
 -- ---- a pass is met
 
@@ -50,11 +49,10 @@ pub met_now : {r r' : RoomModel} {p p' : PassModel} (k : ℕ) → IsDonePass r.p
 met_now {r = r} k is met =
     record {
       front = met.before;
-      counted = ap (slice_index r.counts) (sym is.number) ∙ met.counted;
+      counted = rw (← is.number) met.counted;
       glass = (
         met.owner ∙ is.number,
-        met.painted.size
-            ∙ ap table_size (is.belongs.donation ∙ ap (donation_of r.parts.config) is.number),
+        rw (is.belongs.donation, is.number) at met.painted.size,
       );
       inked = met.inked;
       told = met.told;
@@ -65,8 +63,7 @@ pub holds_below : {X : Type 0} (P : ℕ → X → Type 0) (i : ℕ) (xs : List X
     → ((k : ℕ) (y : X) → k < i → slice_get xs k ≡ Some y → P k y) → slice_get xs i ≡ Some x → P i x
     → (k : ℕ) (y : X) → k < i + 1 → slice_get xs k ≡ Some y → P k y
 holds_below P i xs x below at here k y h e = elim (cases_eq k i) [
-  | inl same ↦ let one : x ≡ y = same_Some x y (sym at ∙ ap (slice_get xs) (sym same) ∙ e) in
-      rw (same, ← one) here
+  | inl same ↦ let one : x ≡ y = same_Some x y (rw (← at, ← same) e) in rw (same, ← one) here
   | inr ne ↦ below k y (omega arith) e
 ]
 
@@ -83,6 +80,7 @@ record IsThereDone (r : RoomModel) (ps : List PassModel) (t : ℕ) : Type 0 wher
   is : IsDonePass r.parts t p
   known : IsKnownPass r t p
   script : script_in r.parts.scripts t ≡ p.script
+  donation : p.donation ≡ donation_of r.parts.config t
   sight : glass_in (map (λ (q : PassModel). q.sight) ps) t ≡ p.sight
 
 pass_there : {r : RoomModel} {ps : List PassModel} (t : ℕ) → AreKnown r ps → t < length r.parts.scripts
@@ -96,10 +94,10 @@ pass_there {r = r} {ps = q ∷ qs} t are h =
       p = p;
       is = is;
       known = are.met t p at;
-      script = get_or_from_slice_get r.parts.scripts t p.script []
-          (ap (slice_get r.parts.scripts) (sym is.number) ∙ is.belongs.script);
+      script = get_or_from_slice_get r.parts.scripts t p.script [] (rw is.number at is.belongs.script);
+      donation = rw is.number at is.belongs.donation;
       sight = get_or_from_slice_get (map (λ (x : PassModel). x.sight) (q ∷ qs)) t p.sight no_sight
-          (slice_get-map (λ (x : PassModel). x.sight) (q ∷ qs) t ∙ ap (option_map (λ (x : PassModel). x.sight)) at);
+          (rw (slice_get-map (λ (x : PassModel). x.sight) (q ∷ qs) t, at) refl);
     }
 
 pub all_served : {r : RoomModel} {ps : List PassModel} → AreKnown r ps
@@ -127,11 +125,9 @@ pub tells_left : WholeScript → {r : RoomModel} {ps : List PassModel} → AreKn
 tells_left all {r = r} are t h =
     let there = pass_there t are h in
     let p = there.p in
-    let donation : p.donation ≡ donation_of r.parts.config t = there.is.belongs.donation
-    ∙ ap (donation_of r.parts.config) there.is.number in
     let whole : words_after p.script p.donation p.next ≡ words_left p.script p.donation =
     ap (λ (x : Painting). x.words) (all (blank p.donation) p.script p.next (omega (arith, there.is.ended))) in
-    rw (there.sight, there.script, ← donation, ← whole) there.known.told
+    rw (there.sight, there.script, ← there.donation, ← whole) there.known.told
 
 held_left : (config : Configuration) (scripts : List (List Line)) (glasses : List Sight) (source : PixelSource) (w : ℕ)
     → length glasses ≡ length scripts
@@ -148,22 +144,15 @@ held_left config scripts glasses (Word t i) w each tell held = elim (cases_lt t 
       rw (script, zero_at (table_size (donation_of config t)) i) (no_ink i w (rw none at held).inked)
 ]
 
-same_map : {X : Type 0} (f g : ℕ → X) (a n : ℕ) → ((k : ℕ) → a ≤ k → k < a + n → f k ≡ g k)
-    → map f (range_with_len a n) ≡ map g (range_with_len a n)
-same_map f g a zero same = refl
-same_map {X = X} f g a (suc n) same = ap₂ (λ (x : X) (xs : List X). x ∷ xs) (same a (omega arith) (omega arith))
-    (same_map f g (a + 1) n (λ k low high. same k (omega arith) (omega arith)))
-
 -- the last picture shows what the scripts leave
-pub last_frame : (config : Configuration) (scripts : List (List Line)) (s s' : State) (glasses : List Sight)
-    (glasses' : ℕ → Sight) (raw raw' : List ℕ) → s' ≡ s → length glasses ≡ length scripts
+pub last_frame : (config : Configuration) (scripts : List (List Line)) {s s' : State} (glasses : List Sight)
+    {glasses' : ℕ → Sight} {raw raw' : List ℕ} → s' ≡ s → length glasses ≡ length scripts
     → ((t : ℕ) → t < length scripts
     → (glass_in glasses t).words ≡ Some (words_left (script_in scripts t) (donation_of config t)))
     → Painted s entry.Final s' (glass_in glasses) glasses' raw raw'
     → frame (scenery_of s) raw' ≡ frame (scenery_of s) (words_left_in config scripts s)
-last_frame config scripts s s' glasses glasses' raw raw' same each tell painted =
-    let p : Painted s entry.Final s (glass_in glasses) glasses' raw raw' =
-    subst (λ (x : State). Painted s entry.Final x (glass_in glasses) glasses' raw raw') same painted in
+last_frame config scripts {s = s} glasses {glasses' = glasses'} {raw = raw} {raw' = raw'} same each tell painted =
+    let p : Painted s entry.Final s (glass_in glasses) glasses' raw raw' = rw same at painted in
     same_frame (scenery_of s) raw' (words_left_in config scripts s)
     (λ k on_screen. held_left config scripts glasses (source_at s k) (slice_index raw' k) each tell
     (p.marked k on_screen refl).0
@@ -188,14 +177,13 @@ inks_of : {r : RoomModel} {ps : List PassModel} → AreKnown r ps
     → AreInks r.parts.config r.parts.scripts (glass_in (map (λ (q : PassModel). q.sight) ps))
 inks_of {r = r} {ps = ps} are t = elim (cases_lt t (length r.parts.scripts)) [
   | inl inside ↦ let there = pass_there t are inside in
-      ap (λ (g : Sight). g.ink) there.sight ∙ there.known.inked
-      ∙ ink_inside r.parts.config r.parts.scripts t _ _ inside there.script (there.is.belongs.donation
-      ∙ ap (donation_of r.parts.config) there.is.number)
+      rw (there.sight, there.known.inked)
+      (ink_inside r.parts.config r.parts.scripts t _ _ inside there.script there.donation)
   | inr past ↦
       let n = are.done_all.each in
-      ap (λ (g : Sight). g.ink) (get_or_past (map (λ (q : PassModel). q.sight) ps) t no_sight
-      (omega (arith, n, length-map ps (λ (q : PassModel). q.sight), past)))
-      ∙ ink_behind r.parts.config r.parts.scripts t past
+      let long = length-map ps (λ (q : PassModel). q.sight) in
+      rw (get_or_past (map (λ (q : PassModel). q.sight) ps) t no_sight (omega (arith, n, long, past)))
+      (ink_behind r.parts.config r.parts.scripts t past)
 ]
 
 -- what the scene promises of the last picture
@@ -218,21 +206,19 @@ ends_show laws {r = r} {ps = ps} room o are added t i w loaded = elim (cases_lt 
   | inl inside ↦
       let there = pass_there t are inside in
       let p = there.p in
-      let script : script_in r.parts.scripts t ≡ p.script = there.script in
-      let paid : p.donation ≡ donation_of r.scene.config t = there.is.belongs.donation
-      ∙ ap (donation_of r.parts.config) there.is.number
-      ∙ ap (λ (c : Configuration). donation_of c t) (sym room.config) in
       let made : calls_of t (r.scene.entries ++ entry.Final ∷ []) ≡ calls_in (take p.next p.script) =
-      calls_of-append t r.scene.entries (entry.Final ∷ []) ∙ append-nil (calls_of t r.scene.entries)
-      ∙ rw (open_whole r.scene.entries o) at (calls_made r t p.next p.script room
-      (ap (slice_get r.parts.scripts) (sym there.is.number) ∙ there.is.belongs.script) there.known.counted) in
+      rw (calls_of-append t r.scene.entries (entry.Final ∷ []), append-nil) (rw (open_whole r.scene.entries o)
+      at (calls_made r t p.next p.script room (rw there.is.number at there.is.belongs.script) there.known.counted)) in
+      let paid : p.donation ≡ donation_of r.scene.config t = there.donation
+      ∙ ap (λ (c : Configuration). donation_of c t) (sym room.config) in
       told_shows r.scene.config r.parts.scripts r.phase (r.scene.entries ++ entry.Final ∷ []) t p.next _
-      (rw (there.sight, script, ← paid) there.known.told)
-      (record { calls = rw (script, made) refl; phases = λ still. absurd (not_open r.scene.entries still) }) i w loaded
+      (rw (there.sight, there.script, ← paid) there.known.told)
+      (record {
+        calls = rw (there.script, made) refl;
+        phases = λ still. absurd (not_open r.scene.entries still);
+      }) i w loaded
   | inr past ↦ lens_shows r.scene.config r.parts.scripts r.phase r.scene.entries entry.Final t _
-      (legal_then laws room o added)
-      (room.sessions ∙ ap (λ (c : Configuration). length c.clients) (sym room.config))
-      (rw room.config (inks_of are t))
+      (legal_then laws room o added) (rw room.config room.sessions) (rw room.config (inks_of are t))
       (λ inside. absurd (omega (arith, inside, past))) refl i w loaded
 ]
 
@@ -242,7 +228,12 @@ pub room_ended : EntryLaws → {r : RoomModel} {new : SceneModel End} {ps : List
     → IsRoom (room_then r new r.raws r.counts r.phase r.arrived)
 room_ended laws {r = r} {new = new} room o are all ended =
     let same = booked_still r.scene new ended.added.recorded in
-    room_grown laws room o ended.added r.raws r.counts (goes_no_further room ended.added.recorded same)
+    let recorded = ended.added.recorded in
+    room_grown laws room o ended.added r.raws r.counts
+    (record {
+      history = rw (← same, room.config) room.history;
+      ends = λ still. absurd (not_open r.scene.entries (rw recorded at still));
+    })
     (near_then laws room o ended.added (λ still. absurd (not_open r.scene.entries still))
     (ends_show laws room o are ended.added) (λ t call rep same. absurd cc) ended.painted)
     (rw ended.same (inks_before laws room o ended.added)) (rw (ended.same, room.config, ← same) room.watching)
@@ -258,12 +249,10 @@ pub glasses_settled : {r : RoomModel} {ps₀ : List PassModel} (ps : List PassMo
     → length r.parts.scripts ≡ length r.parts.config.clients
     → AreGlasses (λ (p : PassModel). p.sight) r.parts.config ps
 glasses_settled {r = r} {ps₀ = ps₀} ps are same sessions = record {
-  each = sym (length-map ps (λ (p : PassModel). p.sight)) ∙ ap (λ (gs : List Sight). length gs) same
-      ∙ length-map ps₀ (λ (p : PassModel). p.sight) ∙ are.done_all.each ∙ sessions;
+  each = rw (← length-map ps (λ (p : PassModel). p.sight), same, length-map ps₀ (λ (p : PassModel). p.sight))
+      (are.done_all.each ∙ sessions);
   tables = λ t h.
-      let there = pass_there t are (omega (arith, h, sessions)) in
-      subst (λ (g : Sight). IsGlass r.parts.config t g)
-      (sym (ap (λ (gs : List Sight). glass_in gs t) same ∙ there.sight)) there.known.glass;
+      let there = pass_there t are (omega (arith, h, sessions)) in rw (same, there.sight) there.known.glass;
 }
 
 -- the left side of an equation

@@ -1,17 +1,18 @@
 -- A room after one more entry, and after the end of a phase.
+use Rattle.nit_hall.proofs.NearLemmas.{held_near, near_more, IsInPhase, ShowsThen, TellsWords}
 use Rattle.nit_hall.proofs.Basics.{AllServed, AreNear, AreWatching, CanAdd, Configuration, End}
 use Rattle.nit_hall.proofs.Basics.{Entry, EntryLaws, Follows, HaveInks, IsAdded, IsLegal, IsLoaded}
 use Rattle.nit_hall.proofs.Basics.{IsOpen, IsRoom, IsServedPhase, KnowsStretch, Line, List, Painted}
-use Rattle.nit_hall.proofs.Basics.{RoomModel, SceneModel, Sight, [], after, ap, append-nil, arith}
-use Rattle.nit_hall.proofs.Basics.{buffers_of, calls_of, calls_of-append, donation_of, first_state}
-use Rattle.nit_hall.proofs.Basics.{glass_in, inl, length, length-append, phases_ended, refl}
-use Rattle.nit_hall.proofs.Basics.{script_in, state_now, subst, sym, without_final, ℕ, ◌∙◌}
+use Rattle.nit_hall.proofs.Basics.{RoomModel, SceneModel, Sight, State, [], after, ap, append-nil}
+use Rattle.nit_hall.proofs.Basics.{arith, buffers_of, calls_of, calls_of-append, donation_of}
+use Rattle.nit_hall.proofs.Basics.{first_state, glass_in, inl, length, length-append, phases_ended}
+use Rattle.nit_hall.proofs.Basics.{refl, script_in, slice_index_or, source_at, state_now, subst}
+use Rattle.nit_hall.proofs.Basics.{sym, without_final, ℕ, ◌∙◌}
 use Rattle.std.proofs.Common.{◌++◌, ◌∷◌, ◌≡◌, ◌≤◌, ◌⊎◌, ◌<◌}
-use Rattle.nit_hall.proofs.ClipsStay.{clips_same, clips_then}
+use Rattle.nit_hall.proofs.ClipsStay.{clips_then}
 use Rattle.nit_hall.proofs.FinalEntries.{open_whole}
 use Rattle.nit_hall.proofs.HistoryLemmas.{GoesOn}
 use Rattle.nit_hall.proofs.EndStages.{sights_of}
-use Rattle.nit_hall.proofs.NearLemmas.{IsInPhase, ShowsThen, TellsWords, near_painted}
 use Rattle.nit_hall.proofs.WatchedWords.{WasLeft, lens_shows}
 use Rattle.nit_hall.proofs.ScriptsFollowed.{entries_within}
 use mathlib.Core.List.{IsPrefix}
@@ -40,9 +41,7 @@ can_add {r = r} room o = record {
 -- what a pass knew of the book is a front of an open journal
 pub before_open : {r r₀ : RoomModel} (known : List Entry) → r ≡ r₀ → IsOpen r.scene.entries
     → IsPrefix known (without_final r₀.scene.entries) → IsPrefix known r₀.scene.entries
-before_open known er o before = subst (λ (r : RoomModel). IsPrefix known r.scene.entries) er
-    (subst (IsPrefix known) (open_whole _ o)
-    (subst (λ (r : RoomModel). IsPrefix known (without_final r.scene.entries)) (sym er) before))
+before_open {r = r} known er o before = rw (← er) (rw (← er, open_whole r.scene.entries o) at before)
 
 -- the book has one entry more, and so has an open journal
 pub booked_more : {old new : SceneModel End} {e : Entry} → IsOpen old.entries → IsOpen new.entries
@@ -101,15 +100,13 @@ module _ (laws : EntryLaws) {r : RoomModel} {new : SceneModel End} {e : Entry} (
       → Painted (state_now r.scene) e (state_now new) glasses glasses' r.scene.raw new.raw
       → AreNear r.scene.config r.parts.scripts r.parts.input (r.scene.entries ++ e ∷ []) new.raw
   near_then {glasses = glasses} {glasses' = glasses'} served_ shows tells painted =
-      near_painted laws r.scene.config r.parts.scripts r.parts.input r.phase r.scene.entries e (state_now new) glasses
-      glasses' r.scene.raw new.raw legal_then (state_later laws added) served_ shows tells painted near_before
-
-  -- the readers' ends know what they did, where each session for which the entry is a call is left out
-  pub watching_still : IsOpen new.entries
-      → ((t : ℕ) → (glass_in (sights_of new.glasses) t).stages ≡ (glass_in (sights_of r.scene.glasses) t).stages)
-      → ((t : ℕ) → calls_of t (e ∷ []) ≡ [])
-      → AreWatching r.parts.scripts r.scene.config (without_final new.entries) r.phase new.glasses
-  watching_still is same none t inside = watching_other t inside is (same t) (none t)
+      let config = r.scene.config in
+      let s = state_now r.scene in
+      let p : Painted s e (after s e) glasses glasses' r.scene.raw new.raw = rw (state_later laws added) at painted in
+      near_more config r.parts.scripts r.parts.input r.scene.entries e laws r.scene.raw new.raw legal_then near_before
+      (λ k inside is. held_near config r.parts.scripts r.parts.input r.scene.entries e r.phase glasses k
+      (source_at (after s e) k) (slice_index_or new.raw k 0) is served_ shows tells (p.marked k inside is).0)
+      (λ k clean. p.others k (λ _. clean))
 
   pub room_grown : (raws : List (List ℕ)) (counts : List ℕ) → GoesOn r.scene.config new raws
       → AreNear r.scene.config r.parts.scripts r.parts.input (r.scene.entries ++ e ∷ []) new.raw
@@ -136,39 +133,19 @@ module _ (laws : EntryLaws) {r : RoomModel} {new : SceneModel End} {e : Entry} (
     history_ends = rw added.config went.ends;
   }
 
--- when more phases are ended the readers' ends know what they did
-pub watching_later : (scripts : List (List Line)) (config : Configuration) (entries : List Entry) (ended later : ℕ)
-    (ends : List End) → ended ≤ later → AreWatching scripts config entries ended ends
-    → AreWatching scripts config entries later ends
-watching_later scripts config entries ended later ends risen watching t inside =
-    let w = watching t inside in
-    record {
-      since = w.since;
-      stages_are = w.stages_are;
-      behind = w.behind;
-      begun = let b = w.begun in omega (arith, b, risen);
-    }
-
 -- one more actor has ended its phase
 pub room_turned : {r : RoomModel} (counts : List ℕ) (phase arrived : ℕ) → IsRoom r → IsOpen r.scene.entries
     → r.phase ≤ phase
     → Follows r.parts.scripts r.parts.input counts phase (without_final r.scene.entries)
     → IsServedPhase phase arrived (phases_ended r.parts.scripts r.parts.input counts)
     → IsRoom (room_then r r.scene r.raws counts phase arrived)
-room_turned {r = r} counts phase arrived room o risen follows phases = record {
-  config = refl;
-  legal = rw room.config room.legal;
-  sessions = rw room.config room.sessions;
-  clients = room.clients;
-  follows = follows;
-  phases = phases;
-  inks = rw room.config room.inks;
-  watching = rw room.config (watching_later r.parts.scripts r.parts.config (without_final r.scene.entries) r.phase phase
-      r.scene.glasses risen room.watching);
-  near = rw room.config room.near;
-  room = room.room;
-  ended = inl o;
-  clips_follow = clips_same r.scene refl room;
-  history = rw room.config room.history;
-  history_ends = rw room.config room.history_ends;
-}
+room_turned {r = r} counts phase arrived room o risen follows phases =
+    let watching : AreWatching r.parts.scripts r.parts.config (without_final r.scene.entries) phase r.scene.glasses =
+    λ t inside. let w = room.watching t inside in record {
+      since = w.since;
+      stages_are = w.stages_are;
+      behind = w.behind;
+      begun = let b = w.begun in omega (arith, b, risen);
+    } in
+    let ended : IsOpen r.scene.entries ⊎ AllServed r.parts.scripts r.parts.input counts = inl o in
+    rw room.config assumption

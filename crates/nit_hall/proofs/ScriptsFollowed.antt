@@ -4,14 +4,14 @@ use Rattle.nit_hall.proofs.Basics.{IsUsers, IsWhole, Line, List, Reply, Some, Us
 use Rattle.nit_hall.proofs.Basics.{actions_of-append, actions_same, ap, append-nil, ap₂, arith}
 use Rattle.nit_hall.proofs.Basics.{calls_done, calls_in, calls_of, calls_other, calls_own}
 use Rattle.nit_hall.proofs.Basics.{calls_same, calls_to_make, cases_eq, count_by-le-length, done}
-use Rattle.nit_hall.proofs.Basics.{drop, eq-eqb, false, get_or-set_other, get_or-set_same}
-use Rattle.nit_hall.proofs.Basics.{get_or_from_slice_get, inl, input_phases_before, inr}
-use Rattle.nit_hall.proofs.Basics.{is_input_phase, is_served, length, length-append, length-filter}
-use Rattle.nit_hall.proofs.Basics.{length-map, length-set, lines_of_all, map, next_phase}
-use Rattle.nit_hall.proofs.Basics.{phase_of_entry, phases_action, phases_along, phases_before}
-use Rattle.nit_hall.proofs.Basics.{phases_call, phases_final, raised, script_in, served}
-use Rattle.nit_hall.proofs.Basics.{slice_get_within, slice_index, sum, sum_by-cons, sum_by-set}
-use Rattle.nit_hall.proofs.Basics.{take-append-drop, take_all, to_do, user_actions_in}
+use Rattle.nit_hall.proofs.Basics.{drop, eq-eqb, false, get_or-map, get_or-set_other}
+use Rattle.nit_hall.proofs.Basics.{get_or-set_same, get_or_from_slice_get, inl, input_phases_before}
+use Rattle.nit_hall.proofs.Basics.{inr, is_input_phase, is_served, length, length-append}
+use Rattle.nit_hall.proofs.Basics.{length-filter, length-map, length-set, lines_of_all, map}
+use Rattle.nit_hall.proofs.Basics.{next_phase, phase_of_entry, phases_action, phases_along}
+use Rattle.nit_hall.proofs.Basics.{phases_before, phases_call, phases_final, raised, script_in}
+use Rattle.nit_hall.proofs.Basics.{served, slice_get_within, slice_index, sum, sum_by-cons}
+use Rattle.nit_hall.proofs.Basics.{sum_by-set, take-append-drop, take_all, to_do, user_actions_in}
 use Rattle.nit_hall.proofs.Basics.{user_actions_of, user_actions_to_do}
 use Rattle.std.proofs.Common.{refl, slice_get, subst, suc, sym, take, true, zero, ℕ, ◌++◌, ◌+◌, ◌<◌}
 use Rattle.std.proofs.Common.{◌∙◌, ◌∷◌, ◌≡◌, ◌≢◌, ◌≤◌}
@@ -63,26 +63,22 @@ module _ {scripts : List (List Line)} {counts : List ℕ} {sid next : ℕ} {scri
       rw script_there (omega (arith, few, served_then))
 
   calls_so_far : calls_in (take (slice_index counts sid) (served (script_in scripts sid))) ≡ calls_in (take next script)
-  calls_so_far = ap₂ (λ (n : ℕ) (s : List Line). calls_in (take n (served s))) at.counted script_there
-      ∙ calls_front script next
+  calls_so_far = rw (at.counted, script_there) (calls_front script next)
 
   -- the calls among the served lines with the next one
   calls_with : sid < length counts
       → calls_in (take (slice_index (raised counts sid) sid) (served (script_in scripts sid)))
       ≡ calls_in (take (slice_index counts sid) (served (script_in scripts sid))) ++ calls_in (l ∷ [])
   calls_with inside =
-      ap₂ (λ (n : ℕ) (s : List Line). calls_in (take n (served s))) (raised_at counts sid inside ∙ served_then)
-      script_there ∙ calls_front script (next + 1) ∙ calls_line script next l at.line_is
-      ∙ ap (λ (cs : List Call). cs ++ calls_in (l ∷ [])) (sym calls_so_far)
+      rw (calls_so_far, raised_at counts sid inside, served_then, script_there, calls_front script (next + 1))
+      (calls_line script next l at.line_is)
 
   user_same : slice_index (raised counts sid) (length scripts) ≡ slice_index counts (length scripts)
   user_same = raised_other counts sid (length scripts) (λ e. omega (arith, client_is, e))
 
 pub made_of : (scripts : List (List Line)) (s : ℕ) → to_do (map calls_to_make scripts) s
     ≡ calls_to_make (script_in scripts s)
-made_of [] s = refl
-made_of (x ∷ scripts) zero = refl
-made_of (x ∷ scripts) (suc s) = made_of scripts s
+made_of scripts s = get_or-map calls_to_make scripts s []
 
 -- the phases along these entries never fall, up to this one
 abbrev NeverFall : List (List Line) → List InputLine → List Entry → ℕ → Type 0
@@ -137,10 +133,9 @@ pub phase_of_next : {scripts : List (List Line)} {input : List InputLine} {count
     {entries : List Entry} {sid next : ℕ} {script : List Line} {c : Call} (r : Reply)
     → Follows scripts input counts phase entries → IsNext scripts counts sid next script (line.Call c)
     → phase ≡ phases_before script next → phase_of_entry scripts input entries (entry.Call sid c r) ≡ phase
-phase_of_next {sid = sid} {next = next} {script = script} {c = c} r f at ready =
-    ap₂ (λ (cs : List Call) (xs : List (ℕ × Call)). next_phase (drop (length cs) xs))
-    (f.calls sid (client_is at) ∙ calls_so_far at) (ap calls_to_make (script_there at))
-    ∙ phase_of_call script 0 next c at.line_is ∙ (let e = ready in omega arith)
+phase_of_next {next = next} {script = script} {c = c} r f at ready =
+    rw (f.calls _ (client_is at), calls_so_far at, script_there at, phase_of_call script 0 next c at.line_is)
+    (omega (arith, ready))
 
 -- a call was served
 pub follows_call : {scripts : List (List Line)} {input : List InputLine} {counts : List ℕ} {phase : ℕ}
@@ -148,11 +143,7 @@ pub follows_call : {scripts : List (List Line)} {input : List InputLine} {counts
     → Follows scripts input counts phase entries → IsNext scripts counts sid next script (line.Call c)
     → phase ≡ phases_before script next
     → Follows scripts input (raised counts sid) phase (entries ++ entry.Call sid c r ∷ [])
-follows_call {scripts = scripts} {input = input} {phase = phase} {entries = entries} {sid = sid} {next = next}
-    {script = script} {c = c} r f at ready =
-    let at_phase : next_phase (drop (length (calls_of sid entries)) (to_do (map calls_to_make scripts) sid)) ≡ phase =
-    ap (λ (xs : List (ℕ × Call)). next_phase (drop (length (calls_of sid entries)) xs)) (made_of scripts sid)
-    ∙ phase_of_next r f at ready in
+follows_call {scripts = scripts} {input = input} {phase = phase} {entries = entries} {sid = sid} {c = c} r f at ready =
     follows_line f at phase (entries ++ entry.Call sid c r ∷ [])
     (record {
       own = calls_own sid entries c r;
@@ -160,8 +151,11 @@ follows_call {scripts = scripts} {input = input} {phase = phase} {entries = entr
       actions = actions_same entries (entry.Call sid c r) refl;
       one_more = omega (arith, length-append entries (entry.Call sid c r ∷ []));
     })
-    (rw (phases_call (map calls_to_make scripts) (user_actions_to_do input) entries sid c r, at_phase)
-    (again (phases_along (map calls_to_make scripts) (user_actions_to_do input) entries) phase f.phases))
+    (rw (
+      phases_call (map calls_to_make scripts) (user_actions_to_do input) entries sid c r,
+      made_of scripts sid,
+      phase_of_next r f at ready,
+    ) (again (phases_along (map calls_to_make scripts) (user_actions_to_do input) entries) phase f.phases))
 
 -- ---- the user's line
 
@@ -171,9 +165,7 @@ phase_of_users : (scripts : List (List Line)) (input : List InputLine) (entries 
     ≡ next_phase (drop (length (user_actions_of entries)) (user_actions_to_do input))
 phase_of_users scripts input entries (entry.Call sid c r) none =
     let here : c ∷ [] ≡ [] = rw (eq-eqb sid sid refl) at (none sid) in absurd cc
-phase_of_users scripts input entries (entry.Input dev routed) none = refl
-phase_of_users scripts input entries (entry.Shot number) none = refl
-phase_of_users scripts input entries entry.Final none = refl
+phase_of_users scripts input entries other none = refl
 
 -- the user's next line, as the room finds it
 pub record IsUserNext (scripts : List (List Line)) (input : List InputLine) (counts : List ℕ) (next : ℕ) (l : InputLine)
@@ -198,7 +190,7 @@ module _ {scripts : List (List Line)} {input : List InputLine} {counts : List �
   client_same t h = raised_other counts (length scripts) t (λ e. let x : t ≡ length scripts = e in omega arith)
 
   pub actions_so_far : user_actions_of entries ≡ user_actions_in (take next input)
-  actions_so_far = f.actions ∙ ap (λ (k : ℕ). user_actions_in (take k input)) at.counted
+  actions_so_far = rw (← at.counted) f.actions
 
   follows_user_line : (phase' : ℕ) (now : List Entry) → ((t : ℕ) → calls_of t now ≡ calls_of t entries)
       → user_actions_of now ≡ user_actions_of entries ++ user_actions_in (l ∷ []) → length now ≤ length entries + 1
@@ -218,20 +210,23 @@ module _ {scripts : List (List Line)} {input : List InputLine} {counts : List �
   pub phase_of_action_next : (e : Entry) → AddsAction l e → phase ≡ input_phases_before input next
       → phase_of_entry scripts input entries e ≡ phase
   phase_of_action_next e adds ready =
-      phase_of_users scripts input entries e adds.no_call
-      ∙ ap (λ (ds : List UserAction). next_phase (drop (length ds) (user_actions_to_do input))) actions_so_far
-      ∙ phase_of_action input 0 next l at.line_is adds.no_phase ∙ (let r = ready in omega arith)
+      rw (
+        phase_of_users scripts input entries e adds.no_call,
+        actions_so_far,
+        phase_of_action input 0 next l at.line_is adds.no_phase,
+      ) (omega (arith, ready))
 
   pub follows_action : (e : Entry) → AddsAction l e → phase ≡ input_phases_before input next
       → Follows scripts input (raised counts (length scripts)) phase (entries ++ e ∷ [])
   follows_action e adds ready =
-      let at_phase : next_phase (drop (length (user_actions_of entries)) (user_actions_to_do input)) ≡ phase =
-      sym (phase_of_users scripts input entries e adds.no_call) ∙ phase_of_action_next e adds ready in
       follows_user_line phase (entries ++ e ∷ []) (λ t. calls_same t entries e (adds.no_call t))
-      (actions_of-append entries (e ∷ []) ∙ ap (λ (ds : List UserAction). user_actions_of entries ++ ds) adds.action_is)
+      (rw (actions_of-append entries (e ∷ []), adds.action_is) refl)
       (omega (arith, length-append entries (e ∷ [])))
-      (rw (phases_action (map calls_to_make scripts) (user_actions_to_do input) entries e adds.is_users, at_phase)
-      (again (phases_along (map calls_to_make scripts) (user_actions_to_do input) entries) phase f.phases))
+      (rw (
+        phases_action (map calls_to_make scripts) (user_actions_to_do input) entries e adds.is_users,
+        ← phase_of_users scripts input entries e adds.no_call,
+        phase_of_action_next e adds ready,
+      ) (again (phases_along (map calls_to_make scripts) (user_actions_to_do input) entries) phase f.phases))
 
   -- the end of a user's phase was served
   pub follows_user_phase : (phase' : ℕ) → user_actions_in (l ∷ []) ≡ [] → phase ≤ phase'
@@ -286,27 +281,22 @@ module _ {scripts : List (List Line)} {input : List InputLine} {counts : List �
     ends = (entries, refl);
   }
 
--- ---- fronts of the scripts
+  -- ---- fronts of the scripts
 
-module _ (scripts : List (List Line)) (input : List InputLine) (counts : List ℕ) (phase : ℕ) (entries : List Entry)
-  where
-    pub calls_front_of : (t : ℕ) → Follows scripts input counts phase entries → t < length scripts
-        → (rest : List Call) × (done (calls_to_make (script_in scripts t)) ≡ calls_of t entries ++ rest)
-    calls_front_of t f h =
-        let n = slice_index counts t in
-        let ls : List Line = served (script_in scripts t) in (
-          calls_in (drop n ls),
-          sym (calls_done 0 (script_in scripts t)) ∙ sym (calls_served (script_in scripts t))
-              ∙ ap calls_in (sym (take-append-drop n ls)) ∙ calls_append (take n ls) (drop n ls)
-              ∙ ap (λ (cs : List Call). cs ++ calls_in (drop n ls)) (sym (f.calls t h)),
-        )
+  pub calls_front_of : (t : ℕ) → t < length scripts
+      → (rest : List Call) × (done (calls_to_make (script_in scripts t)) ≡ calls_of t entries ++ rest)
+  calls_front_of t h =
+      let n = slice_index counts t in
+      let ls : List Line = served (script_in scripts t) in (
+        calls_in (drop n ls),
+        rw (f.calls t h, ← calls_append (take n ls) (drop n ls), take-append-drop n ls)
+            (sym (calls_served (script_in scripts t) ∙ calls_done 0 (script_in scripts t))),
+      )
 
-    pub actions_front_of : Follows scripts input counts phase entries
-        → (rest : List UserAction) × (done (user_actions_to_do input) ≡ user_actions_of entries ++ rest)
-    actions_front_of f =
-        let n = slice_index counts (length scripts) in (
-          user_actions_in (drop n input),
-          sym (actions_done 0 input) ∙ ap user_actions_in (sym (take-append-drop n input))
-              ∙ actions_append (take n input) (drop n input)
-              ∙ ap (λ (ds : List UserAction). ds ++ user_actions_in (drop n input)) (sym f.actions),
-        )
+  pub actions_front_of : (rest : List UserAction) × (done (user_actions_to_do input) ≡ user_actions_of entries ++ rest)
+  actions_front_of =
+      let n = slice_index counts (length scripts) in (
+        user_actions_in (drop n input),
+        rw (f.actions, ← actions_append (take n input) (drop n input), take-append-drop n input)
+            (sym (actions_done 0 input)),
+      )

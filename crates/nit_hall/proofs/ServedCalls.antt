@@ -26,7 +26,7 @@ use Rattle.nit_hall.proofs.Stretches.{stretch_begun}
 use Rattle.nit_hall.proofs.WatchedWords.{told_shows}
 use Rattle.nit_hall.proofs.HistoryLemmas.{clean_painted, goes_on}
 use Rattle.nit_hall.proofs.ScriptsFollowed.{IsNext, one_left, client_is, follows_call}
-use Rattle.nit_hall.proofs.ScriptsFollowed.{phase_of_next}
+use Rattle.nit_hall.proofs.ScriptsFollowed.{phase_of_next, script_there}
 use Rattle.nit_hall.proofs.Phases.{client_ends, same_phase}
 
 -- ---- before it
@@ -82,16 +82,8 @@ WereSeen old new sid own own' = (t : ℕ) → (loads : List (ℕ × ℕ))
 
 pub own_seen : (old new : List Sight) (sid : ℕ) (own own' : Sight) → WereSeen old new sid own own'
     → (loads : List (ℕ × ℕ)) × (own' ≡ seen own loads)
-own_seen old new sid own own' were = let saw =
-    were sid in (saw.0, sym (own_there new sid own') ∙ saw.1 ∙ ap (λ (g : Sight). seen g saw.0) (own_there old sid own))
-
-inks_after : (config : Configuration) (scripts : List (List Line)) (old new : List Sight) (sid : ℕ) (own own' : Sight)
-    → AreInks config scripts (glass_in old) → WereSeen old new sid own own' → glass_in new sid ≡ glass_in old sid
-    → AreInks config scripts (glass_in new)
-inks_after config scripts old new sid own own' inks were idle t = elim (cases_eq t sid) [
-  | inl e ↦ rw (e, idle) (inks sid)
-  | inr ne ↦ rw (← other_there new sid own' t ne, (were t).1, other_there old sid own t ne) (inks t)
-]
+own_seen old new sid own own' were =
+    let saw = were sid in (saw.0, rw (← own_there new sid own', saw.1, own_there old sid own) refl)
 
 -- ---- the room after it
 
@@ -105,23 +97,6 @@ pub record IsCalled (old new : SceneModel End) (sid : ℕ) (c : Call) (r : Reply
   pub painted : Painted (state_now old) (entry.Call sid c r) (state_now new) (glasses_of_call (sights old) sid own)
       (glasses_of_call (sights new) sid own') old.raw new.raw
   pub idle : glass_in (sights new) sid ≡ glass_in (sights old) sid
-
--- the caller's glass tells what the lines up to the call leave
-tells : (config : Configuration) (scripts : List (List Line)) (glasses : List Sight) (entries : List Entry)
-    (sid next : ℕ) (script : List Line) (c : Call) (r : Reply) (own : Sight)
-    → slice_get scripts sid ≡ Some script → slice_get script next ≡ Some (line.Call c)
-    → calls_of sid entries ≡ calls_in (take next script)
-    → own.words ≡ Some (words_after script (donation_of config sid) (next + 1))
-    → TellsWords config scripts entries (entry.Call sid c r) (glasses_of_call glasses sid own)
-tells config scripts glasses entries sid next script c r own at here made told t call rep same =
-    let who : t ≡ sid = cc in
-    let there : script_in scripts sid ≡ script = get_or_from_slice_get scripts sid script [] at in
-    rw (who, own_there glasses sid own, there, made, line_counted script next c here) told
-
--- a call ends no phase
-phase_same : (script : List Line) (k : ℕ) (c : Call) → slice_get script k ≡ Some (line.Call c)
-    → phases_before script (k + 1) ≡ phases_before script k
-phase_same script k c at = counted_same is_phase script k (line.Call c) at refl
 
 -- the scene where the end of this client knows these stages
 abbrev pub scene_with : SceneModel End → ℕ → List (List ℕ) → SceneModel End
@@ -148,9 +123,6 @@ module _ (laws : EntryLaws) {r : RoomModel} {called : SceneModel End} {sid next 
   added : IsAdded r.scene later (entry.Call sid c rep)
   added = added_with sid stages (stretch script (donation_of r.scene.config sid) (next + 1)) did.added
 
-  there : script_in r.parts.scripts sid ≡ script
-  there = get_or_from_slice_get r.parts.scripts sid script [] at.script_is
-
   made : calls_of sid r.scene.entries ≡ calls_in (take next script)
   made = rw (open_whole r.scene.entries was_open) at (calls_made r sid next script room at.script_is at.counted)
 
@@ -158,16 +130,12 @@ module _ (laws : EntryLaws) {r : RoomModel} {called : SceneModel End} {sid next 
   made_then = rw (open_whole r.scene.entries was_open) at (calls_then rep room at)
 
   ended_then : phases_before script (next + 1) ≡ r.phase
-  ended_then = phase_same script next c at.line_is ∙ sym ready
+  ended_then = counted_same is_phase script next (line.Call c) at.line_is refl ∙ sym ready
 
   in_phase : IsInPhase r.parts.scripts r.parts.input r.phase r.scene.entries (entry.Call sid c rep)
   in_phase still =
       let here = rw (open_whole r.scene.entries was_open) at (phase_of_next rep room.follows at ready) in
       omega (arith, here)
-
-  told_there : own.words ≡ Some (words_after (script_in r.parts.scripts sid) (donation_of r.scene.config sid)
-      (next + 1))
-  told_there = rw there told
 
   no_other_call : (t : ℕ) → t ≢ sid → calls_of t (entry.Call sid c rep ∷ []) ≡ []
   no_other_call t ne = rw (ne_eqb sid t (λ e. ne (sym e))) refl
@@ -180,59 +148,69 @@ module _ (laws : EntryLaws) {r : RoomModel} {called : SceneModel End} {sid next 
   shows : ShowsThen r.scene.config r.parts.scripts r.phase r.scene.entries (entry.Call sid c rep)
       (glasses_of_call (sights (scene_with r.scene sid stages)) sid own)
   shows t i w loaded = elim (cases_eq t sid) [
-    | inl e ↦ rw e (told_shows r.scene.config r.parts.scripts r.phase _ sid (next + 1) own told_there (record {
-      calls = rw (there, made_then) refl;
-      phases = let p = ended_then in rw there (λ still. omega (arith, p));
-    }) i w (rw (e, own_there (sights (scene_with r.scene sid stages)) sid own) at loaded))
-    | inr ne ↦ lenses_show laws room was_open added t (no_other_call t ne) i w
-        (subst (λ (g : Sight). IsLoaded g i w) (other_glass t ne) loaded)
+    | inl e ↦ rw e (told_shows r.scene.config r.parts.scripts r.phase _ sid (next + 1) own (rw (script_there at) told)
+        (record {
+          calls = rw (script_there at, made_then) refl;
+          phases = let p = ended_then in rw (script_there at) (λ still. omega (arith, p));
+        }) i w (rw (e, own_there (sights (scene_with r.scene sid stages)) sid own) at loaded))
+    | inr ne ↦ lenses_show laws room was_open added t (no_other_call t ne) i w (rw (other_glass t ne) at loaded)
   ]
 
-  later_inks : own.ink ≡ script_ink script (donation_of r.scene.config sid)
-      → HaveInks r.scene.config r.parts.scripts later.glasses
-  later_inks inked t =
+  -- the caller's glass tells what the lines up to the call leave
+  tells : TellsWords r.scene.config r.parts.scripts r.scene.entries (entry.Call sid c rep)
+      (glasses_of_call (sights (scene_with r.scene sid stages)) sid own)
+  tells t call reply same =
+      let who : t ≡ sid = cc in
+      rw (
+        who,
+        own_there (sights (scene_with r.scene sid stages)) sid own,
+        script_there at,
+        made,
+        line_counted script next c at.line_is,
+      ) told
+
+  later_inks : HaveInks r.scene.config r.parts.scripts later.glasses
+  later_inks t =
       same_ink sid (stretch script (donation_of r.scene.config sid) (next + 1)) called.glasses t
-      ∙ inks_after r.scene.config r.parts.scripts (sights (scene_with r.scene sid stages)) (sights called) sid own own'
-      (λ x. same_ink sid stages r.scene.glasses x ∙ inks_before laws room was_open added x)
-      (λ x. (did.painted.loads x, did.painted.sights x)) did.idle t
+      ∙ elim (cases_eq t sid) [
+        | inl e ↦ rw (e, did.idle)
+            (same_ink sid stages r.scene.glasses sid ∙ inks_before laws room was_open added sid)
+        | inr ne ↦ rw (← other_there (sights called) sid own' t ne, did.painted.sights t, other_glass t ne)
+            (inks_before laws room was_open added t)
+      ]
 
   other_stages : (t : ℕ) → t ≢ sid
       → (glass_in (sights later) t).stages ≡ (glass_in (sights r.scene) t).stages
-  other_stages t ne = ap (λ (g : Sight). g.stages)
-      (other_end sid (stretch script (donation_of r.scene.config sid) (next + 1)) called.glasses t ne
-      ∙ sym (other_there (sights called) sid own' t ne) ∙ did.painted.sights t)
-      ∙ ap (λ (g : Sight). g.stages) (other_glass t ne)
+  other_stages t ne = rw (
+    other_end sid (stretch script (donation_of r.scene.config sid) (next + 1)) called.glasses t ne,
+    ← other_there (sights called) sid own' t ne,
+    did.painted.sights t,
+    other_glass t ne,
+  ) refl
 
   watching_then : sid < length called.glasses → AreWatching r.parts.scripts r.scene.config
       (without_final later.entries) r.phase later.glasses
   watching_then many t inside = elim (cases_eq t sid) [
     | inl e ↦ rw e (record {
       since = next + 1;
-      stages_are = rw there (ap (λ (g : Sight). g.stages) (own_end sid _ called.glasses many));
-      behind = rw (there, ← made_then, open_whole called.entries did.open_is, did.added.recorded) refl;
-      begun = rw there (let p = ended_then in omega (arith, p));
+      stages_are = rw (script_there at, own_end sid _ called.glasses many) refl;
+      behind = rw (script_there at, ← made_then, open_whole called.entries did.open_is, did.added.recorded) refl;
+      begun = rw (script_there at) (let p = ended_then in omega (arith, p));
     })
     | inr ne ↦ watching_other laws room was_open added t inside did.open_is (other_stages t ne) (no_other_call t ne)
   ]
 
-  pub room_call : sid < length called.glasses → own.ink ≡ script_ink script (donation_of r.scene.config sid)
+  pub room_call : sid < length called.glasses
       → IsRoom (room_then r later (r.raws ++ later.raw ∷ []) (raised r.counts sid) r.phase r.arrived)
-  room_call many inked =
+  room_call many =
       room_grown laws room was_open added (r.raws ++ later.raw ∷ []) (raised r.counts sid)
       (goes_on room was_open did.open_is added
       (clean_painted r.scene later (entry.Call sid c rep) (state_later laws added) did.painted))
-      (near_then laws room was_open added in_phase shows
-      (tells r.scene.config r.parts.scripts (sights
-      (scene_with r.scene sid stages)) r.scene.entries sid next script c rep
-      own at.script_is at.line_is made told) did.painted)
-      (later_inks inked) (watching_then many)
-      (subst (λ (js : List Entry). Follows r.parts.scripts r.parts.input (raised r.counts sid) r.phase js)
-      (booked_more was_open did.open_is added) (follows_call rep room.follows at ready))
-      (same_phase (client_ends r.parts.input room.follows.each at) ended_same room.phases)
+      (near_then laws room was_open added in_phase shows tells did.painted) later_inks (watching_then many)
+      (rw (← booked_more was_open did.open_is added) (follows_call rep room.follows at ready))
+      (same_phase (client_ends r.parts.input room.follows.each at)
+      (counted_same is_phase script next (line.Call c) at.line_is refl) room.phases)
       (inl did.open_is)
-    where
-      ended_same : phases_before script (next + 1) ≡ phases_before script next
-      ended_same = phase_same script next c at.line_is
 
 -- ---- the pass after it
 
@@ -241,19 +219,12 @@ pub staged : {script : List Line} {donation k : ℕ} {plan : PlanModel} {s : Sig
     → IsPaintedTo script donation plan k s → IsPaintedTo script donation plan k (with_stages stages s)
 staged stages h = assumption
 
--- the sight after the line, and after what the call loaded
-pub record IsLoadedAfter (p : PassModel) (sight : Sight) : Type 0 where
-  pub between : Sight
-  pub loads : List (ℕ × ℕ)
-  pub painted : IsPaintedTo p.script p.donation p.plan (p.next + 1) between
-  pub stages : List (List ℕ)
-  pub set : between ≡ with_stages stages
-      (with_words (λ words. words_after p.script p.donation (p.next + 1)) p.sight)
-  pub seen_is : sight ≡ seen between loads
-
-pub pass_call : (p : PassModel) (share : ShareModel) (spare : End) (c : Call) (met : ℕ) (name : _)
-    (known : List Recorded) (sight : Sight) (stand : _) → IsPass p share spare
-    → slice_get p.script p.next ≡ Some (line.Call c) → IsLoadedAfter p sight → met ≡ p.phase
+pub pass_call : {p : PassModel} {share : ShareModel} {spare : End} {between sight : Sight} (c : Call) (met : ℕ)
+    (name : _) (known : List Recorded) (stand : _) (stages : List (List ℕ)) (loads : List (ℕ × ℕ))
+    → IsPass p share spare → slice_get p.script p.next ≡ Some (line.Call c)
+    → IsPaintedTo p.script p.donation p.plan (p.next + 1) between
+    → between ≡ with_stages stages (with_words (λ words. words_after p.script p.donation (p.next + 1)) p.sight)
+    → sight ≡ seen between loads → met ≡ p.phase
     → calls_of p.sid (entries_in known) ≡ calls_in (take (p.next + 1) p.script)
     → IsPass (record p {
       next = p.next + 1;
@@ -263,22 +234,22 @@ pub pass_call : (p : PassModel) (share : ShareModel) (spare : End) (c : Call) (m
       sight = with_stages (stretch p.script p.donation (p.next + 1)) sight;
       stand = stand;
     }) (record { name = name; number = share.number; count = share.count + 1; seen = known }) spare
-pass_call p share spare c met name known sight stand is at l served_ knows =
+pass_call {p = p} c met name known stand stages loads is at painted set seen_is served_ knows =
     record {
       number = is.number;
       counted = ap (λ (n : ℕ). n + 1) is.counted ∙ sym (served_counted p.script p.next (line.Call c) at refl);
       within = let w = slice_get_within p.script p.next (line.Call c) at in omega (arith, w);
-      phase = is.phase ∙ sym (phase_same p.script p.next c at);
+      phase = is.phase ∙ sym (counted_same is_phase p.script p.next (line.Call c) at refl);
       known = knows;
-      owner = rw (l.seen_is, l.set) is.owner;
-      painted = let painted = l.painted in rw l.seen_is assumption;
-      inked = rw (l.seen_is, l.set) is.inked;
-      told = rw (l.seen_is, l.set) (ap (option_map (λ words. words_after p.script p.donation (p.next + 1))) is.told);
+      owner = rw (seen_is, set) is.owner;
+      painted = rw seen_is (assumption painted);
+      inked = rw (seen_is, set) is.inked;
+      told = rw (seen_is, set, is.told) refl;
       not_ahead = omega (arith, served_);
       agreed = refl;
       stretch = λ same. stretch_begun p.script p.donation (p.next + 1) _ refl;
       spare_owner = is.spare_owner;
-      spare_size = rw (l.seen_is, l.set) is.spare_size;
+      spare_size = rw (seen_is, set) is.spare_size;
     }
 
 -- ---- what a call finds
@@ -297,15 +268,3 @@ found {r₀ = r₀} {r = r} {p₀ = p₀} {p = p} call er ep met ec of at ready 
       donation_is = of.donation;
       ready = ready;
     })
-
--- a pass that has met the room knows its calls so far
-pub pass_met : {r r₀ : RoomModel} {p : PassModel} {share share' : ShareModel} {spare : End} (known : List Recorded)
-    → IsRoom r → r ≡ r₀ → Belongs r₀.parts p → IsPass p share spare → slice_index r.counts share.number ≡ share.count
-    → entries_in known ≡ without_final r.scene.entries → share' ≡ record share { seen = known }
-    → IsPass (record p { name = share'.name; seen = entries_in share'.seen }) share' spare
-pass_met {r = r} {p = p} known room same of is counted book seen_ =
-    let knows : calls_of p.sid (entries_in known) ≡ calls_in (take p.next p.script) = ap (calls_of p.sid) book
-    ∙ calls_made r p.sid p.next p.script room
-    (ap (λ (x : RoomModel). slice_get x.parts.scripts p.sid) same ∙ of.script)
-    (ap (slice_index r.counts) (sym is.number) ∙ counted ∙ is.counted) in
-    rw seen_ assumption

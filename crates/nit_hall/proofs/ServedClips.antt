@@ -64,32 +64,27 @@ module _ (laws : CallLaws) {r : RoomModel} {p : PassModel} {q : ClipPassModel} (
     more = laws.call q.script q.next (next_clip q) f.next_is
 
     up : slice_index (raised r.clip_counts q.sid) q.sid ≡ length (clip_calls_in (take (q.next + 1) q.script))
-    up = raised_at r.clip_counts q.sid inside ∙ ap (λ (n : ℕ). n + 1) f.clip_counted
-        ∙ sym (ap length more ∙ length-append (clip_calls_in (take q.next q.script)) (next_clip q ∷ []))
-
-    one_left : slice_index (raised r.clip_counts q.sid) q.sid ≤ length (clip_calls_in q.script)
-    one_left = let few = front_short _ (clip_calls_in q.script) _ (clips_front q.script (q.next + 1)) refl in
-        omega (arith, few, up)
+    up = rw (raised_at r.clip_counts q.sid inside, f.clip_counted, more, length-append) refl
 
     -- the client's calls so far are those of all phases up to this one
     client_script : script_in r.parts.scripts q.sid ≡ p.script
-    client_script = ap (script_in r.parts.scripts) (sym f.together.client)
-        ∙ get_or_from_slice_get r.parts.scripts p.sid p.script [] f.belongs.script
+    client_script = rw (← f.together.client) (get_or_from_slice_get r.parts.scripts p.sid p.script [] f.belongs.script)
 
     client_calls : calls_of q.sid r.scene.entries ≡ calls_in (take p.next p.script)
     client_calls = rw (f.together.client, open_whole r.scene.entries f.open_is)
         at (calls_made r p.sid p.next p.script room f.belongs.script f.counted)
 
-    to_make : to_do (map calls_to_make r.parts.scripts) q.sid ≡ calls_to_make p.script
-    to_make = made_of r.parts.scripts q.sid ∙ ap calls_to_make client_script
-
-    phase_now : r.phase ≡ 0 + phases_before p.script p.next
-    phase_now = omega (arith, f.ready, f.phase_is)
-
     called : length (calls_up_to r.phase (to_do (map calls_to_make r.parts.scripts) q.sid))
         ≡ length (calls_of q.sid (take (length r.scene.entries) r.scene.entries))
-    called = rw (phase_now, to_make, take_all (length r.scene.entries) r.scene.entries (omega arith), client_calls)
-        (calls_of_phases p.script 0 p.next f.phase_end)
+    called =
+        let phase_now : r.phase ≡ 0 + phases_before p.script p.next = omega (arith, f.ready, f.phase_is) in
+        rw (
+          phase_now,
+          made_of r.parts.scripts q.sid,
+          client_script,
+          take_all (length r.scene.entries) r.scene.entries (omega arith),
+          client_calls,
+        ) (calls_of_phases p.script 0 p.next f.phase_end)
 
     next_in : next_phase (clips_to_do (left_after (map clips_to_make r.parts.clips) r.clips.entries) q.sid) ≡ r.phase
     next_in = rw (
@@ -97,25 +92,27 @@ module _ (laws : CallLaws) {r : RoomModel} {p : PassModel} {q : ClipPassModel} (
       made,
       made_by r.parts.clips q.sid,
       script_is,
-    )
-        (laws.phase q.script q.next (next_clip q) f.next_is ∙ sym f.clip_phase_is ∙ sym f.together.phase ∙ f.ready)
-
-    phases_so_far : AllByRecursion (λ x. x ≤ r.phase)
-        (take (length r.scene.entries)
-        (phases_along (map calls_to_make r.parts.scripts) (user_actions_to_do r.parts.input) r.scene.entries))
-    phases_so_far = all_up_to _ r.phase (length r.scene.entries)
-        (rw (open_whole r.scene.entries f.open_is) at room.follows.phases)
+      laws.phase q.script q.next (next_clip q) f.next_is,
+      ← f.clip_phase_is,
+      ← f.together.phase,
+    ) f.ready
 
     in_phase : (reply : ClipReply)
         → IsInPhase (map calls_to_make r.parts.scripts) (user_actions_to_do r.parts.input) r.scene.entries
         (next_phase (clips_to_do (left_after (map clips_to_make r.parts.clips) r.clips.entries) q.sid))
         (clip_entry r q reply)
-    in_phase reply = rw next_in (record { behind = let e = called in omega (arith, e); before = phases_so_far })
+    in_phase reply = rw next_in (record {
+      behind = let e = called in omega (arith, e);
+      before = all_up_to _ r.phase (length r.scene.entries)
+          (rw (open_whole r.scene.entries f.open_is) at room.follows.phases);
+    })
 
     few_then : (t : ℕ) → slice_index (raised r.clip_counts q.sid) t ≤ length
         (clip_calls_in (clip_script_in r.parts.clips t))
     few_then t = elim (cases_eq t q.sid) [
-      | inl e ↦ rw (e, script_is) one_left
+      | inl e ↦
+          let few = front_short _ (clip_calls_in q.script) _ (clips_front q.script (q.next + 1)) refl in
+          rw (e, script_is) (omega (arith, few, up))
       | inr ne ↦ omega (arith, raised_other r.clip_counts q.sid t ne, room.clips_follow.few t)
     ]
 
@@ -131,37 +128,36 @@ module _ (laws : CallLaws) {r : RoomModel} {p : PassModel} {q : ClipPassModel} (
 
     module _ (reply : ClipReply) (answered : reply
         ≡ clip_answer (clipboard_of r.clips.entries) (state_now r.scene).input.focus q.sid (next_clip q)) where
-      calls_then : (t : ℕ) → clip_calls_of t (r.clips.entries ++ clip_entry r q reply ∷ [])
-          ≡ take (slice_index (raised r.clip_counts q.sid) t) (clip_calls_in (clip_script_in r.parts.clips t))
-      calls_then t = elim (cases_eq t q.sid) [
-        | inl e ↦ rw (e, own_clip q.sid r.clips.entries (clip_entry r q reply) refl, made, up, script_is)
-            (sym more ∙ sym (clips_front q.script (q.next + 1)))
-        | inr ne ↦ rw (raised_other r.clip_counts q.sid t ne)
-            (other_clip t r.clips.entries (clip_entry r q reply) (λ e. ne (sym e)) ∙ room.clips_follow.calls t)
-      ]
-
-      session_is : q.sid < length r.parts.config.clients
-      session_is = omega (
-        arith,
-        slice_get_within r.parts.scripts p.sid p.script f.belongs.script,
-        room.sessions,
-        f.together.client,
-      )
-
       pub follows_then : FollowsClips r.parts (raised r.clip_counts q.sid) r.scene.entries
           (with_clip r (clip_entry r q reply)).clips
-      follows_then = record {
-        legal = laws.legal r.parts.config r.scene.entries r.clips.entries (clip_entry r q reply) room.clips_follow.legal
-            f.open_is refl session_is (ap (λ (c : Configuration). (replay c r.scene.entries).input.focus) room.config)
-            answered;
-        each = length-set r.clip_counts q.sid (slice_index r.clip_counts q.sid + 1) ∙ room.clips_follow.each;
-        calls = calls_then;
-        few = few_then;
-        in_phases = laws.placed (map calls_to_make r.parts.scripts) (user_actions_to_do r.parts.input) r.scene.entries
-            (map clips_to_make r.parts.clips) r.clips.entries (clip_entry r q reply) room.clips_follow.in_phases
-            (in_phase reply);
-        room = omega (arith, sum_raised r.clip_counts q.sid inside, room_left, room.clips_follow.room);
-      }
+      follows_then =
+          let session = slice_get_within r.parts.scripts p.sid p.script f.belongs.script in
+          record {
+            legal = laws.legal r.parts.config r.scene.entries r.clips.entries (clip_entry r q reply)
+                room.clips_follow.legal f.open_is refl (omega (arith, session, room.sessions, f.together.client))
+                (ap (λ (c : Configuration). (replay c r.scene.entries).input.focus) room.config) answered;
+            each = length-set r.clip_counts q.sid (slice_index r.clip_counts q.sid + 1) ∙ room.clips_follow.each;
+            calls = λ t. elim (cases_eq t q.sid) [
+              | inl e ↦ rw (
+                e,
+                own_clip q.sid r.clips.entries (clip_entry r q reply) refl,
+                made,
+                up,
+                script_is,
+                clips_front q.script (q.next + 1),
+                more,
+              ) refl
+              | inr ne ↦ rw (
+                raised_other r.clip_counts q.sid t ne,
+                other_clip t r.clips.entries (clip_entry r q reply) (λ e. ne (sym e)),
+              ) (room.clips_follow.calls t)
+            ];
+            few = few_then;
+            in_phases = laws.placed (map calls_to_make r.parts.scripts) (user_actions_to_do r.parts.input)
+                r.scene.entries (map clips_to_make r.parts.clips) r.clips.entries (clip_entry r q reply)
+                room.clips_follow.in_phases (in_phase reply);
+            room = omega (arith, sum_raised r.clip_counts q.sid inside, room_left, room.clips_follow.room);
+          }
 
       pub room_clip : IsRoom (with_clip r (clip_entry r q reply))
       room_clip = assumption (follows_then, room)

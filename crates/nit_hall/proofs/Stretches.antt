@@ -12,38 +12,33 @@ use Rattle.nit_hall.proofs.LineLemmas.{counted_same, no_more_calls}
 -- the lines from a place on begin with the line there
 drop_line : (ls : List Line) (k : ℕ) (l : Line) → slice_get ls k ≡ Some l → drop k ls ≡ l ∷ drop (k + 1) ls
 drop_line [] k l at = absurd cc
-drop_line (x ∷ xs) zero l at = let same : x ≡ l = cc in ap (λ (y : Line). y ∷ xs) same
-drop_line (x ∷ xs) (suc k) l at =
-    let e : suc (k + 1) ≡ suc k + 1 = omega arith in
-    drop_line xs k l at ∙ ap (λ (n : ℕ). l ∷ drop n (x ∷ xs)) e
+drop_line (x ∷ xs) zero l at = let same : x ≡ l = cc in rw same refl
+drop_line (x ∷ xs) (suc k) l at = let e : suc (k + 1) ≡ suc k + 1 = omega arith in rw (← e) (drop_line xs k l at)
 
 -- among the strokes that lines begin with each line is one
 stroke_among : (ls : List Line) (j : ℕ) → j < strokes_in_front ls
     → (s : Stroke) × (slice_get ls j ≡ Some (line.Stroke s))
 stroke_among [] j in_front = absurd (omega arith)
-stroke_among (line.Call c ∷ rest) j in_front = absurd (omega arith)
-stroke_among (line.Phase ∷ rest) j in_front = absurd (omega arith)
 stroke_among (line.Stroke s ∷ rest) zero in_front = (s, refl)
 stroke_among (line.Stroke s ∷ rest) (suc j) in_front = stroke_among rest j (omega (arith, in_front))
+stroke_among (other ∷ rest) j in_front = absurd (omega arith)
 
 dropped_get : (ls : List Line) (k j : ℕ) → slice_get (drop k ls) j ≡ slice_get ls (k + j)
 dropped_get ls zero j = let e : j ≡ 0 + j = omega arith in ap (slice_get ls) e
 dropped_get [] (suc k) j = refl
-dropped_get (x ∷ xs) (suc k) j =
-    let e : suc (k + j) ≡ suc k + j = omega arith in dropped_get xs k j ∙ ap (slice_get (x ∷ xs)) e
+dropped_get (x ∷ xs) (suc k) j = let e : suc (k + j) ≡ suc k + j = omega arith in rw (← e) (dropped_get xs k j)
 
 stroke_there : (script : List Line) (k n : ℕ) → k ≤ n → n < stretch_end script k
     → (s : Stroke) × (slice_get script n ≡ Some (line.Stroke s))
 stroke_there script k n from to =
     let there = stroke_among (drop k script) (n - k) (omega (arith, from, to)) in
     let at : k + (n - k) ≡ n = omega (arith, from) in
-    (there.0, ap (slice_get script) (sym at) ∙ sym (dropped_get script k (n - k)) ∙ there.1)
+    (there.0, rw (dropped_get script k (n - k), at) at there.1)
 
 -- behind a stroke it ends where it did before
 pub ends_behind : (script : List Line) (k : ℕ) (s : Stroke) → slice_get script k ≡ Some (line.Stroke s)
     → stretch_end script k ≡ stretch_end script (k + 1)
-ends_behind script k s at =
-    ap (λ (ls : List Line). k + strokes_in_front ls) (drop_line script k (line.Stroke s) at) ∙ omega arith
+ends_behind script k s at = rw (drop_line script k (line.Stroke s) at) (omega arith)
 
 -- ---- what its lines add
 
@@ -96,9 +91,8 @@ pub stroke_staged : (script : List Line) (donation next : ℕ) (stages : Option 
     → slice_get script next ≡ Some (line.Stroke s) → HasStretch script donation next stages
     → IfSome stages (λ known. (i : ℕ) → IsAmong known i (slice_index (words_after script donation (next + 1)) i))
 stroke_staged script donation next stages s at has =
-    subst (λ (o : Option (List (List ℕ))).
-    IfSome o (λ known. (i : ℕ) → IsAmong known i (slice_index (words_after script donation (next + 1)) i)))
-    (sym has.stages_are)
-    (λ i. stage_within script donation has.since has.until (next + 1) i
-    (let b = has.begun in omega (arith, b))
-    (let w = has.whole in let e = ends_behind script next s at in omega (arith, w, e)))
+    let b = has.begun in
+    let w = has.whole in
+    let e = ends_behind script next s at in
+    rw has.stages_are (λ i. stage_within script donation has.since has.until (next + 1) i (omega (arith, b))
+    (omega (arith, w, e)))

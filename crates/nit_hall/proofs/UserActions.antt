@@ -1,14 +1,17 @@
 -- A room and the user's pass after a device event, and after a shot.
-use Rattle.nit_hall.proofs.Basics.{AreNear, Device, End, Entry, EntryLaws, Follows, HaveInks}
-use Rattle.nit_hall.proofs.Basics.{InputLine, IsAdded, IsOpen, IsRoom, IsUserPass, Line, List}
-use Rattle.nit_hall.proofs.Basics.{Painted, Recorded, RoomModel, Routed, SceneModel, ShareModel}
-use Rattle.nit_hall.proofs.Basics.{Sight, Some, UserBelongs, UserHasMet, UserPassModel, []}
-use Rattle.nit_hall.proofs.Basics.{actions_of-append, ap, arith, entries_in, glass_in, inl}
-use Rattle.nit_hall.proofs.Basics.{input_phases_before, is_input_phase, length, raised, raws_in}
-use Rattle.nit_hall.proofs.Basics.{refl, slice_get_within, slice_index, slice_index_or, state_now}
-use Rattle.nit_hall.proofs.Basics.{without_final}
+use Rattle.std.proofs.Common.{take, slice_get, subst, sym, ℕ, ◌++◌, ◌+◌, ◌-◌, ◌<◌, ◌∙◌, ◌∷◌, ◌≡◌}
+use Rattle.nit_hall.proofs.RoomSteps.{watching_other, before_open, inks_before, booked_more}
+use Rattle.nit_hall.proofs.RoomSteps.{legal_then, near_before, near_then, lenses_show, room_grown}
+use Rattle.nit_hall.proofs.RoomSteps.{room_then, state_later}
+use Rattle.nit_hall.proofs.Basics.{AreNear, BookModel, Device, End, Entry, EntryLaws, Follows}
+use Rattle.nit_hall.proofs.Basics.{HasActed, HaveInks, InputLine, IsAdded, IsOpen, IsRoom}
+use Rattle.nit_hall.proofs.Basics.{IsUserPass, Line, List, Painted, Recorded, RoomModel, Routed}
+use Rattle.nit_hall.proofs.Basics.{SceneModel, ShareModel, Sight, Some, UserBelongs, UserHasMet}
+use Rattle.nit_hall.proofs.Basics.{UserPassModel, [], actions_of-append, ap, arith, buffers_of}
+use Rattle.nit_hall.proofs.Basics.{entries_in, glass_in, inl, input_phases_before, is_input_phase}
+use Rattle.nit_hall.proofs.Basics.{length, raised, raws_in, refl, slice_get_within, slice_index}
+use Rattle.nit_hall.proofs.Basics.{slice_index_or, state_now, with_entry, without_final}
 use Rattle.nit_hall.proofs.FinalEntries.{open_whole}
-use Rattle.std.proofs.Common.{slice_get, subst, sym, ℕ, ◌++◌, ◌+◌, ◌-◌, ◌∙◌, ◌∷◌, ◌≡◌}
 use Rattle.nit_events.specs.declared.entry.Entry.TheVariants as entry
 use Rattle.nit_script.specs.declared.line.InputLine.TheVariants as inputs
 use Rattle.nit_hall.proofs.LineLemmas.{counted_same, actions_line}
@@ -16,10 +19,9 @@ use Rattle.nit_hall.proofs.NearLemmas.{IsInPhase, near_more}
 use Rattle.nit_hall.proofs.ScriptsFollowed.{AddsAction, IsUserNext, follows_action}
 use Rattle.nit_hall.proofs.ScriptsFollowed.{phase_of_action_next}
 use Rattle.nit_hall.proofs.Phases.{same_phase, user_ends}
-use Rattle.nit_hall.proofs.HistoryLemmas.{KeepsClean, clean_painted, goes_on}
-use Rattle.nit_hall.proofs.RoomSteps.{inks_before, booked_more, legal_then, near_before, near_then}
-use Rattle.nit_hall.proofs.RoomSteps.{lenses_show, room_grown, room_then, state_later}
-use Rattle.nit_hall.proofs.RoomSteps.{watching_still}
+use Rattle.nit_hall.proofs.HistoryLemmas.{KeepsClean, clean_painted, goes_on, raws_more, seen_more}
+use Rattle.nit_hall.proofs.PassCounts.{user_back, user_raised}
+use Rattle.nit_hall.proofs.RoomEntered.{book_then, entered, room_of}
 use Rattle.nit_hall.proofs.PhaseEnds.{actions_known, user_open}
 use Rattle.nit_hall.proofs.ServedCalls.{sights}
 
@@ -40,31 +42,6 @@ pub record IsDone (scripts : List (List Line)) (input : List InputLine) (old new
   pub near : AreNear old.config scripts input (old.entries ++ e ∷ []) new.raw
   pub keeps : KeepsClean old.config old.entries e old.raw new.raw
 
-pub room_action : EntryLaws → {r : RoomModel} {new : SceneModel End} {next : ℕ} {l : InputLine} {e : Entry} → IsRoom r
-    → IsUserNext r.parts.scripts r.parts.input r.counts next l → AddsAction l e
-    → r.phase ≡ input_phases_before r.parts.input next → IsDone r.parts.scripts r.parts.input r.scene new e
-    → IsRoom (room_then r new (r.raws ++ new.raw ∷ []) (raised r.counts (length r.parts.scripts)) r.phase r.arrived)
-room_action laws {r = r} {new = new} {next = next} {l = l} {e = e} room at adds ready did =
-    let was_open : IsOpen r.scene.entries = user_open room at in
-    let n = length r.parts.scripts in
-    room_grown laws room was_open did.added (r.raws ++ new.raw ∷ []) (raised r.counts n)
-    (goes_on room was_open did.open_is did.added did.keeps) did.near did.inks
-    (watching_still laws room was_open did.added did.open_is did.watching (λ t. adds.no_call t))
-    (subst (λ (js : List Entry). Follows r.parts.scripts r.parts.input (raised r.counts n) r.phase js)
-    (booked_more was_open did.open_is did.added) (follows_action room.follows at e adds ready))
-    (same_phase (user_ends room.follows.each at)
-    (counted_same is_input_phase r.parts.input next l at.line_is adds.no_phase) room.phases)
-    (inl did.open_is)
-
--- the user's next action is put in the phase that is served
-action_in_phase : {r : RoomModel} {next : ℕ} {l : InputLine} {e : Entry} → IsRoom r → IsOpen r.scene.entries
-    → IsUserNext r.parts.scripts r.parts.input r.counts next l → AddsAction l e
-    → r.phase ≡ input_phases_before r.parts.input next
-    → IsInPhase r.parts.scripts r.parts.input r.phase r.scene.entries e
-action_in_phase {r = r} {e = e} room was at adds ready still =
-    let here = rw (open_whole r.scene.entries was) at (phase_of_action_next room.follows at e adds ready) in
-    omega (arith, here)
-
 pub done_input : EntryLaws → {r : RoomModel} {new : SceneModel End} {next : ℕ} {dev : Device} {routed : Routed}
     → IsRoom r → IsUserNext r.parts.scripts r.parts.input r.counts next (inputs.Device dev)
     → r.phase ≡ input_phases_before r.parts.input next
@@ -76,9 +53,12 @@ done_input laws {r = r} {new = new} {dev = dev} {routed = routed} room at ready 
     record {
       added = added;
       open_is = open_is;
-      inks = λ t. ap (λ (g : Sight). g.ink) (painted.sights t) ∙ inks_before laws room was added t;
+      inks = λ t. rw (painted.sights t) (inks_before laws room was added t);
       watching = λ t. ap (λ (g : Sight). g.stages) (painted.sights t);
-      near = near_then laws room was added (action_in_phase room was at adds_input ready)
+      near = near_then laws room was added
+          (λ still. let here = rw (open_whole r.scene.entries was)
+          at (phase_of_action_next room.follows at (entry.Input dev routed) adds_input ready) in
+          omega (arith, here))
           (λ t. lenses_show laws room was added t refl) (λ t call rep same. absurd cc) painted;
       keeps = clean_painted r.scene new (entry.Input dev routed) (state_later laws added) painted;
     }
@@ -91,37 +71,13 @@ done_shot laws {r = r} {new = new} {number = number} room was is added open_is =
     record {
       added = added;
       open_is = open_is;
-      inks = λ t. ap (λ (p : SceneModel End). (glass_in (sights p) t).ink) is ∙ inks_before laws room was added t;
-      watching = λ t. ap (λ (p : SceneModel End). (glass_in (sights p) t).stages) is;
-      near = rw (ap (λ (p : SceneModel End). p.raw) is)
-          (near_more laws r.scene.config r.parts.scripts r.parts.input r.scene.entries
-          (entry.Shot number) r.scene.raw r.scene.raw
-          (legal_then laws room was added) (λ k inside dirty. absurd cc) (λ k clean. refl)
-          (near_before laws room was added));
-      keeps = λ k clean. ap (λ (p : SceneModel End). slice_index_or p.raw k 0) is;
-    }
-
--- ---- the user's pass
-
-pub user_action : {r : RoomModel} {l : InputLine} {e : Entry} {u : UserPassModel} {share share' : ShareModel} (name : _)
-    (known : List Entry) (raws : List (List ℕ)) → IsRoom r → IsUserPass u share → u.input ≡ r.parts.input
-    → slice_get u.input u.next ≡ Some l
-    → AddsAction l e → slice_index r.counts (length r.parts.scripts) ≡ u.next → share'.count ≡ share.count + 1
-    → known ≡ without_final r.scene.entries ++ e ∷ []
-    → IsUserPass (record u { number = share'.number; next = u.next + 1; name = name; seen = known; raws = raws })
-    share'
-user_action {r = r} {l = l} {e = e} {u = u} name known raws room is same at adds counted es ek =
-    record {
-      number = refl;
-      counted = es ∙ ap (λ (n : ℕ). n + 1) is.counted;
-      within = let w = slice_get_within u.input u.next l at in omega (arith, w);
-      phase = is.phase ∙ sym (counted_same is_input_phase u.input u.next l at adds.no_phase);
-      known = rw (
-        ek,
-        actions_of-append (without_final r.scene.entries) (e ∷ []),
-        actions_known u.input room same counted,
-        adds.action_is,
-      ) (sym (actions_line u.input u.next l at));
+      inks = λ t. rw is (inks_before laws room was added t);
+      watching = λ t. rw is refl;
+      near = rw is
+          (near_more r.scene.config r.parts.scripts r.parts.input r.scene.entries (entry.Shot number) laws r.scene.raw
+          r.scene.raw (legal_then laws room was added) (near_before laws room was added)
+          (λ k inside dirty. absurd cc) (λ k clean. refl));
+      keeps = λ k clean. rw is refl;
     }
 
 -- ---- what an action finds
@@ -146,20 +102,117 @@ found_user {r₀ = r₀} {r = r} {u₀ = u₀} l er eu met of at ready =
       ready = ready;
     })
 
--- the user's pass that has met the room knows the user's entries so far
-pub user_met : {r : RoomModel} {u : UserPassModel} {share share' : ShareModel} (known : List Recorded)
-    → IsRoom r → u.input ≡ r.parts.input → slice_index r.counts (length r.parts.scripts) ≡ u.next → IsUserPass u share
-    → share' ≡ record share { seen = known } → entries_in known ≡ without_final r.scene.entries
-    → IsUserPass (record u {
-      number = share'.number;
-      name = share'.name;
-      seen = entries_in share'.seen;
-      raws = raws_in share'.seen;
-    }) share'
-user_met {u = u} known room same counted is e all = record {
-  number = refl;
-  counted = rw e is.counted;
-  within = is.within;
-  phase = is.phase;
-  known = rw (e, all) (actions_known u.input room same counted);
+-- the phase that is served is the one of the user's next line
+pub user_ready : {r : RoomModel} {u : UserPassModel} {share : ShareModel} {l : InputLine} → IsUserPass u share
+    → FoundUser r u l → r.phase ≡ input_phases_before r.parts.input u.next
+user_ready is f = rw (← f.ready, ← f.input_is) is.phase
+
+-- ---- what an action leaves
+
+-- the user's pass behind a line that its share counted
+abbrev pub user_with : UserPassModel → ShareModel → UserPassModel
+user_with u share = record u {
+  number = share.number;
+  next = u.next + 1;
+  name = share.name;
+  seen = entries_in share.seen;
+  raws = raws_in share.seen;
 }
+
+-- the room and the user's pass at an action, and the scene, the book and the share behind it
+pub record IsAction (r : RoomModel) (u : UserPassModel) (new : SceneModel End) (book book' : BookModel)
+    (share share' : ShareModel) (l : InputLine) (e : Entry) : Type 0 where
+  pub room : IsRoom (room_of r r.scene book)
+  pub booked : entries_in book.entries ≡ without_final r.scene.entries
+  pub user : IsUserPass u share
+  pub name : share.name ≡ u.name
+  pub found : FoundUser (room_of r r.scene book) u l
+  pub adds : AddsAction l e
+  pub did : IsDone r.parts.scripts r.parts.input r.scene new e
+  pub book_is : book' ≡ book_then book e new.raw share.number
+  pub share_is : share' ≡ record share { count = share.count + 1; seen = book'.entries }
+
+module _ {r : RoomModel} {u : UserPassModel} {new : SceneModel End} {book book' : BookModel} {share share' : ShareModel}
+    {l : InputLine} {e : Entry} (a : IsAction r u new book book' share share' l e) where
+  was_open : IsOpen r.scene.entries
+  was_open = user_open a.room a.found.next_is
+
+  -- the share knows the book, in which the entry is the last one
+  share_knows : entries_in share'.seen ≡ without_final r.scene.entries ++ e ∷ []
+  share_knows = seen_more book.entries e new.raw (rw (a.share_is, a.book_is) refl) a.booked
+
+  pub action_room : EntryLaws
+      → IsRoom (room_of r new book') × (entries_in book'.entries ≡ without_final new.entries)
+  action_room laws =
+      let m = length r.parts.scripts in
+      let room = a.room in
+      let at = a.found.next_is in
+      let did = a.did in
+      let ready = user_ready a.user a.found in (
+        rw (
+          a.book_is,
+          a.user.number,
+          a.found.number_is,
+          raws_more book.entries e new.raw,
+          user_raised m book.counts,
+          user_back m book.counts,
+        )
+            (room_grown laws room was_open did.added _ (raised (take (m + 1) book.counts) m)
+            (goes_on room was_open did.open_is did.added did.keeps) did.near did.inks
+            (λ t inside. watching_other laws room was_open did.added t inside did.open_is (did.watching t)
+            (a.adds.no_call t))
+            (rw (← booked_more was_open did.open_is did.added) (follows_action room.follows at e a.adds ready))
+            (same_phase (user_ends room.follows.each at)
+            (counted_same is_input_phase r.parts.input u.next l at.line_is a.adds.no_phase) room.phases)
+            (inl did.open_is)),
+        rw a.book_is (seen_more book.entries e new.raw refl a.booked ∙ booked_more was_open did.open_is did.added),
+      )
+
+  pub action_user : IsUserPass (user_with u share') share'
+  action_user =
+      let f = a.found in
+      record {
+        number = refl;
+        counted = rw a.share_is (ap (λ (n : ℕ). n + 1) a.user.counted);
+        within = omega (arith, slice_get_within u.input u.next l f.own_line);
+        phase = a.user.phase ∙ sym (counted_same is_input_phase u.input u.next l f.own_line a.adds.no_phase);
+        known = rw (
+          share_knows,
+          actions_of-append (without_final r.scene.entries) (e ∷ []),
+          actions_known u.input a.room f.input_is f.next_is.counted,
+          a.adds.action_is,
+        ) (sym (actions_line u.input u.next l f.own_line));
+      }
+
+  module _ {r₀ r₁ : RoomModel} {u₀ u₁ : UserPassModel} (er : room_of r r.scene book ≡ r₁)
+      (met : UserHasMet r₀ u₀ r₁ u₁) where
+    pub action_acted : u ≡ u₁ → HasActed r₀ u₀ (room_of r new book') (user_with u share')
+    action_acted eu =
+        let known : entries_in share'.seen ≡ new.entries =
+        rw (share_knows, open_whole r.scene.entries was_open, a.did.added.recorded) refl in
+        let raws : raws_in share'.seen ≡ raws_in book'.entries = rw a.share_is refl in
+        let number : share'.number ≡ u.number = rw a.share_is a.user.number in
+        let name : share'.name ≡ u.name = rw a.share_is a.name in
+        let added = a.did.added in
+        record {
+          user = (λ i. record u { number = number i; next = u.next + 1; name = name i; seen = known i; raws = raws i })
+              ∙ ap (λ (x : UserPassModel). record x {
+                next = x.next + 1;
+                seen = new.entries;
+                raws = raws_in book'.entries;
+              }) (eu ∙ met.user);
+          before = before_open u₀.seen (er ∙ met.room) was_open met.before;
+          raws_before = met.raws_before;
+          counted = met.counted;
+          legal = rw (← (er ∙ met.room), ← added.config) added.legal;
+          history = rw (← (er ∙ met.room), a.book_is, raws_more book.entries e new.raw)
+              (rw (open_whole new.entries a.did.open_is)
+              at (goes_on a.room was_open a.did.open_is added a.did.keeps).history);
+          unended = a.did.open_is;
+        }
+
+    pub action_entered : {e₀ : Entry} → e ≡ e₀ → buffers_of new.glasses ≡ buffers_of r.scene.glasses
+        → room_of r new book' ≡ with_entry r₀ (length r₀.parts.scripts) e₀ new.raw new.glasses
+    action_entered ee buffers = entered r book (er ∙ met.room) a.did.added
+        (rw (a.user.number, a.found.number_is) at a.book_is) (omega arith)
+        (ap (λ (x : RoomModel). length x.parts.scripts) (er ∙ met.room)) ee buffers

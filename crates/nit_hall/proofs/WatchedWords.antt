@@ -12,31 +12,6 @@ use Rattle.nit_events.specs.declared.entry.Entry.TheVariants as entry
 use Rattle.nit_hall.proofs.Stretches.{stretch_same}
 use Rattle.nit_hall.proofs.NearLemmas.{ink_behind, told_word}
 
--- a word of the table that was left by a number of lines that end so many phases at most, and of
--- which so many are calls
-pub record IsLeftBy (script : List Line) (donation made ended i w : ℕ) : Type 0 where
-  pub lines : ℕ
-  pub calls : length (calls_in (take lines script)) ≡ made
-  pub phases : phases_before script lines ≤ ended
-  pub word : w ≡ slice_index (words_after script donation lines) i
-
--- what was loaded through such an end was left by the lines of its stretch
-pub left_by_stretch : (script : List Line) (donation made ended i w : ℕ) (g : Sight)
-    → KnowsStretch script donation made ended g → IsLoaded g i w → IsLeftBy script donation made ended i w
-left_by_stretch script donation made ended i w g watch loaded =
-    let stage : IsAmong (stretch script donation watch.since) i w =
-    subst (λ (o : Option (List (List ℕ))). IfSome o (λ stages. IsAmong stages i w)) watch.stages_are loaded.stage in
-    let n = within_only script donation watch.since (stretch_end script watch.since) i w stage in
-    let same = stretch_same script watch.since n.0 n.1 n.2 in
-    let phases = same.1 in
-    let begun = watch.begun in
-    record {
-      lines = n.0;
-      calls = ap length same.0 ∙ watch.behind;
-      phases = omega (arith, phases, begun);
-      word = n.3;
-    }
-
 -- ---- a session that there is not makes no call
 
 no_calls_from : (s : State) (taken t : ℕ) (entries : List Entry) → length s.sessions ≤ t → LegalFrom s taken entries
@@ -52,10 +27,6 @@ no_calls_from s taken t (entry.Input dev routed ∷ rest) past legal =
     (let same = as_many s (entry.Input dev routed) in omega (arith, same, past)) legal.1
 no_calls_from s taken t (entry.Shot number ∷ rest) past legal = no_calls_from s (taken + 1) t rest past legal.1
 no_calls_from s taken t (entry.Final ∷ rest) past legal = ap (calls_of t) legal
-
-pub no_calls : (config : Configuration) (t : ℕ) (entries : List Entry) → length (first_state config).sessions ≤ t
-    → IsLegal config entries → calls_of t entries ≡ []
-no_calls config t entries past legal = no_calls_from (first_state config) 0 t entries past legal
 
 -- ---- what is shown of a session behind the next entry
 
@@ -73,18 +44,26 @@ pub lens_shows : (config : Configuration) (scripts : List (List Line)) (ended : 
     → calls_of t (e ∷ []) ≡ [] → (i w : ℕ) → IsLoaded g i w → WasLeft config scripts ended t (entries ++ e ∷ []) i w
 lens_shows config scripts ended entries e t g legal sessions inked watch none i w loaded =
     elim (cases_lt t (length scripts)) [
-      | inl inside ↦ let l = left_by_stretch _ _ _ _ i w g (watch inside) loaded in (
-        l.lines,
-        record {
-          calls = rw (calls_of-append t entries (e ∷ []), none, append-nil) l.calls;
-          phases = λ still_open. l.phases;
-        },
-        l.word,
-      )
+      | inl inside ↦
+          let known = watch inside in
+          let script = script_in scripts t in
+          let donation = donation_of config t in
+          let stage : IsAmong (stretch script donation known.since) i w = rw known.stages_are at loaded.stage in
+          let n = within_only script donation known.since (stretch_end script known.since) i w stage in
+          let same = stretch_same script known.since n.0 n.1 n.2 in
+          let phases = same.1 in
+          let begun = known.begun in (
+            n.0,
+            record {
+              calls = rw (calls_of-append t entries (e ∷ []), none, append-nil) (ap length same.0 ∙ known.behind);
+              phases = λ still_open. omega (arith, phases, begun);
+            },
+            n.3,
+          )
       | inr past ↦
           let no_script : script_in scripts t ≡ [] = get_or_past scripts t [] past in
           let zero_ = no_ink i w (rw (inked, ← ink_behind config scripts t past) at loaded.inked) in
-          let silent = no_calls config t (entries ++ e ∷ [])
+          let silent = no_calls_from (first_state config) 0 t (entries ++ e ∷ [])
           (omega (arith, as_many_as_clients config [], sessions, past)) legal in (
             0,
             record { calls = rw silent refl; phases = λ still_open. omega arith },

@@ -1,8 +1,7 @@
-use Rattle.std.proofs.Common.{List, Some, [], ap, length, slice_get, ◌∙◌, ◌≡◌}
-use Rattle.nit_hall.proofs.Lemmas.{Configuration, all_agree, arith, blank_at, donation_at}
-use Rattle.nit_hall.proofs.Lemmas.{donation_of, end_with, get_or, get_or_default, none_agree}
-use Rattle.nit_hall.proofs.Lemmas.{one_agrees, script_in, slice_get-get_or, stretch, watching_sight}
-use Rattle.nit_hall.proofs.Lemmas.{ℕ}
+use Rattle.std.proofs.Common.{refl, List, Some, [], ap, length, slice_get, ◌∙◌, ◌≡◌}
+use Rattle.nit_hall.proofs.Lemmas.{Configuration, all_agree, arith, donation_at, donation_of}
+use Rattle.nit_hall.proofs.Lemmas.{end_with, get_or, get_or_default, none_agree, one_agrees}
+use Rattle.nit_hall.proofs.Lemmas.{script_in, slice_get-get_or, stretch, watching_sight, ℕ}
 use Rattle.nit_hall.proofs.opening.lenses_of.Goals as goal
 use Rattle.nit_hall.proofs.opening.lenses_of.Goals.{After-index-clients-k}
 
@@ -26,8 +25,7 @@ facts_at c =
     let long = c.canvases.invariant.long in
     let many = c.requires.canvases.canvas_each in
     let sessions = c.requires.sessions in
-    let clients : c.as_slice-clients.result.now ≡ c.args.config.now.clients = c.as_slice-clients.ensures.value
-    ∙ ap (λ (k : Configuration). k.clients) c.config.view_is in
+    let clients = c.as_slice-clients.ensures.value ∙ ap (λ (k : Configuration). k.clients) c.config.view_is in
     let listed = ap length clients in
     let script = c.index-scripts-k.is ∙ get_or_default c.args.scripts.now c.canvases.k c.index-scripts-k.result []
     (omega (arith, inside, many, sessions)) in
@@ -43,18 +41,20 @@ facts_at c =
 pub canvases-preserved : goal.canvases-preserved
 canvases-preserved c =
     let here = facts_at (goal.at.canvases-preserved c).After-index-clients-k in
-    let own = get_or c.canvases.canvases c.canvases.k c.index-canvases-k.result in
     rw c.in_ok-push.ensures.items (one_agrees c.args.config.now c.args.scripts.now c.canvases.k c.args.canvases.now
     c.canvases.canvases c.canvases.lenses.items _ _ _ c.canvases.invariant here.there
-    (c.agree_first-lens.ensures.canvas ∙ ap (λ (stages : List (List ℕ)). end_with stages own) here.stages)
-    (c.agree_first-lens.ensures.lens ∙ ap (λ (stages : List (List ℕ)). watching_sight stages own.sight) here.stages)
+    (rw (c.agree_first-lens.ensures.canvas, here.stages) refl)
+    (rw (c.agree_first-lens.ensures.lens, here.stages) refl)
     c.agree_first-lens.ensures.buffer)
 
 pub agree_first-lens-requires-clause-blank : goal.agree_first-lens-requires-clause-blank
 agree_first-lens-requires-clause-blank c =
     let here = facts_at c in
-    blank_at c.args.config.now c.args.scripts.now c.args.canvases.now c.canvases.k _ _ _ c.requires.canvases
-    (c.canvases.invariant.left c.canvases.k _ (omega arith) here.there) here.script here.donation
+    rw (
+      here.script,
+      here.donation,
+      c.requires.canvases.blank c.canvases.k _ (c.canvases.invariant.left c.canvases.k _ (omega arith) here.there),
+    ) refl
 
 pub returns-clause-canvases : goal.returns-clause-canvases
 returns-clause-canvases c =

@@ -1,8 +1,18 @@
-use Rattle.nit_hall.proofs.Lemmas.{clip_pass_phase}
+use Rattle.std.proofs.Common.{refl, ap, ℕ, ◌+◌, ◌<◌, ◌∙◌}
+use Rattle.nit_hall.proofs.Lemmas.{arith, counted_more, is_clip_phase, length, slice_get_within}
+use Rattle.nit_hall.proofs.Lemmas.{sym}
 use Rattle.nit_hall.proofs.clip_pass.ClipPass.turn.Goals as goal
 
 pub invariant_of-self : goal.invariant_of-self
 invariant_of-self c =
+    let is = c.self.invariant in
+    let script = c.self.inside.script.now in
+    let k = c.self.inside.next in
     let at = rw (← c.self.view_is) at c.requires.next in
     let ahead = rw (← c.self.view_is, ← c.pass.view_is) at c.requires.ahead in
-    clip_pass_phase c.calls_of_a_clip_script.ensures.end _ _ _ c.self.invariant at ahead
+    record {
+      number = is.number;
+      counted = is.counted ∙ ap length (sym (c.calls_of_a_clip_script.ensures.end script k at));
+      within = let w : k < length script = slice_get_within _ _ _ at in omega (arith, w);
+      phase = ahead ∙ ap (λ (n : ℕ). n + 1) is.phase ∙ sym (counted_more is_clip_phase script k _ at refl);
+    }

@@ -1,10 +1,11 @@
-use Rattle.std.proofs.Common.{ap, drop, length, refl, subst, sym, take, ◌+◌, ◌∙◌, ◌≡◌, ◌≤◌}
+use Rattle.std.proofs.Common.{◌<◌, ℕ, ap, drop, length, refl, subst, sym, take, ◌+◌, ◌∙◌, ◌≡◌, ◌≤◌}
 use Rattle.nit_hall.proofs.Lemmas.{BookModel, ClipPassModel, Entry, FoundClip, IsLegalClips, IsRoom}
 use Rattle.nit_hall.proofs.Lemmas.{JournalModel, List, PassModel, RoomModel, ShareModel, arith}
-use Rattle.nit_hall.proofs.Lemmas.{back_raised, clip_answer, clip_counted, clip_pass_call}
-use Rattle.nit_hall.proofs.Lemmas.{clipboard_of, entries_in, follows_then, front_of_each, next_clip}
-use Rattle.nit_hall.proofs.Lemmas.{number_is, open_whole, raws_in, room_clip, room_left}
-use Rattle.nit_hall.proofs.Lemmas.{served_clip, slice_index, state_now, stretch_from, take-set-le}
+use Rattle.nit_hall.proofs.Lemmas.{back_raised, clip_answer, clip_counted, clip_entry, clipboard_of}
+use Rattle.nit_hall.proofs.Lemmas.{counted_same, entries_in, follows_then, front_of_each}
+use Rattle.nit_hall.proofs.Lemmas.{is_clip_phase, left_of, length-append, next_clip, number_is}
+use Rattle.nit_hall.proofs.Lemmas.{open_whole, raws_in, room_clip, room_left, slice_get_within}
+use Rattle.nit_hall.proofs.Lemmas.{slice_index, state_now, stretch_from, take-set-le, with_clip}
 use Rattle.nit_hall.proofs.Lemmas.{with_room_stages, with_stages, without_final}
 use mathlib.Core.List.{IsPrefix}
 use Rattle.nit_hall.proofs.room.Room.clip.Goals as goal
@@ -62,21 +63,33 @@ booked_at c = c.self.invariant.1
 pub returns-clause-room : goal.returns-clause-room
 unfolding admitted
 returns-clause-room c =
+    let r : RoomModel = left_of c.self.view_is in
     let er = c.self.view_is ∙ c.admit.ensures.room in
     let n = length c.self.inside.parts.scripts.now + 1 in
+    let old = c.self.inside.book.counts in
+    let share = c.clip.inside.share.number in
     let number = number_is er c.clip.view_is c.clip.invariant c.requires.clip.clip_belongs in
     let call = c.next_clip-call.ensures.call ∙ ap next_clip (sym c.clip.view_is) in
     let at = ap length (c.entries.ensures ∙ ap (λ (j : JournalModel). j.entries) c.journal.ensures.entries) in
-    let counts = ap (λ (b : BookModel). b.counts) c.count.ensures.book in
-    served_clip _ (admitted c.args.self.now c.args.pass.now) _ c.args.clip.now c.count.new.self c.serve-reply.new.self
-    n _ c.focus.result
-    c.next_clip-call.result c.serve-reply.result er c.clip.view_is refl
-    (ap (λ (b : BookModel). b.name) c.count.ensures.book)
-    (ap (take n) counts ∙ take-set-le n c.self.inside.book.counts c.clip.inside.share.number
-    (slice_index c.self.inside.book.counts c.clip.inside.share.number + 1) (omega (arith, number)))
-    (ap (drop n) counts ∙ back_raised n c.clip.inside.sid c.clip.inside.share.number c.self.inside.book.counts number)
-    at c.focus.ensures call c.serve-reply.ensures.recorded
-    (ap (λ (b : BookModel). raws_in b.entries) c.count.ensures.book)
+    let book = c.count.ensures.book in
+    let front = ap (λ (b : BookModel). take n b.counts) book
+    ∙ take-set-le n old share (slice_index old share + 1) (omega (arith, number)) in
+    let back = ap (λ (b : BookModel). drop n b.counts) book ∙ back_raised n c.clip.inside.sid share old number in
+    (λ i. record r {
+      parts = record r.parts { name = ap (λ (b : BookModel). b.name) book i };
+      counts = front i;
+      clips = c.serve-reply.ensures.recorded i;
+      clip_counts = back i;
+      raws = ap (λ (b : BookModel). raws_in b.entries) book i;
+    })
+    ∙ (λ i. with_clip r (record {
+      at = at i;
+      sid = c.clip.inside.sid;
+      focus = c.focus.ensures i;
+      call = call i;
+      reply = c.serve-reply.result;
+    }))
+    ∙ (λ i. with_clip (er i) (clip_entry (er i) (c.clip.view_is i) c.serve-reply.result))
 
 pub invariant_of-self : goal.invariant_of-self
 unfolding admitted
@@ -89,8 +102,18 @@ invariant_of-self c =
     )
 
 pub invariant_of-clip : goal.invariant_of-clip
-invariant_of-clip c = clip_pass_call c.one_more_call.ensures _ _ c.count.new.share c.clip.invariant
-    (rw (← c.clip.view_is) at c.requires.clip.next) (ap (λ (s : ShareModel). s.count) c.count.ensures.share)
+invariant_of-clip c =
+    let is = c.clip.invariant in
+    let script = c.clip.inside.script.now in
+    let k = c.clip.inside.next in
+    let next = rw (← c.clip.view_is) at c.requires.clip.next in
+    let call = c.one_more_call.ensures.call script k (next_clip (left_of c.clip.view_is)) next in
+    record {
+      number = refl;
+      counted = rw (c.count.ensures.share, call, length-append) (ap (λ (n : ℕ). n + 1) is.counted);
+      within = let w : k < length script = slice_get_within _ _ _ next in omega (arith, w);
+      phase = is.phase ∙ sym (counted_same is_clip_phase script k _ next refl);
+    }
 
 pub returns-clause-pass : goal.returns-clause-pass
 returns-clause-pass c =
@@ -111,8 +134,7 @@ returns-clause-clip c =
     record q { next = q.next + 1; number = number i; name = name i; seen = known i }
 
 pub returns-clause-before : goal.returns-clause-before
-returns-clause-before c = subst (λ (js : List Entry). IsPrefix c.args.pass.now.seen js) (open_whole _ c.requires.«open»)
-    c.admit.ensures.before
+returns-clause-before c = rw (open_whole _ c.requires.«open») at c.admit.ensures.before
 
 pub returns-clause-clip_before : goal.returns-clause-clip_before
 returns-clause-clip_before c =

@@ -1,18 +1,18 @@
-use Rattle.nit_hall.proofs.Lemmas.{arith, front_of_each, get_or-take, length, pass_counted}
-use Rattle.nit_hall.proofs.Lemmas.{pass_met, slice_get_within}
-use Rattle.std.proofs.Common.{rules, ◌+◌, ◌<◌, ◌∙◌}
+use Rattle.nit_hall.proofs.Lemmas.{arith, calls_in, calls_made, calls_of, entries_in, front_of_each}
+use Rattle.nit_hall.proofs.Lemmas.{get_or-take, left_of, length, pass_counted, slice_get_within}
+use Rattle.nit_hall.proofs.Lemmas.{take}
+use Rattle.std.proofs.Common.{◌≡◌, rules, ◌+◌, ◌<◌, ◌∙◌}
 use Rattle.nit_hall.proofs.room.Room.meet.Goals as goal
 
 pub invariant_of-pass : goal.invariant_of-pass
 invariant_of-pass c =
-    let of = rw (← c.pass.view_is) at c.requires in
-    let here = rw (← c.self.view_is) at of in
-    let below : c.pass.inside.share.number < length c.self.inside.parts.scripts.now + 1 = let h =
-    slice_get_within c.self.inside.parts.scripts.now c.pass.inside.sid c.pass.inside.script.now here.script in
-    let n = c.pass.invariant.number in omega (arith, h, n) in
-    pass_met _ c.self.invariant.0 c.self.view_is of c.pass.invariant
-    (get_or-take _ c.self.inside.book.counts _ 0 below ∙ c.meet.ensures.before.counted) c.self.invariant.1
-    c.meet.ensures.share
+    let of = rw (← c.pass.view_is, ← c.self.view_is) at c.requires in
+    let counted = pass_counted c.self.inside.book.counts c.pass.invariant of c.meet.ensures.before.counted in
+    let knows : calls_of c.pass.inside.sid (entries_in c.self.inside.book.entries)
+    ≡ calls_in (take c.pass.inside.next c.pass.inside.script.now) =
+    rw c.self.invariant.1 (calls_made (left_of c.self.view_is) _ _ _ c.self.invariant.0 of.script counted) in
+    let is = c.pass.invariant in
+    rw c.meet.ensures.share assumption
 
 pub returns : goal.returns
 returns c =

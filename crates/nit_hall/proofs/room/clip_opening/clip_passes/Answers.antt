@@ -1,5 +1,5 @@
-use Rattle.std.proofs.Common.{List, [], ap, arith, length, length-append, replicate, ℕ, ◌++◌, ◌+◌}
-use Rattle.std.proofs.Common.{◌∙◌, ◌∷◌, ◌≡◌}
+use Rattle.std.proofs.Common.{refl, List, [], ap, arith, length, length-append, replicate, ℕ, ◌++◌}
+use Rattle.std.proofs.Common.{◌+◌, ◌∙◌, ◌∷◌, ◌≡◌}
 use Rattle.nit_hall.proofs.Lemmas.{BookModel, ShareModel, clip_script_in, each_more, entries_in}
 use Rattle.nit_hall.proofs.Lemmas.{get_or_default, length-replicate, new_clip_pass, zeros_behind}
 use Rattle.nit_hall.proofs.room.clip_opening.clip_passes.Goals as goal
@@ -11,25 +11,15 @@ scripts-preserved c =
     let k = c.scripts.script-index in
     let counts = c.args.book.now.counts in
     let pushed = c.in_ok-push.ensures.items in
-    let number = ap (λ (x : ShareModel). x.number) s.share ∙ ap (λ (b : BookModel). length b.counts) i.book_is
-    ∙ length-append counts (replicate k 0) ∙ ap (λ (n : ℕ). length counts + n) (length-replicate k 0) in
-    let name = ap (λ (x : ShareModel). x.name) s.share ∙ ap (λ (b : BookModel). b.name) i.book_is in
-    let seen = ap (λ (x : ShareModel). entries_in x.seen) s.share
-    ∙ ap (λ (b : BookModel). entries_in b.entries) i.book_is in
+    let long : length (counts ++ replicate k 0) ≡ length counts + k =
+    length-append counts (replicate k 0) ∙ ap (λ (n : ℕ). length counts + n) (length-replicate k 0) in
     let script : c.script-item.result ≡ clip_script_in c.args.scripts.now k = c.script-item.is
     ∙ get_or_default c.args.scripts.now k c.script-item.result [] (omega arith) in
-    let is : c.new.result ≡ new_clip_pass c.args.book.now c.args.scripts.now k = c.new.ensures
-    ∙ (λ j. record (new_clip_pass c.args.book.now c.args.scripts.now k) {
-      sid = i.counted j;
-      number = number j;
-      name = name j;
-      script = script j;
-      seen = seen j;
-    }) in
+    let is : c.new.result ≡ new_clip_pass c.args.book.now c.args.scripts.now k =
+    rw (c.new.ensures, s.share, i.book_is, long, i.counted, script) refl in
     record {
       counted = ap (λ (n : ℕ). n + 1) i.counted;
-      book_is = s.book ∙ ap (λ (b : BookModel). record b { counts = b.counts ++ 0 ∷ [] }) i.book_is
-          ∙ ap (λ (cs : List ℕ). record c.args.book.now { counts = cs }) (zeros_behind counts k);
+      book_is = rw (s.book, i.book_is, zeros_behind counts k) refl;
       passes_are = let n = ap length pushed in let m =
           i.passes_are in omega (arith, n, m, length-append c.scripts.passes.items (c.new.result ∷ []));
       each = each_more (λ j q. q ≡ new_clip_pass c.args.book.now c.args.scripts.now j) c.scripts.passes.items _ k
