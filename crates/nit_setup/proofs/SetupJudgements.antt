@@ -110,7 +110,8 @@ pub first_not : (Right : List (List Line) → Type 0) (wrong : List (List Line) 
     → ((some : List (List Line)) (lines : List Line) (more : List (List Line)) → Right (some ++ lines ∷ more)
     → wrong some lines ≡ None)
     → (files : List File) (before : List (List ℕ)) (name : List ℕ) (behind : List (List ℕ))
-    (all some : List (List Line)) (f : Fault) → SpellScripts files (before ++ name ∷ behind) all → Right all → SpellScripts files before some
+    (all some : List (List Line)) (f : Fault)
+    → SpellScripts files (before ++ name ∷ behind) all → Right all → SpellScripts files before some
     → IsFaulty FitsLine line_spelling (wrong some) (bytes_of name files) f → ⊥
 first_not Right wrong right_here files before name behind all some f spelled right front r =
     let here = spelled_at files before name behind all some spelled front in
