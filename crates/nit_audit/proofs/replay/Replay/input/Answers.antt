@@ -18,4 +18,5 @@ returns c =
     input_played c.args.config.now c.args.dev c.route-told.result c.args.routed.now c.args.self.now
     c.route-told.new.self c.deliver.new.self c.deliver-2.new.self c.deliver-3.new.self c.count.new.self
     c.requires.going.kept (c.is_same.ensures.0 (search rules)) c.route-told.ensures.routed
-    c.route-told.ensures.all c.route-told.ensures.input c.deliver.ensures c.deliver-2.ensures c.deliver-3.ensures c.count.ensures
+    c.route-told.ensures.all c.route-told.ensures.input c.deliver.ensures
+    c.deliver-2.ensures c.deliver-3.ensures c.count.ensures
