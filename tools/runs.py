@@ -2,6 +2,7 @@
 import importlib.machinery
 import importlib.util
 import os
+import re
 import subprocess
 import sys
 import time
@@ -84,11 +85,14 @@ class Outcome:
 
 
 def program_at(path):
-    """The program itself, where the path is that of the script that builds it."""
+    """The program itself, where the path is that of the script that builds it. Its runs then have
+    the pages of memory that the script asks for."""
     program = Path(path).resolve()
     crate = program.parent.parent / "crates" / "nitpicker"
     if program.parent.name == "bin" and crate.is_dir():
         subprocess.run([program], stdout=subprocess.DEVNULL, check=False)
+        if asked := re.search(r"{GLIBC_TUNABLES-(.*)}", program.read_text(encoding="utf8")):
+            os.environ.setdefault("GLIBC_TUNABLES", asked[1])
         program = crate / "out" / "nitpicker"
     if not (program.is_file() and os.access(program, os.X_OK)):
         raise WrongWords(f"{path}: not a program")
