@@ -1,24 +1,24 @@
 -- What follows of a run that was begun, and that an audit begins none and puts nothing.
-use Rattle.std.proofs.Common.{◌≡◌, List, [], ◌∷◌, ◌++◌, Option, Some, None, refl, ap, subst, ◌∙◌}
-use Rattle.std.proofs.Common.{inl, inr, true, ◌⊎◌}
-use Rattle.nit_top.proofs.Basics.{Audit, AuditOr, Begun, Capture, Clip, Command, Course, Entry}
-use Rattle.nit_top.proofs.Basics.{File, Gen, IsAudit, IsCommandRun, IsSetupOf, IsSomeAnd, IsValidSo}
-use Rattle.nit_top.proofs.Basics.{Nested, NoCommand, NotBegun, PutFiles, Run, Setup, Still}
-use Rattle.nit_top.proofs.Basics.{StoreModel, WithRun, WithoutRun, made_by}
+use Rattle.nit_top.proofs.ToldJudgements.{some_so}
+use Rattle.std.proofs.Common.{◌≡◌, List, [], ◌∷◌, ◌++◌, Option, Some, None, refl, ap, ◌∙◌, inl, inr}
+use Rattle.std.proofs.Common.{true, ◌⊎◌}
+use Rattle.nit_top.proofs.Basics.{Audit, AuditOr, Begun, Command, Course, Entry, File, IsAudit}
+use Rattle.nit_top.proofs.Basics.{IsCommandRun, IsSetupOf, IsSomeAnd, IsValidSo, NotBegun, PutFiles}
+use Rattle.nit_top.proofs.Basics.{Setup, StoreModel, WithRun, WithoutRun, made_by}
 
 -- ---- the run
 
 -- what follows of a run
 pub with_run : {old : StoreModel} {c : Command} {journal : List Entry} (course : Course old c journal)
-    (P Q : IsCommandRun old c journal → Type 0) → ((run : IsCommandRun old c journal) → P run → Q run)
-    → WithRun course P → WithRun course Q
-with_run (Begun run) P Q f h = f run h
-with_run (NotBegun empty) P Q f h = h
+    {P Q : IsCommandRun old c journal → Type 0} → WithRun course P
+    → ((run : IsCommandRun old c journal) → P run → Q run) → WithRun course Q
+with_run (Begun run) h f = f run h
+with_run (NotBegun empty) h f = h
 
 pub with_run_not : {old : StoreModel} {c : Command} {journal : List Entry} (course : Course old c journal)
-    (P : IsCommandRun old c journal → Type 0) → ((run : IsCommandRun old c journal) → P run → ⊥) → WithRun course P → ⊥
-with_run_not (Begun run) P f h = f run h
-with_run_not (NotBegun empty) P f h = h
+    {P : IsCommandRun old c journal → Type 0} → WithRun course P → ((run : IsCommandRun old c journal) → P run → ⊥) → ⊥
+with_run_not (Begun run) h f = f run h
+with_run_not (NotBegun empty) h f = h
 
 pub without_run : {old : StoreModel} {c : Command} {journal : List Entry} (course : Course old c journal)
     → WithoutRun course → journal ≡ []
@@ -49,30 +49,19 @@ pub front_none : (front last : List File) → front ++ last ≡ [] → front ≡
 front_none [] last e = refl
 front_none (f ∷ front) last e = absurd cc
 
-none_put : (old new : Option (List File)) → PutFiles [] old new → new ≡ old
+pub none_put : (old new : Option (List File)) → PutFiles [] old new → new ≡ old
 none_put None new p = p
-none_put (Some all) new p = p.1 ∙ ap (λ (fs : List File). Some fs) p.2
-
-pub front_same : {new : Option (List File)} (front : List File) (old : Option (List File)) → front ≡ []
-    → PutFiles front old new → new ≡ old
-front_same {new = new} front old none p = none_put old new (subst (λ (fs : List File). PutFiles fs old new) none p)
+none_put (Some all) new p = p.1 ∙ ap Some p.2
 
 -- a fact of an audit, or one of a run, by what the command is
 pub by_command : {OfAudit OfRun : Type 0} (c : Command) → (OfAudit × IsAudit c) ⊎ (OfRun × (IsAudit c → ⊥))
     → AuditOr c OfAudit OfRun
 by_command (Audit configuration journal) (inl a) = a.0
 by_command (Audit configuration journal) (inr r) = absurd (r.1 tt)
-by_command (Still width height script) (inr r) = r.0
-by_command (Run beside configuration) (inr r) = r.0
-by_command (Gen number) (inr r) = r.0
-by_command (Clip configuration) (inr r) = r.0
-by_command (Capture configuration region) (inr r) = r.0
-by_command (Nested outer inner) (inr r) = r.0
-by_command NoCommand (inr r) = r.0
 by_command other (inl a) = absurd a.1
+by_command other (inr r) = r.0
 
 -- an audit films no region
 pub no_outside_audit : (k : Command) (told : Option (List File)) → IsAudit k → IsSomeAnd told (IsValidSo k true) → ⊥
-no_outside_audit (Audit configuration journal) None is v = v
-no_outside_audit (Audit configuration journal) (Some all) is v = let e = v.2 in cc
+no_outside_audit (Audit configuration journal) told is v = some_so told v (λ all w. let e = w.2 in cc)
 no_outside_audit other told is v = is

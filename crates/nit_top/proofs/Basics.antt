@@ -96,3 +96,5 @@ pub use Rattle.std.proofs.lemmas.List.{get_or-take, length-map, map-append, take
 pub use Rattle.std.proofs.lemmas.List.Elements.{All-from_recursion}
 pub use Rattle.std.proofs.lemmas.Nat.{div_below, mod_below, mul-add-lt}
 pub use Rattle.std.proofs.lemmas.Result.{err_from_is_err_and}
+pub use Rattle.nit_store.specs.Puts.{PutRefusal}
+pub use Rattle.std.proofs.lemmas.Option.{IfSome_then}

@@ -1,13 +1,14 @@
 -- The frames of an inner run are those of the pictures that a run by turns puts.
-use Rattle.std.proofs.Common.{◌≡◌, ◌∙◌, ℕ, List, [], ◌∷◌, ◌++◌, map, fold, refl, sym, ap, subst}
+use Rattle.nit_top.specs.Terms.{frame_of, raw_word}
+use Rattle.nit_top.proofs.Basics.{picture_of}
 use Rattle.nit_top.proofs.Basics.{ActorLine, AllByRecursion, AreOutputs, ByClient, ByUser}
 use Rattle.nit_top.proofs.Basics.{Configuration, Drawing, DrawnLaw, Entry, File, FrontsLaw}
 use Rattle.nit_top.proofs.Basics.{InputLine, IsJournal, IsLegal, Line, LineTurn, RunFiles}
 use Rattle.nit_top.proofs.Basics.{ShotFrame, State, after, after_turn, all_append, by_turns}
-use Rattle.nit_top.proofs.Basics.{drawn_shot, final_picture, frame_of, frames_of, last_frame}
-use Rattle.nit_top.proofs.Basics.{map-append, opening_drawing, picture, picture_of, pictures_in}
-use Rattle.nit_top.proofs.Basics.{raw_word, replay, rounds, shot_file, shot_frames_of, shots_after}
-use Rattle.nit_top.proofs.Basics.{tables_left}
+use Rattle.nit_top.proofs.Basics.{drawn_shot, final_picture, frames_of, last_frame, map-append}
+use Rattle.nit_top.proofs.Basics.{opening_drawing, picture, pictures_in, replay, rounds, shot_file}
+use Rattle.nit_top.proofs.Basics.{shot_frames_of, shots_after, tables_left}
+use Rattle.std.proofs.Common.{ap, ◌≡◌, ◌∙◌, ℕ, List, [], ◌∷◌, ◌++◌, map, fold, refl, sym}
 use Rattle.nit_rounds.specs.Drawing.{drawn}
 use Rattle.nit_events.specs.declared.entry.Entry.TheVariants as entry
 use Rattle.nit_script.specs.declared.line.InputLine.TheVariants as input
@@ -57,9 +58,8 @@ module _ (law : DrawnLaw) (more : MoreLaw) (fronts : FrontsLaw) (i : RunFiles) (
   state_is =
       let of_rounds = is_journal.rounds refl in
       let entries : List Entry = of_rounds.0 in
-      let legal : IsLegal i.config (entries ++ entry.Final ∷ []) =
-      subst (λ (es : List Entry). IsLegal i.config es) of_rounds.2 is_journal.legal in
-      ap (λ (es : List Entry). replay i.config es) of_rounds.2 ∙ more i.config entries entry.Final
+      let legal : IsLegal i.config (entries ++ entry.Final ∷ []) = rw of_rounds.2 at is_journal.legal in
+      rw of_rounds.2 (more i.config entries entry.Final)
       ∙ sym (law i.config i.scripts (rounds i.scripts i.input) entries
       (fronts i.config entries (entry.Final ∷ []) legal) of_rounds.1)
 
@@ -75,9 +75,9 @@ module _ (law : DrawnLaw) (more : MoreLaw) (fronts : FrontsLaw) (i : RunFiles) (
   frames_pictured files are =
       let shots : List ShotFrame = shot_frames_of i.config i.scripts i.input in
       let pictured : List ℕ → List ℕ = picture i.config.width i.config.height in
-      ap (λ (fs : List File). map (λ (f : File). f.1) fs ++ final_picture (by_turns i) journal ∷ [])
-      (are.1.by_rounds refl)
-      ∙ ap (λ (ps : List (List ℕ)). ps ++ final_picture (by_turns i) journal ∷ [])
-      (pictures_are i.config.width i.config.height shots (sized i.config i.scripts i.input))
-      ∙ ap (λ (p : List ℕ). map pictured (map (λ (f : ShotFrame). f.words) shots) ++ p ∷ []) last_pictured
-      ∙ sym (map-append pictured (map (λ (f : ShotFrame). f.words) shots) (last_frame i ∷ []))
+      rw (
+        are.1.by_rounds refl,
+        pictures_are i.config.width i.config.height shots (sized i.config i.scripts i.input),
+        last_pictured,
+      )
+      (sym (map-append pictured (map (λ (f : ShotFrame). f.words) shots) (last_frame i ∷ [])))

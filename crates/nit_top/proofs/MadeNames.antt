@@ -1,12 +1,12 @@
 -- The names of the files that are made before a run differ.
 use Rattle.std.proofs.Common.{◌≡◌, ◌≢◌, ℕ, zero, suc, ◌+◌, ◌<◌, ◌≤◌, List, [], ◌∷◌, ◌++◌, map, refl}
-use Rattle.std.proofs.Common.{sym, ap, ◌∙◌, subst, arith}
-use Rattle.nit_top.proofs.Basics.{Apart, Audit, Begin, Capture, Clip, Command, File, Gen}
-use Rattle.nit_top.proofs.Basics.{HasDifferentNames, IsSetupOf, Nested, NoCommand, OtherThan, Run}
-use Rattle.nit_top.proofs.Basics.{Setup, Still, all_append, append_cancel_left, append_cancel_right}
-use Rattle.nit_top.proofs.Basics.{client_text, codes, decimal, decimal_digit, decimal_injective}
-use Rattle.nit_top.proofs.Basics.{differ, generated_files, made_by, other_both, range_with_len}
-use Rattle.nit_top.proofs.Basics.{script_name, slice_index, user_text}
+use Rattle.std.proofs.Common.{sym, ap, ◌∙◌, arith}
+use Rattle.nit_top.proofs.Basics.{Apart, Audit, Begin, Command, File, Gen, HasDifferentNames}
+use Rattle.nit_top.proofs.Basics.{IsSetupOf, Nested, NoCommand, OtherThan, Setup, Still, all_append}
+use Rattle.nit_top.proofs.Basics.{append_cancel_left, append_cancel_right, client_text, codes}
+use Rattle.nit_top.proofs.Basics.{decimal, decimal_digit, decimal_injective, differ}
+use Rattle.nit_top.proofs.Basics.{generated_files, made_by, other_both, range_with_len, script_name}
+use Rattle.nit_top.proofs.Basics.{slice_index, user_text}
 
 -- ---- the scripts of a generated run
 
@@ -20,7 +20,7 @@ scripts_differ i j before inside same =
 
 -- the second letter of a script's name is a digit
 second : (c : ℕ) → c < 8 → slice_index (script_name c) 1 ≡ 48 + c
-second c inside = ap (λ (d : List ℕ). slice_index ((codes "g" ++ d) ++ codes ".nit") 1) (decimal_digit c (omega arith))
+second c inside = rw (decimal_digit c (omega arith)) refl
 
 -- so it is no name with an e there
 no_script : (name : List ℕ) → slice_index name 1 ≡ 101 → (c : ℕ) → c < 8 → name ≢ script_name c
@@ -86,14 +86,10 @@ made_differ other = refl
 abbrev pub IsMade : List File → Type 0
 IsMade made = Begin 103 made × Apart made
 
-none_made : (made : List File) → made ≡ [] → IsMade made
-none_made made none = subst IsMade (sym none) (tt, tt)
-
 pub made_apart : (c : Command) (s : Setup) → IsSetupOf c s → IsMade s.made
-made_apart (Still width height script) s of = none_made s.made (ap (λ (t : Setup). t.made) of.1)
-made_apart (Gen number) s of =
-    subst IsMade (sym (ap (λ (t : Setup). t.made) of)) (generated_begin number, generated_apart number)
+made_apart (Still width height script) s of = rw of.1 (tt, tt)
+made_apart (Gen number) s of = rw of (generated_begin number, generated_apart number)
 made_apart (Audit configuration journal) s of = absurd of
-made_apart (Nested outer inner) s of = none_made s.made (ap (λ (t : Setup). t.made) of.setup)
+made_apart (Nested outer inner) s of = rw of.setup (tt, tt)
 made_apart NoCommand s of = absurd of
-made_apart other s of = none_made s.made of.2
+made_apart other s of = rw of.2 (tt, tt)

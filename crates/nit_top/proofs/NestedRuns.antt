@@ -1,6 +1,4 @@
 -- The run whose first client shows what another run has shown: that it can be run, and what it leaves.
-use Rattle.std.proofs.Common.{◌≡◌, ◌∙◌, ℕ, ◌+◌, true, false, List, [], ◌∷◌, length, Option, Some}
-use Rattle.std.proofs.Common.{None, refl, sym, ap, subst, inl, arith, get_or, ◌<◌, ◌≤◌}
 use Rattle.nit_top.proofs.Basics.{AllByRecursion, AreLines, AreOutputs, Entry, File, FirstShows}
 use Rattle.nit_top.proofs.Basics.{FitsLine, HasRun, Headline, IfSome, InputLine, IsAfterNested}
 use Rattle.nit_top.proofs.Basics.{IsJournal, IsOuter, IsRunnable, Line, MayShowFrames, NestModel}
@@ -10,8 +8,10 @@ use Rattle.nit_top.proofs.Basics.{end_of_run, first_forbidden, first_other, fram
 use Rattle.nit_top.proofs.Basics.{frames_of, inner_journal_name, input_phases, is_shot_line}
 use Rattle.nit_top.proofs.Basics.{is_too_long, journal_text, length-map, misfit, names_in, nest_of}
 use Rattle.nit_top.proofs.Basics.{nest_script, nested_setup, one_wanted, phase_counts, phases}
-use Rattle.nit_top.proofs.Basics.{put_state_of_run, puts_more, script_names, setup_of, shots}
-use Rattle.nit_top.proofs.Basics.{shown_first, too_long_for, unless_other, unrefused}
+use Rattle.nit_top.proofs.Basics.{put_state_of_run, puts_more, rounds, script_names, setup_of}
+use Rattle.nit_top.proofs.Basics.{too_long_for, unless_other, unrefused}
+use Rattle.std.proofs.Common.{◌≡◌, ◌∙◌, ℕ, ◌+◌, true, false, List, [], ◌∷◌, length, Option, Some}
+use Rattle.std.proofs.Common.{None, refl, sym, ap, subst, inl, arith, get_or, ◌<◌, ◌≤◌}
 use Rattle.nit_setup.specs.declared.stop.StopName.TheVariants as file_name
 
 -- ---- the setup of the outer run
@@ -24,8 +24,7 @@ begins_with (y ∷ ys) x some is = (ys, ap (λ z. z ∷ ys) (sym is))
 
 -- there is a first script
 pub begun_first : (o : RunFiles) → IsOuter o → (own : List Line) × (rest : List (List Line)) × (o.scripts ≡ own ∷ rest)
-begun_first o is_outer = go o.scripts (let some = is_outer.configured.count.0 in let same =
-    is_outer.count in omega (arith, some, same))
+begun_first o is_outer = go o.scripts (omega (arith, is_outer.configured.count.0, is_outer.count))
   where
     go : (scripts : List (List Line)) → 1 ≤ length scripts → (own : List Line) × (rest : List (List Line))
         × (scripts ≡ own ∷ rest)
@@ -49,7 +48,7 @@ first_counts o i own rest parts is_outer none =
     let wanted : ℕ = length (frames_of i) in
     let counts = all_wanted wanted (script_names o.config) o.scripts (o.config.input ∷ []) (input_phases o.input ∷ [])
     (length-map o.config.clients (λ m. m.script) ∙ sym is_outer.count) none in
-    (subst (λ (ss : List (List Line)). AllByRecursion (λ (ls : List Line). phases ls ≡ wanted) ss) parts counts.0).0
+    (rw parts at counts.0).0
 
 -- its lines may stand there
 pub first_may : (scripts : List (List Line)) (own : List Line) (rest : List (List Line)) → scripts ≡ own ∷ rest
@@ -69,19 +68,15 @@ nested_runnable stay o i own rest parts is_outer none fits =
     × (first_other wanted (o.config.input ∷ []) (input_phases o.input ∷ []) ≡ None) =
     all_wanted wanted (script_names o.config) o.scripts (o.config.input ∷ []) (input_phases o.input ∷ [])
     (length-map o.config.clients (λ m. m.script) ∙ sym is_outer.count) none in
-    let input_is : input_phases o.input ≡ wanted = one_wanted wanted o.config.input (input_phases o.input) counts.1 in
-    let each : AllByRecursion (λ (ls : List Line). phases ls ≡ wanted) (own ∷ rest) =
-    subst (λ (ss : List (List Line)). AllByRecursion (λ (ls : List Line). phases ls ≡ wanted) ss) parts counts.0 in
-    let lines : AllByRecursion (AreLines FitsLine) (own ∷ rest) =
-    subst (λ (ss : List (List Line)). AllByRecursion (AreLines FitsLine) ss) parts is_outer.lines in
+    let input_is = sym (one_wanted wanted o.config.input (input_phases o.input) counts.1) in
+    let each = rw parts at counts.0 in
+    let lines = rw parts at is_outer.lines in
     record {
       configured = is_outer.configured;
-      scripts = ap (λ (ss : List (List Line)). length ss) (sym parts) ∙ is_outer.count;
+      scripts = rw parts at is_outer.count;
       phases = (
-        stay (nest_of i) own ∙ each.0
-            ∙ sym input_is,
-        all_so (λ ls. phases ls ≡ wanted) (λ ls. phases ls ≡ input_phases o.input) rest (λ ls e. e
-            ∙ sym input_is) each.1,
+        stay (nest_of i) own ∙ each.0 ∙ input_is,
+        all_so (λ ls. phases ls ≡ wanted) (λ ls. phases ls ≡ input_phases o.input) rest (λ ls e. e ∙ input_is) each.1,
       );
       lines = (fits, lines.1);
       input_lines = is_outer.input_lines;
@@ -90,48 +85,48 @@ nested_runnable stay o i own rest parts is_outer none fits =
 
 -- ---- both configurations are read, and no outer script has another number of phases than there are frames
 
-module _ (once : UserOnce) (o i : RunFiles) (own : List Line) (is_outer : IsOuter o) (at : own ≡ get_or o.scripts 0 own)
-    (count : ℕ) (counted : count ≡ count_by is_shot_line i.input + 1)
-    (none : first_other count (names_in o.config) (phase_counts o) ≡ None) where
-  pub no_other : first_other (length (frames_of i)) (names_in o.config) (phase_counts o) ≡ None
-  no_other = subst (λ (n : ℕ). first_other n (names_in o.config) (phase_counts o) ≡ None) (counted
-      ∙ sym (frames_counted once i)) none
+-- the outer scripts have as many phases as there are frames, and this one is their first
+pub record Fitting (o i : RunFiles) (own : List Line) : Type 0 where
+  pub is_outer : IsOuter o
+  pub rest : List (List Line)
+  pub parts : o.scripts ≡ own ∷ rest
+  pub none : first_other (length (frames_of i)) (names_in o.config) (phase_counts o) ≡ None
 
-  pub begun : (rest : List (List Line)) × (o.scripts ≡ own ∷ rest)
-  begun = begins_with o.scripts own (let some = is_outer.configured.count.0 in let same =
-      is_outer.count in omega (arith, some, same)) at
+pub fitting : UserOnce → {o : RunFiles} (i : RunFiles) {own : List Line} {count : ℕ} → IsOuter o
+    → own ≡ get_or o.scripts 0 own → count ≡ count_by is_shot_line i.input + 1
+    → first_other count (names_in o.config) (phase_counts o) ≡ None → Fitting o i own
+fitting once {o = o} i {own = own} is_outer at counted none =
+    let begun = begins_with o.scripts own (omega (arith, is_outer.configured.count.0, is_outer.count)) at in
+    record {
+      is_outer = is_outer;
+      rest = begun.0;
+      parts = begun.1;
+      none = rw (frames_counted once i, ← counted) none;
+    }
 
+module _ {o i : RunFiles} {own : List Line} (f : Fitting o i own) where
   pub own_counts : phases own ≡ length (frames_of i)
-  own_counts = first_counts o i own begun.0 begun.1 is_outer no_other
+  own_counts = first_counts o i own f.rest f.parts f.is_outer f.none
 
   pub they_fit : (inner : List ℕ) → is_too_long (nest_of i) (own ∷ []) ≡ false → misfit inner o i ≡ None
-  they_fit inner short = by_length inner o i false no_other
-      (ap (λ (ss : List (List Line)). is_too_long (nest_of i) ss) begun.1 ∙ short)
+  they_fit inner short = by_length inner o i false f.none (rw f.parts short)
 
-  module _ (stay : PhasesStay) (script : List Line) (made : script ≡ nest_script (nest_of i) own)
-      (scripts : List (List Line)) (input : List InputLine) (placed : (own : List Line) (rest : List (List Line))
+  module _ (stay : PhasesStay) {script : List Line} (made : script ≡ nest_script (nest_of i) own)
+      {scripts : List (List Line)} {input : List InputLine} (placed : (own : List Line) (rest : List (List Line))
       → o.scripts ≡ own ∷ rest → scripts ≡ script ∷ rest) (same : input ≡ o.input) where
-    scripts_are : scripts ≡ nest_script (nest_of i) own ∷ begun.0
-    scripts_are = placed own begun.0 begun.1 ∙ ap (λ (ls : List Line). ls ∷ begun.0) made
+    scripts_are : scripts ≡ nest_script (nest_of i) own ∷ f.rest
+    scripts_are = rw made at (placed own f.rest f.parts)
 
     pub outer_runnable : AreLines FitsLine script → IsRunnable (setup_of o.config scripts input true true)
-    outer_runnable fits =
-        subst (λ (ls : List InputLine). IsRunnable (setup_of o.config scripts ls true true)) (sym same)
-        (subst (λ (ss : List (List Line)). IsRunnable (setup_of o.config ss o.input true true)) (sym scripts_are)
-        (nested_runnable stay o i own begun.0 begun.1 is_outer no_other
-        (subst (λ (ls : List Line). AreLines FitsLine ls) made fits)))
+    outer_runnable fits = rw (same, scripts_are)
+        (nested_runnable stay o i own f.rest f.parts f.is_outer f.none (rw made at fits))
 
     -- the setup of the outer run is the one that the files make
     pub setup_is : record (setup_of o.config scripts input true true) { inner = Some i } ≡ nested_setup o i
-    setup_is =
-        ap (λ (ls : List InputLine). record (setup_of o.config scripts ls true true) { inner = Some i }) same
-        ∙ ap (λ (ss : List (List Line)). record (setup_of o.config ss o.input true true) { inner = Some i })
-        (scripts_are ∙ sym (ap (λ (ss : List (List Line)). shown_first (nest_of i) ss) begun.1))
+    setup_is = rw (same, scripts_are, f.parts) refl
 
     pub first_shows : ShowsNest (nest_of i) script → FirstShows (nest_of i) (nested_setup o i).scripts
-    first_shows shows =
-        subst (λ (ss : List (List Line)). FirstShows (nest_of i) ss) (ap (λ (ls : List Line). ls ∷ begun.0) made
-        ∙ sym (ap (λ (ss : List (List Line)). shown_first (nest_of i) ss) begun.1)) shows
+    first_shows shows = rw f.parts (rw made at shows)
 
 -- ---- the outer run
 
@@ -161,18 +156,16 @@ runnable_of s x r = record {
   clips_each = r.clips_each;
 }
 
-pub nested_leaves : (inner : List Entry) (s : Setup) (x : Option RunFiles) (first mid new : StoreModel) (ran : Ran)
-    (fault : Option PutFault) (w : Worked) → HeadlineLaw (record s { inner = x }) → HasRun first s mid ran
+pub nested_leaves : {inner : List Entry} (s : Setup) (x : Option RunFiles) {first mid new : StoreModel} {ran : Ran}
+    (fault : Option PutFault) {w : Worked} → HeadlineLaw (record s { inner = x }) → HasRun first s mid ran
     → PutsNext (inner_journal_name, journal_text inner) (put_state_of_run mid ran.fault) (put_state_of_run new fault)
     → w.stop.end ≡ end_of_run fault → IfSome fault (λ f. w.stop.name ≡ file_name.Put f.file)
     → w.journal.items ≡ ran.journal.items → w.clients ≡ length s.scripts → w.frames ≡ ran.frames
     → IsAfterNested inner first (record s { inner = x }) new w
-nested_leaves inner s x first mid new ran fault w law has put end name journal clients frames =
-    let is_journal : IsJournal (record s { inner = x }) w.journal.items =
-    journal_of s x w.journal.items (subst (λ (j : List Entry). IsJournal s j) (sym journal) has.journal) in
-    let are : AreOutputs (record s { inner = x }) w.journal.items has.outputs =
-    outputs_of s x w.journal.items has.outputs
-    (subst (λ (j : List Entry). AreOutputs s j has.outputs) (sym journal) has.are) in
+nested_leaves {inner = inner} s x {first = first} {mid = mid} {new = new} {ran = ran} fault {w = w} law has put end name
+    journal clients frames =
+    let is_journal = journal_of s x w.journal.items (rw journal has.journal) in
+    let are = outputs_of s x w.journal.items has.outputs (rw journal has.are) in
     record {
       fault = fault;
       has_run = record {
@@ -186,5 +179,5 @@ nested_leaves inner s x first mid new ran fault w law has put end name journal c
       end_is = end;
       name_is = name;
       clients_are = clients;
-      frames_are = frames ∙ has.frames ∙ ap (λ (j : List Entry). shots j + 1) (sym journal);
+      frames_are = rw (frames, journal) has.frames;
     }

@@ -1,20 +1,19 @@
 -- The names of the files that a run puts differ.
 use Rattle.std.proofs.Common.{◌≡◌, ◌≢◌, ℕ, zero, suc, ◌+◌, ◌<◌, ◌≤◌, Bool, true, false, cond, List}
 use Rattle.std.proofs.Common.{[], ◌∷◌, ◌++◌, map, length, Option, Some, None, refl, sym, ap, ◌∙◌}
-use Rattle.std.proofs.Common.{subst, arith, append_assoc, inl, inr, ◌⊎◌}
-use Rattle.nit_top.proofs.Basics.{Apart, AreAdded, AreOutputs, Audit, Begin, BeginOther, Capture}
-use Rattle.nit_top.proofs.Basics.{Clip, Command, Configuration, Entry, File, FrontsLaw, Gen}
-use Rattle.nit_top.proofs.Basics.{HasDifferentNames, IsCommandRun, IsConfiguration, IsInnerJournal}
-use Rattle.nit_top.proofs.Basics.{IsJournal, IsNearPicture, IsRunnable, IsSetupOf, Member, Nested}
-use Rattle.nit_top.proofs.Basics.{NoCommand, Numbered, OtherThan, Run, RunFiles, Setup, ShotsLaw}
-use Rattle.nit_top.proofs.Basics.{Still, StoreModel, actions_few, all_append, apart_by, apart_front}
-use Rattle.nit_top.proofs.Basics.{append_cancel_left, append_cancel_right, begin_other, codes}
-use Rattle.nit_top.proofs.Basics.{differ, done, drawn_along, events_begin, events_file}
-use Rattle.nit_top.proofs.Basics.{events_files, events_name, film_name, final_name, final_picture}
-use Rattle.nit_top.proofs.Basics.{first_state, inner_journal_name, journal_file, member, numbered}
-use Rattle.nit_top.proofs.Basics.{other_letter, range_with_len, shots, shots_apart_all, shots_begin}
-use Rattle.nit_top.proofs.Basics.{slice_index, text_files, texts_other, user_actions_from}
-use Rattle.nit_top.proofs.Basics.{user_actions_of}
+use Rattle.std.proofs.Common.{arith, append_assoc, inl, inr, ◌⊎◌}
+use Rattle.nit_top.proofs.Basics.{Apart, AreAdded, AreOutputs, Begin, BeginOther, Capture, Clip}
+use Rattle.nit_top.proofs.Basics.{Command, Configuration, Entry, File, FrontsLaw, HasDifferentNames}
+use Rattle.nit_top.proofs.Basics.{IsCommandRun, IsConfiguration, IsInnerJournal, IsJournal}
+use Rattle.nit_top.proofs.Basics.{IsNearPicture, IsRunnable, IsSetupOf, Member, Nested, Numbered}
+use Rattle.nit_top.proofs.Basics.{OtherThan, RunFiles, Setup, ShotsLaw, StoreModel, actions_few}
+use Rattle.nit_top.proofs.Basics.{all_append, apart_by, apart_front, append_cancel_left}
+use Rattle.nit_top.proofs.Basics.{append_cancel_right, begin_other, codes, differ, done}
+use Rattle.nit_top.proofs.Basics.{drawn_along, events_begin, events_file, events_files, events_name}
+use Rattle.nit_top.proofs.Basics.{film_name, final_name, final_picture, first_state}
+use Rattle.nit_top.proofs.Basics.{inner_journal_name, journal_file, member, numbered, other_letter}
+use Rattle.nit_top.proofs.Basics.{range_with_len, shots, shots_apart_all, shots_begin, slice_index}
+use Rattle.nit_top.proofs.Basics.{text_files, texts_other, user_actions_from, user_actions_of}
 use Rattle.nit_top.proofs.MadeNames.{IsMade, made_apart}
 use Rattle.nit_events.specs.declared.entry.Entry.TheVariants as entry
 
@@ -36,16 +35,15 @@ one_more f letter own is = record { letter = letter; own = own; begin = (is, tt)
 added_more : (c : Command) (s : Setup) (journal : List Entry) (files : List File) (are : AreOutputs s journal files)
     (added : List File) → AreAdded c are added → IsMore added
 added_more (Clip configuration) s journal files are added (f, (clips, list, is), one) =
-    subst IsMore (sym one) (one_more f 99 (inl refl) (ap (λ (g : File). slice_index g.0 0) is))
+    rw one (one_more f 99 (inl refl) (rw is refl))
 added_more (Nested outer inner) s journal files are added is = by s.inner is
   where
     by : (inner : Option RunFiles) → IsInnerJournal inner added → IsMore added
     by None is = absurd is
-    by (Some i) (journal, is_journal, one) =
-        subst IsMore (sym one) (one_more (inner_journal_name, _) 105 (inr refl) refl)
+    by (Some i) (journal, is_journal, one) = rw one (one_more (inner_journal_name, _) 105 (inr refl) refl)
 added_more (Capture configuration region) s journal files are added one =
-    subst IsMore (sym one) (one_more (film_name, _) 99 (inl refl) refl)
-added_more other s journal files are added none = subst IsMore (sym none) none_more
+    rw one (one_more (film_name, _) 99 (inl refl) refl)
+added_more other s journal files are added none = rw none none_more
 
 more_other : (added : List File) → IsMore added → (other : ℕ) → ◌≢◌ {A = ℕ} 99 other → ◌≢◌ {A = ℕ} 105 other
     → BeginOther other added
@@ -122,7 +120,7 @@ module _ (s : Setup) (runnable : IsRunnable s) (journal : List Entry) (j : IsJou
         by true =
             let events = events_files s.config journal in
             let last = journal_file journal ∷ [] in
-            subst Apart (sym (append_assoc events last added))
+            rw (append_assoc events last added)
             (apart_by 101 events (last ++ added) (events_begin s.config journal 0 (length s.config.clients))
             ((λ e. omega arith), more_other added more 101 (λ e. omega arith) (λ e. omega arith))
             (some_apart s.config runnable.configured journal 0 (length s.config.clients) (omega arith))
@@ -167,14 +165,16 @@ module _ (s : Setup) (runnable : IsRunnable s) (journal : List Entry) (j : IsJou
         all_append (λ f. slice_index f.0 0 ≢ 103) shown last_on (begin_other 115 103 shown begin (λ e. omega arith))
         (last_other 103 (λ e. omega arith) (λ e. omega arith) (λ e. omega arith) (λ e. omega arith)
         (λ e. omega arith)) in
-        subst Apart (sym (parts files are)) (apart_by 103 s.made (shown ++ last_on) made.0 other made.1 own)
+        rw (parts files are) (apart_by 103 s.made (shown ++ last_on) made.0 other made.1 own)
       where
         parts : (files : List File) (are : AreOutputs s journal files) → files ++ added ≡ s.made ++ (are.0 ++ last_on)
         parts files are =
             let last : File = (final_name, final_picture s journal) in
-            ap (λ (fs : List File). fs ++ added) are.2
-            ∙ append_assoc s.made (are.0 ++ last ∷ text_files s journal) added
-            ∙ ap (λ (fs : List File). s.made ++ fs) (append_assoc are.0 (last ∷ text_files s journal) added)
+            rw (
+              are.2,
+              append_assoc s.made (are.0 ++ last ∷ text_files s journal) added,
+              append_assoc are.0 (last ∷ text_files s journal) added,
+            ) refl
 
 pub outputs_differ : ShotsLaw → FrontsLaw → (c : Command) (s : Setup) (journal : List Entry) (files : List File)
     → IsRunnable s → IsSetupOf c s → IsJournal s journal → AreOutputs s journal files → HasDifferentNames files
@@ -190,4 +190,4 @@ puts_differ law fronts old c journal run =
     let more = added_more c s journal run.outputs run.are run.added run.added_are in
     let all : Apart (run.outputs ++ run.added) = outputs_apart s run.files_are.runnable journal run.headline.one_journal
     law fronts run.added more run.outputs run.are (made_apart c s run.files_are.of_command) in
-    differ run.puts (subst Apart (sym run.puts_are) all)
+    differ run.puts (rw run.puts_are all)

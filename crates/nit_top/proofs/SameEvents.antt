@@ -1,11 +1,11 @@
 -- One client in two runs: its events and their text.
-use Rattle.std.proofs.Common.{◌≡◌, ◌∙◌, ℕ, ◌<◌, List, ◌++◌, length, subst, sym, ap, ap₂}
 use Rattle.nit_top.proofs.Basics.{AreTexts, Configuration, Contains, Entry, Event, File}
 use Rattle.nit_top.proofs.Basics.{HaveSameEvents, IsLegal, IsSameClient, Reply, Session}
 use Rattle.nit_top.proofs.Basics.{alone_machine, donation_of, ending_of, ending_text}
 use Rattle.nit_top.proofs.Basics.{event_spelling, events_among, events_file, events_name}
-use Rattle.nit_top.proofs.Basics.{events_taken, events_text, first_state, flat_map, member}
-use Rattle.nit_top.proofs.Basics.{projection, replay, replies_to, session, spelled, taken}
+use Rattle.nit_top.proofs.Basics.{events_taken, first_state, flat_map, member, projection, replay}
+use Rattle.nit_top.proofs.Basics.{replies_to, session, spelled, taken, texts}
+use Rattle.std.proofs.Common.{◌≡◌, ◌∙◌, ℕ, ◌<◌, List, ◌++◌, length, sym, ap, ap₂}
 
 -- what the law of machines says
 abbrev pub StandAlone : Type 0
@@ -19,8 +19,7 @@ there : StandAlone → (config : Configuration) (journal : List Entry) (files : 
     → AreTexts config journal files
     → Contains files (events_name (member config s).label, (events_file config journal s).1)
 there law config journal files s legal inside texts =
-    subst (λ (m : Session). Contains files (events_name (member config s).label, events_text journal s (ending_of m)))
-    (sym (law config journal s legal inside)) (texts.events s inside)
+    rw (law config journal s legal inside) (texts.events s inside)
 
 module _ (c d : Configuration) (js ks : List Entry) (s t : ℕ) (legal : IsLegal c js) (other_legal : IsLegal d ks)
     (replies : replies_to s js ≡ replies_to t ks) where
@@ -41,6 +40,5 @@ module _ (c d : Configuration) (js ks : List Entry) (s t : ℕ) (legal : IsLegal
     both_there fs gs texts other_texts = record {
       text = (events_file c js s).1;
       one = there law c js fs s legal same.inside texts;
-      other = subst (λ (text : List ℕ). Contains gs (events_name (member d t).label, text)) (sym same_text)
-          (there law d ks gs t other_legal same.other_inside other_texts);
+      other = rw same_text (there law d ks gs t other_legal same.other_inside other_texts);
     }

@@ -1,17 +1,18 @@
 -- Where a pixel of the outer run's last picture shows the first session's buffer, it shows the last inner frame.
-use Rattle.std.proofs.Common.{◌≡◌, ◌∙◌, ℕ, suc, ◌+◌, ◌*◌, ◌<◌, ◌≤◌, List, [], ◌∷◌, ◌++◌, map}
-use Rattle.std.proofs.Common.{length, take, get_or, None, false, refl, sym, ap, subst, inl, inr}
-use Rattle.std.proofs.Common.{arith, length-append}
+use Rattle.std.proofs.Common.{get_or}
+use Rattle.nit_top.proofs.Basics.{frames_behind, lines_of_frames, next_frame, woven}
+use Rattle.std.proofs.Common.{suc, ◌≡◌, ◌∙◌, ℕ, ◌+◌, ◌*◌, ◌<◌, ◌≤◌, List, [], ◌∷◌, ◌++◌, map}
+use Rattle.std.proofs.Common.{length, take, None, false, refl, sym, ap, inl, inr, arith}
+use Rattle.std.proofs.Common.{length-append}
 use Rattle.nit_top.proofs.Basics.{Buffer, CanPay, Configuration, Entry, HoldsAtEnd, IsJournal, Line}
 use Rattle.nit_top.proofs.Basics.{MachinesLaw, NestModel, RunFiles, Session, Setup, ShotFrame}
 use Rattle.nit_top.proofs.Basics.{ShowsFrames, ShowsNest, State, Word, buffer_size, calls_in}
 use Rattle.nit_top.proofs.Basics.{calls_of, calls_to_make, cases_Bool, donation_of, done}
-use Rattle.nit_top.proofs.Basics.{first_forbidden, first_session, frames_behind, frames_of}
-use Rattle.nit_top.proofs.Basics.{get_or-take, is_accepted, last_frame, lines_of_frames, nest_of}
-use Rattle.nit_top.proofs.Basics.{nest_script, next_frame, owner_of, phases, pixel, projection}
-use Rattle.nit_top.proofs.Basics.{replay, script_in, serve, session, shot_frames_of, slice_index}
-use Rattle.nit_top.proofs.Basics.{source_at, static, tables_left, take_all, to_do, word_from}
-use Rattle.nit_top.proofs.Basics.{words_left, woven}
+use Rattle.nit_top.proofs.Basics.{first_forbidden, first_session, frames_of, get_or-take}
+use Rattle.nit_top.proofs.Basics.{is_accepted, last_frame, nest_of, nest_script, owner_of, phases}
+use Rattle.nit_top.proofs.Basics.{pixel, projection, replay, script_in, serve, session}
+use Rattle.nit_top.proofs.Basics.{shot_frames_of, slice_index, source_at, static, tables_left}
+use Rattle.nit_top.proofs.Basics.{take_all, word_from, words_left}
 use Rattle.nit_top.proofs.NestedRuns.{PhasesStay}
 use Rattle.nit_top.proofs.ServedMachines.{IsServedOrBare, served_or_bare}
 use Rattle.nit_top.proofs.WordSources.{word_within}
@@ -71,12 +72,11 @@ module _ (laws : SeenLaws) (s : Setup) (journal : List Entry) (j : IsJournal s j
 
   made : calls_of 0 journal ≡ calls_in (take (length script) script)
   made =
-      j.whole.calls 0 (subst (λ (ss : List (List Line)). 0 < length (map calls_to_make ss)) (sym scripts) (omega arith))
-      ∙ ap (λ (ss : List (List Line)). done (to_do (map calls_to_make ss) 0)) scripts
+      rw scripts at (j.whole.calls 0 (rw scripts (omega arith)))
       ∙ sym (laws.calls script) ∙ ap calls_in (sym (take_all (length script) script (omega arith)))
 
   served : IsServedOrBare machine
-  served = subst IsServedOrBare (sym (laws.machines s.config journal 0 j.legal there))
+  served = rw (laws.machines s.config journal 0 j.legal there)
       (served_or_bare (first_session donation) (projection 0 journal) (inl refl))
 
   -- the machine that the script leaves
@@ -97,8 +97,7 @@ module _ (laws : SeenLaws) (s : Setup) (journal : List Entry) (j : IsJournal s j
         (pixel state.config.width k) (owner_of state (pixel state.config.width k)) 0 place at
 
     some_buffer : machine.bw ≡ 0 → ⊥
-    some_buffer bare = let none : place < 0 * machine.bh =
-        subst (λ (n : ℕ). place < n * machine.bh) bare inside in omega (arith, none)
+    some_buffer bare = let none = rw bare at inside in omega (arith, none)
 
     live : machine.status ≡ status.Live
     live = elim served [ inl is ↦ is | inr bare ↦ absurd (some_buffer bare) ]
@@ -111,8 +110,7 @@ module _ (laws : SeenLaws) (s : Setup) (journal : List Entry) (j : IsJournal s j
     ]
 
     within : place < w * h
-    within = let is = size paid live in subst (λ (n : ℕ). place < w * n) is.1
-        (subst (λ (n : ℕ). place < n * machine.bh) is.0 inside)
+    within = let is = size paid live in rw (is.0, is.1) at inside
 
   -- ---- its words
 

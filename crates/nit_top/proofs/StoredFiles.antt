@@ -1,13 +1,14 @@
 -- The files that a command has put stand in the store at the end.
-use Rattle.std.proofs.Common.{◌≡◌, ◌≢◌, ℕ, List, [], ◌∷◌, Option, Some, None, sym, ◌∙◌, suc, arith}
-use Rattle.std.proofs.Common.{◌++◌, refl, subst, inl, inr, ◌⊎◌}
+
+use Rattle.std.proofs.Common.{◌≡◌, ◌≢◌, ℕ, List, [], ◌∷◌, Option, Some, None, sym, ◌∙◌, suc}
+use Rattle.std.proofs.Common.{arith, ◌++◌, refl, inl, inr, ◌⊎◌}
 use Rattle.nit_top.proofs.Basics.{All, All-from_recursion, AllByRecursion, Apart, AreStored, Begun}
 use Rattle.nit_top.proofs.Basics.{Came, Command, Course, End, Entry, File, HasDifferentNames}
 use Rattle.nit_top.proofs.Basics.{IsAudited, IsCommandRun, IsCutShort, IsMadeInPart, IsMadeUpTo}
 use Rattle.nit_top.proofs.Basics.{IsNotBegun, IsPutBefore, IsPutWhole, NotBegun, OtherThan, PutEach}
 use Rattle.nit_top.proofs.Basics.{PutFiles, Stand, StandIn, StoreModel, WithRun, WithoutRun}
 use Rattle.nit_top.proofs.Basics.{apart_front, apart_of, append-nil, code_of, file_at, made_by}
-use Rattle.nit_top.proofs.Basics.{stays, summary_line, to_put, totals}
+use Rattle.nit_top.proofs.Basics.{stays, to_put}
 use Rattle.nit_top.proofs.AuditCourse.{audit_makes_none, with_run}
 use Rattle.nit_top.proofs.EndCauses.{so_far}
 use Rattle.nit_top.proofs.EndCodes.{not_fault}
@@ -67,7 +68,7 @@ module _ (law : NamesLaw) (c : Command) (old : StoreModel) (files : Option (List
     whole = whole;
     put = put;
     stand = stand_in front old.files files
-        (apart_front front back (subst Apart parts (apart_of (to_put course) (different law course)))) put;
+        (apart_front front back (rw parts at (apart_of (to_put course) (different law course)))) put;
   }
 
   all_stored : (course : Course old c journal) → WithRun course (λ run. IsPutWhole run files asked)
@@ -120,9 +121,7 @@ module _ (law : NamesLaw) (c : Command) (old : StoreModel) (files : Option (List
 
   pub stored : (course : Course old c journal) (e : End) (line : List ℕ) → Came course files asked e line
       → (status ≡ 0 → code_of e ≡ 0) → AreStored (to_put course) status old.files files
-  stored course ends.Whole line h zero =
-      all_stored course (with_run course (λ run. IsPutWhole run files asked × (line ≡ summary_line (totals run)))
-      (λ run. IsPutWhole run files asked) (λ run p. p.0) h)
+  stored course ends.Whole line h zero = all_stored course (with_run course h (λ run p. p.0))
   stored course (ends.Audited count) line h zero = audit_stored course count h.0
   stored course (ends.Refused f) line h zero =
       far_stored (λ s. not_fault f 0 (zero s) refl) course

@@ -1,9 +1,9 @@
 -- Pieces of a text that are said one after the other.
-use Rattle.nit_top.proofs.Basics.{PutError, SayingRefused, Says, StoreModel, flat_map}
-use Rattle.nit_top.proofs.Basics.{saying-saying, with_said}
-use Rattle.std.proofs.Common.{◌≡◌, ℕ, zero, suc, ◌+◌, ◌<◌, length, take, drop, get_or, arith}
-use Rattle.std.proofs.Common.{add-one, List, [], ◌∷◌, ◌++◌, Result, Ok, Err, refl, sym, ap, subst}
+use Rattle.nit_top.proofs.Basics.{SayingRefused}
+use Rattle.std.proofs.Common.{ap, subst, sym, ◌≡◌, ℕ, zero, suc, ◌+◌, ◌<◌, length, take, drop}
+use Rattle.std.proofs.Common.{get_or, arith, add-one, List, [], ◌∷◌, ◌++◌, Result, Ok, Err, refl}
 use Rattle.std.proofs.Common.{◌∙◌, append_assoc}
+use Rattle.nit_top.proofs.Basics.{PutError, Says, StoreModel, flat_map, saying-saying, with_said}
 
 -- a piece, and then the rest of the text
 pub says_then : {T : Type 0} (old : StoreModel) (a b : List ℕ) (mid new : StoreModel) (r : Result T PutError)
@@ -31,6 +31,11 @@ says_stop T old a b text mid new e is h rest whole =
           ∙ ap (λ (t : List ℕ). a ++ t) (append_assoc h.0 h.1 rest) ∙ sym (append_assoc a h.0 (h.1 ++ rest)),
       subst (λ (s : StoreModel). SayingRefused s new e) same h.3,
     )
+
+-- the first piece was refused
+pub says_none : (T : Type 0) (old : StoreModel) (b rest : List ℕ) (new : StoreModel) (e : PutError)
+    → Says {T = T} old b new (Err e) → Says {T = T} old (b ++ rest) new (Err e)
+says_none T old b rest new e h = (h.0, h.1 ++ rest, rw (h.2, append_assoc h.0 h.1 rest) refl, h.3)
 
 -- the texts before a place, at it and behind it
 pub flat_map_at : {A B : Type 0} (f : A → List B) (xs : List A) (i : ℕ) (d : A) → i < length xs

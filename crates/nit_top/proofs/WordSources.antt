@@ -1,9 +1,9 @@
 -- A pixel whose source is a word of a session shows a place within the session's buffer.
 use Rattle.std.proofs.Common.{◌≡◌, ◌∙◌, Bool, true, false, cond, ℕ, ◌*◌, ◌<◌, ℤ, pos, negsuc}
 use Rattle.std.proofs.Common.{Option, Some, None, refl, ap, subst, nat_lt}
-use Rattle.nit_top.proofs.Basics.{Bare, Black, PixelSource, Point, Size, View, Word, among}
-use Rattle.nit_top.proofs.Basics.{black_or_word, buffer_place, index_at, ltb-true, mul-add-lt}
-use Rattle.nit_top.proofs.Basics.{shown_index, source_under}
+use Rattle.nit_top.proofs.Basics.{PixelSource, Point, Size, View, Word, among, black_or_word}
+use Rattle.nit_top.proofs.Basics.{buffer_place, index_at, ltb-true, mul-add-lt, shown_index}
+use Rattle.nit_top.proofs.Basics.{source_under}
 
 abbrev number_in : Option ℕ → ℕ
 number_in None = 0

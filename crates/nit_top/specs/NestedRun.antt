@@ -1,19 +1,11 @@
 -- What the work on two configurations leaves, part by part.
-use Rattle.std.specs.Prelude.{◌≡◌, ◌⊎◌, ℕ, ◌+◌, List, [], ◌∷◌, ◌++◌, length, Option, IfSome}
-use Rattle.nit_top.specs.Below.{AreAllOuterFiles, AreOutputs, Configuration, Entry, File, Headline}
-use Rattle.nit_top.specs.Below.{IsConfig, IsJournal, PutFault, PutsAll, RunFiles, Setup, StoreModel}
-use Rattle.nit_top.specs.Below.{Worked, asking_all, bytes_of, inner_journal_name, journal_text}
-use Rattle.nit_top.specs.Below.{names_in, put_state_of_run, shots, unrefused, with_asked}
+use Rattle.std.specs.Prelude.{◌≡◌, ◌⊎◌, ◌+◌, List, [], ◌∷◌, ◌++◌, length, Option, IfSome}
+use Rattle.nit_top.specs.Below.{AreOutputs, Entry, File, Headline, IsJournal, PutFault, PutsAll}
+use Rattle.nit_top.specs.Below.{Setup, StoreModel, Worked, inner_journal_name, journal_text}
+use Rattle.nit_top.specs.Below.{put_state_of_run, shots, unrefused}
 use Rattle.nit_top.specs.Work.{end_of_run}
 use Rattle.nit_setup.specs.declared.stop.End.TheVariants as end
 use Rattle.nit_setup.specs.declared.stop.StopName.TheVariants as name
-
--- the outer files were read and are valid, and then the inner configuration
-pub record IsAfterOuter (outer inner : List ℕ) (first : StoreModel) (o : RunFiles)
-    (config : Configuration) (now : StoreModel) : Type 0 where
-  pub files : AreAllOuterFiles outer first.files o
-  pub asked : now ≡ with_asked (asking_all first (outer ∷ names_in o.config)) inner
-  pub valid : IfSome first.files (λ told. IsConfig (bytes_of inner told) config)
 
 -- A run with this journal and so many pictures went to its end, and the text of another journal was
 -- put behind its files; this put was refused, if one was.

@@ -1,5 +1,3 @@
-use Rattle.std.proofs.Common.{◌∙◌, ◌++◌, ◌∷◌, [], List, ap}
-use Rattle.nit_top.proofs.Lemmas.{File}
 use Rattle.nit_top.proofs.laws.clips_without_focus.Goals as goal
 
 pub returns : goal.returns
@@ -8,6 +6,6 @@ returns c = λ old name journal run.
     let list = file.1 in (
       list.0,
       list.1,
-      run.puts_are ∙ ap (λ (fs : List File). run.outputs ++ fs) (file.2 ∙ ap (λ (f : File). f ∷ []) list.2),
+      rw (file.2, list.2) at run.puts_are,
       λ sid never. c.sessions_without_focus.ensures run.setup.config journal list.0 sid list.1.legal never,
     )

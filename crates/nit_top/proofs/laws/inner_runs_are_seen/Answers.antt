@@ -1,13 +1,9 @@
-use Rattle.std.proofs.Common.{◌≡◌, ◌∙◌, true, false, List, ◌∷◌, ◌++◌, refl, ap, subst, Option, Some}
-use Rattle.nit_top.proofs.Lemmas.{AreOutputs, AreShots, Entry, File, FirstShows, IsInnerJournal}
-use Rattle.nit_top.proofs.Lemmas.{Line, RunFiles, SeenLaws, Setup, begun_first, by_turns}
-use Rattle.nit_top.proofs.Lemmas.{final_name, final_picture, first_counts, first_may, first_state}
-use Rattle.nit_top.proofs.Lemmas.{fits_first, frames_pictured, nest_of, seen, shots_of, shown_first}
-use Rattle.nit_top.proofs.Lemmas.{text_files}
+use Rattle.std.proofs.Common.{◌∙◌, List, ◌∷◌, ◌++◌, refl, ap, Some}
+use Rattle.nit_top.proofs.Lemmas.{AreOutputs, AreShots, Entry, File, IsInnerJournal, RunFiles}
+use Rattle.nit_top.proofs.Lemmas.{SeenLaws, Setup, begun_first, by_turns, final_name, final_picture}
+use Rattle.nit_top.proofs.Lemmas.{first_counts, first_may, first_state, fits_first, frames_pictured}
+use Rattle.nit_top.proofs.Lemmas.{nest_of, seen, shots_of, shown_first, text_files}
 use Rattle.nit_top.proofs.laws.inner_runs_are_seen.Goals as goal
-
-not_both : false ≡ true → ⊥
-not_both e = cc
 
 -- what a run by turns with this journal would put
 turns_put : (i : RunFiles) (journal : List Entry) → (files : List File) × AreOutputs (by_turns i) journal files
@@ -16,17 +12,15 @@ turns_put i journal =
     let are : AreShots (by_turns i) journal shots =
     record {
       by_rounds = λ is. refl;
-      beside = λ together. absurd (not_both together);
-      history = λ together. absurd (not_both together);
+      beside = λ together. absurd cc;
+      history = λ together. absurd cc;
     } in
     (shots ++ (final_name, final_picture (by_turns i) journal) ∷ text_files (by_turns i) journal, (shots, are, refl))
 
 pub returns-clause-told : goal.returns-clause-told
 returns-clause-told c = λ old outer inner journal run.
     let n = run.files_are.of_command in
-    let is : IsInnerJournal (Some n.i) run.added =
-    subst (λ (x : Option RunFiles). IsInnerJournal x run.added) (ap (λ (s : Setup). s.inner) n.setup)
-    run.added_are in
+    let is : IsInnerJournal (Some n.i) run.added = rw (ap (λ (s : Setup). s.inner) n.setup) at run.added_are in
     let put = turns_put n.i is.0 in
     record {
       journal = is.0;
@@ -73,7 +67,7 @@ returns-clause-seen c = λ old outer inner journal run.
                     run.files_are.runnable.configured.count.0
                     (first_may n.o.scripts own rest begun.2 n.is_outer.may)
                     (first_counts n.o n.i own rest begun.2 n.is_outer none)
-                    (subst (λ (ss : List (List Line)). FirstShows (nest_of n.i) ss) scripts n.shows) k e.0 j e.1 at,
+                    (rw scripts at n.shows) k e.0 j e.1 at,
               ),
               e.2,
             );

@@ -1,11 +1,9 @@
-use Rattle.nit_top.proofs.Lemmas.{Run, performed_ends, refl, setup_in, stopped_ends, true}
+use Rattle.nit_top.proofs.Lemmas.{performed_ends, refl, stopped_ends, true}
 use Rattle.nit_top.proofs.run.perform.run_command.Goals as goal
 
 pub returns-in-Err : goal.returns-in-Err
 returns-in-Err g c =
-    stopped_ends (Run true c.args.name.now) (g.S.Store.shown c.args.store.now) (g.S.Store.shown c.read_run.new.store)
-    c.in-Err.stop (c.in-Err.ensures.run true) c.ended_before_run.result c.ended_before_run.ensures.stop
-    c.ended_before_run.ensures.journal
+    stopped_ends (c.in-Err.ensures.run true) c.ended_before_run.ensures.stop c.ended_before_run.ensures.journal
 
 pub perform_beside-requires-after_bounds : goal.perform_beside-requires-after_bounds
 perform_beside-requires-after_bounds g c κs within = (c.in-Ok.ensures.run true).valid.runnable
@@ -13,6 +11,4 @@ perform_beside-requires-after_bounds g c κs within = (c.in-Ok.ensures.run true)
 pub returns-in-Ok : goal.returns-in-Ok
 returns-in-Ok g c =
     let r = c.in-Ok.ensures.run true in
-    performed_ends (Run true c.args.name.now) (g.S.Store.shown c.args.store.now) (g.S.Store.shown c.read_run.new.store)
-    (g.S.Store.shown c.perform_beside.new.store) (setup_in c.in-Ok.run' true) c.perform_beside.result
-    (λ s journal files are. refl, λ config. refl) r.asked r.valid c.perform_beside.ensures
+    performed_ends (λ s journal files are. refl, λ config. refl) r.asked r.valid c.perform_beside.ensures

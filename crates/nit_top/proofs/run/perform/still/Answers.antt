@@ -1,7 +1,7 @@
+use Rattle.nit_top.proofs.Lemmas.{Configuration, InputLine, Line, idle_user, inl, performed_ends}
+use Rattle.nit_top.proofs.Lemmas.{rules, setup_of, still_configuration, still_setup, stopped_ends}
+use Rattle.nit_top.proofs.Lemmas.{texts}
 use Rattle.std.proofs.Common.{◌≡◌, false, ◌∷◌, [], ℕ, List, None, refl}
-use Rattle.nit_top.proofs.Lemmas.{Configuration, InputLine, Line, Still, idle_user, inl}
-use Rattle.nit_top.proofs.Lemmas.{performed_ends, rules, setup_of, still_configuration, still_setup}
-use Rattle.nit_top.proofs.Lemmas.{stopped_ends}
 use Rattle.nit_top.proofs.run.perform.still.Goals as goal
 
 same_setup : (width height : ℕ) (config : Configuration) (lines : List Line) (input : List InputLine)
@@ -20,10 +20,7 @@ same_setup width height config lines input c i = λ j. record {
 
 pub returns-in-Err : goal.returns-in-Err
 returns-in-Err g c =
-    stopped_ends (Still c.args.width c.args.height c.args.script.now) (g.S.Store.shown c.args.store.now)
-    (g.S.Store.shown c.read_still.new.store) c.in-Err.stop c.in-Err.ensures c.ended_before_run.result
-    c.ended_before_run.ensures.stop
-    c.ended_before_run.ensures.journal
+    stopped_ends c.in-Err.ensures c.ended_before_run.ensures.stop c.ended_before_run.ensures.journal
 
 pub run_one-requires-clause-runnable : goal.run_one-requires-clause-runnable
 run_one-requires-clause-runnable g c =
@@ -37,27 +34,20 @@ run_one-requires-clause-alone g c = (c.in-Ok.read.client, refl, c.in-Ok.ensures.
 
 pub returns-in_default : goal.returns-in_default
 returns-in_default g c =
-    let h = c.in-Ok.ensures in
-    performed_ends (Still c.args.width c.args.height c.args.script.now) (g.S.Store.shown c.args.store.now)
-    (g.S.Store.shown c.read_still.new.store) (g.S.Store.shown c.run_one.new.store)
-    (still_setup c.args.width c.args.height c.in-Ok.read.client) c.ended_before_run-in_default.result
-    (λ s journal files are. refl, λ config. refl) h.read.asked h.read.valid (search rules)
+    let read = c.in-Ok.ensures.read in
+    performed_ends (λ s journal files are. refl, λ config. refl) read.asked read.valid (search rules)
 
 pub returns : goal.returns
 returns g c =
     let read = c.in-Ok.read in
     let h = c.in-Ok.ensures in
-    let s = still_setup c.args.width c.args.height read.client in
-    let ran = c.in-Ok-run_one.ran in
-    let same = same_setup c.args.width c.args.height read.config read.client read.input h.config h.input in
-    let has = rw same at c.in-Ok-run_one.ensures in
-    performed_ends (Still c.args.width c.args.height c.args.script.now) (g.S.Store.shown c.args.store.now)
-    (g.S.Store.shown c.read_still.new.store) (g.S.Store.shown c.run_one.new.store) s c.after.result
-    (λ s journal files are. refl, λ config. refl) h.read.asked h.read.valid
+    let has = rw (same_setup c.args.width c.args.height read.config read.client read.input h.config h.input)
+    at c.in-Ok-run_one.ensures in
+    performed_ends (λ s journal files are. refl, λ config. refl) h.read.asked h.read.valid
     (inl (record {
-      ran = ran;
+      ran = c.in-Ok-run_one.ran;
       has_run = has;
-      headline = c.headline.ensures s ran.journal.items has.outputs h.read.valid.runnable has.journal has.are;
+      headline = c.headline.ensures _ _ has.outputs h.read.valid.runnable has.journal has.are;
       end_is = c.after.ensures.end;
       name_is = c.after.ensures.name;
       journal_is = c.after.ensures.journal;

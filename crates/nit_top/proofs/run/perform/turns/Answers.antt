@@ -1,12 +1,9 @@
-use Rattle.nit_top.proofs.Lemmas.{Run, false, inl, performed_ends, refl, rules, setup_in}
-use Rattle.nit_top.proofs.Lemmas.{stopped_ends}
+use Rattle.nit_top.proofs.Lemmas.{false, inl, performed_ends, refl, rules, stopped_ends}
 use Rattle.nit_top.proofs.run.perform.turns.Goals as goal
 
 pub returns-in-Err : goal.returns-in-Err
 returns-in-Err g c =
-    stopped_ends (Run false c.args.name.now) (g.S.Store.shown c.args.store.now) (g.S.Store.shown c.read_run.new.store)
-    c.in-Err.stop (c.in-Err.ensures.run false) c.ended_before_run.result c.ended_before_run.ensures.stop
-    c.ended_before_run.ensures.journal
+    stopped_ends (c.in-Err.ensures.run false) c.ended_before_run.ensures.stop c.ended_before_run.ensures.journal
 
 pub run_turns-requires : goal.run_turns-requires
 run_turns-requires g c = rw c.as_slice-clients.ensures.value (c.in-Ok.ensures.run false).valid.runnable
@@ -14,26 +11,17 @@ run_turns-requires g c = rw c.as_slice-clients.ensures.value (c.in-Ok.ensures.ru
 pub returns-in_default : goal.returns-in_default
 returns-in_default g c =
     let r = c.in-Ok.ensures.run false in
-    let mid = g.S.Store.shown c.read_run.new.store in
-    let new = g.S.Store.shown c.run_turns.new.store in
-    performed_ends (Run false c.args.name.now) (g.S.Store.shown c.args.store.now) mid new (setup_in c.in-Ok.run' false)
-    c.ended_before_run-in_default.result (λ s journal files are. refl, λ config. refl) r.asked r.valid (search rules)
+    performed_ends (λ s journal files are. refl, λ config. refl) r.asked r.valid (search rules)
 
 pub returns : goal.returns
 returns g c =
-    let run = c.in-Ok.run' in
     let r = c.in-Ok.ensures.run false in
-    let mid = g.S.Store.shown c.read_run.new.store in
-    let new = g.S.Store.shown c.run_turns.new.store in
-    let ran = c.in-Ok-run_turns.ran in
     let has = rw c.as_slice-clients.ensures.value at c.in-Ok-run_turns.ensures in
-    performed_ends (Run false c.args.name.now) (g.S.Store.shown c.args.store.now) mid new (setup_in run false)
-    c.after.result (λ s journal files are. refl, λ config. refl) r.asked r.valid
+    performed_ends (λ s journal files are. refl, λ config. refl) r.asked r.valid
     (inl (record {
-      ran = ran;
+      ran = c.in-Ok-run_turns.ran;
       has_run = has;
-      headline = c.headline.ensures (setup_in run false) ran.journal.items has.outputs r.valid.runnable has.journal
-          has.are;
+      headline = c.headline.ensures _ _ has.outputs r.valid.runnable has.journal has.are;
       end_is = c.after.ensures.end;
       name_is = c.after.ensures.name;
       journal_is = c.after.ensures.journal;
