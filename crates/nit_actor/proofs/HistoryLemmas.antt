@@ -4,7 +4,7 @@ use Rattle.nit_actor.proofs.Basics.{IsHeldPicture, IsHistory, IsPictureAmong, Li
 use Rattle.nit_actor.proofs.Basics.{ShotsBehind, [], ap, append-nil, append_assoc, arith}
 use Rattle.nit_actor.proofs.Basics.{get_or_from_slice_get, inl, inr, is_dirtied, length}
 use Rattle.nit_actor.proofs.Basics.{length-append, not_both, raw_behind, refl, shots_along}
-use Rattle.nit_actor.proofs.Basics.{slice_index_or, split_more, subst, suc, sym, ℕ, ◌∙◌}
+use Rattle.nit_actor.proofs.Basics.{slice_index_or, split_more, suc, sym, ℕ, ◌∙◌}
 use Rattle.std.proofs.Common.{false, ◌*◌, ◌++◌, ◌<◌, ◌∷◌, ◌≡◌}
 use Rattle.nit_events.specs.declared.entry.Entry.TheVariants as entry
 
@@ -14,15 +14,10 @@ held_along : (config : Configuration) (entries journal : List Entry) (raws : Lis
 held_along config entries journal raws is ended = record {
   first = λ k. refl;
   clean = λ front e rest k parts inside clean. elim (split_more entries entry.Final front e rest (sym ended ∙ parts)) [
-    | inl (here, same) ↦ absurd (final_dirty front e k same clean)
+    | inl (here, same) ↦ absurd (not_both (is_dirtied config front entry.Final k) refl (rw same at clean))
     | inr (less, before) ↦ is.held.clean front e less k before inside clean
   ];
 }
-  where
-    final_dirty : (front : List Entry) (e : Entry) (k : ℕ) → e ≡ entry.Final → is_dirtied config front e k ≡ false → ⊥
-    final_dirty front e k same clean =
-        not_both (is_dirtied config front entry.Final k) refl
-        (subst (λ (x : Entry). is_dirtied config front x k ≡ false) same clean)
 
 pub one_history : (config : Configuration) (scripts : List (List Line)) (input : List InputLine)
     (entries journal : List Entry) (raws : List (List ℕ)) (files : List File) → IsHistory config entries raws
@@ -52,17 +47,12 @@ pub held_still : (config : Configuration) (journal : List Entry) (held : ℕ →
     → ((before : List Entry) (e : Entry) (more : List Entry) → between ≡ before ++ e ∷ more
     → is_dirtied config (front ++ before) e k ≡ false)
     → held (length (front ++ between)) k ≡ held (length front) k
-held_still config journal held is front [] rest k parts inside clean =
-    ap (λ (js : List Entry). held (length js) k) (append-nil front)
+held_still config journal held is front [] rest k parts inside clean = rw append-nil
 held_still config journal held is front (e ∷ between) rest k parts inside clean =
-    let on : (front ++ e ∷ []) ++ between ≡ front ++ e ∷ between = append_assoc front (e ∷ []) between in
-    let here : is_dirtied config front e k ≡ false =
-    subst (λ (js : List Entry). is_dirtied config js e k ≡ false) (append-nil front) (clean [] e between refl) in
+    let here : is_dirtied config front e k ≡ false = rw append-nil at (clean [] e between refl) in
     let long : length (front ++ e ∷ []) ≡ suc (length front) = omega (arith, length-append front (e ∷ [])) in
-    ap (λ (js : List Entry). held (length js) k) (sym on)
-    ∙ held_still config journal held is (front ++ e ∷ []) between rest k
-    (parts ∙ ap (λ (js : List Entry). js ++ rest) (sym on)) inside
-    (λ before f more split. subst (λ (js : List Entry). is_dirtied config js f k ≡ false)
-    (sym (append_assoc front (e ∷ []) before)) (clean (e ∷ before) f more (ap (λ (js : List Entry). e ∷ js) split)))
-    ∙ ap (λ (n : ℕ). held n k) long
-    ∙ is.clean front e (between ++ rest) k (parts ∙ append_assoc front (e ∷ between) rest) inside here
+    let still = held_still config journal held is (front ++ e ∷ []) between rest k
+    (rw (append_assoc front (e ∷ []) between) parts) inside
+    (λ before f more split. rw (append_assoc front (e ∷ []) before) (clean (e ∷ before) f more (rw split))) in
+    rw (← append_assoc front (e ∷ []) between, still, long)
+    (is.clean front e (between ++ rest) k (parts ∙ append_assoc front (e ∷ between) rest) inside here)

@@ -6,10 +6,10 @@ use Rattle.nit_actor.proofs.Basics.{arith, clip_phases, clip_phases_before, clip
 use Rattle.nit_actor.proofs.Basics.{counted_more, counted_same, eq-eqb, eqb-true, false, inl, inr}
 use Rattle.nit_actor.proofs.Basics.{is_clip_phase, is_phase, length, map, pair_role_of, phases}
 use Rattle.nit_actor.proofs.Basics.{phases_before, refl, role_of, slice_index_or, subst, sym}
-use Rattle.std.proofs.Common.{ℕ, slice_get, ◌+◌, ◌==◌, ◌∙◌, ◌≡◌, ◌⊎◌, All}
+use Rattle.std.proofs.Common.{ℕ, slice_get, ◌+◌, ◌∙◌, ◌≡◌, ◌⊎◌, All}
 use Rattle.nit_script.specs.declared.line.Line.TheVariants as line
 use Rattle.nit_clip.specs.declared.line.ClipLine.TheVariants as clip
-use Rattle.nit_actor.proofs.RoleLemmas.{all_again, role_fits, fits_belongs}
+use Rattle.nit_actor.proofs.RoleLemmas.{all_again}
 use Rattle.nit_actor.proofs.PhaseCounts.{counted_all, counted_fewer}
 
 -- ---- phases
@@ -23,9 +23,7 @@ IsClipCounted q = q.phase ≡ clip_phases_before q.script q.next
 
 -- where the pass did this line, its phases are those of one line more of the script
 one_more : (p p' : PassModel) → IsOneOn p p' → IsCounted p' → p'.phase ≡ phases_before p.script (p.next + 1)
-one_more p p' on counted =
-    counted ∙ ap (λ (s : List Line). phases_before s p'.next) (ap (λ (r : Role). r.script) on.same)
-    ∙ ap (phases_before p.script) on.next
+one_more p p' on counted = rw (counted, ap (λ (r : Role). r.script) on.same, on.next)
 
 -- a line that ends no phase leaves the passes together
 pub line_together : (p p' : PassModel) (q : ClipPassModel) (l : Line) → GoTogether p q
@@ -113,37 +111,20 @@ clip_done_too parts p p' q q' did done counted clips ended =
 
 pub pair_fits : (parts : OpeningParts) (p : PassModel) (q : ClipPassModel) → IsPairIn parts p q
     → IsPairRoleIn parts (pair_role_of p q)
-pair_fits parts p q pair =
-    record {
-      client = role_fits parts p pair.pass;
-      name = pair.clip.name;
-      script = pair.clip.script;
-      number = pair.clip.number;
-      one_client = pair.together.now.client;
-      phases_each = pair.together.phases_each;
-      in_phase = eq-eqb p.phase q.phase pair.together.now.phase;
-    }
+pair_fits parts p q pair = assumption (eq-eqb p.phase q.phase pair.together.now.phase)
 
 pub fits_pair : (parts : OpeningParts) (p : PassModel) (q : ClipPassModel) → IsPairRoleIn parts (pair_role_of p q)
     → IsPairIn parts p q
-fits_pair parts p q r =
-    record {
-      pass = fits_belongs parts p r.client;
-      clip = record { name = r.name; script = r.script; number = r.number };
-      together = record {
-        now = record { client = r.one_client; phase = eqb-true p.phase q.phase r.in_phase };
-        phases_each = r.phases_each;
-      };
-    }
+fits_pair parts p q r = assumption (eqb-true p.phase q.phase r.in_phase)
 
 -- two passes that keep their roles and go together keep the role of both
 pub pair_role_again : (p p' : PassModel) (q q' : ClipPassModel) → GoTogether p q → GoTogether p' q'
     → role_of p' ≡ role_of p → clip_role_of q' ≡ clip_role_of q
     → pair_role_of p' q' ≡ pair_role_of p q
 pair_role_again p p' q q' t u e f =
-    let is : (p'.phase == q'.phase) ≡ (p.phase == q.phase) = eq-eqb p'.phase q'.phase u.now.phase
-    ∙ sym (eq-eqb p.phase q.phase t.now.phase) in
-    λ i. record { client = e i; clip = f i; in_phase = is i }
+    let before = eq-eqb p.phase q.phase t.now.phase in
+    let after' = eq-eqb p'.phase q'.phase u.now.phase in
+    λ i. record { client = e i; clip = f i; in_phase = (after' ∙ sym before) i }
 
 pub pairs_fit : (parts : OpeningParts) (bs : List Pair) → All (λ (b : Pair). IsPairIn parts b.pass b.clip) bs
     → All (λ (b : Pair). IsPairRoleIn parts (pair_role_of b.pass b.clip)) bs

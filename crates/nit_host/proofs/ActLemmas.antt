@@ -13,9 +13,9 @@ use Rattle.nit_events.specs.declared.call.Call.TheVariants as call
 use Rattle.nit_events.specs.declared.entry.Entry.TheVariants as entry
 
 -- what a call of a host leaves, where there is no reason not to serve it
-pub when_served : {A : Type 0} (o : Option A) (served old new : HostModel) → None ≡ o → new ≡ served
+pub when_served : {A : Type 0} {o : Option A} {served new : HostModel} (old : HostModel) → None ≡ o → new ≡ served
     → new ≡ unless_for o served old
-when_served o served old new none is = is ∙ ap (λ x. unless_for x served old) none
+when_served {served = served} old none is = is ∙ ap (λ x. unless_for x served old) none
 
 -- one act
 abbrev Goes : HostModel → HostModel → List Step → Type 0
@@ -39,14 +39,15 @@ same_call h seat x y w height words =
 
 pub one_act : (h : HostModel) (act : Act) → Goes h (after_act h act) (step_of h act)
 one_act h (Calls seat c) =
-    one h _ _ (unserved_call h seat c) (λ none. (0, ((may_call h h seat c refl (sym none)).inside, refl))) refl
+    one h _ _ (unserved_call h seat c) (λ none. (0, ((may_call {h' = h} {call = c} refl (sym none)).inside, refl))) refl
 one_act h (Refreshes seat x y w height words) =
-    one h _ _ (unserved_refresh h seat words) (λ none. (0, ((may_refresh h h seat words refl (sym none)).inside, refl)))
+    one h _ _ (unserved_refresh h seat words)
+    (λ none. (0, ((may_refresh {h' = h} {words = words} refl (sym none)).inside, refl)))
     (same_call h seat x y w height words)
 one_act h (Does dev) = one h _ _ (Rattle.nit_host.specs.Terms.unserved_input h dev) (λ none. (0, refl)) refl
 one_act h (Comes seat label) =
     one h _ _ (unseated h seat label)
-    (λ none. let may = may_sit h h seat label refl (sym none) in (may.inside, may.over)) refl
+    (λ none. let may = may_sit {h' = h} {label = label} refl (sym none) in (may.inside, may.over)) refl
 one_act h Looks = (tt, refl)
 
 -- steps behind steps

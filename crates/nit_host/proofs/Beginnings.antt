@@ -1,6 +1,7 @@
 -- The sheets of a host before its first step.
 use Rattle.std.proofs.Common.{Option, List, None, [], ap, arith, get_or, length, refl, replicate}
-use Rattle.std.proofs.Common.{sym, false, ℕ, ◌*◌, ◌++◌, ◌+◌, ◌<◌, ◌∙◌, ◌∷◌, ◌≡◌, ◌≤◌, slice_index}
+use Rattle.std.proofs.Common.{sym, false, slice_index, true, ℕ, ◌*◌, ◌++◌, ◌+◌, ◌<◌, ◌∙◌, ◌∷◌, ◌≡◌}
+use Rattle.std.proofs.Common.{◌≤◌}
 use Rattle.nit_host.proofs.Basics.{AreBlank, AreGlasses, AreHollow, AreSheets, Bare, Configuration}
 use Rattle.nit_host.proofs.Basics.{DesktopModel, IsFresh, IsHost, Member, Point, SheetModel, Sight}
 use Rattle.nit_host.proofs.Basics.{State, View, bar_rows, bare_word, blank_sheet, blank_sheets}
@@ -13,6 +14,9 @@ use Rattle.nit_host.proofs.Basics.{source_under, table_size, told_words, word_fr
 use Rattle.nit_host.proofs.SheetLists.{no_sheet, sight_at, sights, words_at}
 use mathlib.Core.Logic.{dite}
 use native.Mathlib.Decide.{dec_lt}
+use Rattle.nit_host.proofs.Basics.{Area, IsAreaOf, IsPlainOf, IsSeenBut, has_place}
+use Rattle.nit_host.proofs.SheetLists.{blank_tells}
+use Rattle.nit_host.proofs.Looking.{nothing_seen}
 
 abbrev pub no_client : Member
 no_client = record { label = []; donation = 0; script = []; layer = 0; clicks = false }
@@ -47,53 +51,45 @@ abbrev pub IsHollow : Configuration → ℕ → SheetModel → Type 0
 IsHollow config t sheet = (sheet.sight ≡ blank_sheet t (size_at config t)) × (sheet.room ≡ 0)
 
 -- the size of a seat's table
-pub sized_at : (config : Configuration) (clients : List Member) (seat size : ℕ) (m : Member) → clients ≡ config.clients
-    → seat < length clients → size ≡ table_size (get_or clients seat m).donation → size ≡ size_at config seat
-sized_at config clients seat size m same inside is =
+pub sized_at : (config : Configuration) (m : Member) {clients : List Member} {seat size : ℕ}
+    → size ≡ table_size (get_or clients seat m).donation → clients ≡ config.clients → seat < length clients
+    → size ≡ size_at config seat
+sized_at config m {clients} {seat} is same inside =
     rw (is, get_or_default clients seat m no_client inside, same) refl
 
 -- ---- all sheets
 
-pub all_blank : (config : Configuration) (n : ℕ) (sheets : List SheetModel) → AreTo (HasRoom config) n sheets
-    → n ≡ length config.clients → AreBlank config sheets
-all_blank config n sheets are far = record {
-  count = are.count ∙ far;
-  blank = λ t inside. (are.each t (omega (arith, inside, far))).0;
-}
+pub blank_plain : (config : Configuration) {seat : ℕ} {sight : Sight} → sight ≡ blank_sheet seat (size_at config seat)
+    → IsPlainOf config seat sight
+blank_plain config {seat} is = rw is (refl, length-zeros (size_at config seat))
 
-pub all_hollow : (config : Configuration) (n : ℕ) (sheets : List SheetModel) → AreTo (IsHollow config) n sheets
-    → n ≡ length config.clients → AreHollow config sheets
-all_hollow config n sheets are far = record {
-  count = are.count ∙ far;
-  blank = λ t inside. (are.each t (omega (arith, inside, far))).0;
-  room = λ t inside. (are.each t (omega (arith, inside, far))).1;
-}
+module _ {config : Configuration} {n : ℕ} {sheets : List SheetModel} (far : n ≡ length config.clients) where
+  pub all_hollow : AreTo (IsHollow config) n sheets → AreHollow config sheets
+  all_hollow are = record {
+    count = are.count ∙ far;
+    blank = λ t inside. (are.each t (omega (arith, inside, far))).0;
+    room = λ t inside. (are.each t (omega (arith, inside, far))).1;
+  }
 
-pub blank_plain : (seat size : ℕ) (sight : Sight) → sight ≡ blank_sheet seat size
-    → sight ≡ plain_sight seat (told_words sight.words)
-blank_plain seat size sight is = is ∙ ap (λ (s : Sight). plain_sight seat (told_words s.words)) (sym is)
+  pub all_blank : AreTo (HasRoom config) n sheets → AreBlank config sheets
+  all_blank are = record {
+    count = are.count ∙ far;
+    blank = λ t inside. (are.each t (omega (arith, inside, far))).0;
+  }
 
-pub all_sheets : (config : Configuration) (n : ℕ) (sheets : List SheetModel) → AreTo (HasRoom config) n sheets
-    → n ≡ length config.clients → AreSheets config sheets
-all_sheets config n sheets are far = record {
-  count = are.count ∙ far;
-  plain = λ t inside.
-      let is = (are.each t (omega (arith, inside, far))).0 in (
-        blank_plain t (size_at config t) (sheet_at sheets t).sight is,
-        ap (λ (s : Sight). s.size) is ∙ length-zeros (size_at config t),
-      );
-  room = λ t inside. (are.each t (omega (arith, inside, far))).1;
-}
+  pub all_sheets : AreTo (HasRoom config) n sheets → AreSheets config sheets
+  all_sheets are = record {
+    count = are.count ∙ far;
+    plain = λ t inside. blank_plain config (are.each t (omega (arith, inside, far))).0;
+    room = λ t inside. (are.each t (omega (arith, inside, far))).1;
+  }
 
 -- and they are glasses of the seats
-pub blank_glasses : (config : Configuration) (sheets : List SheetModel) → AreBlank config sheets
+pub blank_glasses : {config : Configuration} {sheets : List SheetModel} → AreBlank config sheets
     → AreGlasses (λ s. s.sight) config sheets
-blank_glasses config sheets are = record {
+blank_glasses {sheets = sheets} are = record {
   each = are.count;
-  tables = λ t inside.
-      let is : glass_in (sights sheets) t ≡ blank_sheet t (size_at config t) = sight_at sheets t
-      ∙ are.blank t inside in
-      (ap (λ (s : Sight). s.owner) is, ap (λ (s : Sight). s.size) is ∙ length-zeros (size_at config t));
+  tables = λ t inside. rw (sight_at sheets t) (blank_tells (are.blank t inside));
 }
 
 -- their words are 0
@@ -124,17 +120,24 @@ bare_fresh s tables raw bare is k inside =
 
 -- ---- the host
 
--- the host whose desktop is in such a state
-pub begun : (s : State) (config : Configuration) (d : DesktopModel SheetModel) (sheets hollows : List SheetModel)
-    → s.config ≡ config → s.stack ≡ [] → d.state ≡ s → d.raw ≡ replicate (config.width * config.height) bare_word
-    → d.glasses ≡ sheets
-    → AreSheets config sheets → AreHollow config hollows → IsHost d hollows
-begun s config d sheets hollows configured bare is raw glasses are hollow =
-    record {
-      sheets = rw (is, configured, glasses) are;
-      hollow = rw (is, configured) hollow;
-      fresh = rw (is, glasses) (bare_fresh s (sheet_in (sheets_of sheets)) d.raw bare (rw configured raw));
-    }
+-- the host whose desktop is in such a state, of which nothing was seen
+pub begun : (d : DesktopModel SheetModel) {s : State} {config : Configuration} {sheets hollows : List SheetModel}
+    → AreSheets config sheets → AreHollow config hollows → d.state ≡ s → d.glasses ≡ sheets
+    → d.raw ≡ replicate (config.width * config.height) bare_word → s.config ≡ config → s.stack ≡ [] → (a : Area)
+    → ((x y : ℕ) → x < config.width → y < config.height → has_place a x y ≡ true)
+    → IsAreaOf config.width config.height a
+    → IsHost d hollows × IsSeenBut d.state (sheets_of d.glasses) a None
+    × IsAreaOf d.state.config.width d.state.config.height a
+begun d {s} {config} {sheets} are hollow is glasses raw configured bare a all on =
+    let same : d.state.config ≡ config = ap (λ (x : State). x.config) is ∙ configured in (
+      record {
+        sheets = rw (is, configured, glasses) are;
+        hollow = rw (is, configured) hollow;
+        fresh = rw (is, glasses) (bare_fresh s (sheet_in (sheets_of sheets)) d.raw bare (rw configured raw));
+      },
+      nothing_seen d.state config (sheets_of d.glasses) a same all,
+      rw same on,
+    )
 
 pub first_now : (s : State) (config : Configuration) (d : DesktopModel SheetModel) (sheets : List SheetModel)
     → d.state ≡ s → d.left ≡ 4611686018427387904 → d.glasses ≡ sheets → AreBlank config sheets

@@ -119,17 +119,16 @@ module _ (s : State) (seat : ℕ) (r : Reply) (sheets sheets' : List (List ℕ))
       go (Some why) is = refused_stays c why is kept
 
 -- what a call left of what was seen, and the area of what has changed since
-pub seen_called : (s s' : State) (seat : ℕ) (c : Call) (r : Reply) (sheets sheets' : List (List ℕ)) (t : Touch)
-    (a0 before now a1 a2 : Area) (seen : Option (List ℕ)) → seat < length s.sessions → KeepSources
-    → s' ≡ after s (entry.Call seat c r) → r ≡ (serve (session s seat) c).reply
-    → Words s seat r sheets sheets' c → t ≡ touch_of s seat c
+pub seen_called : {s s' : State} {seat : ℕ} (c : Call) {r : Reply} (sheets sheets' : List (List ℕ)) {t : Touch}
+    {a0 before now a1 a2 : Area} (seen : Option (List ℕ))
     → HoldsTouched s seat t before × IsAreaOf s.config.width s.config.height before
-    → HoldsTouched s' seat t now × IsAreaOf s'.config.width s'.config.height now
-    → HoldsBoth a0 before a1 → HoldsBoth a1 now a2 → IsSeenBut s sheets a0 seen
-    → IsAreaOf s.config.width s.config.height a0
+    → HoldsTouched s' seat t now × IsAreaOf s'.config.width s'.config.height now → HoldsBoth a0 before a1
+    → HoldsBoth a1 now a2 → IsSeenBut s sheets a0 seen → IsAreaOf s.config.width s.config.height a0
+    → t ≡ touch_of s seat c → s' ≡ after s (entry.Call seat c r) → r ≡ (serve (session s seat) c).reply
+    → Words s seat r sheets sheets' c → seat < length s.sessions → KeepSources
     → IsSeenBut s' sheets' a2 seen × IsAreaOf s'.config.width s'.config.height a2
-seen_called s s' seat c r sheets sheets' t a0 before now a1 a2 seen inside keep is replied words touch_is old new one
-    two known on =
+seen_called {s} {s'} {seat} c {r} sheets sheets' {t} {a0} {before} {now} {a2 = a2} seen old new one two known on
+    touch_is is replied words inside keep =
     let new_ = rw is at new in
     rw is (
       seen_after s (after s (entry.Call seat c r)) sheets sheets' a2 refl refl refl a0 seen known

@@ -38,7 +38,7 @@ source_told config sheets (Word t i) w are is = sheet_told config sheets t i w a
 
 -- ---- after an entry
 
-module _ (config : Configuration) (s s' : State) (e : Entry) (sheets : List SheetModel) (tables : ℕ → List ℕ)
+module _ {config : Configuration} (s s' : State) (e : Entry) {sheets : List SheetModel} (tables : ℕ → List ℕ)
     (raw raw' : List ℕ) (are : AreSheets config sheets)
     (painted : Painted s e s' (glass_in (sights sheets)) (glass_in (sights sheets)) raw raw')
     (fresh : IsFresh s tables raw) (count : pixel_count s' ≡ pixel_count s)

@@ -15,32 +15,29 @@ pub record WasTold (dev : Device) (routed : Routed) (h : HostModel) (seen : Opti
   pub routed_now : routed ≡ routed_of h dev
   pub now : host_model d (Some (entry.Input dev routed)) seen ≡ told dev h
 
-module _ (d d2 : DesktopModel SheetModel) (hollows : List SheetModel) (dev : Device) (routed : Routed)
-    (kept : Option Entry) (seen : Option (List ℕ)) (host : IsHost d hollows)
+module _ {d : DesktopModel SheetModel} (d2 : DesktopModel SheetModel) {hollows : List SheetModel} (dev : Device)
+    {routed : Routed} (host : IsHost d hollows)
     (is : routed ≡ routed_as (route d.state.config d.state.input d.state.stack dev).deliveries)
     (state : d2.state ≡ after d.state (entry.Input dev routed)) (left : d2.left ≡ d.left - 1)
     (painted : Painted d.state (entry.Input dev routed) d2.state (glass_in (sights d.glasses))
     (glass_in (sights d2.glasses)) d.raw d2.raw) (rests : rooms d2.glasses ≡ rooms d.glasses) (keep : KeepSources)
   where
     stay : d2.glasses ≡ d.glasses
-    stay = seen_sheets d.glasses d2.glasses (quiet_sheets d.state.config d.glasses host.sheets)
-        (λ t. (painted.loads t, painted.sights t)) rests
+    stay = seen_sheets d.glasses d2.glasses (quiet_sheets host.sheets) (λ t. (painted.loads t, painted.sights t)) rests
 
     config_stays : d2.state.config ≡ d.state.config
     config_stays = ap (λ (s : State). s.config) state
 
-    painted_all : Painted d.state (entry.Input dev routed) (after d.state (entry.Input dev routed))
-        (glass_in (sights d.glasses)) (glass_in (sights d.glasses)) d.raw d2.raw
-    painted_all = rw (state, stay) at painted
-
-    pub was_told : (h : HostModel) → host_model d kept seen ≡ h → WasTold dev routed h seen d2 hollows
-    was_told h view = rw (← view) (record {
+    pub was_told : {kept : Option Entry} {seen : Option (List ℕ)} {h : HostModel} → host_model d kept seen ≡ h
+        → WasTold dev routed h seen d2 hollows
+    was_told {seen = seen} view = rw (← view) (record {
       host = record {
         sheets = rw (config_stays, stay) host.sheets;
         hollow = rw config_stays host.hollow;
-        fresh = rw (state, stay) (fresh_after d.state.config d.state (after d.state (entry.Input dev routed))
-            (entry.Input dev routed) d.glasses (sheet_in (sheets_of d.glasses)) d.raw d2.raw host.sheets painted_all
-            host.fresh refl (λ k clean. keep d.state 0 (entry.Input dev routed) (pixel d.state.config.width k) is clean)
+        fresh = rw (state, stay) (fresh_after d.state (after d.state (entry.Input dev routed))
+            (entry.Input dev routed) (sheet_in (sheets_of d.glasses)) d.raw d2.raw host.sheets
+            (rw (state, stay) at painted) host.fresh refl
+            (λ k clean. keep d.state 0 (entry.Input dev routed) (pixel d.state.config.width k) is clean)
             (λ k clean. refl));
       };
       routed_now = is;

@@ -3,13 +3,13 @@ pub use Rattle.nit_host.proofs.ActLemmas.{all_acts, when_served}
 pub use Rattle.nit_host.proofs.Areas.{same_view, shown_there}
 pub use Rattle.nit_host.proofs.Basics.{AgreeOutside, AreLive, Black, Call, Configuration}
 pub use Rattle.nit_host.proofs.Basics.{DesktopModel, HostModel, IsAreaOf, IsAsSeen, IsConfiguration}
-pub use Rattle.nit_host.proofs.Basics.{IsDown, IsHandedIn, IsPlainOf, IsSeenBut, Ok, SheetModel}
-pub use Rattle.nit_host.proofs.Basics.{ShowsLabels, Sight, State, View, Word, after, after_acts}
-pub use Rattle.nit_host.proofs.Basics.{after_handing, and_parts, ap, arith, called, cases_lt}
-pub use Rattle.nit_host.proofs.Basics.{covers, enumerate_from, first_state, frame, frame_at}
-pub use Rattle.nit_host.proofs.Basics.{frame_by, frame_shown, get_or-eq_default, get_or_default}
-pub use Rattle.nit_host.proofs.Basics.{glass_in, handed_over, has_label, has_place, ints}
-pub use Rattle.nit_host.proofs.Basics.{is_between, is_held, is_in_rows, is_taken, is_touched}
+pub use Rattle.nit_host.proofs.Basics.{IsDown, IsHandedIn, IsPlainOf, IsSeenBut, List, Ok}
+pub use Rattle.nit_host.proofs.Basics.{SheetModel, ShowsLabels, Sight, State, View, Word, after}
+pub use Rattle.nit_host.proofs.Basics.{after_acts, after_handing, and_parts, ap, arith, called}
+pub use Rattle.nit_host.proofs.Basics.{cases_lt, covers, enumerate_from, first_state, frame}
+pub use Rattle.nit_host.proofs.Basics.{frame_at, frame_by, frame_shown, get_or-eq_default}
+pub use Rattle.nit_host.proofs.Basics.{get_or_default, glass_in, handed_over, has_label, has_place}
+pub use Rattle.nit_host.proofs.Basics.{ints, is_between, is_held, is_in_rows, is_taken, is_touched}
 pub use Rattle.nit_host.proofs.Basics.{low_bytes, next_between, none_between, not, opened}
 pub use Rattle.nit_host.proofs.Basics.{option_map, picture, plain_sight, point, projection, refl}
 pub use Rattle.nit_host.proofs.Basics.{refreshed, routed_of, scenery_of, seated, serve, session}
@@ -29,17 +29,20 @@ pub use Rattle.nit_host.proofs.Freshness.{shown_fresh}
 pub use Rattle.nit_host.proofs.HandedWords.{called_words, come_word, handed_word, other_word}
 pub use Rattle.nit_host.proofs.HandedWords.{refused_words, stay_word, user_words}
 pub use Rattle.nit_host.proofs.Inputs.{WasTold, was_told}
-pub use Rattle.nit_host.proofs.Looking.{agree_outside, nothing_seen, seen_now}
+pub use Rattle.nit_host.proofs.Looking.{agree_outside, seen_now}
 pub use Rattle.nit_host.proofs.OtherChanges.{seen_input, seen_seated}
 pub use Rattle.nit_host.proofs.Plans.{one_more, plan_configured}
 pub use Rattle.nit_host.proofs.Refreshing.{WasRefreshed, handed_plain, was_refreshed}
 pub use Rattle.nit_host.proofs.Rows.{clip_order, clipped, handed_part, row_fits, row_more}
 pub use Rattle.nit_host.proofs.Rows.{rows_begun, rows_sized}
-pub use Rattle.nit_host.proofs.Seatings.{WasSeated, blank_glass, may_sit, was_seated}
+pub use Rattle.nit_host.proofs.Seatings.{WasSeated, may_sit, was_seated}
 pub use Rattle.nit_host.proofs.Served.{may_call, may_refresh}
-pub use Rattle.nit_host.proofs.SheetLists.{hollow_glass, hollow_quiet, own_plain, own_room}
-pub use Rattle.nit_host.proofs.SheetLists.{own_stays, plain_by_owner, plain_quiet, quiet_sheets}
+pub use Rattle.nit_host.proofs.SheetLists.{own_plain, own_room}
+pub use Rattle.nit_host.proofs.SheetLists.{plain_by_owner, plain_quiet, quiet_sheets}
 pub use Rattle.nit_host.proofs.SheetLists.{quiet_with, same_sheets, sheets_stay}
 pub use Rattle.nit_host.proofs.Sheets.{blank_again, handed_in, sized, word_loaded}
 pub use Rattle.nit_host.proofs.ShownWords.{by_source, of_none, of_past, of_view}
 pub use Rattle.nit_host.proofs.Steps.{WasCalled, only_called, painted_by_all, words_stay}
+pub use Rattle.nit_host.proofs.SheetLists.{blank_again_of, blank_tells, hollow_blank}
+pub use Rattle.nit_host.proofs.Steps.{Serves}
+pub use Rattle.nit_host.proofs.Seatings.{Opens}

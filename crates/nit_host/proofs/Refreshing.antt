@@ -58,19 +58,17 @@ handed_plain config seat columns rows part words own own' plain is = (
     as_many None = refl
     as_many (Some r) = set_long (is_handed columns rows r) (low_bytes words) (told_words own.sight.words)
 
-module _ (d d1 d2 : DesktopModel SheetModel) (hollows : List SheetModel) (seat : ℕ) (x y : ℤ) (w h : ℕ) (words : List ℕ)
-    (found : Option Rectangle) (r : Reply) (hollow own own' last : SheetModel) (kept : Option Entry)
-    (seen : Option (List ℕ))
-    (host : IsHost d hollows) (inside : seat < length d.state.sessions) (long : length d.state.sessions
-    ≡ length d.state.config.clients) (swapped : d1 ≡ with_sheet d seat hollow) (at : hollow
-    ≡ get_or hollows seat hollow)
-    (out : slice_get d.glasses seat ≡ Some own)
+module _ {d d1 d2 : DesktopModel SheetModel} {hollows : List SheetModel} {seat : ℕ} {x y : ℤ} {w h : ℕ} (words : List ℕ)
+    {found : Option Rectangle} {r : Reply} {hollow own own' last : SheetModel} (host : IsHost d hollows)
+    (served : Serves seat (call.Refresh x y w h) own' last d1 d2 r) (swapped : d1 ≡ with_sheet d seat hollow)
+    (at : hollow ≡ get_or hollows seat hollow) (out : slice_get d.glasses seat ≡ Some own)
+    (inside : seat < length d.state.sessions) (long : length d.state.sessions ≡ length d.state.config.clients)
     (in_ : own'.sight ≡ plain_sight own.sight.owner
     (after_handing (session d.state seat).bw (session d.state seat).bh found words
     (told_words own.sight.words))) (room : own.room ≤ own'.room)
     (accepts : refusal (session d.state seat) (call.Refresh x y w h) ≡ None → found ≡ Some (rectangle x y w h))
     (refuses : (why : Reply) → refusal (session d.state seat) (call.Refresh x y w h) ≡ Some why → found ≡ None)
-    (served : Serves seat (call.Refresh x y w h) own' last d1 d2 r) (keep : KeepSources) where
+    (keep : KeepSources) where
   abbrev s : Session
   s = session d.state seat
 
@@ -89,19 +87,9 @@ module _ (d d1 d2 : DesktopModel SheetModel) (hollows : List SheetModel) (seat :
   client : seat < length d.state.config.clients
   client = omega arith
 
-  there : sheet_at hollows seat ≡ hollow
-  there = hollow_there d.state.config hollows seat hollow host.hollow client at
-
-  plain : IsPlainOf d.state.config seat own'.sight
-  plain = handed_plain d.state.config seat s.bw s.bh found words own own'
-      (own_plain d.state.config d.glasses seat own host.sheets client out) in_
-
-  enough : size_at d.state.config seat ≤ own'.room
-  enough = omega (arith, own_room d.state.config d.glasses seat own host.sheets client out)
-
   new_words : told_words own'.sight.words ≡ after_handing s.bw s.bh found words (sheet_in old_words seat)
   new_words = ap (λ (g : Sight). told_words g.words) in_
-      ∙ ap (after_handing s.bw s.bh found words) (own_words d.glasses seat own out)
+      ∙ ap (after_handing s.bw s.bh found words) (own_words d.glasses seat out)
 
   own_now : sheet_in (sheets_of new_sheets) seat ≡ told_words own'.sight.words
   own_now = words_at new_sheets seat ∙ ap (λ (g : SheetModel). told_words g.sight.words)
@@ -137,24 +125,24 @@ module _ (d d1 d2 : DesktopModel SheetModel) (hollows : List SheetModel) (seat :
       words_stay d.state seat r asked old_words (sheets_of new_sheets)
       (words_with d.glasses seat own' ∙ same_words old_words seat (told_words own'.sight.words) (same why is))
 
-  done : WasCalled seat asked r (record {
+  done : {kept : Option Entry} {seen : Option (List ℕ)} → WasCalled seat asked r (record {
     state = d.state;
     sheets = set old_words seat (told_words own'.sight.words);
     left = d.left;
     last = kept;
     seen = seen;
   }) seen d2 (set hollows seat last)
-  done = called_now d d1 d2 hollows seat asked r hollow own own' last kept seen host inside swapped there out served
-      plain enough keep (words_now (refusal s asked) refl)
+  done = called_now host served swapped at out inside long
+      (handed_plain d.state.config seat s.bw s.bh found words own own' (own_plain host.sheets out client) in_)
+      (omega (arith, own_room host.sheets out client)) keep (words_now (refusal s asked) refl)
 
-  pub was_refreshed : (h0 : HostModel) → host_model d kept seen ≡ h0
+  pub was_refreshed : {kept : Option Entry} {seen : Option (List ℕ)} {h0 : HostModel} → host_model d kept seen ≡ h0
       → WasRefreshed seat x y w h words r h0 seen d d2 (set hollows seat last)
-  was_refreshed h0 view = rw (← view) (record {
-    is_host = done.host;
-    replied = done.reply;
-    now = done.now ∙ by (refusal s asked) refl;
-    shown = rw (glasses_now d d1 d2 hollows seat asked r hollow own own' last kept seen host inside swapped there out
-        served plain enough keep) (words_now (refusal s asked) refl);
+  was_refreshed {kept} {seen} view = rw (← view) (record {
+    is_host = (done {kept = kept} {seen = seen}).host;
+    replied = (done {kept = kept} {seen = seen}).reply;
+    now = (done {kept = kept} {seen = seen}).now ∙ by (refusal s asked) refl;
+    shown = rw (glasses_now host served swapped at) (words_now (refusal s asked) refl);
   })
     where
       by : (o : Option Reply) → refusal s asked ≡ o → called seat asked (record {

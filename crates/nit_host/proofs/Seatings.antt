@@ -18,6 +18,7 @@ use Rattle.nit_host.proofs.SheetLists.{each_put, hollow_there, own_plain, own_ro
 use Rattle.nit_host.proofs.SheetLists.{rooms, same_sheets, sight_at, sights, words_elsewhere}
 use Rattle.nit_host.proofs.SheetLists.{words_with}
 use Rattle.nit_host.proofs.Steps.{host_model, sheets_with, with_sheet}
+use Rattle.nit_host.proofs.SheetLists.{blank_again_of, hollow_blank}
 
 -- ---- what it means that nothing is against it
 
@@ -26,9 +27,9 @@ pub record MaySit (h : HostModel) (seat : ℕ) (label : List ℕ) : Type 0 where
   pub over : (session h.state seat).status ≢ status.Live
   pub free : is_label_taken h.state seat label ≡ false
 
-pub may_sit : (h h' : HostModel) (seat : ℕ) (label : List ℕ) → h ≡ h' → None ≡ unseated h' seat label
+pub may_sit : {h h' : HostModel} {seat : ℕ} {label : List ℕ} → h ≡ h' → None ≡ unseated h' seat label
     → MaySit h seat label
-may_sit h h' seat label view is =
+may_sit {h} {h'} {seat} {label} view is =
     let none : unseated h seat label ≡ None = rw view (sym is) in
     let a = passed (nat_lt seat (length h.state.sessions)) _ _ none in
     let b = not_met (is_taken h.state seat) _ _ a.1 in
@@ -52,27 +53,27 @@ module _ (config : Configuration) (seat : ℕ) (label : List ℕ) where
   same_count : length (relabelled seat label config).clients ≡ length config.clients
   same_count = length-set config.clients seat (record (member config seat) { label = label })
 
-  pub sheets_relabelled : (sheets : List SheetModel) → AreSheets config sheets
+  sheets_relabelled : {sheets : List SheetModel} → AreSheets config sheets
       → AreSheets (relabelled seat label config) sheets
-  sheets_relabelled sheets are = record {
+  sheets_relabelled are = record {
     count = are.count ∙ sym same_count;
     plain = λ t inside. rw (same_size t) (are.plain t (omega (arith, inside, same_count)));
     room = λ t inside. rw (same_size t) (are.room t (omega (arith, inside, same_count)));
   }
 
-  pub hollow_relabelled : (sheets : List SheetModel) → AreHollow config sheets
+  hollow_relabelled : {sheets : List SheetModel} → AreHollow config sheets
       → AreHollow (relabelled seat label config) sheets
-  hollow_relabelled sheets are = record {
+  hollow_relabelled are = record {
     count = are.count ∙ sym same_count;
     blank = λ t inside. rw (same_size t) (are.blank t (omega (arith, inside, same_count)));
     room = λ t inside. are.room t (omega (arith, inside, same_count));
   }
 
 -- another hollow sheet of the seat
-pub hollow_with : (config : Configuration) (hollows : List SheetModel) (seat : ℕ) (sheet : SheetModel)
+hollow_with : {config : Configuration} {hollows : List SheetModel} {seat : ℕ} {sheet : SheetModel}
     → AreHollow config hollows → sheet.sight ≡ blank_sheet seat (size_at config seat) → sheet.room ≡ 0
     → AreHollow config (set hollows seat sheet)
-hollow_with config hollows seat sheet are is none = record {
+hollow_with {config} {hollows} {seat} {sheet} are is none = record {
   count = length-set hollows seat sheet ∙ are.count;
   blank = λ t inside. each_put (λ n g. g.sight ≡ blank_sheet n (size_at config n)) hollows seat t sheet
       (λ e. omega (arith, e, inside, are.count)) is (are.blank t inside);
@@ -82,10 +83,10 @@ hollow_with config hollows seat sheet are is none = record {
 
 -- ---- pixels that are not of a session
 
-word_stays : (s : State) (seat : ℕ) (p : Point) (tables tables' : ℕ → List ℕ)
+word_stays : (s : State) {seat : ℕ} (p : Point) {tables tables' : ℕ → List ℕ}
     → ((t : ℕ) → t ≢ seat → tables t ≡ tables' t) → session_owns seat s p ≡ false
     → word_from tables (source_of s p) ≡ word_from tables' (source_of s p)
-word_stays s seat p tables tables' same none = go (owner_of s p) none
+word_stays s {seat} p {tables} {tables'} same none = go (owner_of s p) none
   where
     shows : (v : View) (o : Option ℕ) → is_session seat v ≡ false
         → word_from tables (black_or_word v.sid o) ≡ word_from tables' (black_or_word v.sid o)
@@ -122,20 +123,17 @@ pub record WasSeated (seat : ℕ) (label : List ℕ) (h : HostModel) (seen : Opt
   pub words : (k : ℕ) → word_from (sheet_in (sheets_of d.glasses)) (source_at d.state k)
       ≡ word_from (sheet_in (sheets_of d'.glasses)) (source_at (opened seat label d.state) k)
 
-module _ (d d1 d2 : DesktopModel SheetModel) (hollows : List SheetModel) (seat : ℕ) (label : List ℕ)
-    (hollow own blank back gone : SheetModel) (kept : Option Entry) (seen : Option (List ℕ))
-    (host : IsHost d hollows) (inside : seat < length d.state.config.clients) (live : AreLive d.state)
-    (over : (session d.state seat).status ≢ status.Live) (swapped : d1 ≡ with_sheet d seat hollow)
+module _ {d d1 d2 : DesktopModel SheetModel} {hollows : List SheetModel} {seat : ℕ} {label : List ℕ}
+    {hollow own blank back gone : SheetModel}
+    (host : IsHost d hollows) (opens : Opens seat label blank back d1 d2) (swapped : d1 ≡ with_sheet d seat hollow)
     (at : hollow ≡ get_or hollows seat hollow) (out : slice_get d.glasses seat ≡ Some own)
+    (inside : seat < length d.state.config.clients) (live : AreLive d.state)
+    (over : (session d.state seat).status ≢ status.Live)
     (wiped : blank.sight ≡ blank_sheet own.sight.owner own.sight.size) (room : own.room ≤ blank.room)
-    (opens : Opens seat label blank back d1 d2)
     (emptied : gone.sight ≡ blank_sheet back.sight.owner back.sight.size) (nothing : gone.room ≡ 0)
     (keep : OpeningsKeep) where
   abbrev size : ℕ
   size = size_at d.state.config seat
-
-  abbrev behind : State
-  behind = opened seat label d.state
 
   abbrev now_all : List SheetModel
   now_all = set d.glasses seat blank
@@ -152,45 +150,36 @@ module _ (d d1 d2 : DesktopModel SheetModel) (hollows : List SheetModel) (seat :
       ∙ set-set d.glasses seat hollow blank
 
   blank_is : blank.sight ≡ blank_sheet seat size
-  blank_is =
-      let own_is = own_plain d.state.config d.glasses seat own host.sheets inside out in
-      wiped ∙ (λ i. blank_sheet (ap (λ (s : Sight). s.owner) own_is.0 i) (own_is.1 i))
+  blank_is = blank_again_of host.sheets out inside wiped
 
   back_is : back.sight ≡ blank_sheet seat size
   back_is =
       o0.out ∙ sight_at (set d.glasses seat hollow) seat
-      ∙ ap (λ (g : SheetModel). g.sight)
-      (put_there d.glasses seat hollow (slice_get_within d.glasses seat own out)
-      ∙ sym (hollow_there d.state.config hollows seat hollow host.hollow inside at))
-      ∙ host.hollow.blank seat inside
+      ∙ ap (λ (g : SheetModel). g.sight) (put_there d.glasses seat hollow (slice_get_within d.glasses seat own out))
+      ∙ hollow_blank host.hollow at inside
 
   gone_is : gone.sight ≡ blank_sheet seat size
   gone_is = emptied ∙ rw back_is (ap (blank_sheet seat) (length-zeros size))
 
   all : AreSheets d.state.config now_all
-  all = sheets_with d.state.config d.glasses seat blank host.sheets (
-    blank_plain seat size blank.sight blank_is,
-    ap (λ (s : Sight). s.size) blank_is ∙ length-zeros size,
-  ) (omega (arith, own_room d.state.config d.glasses seat own host.sheets inside out))
+  all = sheets_with host.sheets (blank_plain d.state.config blank_is) (omega (arith, own_room host.sheets out inside))
 
   words_now : (k : ℕ) → word_from (sheet_in (sheets_of d.glasses)) (source_at d.state k)
-      ≡ word_from (sheet_in (sheets_of now_all)) (source_at behind k)
+      ≡ word_from (sheet_in (sheets_of now_all)) (source_at (opened seat label d.state) k)
   words_now k =
       let p : Point = pixel d.state.config.width k in
-      word_stays d.state seat p (sheet_in (sheets_of d.glasses)) (sheet_in (sheets_of now_all))
-      (words_elsewhere d.glasses seat blank) (owns_none d.state seat over live p)
+      word_stays d.state p (words_elsewhere d.glasses seat blank) (owns_none d.state seat over live p)
       ∙ ap (word_from (sheet_in (sheets_of now_all))) (sym (keep d.state seat label p live over))
 
   config_now : d2.state.config ≡ relabelled seat label d.state.config
   config_now = ap (λ (s : State). s.config) o0.state
 
-  pub was_seated : (h : HostModel) → host_model d kept seen ≡ h
+  pub was_seated : {kept : Option Entry} {seen : Option (List ℕ)} {h : HostModel} → host_model d kept seen ≡ h
       → WasSeated seat label h seen d d2 (set hollows seat gone)
-  was_seated h view = rw (← view) (record {
+  was_seated {seen = seen} view = rw (← view) (record {
     host = record {
-      sheets = rw (config_now, glasses_now) (sheets_relabelled d.state.config seat label now_all all);
-      hollow = rw config_now (hollow_relabelled d.state.config seat label (set hollows seat gone)
-          (hollow_with d.state.config hollows seat gone host.hollow gone_is nothing));
+      sheets = rw (config_now, glasses_now) (sheets_relabelled d.state.config seat label all);
+      hollow = rw config_now (hollow_relabelled d.state.config seat label (hollow_with host.hollow gone_is nothing));
       fresh = rw (o0.state, glasses_now, o0.raw) (λ k within. host.fresh k within ∙ words_now k);
     };
     now = λ i. record {
@@ -203,12 +192,3 @@ module _ (d d1 d2 : DesktopModel SheetModel) (hollows : List SheetModel) (seat :
     };
     words = rw glasses_now words_now;
   })
-
--- the new client's glass
-pub blank_glass : (config : Configuration) (sheets : List SheetModel) (seat : ℕ) (own blank : SheetModel)
-    → AreSheets config sheets → seat < length config.clients → slice_get sheets seat ≡ Some own
-    → blank.sight ≡ blank_sheet own.sight.owner own.sight.size → (blank.sight.owner ≡ seat)
-    × (blank.sight.size ≡ size_at config seat)
-blank_glass config sheets seat own blank are inside out wiped =
-    let own_is = own_plain config sheets seat own are inside out in
-    rw wiped (ap (λ (s : Sight). s.owner) own_is.0, length-zeros own.sight.size ∙ own_is.1)

@@ -20,9 +20,9 @@ pub record MayCall (h : HostModel) (seat : ℕ) (call : Call) : Type 0 where
   pub handles : asks_view call ≡ true → (session h.state seat).next < 2 ^ 32 - 2
   pub left : 1 ≤ h.left
 
-pub may_call : (h h' : HostModel) (seat : ℕ) (call : Call) → h ≡ h' → None ≡ unserved_call h' seat call
+pub may_call : {h h' : HostModel} {seat : ℕ} {call : Call} → h ≡ h' → None ≡ unserved_call h' seat call
     → MayCall h seat call
-may_call h h' seat call view is =
+may_call {h} {h'} {seat} {call} view is =
     let none : unserved_call h seat call ≡ None = rw view (sym is) in
     let a = passed (nat_lt seat (length h.state.sessions)) _ _ none in
     let b = not_met (lacks_handles (session h.state seat) call) _ _ a.1 in
@@ -39,9 +39,9 @@ pub record MayRefresh (h : HostModel) (seat : ℕ) (words : List ℕ) : Type 0 w
   pub inside : seat < length h.state.sessions
   pub enough : (session h.state seat).bw * (session h.state seat).bh ≤ length words
 
-pub may_refresh : (h h' : HostModel) (seat : ℕ) (words : List ℕ) → h ≡ h' → None ≡ unserved_refresh h' seat words
+pub may_refresh : {h h' : HostModel} {seat : ℕ} {words : List ℕ} → h ≡ h' → None ≡ unserved_refresh h' seat words
     → MayRefresh h seat words
-may_refresh h h' seat words view is =
+may_refresh {h} {h'} {seat} {words} view is =
     let none : unserved_refresh h seat words ≡ None = rw view (sym is) in
     let a = passed (nat_lt seat (length h.state.sessions)) _ _ none in
     let b = not_met (nat_lt (length words) ((session h.state seat).bw * (session h.state seat).bh)) _ _ a.1 in

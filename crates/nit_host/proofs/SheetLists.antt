@@ -69,30 +69,23 @@ each_put P sheets seat t sheet inside here there =
       | inr other ↦ rw (put_elsewhere sheets seat t sheet other) there
     ]
 
--- a sheet that was put in the place of another comes out again
-pub comes_out : (sheets : List SheetModel) (seat : ℕ) (own other out : SheetModel) → slice_get sheets seat ≡ Some own
-    → slice_get (set sheets seat other) seat ≡ Some out → out ≡ other
-comes_out sheets seat own other out was is = sym (taken_out (set sheets seat other) seat out is)
-    ∙ put_there sheets seat other (slice_get_within sheets seat own was)
-
 -- ---- sheets that tell no loads
 
 not_seen : (g : Sight) (loads : List (ℕ × ℕ)) → g.log ≡ None → seen g loads ≡ g
 not_seen g loads quiet = ap (λ log. record g { log = option_map (λ before. before ++ loads) log }) quiet
     ∙ sym (ap (λ log. record g { log = log }) quiet)
 
-pub plain_quiet : (seat : ℕ) (sight : Sight) → sight ≡ plain_sight seat (told_words sight.words) → sight.log ≡ None
-plain_quiet seat sight is = ap (λ (s : Sight). s.log) is
+pub plain_quiet : {seat : ℕ} {sight : Sight} → sight ≡ plain_sight seat (told_words sight.words) → sight.log ≡ None
+plain_quiet is = ap (λ (s : Sight). s.log) is
 
-pub quiet_sheets : (config : Configuration) (sheets : List SheetModel) → AreSheets config sheets → AreQuiet sheets
-quiet_sheets config sheets are t =
-    dite (dec_lt t (length config.clients))
-    (λ inside. plain_quiet t (sheet_at sheets t).sight (are.plain t inside).0)
+pub quiet_sheets : {config : Configuration} {sheets : List SheetModel} → AreSheets config sheets → AreQuiet sheets
+quiet_sheets {config} {sheets} are t =
+    dite (dec_lt t (length config.clients)) (λ inside. plain_quiet (are.plain t inside).0)
     (λ behind. ap (λ (g : SheetModel). g.sight.log) (get_or_past sheets t no_sheet (omega (arith, are.count))))
 
-pub quiet_with : (sheets : List SheetModel) (seat : ℕ) (own other : SheetModel) → slice_get sheets seat ≡ Some own
-    → AreQuiet sheets → other.sight.log ≡ None → AreQuiet (set sheets seat other)
-quiet_with sheets seat own other out quiet is t =
+pub quiet_with : (sheets : List SheetModel) (seat : ℕ) {own : SheetModel} (other : SheetModel)
+    → slice_get sheets seat ≡ Some own → AreQuiet sheets → other.sight.log ≡ None → AreQuiet (set sheets seat other)
+quiet_with sheets seat {own} other out quiet is t =
     each_put (λ n g. g.sight.log ≡ None) sheets seat t other (λ _. slice_get_within sheets seat own out) is (quiet t)
 
 -- ---- a call with its own glass beside them
@@ -126,7 +119,7 @@ module _ (old new : List SheetModel) (seat : ℕ) (own own' : SheetModel) (quiet
     (own_quiet : own.sight.log ≡ None) (were : WereSeen old new seat own own')
     (idle : glass_in (sights new) seat ≡ glass_in (sights old) seat) (rest : own'.room ≡ own.room)
     (rests : rooms new ≡ rooms old) where
-  pub own_stays : own' ≡ own
+  own_stays : own' ≡ own
   own_stays =
       let saw = were seat in
       same_sheet own' own (sym (own_seen (sights new) seat own'.sight) ∙ saw.1
@@ -136,7 +129,7 @@ module _ (old new : List SheetModel) (seat : ℕ) (own own' : SheetModel) (quiet
   at : (t : ℕ) → glass_in (sights new) t ≡ glass_in (sights old) t
   at t =
       elim (cases_eq t seat) [
-        | inl e ↦ ap (glass_in (sights new)) e ∙ idle ∙ ap (glass_in (sights old)) (sym e)
+        | inl e ↦ rw e idle
         | inr other ↦
             let saw = were t in
             sym (other_seen (sights new) seat t own'.sight other) ∙ saw.1
@@ -144,8 +137,8 @@ module _ (old new : List SheetModel) (seat : ℕ) (own own' : SheetModel) (quiet
             ∙ not_seen (glass_in (sights old) t) saw.0 (ap (λ (g : Sight). g.log) (sight_at old t) ∙ quiet t)
       ]
 
-  pub sheets_stay : new ≡ old
-  sheets_stay = same_sheets new old at rests
+  pub sheets_stay : (new ≡ old) × (own' ≡ own)
+  sheets_stay = (same_sheets new old at rests, own_stays)
 
 -- the glasses of a call are those with the own one in its place
 pub with_own : (sheets : List SheetModel) (seat : ℕ) (own : SheetModel) → seat < length sheets
@@ -163,42 +156,39 @@ with_own sheets seat own inside = λ i t. each t i
 
 -- ---- the sheets of a host
 
+-- what a blank sheet tells
+pub blank_tells : {seat size : ℕ} {sight : Sight} → sight ≡ blank_sheet seat size
+    → (sight.owner ≡ seat) × (sight.size ≡ size)
+blank_tells {seat} {size} is = rw is (refl, length-zeros size)
+
 -- the hollow sheet of a seat, as a Vec gives it
-pub hollow_there : (config : Configuration) (hollows : List SheetModel) (seat : ℕ) (hollow : SheetModel)
-    → AreHollow config hollows → seat < length config.clients → hollow ≡ get_or hollows seat hollow
-    → sheet_at hollows seat ≡ hollow
-hollow_there config hollows seat hollow are inside is =
-    get_or_default hollows seat no_sheet hollow (omega (arith, inside, are.count)) ∙ sym is
+module _ {config : Configuration} {hollows : List SheetModel} {seat : ℕ} {hollow : SheetModel}
+    (are : AreHollow config hollows) (is : hollow ≡ get_or hollows seat hollow) (inside : seat < length config.clients)
+  where
+    pub hollow_there : sheet_at hollows seat ≡ hollow
+    hollow_there = get_or_default hollows seat no_sheet hollow (omega (arith, inside, are.count)) ∙ sym is
 
-pub hollow_glass : (config : Configuration) (hollows : List SheetModel) (seat : ℕ) (hollow : SheetModel)
-    → AreHollow config hollows → seat < length config.clients → hollow ≡ get_or hollows seat hollow
-    → (hollow.sight.owner ≡ seat) × (hollow.sight.size ≡ size_at config seat)
-hollow_glass config hollows seat hollow are inside is =
-    let blank : hollow.sight ≡ blank_sheet seat (size_at config seat) =
-    rw (← hollow_there config hollows seat hollow are inside is) (are.blank seat inside) in
-    (ap (λ (s : Sight). s.owner) blank, ap (λ (s : Sight). s.size) blank ∙ length-zeros (size_at config seat))
+    pub hollow_blank : hollow.sight ≡ blank_sheet seat (size_at config seat)
+    hollow_blank = ap (λ (g : SheetModel). g.sight) (sym hollow_there) ∙ are.blank seat inside
 
-pub hollow_quiet : (config : Configuration) (hollows : List SheetModel) (seat : ℕ) (hollow : SheetModel)
-    → AreHollow config hollows → seat < length config.clients → hollow ≡ get_or hollows seat hollow
-    → hollow.sight.log ≡ None
-hollow_quiet config hollows seat hollow are inside is =
-    rw (← hollow_there config hollows seat hollow are inside is, are.blank seat inside) refl
+-- the sheet of a seat that was taken out
+module _ {config : Configuration} {sheets : List SheetModel} {seat : ℕ} {own : SheetModel}
+    (are : AreSheets config sheets) (out : slice_get sheets seat ≡ Some own) (inside : seat < length config.clients)
+  where
+    pub own_plain : IsPlainOf config seat own.sight
+    own_plain = rw (← taken_out sheets seat own out) (are.plain seat inside)
 
-pub own_plain : (config : Configuration) (sheets : List SheetModel) (seat : ℕ) (own : SheetModel)
-    → AreSheets config sheets → seat < length config.clients → slice_get sheets seat ≡ Some own
-    → IsPlainOf config seat own.sight
-own_plain config sheets seat own are inside is =
-    rw (← taken_out sheets seat own is) (are.plain seat inside)
+    pub own_room : size_at config seat ≤ own.room
+    own_room = rw (← taken_out sheets seat own out) (are.room seat inside)
 
-pub own_room : (config : Configuration) (sheets : List SheetModel) (seat : ℕ) (own : SheetModel)
-    → AreSheets config sheets → seat < length config.clients → slice_get sheets seat ≡ Some own
-    → size_at config seat ≤ own.room
-own_room config sheets seat own are inside is =
-    rw (← taken_out sheets seat own is) (are.room seat inside)
+    -- and what is blank as it was
+    pub blank_again_of : {sight : Sight} → sight ≡ blank_sheet own.sight.owner own.sight.size
+        → sight ≡ blank_sheet seat (size_at config seat)
+    blank_again_of is = is ∙ (λ i. blank_sheet (ap (λ (s : Sight). s.owner) own_plain.0 i) (own_plain.1 i))
 
-pub own_words : (sheets : List SheetModel) (seat : ℕ) (own : SheetModel) → slice_get sheets seat ≡ Some own
+pub own_words : (sheets : List SheetModel) (seat : ℕ) {own : SheetModel} → slice_get sheets seat ≡ Some own
     → told_words own.sight.words ≡ sheet_in (sheets_of sheets) seat
-own_words sheets seat own is = rw (words_at sheets seat, taken_out sheets seat own is) refl
+own_words sheets seat {own} is = rw (words_at sheets seat, taken_out sheets seat own is) refl
 
 -- ---- an event that is no call
 
@@ -211,7 +201,7 @@ seen_sheets old new quiet were rests =
     ∙ not_seen (glass_in (sights old) t) saw.0 (ap (λ (g : Sight). g.log) (sight_at old t) ∙ quiet t)) rests
 
 -- a plain sheet by its own number
-pub plain_by_owner : (config : Configuration) (seat : ℕ) (sight : Sight) → IsPlainOf config seat sight
+pub plain_by_owner : {seat : ℕ} {sight : Sight} → sight ≡ plain_sight seat (told_words sight.words)
     → sight ≡ plain_sight sight.owner (told_words sight.words)
-plain_by_owner config seat sight plain = plain.0
-    ∙ ap (λ (n : ℕ). plain_sight n (told_words sight.words)) (sym (ap (λ (s : Sight). s.owner) plain.0))
+plain_by_owner {sight = sight} is =
+    is ∙ ap (λ (n : ℕ). plain_sight n (told_words sight.words)) (sym (ap (λ (s : Sight). s.owner) is))

@@ -9,8 +9,10 @@ use Rattle.nit_host.proofs.Basics.{sheet_in, sheets_of, size_at, source_at, sour
 use Rattle.nit_host.proofs.Basics.{word_from}
 use Rattle.nit_events.specs.declared.entry.Entry.TheVariants as entry
 use Rattle.nit_host.proofs.Freshness.{fresh_after}
-use Rattle.nit_host.proofs.SheetLists.{comes_out, each_put, hollow_there, own_plain, own_room}
+use Rattle.nit_host.proofs.SheetLists.{each_put, hollow_there, own_plain, own_room}
 use Rattle.nit_host.proofs.SheetLists.{own_words, put_same, sights, with_own, words_with}
+use Rattle.nit_host.proofs.SheetLists.{put_there, taken_out}
+use Rattle.nit_host.proofs.Basics.{slice_get_within}
 
 -- what a law says of pixels that are not dirty
 abbrev pub KeepSources : Type 0
@@ -58,10 +60,10 @@ words_stay s seat r c sheets sheets' same = rw same (λ k clean. refl)
 
 -- ---- sheets, one of which is another
 
-pub sheets_with : (config : Configuration) (sheets : List SheetModel) (seat : ℕ) (sheet : SheetModel)
+pub sheets_with : {config : Configuration} {sheets : List SheetModel} {seat : ℕ} {sheet : SheetModel}
     → AreSheets config sheets → IsPlainOf config seat sheet.sight → size_at config seat ≤ sheet.room
     → AreSheets config (set sheets seat sheet)
-sheets_with config sheets seat sheet are plain room = record {
+sheets_with {config} {sheets} {seat} {sheet} are plain room = record {
   count = length-set sheets seat sheet ∙ are.count;
   plain = λ t inside. each_put (λ n g. IsPlainOf config n g.sight) sheets seat t sheet
       (λ e. omega (arith, e, inside, are.count)) plain (are.plain t inside);
@@ -76,90 +78,88 @@ same_words sheets seat words is = ap (set sheets seat) is ∙ set-get_or sheets 
 
 -- ---- the host after a call
 
-module _ (d d1 d2 : DesktopModel SheetModel) (hollows : List SheetModel) (seat : ℕ) (call : Call) (r : Reply)
-    (hollow own own' last : SheetModel) (kept : Option Entry) (seen : Option (List ℕ))
-    (host : IsHost d hollows) (inside : seat < length d.state.sessions) (swapped : d1 ≡ with_sheet d seat hollow)
-    (there : sheet_at hollows seat ≡ hollow) (out : slice_get d.glasses seat ≡ Some own)
-    (served : Serves seat call own' last d1 d2 r) (plain : IsPlainOf d.state.config seat own'.sight)
-    (room : size_at d.state.config seat ≤ own'.room) (keep : KeepSources) where
+module _ {d d1 d2 : DesktopModel SheetModel} {hollows : List SheetModel} {seat : ℕ} {call : Call} {r : Reply}
+    {hollow own' last : SheetModel} (host : IsHost d hollows) (served : Serves seat call own' last d1 d2 r)
+    (swapped : d1 ≡ with_sheet d seat hollow) (at : hollow ≡ get_or hollows seat hollow) where
   abbrev e : Entry
   e = entry.Call seat call r
-
-  abbrev now_all : List SheetModel
-  now_all = set d.glasses seat own'
 
   s0 : Serves seat call own' last (with_sheet d seat hollow) d2 r
   s0 = rw swapped at served
 
-  pub glasses_now : d2.glasses ≡ now_all
+  pub glasses_now : d2.glasses ≡ set d.glasses seat own'
   glasses_now = s0.glasses ∙ set-set d.glasses seat hollow own'
-
-  hollows_stay : set hollows seat last ≡ hollows
-  hollows_stay = put_same hollows seat last (there ∙ sym (comes_out d.glasses seat own hollow last out s0.out))
 
   config_stays : d2.state.config ≡ d.state.config
   config_stays = ap (λ (s : State). s.config) s0.state
 
-  all : AreSheets d.state.config now_all
-  all = sheets_with d.state.config d.glasses seat own' host.sheets plain room
-
-  painted : Painted d.state e (after d.state e) (glass_in (sights now_all)) (glass_in (sights now_all)) d.raw d2.raw
+  painted : Painted d.state e (after d.state e) (glass_in (sights (set d.glasses seat own')))
+      (glass_in (sights (set d.glasses seat own'))) d.raw d2.raw
   painted = rw (s0.state, glasses_now) at s0.painted
 
-  pub called_now : Words d.state seat r (sheets_of d.glasses) (sheets_of now_all) call → WasCalled seat call r (record {
-    state = d.state;
-    sheets = set (sheets_of d.glasses) seat (told_words own'.sight.words);
-    left = d.left;
-    last = kept;
-    seen = seen;
-  }) seen d2 (set hollows seat last)
-  called_now stays = record {
-    host = record {
-      sheets = rw (config_stays, glasses_now) all;
-      hollow = rw (config_stays, hollows_stay) host.hollow;
-      fresh = rw (s0.state, glasses_now) (fresh_after d.state.config d.state (after d.state e) e now_all
-          (sheet_in (sheets_of d.glasses)) d.raw d2.raw all painted host.fresh refl
-          (λ k clean. keep d.state 0 e (pixel d.state.config.width k) (inside, s0.reply) clean) stays);
-    };
-    reply = s0.reply;
-    now = λ i. record {
-      state = (s0.state ∙ ap (λ (x : Reply). after d.state (entry.Call seat call x)) s0.reply) i;
-      sheets = (ap sheets_of glasses_now ∙ words_with d.glasses seat own') i;
-      left = s0.left i;
-      last = Some (entry.Call seat call (s0.reply i));
-      seen = seen;
-    };
-  }
+  module _ {own : SheetModel} (out : slice_get d.glasses seat ≡ Some own)
+      (inside : seat < length d.state.sessions) (long : length d.state.sessions ≡ length d.state.config.clients)
+      (plain : IsPlainOf d.state.config seat own'.sight) (room : size_at d.state.config seat ≤ own'.room)
+      (keep : KeepSources) where
+    -- the hollow sheet stands in its place again
+    hollows_stay : set hollows seat last ≡ hollows
+    hollows_stay = put_same hollows seat last (hollow_there host.hollow at (omega (arith, inside, long))
+        ∙ sym (put_there d.glasses seat hollow (slice_get_within d.glasses seat own out))
+        ∙ taken_out (set d.glasses seat hollow) seat last s0.out)
+
+    all : AreSheets d.state.config (set d.glasses seat own')
+    all = sheets_with host.sheets plain room
+
+    pub called_now : {kept : Option Entry} {seen : Option (List ℕ)}
+        → Words d.state seat r (sheets_of d.glasses) (sheets_of (set d.glasses seat own')) call
+        → WasCalled seat call r (record {
+          state = d.state;
+          sheets = set (sheets_of d.glasses) seat (told_words own'.sight.words);
+          left = d.left;
+          last = kept;
+          seen = seen;
+        }) seen d2 (set hollows seat last)
+    called_now {seen = seen} stays = record {
+      host = record {
+        sheets = rw (config_stays, glasses_now) all;
+        hollow = rw (config_stays, hollows_stay) host.hollow;
+        fresh = rw (s0.state, glasses_now) (fresh_after d.state (after d.state e) e
+            (sheet_in (sheets_of d.glasses)) d.raw d2.raw all painted host.fresh refl
+            (λ k clean. keep d.state 0 e (pixel d.state.config.width k) (inside, s0.reply) clean) stays);
+      };
+      reply = s0.reply;
+      now = λ i. record {
+        state = (s0.state ∙ ap (λ (x : Reply). after d.state (entry.Call seat call x)) s0.reply) i;
+        sheets = (ap sheets_of glasses_now ∙ words_with d.glasses seat own') i;
+        left = s0.left i;
+        last = Some (entry.Call seat call (s0.reply i));
+        seen = seen;
+      };
+    }
 
 -- ---- the call itself
 
 -- what was painted by a call with its own sheet is painted by all sheets, once it is put back
 pub painted_by_all : (s : State) (e : Entry) (d d2 d3 : DesktopModel SheetModel) (seat : ℕ) (own own' : SheetModel)
-    → d2.glasses ≡ d.glasses → own' ≡ own → seat < length d.glasses
-    → d3 ≡ with_sheet d2 seat own'
+    → (d2.glasses ≡ d.glasses) × (own' ≡ own) → seat < length d.glasses → d3 ≡ with_sheet d2 seat own'
     → Painted s e d2.state (glasses_of_call (sights d.glasses) seat own.sight)
     (glasses_of_call (sights d2.glasses) seat own'.sight) d.raw d2.raw
     → Painted s e d3.state (glass_in (sights d3.glasses)) (glass_in (sights d3.glasses)) d.raw d3.raw
-painted_by_all s e d d2 d3 seat own own' stay own_stay inside put painted =
-    rw (put, stay, own_stay) (rw (stay, own_stay, with_own d.glasses seat own inside) at painted)
+painted_by_all s e d d2 d3 seat own own' stay inside put painted =
+    rw (put, stay.0, stay.1) (rw (stay.0, stay.1, with_own d.glasses seat own inside) at painted)
 
 -- a call that takes nothing over
-module _ (d d1 d2 : DesktopModel SheetModel) (hollows : List SheetModel) (seat : ℕ) (call : Call) (r : Reply)
-    (hollow own last : SheetModel) (kept : Option Entry) (seen : Option (List ℕ))
-    (host : IsHost d hollows) (inside : seat < length d.state.sessions) (long : length d.state.sessions
-    ≡ length d.state.config.clients) (swapped : d1 ≡ with_sheet d seat hollow) (at : hollow
-    ≡ get_or hollows seat hollow)
-    (out : slice_get d.glasses seat ≡ Some own) (served : Serves seat call own last d1 d2 r) (keep : KeepSources) where
-  pub only_called : (h : HostModel) → host_model d kept seen ≡ h
-      → WasCalled seat call r h seen d2 (set hollows seat last)
-  only_called h view =
-      let client : seat < length d.state.config.clients = omega arith in
-      let told = same_words (sheets_of d.glasses) seat (told_words own.sight.words)
-      (own_words d.glasses seat own out) in
-      rw (← view, ← told)
-      (called_now d d1 d2 hollows seat call r hollow own own last kept seen host inside swapped
-      (hollow_there d.state.config hollows seat hollow host.hollow client at) out served
-      (own_plain d.state.config d.glasses seat own host.sheets client out)
-      (own_room d.state.config d.glasses seat own host.sheets client out) keep
-      (words_stay d.state seat r call (sheets_of d.glasses) (sheets_of (set d.glasses seat own))
-      (words_with d.glasses seat own ∙ told)))
+pub only_called : {d d1 d2 : DesktopModel SheetModel} {hollows : List SheetModel} {seat : ℕ} {call : Call} {r : Reply}
+    {hollow own last : SheetModel} {kept : Option Entry} {seen : Option (List ℕ)} {h : HostModel} → IsHost d hollows
+    → Serves seat call own last d1 d2 r → d1 ≡ with_sheet d seat hollow → hollow ≡ get_or hollows seat hollow
+    → slice_get d.glasses seat ≡ Some own → seat < length d.state.sessions
+    → length d.state.sessions ≡ length d.state.config.clients → KeepSources → host_model d kept seen ≡ h
+    → WasCalled seat call r h seen d2 (set hollows seat last)
+only_called {d} {seat = seat} {call} {r} {own = own} host served swapped at out inside long keep view =
+    let client : seat < length d.state.config.clients = omega arith in
+    let told = same_words (sheets_of d.glasses) seat (told_words own.sight.words) (own_words d.glasses seat out) in
+    rw (← view, ← told)
+    (called_now host served swapped at out inside long (own_plain host.sheets out client)
+    (own_room host.sheets out client) keep
+    (words_stay d.state seat r call (sheets_of d.glasses) (sheets_of (set d.glasses seat own))
+    (words_with d.glasses seat own ∙ told)))

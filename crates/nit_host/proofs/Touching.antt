@@ -9,9 +9,9 @@ use Rattle.nit_host.proofs.Basics.{eqb-true, false≢true, find_at, get_or_from_
 use Rattle.nit_host.proofs.Basics.{in_bar, index_at, is_owned_by, is_rectangle, is_session}
 use Rattle.nit_host.proofs.Basics.{is_touched, is_view, is_word_in, mod-mul-add, nat_tests}
 use Rattle.nit_host.proofs.Basics.{option_map_or, or_cases, owner_of, owns_either, passes_at_first}
-use Rattle.nit_host.proofs.Basics.{pixel, point, rectangle, same_Some, session, shown_index}
-use Rattle.nit_host.proofs.Basics.{shows_part, shows_place, slice_get_within, source_under, spans}
-use Rattle.nit_host.proofs.Basics.{touched_by, view_owns}
+use Rattle.nit_host.proofs.Basics.{pixel, point, rectangle, same_Some, session}
+use Rattle.nit_host.proofs.Basics.{shown_index, shows_part, shows_place, slice_get_within}
+use Rattle.nit_host.proofs.Basics.{source_under, spans, touched_by, view_owns}
 use Rattle.nit_events.specs.declared.call.Call.TheVariants as call
 use Rattle.nit_host.specs.declared.host.touch.Touch.TheVariants as touch
 use Rattle.std.specs.List.{position_or_len}

@@ -14,34 +14,33 @@ pub use Rattle.nit_rounds.specs.Terms.{File, Fill, FitsInputLine, FitsInto, HasS
 pub use Rattle.nit_rounds.specs.Terms.{HasTurn, InputLine, IsAtTurn, IsBehind, IsBehindBy, IsButFor}
 pub use Rattle.nit_rounds.specs.Terms.{IsDonation, IsDrawn, IsDrawnPicture, IsGlass, IsLegal}
 pub use Rattle.nit_rounds.specs.Terms.{IsLoaded, IsMember, IsMoved, IsNonDecreasing, IsOpen}
-pub use Rattle.nit_rounds.specs.Terms.{IsPaintedTo, IsPlanOf, IsPlanned, IsRawOf, IsRecorded}
-pub use Rattle.nit_rounds.specs.Terms.{IsSetUp, IsShowing, IsUnderWay, IsUserRecorded, IsUtf8}
-pub use Rattle.nit_rounds.specs.Terms.{IsWhole, IsWordOfSource, LegalFrom, Line, LinePlace}
-pub use Rattle.nit_rounds.specs.Terms.{LineTurn, Motion, None, NoneHas, Option, Painted}
-pub use Rattle.nit_rounds.specs.Terms.{PixelSource, Place, Places, PlanModel, Point, PutState}
-pub use Rattle.nit_rounds.specs.Terms.{PutsAll, PutsNext, Refresh, Reply, Routed, SceneModel}
-pub use Rattle.nit_rounds.specs.Terms.{Shoots, ShotFrame, ShotsBehind, ShowsEach, ShowsLine, Sight}
-pub use Rattle.nit_rounds.specs.Terms.{Size, Some, Stale, StandsAt, State, Step, Stroke, Turn, User}
-pub use Rattle.nit_rounds.specs.Terms.{UserAction, View, Word, action_of, actions_of_line}
-pub use Rattle.nit_rounds.specs.Terms.{actions_of_turns, actors, after, after_turn, all_rounds}
-pub use Rattle.nit_rounds.specs.Terms.{bar_rows, bare_word, blank, buffer_size, calls_from}
-pub use Rattle.nit_rounds.specs.Terms.{calls_of, calls_to_make, clients_from, decimal, dirty}
-pub use Rattle.nit_rounds.specs.Terms.{donation_of, done, done_after, drawn, drawn_by_shot}
-pub use Rattle.nit_rounds.specs.Terms.{drawn_shot, ends_phase, entry_of, first_state, flat_map}
-pub use Rattle.nit_rounds.specs.Terms.{frame, frame_of, glass_after, glass_in, glasses_of_call}
-pub use Rattle.nit_rounds.specs.Terms.{greatest, in_bar, in_phase, input_by_user, input_lines_of}
-pub use Rattle.nit_rounds.specs.Terms.{is_active, is_between, is_in_area, is_input_phase}
-pub use Rattle.nit_rounds.specs.Terms.{is_number_in, is_phase, is_set_by, is_stale, left, left_at}
-pub use Rattle.nit_rounds.specs.Terms.{lefts, length, line_by, lines_of, next_phase, next_shot}
-pub use Rattle.nit_rounds.specs.Terms.{no_sight, opening_drawing, option_map, phase_count}
-pub use Rattle.nit_rounds.specs.Terms.{phase_rounds, phases, phases_along, picture_of, pixel}
-pub use Rattle.nit_rounds.specs.Terms.{pixel_count, plan_in, plan_of_script, put_state_of_desk}
-pub use Rattle.nit_rounds.specs.Terms.{range_with_len, replay, replay_from, rest_of_phase, round}
-pub use Rattle.nit_rounds.specs.Terms.{rounds, route, routed_as, scenery_of, script_in, script_of}
-pub use Rattle.nit_rounds.specs.Terms.{seen, serve, session, set_where, settled, shoots, shot_file}
-pub use Rattle.nit_rounds.specs.Terms.{shot_name, shots, shots_after, shots_of, slice_get}
-pub use Rattle.nit_rounds.specs.Terms.{slice_index_or, source_at, source_under, state_after}
-pub use Rattle.nit_rounds.specs.Terms.{state_now, static, step_of, stepped, table_size}
+pub use Rattle.nit_rounds.specs.Terms.{IsPaintedTo, IsPlanOf, IsPlanned, IsRecorded, IsSetUp}
+pub use Rattle.nit_rounds.specs.Terms.{IsShowing, IsUnderWay, IsUserRecorded, IsUtf8, IsWhole}
+pub use Rattle.nit_rounds.specs.Terms.{IsWordOfSource, LegalFrom, Line, LinePlace, LineTurn, Motion}
+pub use Rattle.nit_rounds.specs.Terms.{None, NoneHas, Option, Painted, PixelSource, Place, Places}
+pub use Rattle.nit_rounds.specs.Terms.{PlanModel, Point, PutState, PutsAll, PutsNext, Refresh}
+pub use Rattle.nit_rounds.specs.Terms.{Reply, Routed, SceneModel, Shoots, ShotFrame, ShotsBehind}
+pub use Rattle.nit_rounds.specs.Terms.{ShowsEach, ShowsLine, Sight, Size, Some, Stale, StandsAt}
+pub use Rattle.nit_rounds.specs.Terms.{State, Step, Stroke, Turn, User, UserAction, View, Word}
+pub use Rattle.nit_rounds.specs.Terms.{action_of, actions_of_line, actions_of_turns, actors, after}
+pub use Rattle.nit_rounds.specs.Terms.{after_turn, all_rounds, bar_rows, bare_word, blank}
+pub use Rattle.nit_rounds.specs.Terms.{buffer_size, calls_from, calls_of, calls_to_make}
+pub use Rattle.nit_rounds.specs.Terms.{clients_from, decimal, dirty, donation_of, done, done_after}
+pub use Rattle.nit_rounds.specs.Terms.{drawn, drawn_by_shot, drawn_shot, ends_phase, entry_of}
+pub use Rattle.nit_rounds.specs.Terms.{first_state, flat_map, frame, frame_of, glass_after}
+pub use Rattle.nit_rounds.specs.Terms.{glass_in, glasses_of_call, greatest, in_bar, in_phase}
+pub use Rattle.nit_rounds.specs.Terms.{input_by_user, input_lines_of, is_active, is_between}
+pub use Rattle.nit_rounds.specs.Terms.{is_in_area, is_input_phase, is_number_in, is_phase}
+pub use Rattle.nit_rounds.specs.Terms.{is_set_by, is_stale, left, left_at, lefts, length, line_by}
+pub use Rattle.nit_rounds.specs.Terms.{lines_of, next_phase, next_shot, no_sight, opening_drawing}
+pub use Rattle.nit_rounds.specs.Terms.{option_map, phase_count, phase_rounds, phases, phases_along}
+pub use Rattle.nit_rounds.specs.Terms.{picture_of, pixel, pixel_count, plan_in, plan_of_script}
+pub use Rattle.nit_rounds.specs.Terms.{put_state_of_desk, range_with_len, replay, replay_from}
+pub use Rattle.nit_rounds.specs.Terms.{rest_of_phase, round, rounds, route, routed_as, scenery_of}
+pub use Rattle.nit_rounds.specs.Terms.{script_in, script_of, seen, serve, session, set_where}
+pub use Rattle.nit_rounds.specs.Terms.{settled, shoots, shot_file, shot_name, shots, shots_after}
+pub use Rattle.nit_rounds.specs.Terms.{shots_of, slice_get, slice_index_or, source_at, source_under}
+pub use Rattle.nit_rounds.specs.Terms.{state_after, state_now, static, step_of, stepped, table_size}
 pub use Rattle.nit_rounds.specs.Terms.{tables_after, take, takes_place, to_do, told_at, turn_by}
 pub use Rattle.nit_rounds.specs.Terms.{turn_of, turns_before, turns_from, turns_left, turns_of}
 pub use Rattle.nit_rounds.specs.Terms.{user_actions_from, user_actions_of, user_actions_to_do}

@@ -1,20 +1,20 @@
 -- What is drawn, move by move, that a scene holds it, and frames that are shown one after the other.
-use Rattle.nit_rounds.proofs.Basics.{ActorLine, AreLoaded, Bool, ByClient, ByUser, Configuration}
-use Rattle.nit_rounds.proofs.Basics.{Drawing, Entry, InputLine, IsDrawn, IsLoaded, IsMoved}
-use Rattle.nit_rounds.proofs.Basics.{IsWordOfSource, Line, LineTurn, List, None, Option}
-use Rattle.nit_rounds.proofs.Basics.{PixelSource, PutState, PutsAll, PutsNext, SceneModel}
-use Rattle.nit_rounds.proofs.Basics.{ShotFrame, ShowsEach, ShowsLine, Sight, Some, State, Word, []}
-use Rattle.nit_rounds.proofs.Basics.{add-zero, after, after_turn, cases_Bool, cases_lt, cond, dirty}
-use Rattle.nit_rounds.proofs.Basics.{donation_of, done_after, drawn_shot, entry_of, false}
-use Rattle.nit_rounds.proofs.Basics.{fold-append, frame, frame_of, get_or-map-range_with_len}
-use Rattle.nit_rounds.proofs.Basics.{get_or_past, glass_after, glass_in, inl, inr, length, line_by}
-use Rattle.nit_rounds.proofs.Basics.{map, next_shot, no_ink, no_sight, opening_drawing, pixel}
-use Rattle.nit_rounds.proofs.Basics.{pixel_count, range_with_len, refl, same_config, same_frame}
-use Rattle.nit_rounds.proofs.Basics.{scenery_of, script_in, shot_file, shots, shots_after}
-use Rattle.nit_rounds.proofs.Basics.{slice_index, slice_index_or, source_at, state_after, state_now}
-use Rattle.nit_rounds.proofs.Basics.{sym, table_size, tables_after, true, word_after_entry}
-use Rattle.nit_rounds.proofs.Basics.{word_from, words_after, zero-add, zero_at, zeros, ℕ}
-use Rattle.std.proofs.Common.{ap, suc, zero, ◌++◌, ◌+◌, ◌<◌, ◌==◌, ◌∙◌, ◌∷◌, ◌≡◌}
+use Rattle.nit_rounds.proofs.Basics.{ActorLine, AreLoaded, ByClient, ByUser, Configuration, Drawing}
+use Rattle.nit_rounds.proofs.Basics.{Entry, InputLine, IsDrawn, IsLoaded, IsMoved, IsWordOfSource}
+use Rattle.nit_rounds.proofs.Basics.{Line, LineTurn, List, None, Option, PixelSource, PutState}
+use Rattle.nit_rounds.proofs.Basics.{PutsAll, PutsNext, SceneModel, ShotFrame, ShowsEach, ShowsLine}
+use Rattle.nit_rounds.proofs.Basics.{Sight, Some, State, Word, [], add-zero, after, after_turn}
+use Rattle.nit_rounds.proofs.Basics.{cases_Bool, cases_lt, dirty, donation_of, done_after}
+use Rattle.nit_rounds.proofs.Basics.{drawn_shot, entry_of, fold-append, frame, frame_of}
+use Rattle.nit_rounds.proofs.Basics.{get_or-map-range_with_len, get_or_past, glass_after, glass_in}
+use Rattle.nit_rounds.proofs.Basics.{inl, inr, length, line_by, map, next_shot, no_ink, no_sight}
+use Rattle.nit_rounds.proofs.Basics.{opening_drawing, pixel, pixel_count, range_with_len, refl}
+use Rattle.nit_rounds.proofs.Basics.{same_config, same_frame, scenery_of, script_in, shot_file}
+use Rattle.nit_rounds.proofs.Basics.{shots, shots_after, slice_index, slice_index_or, source_at}
+use Rattle.nit_rounds.proofs.Basics.{state_after, state_now, sym, table_size, tables_after}
+use Rattle.nit_rounds.proofs.Basics.{word_after_entry, word_from, words_after, zero-add, zero_at}
+use Rattle.nit_rounds.proofs.Basics.{zeros, ℕ}
+use Rattle.std.proofs.Common.{ap, arith, suc, zero, ◌++◌, ◌+◌, ◌<◌, ◌∙◌, ◌∷◌, ◌≡◌}
 use Rattle.nit_rounds.specs.Drawing.{drawn}
 use Rattle.nit_script.specs.declared.line.InputLine.TheVariants as input
 
@@ -91,34 +91,25 @@ pub drawn_more : (config : Configuration) (scripts : List (List Line)) (front : 
 unfolding drawn
 drawn_more config scripts front m = fold-append (after_turn config scripts) (opening_drawing config) front (m ∷ [])
 
-one_or_none : (b : Bool) (l : Line) (n : ℕ)
-    → cond b (n + 1) n ≡ n + length (let none : List Line = [] in cond b (l ∷ none) none)
-one_or_none true l n = refl
-one_or_none false l n = sym (add-zero n)
-
 -- a client has done as many lines more as the line is its own
 pub done_more : (d : ActorLine) (done : ℕ → ℕ) (t : ℕ) → done_after d done t ≡ done t + length (line_by t d)
-done_more (ByClient sid l) done t = one_or_none (sid == t) l (done t)
+done_more (ByClient sid l) done t = grind arith
 done_more (ByUser l) done t = sym (add-zero (done t))
 
 -- ---- the words
 
-same_count : (s : State) (e : Option Entry) → pixel_count (state_after s e) ≡ pixel_count s
-same_count s None = refl
-same_count s (Some e) = rw (same_config s e)
-
 -- pixels that were loaded again hold the words that are drawn
-words_more : (s : State) (e : Option Entry) (glasses : ℕ → Sight) (tables : ℕ → List ℕ) (raw raw' : List ℕ) (word : ℕ
-    → ℕ) → AreLoaded s e glasses raw raw' → AreOf glasses tables
-    → ((k : ℕ) → k < pixel_count s → slice_index_or raw k 0 ≡ word k) → (k : ℕ) → k < pixel_count s
+words_more : (s : State) (e : Option Entry) (glasses : ℕ → Sight) (tables : ℕ → List ℕ) (raw raw' : List ℕ)
+    (word : ℕ → ℕ) → AreLoaded s e glasses raw raw' → AreOf glasses tables
+    → ((k : ℕ) → k < pixel_count s → slice_index_or raw k 0 ≡ word k) → (k : ℕ) → k < pixel_count (state_after s e)
     → slice_index_or raw' k 0 ≡ word_after_entry tables s e word k
-words_more s None glasses tables raw raw' word loaded are held k on_screen =
-    rw (loaded, held k on_screen)
+words_more s None glasses tables raw raw' word loaded are held k on_screen = rw (loaded, held k on_screen)
 words_more s (Some e) glasses tables raw raw' word loaded are held k on_screen =
+    let here : k < pixel_count s = rw (same_config s e) at on_screen in
     elim (cases_Bool (dirty s e (after s e) (pixel s.config.width k))) [
       | inl is ↦ rw is (held_word glasses tables (source_at (after s e) k) (slice_index_or raw' k 0) are
-          ((loaded k on_screen).0 is))
-      | inr is ↦ rw is ((loaded k on_screen).1 is ∙ held k on_screen)
+          ((loaded k here).0 is))
+      | inr is ↦ rw is ((loaded k here).1 is ∙ held k here)
     ]
 
 -- a scene that holds what is drawn holds it after one more move
@@ -133,28 +124,25 @@ moved_on config scripts d m s s' is moved are taken =
     rw is.state at moved.words in
     record {
       state = rw (moved.state, is.state);
-      words = λ k on_screen. words_more d.state e (glass_in s'.glasses) tables s.raw s'.raw d.word loaded are is.words k
-          (rw (same_count d.state e) at on_screen);
+      words = words_more d.state e (glass_in s'.glasses) tables s.raw s'.raw d.word loaded are is.words;
       taken = taken;
     }
 
 -- ---- the shots
 
 -- the frame of a scene that holds what is drawn
-frame_is : (d : Drawing) (s : SceneModel Sight) → IsDrawn d s → frame (scenery_of (state_now s)) s.raw
-    ≡ frame_of d.state d.word
-frame_is d s is =
-    rw (
-      is.state,
-      same_frame (scenery_of d.state) s.raw (map d.word (range_with_len 0 (pixel_count d.state))) (λ k
-          on_screen. is.words k on_screen ∙ sym (get_or-map-range_with_len d.word 0 (pixel_count d.state) k k 0
-          on_screen (zero-add k))),
-    )
-
 shot_is : (config : Configuration) (d : Drawing) (s : SceneModel Sight) → s.config ≡ config → IsDrawn d s
     → next_shot s ≡ drawn_shot config d
 shot_is config d s same is =
-    let words = frame_is d s is in
+    let words : frame (scenery_of (state_now s)) s.raw ≡ frame_of d.state d.word = rw (
+      is.state,
+      same_frame (scenery_of d.state) s.raw (map d.word (range_with_len 0 (pixel_count d.state)))
+          (λ k on_screen. rw (
+            is.words k on_screen,
+            get_or-map-range_with_len d.word 0 (pixel_count d.state) k k 0
+                on_screen (zero-add k),
+          )),
+    ) in
     λ i. record { number = sym is.taken i + 1; width = (same i).width; height = (same i).height; words = words i }
 
 -- what the user's line shows is what it draws

@@ -48,11 +48,12 @@ other_there : (glasses : List Sight) (sid : ℕ) (own : Sight) (t : ℕ) → t �
 other_there glasses sid own t other = ap (λ (gs : List Sight). glasses_of_call gs sid own t) (same_list glasses)
     ∙ rw (ne_eqb t sid other) refl
 
-same_at : (old new : List Sight) (sid : ℕ) (own own' : Sight) → AreQuietBut sid old
-    → WereSeen (itself old) (itself new) sid own own' → glass_in (itself new) sid ≡ glass_in (itself old) sid → (t : ℕ)
-    → glass_in new t ≡ glass_in old t
-same_at old new sid own own' quiet were idle t =
-    elim (cases_eq t sid) [
+pub same_glasses : {R : Type 0} (f : Sight → R) (old new : List Sight) (sid : ℕ) (own own' : Sight)
+    → AreQuietBut sid old → WereSeen (itself old) (itself new) sid own own'
+    → glass_in (itself new) sid ≡ glass_in (itself old) sid → map f new ≡ map f old → new ≡ old
+same_glasses f old new sid own own' quiet were idle rests =
+    let long : length new ≡ length old = rw (← length-map new f, rests, length-map old f) in
+    ext_get_or no_sight new old long (λ t inside. elim (cases_eq t sid) [
       | inl e ↦ rw (e, ← same_list new, idle, same_list old, ← e)
       | inr other ↦
           let saw = were t in
@@ -60,17 +61,9 @@ same_at old new sid own own' quiet were idle t =
             ← other_there new sid own' t other,
             saw.1,
             other_there old sid own t other,
-            not_seen (glass_in old t)
-                saw.0 (quiet t other),
+            not_seen (glass_in old t) saw.0 (quiet t other),
           )
-    ]
-
-pub same_glasses : {R : Type 0} (f : Sight → R) (old new : List Sight) (sid : ℕ) (own own' : Sight)
-    → AreQuietBut sid old → WereSeen (itself old) (itself new) sid own own'
-    → glass_in (itself new) sid ≡ glass_in (itself old) sid → map f new ≡ map f old → new ≡ old
-same_glasses f old new sid own own' quiet were idle rests =
-    let long : length new ≡ length old = rw (← length-map new f, rests, length-map old f) in
-    ext_get_or no_sight new old long (λ t inside. same_at old new sid own own' quiet were idle t)
+    ])
 
 -- an event that is no call leaves the glasses, where none tells a log
 pub same_seen : {R : Type 0} (f : Sight → R) (old new : List Sight) → AreQuiet old

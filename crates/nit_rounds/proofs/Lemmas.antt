@@ -1,12 +1,11 @@
 -- What answers use: all that lemmas use, and this crate's lemmas.
-pub use Rattle.nit_rounds.proofs.Basics.{AreBehind, ByClient, ByUser, FitsInputLine, IsShowing}
-pub use Rattle.nit_rounds.proofs.Basics.{Line, List, NoneHas, SceneModel, Sight, Some, [], ap}
-pub use Rattle.nit_rounds.proofs.Basics.{arith, entry_of, few_digits, get_or_default, glass_in}
-pub use Rattle.nit_rounds.proofs.Basics.{is_stale, length, line_here, no_sight, put_state_of_desk}
-pub use Rattle.nit_rounds.proofs.Basics.{refl, set, settled, slice_get, subst, sym, told_at}
-pub use Rattle.nit_rounds.proofs.Basics.{with_words, ◌∙◌}
-pub use Rattle.nit_rounds.proofs.StaleLemmas.{all_drawn, all_own, behind_again, copied_first}
-pub use Rattle.nit_rounds.proofs.StaleLemmas.{glass_there, row_drawn, rows_to, settles}
+pub use Rattle.nit_rounds.proofs.Basics.{AreBehind, ByUser, FitsInputLine, IsShowing, List, NoneHas}
+pub use Rattle.nit_rounds.proofs.Basics.{SceneModel, Sight, Some, [], ap, arith, few_digits}
+pub use Rattle.nit_rounds.proofs.Basics.{get_or_default, glass_in, is_stale, length, line_here}
+pub use Rattle.nit_rounds.proofs.Basics.{no_sight, put_state_of_desk, refl, set, settled, subst}
+pub use Rattle.nit_rounds.proofs.Basics.{sym, told_at, with_words, ◌∙◌}
+pub use Rattle.nit_rounds.proofs.StaleLemmas.{all_drawn, all_own, as_many, behind_again}
+pub use Rattle.nit_rounds.proofs.StaleLemmas.{copied_first, glass_there, row_drawn, rows_to, settles}
 pub use Rattle.nit_rounds.proofs.LinesDone.{as_many_as_lines, client_done, client_lines, few_acts}
 pub use Rattle.nit_rounds.proofs.LinesDone.{user_done, user_lines}
 pub use Rattle.nit_rounds.proofs.ShotFiles.{as_replayed, drawn_counted, drawn_each, shots_drawn}
@@ -24,6 +23,6 @@ pub use Rattle.nit_rounds.proofs.PlaceLemmas.{user_inside, user_long}
 pub use Rattle.nit_rounds.proofs.RunStateLemmas.{after_client, after_user, begun, clients_move}
 pub use Rattle.nit_rounds.proofs.RunStateLemmas.{tells_client, tells_user, users_move}
 pub use Rattle.nit_rounds.proofs.DrawingLemmas.{put_as_pictures, stays_throughout}
-pub use Rattle.nit_rounds.proofs.TurnPremises.{as_many, each_at, found_here, front_move, may_do}
-pub use Rattle.nit_rounds.proofs.TurnPremises.{moved_settled, read_same, users_turn}
+pub use Rattle.nit_rounds.proofs.TurnPremises.{each_at, found_here, front_move, may_do}
+pub use Rattle.nit_rounds.proofs.TurnPremises.{read_same, users_turn}
 pub use Rattle.nit_rounds.proofs.WholeRounds.{whole}

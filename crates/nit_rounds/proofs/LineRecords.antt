@@ -36,13 +36,11 @@ can_call {old = old} {part = part} {k = k} long there can drawn is quiet room un
         glasses = rw (← length-set old.glasses part.sid there) at can.there.glasses;
       };
       own = (
-        ap (λ (x : Sight). x.owner) drawn.own,
-        ap (λ (x : Sight). x.size) drawn.own
-            ∙ long part.script.now (donation_of old.config part.sid) (k + 1) can.donation.1,
+        rw drawn.own,
+        rw drawn.own (long part.script.now (donation_of old.config part.sid) (k + 1) can.donation.1),
       );
       quiet_own = rw drawn.own;
-      quiet = λ t other. ap (λ (x : Sight). x.log) (get_or-set_other old.glasses part.sid t there no_sight other)
-          ∙ quiet t other;
+      quiet = λ t other. rw (get_or-set_other old.glasses part.sid t there no_sight other) (quiet t other);
       spare = room;
       unended = unended;
     })

@@ -11,14 +11,14 @@ use Rattle.nit_rounds.proofs.Basics.{range_with_len, refl, rounds, slice_get, su
 use Rattle.nit_rounds.proofs.Basics.{take_at, turns_from, turns_of}
 use Rattle.std.proofs.Common.{sum, take, take-append-drop, zero, zero-add, ℕ, ◌++◌, ◌+◌, ◌<◌, ◌∙◌}
 use Rattle.std.proofs.Common.{◌∷◌, ◌≡◌, ◌≤◌}
-use Rattle.nit_rounds.proofs.OneActor.{Below, Short, all_walk, phases_whole, short_drop}
-use Rattle.nit_rounds.proofs.OneActor.{short_greatest, walk}
+use Rattle.nit_rounds.proofs.OneActor.{Below, Short, all_walk, no_phases, phases_whole}
+use Rattle.nit_rounds.proofs.OneActor.{short_drop, short_greatest, walk}
 use Rattle.nit_rounds.proofs.Scripts.{below, client_part, user_part}
 use Rattle.nit_script.specs.declared.line.Line.TheVariants as line
 use Rattle.nit_script.specs.declared.line.InputLine.TheVariants as input
 
--- how many moves the lists have
-total : List (List LineTurn) → ℕ
+-- how many elements the lists have
+total : {X : Type 0} → List (List X) → ℕ
 total [] = 0
 total (l ∷ all) = length l + total all
 
@@ -53,10 +53,6 @@ phase_long all p = rw (
       (in_phase p) all) (short_greatest (map (in_phase p) all)),
 )
 
-no_actor : (ps : List ℕ) → length (flat_map (phase_rounds []) ps) ≡ 0
-no_actor [] = refl
-no_actor (p ∷ ps) = no_actor ps
-
 -- the moves of one actor more
 one_actor : (l : List LineTurn) (all : List (List LineTurn)) (ps : List ℕ)
     → length (flat_map (phase_rounds (l ∷ all)) ps)
@@ -74,23 +70,14 @@ one_actor l all (p ∷ ps) =
       one_actor l all ps,
     )
 
--- how many lines the scripts have
-lines_in : List (List ActorLine) → ℕ
-lines_in [] = 0
-lines_in (ds ∷ all) = length ds + lines_in all
-
 moves_long : (p n : ℕ) (ds : List ActorLine) → length (turns_from p n ds) ≡ length ds
 moves_long p n [] = refl
 moves_long p n (d ∷ ds) = ap (λ (k : ℕ). suc k) (moves_long _ (suc n) ds)
 
--- the moves of each of the scripts are in phases below this one
-abbrev AllBelow : ℕ → List (List ActorLine) → Type 0
-AllBelow count all = (k : ℕ) → Below count (turns_of (get_or all k []))
-
-rounds_long : (count : ℕ) (all : List (List ActorLine)) → AllBelow count all
-    → length (flat_map (phase_rounds (map turns_of all)) (range_with_len 0 count)) ≡ lines_in all
-unfolding lines_in
-rounds_long count [] h = no_actor (range_with_len 0 count)
+rounds_long : (count : ℕ) (all : List (List ActorLine)) → ((k : ℕ) → Below count (turns_of (get_or all k [])))
+    → length (flat_map (phase_rounds (map turns_of all)) (range_with_len 0 count)) ≡ total all
+unfolding total
+rounds_long count [] h = ap length (no_phases (range_with_len 0 count))
 rounds_long count (ds ∷ all) h =
     let here =
     ap length (phases_whole ds 0 0 count (rw (← zero-add count) at (h 0)))
@@ -99,8 +86,8 @@ rounds_long count (ds ∷ all) h =
     ∙ omega (arith, here, rounds_long count all (λ k. h (suc k)))
 
 lines_of_all : (sid : ℕ) (scripts : List (List Line)) (input : List InputLine)
-    → lines_in (clients_from sid scripts ++ map ByUser input ∷ []) ≡ sum (map length scripts) + length input
-unfolding lines_in
+    → total (clients_from sid scripts ++ map ByUser input ∷ []) ≡ sum (map length scripts) + length input
+unfolding total
 lines_of_all sid [] input = omega (arith, length-map input ByUser)
 lines_of_all sid (x ∷ scripts) input =
     omega (
@@ -206,11 +193,6 @@ abbrev IsDone : {L : Type 0} → (ActorLine → List L) → List L → List Line
 IsDone of script front number l = (slice_get script number ≡ Some l)
     × (flat_map (λ m. of m.doing) front ≡ take number script)
 
-done_at : {L : Type 0} (front back : List L) (l : L) (number : ℕ) → number ≡ length front
-    → (slice_get (front ++ l ∷ back) number ≡ Some l) × (front ≡ take number (front ++ l ∷ back))
-done_at front back l number count =
-    (rw count (middle front l back), sym (take_at front (l ∷ back) number (sym count)))
-
 -- what is taken of a list of moves around one
 around : {B : Type 0} (g : LineTurn → List B) (all front : List LineTurn) (m : LineTurn) (back : List LineTurn) (x : B)
     → all ≡ front ++ m ∷ back → g m ≡ x ∷ [] → flat_map g all ≡ flat_map g front ++ x ∷ flat_map g back
@@ -241,9 +223,13 @@ done_before of script all front m back l lines counts parts one =
     sym (around (λ x. of x.doing) all front m back l parts one) ∙ lines in
     let counted =
     sym (around (numbers of) all front m back m.number parts (ap (map (λ _. m.number)) one)) ∙ counts in
-    rw by at (done_at (front_lines of front) (front_lines of back) l m.number
-    (number_is (flat_map (numbers of) front) m.number (flat_map (numbers of) back) (length script) counted
-    ∙ as_many of front))
+    let count : m.number ≡ length (front_lines of front) =
+    number_is (flat_map (numbers of) front) m.number (flat_map (numbers of) back) (length script) counted
+    ∙ as_many of front in
+    rw (← by) (
+      rw count (middle (front_lines of front) l (front_lines of back)),
+      sym (take_at (front_lines of front) (l ∷ front_lines of back) m.number (sym count)),
+    )
 
 pub client_done : (scripts : List (List Line)) (input : List InputLine) (front back : List LineTurn) (m : LineTurn)
     (s : ℕ) (l : Line) → rounds scripts input ≡ front ++ m ∷ back → m.doing ≡ ByClient s l →

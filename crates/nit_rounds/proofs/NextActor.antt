@@ -2,16 +2,15 @@
 -- round, into a new phase.
 use Rattle.nit_rounds.proofs.Basics.{ActorLine, ArePlaces, Bool, ByClient, ByUser, HasTurn}
 use Rattle.nit_rounds.proofs.Basics.{InputLine, IsAtTurn, Line, LinePlace, LineTurn, List, NoneHas}
-use Rattle.nit_rounds.proofs.Basics.{Places, Some, StandsAt, [], actors, add-one, ap, arith}
-use Rattle.nit_rounds.proofs.Basics.{cases_eq, cases_lt, ends_phase, false, flat_map, get_or}
-use Rattle.nit_rounds.proofs.Basics.{get_or-map, get_or-replicate, get_or-set_other}
-use Rattle.nit_rounds.proofs.Basics.{get_or-set_same, get_or_default, in_phase, inl, inr, is_active}
-use Rattle.nit_rounds.proofs.Basics.{left_at, lefts, length, length-map, length-set, map}
+use Rattle.nit_rounds.proofs.Basics.{Places, Some, [], actors, add-one, ap, arith, cases_eq}
+use Rattle.nit_rounds.proofs.Basics.{cases_lt, ends_phase, flat_map, get_or, get_or-map}
+use Rattle.nit_rounds.proofs.Basics.{get_or-replicate, get_or-set_other, get_or-set_same, in_phase}
+use Rattle.nit_rounds.proofs.Basics.{inl, inr, left_at, lefts, length, length-map, length-set, map}
 use Rattle.nit_rounds.proofs.Basics.{phase_count, phase_rounds, range_with_len, refl, replicate}
 use Rattle.nit_rounds.proofs.Basics.{rounds, script_of, slice_get-get_or, stepped, suc, turn_by}
 use Rattle.nit_rounds.proofs.Basics.{turns_left, turns_of}
 use Rattle.nit_rounds.specs.Places.{left_from}
-use Rattle.std.proofs.Common.{set, slice_get, sym, zero, ℕ, ◌+◌, ◌-◌, ◌<◌, ◌∙◌, ◌∷◌, ◌≡◌, ◌≢◌, ◌≤◌}
+use Rattle.std.proofs.Common.{set, slice_get, zero, ℕ, ◌+◌, ◌-◌, ◌<◌, ◌∙◌, ◌∷◌, ◌≡◌, ◌≢◌, ◌≤◌}
 use Rattle.nit_rounds.proofs.Scripts.{below}
 use Rattle.nit_rounds.proofs.PlaceLemmas.{active_parts, actors_long, get_lefts, idle, left_first}
 use Rattle.nit_rounds.proofs.PlaceLemmas.{lefts_long, not_in_phase, nothing_more, phase_stands}
@@ -30,11 +29,6 @@ first_place = record { line = 0; phase = 0 }
 abbrev pub at_first : Places
 at_first = record { places = replicate 17 first_place; phase = 0; actor = 0 }
 
-stands_first : (scripts : List (List Line)) (input : List InputLine) (k : ℕ)
-    → StandsAt (phase_count scripts input) 0 first_place (script_of scripts input k)
-stands_first scripts input k =
-    record { reached = λ _. omega arith; near = λ _. omega arith; small = omega arith; within = below scripts input k }
-
 pub kept_first : (scripts : List (List Line)) (input : List InputLine) → length scripts ≤ 16
     → ArePlaces scripts input at_first
 kept_first scripts input few =
@@ -43,7 +37,12 @@ kept_first scripts input few =
       long = refl;
       actor = omega arith;
       phase = omega arith;
-      stand = λ k d inside. rw (← get_or-replicate 17 k first_place d (omega arith)) at (stands_first scripts input k);
+      stand = λ k d inside. rw (get_or-replicate 17 k first_place d (omega arith)) (record {
+        reached = λ _. omega arith;
+        near = λ _. omega arith;
+        small = omega arith;
+        within = below scripts input k;
+      });
     }
 
 lefts_first : (n : ℕ) (all : List (List ActorLine)) → length all ≤ n → lefts (replicate n first_place) all
@@ -70,10 +69,6 @@ left_first_of scripts input few =
       from_first (phase_count scripts input) (map turns_of (actors scripts input)) (omega arith),
     )
 
--- the moves that each actor has left
-abbrev all_left : List (List Line) → List InputLine → Places → List (List LineTurn)
-all_left scripts input at = lefts at.places (actors scripts input)
-
 abbrev pub at_actor : Places → ℕ → Places
 at_actor at b = record { places = at.places; phase = at.phase; actor = b }
 
@@ -85,151 +80,146 @@ pub record GoesOn (scripts : List (List Line)) (input : List InputLine) (at now 
   pub kept : ArePlaces scripts input now
   pub left : turns_left scripts input now ≡ turns_left scripts input at
 
-module _ (scripts : List (List Line)) (input : List InputLine) (at : Places) (kept : ArePlaces scripts input at) where
-  all_long : length (all_left scripts input at) ≡ length scripts + 1
+module _ {scripts : List (List Line)} {input : List InputLine} {at : Places} (kept : ArePlaces scripts input at) where
+  -- the moves that each actor has left
+  abbrev all_left : List (List LineTurn)
+  all_left = lefts at.places (actors scripts input)
+
+  abbrev count : ℕ
+  count = phase_count scripts input
+
+  -- the place of an actor
+  abbrev place : ℕ → LinePlace
+  place k = get_or at.places k first_place
+
+  -- no actor from one up to another has a line to do in the phase
+  abbrev Idle : ℕ → ℕ → ℕ → Type 0
+  Idle = NoneHas scripts input at.places
+
+  all_long : length all_left ≡ length scripts + 1
   all_long =
       let long : length (actors scripts input) ≡ length scripts + 1 = actors_long scripts input in
       lefts_long at.places (actors scripts input) (omega arith) ∙ long
 
-  left_by : (k : ℕ) (d : LinePlace) → k ≤ length scripts → get_or (all_left scripts input at) k []
-      ≡ left_at (get_or at.places k d) (script_of scripts input k)
+  left_by : (k : ℕ) (d : LinePlace) → k ≤ length scripts
+      → get_or all_left k [] ≡ left_at (get_or at.places k d) (script_of scripts input k)
   left_by k d inside =
       get_lefts k at.places (actors scripts input) d (omega arith) (omega (arith, actors_long scripts input))
 
-  -- an actor without a line to do has no move in the phase
-  idle_by : (k : ℕ) → k ≤ length scripts
-      → is_active at.phase (get_or at.places k first_place) (script_of scripts input k) ≡ false
-      → in_phase at.phase (get_or (all_left scripts input at) k []) ≡ []
-  idle_by k inside none =
-      rw (left_by k first_place inside, idle at.phase _ _ none (kept.stand k first_place inside).reached)
+  -- actors without a line to do have no move in the phase
+  idle_by : (from to : ℕ) → to ≤ length scripts + 1 → Idle at.phase from to → (i : ℕ) → from ≤ i → i < to
+      → in_phase at.phase (get_or all_left i []) ≡ []
+  idle_by from to inside none i up below_ =
+      let here : i ≤ length scripts = omega arith in
+      rw (left_by i first_place here)
+      (idle at.phase _ _ (none i first_place up below_) (kept.stand i first_place here).reached)
 
   -- where no actor from one on has a line to do, none of them has a move in the phase
-  all_idle : (from : ℕ) → NoneHas scripts input at.places at.phase from (length scripts + 1) → (i : ℕ) → from ≤ i
-      → i < length (all_left scripts input at) → in_phase at.phase (get_or (all_left scripts input at) i []) ≡ []
+  all_idle : (from : ℕ) → Idle at.phase from (length scripts + 1) → (i : ℕ) → from ≤ i → i < length all_left
+      → in_phase at.phase (get_or all_left i []) ≡ []
   all_idle from none i up below_ =
-      let long = all_long in
-      idle_by i (omega arith) (none i first_place up (omega arith))
+      let long = all_long in idle_by from (length scripts + 1) (omega arith) none i up (omega arith)
 
   -- ---- to an actor
 
-  kept_at : (b : ℕ) → b ≤ length scripts + 1 → ArePlaces scripts input (at_actor at b)
-  kept_at b inside =
-      record { few = kept.few; long = kept.long; actor = inside; phase = kept.phase; stand = kept.stand }
-
-  pub to_actor : (b : ℕ) → at.actor ≤ b → b ≤ length scripts
-      → NoneHas scripts input at.places at.phase at.actor b → GoesOn scripts input at (at_actor at b)
+  pub to_actor : (b : ℕ) → at.actor ≤ b → b ≤ length scripts → Idle at.phase at.actor b
+      → GoesOn scripts input at (at_actor at b)
   to_actor b up inside none =
       let long = all_long in
+      let actor : b ≤ length scripts + 1 = omega arith in
       record {
-        kept = kept_at b (omega arith);
-        left = turned_to (phase_count scripts input) at.phase at.actor b (all_left scripts input at) up (omega arith)
-            (λ i from_ below_. idle_by i (omega arith) (none i first_place from_ below_));
+        kept = assumption (actor, kept);
+        left = turned_to count at.phase at.actor b all_left up (omega arith) (idle_by at.actor b actor none);
       }
 
   -- ---- a new round
 
-  begin_round : NoneHas scripts input at.places at.phase at.actor (length scripts + 1)
-      → GoesOn scripts input at (at_actor at 0)
+  begin_round : Idle at.phase at.actor (length scripts + 1) → GoesOn scripts input at (at_actor at 0)
   begin_round none =
       let long = all_long in
+      let actor : 0 ≤ length scripts + 1 = omega arith in
       record {
-        kept = kept_at 0 (omega arith);
-        left = round_begun (phase_count scripts input) at.phase at.actor (all_left scripts input at) (omega arith)
-            (all_idle at.actor none);
+        kept = assumption (actor, kept);
+        left = round_begun count at.phase at.actor all_left (omega arith) (all_idle at.actor none);
       }
 
   -- ---- a new phase
 
   -- an actor with a line to do in a phase shows that the phase is one
-  turn_shows : (p b : ℕ) → HasTurn scripts input at.places p b → (p < phase_count scripts input) × (p ≤ 65536)
-  turn_shows p b turn =
-      let parts = active_parts p (get_or at.places b first_place) (script_of scripts input b) (turn.1 first_place) in
-      let stands = kept.stand b first_place turn.0 in
-      let few : (get_or at.places b first_place).line < 65536 = turn.2 first_place in
-      let small = stands.small in
-      let same : (get_or at.places b first_place).phase ≡ p = parts.0 in
-      let inside = rw (left_first (get_or at.places b first_place) (script_of scripts input b) (ByUser input_line.Shot)
-      parts.1) at stands.within in
-      let within = inside.0 in
-      (rw same at within, omega arith)
-
-  begin_phase : (b : ℕ) → NoneHas scripts input at.places at.phase at.actor (length scripts + 1)
-      → NoneHas scripts input at.places at.phase 0 (length scripts + 1)
+  begin_phase : (b : ℕ) → Idle at.phase at.actor (length scripts + 1) → Idle at.phase 0 (length scripts + 1)
       → HasTurn scripts input at.places (at.phase + 1) b → GoesOn scripts input at (at_phase at (at.phase + 1) 0)
   begin_phase b rest none turn =
-      let shown = turn_shows (at.phase + 1) b turn in
-      let more : at.phase + 1 < phase_count scripts input = shown.0 in
+      let parts = active_parts (at.phase + 1) (place b) (script_of scripts input b) (turn.1 first_place) in
+      let stands = kept.stand b first_place turn.0 in
+      let few : (place b).line < 65536 = turn.2 first_place in
+      let small = stands.small in
+      let same : (place b).phase ≡ at.phase + 1 = parts.0 in
+      let inside = rw (left_first (place b) (script_of scripts input b) (ByUser input_line.Shot) parts.1) at
+      stands.within in
+      let within : (place b).phase < count = inside.0 in
       record {
         kept = record {
           few = kept.few;
           long = kept.long;
           actor = omega arith;
-          phase = shown.1;
-          stand = λ k d inside. phase_stands (phase_count scripts input) at.phase (get_or at.places k d)
-              (script_of scripts input k) (none k d (omega arith) (omega arith)) (kept.stand k d inside);
+          phase = omega arith;
+          stand = λ k d below_. phase_stands count at.phase (get_or at.places k d) (script_of scripts input k)
+              (none k d (omega arith) (omega arith)) (kept.stand k d below_);
         };
         left = rw (
           add-one at.phase,
-          phase_begun (phase_count scripts input) at.phase (all_left scripts input at) (omega arith) (all_idle 0 none),
+          phase_begun count at.phase all_left (omega arith) (all_idle 0 none),
           (begin_round rest).left,
         );
       }
 
   -- ---- the end
 
-  none_left : NoneHas scripts input at.places at.phase 0 (length scripts + 1)
-      → NoneHas scripts input at.places (at.phase + 1) 0 (length scripts + 1) → (k : ℕ) → k ≤ length scripts
-      → get_or (all_left scripts input at) k [] ≡ []
+  none_left : Idle at.phase 0 (length scripts + 1) → Idle (at.phase + 1) 0 (length scripts + 1) → (k : ℕ)
+      → k ≤ length scripts → get_or all_left k [] ≡ []
   none_left none next k inside =
       let stands = kept.stand k first_place inside in
       left_by k first_place inside
-      ∙ elim (cases_lt (get_or at.places k first_place).line (length (script_of scripts input k))) [
-        | inr past ↦ nothing_more (get_or at.places k first_place) (script_of scripts input k) past
+      ∙ elim (cases_lt (place k).line (length (script_of scripts input k))) [
+        | inr past ↦ nothing_more (place k) (script_of scripts input k) past
         | inl more ↦
-            let low : at.phase ≤ (get_or at.places k first_place).phase = stands.reached more in
-            let high : (get_or at.places k first_place).phase ≤ suc at.phase = stands.near more in
-            let not_now : (get_or at.places k first_place).phase ≢ at.phase =
+            let low : at.phase ≤ (place k).phase = stands.reached more in
+            let high : (place k).phase ≤ suc at.phase = stands.near more in
+            let not_now : (place k).phase ≢ at.phase =
             not_in_phase at.phase _ (script_of scripts input k) (none k first_place (omega arith) (omega arith)) more in
-            let not_next : (get_or at.places k first_place).phase ≢ at.phase + 1 =
+            let not_next : (place k).phase ≢ at.phase + 1 =
             not_in_phase (at.phase + 1) _ (script_of scripts input k) (next k first_place (omega arith) (omega arith))
             more in
             absurd (omega arith)
       ]
 
-  pub all_done : NoneHas scripts input at.places at.phase 0 (length scripts + 1)
-      → NoneHas scripts input at.places (at.phase + 1) 0 (length scripts + 1) → turns_left scripts input at ≡ []
+  pub all_done : Idle at.phase 0 (length scripts + 1) → Idle (at.phase + 1) 0 (length scripts + 1)
+      → turns_left scripts input at ≡ []
   all_done none next =
       let long = all_long in
-      nothing_left (phase_count scripts input) at.phase at.actor (all_left scripts input at) (omega arith)
-      (λ i up below_. none_left none next i (omega arith))
+      nothing_left count at.phase at.actor all_left (omega arith) (λ i up below_. none_left none next i (omega arith))
 
-module _ (scripts : List (List Line)) (input : List InputLine) (at : Places) (b : ℕ)
+-- from the first actor of a new round or phase on to one with a line to do
+then_to : {scripts : List (List Line)} {input : List InputLine} {at now : Places} → GoesOn scripts input at now
+    → now.actor ≡ 0 → (b : ℕ) → b ≤ length scripts → NoneHas scripts input now.places now.phase 0 b
+    → GoesOn scripts input at (at_actor now b)
+then_to begun first b inside before =
+    let on = to_actor begun.kept b (omega arith) inside (rw first before) in
+    record { kept = on.kept; left = on.left ∙ begun.left }
+
+module _ {scripts : List (List Line)} {input : List InputLine} {at : Places} {b : ℕ}
     (kept : ArePlaces scripts input at)
     (rest : NoneHas scripts input at.places at.phase at.actor (length scripts + 1)) where
   pub to_round : b ≤ length scripts → NoneHas scripts input at.places at.phase 0 b
       → GoesOn scripts input at (at_actor at b)
-  to_round inside before =
-      let begun = begin_round scripts input at kept rest in
-      let on = to_actor scripts input (at_actor at 0) begun.kept b (omega arith) inside before in
-      record { kept = on.kept; left = on.left ∙ begun.left }
+  to_round inside before = then_to (begin_round kept rest) refl b inside before
 
   pub to_phase : NoneHas scripts input at.places at.phase 0 (length scripts + 1)
       → HasTurn scripts input at.places (at.phase + 1) b → NoneHas scripts input at.places (at.phase + 1) 0 b
       → GoesOn scripts input at (at_phase at (at.phase + 1) b)
-  to_phase none turn before =
-      let begun = begin_phase scripts input at kept b rest none turn in
-      let on = to_actor scripts input (at_phase at (at.phase + 1) 0) begun.kept b (omega arith) turn.0 before in
-      record { kept = on.kept; left = on.left ∙ begun.left }
+  to_phase none turn before = then_to (begin_phase kept b rest none turn) refl b turn.0 before
 
 -- ---- the present actor does its line
-
--- the place at which the present actor stands
-abbrev present : Places → LinePlace
-present at = get_or at.places at.actor first_place
-
--- the line at the present actor's place
-abbrev pub line_at : List (List Line) → List InputLine → Places → LinePlace → ActorLine
-line_at scripts input at place = get_or (script_of scripts input at.actor) place.line (ByUser input_line.Shot)
 
 -- the actors stand behind a move that was done
 pub record IsBehind (scripts : List (List Line)) (input : List InputLine) (at now : Places) (m : LineTurn) : Type 0
@@ -237,85 +227,73 @@ pub record IsBehind (scripts : List (List Line)) (input : List InputLine) (at no
     pub kept : ArePlaces scripts input now
     pub left : turns_left scripts input at ≡ m ∷ turns_left scripts input now
 
-module _ (scripts : List (List Line)) (input : List InputLine) (at : Places) where
-  -- the present actor's line as a move, and the place behind it
-  abbrev move_at : LinePlace → LineTurn
-  move_at place = record { phase = place.phase; number = place.line; doing = line_at scripts input at place }
+module _ {scripts : List (List Line)} {input : List InputLine} {at : Places} (kept : ArePlaces scripts input at)
+    (its : IsAtTurn scripts input at) where
+  -- the script of the present actor, the place at which it stands, and the line there
+  abbrev own : List ActorLine
+  own = script_of scripts input at.actor
 
-  abbrev behind_it : LinePlace → LinePlace
-  behind_it place = stepped place (ends_phase (line_at scripts input at place))
+  abbrev present : LinePlace
+  present = get_or at.places at.actor first_place
+
+  abbrev here : ActorLine
+  here = get_or own present.line (ByUser input_line.Shot)
 
   abbrev moved_to : LinePlace → Places
   moved_to after = record { places = set at.places at.actor after; phase = at.phase; actor = at.actor + 1 }
 
-  step_place : ArePlaces scripts input at → IsAtTurn scripts input at → (place : LinePlace)
-      → place ≡ get_or at.places at.actor place
-      → IsBehind scripts input at (moved_to (behind_it place)) (move_at place)
-  step_place kept turn place is =
-      let inside : at.actor ≤ length scripts = turn.0 in
-      let long : length (all_left scripts input at) ≡ length scripts + 1 = all_long scripts input at kept in
-      let active = rw (← is) at (turn.1 place) in
-      let parts = active_parts at.phase place (script_of scripts input at.actor) active in
-      let stands = rw (← is) at (kept.stand at.actor place inside) in
-      let has =
-      left_by scripts input at kept at.actor place inside
-      ∙ ap (λ (p : LinePlace). left_at p (script_of scripts input at.actor)) (sym is)
-      ∙ left_first place (script_of scripts input at.actor) (ByUser input_line.Shot) parts.1 in
+  parts : (present.phase ≡ at.phase) × (present.line < length own)
+  parts = active_parts at.phase present own (its.1 first_place)
+
+  pub step_ends : (ends : Bool)
+      → ((d : ActorLine) → slice_get own present.line ≡ Some d → ends ≡ ends_phase d)
+      → (after : LinePlace) → after ≡ stepped present ends
+      → IsBehind scripts input at (moved_to after)
+      (record { phase = present.phase; number = present.line; doing = here })
+  step_ends ends told after is =
+      let inside : at.actor ≤ length scripts = its.0 in
+      let long : length (all_left kept) ≡ length scripts + 1 = all_long kept in
+      let ends_is : ends ≡ ends_phase here =
+      told _ (slice_get-get_or own present.line (ByUser input_line.Shot) parts.1) in
+      let behind : after ≡ stepped present (ends_phase here) = is ∙ ap (stepped present) ends_is in
+      let has : get_or (all_left kept) at.actor []
+      ≡ record { phase = present.phase; number = present.line; doing = here } ∷ left_at after own =
+      rw (left_by kept at.actor first_place inside, left_first present own (ByUser input_line.Shot) parts.1, behind) in
       record {
         kept = record {
           few = kept.few;
-          long = length-set at.places at.actor (behind_it place) ∙ kept.long;
+          long = length-set at.places at.actor after ∙ kept.long;
           actor = omega arith;
           phase = kept.phase;
           stand = λ k d below_.
               elim (cases_eq k at.actor) [
                 | inl same ↦
-                    rw same (rw (← get_or-set_same at.places at.actor (behind_it place) d (omega arith)) at
-                    (step_stands (phase_count scripts input) at.phase place (script_of scripts input at.actor)
-                    (ByUser input_line.Shot) parts.1 parts.0 stands))
+                    rw (same, get_or-set_same at.places at.actor after d (omega arith), behind)
+                    (step_stands (phase_count scripts input) at.phase present own (ByUser input_line.Shot) parts.1
+                    parts.0 (kept.stand at.actor first_place inside))
                 | inr other ↦
-                    rw (← get_or-set_other at.places at.actor k (behind_it place) d other) at (kept.stand k d below_)
+                    rw (← get_or-set_other at.places at.actor k after d other) at (kept.stand k d below_)
               ];
         };
-        left = one_taken (phase_count scripts input) at.phase at.actor (all_left scripts input at) _
-            (left_at (behind_it place) (script_of scripts input at.actor)) (omega arith) has parts.0
-            ∙ ap (λ (all : List (List LineTurn)). move_at place
-            ∷ left_from (phase_count scripts input) at.phase (at.actor + 1) all)
-            (set_lefts at.actor (behind_it place) at.places (actors scripts input));
+        left = one_taken (phase_count scripts input) at.phase at.actor (all_left kept) _ (left_at after own)
+            (omega arith) has parts.0
+            ∙ rw (set_lefts at.actor after at.places (actors scripts input));
       }
 
-  present_inside : IsAtTurn scripts input at → (present at).line < length (script_of scripts input at.actor)
-  present_inside turn = (active_parts at.phase (present at) _ (turn.1 first_place)).1
-
-  pub step_ends : ArePlaces scripts input at → IsAtTurn scripts input at → (ends : Bool)
-      → ((d : ActorLine) → slice_get (script_of scripts input at.actor) (present at).line ≡ Some d
-      → ends ≡ ends_phase d)
-      → (after : LinePlace) → after ≡ stepped (present at) ends
-      → IsBehind scripts input at (moved_to after) (move_at (present at))
-  step_ends kept turn ends told after is =
-      let inside : at.actor ≤ length scripts = turn.0 in
-      let same : ends ≡ ends_phase (line_at scripts input at (present at)) =
-      told _ (slice_get-get_or (script_of scripts input at.actor) (present at).line (ByUser input_line.Shot)
-      (present_inside turn)) in
-      rw (← (is ∙ ap (stepped (present at)) same)) at (step_place kept turn (present at)
-      (get_or_default at.places at.actor first_place (present at) (omega arith)))
-
-  pub client_turn : IsAtTurn scripts input at → at.actor < length scripts
-      → turn.Client at.actor (present at).line ≡ turn_by (line_at scripts input at (present at)) (present at).line
-  client_turn its inside =
-      let here = script_client scripts input at.actor inside in
-      let long : (present at).line < length (get_or scripts at.actor []) =
-      rw (ap length here ∙ length-map (get_or scripts at.actor []) (ByClient at.actor)) at (present_inside its) in
+  pub client_turn : at.actor < length scripts → turn.Client at.actor present.line ≡ turn_by here present.line
+  client_turn inside =
+      let script : own ≡ map (ByClient at.actor) (get_or scripts at.actor []) =
+      script_client scripts input at.actor inside in
+      let long : present.line < length (get_or scripts at.actor []) =
+      rw (script, length-map (get_or scripts at.actor []) (ByClient at.actor)) at parts.1 in
       cc (
-        get_or-map (ByClient at.actor) (get_or scripts at.actor []) (present at).line line.Phase
-            (ByUser input_line.Shot) long,
-        here,
+        get_or-map (ByClient at.actor) (get_or scripts at.actor []) present.line line.Phase (ByUser input_line.Shot)
+            long,
+        script,
       )
 
-  pub user_turn : IsAtTurn scripts input at → length scripts ≤ at.actor
-      → turn.User (present at).line ≡ turn_by (line_at scripts input at (present at)) (present at).line
-  user_turn its past =
-      let here : script_of scripts input at.actor ≡ map ByUser input = script_user scripts input at.actor past its.0 in
-      let long : (present at).line < length input =
-      rw (ap length here ∙ length-map input ByUser) at (present_inside its) in
-      cc (get_or-map ByUser input (present at).line input_line.Shot (ByUser input_line.Shot) long, here)
+  pub user_turn : length scripts ≤ at.actor → turn.User present.line ≡ turn_by here present.line
+  user_turn past =
+      let script : own ≡ map ByUser input = script_user scripts input at.actor past its.0 in
+      let long : present.line < length input = rw (script, length-map input ByUser) at parts.1 in
+      cc (get_or-map ByUser input present.line input_line.Shot (ByUser input_line.Shot) long, script)

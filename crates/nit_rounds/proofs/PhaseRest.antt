@@ -25,9 +25,6 @@ idle_in p from to all none i up below_ = get_map (in_phase p) refl i all ∙ non
 pub at_begin : (all : List (List LineTurn)) → rest_of_phase 0 all ≡ all_rounds all
 at_begin all = sym (first_round all)
 
-at_end : (k : ℕ) (all : List (List LineTurn)) → length all ≤ k → rest_of_phase k all ≡ all_rounds all
-at_end k all past = rw (drop_all k all past, take_all k all past) (rw (append-nil all))
-
 -- an actor that has no move is passed over
 skip : (k : ℕ) (all : List (List LineTurn)) → k < length all → get_or all k [] ≡ []
     → rest_of_phase k all ≡ rest_of_phase (k + 1) all
@@ -48,7 +45,9 @@ skip_to (suc n) k b all is inside none =
 skip_rest : (k : ℕ) (all : List (List LineTurn)) → k ≤ length all → AreIdle all k (length all)
     → rest_of_phase k all ≡ all_rounds all
 skip_rest k all up none =
-    skip_to (length all - k) k (length all) all (omega arith) (omega arith) none ∙ at_end (length all) all (omega arith)
+    let n : ℕ = length all in
+    skip_to (n - k) k n all (omega arith) (omega arith) none
+    ∙ rw (drop_all n all (omega arith), take_all n all (omega arith)) (rw (append-nil all))
 
 -- an actor does its move
 take_one : (b : ℕ) (all : List (List LineTurn)) (m : LineTurn) (rest : List LineTurn) → b < length all

@@ -119,6 +119,9 @@ pub not_in_phase : (phase : ℕ) (place : LinePlace) (ds : List ActorLine) → i
     → place.line < length ds → place.phase ≡ phase → ⊥
 not_in_phase phase place ds idle inside same = false≢true (sym idle ∙ is_active_at phase place ds same inside)
 
+pub nothing_more : (place : LinePlace) (ds : List ActorLine) → length ds ≤ place.line → left_at place ds ≡ []
+nothing_more place ds past = rw (drop_all place.line ds past)
+
 -- an actor without a line to do has no move in the phase
 pub idle : (phase : ℕ) (place : LinePlace) (ds : List ActorLine) → is_active phase place ds ≡ false
     → (place.line < length ds → phase ≤ place.phase) → in_phase phase (left_at place ds) ≡ []
@@ -128,11 +131,8 @@ idle phase place ds none reached =
           let up : phase ≤ place.phase = reached inside in
           let other : place.phase ≢ phase = not_in_phase phase place ds none inside in
           later phase place.phase place.line (drop place.line ds) (omega arith)
-      | inr past ↦ rw (drop_all place.line ds past)
+      | inr past ↦ rw (nothing_more place ds past)
     ]
-
-pub nothing_more : (place : LinePlace) (ds : List ActorLine) → length ds ≤ place.line → left_at place ds ≡ []
-nothing_more place ds past = rw (drop_all place.line ds past)
 
 -- ---- a step
 
@@ -151,21 +151,13 @@ left_first place ds d inside =
           place.line,
     )
 
-stepped_up : (b : Bool) (p : ℕ) → (p ≤ cond b (p + 1) p) × (cond b (p + 1) p ≤ suc p)
-stepped_up true p = (omega arith, omega arith)
-stepped_up false p = (omega arith, omega arith)
-
 pub step_stands : (count phase : ℕ) (place : LinePlace) (ds : List ActorLine) (d : ActorLine) → place.line < length ds
     → place.phase ≡ phase → StandsAt count phase place ds
     → StandsAt count phase (stepped place (ends_phase (get_or ds place.line d))) ds
 step_stands count phase place ds d inside same stands =
-    let up = stepped_up (ends_phase (get_or ds place.line d)) place.phase in
-    let low = up.0 in
-    let high = up.1 in
     let small : place.phase ≤ place.line = stands.small in
-    let parts =
-    rw (left_first place ds d inside) at stands.within in
-    record { reached = λ _. omega arith; near = λ _. omega arith; small = omega arith; within = parts.1 }
+    let parts = rw (left_first place ds d inside) at stands.within in
+    record { reached = λ _. grind arith; near = λ _. grind arith; small = grind arith; within = parts.1 }
 
 -- the phase ends for an actor that has no line to do in it
 pub phase_stands : (count phase : ℕ) (place : LinePlace) (ds : List ActorLine) → is_active phase place ds ≡ false

@@ -2,10 +2,10 @@
 use Rattle.nit_rounds.proofs.Basics.{ActorLine, AllByRecursion, Bool, ByClient, ByUser, InputLine}
 use Rattle.nit_rounds.proofs.Basics.{Line, LineTurn, List, [], actors, add-zero, ap, arith}
 use Rattle.nit_rounds.proofs.Basics.{cases_eq, cases_lt, clients_from, cond, count_by, ends_phase}
-use Rattle.nit_rounds.proofs.Basics.{false, flat_map, get_or, greatest, inl, inr, is_input_phase}
-use Rattle.nit_rounds.proofs.Basics.{is_phase, length, map, phase_count, phases, range_with_len}
-use Rattle.nit_rounds.proofs.Basics.{refl, rounds, suc, sum_by-append, sym, true, turns_from}
-use Rattle.nit_rounds.proofs.Basics.{turns_of, zero, zero-add, ℕ}
+use Rattle.nit_rounds.proofs.Basics.{flat_map, get_or, greatest, inl, inr, is_input_phase, is_phase}
+use Rattle.nit_rounds.proofs.Basics.{length, map, phase_count, phases, range_with_len, refl, rounds}
+use Rattle.nit_rounds.proofs.Basics.{suc, sum_by-append, sym, turns_from, turns_of, zero, zero-add}
+use Rattle.nit_rounds.proofs.Basics.{ℕ}
 use Rattle.std.proofs.Common.{◌++◌, ◌+◌, ◌<◌, ◌∙◌, ◌∷◌, ◌≡◌, ◌≤◌}
 use Rattle.nit_rounds.proofs.OneActor.{Below, OnlyAt, Silent, get_map, only_phases, phases_whole}
 use Rattle.nit_rounds.proofs.OneActor.{taken_silent}
@@ -37,18 +37,11 @@ ended : List ActorLine → ℕ
 ended [] = 0
 ended (d ∷ ds) = cond (ends_phase d) 1 0 + ended ds
 
-goes_on : (b : Bool) (p e count : ℕ) → p + (cond b 1 0 + e) < count → cond b (suc p) p + e < count
-goes_on true p e count h = omega arith
-goes_on false p e count h = omega arith
-
 moves_below : (count p k : ℕ) (ds : List ActorLine) → p + ended ds < count → Below count (turns_from p k ds)
 unfolding ended
 moves_below count p k [] h = tt
-moves_below count p k (d ∷ ds) h = (
-  omega arith,
-  moves_below count (cond (ends_phase d) (suc p) p) (suc k) ds
-      (goes_on (ends_phase d) p (ended ds) count h),
-)
+moves_below count p k (d ∷ ds) h =
+    (omega arith, moves_below count (cond (ends_phase d) (suc p) p) (suc k) ds (grind arith))
 
 count_first : {X : Type 0} (test : X → Bool) (x : X) (xs : List X)
     → count_by test (x ∷ xs) ≡ cond (test x) 1 0 + count_by test xs

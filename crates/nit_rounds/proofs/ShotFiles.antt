@@ -5,16 +5,17 @@ use Rattle.nit_rounds.proofs.Basics.{ByUser, Call, Configuration, Device, Drawin
 use Rattle.nit_rounds.proofs.Basics.{InputLine, IsDrawnPicture, IsLegal, LegalFrom, Line, LineTurn}
 use Rattle.nit_rounds.proofs.Basics.{ShotFrame, ShotsBehind, Some, State, action_of}
 use Rattle.nit_rounds.proofs.Basics.{actions_of_line, actions_of_turns, after, after_turn}
-use Rattle.nit_rounds.proofs.Basics.{append-nil, append_assoc, cases_Bool, cond, drawn_by_shot}
-use Rattle.nit_rounds.proofs.Basics.{drawn_shot, entry_of, false, first_state, fold-append, inl}
-use Rattle.nit_rounds.proofs.Basics.{inr, length, length_push, opening_drawing, picture_of, replay}
-use Rattle.nit_rounds.proofs.Basics.{replay_from, rounds, route, routed_as, serve, session, shoots}
-use Rattle.nit_rounds.proofs.Basics.{shot_file, shot_name, shots, shots_after, shots_of}
-use Rattle.nit_rounds.proofs.Basics.{state_after, subst, suc, true, turns_before, zero}
+use Rattle.nit_rounds.proofs.Basics.{append-nil, append_assoc, cond, drawn_by_shot, drawn_shot}
+use Rattle.nit_rounds.proofs.Basics.{entry_of, false, first_state, fold-append, length, length_push}
+use Rattle.nit_rounds.proofs.Basics.{map-append, opening_drawing, picture_of, replay, replay_from}
+use Rattle.nit_rounds.proofs.Basics.{rounds, route, routed_as, serve, session, shoots, shot_file}
+use Rattle.nit_rounds.proofs.Basics.{shot_name, shots, shots_after, shots_of, state_after, suc}
+use Rattle.nit_rounds.proofs.Basics.{true, turns_before, zero}
 use Rattle.std.proofs.Common.{List, [], ap, arith, fold, map, refl, slice_get, sym, zero-add, ℕ}
 use Rattle.std.proofs.Common.{◌++◌, ◌+◌, ◌∙◌, ◌∷◌, ◌≡◌}
 use Rattle.nit_rounds.specs.Drawing.{drawn}
-use Rattle.nit_rounds.proofs.ShotFileLemmas.{as_many_files, file_of_a_shot, shots_both}
+use Rattle.nit_rounds.proofs.ShotFileLemmas.{as_many_files, file_of_a_shot, files_both}
+use Rattle.nit_rounds.proofs.ShotFileLemmas.{no_files, shots_both}
 use Rattle.nit_events.specs.declared.entry.Entry.TheVariants as entry
 use Rattle.nit_script.specs.declared.line.Line.TheVariants as line
 use Rattle.nit_script.specs.declared.line.InputLine.TheVariants as input
@@ -128,23 +129,9 @@ before_it (f ∷ front) m rest is = by (shoots f.doing) (shots_in front) refl (b
 shots_in_more : (front : List LineTurn) (m : LineTurn)
     → shots_in (front ++ m ∷ []) ≡ shots_in front + cond (shoots m.doing) 1 0
 shots_in_more [] m = sym (zero-add (cond (shoots m.doing) 1 0))
-shots_in_more (f ∷ front) m = by (shoots f.doing) (cond (shoots m.doing) 1 0) (shots_in_more front m)
-  where
-    by : (b : Bool) (k : ℕ) → shots_in (front ++ m ∷ []) ≡ shots_in front + k
-        → cond b (suc (shots_in (front ++ m ∷ []))) (shots_in (front ++ m ∷ []))
-        ≡ cond b (suc (shots_in front)) (shots_in front) + k
-    by true k e = omega arith
-    by false k e = e
+shots_in_more (f ∷ front) m = grind (arith, shots_in_more front m)
 
 -- ---- one line
-
--- entries without a shot have no file
-no_file : (P : List Entry → List ℕ → Type 0) (before put rest : List Entry) (files : List File) → shots put ≡ 0
-    → ShotsBehind P (before ++ put) rest files → ShotsBehind P before (put ++ rest) files
-no_file P before [] rest files none h = rw (append-nil before) at h
-no_file P before (entry.Shot k ∷ put) rest files none h = absurd (omega arith)
-no_file P before (e ∷ put) rest files none h =
-    no_file P (before ++ e ∷ []) put rest files none (rw (← append_assoc before (e ∷ []) put) at h)
 
 -- a line puts as many shots as it is, and makes as many pictures
 counted : (config : Configuration) (doing : ActorLine) (taken : ℕ) (put : List Entry) (d : Drawing)
@@ -152,19 +139,6 @@ counted : (config : Configuration) (doing : ActorLine) (taken : ℕ) (put : List
     → (cond (shoots doing) 1 0 ≡ shots put) × (length (shots_after config doing d) ≡ length d.shots + shots put)
 counted config (ByUser input.Shot) taken put d p = (rw p refl, rw (p, length_push d.shots (drawn_shot config d)))
 counted config other taken put d p = (sym p, omega (arith, p))
-
--- a line that is no shot puts none, and makes no picture
-plain : (config : Configuration) (doing : ActorLine) (taken : ℕ) (put : List Entry) (d : Drawing)
-    → shoots doing ≡ false → PutBy taken doing put → (shots put ≡ 0) × (shots_after config doing d ≡ d.shots)
-plain config (ByUser input.Shot) taken put d e p = absurd cc
-plain config other taken put d e p = (p, refl)
-
--- a shot puts itself, and makes a picture
-taken_by : (config : Configuration) (doing : ActorLine) (taken : ℕ) (put : List Entry) (d : Drawing)
-    → shoots doing ≡ true → PutBy taken doing put
-    → (put ≡ entry.Shot (taken + 1) ∷ []) × (shots_after config doing d ≡ d.shots ++ drawn_shot config d ∷ [])
-taken_by config (ByUser input.Shot) taken put d e p = (p, refl)
-taken_by config other taken put d e p = absurd cc
 
 -- ---- all lines
 
@@ -198,12 +172,20 @@ module _ (config : Configuration) (scripts : List (List Line)) (lines : List Inp
       → IsPicture before (picture_of config d.state d.word)
   unfolding drawn
   picture_here front m left taken before d parts is h =
-      let moves : turns_before (shots before) (rounds scripts lines) ≡ front =
-      rw (h.entries_shot, ← h.lines_shot, parts, before_it front m left is) in
-      let word =
-      ap (λ (ms : List LineTurn). (fold after' (opening_drawing config) ms).word) moves
-      ∙ ap (λ (x : Drawing). x.word) h.drawn_is in
-      rw (h.state_is, ← word)
+      rw (h.entries_shot, ← h.lines_shot, parts, before_it front m left is, h.drawn_is, h.state_is)
+
+  -- the frames that a line draws, and the files of what it puts
+  line_files : (doing : ActorLine) (taken : ℕ) (before put : List Entry) (d : Drawing) → PutBy taken doing put
+      → length d.shots ≡ taken → (shoots doing ≡ true → IsPicture before (picture_of config d.state d.word))
+      → (frames : List ShotFrame) × (shots_after config doing d ≡ d.shots ++ frames)
+      × ShotsBehind IsPicture before put (map shot_file frames)
+  line_files (ByUser input.Shot) taken before put d is long pictured = (
+    drawn_shot config d ∷ [],
+    refl,
+    rw is (picture_of config d.state d.word, [], rw long, pictured refl, refl),
+  )
+  line_files other taken before put d none long pictured =
+      ([], sym (append-nil d.shots), no_files IsPicture before put none)
 
   all_left : (left front : List LineTurn) (taken : ℕ) (before journal : List Entry) (d : Drawing)
       → rounds scripts lines ≡ front ++ left → Half front taken before d → LegalFrom d.state taken journal
@@ -228,42 +210,14 @@ module _ (config : Configuration) (scripts : List (List Line)) (lines : List Inp
       } in
       let more = all_left left (front ++ m ∷ []) b.now (before ++ b.put) b.rest next
       (parts ∙ sym (append_assoc front (m ∷ []) left)) half b.legal b.acts_left in
-      let files : List File = map shot_file more.frames in
-      elim (cases_Bool (shoots m.doing)) [
-        | inl is_shot ↦
-            let t = taken_by config m.doing taken b.put d is_shot b.puts in
-            let named : shot_name (length d.shots + 1) ≡ shot_name (taken + 1) = rw h.pictures in
-            let here : ShotsBehind IsPicture before (entry.Shot (taken + 1) ∷ b.rest)
-            (shot_file (drawn_shot config d) ∷ files) = (
-              picture_of config d.state d.word,
-              files,
-              ap (λ (n : List ℕ). (n, picture_of config d.state d.word) ∷ files) named,
-              picture_here front m left taken before d parts is_shot h,
-              subst (λ (es : List Entry). ShotsBehind IsPicture (before ++ es) b.rest files) t.0 more.are,
-            ) in
-            record {
-              frames = drawn_shot config d ∷ more.frames;
-              drawn_too = cc (more.drawn_too, t.1, append_assoc d.shots (drawn_shot config d ∷ []) more.frames);
-              are = subst (λ (es : List Entry). ShotsBehind IsPicture before es
-                  (shot_file (drawn_shot config d) ∷ files))
-                  (sym (b.parts ∙ ap (λ (es : List Entry). es ++ b.rest) t.0)) here;
-            }
-        | inr other ↦
-            let p = plain config m.doing taken b.put d other b.puts in
-            record {
-              frames = more.frames;
-              drawn_too = cc (more.drawn_too, p.1);
-              are = rw (← b.parts) at (no_file IsPicture before b.put b.rest files p.0 more.are);
-            }
-      ]
-
-  -- the last picture behind them has no file among the shots
-  with_final : (before journal : List Entry) (files : List File) → ShotsBehind IsPicture before journal files
-      → ShotsBehind IsPicture before (journal ++ entry.Final ∷ []) files
-  with_final before [] files h = h
-  with_final before (entry.Shot k ∷ rest) files h =
-      (h.0, h.1, h.2, h.3, with_final (before ++ entry.Shot k ∷ []) rest h.1 h.4)
-  with_final before (e ∷ rest) files h = with_final (before ++ e ∷ []) rest files h
+      let (frames, drawn_here, are) = line_files m.doing taken before b.put d b.puts h.pictures
+      (λ is_shot. picture_here front m left taken before d parts is_shot h) in
+      record {
+        frames = frames ++ more.frames;
+        drawn_too = cc (more.drawn_too, drawn_here, append_assoc d.shots frames more.frames);
+        are = rw (← b.parts, ← map-append shot_file frames more.frames) at (files_both IsPicture before b.put b.rest
+            (map shot_file frames) (map shot_file more.frames) are more.are);
+      }
 
   drawn_along : (journal : List Entry) → IsLegal config journal → AreRoundsOf journal scripts lines
       → AreShotsOf IsPicture journal (shots_of config scripts lines)
@@ -276,7 +230,10 @@ module _ (config : Configuration) (scripts : List (List Line)) (lines : List Inp
 
   pub shots_drawn : (journal : List Entry) → IsLegal config journal → AreRoundsOf journal scripts lines
       → AreShotsOf IsPicture (journal ++ entry.Final ∷ []) (shots_of config scripts lines)
-  shots_drawn journal legal is = with_final [] journal (shots_of config scripts lines) (drawn_along journal legal is)
+  shots_drawn journal legal is =
+      let files : List File = shots_of config scripts lines in
+      rw (append-nil files) at (files_both IsPicture [] journal (entry.Final ∷ []) files []
+      (drawn_along journal legal is) refl)
 
   -- ---- the shots of a run by rounds
 

@@ -3,14 +3,14 @@
 use Rattle.nit_rounds.proofs.Basics.{AreBehind, Bool, BufferArea, Fill, IsBehind, IsBehindBy}
 use Rattle.nit_rounds.proofs.Basics.{IsButFor, List, None, Option, SceneModel, Sight, Some, Stale}
 use Rattle.nit_rounds.proofs.Basics.{Stroke, above, alike, ap, arith, before_row, cases_lt, changed}
-use Rattle.nit_rounds.proofs.Basics.{cond, ext_get_or, false, for_any, get_or-set_same, get_or_past}
+use Rattle.nit_rounds.proofs.Basics.{ext_get_or, false, for_any, get_or-set_same, get_or_past}
 use Rattle.nit_rounds.proofs.Basics.{glass_in, inl, inr, is_between, is_number_in, is_stale, length}
-use Rattle.nit_rounds.proofs.Basics.{length-set, nat_lt, nat_tests, no_sight, none_begun, refl}
-use Rattle.nit_rounds.proofs.Basics.{row_added, rows_done, same_set, set, set-get_or, set-set}
-use Rattle.nit_rounds.proofs.Basics.{set_long, set_where, slice_index, subst, told_at, unchanged}
-use Rattle.nit_rounds.proofs.Basics.{with_words, word_at}
+use Rattle.nit_rounds.proofs.Basics.{length-set, nat_tests, no_sight, none_begun, refl, row_added}
+use Rattle.nit_rounds.proofs.Basics.{rows_done, same_set, set, set-get_or, set-set, set_long}
+use Rattle.nit_rounds.proofs.Basics.{set_where, slice_index, subst, told_at, unchanged, with_words}
+use Rattle.nit_rounds.proofs.Basics.{word_at}
 use Rattle.nit_plan.proofs.ForCallers.{whole}
-use Rattle.std.proofs.Common.{sym, true, ℕ, ◌%◌, ◌&&◌, ◌*◌, ◌+◌, ◌/◌, ◌<◌, ◌∙◌, ◌≡◌, ◌≤◌}
+use Rattle.std.proofs.Common.{sym, true, ℕ, ◌%◌, ◌*◌, ◌+◌, ◌/◌, ◌<◌, ◌∙◌, ◌≡◌, ◌≤◌}
 
 -- ---- words
 
@@ -42,11 +42,7 @@ in_area w a n columns is =
     omega (arith, before_row n w (a.y + a.h) (omega arith) down)
 
 whole_area : (w : ℕ) (a : BufferArea) (n : ℕ) → a.x + a.w ≤ w → whole w (a.y + a.h) (as_stroke a) n ≡ is_number_in w a n
-whole_area w a n columns = go (is_number_in w a n) refl
-  where
-    go : (b : Bool) → is_number_in w a n ≡ b → (nat_lt n (w * (a.y + a.h)) && b) ≡ b
-    go false is = grind (arith, nat_tests)
-    go true is = let inside = in_area w a n columns is in grind (arith, nat_tests)
+whole_area w a n columns = grind (arith, nat_tests, in_area w a n columns)
 
 all_rows : (w : ℕ) (a : BufferArea) (c : ℕ → ℕ) (j : ℕ) (words : List ℕ) → a.x + a.w ≤ w → a.y + a.h ≤ j
     → rows_to w a c j words ≡ set_where (is_number_in w a) c words
@@ -61,8 +57,7 @@ abbrev pub with_glass_of : SceneModel Sight → ℕ → Sight → SceneModel Sig
 with_glass_of s sid g = record s { glasses = set s.glasses sid g }
 
 same_glass : (s : SceneModel Sight) (sid : ℕ) (g : Sight) → g ≡ glass_in s.glasses sid → s ≡ with_glass_of s sid g
-same_glass s sid g is = sym (ap (λ (x : Sight). with_glass_of s sid x) is
-    ∙ ap (λ (gs : List Sight). record s { glasses = gs }) (set-get_or s.glasses sid no_sight))
+same_glass s sid g is = rw (is, set-get_or s.glasses sid no_sight)
 
 -- the session's glass of that scene
 pub glass_there : (s now : SceneModel Sight) (sid : ℕ) (g : Sight) → now ≡ with_glass_of s sid g
@@ -121,47 +116,30 @@ but_none there own words same told =
       same = λ n _. refl;
     }
 
-pub same_by_none : (there own : Sight) → IsButFor (λ n. false) there own → there ≡ own
-same_by_none there own b =
-    rw (b.is, ext_get_or 0 b.old b.now (sym b.long) (λ k inside. sym (b.same k refl)), ← b.told)
-
 -- ---- copies
-
--- what is told of a glass
-tells : (own : Sight) (words : List ℕ) → own.words ≡ Some words → told_at own ≡ slice_index words
-tells own words told = rw told
-
-copied_words : (p : ℕ → Bool) (there own : Sight) (old now : List ℕ) → there ≡ record own { words = Some old }
-    → own.words ≡ Some now
-    → with_words (set_where p (told_at own)) there ≡ record own { words = Some (set_where p (slice_index now) old) }
-copied_words p there own old now is told =
-    cc (is, tells own now told)
 
 word_copied : (p : ℕ → Bool) (now old : List ℕ) (n : ℕ) → length now ≡ length old
     → (p n ≡ false → slice_index now n ≡ slice_index old n)
     → slice_index now n ≡ slice_index (set_where p (slice_index now) old) n
 word_copied p now old n long same =
     elim (cases_lt n (length old)) [
-      | inl inside ↦ go (p n) refl ∙ sym (word_at p (slice_index now) old n inside)
-      | inr past ↦
-          get_or_past now n 0 (rw (← long) at past)
-          ∙ sym (get_or_past (set_where p (slice_index now) old) n 0
-          (rw (← set_long p (slice_index now) old) at past))
+      | inl inside ↦ grind (arith, word_at p (slice_index now) old n inside, same)
+      | inr past ↦ cc (
+        get_or_past now n 0 (rw (← long) at past),
+        get_or_past (set_where p (slice_index now) old) n 0 (rw (← set_long p (slice_index now) old) at past),
+      )
     ]
-  where
-    go : (b : Bool) → p n ≡ b → slice_index now n ≡ cond (p n) (slice_index now n) (slice_index old n)
-    go true is = rw is refl
-    go false is = rw is (same is)
 
 -- the words of some places were copied, so those of the others that differed still may
 pub copied_first : (p q chosen : ℕ → Bool) (there own there' : Sight) → IsButFor chosen there own
     → ((n : ℕ) → p n ≡ false → q n ≡ false → chosen n ≡ false)
     → there' ≡ with_words (set_where p (told_at own)) there → IsButFor q there' own
 copied_first p q chosen there own there' b both is =
+    let tells : told_at own ≡ slice_index b.now = rw b.told in
     record {
       old = set_where p (slice_index b.now) b.old;
       now = b.now;
-      is = is ∙ copied_words p there own b.old b.now b.is b.told;
+      is = cc (is, b.is, tells);
       told = b.told;
       long = b.long ∙ sym (set_long p (slice_index b.now) b.old);
       same = λ n not. word_copied p b.now b.old n b.long (λ not_first. b.same n (both n not_first not));
@@ -171,7 +149,8 @@ copied_first p q chosen there own there' b both is =
 pub copied_all : (p : ℕ → Bool) (there own : Sight) → IsButFor p there own
     → with_words (set_where p (told_at own)) there ≡ own
 copied_all p there own b =
-    same_by_none _ own (copied_first p (λ n. false) p there own _ b (λ n is _. is) refl)
+    let all = copied_first p (λ n. false) p there own _ b (λ n is _. is) refl in
+    rw (all.is, ext_get_or 0 all.old all.now (sym all.long) (λ k inside. sym (all.same k refl)), ← all.told)
 
 -- ---- the scene's glasses
 
@@ -192,6 +171,12 @@ pub all_own : (glasses glasses' owns owns' : List Sight) (sid : ℕ) (there own 
 all_own glasses glasses' owns owns' sid there own others gs os =
     rw (gs, set-set glasses sid there own, ← set-set glasses sid (glass_in owns sid) own, others, ← os)
 
+-- the scene has a glass for each own one
+pub as_many : (glasses owns : List Sight) (sid : ℕ) (g : Sight) → set glasses sid g ≡ owns → sid < length owns
+    → sid < length glasses
+as_many glasses owns sid g others inside =
+    rw (sym (ap length others) ∙ length-set glasses sid g) at inside
+
 -- what is stale after a turn of a session is of it
 pub behind_again : (stale : Option Stale) (glasses glasses' owns owns' : List Sight) (sid : ℕ) (there own : Sight)
     → sid < length owns
@@ -200,21 +185,12 @@ pub behind_again : (stale : Option Stale) (glasses glasses' owns owns' : List Si
 behind_again None glasses glasses' owns owns' sid there own inside others gs os b =
     rw (gs, b, ← set-set glasses sid (glass_in owns sid) own, others, ← os)
 behind_again (Some a) glasses glasses' owns owns' sid there own inside others gs os b =
+    let in_glasses = as_many glasses owns sid (glass_in owns sid) others inside in
+    let there_is : glass_in glasses' sid ≡ there = rw (gs, get_or-set_same glasses sid there no_sight in_glasses) in
+    let own_is : glass_in owns' sid ≡ own = rw (os, get_or-set_same owns sid own no_sight inside) in
     subst (λ (t : ℕ). (t < length owns') × (set glasses' t (glass_in owns' t) ≡ owns')
-    × IsBehindBy a t (glass_in glasses' t) (glass_in owns' t)) (sym b.of)
-    (rw (← (ap length os ∙ length-set owns sid own)) at inside, all, now)
-  where
-    in_glasses : sid < length glasses
-    in_glasses = rw (sym (ap length others) ∙ length-set glasses sid (glass_in owns sid)) at inside
-
-    there_is : glass_in glasses' sid ≡ there
-    there_is = rw (gs, get_or-set_same glasses sid there no_sight in_glasses)
-
-    own_is : glass_in owns' sid ≡ own
-    own_is = rw (os, get_or-set_same owns sid own no_sight inside)
-
-    now : IsBehindBy a sid (glass_in glasses' sid) (glass_in owns' sid)
-    now = rw (← there_is) at (rw (← own_is) at b)
-
-    all : set glasses' sid (glass_in owns' sid) ≡ owns'
-    all = rw (own_is, all_own glasses glasses' owns owns' sid there own others gs os)
+    × IsBehindBy a t (glass_in glasses' t) (glass_in owns' t)) (sym b.of) (
+      rw (os, length-set owns sid own) inside,
+      rw own_is (all_own glasses glasses' owns owns' sid there own others gs os),
+      rw (own_is, there_is) b,
+    )

@@ -1,21 +1,19 @@
 -- What a turn finds: all that the line of its actor asks for.
 use Rattle.nit_rounds.proofs.Basics.{Action, Acts, All-get_or, AllByRecursion, ByUser, Call, Calls}
-use Rattle.nit_rounds.proofs.Basics.{CanDoUserLine, Does, Entry, FitsInputLine, InputLine}
-use Rattle.nit_rounds.proofs.Basics.{IsDonation, IsMember, IsMoved, IsPlanOf, IsPlanned, IsShowing}
-use Rattle.nit_rounds.proofs.Basics.{IsUnderWay, Line, LineTurn, List, None, Option, PlanModel}
-use Rattle.nit_rounds.proofs.Basics.{SceneModel, Shoots, ShotFrame, Sight, Some, State, Turn, []}
-use Rattle.nit_rounds.proofs.Basics.{actions_of_line, actions_of_turns, ap, arith, donation_of}
-use Rattle.nit_rounds.proofs.Basics.{drop, get_or, get_or_default, get_or_from_slice_get}
-use Rattle.nit_rounds.proofs.Basics.{glass_after, glass_in, length, option_map, plan_in, rounds}
-use Rattle.nit_rounds.proofs.Basics.{same_Some, script_in, settled, slice_get_within, state_now}
-use Rattle.nit_rounds.proofs.Basics.{takes_place, turn_of}
-use Rattle.std.proofs.Common.{slice_get, length-set, refl, set, suc, sym, true, zero, ℕ, ◌<◌, ◌∙◌}
+use Rattle.nit_rounds.proofs.Basics.{CanDoUserLine, Does, FitsInputLine, InputLine, IsDonation}
+use Rattle.nit_rounds.proofs.Basics.{IsMember, IsPlanOf, IsPlanned, IsShowing, Line, LineTurn, List}
+use Rattle.nit_rounds.proofs.Basics.{None, Option, PlanModel, SceneModel, Shoots, ShotFrame, Sight}
+use Rattle.nit_rounds.proofs.Basics.{Some, Turn, [], actions_of_line, actions_of_turns, ap, arith}
+use Rattle.nit_rounds.proofs.Basics.{donation_of, drop, get_or, get_or_default}
+use Rattle.nit_rounds.proofs.Basics.{get_or_from_slice_get, glass_after, glass_in, length}
+use Rattle.nit_rounds.proofs.Basics.{option_map, plan_in, rounds, same_Some, script_in, settled}
+use Rattle.nit_rounds.proofs.Basics.{slice_get_within, takes_place, turn_of}
+use Rattle.std.proofs.Common.{slice_get, refl, suc, sym, true, zero, ℕ, ◌<◌, ◌∙◌}
 use Rattle.std.proofs.Common.{◌∷◌, ◌≡◌, ◌≤◌}
 use Rattle.nit_script.specs.declared.line.Line.TheVariants as line
 use Rattle.nit_script.specs.declared.line.InputLine.TheVariants as input
 use Rattle.nit_rounds.specs.declared.turn.Turn.TheVariants as turn
-use Rattle.nit_rounds.proofs.RunStateLemmas.{IsClientsMove, IsUsersMove, clients_move, own_glass}
-use Rattle.nit_rounds.proofs.RunStateLemmas.{quiet_now, room_for, users_move}
+use Rattle.nit_rounds.proofs.RunStateLemmas.{clients_move, quiet_now, room_for, users_move}
 
 -- ---- a client's turn
 
@@ -47,54 +45,24 @@ pub may_do : {V : Type 0} {Fits : ℕ → ℕ → V → Type 0} {Shows : ShotFra
     {s' : SceneModel Sight} (s : SceneModel Sight) → IsPlanned s.config scripts plans
     → ComesNext Fits Shows scripts lines s owns last t → s' ≡ record s { glasses = s'.glasses }
     → t ≡ turn.Client sid number → MayDoLine scripts plans (settled s' owns) owns sid number
-may_do {scripts = scripts} {lines = lines} {plans = plans} {owns = owns} {sid = sid} {number = number} {s' = s'} s
-    planned (before, m, left, first, p, of, room) same is =
+may_do {owns = owns} {sid = sid} s planned (before, m, left, first, p, of, room) same is =
+    let w = rw (← ap (λ (x : SceneModel Sight). settled x owns) same) at p.way in
+    let planned' = rw (← ap (λ (x : SceneModel Sight). x.config) same) at planned in
+    let move = clients_move w _ _ (of ∙ is) in
+    let session = rw planned'.sessions at move.inside in
     record {
-      in_owns = in_owns;
+      in_owns = rw (← w.owns_each) at move.inside;
       in_scripts = move.inside;
       in_plans = rw (← planned.plans_each) at move.inside;
       session = session;
-      here = slice_get_within (script_in scripts sid) number move.l move.here;
-      donation = (All-get_or IsMember s'.config.clients sid _ session planned'.configured.clients).donation;
-      plan = planned'.planned sid move.inside;
-      own = own_glass scripts lines before now owns m left sid number w move;
+      here = slice_get_within _ _ move.l move.here;
+      donation = (All-get_or IsMember _ _ _ session planned'.configured.clients).donation;
+      plan = planned'.planned _ move.inside;
+      own = rw (w.done _ move.inside, move.count, ← w.config);
       spare = λ call found.
-          let l : move.l ≡ line.Call call = same_Some _ _ (sym move.here ∙ found) in
-          room_for scripts lines before now owns m left (Calls sid call) w (rw (move.doing, l)) room;
+          let l : move.l ≡ line.Call call = same_Some move.l (line.Call call) (rw move.here at found) in
+          room_for w (Calls sid call) (rw (move.doing, l)) room;
     }
-  where
-    now : SceneModel Sight
-    now = settled s' owns
-
-    w : IsUnderWay scripts lines before now owns (m ∷ left)
-    w = rw (← ap (λ (x : SceneModel Sight). settled x owns) same) at p.way
-
-    planned' : IsPlanned s'.config scripts plans
-    planned' = rw (← ap (λ (x : SceneModel Sight). x.config) same) at planned
-
-    move : IsClientsMove scripts w.front m sid number
-    move = clients_move scripts lines before now owns m left sid number w (of ∙ is)
-
-    in_owns : sid < length owns
-    in_owns = rw (← w.owns_each) at move.inside
-
-    session : sid < length s'.config.clients
-    session = rw planned'.sessions at move.inside
-
--- the scene has a glass for each own one
-pub as_many : (glasses owns : List Sight) (sid : ℕ) (g : Sight) → set glasses sid g ≡ owns → sid < length owns
-    → sid < length glasses
-as_many glasses owns sid g others inside =
-    rw (sym (ap length others) ∙ length-set glasses sid g) at inside
-
--- what was loaded by equal glasses
-pub moved_settled : (e : State → Option Entry) (mid new : SceneModel Sight) (owns glasses owns' : List Sight)
-    → glasses ≡ owns' → IsMoved (e (state_now mid)) mid (record new { glasses = glasses })
-    → IsMoved (e (state_now (settled mid owns))) (settled mid owns) (settled new owns')
-moved_settled e mid new owns glasses owns' same moved =
-    let m : IsMoved (e (state_now mid)) mid (settled new owns') =
-    rw same at moved in
-    record { state = m.state; words = m.words }
 
 -- what is read from an equal list, under any default
 pub read_same : {X : Type 0} → (xs ys : List X) (k : ℕ) (d : X) → ys ≡ xs → k < length xs
@@ -129,26 +97,20 @@ pub users_turn : {V : Type 0} {Fits : ℕ → ℕ → V → Type 0} {Shows : Sho
     {scripts : List (List Line)} {lines : List InputLine} {owns : List Sight} {last : V} {t : Turn} {number : ℕ}
     (s s' : SceneModel Sight) → ComesNext Fits Shows scripts lines s owns last t → s' ≡ settled s owns
     → t ≡ turn.User number → MayDoUserLine lines s' number
-users_turn {scripts = scripts} {lines = lines} {owns = owns} {number = number} s s'
-    (before, m, left, first, p, of, room) same is =
+users_turn {lines = lines} {number = number} s s' (before, m, left, first, p, of, room) same is =
+    let w = rw (← same) at p.way in
+    let move = users_move w _ (of ∙ is) in
     record {
-      here = slice_get_within lines number move.l move.here;
+      here = slice_get_within _ _ move.l move.here;
       can = λ l got fits. record {
         fits = fits;
-        quiet = quiet_now scripts lines before s' owns (m ∷ left) w;
+        quiet = quiet_now w;
         spare = λ takes.
             let (a, one) = one_act l takes in
-            room_for scripts lines before s' owns m left a w
-            (rw (move.doing, found_here lines number move.l l move.here got, one)) room;
+            room_for w a (rw (move.doing, found_here lines number move.l l move.here got, one)) room;
         unended = w.unended;
       };
     }
-  where
-    w : IsUnderWay scripts lines before s' owns (m ∷ left)
-    w = rw (← same) at p.way
-
-    move : IsUsersMove lines m number
-    move = users_move scripts lines before s' owns m left number w (of ∙ is)
 
 -- ---- the next turn
 

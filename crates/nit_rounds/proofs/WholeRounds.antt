@@ -1,17 +1,16 @@
 -- A journal of rounds is whole, and the phases of the rounds never fall.
-use Rattle.nit_rounds.proofs.Basics.{Action, ActorLine, Acts, AllByRecursion, AreRoundsOf, Bool}
-use Rattle.nit_rounds.proofs.Basics.{ByClient, ByUser, Call, Calls, Does, Entry, InputLine}
-use Rattle.nit_rounds.proofs.Basics.{IsNonDecreasing, IsWhole, Line, LineTurn, List, Shoots}
-use Rattle.nit_rounds.proofs.Basics.{UserAction, [], action_of, actions_of_line, actions_of_turns}
-use Rattle.nit_rounds.proofs.Basics.{actors, all_append, ap, arith, calls_from, calls_of}
-use Rattle.nit_rounds.proofs.Basics.{calls_to_make, cases_eq, cases_lt, cond, done, drop, eq-eqb}
-use Rattle.nit_rounds.proofs.Basics.{eqb-true, false, flat_map, flat_map-append, get_or}
-use Rattle.nit_rounds.proofs.Basics.{get_or-set_other, get_or-set_same, get_or_past, in_phase, inl}
-use Rattle.nit_rounds.proofs.Basics.{inr, le_of_eq, le_trans, left, length, map, ne_eqb, next_phase}
-use Rattle.nit_rounds.proofs.Basics.{phase_count, phase_rounds, phases_along, range_with_len, refl}
-use Rattle.nit_rounds.proofs.Basics.{round, rounds, set, subst, suc, sym, to_do, turns_from}
-use Rattle.nit_rounds.proofs.Basics.{turns_of, user_actions_from, user_actions_of}
-use Rattle.nit_rounds.proofs.Basics.{user_actions_to_do}
+use Rattle.nit_rounds.proofs.Basics.{Action, ActorLine, AllByRecursion, AreRoundsOf, Bool, ByClient}
+use Rattle.nit_rounds.proofs.Basics.{ByUser, Call, Does, Entry, InputLine, IsNonDecreasing, IsWhole}
+use Rattle.nit_rounds.proofs.Basics.{Line, LineTurn, List, Shoots, UserAction, [], action_of}
+use Rattle.nit_rounds.proofs.Basics.{actions_of_line, actions_of_turns, actors, all_append, ap}
+use Rattle.nit_rounds.proofs.Basics.{arith, calls_from, calls_of, calls_to_make, cases_eq, cases_lt}
+use Rattle.nit_rounds.proofs.Basics.{cond, done, drop, eq-eqb, eqb-true, false, flat_map}
+use Rattle.nit_rounds.proofs.Basics.{flat_map-append, get_or, get_or-set_other, get_or-set_same}
+use Rattle.nit_rounds.proofs.Basics.{get_or_past, in_phase, inl, inr, le_of_eq, le_trans, left}
+use Rattle.nit_rounds.proofs.Basics.{length, map, ne_eqb, next_phase, phase_count, phase_rounds}
+use Rattle.nit_rounds.proofs.Basics.{phases_along, range_with_len, refl, round, rounds, set, subst}
+use Rattle.nit_rounds.proofs.Basics.{suc, sym, to_do, turns_from, turns_of, user_actions_from}
+use Rattle.nit_rounds.proofs.Basics.{user_actions_of, user_actions_to_do}
 use Rattle.std.proofs.Common.{if◌then◌else◌, take, true, zero, ℕ, ◌++◌, ◌+◌, ◌<◌, ◌==◌, ◌∙◌, ◌∷◌}
 use Rattle.std.proofs.Common.{◌≡◌, ◌≤◌}
 use Rattle.nit_rounds.proofs.OneActor.{all_drop, all_take}
@@ -92,13 +91,9 @@ all_same p (m ∷ moves) h = all_append (λ n. n ≡ p) (act_phases m) (flat_map
 pub rounds_rise : (all : List (List LineTurn)) (p n : ℕ)
     → Rising p (flat_map act_phases (flat_map (phase_rounds all) (range_with_len p n)))
 rounds_rise all p zero = tt
-rounds_rise all p (suc n) =
-    rw (flat_map-append act_phases (phase_rounds all p) (flat_map (phase_rounds all) (range_with_len (p + 1) n)))
-    (same_then p (flat_map act_phases (phase_rounds all p))
-    (flat_map act_phases (flat_map (phase_rounds all) (range_with_len (p + 1) n)))
-    (all_same p (phase_rounds all p) (rounds_in p all _))
-    (from_lower p (p + 1) (flat_map act_phases (flat_map (phase_rounds all) (range_with_len (p + 1) n))) (omega arith)
-    (rounds_rise all (p + 1) n)))
+rounds_rise all p (suc n) = rw (flat_map-append act_phases (phase_rounds all p) _)
+    (same_then p _ _ (all_same p (phase_rounds all p) (rounds_in p all _))
+    (from_lower p (p + 1) _ (omega arith) (rounds_rise all (p + 1) n)))
 
 -- ---- what actors are to do, by their moves
 
@@ -157,36 +152,6 @@ round_actions scripts input = user_part actions_in user_actions_to_do (λ p n t 
     scripts
     input
 
--- ---- one entry
-
--- what an entry that is a session's call puts in front
-record IsCall (s : ℕ) (c : Call) (j : Entry) : Type 0 where
-  phases : (clients : List (List (ℕ × Call))) (user : List (ℕ × UserAction)) (rest : List Entry)
-      → phases_along clients user (j ∷ rest) ≡ next_phase (to_do clients s)
-      ∷ phases_along (set clients s (left (to_do clients s))) user rest
-  calls : (x : ℕ) (rest : List Entry)
-      → calls_of x (j ∷ rest) ≡ (if s == x then c ∷ calls_of x rest else calls_of x rest)
-  actions : (rest : List Entry) → user_actions_of (j ∷ rest) ≡ user_actions_of rest
-
-is_call : (s : ℕ) (c : Call) (j : Entry) → action_of j ≡ Calls s c → IsCall s c j
-is_call s c (entry.Call t call r) e =
-    let same : t ≡ s = cc in
-    let made : call ≡ c = cc in
-    rw (← same, ← made) (record { phases = λ clients user rest. refl; calls = λ x rest. refl; actions = λ rest. refl })
-is_call s c other e = absurd (cc)
-
--- what an entry that is the user's action puts in front
-record IsAction (d : UserAction) (j : Entry) : Type 0 where
-  phases : (clients : List (List (ℕ × Call))) (user : List (ℕ × UserAction)) (rest : List Entry)
-      → phases_along clients user (j ∷ rest) ≡ next_phase user ∷ phases_along clients (left user) rest
-  calls : (x : ℕ) (rest : List Entry) → calls_of x (j ∷ rest) ≡ calls_of x rest
-  actions : (rest : List Entry) → user_actions_of (j ∷ rest) ≡ d ∷ user_actions_of rest
-
-is_action : (d : UserAction) (j : Entry) → action_of j ≡ Acts d → IsAction d j
-is_action d (entry.Call t c r) e = absurd (cc)
-is_action d entry.Final e = absurd (cc)
-is_action d other e = record { phases = λ clients user rest. refl; calls = λ x rest. refl; actions = λ rest. cc }
-
 -- ---- all entries
 
 abbrev move : ℕ → ℕ → ActorLine → LineTurn
@@ -228,48 +193,37 @@ call_left clients s p c ms calls x =
       ]
     ]
 
--- what these moves do, an action of the user does in front
-more_action : (p n : ℕ) (d : UserAction) (of : InputLine) (ms : List LineTurn) → AllFollow ms
-    → actions_of_line (ByUser of) ≡ Acts d ∷ [] → action_in p (ByUser of) ≡ (p, d) ∷ []
-    → AllFollow (move p n (ByUser of) ∷ ms)
-more_action p n d of ms follow acts made clients user [] ahead e = absurd (let none = rw acts at e in cc)
-more_action p n d of ms follow acts made clients user (j ∷ js) ahead e =
-    let all : map action_of (j ∷ js) ≡ Acts d ∷ actions_of_turns ms = rw acts at e in
-    let head : action_of j ≡ Acts d = cc in
-    let tail : map action_of js ≡ actions_of_turns ms = cc in
-    let is = is_action d j head in
-    let to_make : user ≡ (p, d) ∷ flat_map actions_in ms = rw made at ahead.actions in
-    let rest = follow clients (left user) js
-    (record { calls = λ s. rw (no_call s p of) at (ahead.calls s); actions = ap left to_make }) tail in
-    let here : next_phase user ≡ p = ap next_phase to_make in
-    let phases : flat_map act_phases (move p n (ByUser of) ∷ ms) ≡ p ∷ flat_map act_phases ms = rw acts in
-    record {
-      phases = rw (is.phases clients user (js ++ entry.Final ∷ []), here, rest.phases, ← phases);
-      calls = λ x. is.calls x (js ++ entry.Final ∷ []) ∙ rest.calls x
-          ∙ ap (λ (t : List (ℕ × Call)). done (t ++ flat_map (calls_in x) ms)) (sym (no_call x p of));
-      actions = cc (is.actions (js ++ entry.Final ∷ []), rest.actions);
-    }
-
 -- what these moves do, a move more does in front
 more : (p n : ℕ) (d : ActorLine) (ms : List LineTurn) → AllFollow ms → AllFollow (move p n d ∷ ms)
-more p n (ByClient s (line.Call c)) ms follow clients user [] ahead e = absurd cc
-more p n (ByClient s (line.Call c)) ms follow clients user (j ∷ js) ahead e =
-    let head : action_of j ≡ Calls s c = cc in
-    let tail : map action_of js ≡ actions_of_turns ms = cc in
-    let is = is_call s c j head in
+more p n (ByClient s (line.Call c)) ms follow clients user (entry.Call t call r ∷ js) ahead e =
+    let same : t ≡ s = cc in
+    let made : call ≡ c = cc in
     let here : to_do clients s ≡ (p, c) ∷ flat_map (calls_in s) ms = rw (eq-eqb s s refl) at (ahead.calls s) in
     let rest = follow (set clients s (left (to_do clients s))) user js
-    (record { calls = call_left clients s p c ms ahead.calls; actions = ahead.actions }) tail in
+    (record { calls = call_left clients s p c ms ahead.calls; actions = ahead.actions }) cc in
+    rw (same, made) (record {
+      phases = cc (here, rest.phases);
+      calls = λ x. one_call (s == x) p c _ (flat_map (calls_in x) ms) (rest.calls x);
+      actions = rest.actions;
+    })
+more p n (ByClient s (line.Call c)) ms follow clients user other ahead e = absurd cc
+more p n (ByUser (input.Device dev)) ms follow clients user (entry.Input d r ∷ js) ahead e =
+    let same : d ≡ dev = cc in
+    let rest = follow clients (left user) js (record { calls = ahead.calls; actions = ap left ahead.actions }) cc in
     record {
-      phases = cc (is.phases clients user (js ++ entry.Final ∷ []), here, rest.phases);
-      calls = λ x. is.calls x (js ++ entry.Final ∷ [])
-          ∙ one_call (s == x) p c (calls_of x (js ++ entry.Final ∷ [])) (flat_map (calls_in x) ms) (rest.calls x);
-      actions = is.actions (js ++ entry.Final ∷ []) ∙ rest.actions;
+      phases = cc (ap next_phase ahead.actions, rest.phases);
+      calls = rest.calls;
+      actions = cc (same, rest.actions);
     }
-more p n (ByUser (input.Device d)) ms follow clients user js ahead e =
-    more_action p n (Does d) (input.Device d) ms follow refl refl clients user js ahead e
-more p n (ByUser input.Shot) ms follow clients user js ahead e =
-    more_action p n Shoots input.Shot ms follow refl refl clients user js ahead e
+more p n (ByUser (input.Device dev)) ms follow clients user other ahead e = absurd cc
+more p n (ByUser input.Shot) ms follow clients user (entry.Shot k ∷ js) ahead e =
+    let rest = follow clients (left user) js (record { calls = ahead.calls; actions = ap left ahead.actions }) cc in
+    record {
+      phases = cc (ap next_phase ahead.actions, rest.phases);
+      calls = rest.calls;
+      actions = cc rest.actions;
+    }
+more p n (ByUser input.Shot) ms follow clients user other ahead e = absurd cc
 more p n other ms follow clients user js ahead e =
     let f = follow clients user js (record { calls = ahead.calls; actions = ahead.actions }) e in
     record { phases = f.phases; calls = f.calls; actions = f.actions }

@@ -24,11 +24,7 @@ returns-clause-held c h dev some =
 
 pub returns-clause-focus : goal.returns-clause-focus
 returns-clause-focus c h act seat is =
-    by_act (record {
-      calls = c.focus_is_the_users.ensures.calls;
-      closed = c.focus_is_the_users.ensures.closed;
-      clicks = c.focus_is_the_users.ensures.clicks;
-    }) h act seat is
+    by_act (assumption c.focus_is_the_users.ensures) h act seat is
 
 pub returns-clause-live : goal.returns-clause-live
 returns-clause-live c h acts dev live =

@@ -1,8 +1,8 @@
-use Rattle.nit_rounds.proofs.Lemmas.{ByClient, ByUser, FitsInputLine, Line, List, SceneModel, Sight}
+use Rattle.nit_rounds.proofs.Lemmas.{ByUser, FitsInputLine, List, SceneModel, Sight}
 use Rattle.nit_rounds.proofs.Lemmas.{[], after_client, after_user, all_own, ap, arith, as_many}
-use Rattle.nit_rounds.proofs.Lemmas.{behind_again, clients_move, each_at, entry_of, found_here}
-use Rattle.nit_rounds.proofs.Lemmas.{get_or_default, may_do, moved_settled, no_sight, read_same}
-use Rattle.nit_rounds.proofs.Lemmas.{refl, set, settled, slice_get, users_move, users_turn, ◌∙◌}
+use Rattle.nit_rounds.proofs.Lemmas.{behind_again, clients_move, each_at, found_here}
+use Rattle.nit_rounds.proofs.Lemmas.{get_or_default, may_do, no_sight, read_same}
+use Rattle.nit_rounds.proofs.Lemmas.{refl, set, settled, users_move, users_turn, ◌∙◌}
 use Rattle.nit_rounds.proofs.running.do_turn.Goals as goal
 
 -- ---- a client's turn
@@ -60,17 +60,11 @@ returns-in-Client-clause-way g c before m left first p is =
     let sid = c.in-Client.sid in
     let all = all_own mid.glasses new.glasses owns (set owns sid own') sid _ own' c.settle_others.ensures.others
     c.client_line.ensures.glasses refl in
-    let there = ap (λ (s : SceneModel Sight). settled s owns) c.settle_others.ensures.scene in
-    let p' = rw (← there) at p in
-    let move = clients_move _ _ before _ _ m left _ _ p'.way (is ∙ c.in-Client.is) in
+    let p' = rw (← ap (λ (s : SceneModel Sight). settled s owns) c.settle_others.ensures.scene) at p in
+    let move = clients_move p'.way _ _ (is ∙ c.in-Client.is) in
     let script = get_or_default c.args.next.parts.now.scripts.now sid c.index-parts-sid.result [] move.inside in
-    let here = ap (λ (ls : List Line). slice_get ls c.in-Client.line) script ∙ move.here in
-    let does = c.client_line.ensures.done move.l here in
-    after_client g.V.Viewer.fits g.V.Viewer.shows _ _ before (settled mid owns) (settled new (set owns sid own')) owns m
-    left first _ p' _ sid c.in-Client.line own' move refl (rw (c.client_line.ensures.drawn.own, script)) refl
-    does.config does.unended does.spare does.recorded
-    (moved_settled (λ s. entry_of s (ByClient sid move.l)) mid new owns (set new.glasses sid own')
-    (set owns sid own') all does.moved)
+    after_client p' mid new sid c.in-Client.line own' move refl (rw (c.client_line.ensures.drawn.own, script))
+    (c.client_line.ensures.done move.l (rw (script, move.here))) all
 
 -- ---- the user's turn
 
@@ -100,10 +94,9 @@ returns-in-User-clause-way g c before m left first p is =
     let t = users_turn c.args.scene.now _ c.requires.next c.settle.ensures c.in-User.is in
     let same = read_same c.args.next.parts.now.input.now c.lines.result.now c.in-User.line _ c.lines.ensures.value
     t.here in
-    let move = users_move _ _ before _ _ m left _ p'.way (is ∙ c.in-User.is) in
+    let move = users_move p'.way _ (is ∙ c.in-User.is) in
     let does = c.user_line.ensures in
     let glasses = does.done.glasses ∙ ap (λ (s : SceneModel Sight). s.glasses) c.settle.ensures in
-    rw (ap (λ (gs : List Sight). record new { glasses = gs }) glasses) at (after_user g.V.Viewer.fits
-    g.V.Viewer.shows _ _ before c.settle.new.scene new owns m left first _ p' _ _
+    rw (ap (λ (gs : List Sight). record new { glasses = gs }) glasses) at (after_user p' new _ _
     (move.doing ∙ ap ByUser (found_here c.args.next.parts.now.input.now c.in-User.line move.l _ move.here same))
     does.done does.shown does.viewer)

@@ -7,10 +7,8 @@ abbrev done : (c : goal.After-self-2-1) → WasTold c.args.device c.input-routed
     (option_map (λ s. frame_at s.value) c.self.inside.seen) c.input-routed.new.self c.self.inside.hollows.items
 done c =
     let e = c.input-routed.ensures in
-    was_told c.self.inside.desktop c.input-routed.new.self c.self.inside.hollows.items c.args.device
-    c.input-routed.result c.self.inside.last _ c.self.invariant.0 e.routed e.served.state e.served.left e.painted
-    e.served.rests
-    c.clean_pixels_keep_their_source.ensures c.args.self.now c.self.view_is
+    was_told c.input-routed.new.self c.args.device c.self.invariant.0 e.routed e.served.state e.served.left
+    e.painted e.served.rests c.clean_pixels_keep_their_source.ensures c.self.view_is
 
 pub invariant_of-self : goal.invariant_of-self
 invariant_of-self c =
@@ -33,6 +31,4 @@ pub returns-clause-served : goal.returns-clause-served
 returns-clause-served c = λ _. (ap Ok (done c).routed_now, (done c).now)
 
 pub returns-clause-act : goal.returns-clause-act
-returns-clause-act c =
-    when_served (unserved_input c.args.self.now c.args.device) (told c.args.device c.args.self.now) c.args.self.now _
-    c.in_default.ensures (done c).now
+returns-clause-act c = when_served c.args.self.now c.in_default.ensures (done c).now

@@ -1,44 +1,41 @@
-use Rattle.std.proofs.Common.{ap, arith, refl, set, ◌∙◌}
-use Rattle.nit_host.proofs.Lemmas.{DesktopModel, SheetModel, WasSeated, blank_glass, frame_at}
-use Rattle.nit_host.proofs.Lemmas.{free_of, hollow_glass, may_sit, opened, option_map, seated}
-use Rattle.nit_host.proofs.Lemmas.{seen_seated, sheets_of, unseated, was_seated, when_served}
+use Rattle.nit_host.proofs.Lemmas.{DesktopModel, SheetModel, WasSeated, ap, arith}
+use Rattle.nit_host.proofs.Lemmas.{frame_at, free_of, may_sit, opened, option_map}
+use Rattle.nit_host.proofs.Lemmas.{refl, seated, seen_seated, set, sheets_of, unseated, was_seated}
+use Rattle.nit_host.proofs.Lemmas.{when_served, ◌∙◌}
 use Rattle.nit_host.proofs.host.Host.seat.Goals as goal
+use Rattle.nit_host.proofs.Lemmas.{Opens, blank_again_of, blank_tells, hollow_blank}
 
 pub exchange-requires-clause-glass : goal.exchange-requires-clause-glass
 exchange-requires-clause-glass c =
-    let may = may_sit _ c.args.self.now c.args.seat c.args.label c.self.view_is c.in_default.ensures in
-    hollow_glass c.self.inside.desktop.state.config c.self.inside.hollows.items c.args.seat c.index_mut-own.result.now
-    c.self.invariant.0.hollow (omega (arith, may.inside, c.facts.ensures.sessions)) c.index_mut-own.ensures.value
+    let may = may_sit c.self.view_is c.in_default.ensures in
+    blank_tells (hollow_blank c.self.invariant.0.hollow c.index_mut-own.ensures.value
+    (omega (arith, may.inside, c.facts.ensures.sessions)))
 
 pub reopen-requires-clause-free : goal.reopen-requires-clause-free
 reopen-requires-clause-free c =
-    let may = may_sit _ c.args.self.now c.args.seat c.args.label c.self.view_is c.in_default.ensures in
+    let may = may_sit c.self.view_is c.in_default.ensures in
     rw c.exchange.ensures.desktop
     (free_of c.self.inside.desktop.state c.args.seat c.args.label c.facts.ensures.sessions may.free)
 
 pub reopen-requires-clause-glass : goal.reopen-requires-clause-glass
 reopen-requires-clause-glass c =
-    let may = may_sit _ c.args.self.now c.args.seat c.args.label c.self.view_is c.in_default.ensures in
-    rw c.exchange.ensures.desktop
-    (blank_glass c.self.inside.desktop.state.config c.self.inside.desktop.glasses c.args.seat c.exchange.new.glass
-    c.wipe.new.self c.self.invariant.0.sheets (omega (arith, may.inside, c.facts.ensures.sessions))
-    c.exchange.ensures.out c.wipe.ensures.sight)
+    let may = may_sit c.self.view_is c.in_default.ensures in
+    rw c.exchange.ensures.desktop (blank_tells (blank_again_of c.self.invariant.0.sheets c.exchange.ensures.out
+    (omega (arith, may.inside, c.facts.ensures.sessions)) c.wipe.ensures.sight))
 
 -- what is left
 abbrev done : (c : goal.After-self-3-1) → WasSeated c.args.seat c.args.label c.args.self.now
     (option_map (λ s. frame_at s.value) c.self.inside.seen) c.self.inside.desktop c.reopen.new.self
     (set c.self.inside.hollows.items c.args.seat c.hollow_out.new.self)
 done c =
-    let may = may_sit _ c.args.self.now c.args.seat c.args.label c.self.view_is c.in_default.ensures in
-    let o = c.reopen.ensures in
-    was_seated c.self.inside.desktop c.exchange.new.self c.reopen.new.self c.self.inside.hollows.items c.args.seat
-    c.args.label c.index_mut-own.result.now c.exchange.new.glass c.wipe.new.self c.reopen.new.glass
-    c.hollow_out.new.self c.self.inside.last _ c.self.invariant.0
-    (omega (arith, may.inside, c.facts.ensures.sessions)) c.facts.ensures.live may.over c.exchange.ensures.desktop
-    c.index_mut-own.ensures.value c.exchange.ensures.out c.wipe.ensures.sight c.wipe.ensures.room
-    (record { state = o.state; left = o.left; raw = o.raw; sights_now = o.sights; rooms_now = o.rests; out = o.out })
-    c.hollow_out.ensures.sight c.hollow_out.ensures.room
-    c.openings_keep_all.ensures.sources c.args.self.now c.self.view_is
+    let may = may_sit c.self.view_is c.in_default.ensures in
+    let opens : Opens c.args.seat c.args.label c.wipe.new.self c.reopen.new.glass c.exchange.new.self
+    c.reopen.new.self = assumption c.reopen.ensures in
+    was_seated c.self.invariant.0 opens
+    c.exchange.ensures.desktop c.index_mut-own.ensures.value c.exchange.ensures.out
+    (omega (arith, may.inside, c.facts.ensures.sessions)) c.facts.ensures.live may.over c.wipe.ensures.sight
+    c.wipe.ensures.room c.hollow_out.ensures.sight c.hollow_out.ensures.room c.openings_keep_all.ensures.sources
+    c.self.view_is
 
 pub invariant_of-self : goal.invariant_of-self
 invariant_of-self c =
@@ -55,6 +52,4 @@ pub returns-clause-seated : goal.returns-clause-seated
 returns-clause-seated c = λ _. (refl, (done c).now)
 
 pub returns-clause-act : goal.returns-clause-act
-returns-clause-act c =
-    when_served (unseated c.args.self.now c.args.seat c.args.label)
-    (seated c.args.seat c.args.label c.args.self.now) c.args.self.now _ c.in_default.ensures (done c).now
+returns-clause-act c = when_served c.args.self.now c.in_default.ensures (done c).now

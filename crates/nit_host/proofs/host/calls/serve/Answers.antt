@@ -1,33 +1,27 @@
 use Rattle.std.proofs.Common.{List, ap, arith, set, slice_get, sym, ◌∙◌, ◌≡◌}
 use Rattle.nit_events.specs.declared.entry.Entry.TheVariants as entry
-use Rattle.nit_host.proofs.Lemmas.{DesktopModel, SheetModel, own_stays, painted_by_all, plain_quiet}
+use Rattle.nit_host.proofs.Lemmas.{DesktopModel, SheetModel, painted_by_all, plain_quiet}
 use Rattle.nit_host.proofs.Lemmas.{sheets_stay}
 use Rattle.nit_host.proofs.host.calls.serve.Goals as goal
 
-abbrev stay : (c : goal.After-exchange) → c.call-reply.new.self.glasses ≡ c.args.desktop.now.glasses
+abbrev stay : (c : goal.After-exchange) → (c.call-reply.new.self.glasses ≡ c.args.desktop.now.glasses)
+    × (c.call-reply.new.own ≡ c.args.own.now)
 stay c =
     let e = c.call-reply.ensures in
     sheets_stay c.args.desktop.now.glasses c.call-reply.new.self.glasses c.args.seat c.args.own.now c.call-reply.new.own
-    c.requires.quiet (plain_quiet c.args.seat c.args.own.now.sight c.requires.own.0)
-    (λ t. (e.painted.loads t, e.painted.sights t)) e.idle e.rest e.served.rests
-
-abbrev own_stay : (c : goal.After-exchange) → c.call-reply.new.own ≡ c.args.own.now
-own_stay c =
-    let e = c.call-reply.ensures in
-    own_stays c.args.desktop.now.glasses c.call-reply.new.self.glasses c.args.seat c.args.own.now c.call-reply.new.own
-    c.requires.quiet (plain_quiet c.args.seat c.args.own.now.sight c.requires.own.0)
-    (λ t. (e.painted.loads t, e.painted.sights t)) e.idle e.rest e.served.rests
+    c.requires.quiet (plain_quiet c.requires.own.0) (λ t. (e.painted.loads t, e.painted.sights t)) e.idle e.rest
+    e.served.rests
 
 pub returns-clause-glasses : goal.returns-clause-glasses
 returns-clause-glasses c = ap (λ (d : DesktopModel SheetModel). d.glasses) c.exchange.ensures.desktop
-    ∙ (λ i. set (stay c i) c.args.seat (own_stay c i))
+    ∙ (λ i. set ((stay c).0 i) c.args.seat ((stay c).1 i))
 
 pub returns-clause-own : goal.returns-clause-own
-returns-clause-own c = ap (λ (gs : List SheetModel). slice_get gs c.args.seat) (sym (stay c)) ∙ c.exchange.ensures.out
+returns-clause-own c = ap (λ (gs : List SheetModel). slice_get gs c.args.seat) (sym (stay c).0) ∙ c.exchange.ensures.out
 
 pub returns-clause-painted : goal.returns-clause-painted
 returns-clause-painted c =
     painted_by_all c.args.desktop.now.state (entry.Call c.args.seat c.args.call.now c.call-reply.result)
     c.args.desktop.now c.call-reply.new.self c.exchange.new.self c.args.seat c.args.own.now c.call-reply.new.own
-    (stay c) (own_stay c) (omega (arith, c.requires.session, c.facts.ensures.sessions, c.facts.ensures.glasses.each))
+    (stay c) (omega (arith, c.requires.session, c.facts.ensures.sessions, c.facts.ensures.glasses.each))
     c.exchange.ensures.desktop c.call-reply.ensures.painted

@@ -5,9 +5,8 @@ use Rattle.nit_host.proofs.host.opening.hollows.Goals as goal
 
 pub seats-preserved : goal.seats-preserved
 seats-preserved c =
-    let sized : c.table_size-size.result ≡ size_at c.args.config.now c.seats.seat =
-    sized_at c.args.config.now c.as_slice-clients.result.now c.seats.seat _ _ (c.as_slice-clients.ensures.value
-    ∙ ap (λ (k : Configuration). k.clients) c.config.view_is) c.seats-test.true c.table_size-size.ensures.size in
+    let sized = sized_at c.args.config.now _ c.table_size-size.ensures.size
+    (c.as_slice-clients.ensures.value ∙ ap (λ (k : Configuration). k.clients) c.config.view_is) c.seats-test.true in
     rw c.in_ok-push.ensures.items
     (one_sheet (IsHollow c.args.config.now) c.seats.seat c.seats.hollows.items c.hollow.result c.seats.invariant
     (rw (← sized) (c.hollow.ensures.sight, c.hollow.ensures.room)))
@@ -16,5 +15,4 @@ pub returns : goal.returns
 returns c =
     let same = c.as_slice-clients.ensures.value ∙ ap (λ (k : Configuration). k.clients) c.config.view_is in
     let long = ap length same in
-    all_hollow c.args.config.now c.seats.seat c.seats.hollows.items c.seats.invariant
-    (omega (arith, c.seats-test.false, c.seats.auto.seat-end, long))
+    all_hollow (omega (arith, c.seats-test.false, c.seats.auto.seat-end, long)) c.seats.invariant

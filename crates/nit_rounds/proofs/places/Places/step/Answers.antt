@@ -3,22 +3,22 @@ use Rattle.nit_rounds.proofs.places.Places.step.Goals as goal
 
 pub returns-then-actor-scripts-clause-kept : goal.returns-then-actor-scripts-clause-kept
 returns-then-actor-scripts-clause-kept c =
-    (step_ends _ _ _ c.requires.kept c.requires.active _ c.ends_at-ends.ensures _ c.after.ensures).kept
+    (step_ends c.requires.kept c.requires.active _ c.ends_at-ends.ensures _ c.after.ensures).kept
 
 pub returns-then-actor-scripts-clause-turn : goal.returns-then-actor-scripts-clause-turn
 returns-then-actor-scripts-clause-turn c = (
   _,
-  (step_ends _ _ _ c.requires.kept c.requires.active _ c.ends_at-ends.ensures _ c.after.ensures).left,
-  client_turn _ _ _ c.requires.active c.if-actor-scripts.true,
+  (step_ends c.requires.kept c.requires.active _ c.ends_at-ends.ensures _ c.after.ensures).left,
+  client_turn c.requires.kept c.requires.active c.if-actor-scripts.true,
 )
 
 pub returns-else-actor-scripts-clause-kept : goal.returns-else-actor-scripts-clause-kept
 returns-else-actor-scripts-clause-kept c =
-    (step_ends _ _ _ c.requires.kept c.requires.active _ c.ends_at-ends.ensures _ c.after.ensures).kept
+    (step_ends c.requires.kept c.requires.active _ c.ends_at-ends.ensures _ c.after.ensures).kept
 
 pub returns-else-actor-scripts-clause-turn : goal.returns-else-actor-scripts-clause-turn
 returns-else-actor-scripts-clause-turn c = (
   _,
-  (step_ends _ _ _ c.requires.kept c.requires.active _ c.ends_at-ends.ensures _ c.after.ensures).left,
-  user_turn _ _ c.args.self.now c.requires.active c.if-actor-scripts.false,
+  (step_ends c.requires.kept c.requires.active _ c.ends_at-ends.ensures _ c.after.ensures).left,
+  user_turn c.requires.kept c.requires.active c.if-actor-scripts.false,
 )
