@@ -1,5 +1,6 @@
 use Rattle.nit_audit.proofs.Lemmas.{IsGood, IsLegal, IsVerdict, IsWhole, answered_yes}
-use Rattle.nit_audit.proofs.Lemmas.{calls_to_make, if_ok, if_ok_yes, map, only_one, user_actions_to_do}
+use Rattle.nit_audit.proofs.Lemmas.{calls_to_make, if_ok, if_ok_yes, map, only_one}
+use Rattle.nit_audit.proofs.Lemmas.{user_actions_to_do}
 use Rattle.nit_audit.proofs.auditing.audit.Goals as goal
 
 pub returns-clause-only : goal.returns-clause-only

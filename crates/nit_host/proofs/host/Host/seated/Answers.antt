@@ -9,7 +9,8 @@ pub invariant_of-result : goal.invariant_of-result
 invariant_of-result c =
     let made = c.in_ok-new.ensures in
     begun c.in_ok-new.field-0 c.in_ok-sheets.ensures.room c.in_ok-hollows.ensures
-    (ap (λ (d : DesktopModel SheetModel). d.state) made) (ap (λ (d : DesktopModel SheetModel). d.glasses) made) (ap (λ (d : DesktopModel SheetModel). d.raw) made) refl refl
+    (ap (λ (d : DesktopModel SheetModel). d.state) made) (ap (λ (d : DesktopModel SheetModel). d.glasses) made)
+    (ap (λ (d : DesktopModel SheetModel). d.raw) made) refl refl
     c.of_rows.result (rw (← c.config.view_is) c.of_rows.ensures.all)
     (rw (← c.config.view_is) (c.of_rows.ensures.area c.config.inside.height (omega arith)))
 
