@@ -1,7 +1,7 @@
 -- The film that a store has made is that of the files that were put.
 use Rattle.std.proofs.Common.{◌≡◌, ℕ, ◌+◌, ◌<◌, ◌≤◌, ◌^◌, Bool, true, false, List, [], ◌∷◌, ◌++◌}
-use Rattle.std.proofs.Common.{map, length, Option, Some, None, Result, Ok, Err, refl, sym, ap}
-use Rattle.std.proofs.Common.{subst, ◌∙◌, arith, append_assoc}
+use Rattle.std.proofs.Common.{map, length, Option, Some, None, Result, Ok, Err, refl, sym, ◌∙◌}
+use Rattle.std.proofs.Common.{arith, append_assoc, not}
 use Rattle.nit_perform.proofs.Basics.{AfterPut, AreOutputs, CaptureModel, Configuration, Entry}
 use Rattle.nit_perform.proofs.Basics.{File, HasFilmed, HasRun, HasTaken, IsFilmOf, IsLegal}
 use Rattle.nit_perform.proofs.Basics.{IsNearPicture, Numbered, OtherThan, PutEach, PutError}
@@ -9,19 +9,18 @@ use Rattle.nit_perform.proofs.Basics.{PutFault, PutFiles, PutIn, PutState, PutsA
 use Rattle.nit_perform.proofs.Basics.{Region, Setup, StoreModel, begun_of, bytes_of, bytes_under}
 use Rattle.nit_perform.proofs.Basics.{cropped_bytes, events_files, film_header, film_name, film_of}
 use Rattle.nit_perform.proofs.Basics.{final_name, final_picture, first_state, journal_file}
-use Rattle.nit_perform.proofs.Basics.{later_shots, numbered, other_both, other_letter}
+use Rattle.nit_perform.proofs.Basics.{later_shots, map_push, numbered, other_both, other_letter}
 use Rattle.nit_perform.proofs.Basics.{picture_names, pictures_in, put_state_of_run, puts_more}
-use Rattle.nit_perform.proofs.Basics.{range_with_len, records, shot_name, shots, stays, texts_other}
-use Rattle.nit_perform.proofs.Basics.{unrefused, with_texts}
-use Rattle.nit_perform.proofs.PutLemmas.{PutAll, all_put}
+use Rattle.nit_perform.proofs.Basics.{range_with_len, records, same_Some, shot_name, shots, stays}
+use Rattle.nit_perform.proofs.Basics.{texts_other, unrefused, with_texts}
+use Rattle.nit_perform.proofs.PutLemmas.{all_put, PutAll}
 use Rattle.nit_store.specs.declared.store.PutError.TheVariants as put
 
 -- ---- what files have at the end
 
 put_stays : (f : File) (files : List File) (old new : List File) → PutEach (f ∷ files) old new → OtherThan f.0 files
     → bytes_of f.0 new ≡ f.1
-put_stays f files old new (mid, p, puts) other =
-    rw (stays files f.0 mid new puts other, p.this)
+put_stays f files old new (mid, p, puts) other = rw (stays files f.0 mid new puts other, p.this)
 
 -- the files behind some of those that were put
 record PutBehind (files : List File) (new : List File) : Type 0 where
@@ -45,10 +44,11 @@ shots_under first (f ∷ files) rest old new few is none puts =
     let other : OtherThan f.0 (files ++ rest) =
     rw (← is.0) at (other_both (shot_name first) files rest
     (later_shots first (first + 1) files (omega arith) (omega arith) is.1) (none first)) in
-    let one : bytes_of (shot_name first) new ≡ f.1 = rw (← is.0, put_stays f (files ++ rest) old new puts other) in
-    let more =
-    shots_under (first + 1) files rest puts.0 new (omega arith) is.1 none puts.2 in
-    λ i. one i ∷ more i
+    rw (
+      ← is.0,
+      put_stays f (files ++ rest) old new puts other,
+      shots_under (first + 1) files rest puts.0 new (omega arith) is.1 none puts.2,
+    )
 
 -- ---- the pictures of a run
 
@@ -61,27 +61,21 @@ pictures_under s journal outputs are old new texts beside made legal few puts =
     let files = are.0 in
     let last : File = (final_name, final_picture s journal) in
     let words : List File = events_files s.config journal ++ journal_file journal ∷ [] in
-    let parts : outputs ≡ files ++ last ∷ words = rw (are.2, made, with_texts s journal texts) in
-    let all : PutEach (files ++ last ∷ words) old new = rw parts at puts in
+    let all : PutEach (files ++ last ∷ words) old new = rw (are.2, made, with_texts s journal texts) at puts in
     let counted = numbered (IsNearPicture s.config s.scripts s.input) (first_state s.config) 0 [] journal files legal
     (are.1.beside beside) in
     let long : length files ≡ shots journal = counted.1 in
     let none : NoShots (last ∷ words) =
     λ n. other_letter (shot_name n) 115 (last ∷ words) refl
     ((λ e. omega arith), texts_other s.config journal 115 (λ e. omega arith) (λ e. omega arith)) in
-    let shown =
-    shots_under 1 files (last ∷ words) old new (omega arith) counted.0 none all in
     let b = behind files (last ∷ words) old new all in
-    let end : bytes_of final_name new ≡ final_picture s journal =
-    put_stays last words b.mid new b.puts
-    (other_letter final_name 102 words refl
-    (texts_other s.config journal 102 (λ e. omega arith) (λ e. omega arith))) in
-    rw (under_both new (map shot_name (range_with_len 1 (shots journal))) final_name, ← long, shown, end)
-  where
-    under_both : (files : List File) (names : List (List ℕ)) (name : List ℕ) → bytes_under files (names ++ name ∷ [])
-        ≡ bytes_under files names ++ bytes_of name files ∷ []
-    under_both files [] name = refl
-    under_both files (n ∷ names) name = rw (under_both files names name)
+    rw (
+      map_push,
+      ← long,
+      shots_under 1 files (last ∷ words) old new (omega arith) counted.0 none all,
+      put_stays last words b.mid new b.puts (other_letter final_name 102 words refl
+          (texts_other s.config journal 102 (λ e. omega arith) (λ e. omega arith))),
+    )
 
 -- a film that has taken these pictures, with its end, is their film
 film_is : (region : Region) (config : Configuration) (begun now : CaptureModel) (pictures : List (List ℕ))
@@ -89,11 +83,12 @@ film_is : (region : Region) (config : Configuration) (begun now : CaptureModel) 
     → bytes ++ 0 ∷ [] ≡ film_of region config pictures
 film_is region config begun now pictures bytes same h =
     let c = begun_of region config in
-    let cuts = map (cropped_bytes c) pictures in
-    ap (λ (bs : List ℕ). bs ++ 0 ∷ [])
-    (h.bytes_are ∙ ap (λ (k : CaptureModel). film_header k.rect.w k.rect.h ++ records k.rect.w k.rect.h k.before
-    (map (cropped_bytes k) pictures)) same)
-    ∙ append_assoc (film_header region.w region.h) (records region.w region.h c.before cuts) (0 ∷ [])
+    let taken = rw same at h in
+    rw (
+      taken.bytes_are,
+      append_assoc (film_header region.w region.h)
+          (records region.w region.h c.before (map (cropped_bytes c) pictures)) (0 ∷ []),
+    )
 
 -- ---- the put of the film
 
@@ -124,12 +119,8 @@ same_put name a b old None new same next =
 
 told_each : (outputs : List File) (old : Option (List File)) (files : List File) (new : Option (List File))
     → PutFiles outputs old new → new ≡ Some files → (first : List File) × PutEach outputs first files
-told_each outputs None files new h told = absurd (let e = sym h ∙ told in cc)
-told_each outputs (Some first) files new h told =
-    (first, rw (some_same h.0 files (sym h.1 ∙ told)) at h.2)
-  where
-    some_same : (a b : List File) → Some a ≡ Some b → a ≡ b
-    some_same a b e = cc
+told_each outputs None files new h told = absurd cc
+told_each outputs (Some first) files new h told = (first, rw (same_Some h.0 files (sym h.1 ∙ told)) at h.2)
 
 put_whole : (outputs : List File) (old mid : StoreModel) (fault : Option PutFault) → fault ≡ None
     → PutsAll outputs (unrefused old) (put_state_of_run mid fault) → PutAll old outputs mid
@@ -151,45 +142,36 @@ pub record IsFilmEnd (region : Region) (s : Setup) (begun now : CaptureModel) (c
   pub not_put : is_whole ≡ false → (other : List ℕ)
       → PutsNext (film_name, other) (put_state_of_run mid fault) (put_state_of_run new fault')
 
-pub film_leaves : (region : Region) (s : Setup) (begun now : CaptureModel) (count : ℕ) (ended whole is_whole : Bool)
-    (bytes : List ℕ) (old mid new : StoreModel) (ran : Ran) (fault' : Option PutFault) → s.texts ≡ true
-    → s.beside ≡ true → s.made ≡ [] → HasRun old s mid ran
-    → IsFilmEnd region s begun now count ended whole is_whole bytes mid new ran.frames ran.fault fault'
-    → HasFilmed region old s new ran.journal.items ran.frames fault'
-film_leaves region s begun now count ended whole is_whole bytes old mid new ran fault' texts beside made r e = record {
-  is_journal = r.journal;
-  frames_are = r.frames;
-  outputs = r.outputs;
-  are = r.are;
-  puts = puts_more r.outputs (film_name, film) (unrefused old) (put_state_of_run mid ran.fault)
-      (put_state_of_run new fault') r.puts (by is_whole refl);
-}
-  where
-    journal : List Entry
-    journal = ran.journal.items
+module _ {region : Region} {s : Setup} {begun now : CaptureModel} {count : ℕ} {ended whole is_whole : Bool}
+    {bytes : List ℕ} {old mid new : StoreModel} {ran : Ran} {fault' : Option PutFault} (r : HasRun old s mid ran)
+    (e : IsFilmEnd region s begun now count ended whole is_whole bytes mid new ran.frames ran.fault fault')
+    (texts : s.texts ≡ true) (beside : s.beside ≡ true) (made : s.made ≡ []) where
+  abbrev film : List ℕ
+  film = film_of region s.config (pictures_in r.are)
 
-    film : List ℕ
-    film = film_of region s.config (pictures_in r.are)
+  is_film : is_whole ≡ true → ran.fault ≡ None → (files : List File) → mid.files ≡ Some files → bytes ++ 0 ∷ [] ≡ film
+  is_film so none files told =
+      let journal = ran.journal.items in
+      let count_is : count ≡ shots journal = omega (arith, e.all_shots so) in
+      let each = told_each r.outputs old.files files mid.files (put_whole r.outputs old mid ran.fault none r.puts).put
+      told in
+      let pictures = pictures_under s journal r.outputs r.are each.0 files texts beside made r.journal.legal
+      (omega arith) each.1 in
+      film_is region s.config begun now (pictures_in r.are) bytes e.begun_is
+      (rw (e.ended_is so, count_is, pictures) at (e.film (e.whole_is so) files told))
 
-    is_film : is_whole ≡ true → ran.fault ≡ None → (files : List File) → mid.files ≡ Some files → bytes ++ 0 ∷ [] ≡ film
-    is_film so none files told =
-        let frames = r.frames in
-        let all = e.all_shots so in
-        let few = e.few in
-        let shots_are : count ≡ shots journal = omega arith in
-        let each = told_each r.outputs old.files files mid.files (put_whole r.outputs old mid ran.fault none r.puts).put
-        told in
-        let pictures : bytes_under files (picture_names (shots journal) true) ≡ pictures_in r.are =
-        pictures_under s journal r.outputs r.are each.0 files texts beside made r.journal.legal (omega arith)
-        each.1 in
-        let names : bytes_under files (picture_names count ended) ≡ pictures_in r.are =
-        ap (λ (n : ℕ). bytes_under files (picture_names n ended)) shots_are
-        ∙ ap (λ (b : Bool). bytes_under files (picture_names (shots journal) b)) (e.ended_is so) ∙ pictures in
-        film_is region s.config begun now (pictures_in r.are) bytes e.begun_is
-        (subst (λ (ps : List (List ℕ)). HasTaken begun now ps bytes) names (e.film (e.whole_is so) files told))
+  film_put : (b : Bool) → is_whole ≡ b
+      → PutsNext (film_name, film) (put_state_of_run mid ran.fault) (put_state_of_run new fault')
+  film_put true so = same_put film_name (bytes ++ 0 ∷ []) film mid ran.fault (put_state_of_run new fault') (is_film so)
+      (e.put so)
+  film_put false not = e.not_put not film
 
-    by : (b : Bool) → is_whole ≡ b
-        → PutsNext (film_name, film) (put_state_of_run mid ran.fault) (put_state_of_run new fault')
-    by true so = same_put film_name (bytes ++ 0 ∷ []) film mid ran.fault (put_state_of_run new fault') (is_film so)
-        (e.put so)
-    by false not = e.not_put not film
+  pub film_leaves : HasFilmed region old s new ran.journal.items ran.frames fault'
+  film_leaves = record {
+    is_journal = r.journal;
+    frames_are = r.frames;
+    outputs = r.outputs;
+    are = r.are;
+    puts = puts_more r.outputs (film_name, film) (unrefused old) (put_state_of_run mid ran.fault)
+        (put_state_of_run new fault') r.puts (film_put is_whole refl);
+  }

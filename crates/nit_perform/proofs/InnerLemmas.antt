@@ -1,40 +1,33 @@
 -- The frames of an inner run: how many there are, and what is known of the nest that took them.
-use Rattle.std.proofs.Common.{◌≡◌, ◌∙◌, ℕ, ◌+◌, ◌<◌, Bool, true, false, cond, List, [], ◌∷◌, ◌++◌}
-use Rattle.std.proofs.Common.{map, length, fold, Option, Some, None, Result, Ok, Err, refl, sym, ap}
-use Rattle.std.proofs.Common.{subst, inl, inr, arith, nat_lt, add-zero, zero-add, append_assoc}
-use Rattle.std.proofs.Common.{append-nil, length-append}
-use Rattle.nit_perform.proofs.Basics.{ActorLine, AreRoundsOf, Bad, ByClient, ByUser, Configuration}
-use Rattle.nit_perform.proofs.Basics.{Drawing, Entry, InputLine, IsJournal, IsLegal, Line, LineTurn}
-use Rattle.nit_perform.proofs.Basics.{NestError, NestModel, NestState, NestsRun, Phases, RunFiles}
-use Rattle.nit_perform.proofs.Basics.{SceneModel, ShotFrame, ShowsEach, Sight, State, TakesAll}
-use Rattle.nit_perform.proofs.Basics.{TakesLast, TakesNext, TakesUnless, TooLong, UnlessMemory}
-use Rattle.nit_perform.proofs.Basics.{action_of, actions_of_turns, after_turn, by_turns, count_by}
-use Rattle.nit_perform.proofs.Basics.{count_lines, drawn_shot, eq-eqb, first_forbidden, frame}
-use Rattle.nit_perform.proofs.Basics.{frame_answer, frame_lines, frames_of, input_by_user}
-use Rattle.nit_perform.proofs.Basics.{input_lines_of, is_shot_line, is_too_long, last_frame}
-use Rattle.nit_perform.proofs.Basics.{length-map, lines_of_frames, lt-ltb, ltb-true, map-append}
-use Rattle.nit_perform.proofs.Basics.{most_lines, nest_of, nest_script, opening_drawing, phases}
-use Rattle.nit_perform.proofs.Basics.{raw_words, replay, rounds, scenery_of, script_answer}
-use Rattle.nit_perform.proofs.Basics.{shot_frames_of, shots_after, state_now, sum_by-append}
-use Rattle.nit_perform.proofs.Basics.{sum_by-cons, tables_left}
+use Rattle.std.proofs.Common.{◌≡◌, ◌∙◌, ℕ, ◌+◌, Bool, true, false, cond, List, [], ◌∷◌, ◌++◌, map}
+use Rattle.std.proofs.Common.{length, fold, Option, Some, None, Result, Ok, Err, refl, sym, ap}
+use Rattle.std.proofs.Common.{subst, inl, inr, arith, add-zero, zero-add, append_assoc, append-nil}
+use Rattle.std.proofs.Common.{length-append}
 use Rattle.nit_nested.specs.declared.error.NestError.TheVariants.{NoMemory}
-use Rattle.nit_rounds.specs.Drawing.{drawn}
+use Rattle.nit_perform.proofs.Basics.{ActorLine, AreRoundsOf, Bad, ByUser, Configuration, Drawing}
+use Rattle.nit_perform.proofs.Basics.{Entry, InputLine, IsJournal, IsLegal, Line, LineTurn}
+use Rattle.nit_perform.proofs.Basics.{NestError, NestModel, NestState, NestsRun, Phases, RunFiles}
+use Rattle.nit_perform.proofs.Basics.{SceneModel, ShotFrame, ShowsEach, Sight, TakesAll, TakesLast}
+use Rattle.nit_perform.proofs.Basics.{TakesNext, TooLong, UnlessMemory, action_of, actions_of_turns}
+use Rattle.nit_perform.proofs.Basics.{after_turn, by_turns, count_by, count_lines, drawn_shot}
+use Rattle.nit_perform.proofs.Basics.{eq-eqb, first_forbidden, frame, frame_answer, frame_lines}
+use Rattle.nit_perform.proofs.Basics.{frames_of, input_by_user, input_lines_of, is_shot_line}
+use Rattle.nit_perform.proofs.Basics.{is_too_long, last_frame, length-map, lines_of_frames, lt-ltb}
+use Rattle.nit_perform.proofs.Basics.{ltb-true, map-append, most_lines, nest_of, nest_script}
+use Rattle.nit_perform.proofs.Basics.{opening_drawing, phases, raw_words, replay, rounds}
+use Rattle.nit_perform.proofs.Basics.{scenery_of, script_answer, shot_frames_of, shots_after}
+use Rattle.nit_perform.proofs.Basics.{state_now, sum_by-append, sum_by-cons, tables_left}
 use Rattle.nit_perform.proofs.RunLemmas.{WholeLaw}
+use Rattle.nit_rounds.specs.Drawing.{drawn}
 use Rattle.nit_script.specs.declared.line.InputLine.TheVariants as input
 
 -- ---- how many frames there are
 
-shot_lines_both : (xs ys : List InputLine)
-    → count_by is_shot_line (xs ++ ys) ≡ count_by is_shot_line xs + count_by is_shot_line ys
-shot_lines_both xs ys = sum_by-append (λ l. cond (is_shot_line l) 1 0) xs ys
-
 -- a line takes as many shots as it has lines `shot`
 one_line : (config : Configuration) (doing : ActorLine) (d : Drawing) → length (shots_after config doing d)
     ≡ length d.shots + count_by is_shot_line (input_by_user doing)
-one_line config (ByClient sid l) d = sym (add-zero (length d.shots))
 one_line config (ByUser input.Shot) d = length-append d.shots (drawn_shot config d ∷ [])
-one_line config (ByUser (input.Device dev)) d = sym (add-zero (length d.shots))
-one_line config (ByUser input.Phase) d = sym (add-zero (length d.shots))
+one_line config other d = sym (add-zero (length d.shots))
 
 shots_from : (config : Configuration) (scripts : List (List Line)) (moves : List LineTurn) (d : Drawing)
     → length (fold (after_turn config scripts) d moves).shots
@@ -43,7 +36,7 @@ shots_from config scripts [] d = sym (add-zero (length d.shots))
 shots_from config scripts (m ∷ moves) d =
     let more = shots_from config scripts moves (after_turn config scripts d m) in
     let here = one_line config m.doing d in
-    let both = shot_lines_both (input_by_user m.doing) (input_lines_of moves) in
+    let both = sum_by-append (λ l. cond (is_shot_line l) 1 0) (input_by_user m.doing) (input_lines_of moves) in
     omega (arith, more, here, both)
 
 -- what the law of rounds says
@@ -53,21 +46,11 @@ UserOnce = (scripts : List (List Line)) (lines : List InputLine) → input_lines
 shots_counted : UserOnce → (config : Configuration) (scripts : List (List Line)) (lines : List InputLine)
     → length (shot_frames_of config scripts lines) ≡ count_by is_shot_line lines
 unfolding drawn
-shots_counted once config scripts lines = rw (
-  shots_from config scripts (rounds scripts lines) (opening_drawing
-      config),
-  zero-add (count_by is_shot_line (input_lines_of (rounds scripts lines))),
-  once scripts lines,
-)
+shots_counted once config scripts lines =
+    rw (shots_from config scripts (rounds scripts lines) (opening_drawing config), zero-add, once scripts lines)
 
 pub frames_counted : UserOnce → (i : RunFiles) → length (frames_of i) ≡ count_by is_shot_line i.input + 1
-frames_counted once i =
-    let shots = shot_frames_of i.config i.scripts i.input in
-    rw (
-      length-append (map (λ (f : ShotFrame). f.words) shots) (last_frame i ∷ []),
-      length-map shots (λ (f : ShotFrame). f.words),
-      shots_counted once i.config i.scripts i.input,
-    )
+frames_counted once i = rw (length-append, length-map, shots_counted once i.config i.scripts i.input)
 
 -- ---- what the nest took
 
@@ -96,16 +79,8 @@ kept : (frames : List (List ℕ)) (old now : NestState) (e : NestError) → old.
     → now ≡ old
 kept [] old now e is takes = takes
 kept (words ∷ rest) old now e is (mid, next, more) =
-    let same : mid ≡ old = stays words old mid e is next in
+    let same : mid ≡ old = rw (← is) at (rw is at next) in
     kept rest mid now e (rw (same, is)) more ∙ same
-  where
-    stays : (words : List ℕ) (old mid : NestState) (e : NestError) → old.fault ≡ Some e → TakesNext words old mid
-        → mid ≡ old
-    stays words old mid e is next = by old.fault refl next
-      where
-        by : (o : Option NestError) → old.fault ≡ o → TakesUnless o words old.nest mid → mid ≡ old
-        by (Some f) same h = h ∙ (λ i. record { nest = old.nest; fault = sym same i })
-        by None same h = absurd (let no : None ≡ Some e = sym same ∙ is in cc)
 
 longer : (n : NestModel) (first : List ℕ) (rest : List (List ℕ)) (now : NestModel) (fault : Option NestError)
     → Took (with_frames n (first ∷ [])) rest now fault → Took n (first ∷ rest) now fault
@@ -117,49 +92,33 @@ longer n first rest now (Some TooLong) took = record {
   parts = rw took.parts;
   answer = rw (append_assoc n.frames (first ∷ []) took.before) at took.answer;
 }
-longer n first rest now (Some NoMemory) took = tt
-longer n first rest now (Some (Bad line)) took = took
-longer n first rest now (Some Phases) took = took
+longer n first rest now (Some other) took = took
 
-pub all_taken : (frames : List (List ℕ)) (n : NestModel) (now : NestState)
+all_taken : (frames : List (List ℕ)) (n : NestModel) (now : NestState)
     → TakesAll frames (record { nest = n; fault = None }) now → Took n frames now.nest now.fault
-all_taken [] n now takes = subst (λ (s : NestState). Took n [] s.nest s.fault) (sym takes)
-    (ap (λ (fs : List (List ℕ)). record n { frames = fs }) (sym (append-nil n.frames)))
+all_taken [] n now takes = rw (takes, append-nil n.frames)
 all_taken (words ∷ rest) n now (mid, inl (none, is), more) =
     let same : mid ≡ record { nest = with_frames n (words ∷ []); fault = None } =
     λ i. record { nest = is i; fault = none i } in
     longer n words rest now.nest now.fault
     (all_taken rest (with_frames n (words ∷ [])) now (subst (λ (s : NestState). TakesAll rest s now) same more))
 all_taken (words ∷ rest) n now (mid, inr (inl (long, answer)), more) =
-    let fault : now.fault ≡ Some TooLong = ap (λ (s : NestState). s.fault) (kept rest mid now TooLong long more)
-    ∙ long in
-    subst (λ (o : Option NestError). Took n (words ∷ rest) now.nest o) (sym fault)
-    (record {
+    rw (kept rest mid now TooLong long more, long) (record {
       before = [];
       words = words;
       behind = rest;
       parts = refl;
-      answer =
-          subst (λ (fs : List (List ℕ)). frame_answer (record n { frames = fs }) words ≡ Err TooLong)
-          (sym (append-nil n.frames)) answer;
+      answer = rw (append-nil n.frames) answer;
     })
 all_taken (words ∷ rest) n now (mid, inr (inr memory), more) =
-    let fault : now.fault ≡ Some NoMemory = ap (λ (s : NestState). s.fault) (kept rest mid now NoMemory memory more)
-    ∙ memory in
-    subst (λ (o : Option NestError). Took n (words ∷ rest) now.nest o) (sym fault) tt
+    rw (kept rest mid now NoMemory memory more, memory) tt
 
 -- ---- how long the script would be
 
-abbrev Answer : Type 0
-Answer = Result (Unit {0}) NestError
-
-ok_not_err : ◌≡◌ {A = Answer} (Ok tt) (Err TooLong) → ⊥
-ok_not_err e = cc
-
 -- a refused frame is too long
-over : (b : Bool) → ◌≡◌ {A = Answer} (cond b (Err TooLong) (Ok tt)) (Err TooLong) → b ≡ true
+over : (b : Bool) → ◌≡◌ {A = Result (Unit {0}) NestError} (cond b (Err TooLong) (Ok tt)) (Err TooLong) → b ≡ true
 over true e = refl
-over false e = absurd (ok_not_err e)
+over false e = absurd cc
 
 -- one frame that is too long makes all of them too long
 pub long_frames : (n : NestModel) (own : List Line) → n.frames ≡ [] → (frames : List (List ℕ)) → IsTooLongAt n frames
@@ -167,21 +126,17 @@ pub long_frames : (n : NestModel) (own : List Line) → n.frames ≡ [] → (fra
 long_frames n own none frames t =
     let lines : List ℕ → List Line = frame_lines n.w n.h in
     let before = map lines (n.frames ++ t.before) in
-    let long : most_lines < 1 + count_lines before + length (lines t.words) =
-    ltb-true most_lines (1 + count_lines before + length (lines t.words))
-    (over (nat_lt most_lines (1 + count_lines before + length (lines t.words))) t.answer) in
-    let all : n.frames ++ frames ≡ (n.frames ++ t.before) ++ (t.words ∷ t.behind) =
-    ap (λ (fs : List (List ℕ)). n.frames ++ fs) t.parts
-    ∙ sym (append_assoc n.frames t.before (t.words ∷ t.behind)) in
+    let long = ltb-true most_lines (1 + count_lines before + length (lines t.words)) (over _ t.answer) in
     let count : count_lines (map lines (n.frames ++ frames))
-    ≡ count_lines before + count_lines (map lines (t.words ∷ t.behind)) =
-    ap (λ (fs : List (List ℕ)). count_lines (map lines fs)) all
-    ∙ ap count_lines (map-append lines (n.frames ++ t.before) (t.words ∷ t.behind))
-    ∙ sum_by-append (λ (ls : List Line). length ls) before (map lines (t.words ∷ t.behind)) in
-    let here : count_lines (map lines (t.words ∷ t.behind))
-    ≡ length (lines t.words) + count_lines (map lines t.behind) =
-    sum_by-cons (λ (ls : List Line). length ls) (lines t.words) (map lines t.behind) in
-    lt-ltb most_lines (1 + count_lines (map lines (n.frames ++ frames)) + length own) (omega (arith, long, count, here))
+    ≡ count_lines before + (length (lines t.words) + count_lines (map lines t.behind)) =
+    rw (
+      t.parts,
+      ← append_assoc n.frames t.before (t.words ∷ t.behind),
+      map-append lines (n.frames ++ t.before) (t.words ∷ t.behind),
+      sum_by-append (λ (ls : List Line). length ls) before (map lines (t.words ∷ t.behind)),
+      sum_by-cons (λ (ls : List Line). length ls) (lines t.words) (map lines t.behind),
+    ) in
+    lt-ltb most_lines (1 + count_lines (map lines (n.frames ++ frames)) + length own) (omega arith)
 
 -- what the law on the lines of the script says
 abbrev pub Counted : Type 0
@@ -193,8 +148,7 @@ pub answer_by_length : Counted → (n : NestModel) (own : List Line) → first_f
     → phases own ≡ length n.frames
     → script_answer n own ≡ cond (is_too_long n (own ∷ [])) (Err TooLong) (Ok (nest_script n own))
 answer_by_length counted n own may same =
-    rw may (rw (eq-eqb (phases own) (length n.frames) same)
-    (rw (counted n own same)))
+    rw (may, eq-eqb (phases own) (length n.frames) same, counted n own same)
 
 -- ---- the run
 
@@ -218,11 +172,7 @@ pub last_is : DrawnLaw → (i : RunFiles) (mid : SceneModel Sight) → mid.confi
     → IsLegal mid.config mid.entries → AreRoundsOf mid.entries i.scripts i.input
     → frame (scenery_of (state_now mid)) (raw_words (state_now mid) (tables_left i.config i.scripts)) ≡ last_frame i
 last_is law i mid config legal is =
-    let state : state_now mid ≡ (drawn i.config i.scripts (rounds i.scripts i.input)).state =
-    ap (λ (c : Configuration). replay c mid.entries) config
-    ∙ sym (law i.config i.scripts (rounds i.scripts i.input) mid.entries
-    (subst (λ (c : Configuration). IsLegal c mid.entries) config legal) is) in
-    ap (λ (s : State). frame (scenery_of s) (raw_words s (tables_left i.config i.scripts))) state
+    rw (config, ← law i.config i.scripts (rounds i.scripts i.input) mid.entries (rw config at legal) is)
 
 -- each shot's frame was taken
 pub taken_all : {V : Type 0} (Shows : ShotFrame → V → V → Type 0) (seen : V → NestState)
@@ -245,6 +195,12 @@ takes_more (f ∷ frames) words old mid new (at, first, rest) next =
 abbrev pub no_frames : RunFiles → NestModel
 no_frames i = record { w = i.config.width; h = i.config.height; frames = [] }
 
+-- the nest that took the frames, and the refusal that it met
+pub took_frames : (i : RunFiles) (now : NestModel) (fault : Option NestError)
+    → TakesAll (frames_of i) (record { nest = no_frames i; fault = None }) (record { nest = now; fault = fault })
+    → Took (no_frames i) (frames_of i) now fault
+took_frames i now fault = all_taken (frames_of i) (no_frames i) (record { nest = now; fault = fault })
+
 -- a frame was refused
 pub frame_refused : (i : RunFiles) (own : List Line) (now : NestModel) (e : NestError)
     → Took (no_frames i) (frames_of i) now (Some e) → NestsRun i own (Err e)
@@ -252,41 +208,25 @@ frame_refused i own now TooLong took = long_frames (no_frames i) own refl (frame
 frame_refused i own now NoMemory took = tt
 frame_refused i own now other took = absurd took
 
+-- how a script is answered by whether it is too long
+abbrev IsAnswered : Bool → List Line → Result (List Line) NestError → Type 0
+IsAnswered long made (Ok script) = (long ≡ false) × (script ≡ made)
+IsAnswered long made (Err TooLong) = long ≡ true
+IsAnswered long made (Err other) = ⊥
+
+one_answer : (long : Bool) (made : List Line) → IsAnswered long made (cond long (Err TooLong) (Ok made))
+one_answer true made = refl
+one_answer false made = (refl, refl)
+
 -- all frames were taken, and the script was made or refused
 module _ (counted : Counted) (i : RunFiles) (own : List Line) (may : first_forbidden 1 own ≡ None)
     (same : phases own ≡ length (frames_of i)) where
-  made_if : (b : Bool) (script made : List Line) → Ok script ≡ cond b (Err TooLong) (Ok made)
-      → (b ≡ false) × (script ≡ made)
-  made_if true script made e = absurd cc
-  made_if false script made e = (refl, cc)
-
-  long_if : (b : Bool) (made : List Line) → Err TooLong ≡ cond b (Err TooLong) (Ok made) → b ≡ true
-  long_if true made e = refl
-  long_if false made e = absurd cc
-
-  no_bad : (b : Bool) (made : List Line) (line : ℕ) → Err (Bad line) ≡ cond b (Err TooLong) (Ok made) → ⊥
-  no_bad true made line e = cc
-  no_bad false made line e = cc
-
-  no_phases : (b : Bool) (made : List Line) → Err Phases ≡ cond b (Err TooLong) (Ok made) → ⊥
-  no_phases true made e = cc
-  no_phases false made e = cc
-
-  abbrev long : Bool
-  long = is_too_long (nest_of i) (own ∷ [])
-
-  answered : (n : NestModel) → n ≡ nest_of i
-      → script_answer n own ≡ cond long (Err TooLong) (Ok (nest_script (nest_of i) own))
-  answered n is = rw (is, answer_by_length counted (nest_of i) own may same)
-
-  pub script_made : (n : NestModel) → n ≡ nest_of i → (script : List Line) → Ok script ≡ script_answer n own
-      → (long ≡ false) × (script ≡ nest_script (nest_of i) own)
-  script_made n is script answer = made_if long script (nest_script (nest_of i) own) (answer ∙ answered n is)
+  pub answered : (n : NestModel) → n ≡ nest_of i → (r : Result (List Line) NestError) → r ≡ script_answer n own
+      → IsAnswered (is_too_long (nest_of i) (own ∷ [])) (nest_script (nest_of i) own) r
+  answered n whole r answer = rw (answer, whole, answer_by_length counted (nest_of i) own may same)
+      (one_answer (is_too_long (nest_of i) (own ∷ [])) (nest_script (nest_of i) own))
 
   pub script_refused : (n : NestModel) → n ≡ nest_of i → (e : NestError)
       → UnlessMemory {A = List Line} (Err e) (Err e ≡ script_answer n own) → NestsRun i own (Err e)
-  script_refused n is TooLong answer = long_if long (nest_script (nest_of i) own) (answer ∙ answered n is)
-  script_refused n is NoMemory answer = tt
-  script_refused n is (Bad line) answer =
-      absurd (no_bad long (nest_script (nest_of i) own) line (answer ∙ answered n is))
-  script_refused n is Phases answer = absurd (no_phases long (nest_script (nest_of i) own) (answer ∙ answered n is))
+  script_refused n whole NoMemory answer = tt
+  script_refused n whole other answer = answered n whole (Err other) answer

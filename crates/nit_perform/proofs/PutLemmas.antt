@@ -1,12 +1,12 @@
 -- What files that are put one after the other leave: all were put; or those before one, which was refused.
 use Rattle.std.proofs.Common.{◌≡◌, ℕ, true, false, List, [], ◌∷◌, ◌++◌, map, Option, Some, None}
-use Rattle.std.proofs.Common.{Result, Ok, Err, refl, sym, subst, append_assoc, inr}
+use Rattle.std.proofs.Common.{Result, Ok, Err, refl, append_assoc, inr}
 use Rattle.nit_perform.proofs.Basics.{AfterPut, AskedAtMost, File, IsPut, PutEach, PutError}
 use Rattle.nit_perform.proofs.Basics.{PutFault, PutFiles, PutIn, PutRefusal, PutState, PutsAll}
-use Rattle.nit_perform.proofs.Basics.{PutsFile, PutsNext, PutsUnless, StoreModel, WriteFaulted}
-use Rattle.nit_perform.proofs.Basics.{also_more, append-nil, asking_all, asking_none, is_some}
+use Rattle.nit_perform.proofs.Basics.{PutsFile, PutsNext, StoreModel, WriteFaulted, also_more}
+use Rattle.nit_perform.proofs.Basics.{append-nil, asking_all, asking_none, is_some, map_push}
 use Rattle.nit_perform.proofs.Basics.{none_behind, output_name, put_state_of_run, refusal_by}
-use Rattle.nit_perform.proofs.Basics.{unrefused, with_asked}
+use Rattle.nit_perform.proofs.Basics.{same_Some, unrefused, with_asked}
 use Rattle.nit_store.specs.declared.store.PutError.TheVariants as put
 
 -- these files were put
@@ -41,29 +41,19 @@ each_more : (files : List File) (f : File) (old mid new : List File) → PutEach
 each_more [] f old mid new h p = (new, rw h at p, refl)
 each_more (g ∷ files) f old mid new h p = (h.0, h.1, each_more files f h.0 mid new h.2 p)
 
-pub same_files : (a b : List File) → Some a ≡ Some b → a ≡ b
-same_files a b e = cc
-
 files_more : (files : List File) (f : File) (old mid new : Option (List File)) → PutFiles files old mid
     → PutIn f.0 f.1 mid new → PutFiles (files ++ f ∷ []) old new
 files_more files f None None new h p = p
 files_more files f None (Some m) new h p = absurd cc
 files_more files f (Some o) None new h p = absurd (let e = h.1 in cc)
 files_more files f (Some o) (Some m) new h p =
-    let same : m ≡ h.0 = same_files m h.0 h.1 in
-    (p.0, p.1, each_more files f o h.0 p.0 h.2 (rw same at p.2))
-
-names_more : (files : List File) (f : File) → map (λ (g : File). g.0) (files ++ f ∷ []) ≡ map (λ (g : File). g.0) files
-    ++ f.0 ∷ []
-names_more [] f = refl
-names_more (g ∷ files) f = rw (names_more files f)
+    (p.0, p.1, each_more files f o h.0 p.0 h.2 (rw (same_Some m h.0 h.1) at p.2))
 
 all_more : {T : Type 0} (first : StoreModel) (files : List File) (mid : StoreModel) (f : File) (new : StoreModel)
     (done : T) → PutAll first files mid → AfterPut {T = T} mid f.0 f.1 new (Ok done)
     → PutAll first (files ++ f ∷ []) new
 all_more first files mid f new done h p = record {
-  rest =
-      rw (p.0, h.rest, also_more first.asked (map (λ (g : File). g.0) files) (f.0 ∷ []), ← names_more files f);
+  rest = rw (map_push, p.0, h.rest, also_more first.asked (map (λ (g : File). g.0) files) (f.0 ∷ []));
   put = files_more files f first.files mid.files new.files h.put p.1;
 }
 
@@ -74,11 +64,6 @@ as_refused T mid name bytes new put.NoMemory h = h
 
 -- ---- all files
 
-put_first : (o : Option PutRefusal) (f : File) (old mid : PutState) → o ≡ None → PutsUnless o f old mid
-    → PutsFile f old mid
-put_first None f old mid is next = next
-put_first (Some r) f old mid is next = absurd cc
-
 -- a file is put, and then the rest; or it is refused, and the rest is not tried
 then_rest : (f : File) (files done : List File) (first : StoreModel) (old mid new : PutState)
     (answer : Result (Unit {0}) PutError) → AfterPut old.shown f.0 f.1 mid.shown answer
@@ -87,32 +72,24 @@ then_rest : (f : File) (files done : List File) (first : StoreModel) (old mid ne
     → PutSo first ((done ++ f ∷ []) ++ files) new.shown new.refused)
     → PutSo first (done ++ f ∷ files) new.shown new.refused
 then_rest f files done first old mid new (Ok x) put is puts rest more =
-    subst (λ (fs : List File). PutSo first fs new.shown new.refused) (append_assoc done (f ∷ []) files)
-    (more is (all_more first done old.shown f mid.shown x puts put))
+    rw (← append_assoc done (f ∷ []) files) (more is (all_more first done old.shown f mid.shown x puts put))
 then_rest f files done first old mid new (Err e) put is puts rest more =
     let r : PutRefusal = record { name = f.0; error = e } in
-    subst (λ (p : PutState). PutSo first (done ++ f ∷ files) p.shown p.refused)
-    (sym (none_behind files mid new r is rest))
-    (subst (λ (o : Option PutRefusal). PutSo first (done ++ f ∷ files) mid.shown o) (sym is)
-    (record {
+    rw (none_behind files mid new r is rest, is) (record {
       front = done;
       bytes = f.1;
       back = files;
       parts = refl;
       mid = old.shown;
       put = puts;
-      refused =
-          as_refused (Unit {0}) old.shown f.0 f.1 mid.shown e put;
-    }))
+      refused = as_refused (Unit {0}) old.shown f.0 f.1 mid.shown e put;
+    })
 
 rest_put : (files done : List File) (first : StoreModel) (old new : PutState) → old.refused ≡ None
     → PutAll first done old.shown → PutsAll files old new → PutSo first (done ++ files) new.shown new.refused
-rest_put [] done first old new calm puts same =
-    subst (λ (p : PutState). PutSo first (done ++ []) p.shown p.refused) (sym same)
-    (subst (λ (o : Option PutRefusal). PutSo first (done ++ []) old.shown o) (sym calm)
-    (subst (λ (fs : List File). PutAll first fs old.shown) (sym (append-nil done)) puts))
+rest_put [] done first old new calm puts same = rw (same, calm, append-nil done) puts
 rest_put (f ∷ files) done first old new calm puts (mid, next, rest) =
-    let p = put_first old.refused f old mid calm next in
+    let p = rw calm at next in
     then_rest f files done first old mid new p.answer p.put p.kept puts rest
     (λ still_calm put. rest_put files (done ++ f ∷ []) first mid new still_calm put rest)
 
@@ -142,18 +119,12 @@ next_stays shown f (Some fault) e = refl
 -- where none was, the file is put
 pub next_goes : (f : File) (old : StoreModel) (fault : Option PutFault) (new : PutState) → is_some fault ≡ false
     → PutsFile f (put_state_of_run old None) new → PutsNext f (put_state_of_run old fault) new
-next_goes f old fault new e puts = subst (λ (o : Option PutFault). PutsNext f (put_state_of_run old o) new)
-    (sym (none_is fault e)) puts
+next_goes f old fault new e puts = rw (none_is fault e) puts
 
 -- where memory runs out for the text, nothing is put
 pub no_put : (f : File) (old : StoreModel) (now : PutFault) → output_name now.file ≡ f.0 → now.error ≡ put.NoMemory
     → PutsFile f (unrefused old) (put_state_of_run old (Some now))
-no_put f old now named is =
-    record {
-      answer = Err put.NoMemory;
-      put = inr refl;
-      kept = rw (named, is);
-    }
+no_put f old now named is = record { answer = Err put.NoMemory; put = inr refl; kept = rw (named, is) }
 
 -- so where none was refused before
 pub no_text : (f : File) (old : StoreModel) (fault : Option PutFault) (now : PutFault) → is_some fault ≡ false

@@ -1,4 +1,4 @@
-use Rattle.nit_perform.proofs.Lemmas.{Line, List, ap, length, setting, ◌∙◌}
+use Rattle.nit_perform.proofs.Lemmas.{setting, ◌∙◌}
 use Rattle.nit_perform.proofs.clips.run_with_clips.Goals as goal
 
 pub buffers_of-requires : goal.buffers_of-requires
@@ -9,7 +9,5 @@ buffers_of-requires g c =
     }
 
 pub open_pairs-requires-clause-setting : goal.open_pairs-requires-clause-setting
-open_pairs-requires-clause-setting g c =
-    setting c.args.config.now c.as_slice-clients.result.now c.deref-2.result.now
-    (ap (λ (ss : List (List Line)). length ss) c.as_slice-clients.ensures.value ∙ c.requires.runnable.scripts)
+open_pairs-requires-clause-setting g c = setting (rw c.as_slice-clients.ensures.value c.requires.runnable.scripts)
     (c.deref-2.ensures.value ∙ c.in_ok-plans.ensures.plans)

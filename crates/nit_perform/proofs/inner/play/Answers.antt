@@ -1,30 +1,28 @@
-use Rattle.std.proofs.Common.{◌≡◌, ◌∙◌, List, [], map, ℕ, ap, sym, subst, None}
-use Rattle.nit_perform.proofs.Lemmas.{Configuration, Entry, HaveTables, IsJournal, JournalModel}
-use Rattle.nit_perform.proofs.Lemmas.{NestModel, NestState, ShotFrame, Sight, TakesAll, TakesNext}
-use Rattle.nit_perform.proofs.Lemmas.{by_turns, can_take_last, last_frame, left_tables, no_frames}
+use Rattle.std.proofs.Common.{◌≡◌, ◌∙◌, map, None}
+use Rattle.nit_perform.proofs.InnerLemmas.{last_is}
+use Rattle.nit_perform.proofs.Lemmas.{Configuration, HaveTables, NestState, ShotFrame, TakesNext}
+use Rattle.nit_perform.proofs.Lemmas.{[], ap, can_take_last, last_frame, left_tables, no_frames}
 use Rattle.nit_perform.proofs.Lemmas.{rounds_journal, run_files, shot_frames_of, tables_left}
 use Rattle.nit_perform.proofs.Lemmas.{taken_all, takes_more, written_whole}
-use Rattle.nit_perform.proofs.InnerLemmas.{last_is}
 use Rattle.nit_perform.proofs.inner.play.Goals as goal
 
 pub take_last-requires : goal.take_last-requires
 take_last-requires c =
     let opened = c.args.opened in
-    can_take_last c.buffer_within_table.ensures.words c.one_more_line.ensures.done c.args.config.now c.args.scripts.now
-    c.args.input.now opened c.run_viewed.new.scene c.run_viewed.new.owns c.deref_mut-2.result.now c.requires
-    c.run_viewed.ensures.run
-    (c.deref_mut-2.ensures.value ∙ written_whole opened.owns.len c.run_viewed.new.owns opened.owns.items
-    (c.run_viewed.auto.owns ∙ c.deref_mut.ensures.len))
+    rw (
+      c.deref_mut-2.ensures.value,
+      written_whole opened.owns.len c.run_viewed.new.owns opened.owns.items
+          (c.run_viewed.auto.owns ∙ c.deref_mut.ensures.len),
+    )
+    (can_take_last c.buffer_within_table.ensures.words c.requires c.run_viewed.ensures.run)
 
 pub returns-clause-journal : goal.returns-clause-journal
 returns-clause-journal c =
     let i = run_files c.args.config.now c.args.scripts.now c.args.input.now in
     let run = c.run_viewed.ensures.run in
-    let last = c.take_last.new.scene in
-    subst (λ (es : List Entry). IsJournal (by_turns i) es)
-    (sym (c.into_entries.ensures ∙ ap (λ (j : JournalModel). j.entries) c.into_journal.ensures.entries))
-    (rounds_journal c.rounds_are_whole.ensures i c.run_viewed.new.scene last (run.config
-    ∙ c.requires.configuration) run.entries c.take_last.ensures.taken)
+    rw (c.into_entries.ensures, c.into_journal.ensures.entries) (rounds_journal c.rounds_are_whole.ensures i
+    c.run_viewed.new.scene c.take_last.new.scene (run.config ∙ c.requires.configuration) run.entries
+    c.take_last.ensures.taken)
 
 pub returns-clause-frames : goal.returns-clause-frames
 returns-clause-frames c =
@@ -38,32 +36,21 @@ returns-clause-frames c =
     let at : NestState = record { nest = viewer.nest; fault = viewer.fault } in
     let now : NestState = record { nest = c.take.new.self.nest; fault = c.take.new.self.fault } in
     let begun : opened.scene.config ≡ config = c.requires.configuration in
-    let owns : c.deref_mut-2.result.now ≡ c.run_viewed.new.owns = c.deref_mut-2.ensures.value
-    ∙ written_whole opened.owns.len c.run_viewed.new.owns opened.owns.items (c.run_viewed.auto.owns
-    ∙ c.deref_mut.ensures.len) in
-    let tables : HaveTables c.run_viewed.new.owns (tables_left config scripts) =
-    subst (λ (k : Configuration). HaveTables c.run_viewed.new.owns (tables_left k scripts)) begun
-    (left_tables opened.scene.config scripts c.run_viewed.new.owns run.owns_each run.words) in
-    let out : c.frame.result.now ≡ last_frame i =
-    c.frame.ensures.shown.frame ∙ c.take_last.ensures.frame (tables_left config scripts)
-    (subst (λ (gs : List Sight). HaveTables gs (tables_left config scripts)) (sym owns) tables)
-    ∙ last_is c.drawn_as_replayed.ensures i mid (run.config ∙ begun) run.legal run.entries in
-    let next : TakesNext (last_frame i) at now =
-    subst (λ (ws : List ℕ). TakesNext ws at now) out c.take.ensures.taken in
+    let tables : HaveTables c.run_viewed.new.owns (tables_left config scripts) = rw begun at (left_tables run) in
+    let out : c.frame.result.now ≡ last_frame i = rw (
+      c.frame.ensures.shown.frame,
+      c.take_last.ensures.frame (tables_left config scripts)
+          (rw (
+            c.deref_mut-2.ensures.value,
+            written_whole opened.owns.len c.run_viewed.new.owns opened.owns.items
+                (c.run_viewed.auto.owns ∙ c.deref_mut.ensures.len),
+          ) tables),
+      last_is c.drawn_as_replayed.ensures i mid (run.config ∙ begun) run.legal run.entries,
+    ) in
+    let next : TakesNext (last_frame i) at now = rw out at c.take.ensures.taken in
     let nest_is : c.new.result ≡ no_frames i = c.new.ensures
     ∙ ap (λ (k : Configuration). record { w = k.width; h = k.height; frames = [] }) c.config.view_is in
-    let shots : TakesAll (map (λ (f : ShotFrame). f.words)
-    (shot_frames_of opened.scene.config scripts c.args.input.now)) (record { nest = c.new.result; fault = None })
-    at =
-    taken_all _ (λ v. record { nest = v.nest; fault = v.fault }) (λ f before after' s. s)
+    let shots = taken_all _ (λ v. record { nest = v.nest; fault = v.fault }) (λ f before after' s. s)
     (shot_frames_of opened.scene.config scripts c.args.input.now) _ _ c.run_viewed.ensures.shown in
-    let from : TakesAll (map (λ (f : ShotFrame). f.words) (shot_frames_of config scripts c.args.input.now))
-    (record { nest = no_frames i; fault = None }) at =
-    subst (λ (k : Configuration).
-    TakesAll (map (λ (f : ShotFrame). f.words) (shot_frames_of k scripts c.args.input.now))
-    (record { nest = no_frames i; fault = None }) at) begun
-    (subst (λ (n : NestModel). TakesAll
-    (map (λ (f : ShotFrame). f.words) (shot_frames_of opened.scene.config scripts c.args.input.now))
-    (record { nest = n; fault = None }) at) nest_is shots) in
     takes_more (map (λ (f : ShotFrame). f.words) (shot_frames_of config scripts c.args.input.now)) (last_frame i)
-    (record { nest = no_frames i; fault = None }) at now from next
+    (record { nest = no_frames i; fault = None }) at now (rw (begun, nest_is) at shots) next

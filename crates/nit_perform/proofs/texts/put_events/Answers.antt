@@ -1,7 +1,7 @@
-use Rattle.nit_perform.proofs.Lemmas.{File, PutsNext, ap, arith, ending_of, events_name}
+use Rattle.nit_perform.proofs.Lemmas.{File, PutsNext, ap, arith, at_member, ending_of, events_name}
 use Rattle.nit_perform.proofs.Lemmas.{events_text, next_goes, next_stays, not, one_more_text}
 use Rattle.nit_perform.proofs.Lemmas.{put_state_of_run, session, state_now, ◌∙◌}
-use Rattle.nit_perform.proofs.texts.put_events.Goals.{then-is_none, else-is_none}
+use Rattle.nit_perform.proofs.texts.put_events.Goals.{else-is_none, then-is_none}
 use Rattle.nit_perform.proofs.texts.put_events.Goals as goal
 
 pub overflow_cast-sid : goal.overflow_cast-sid
@@ -13,24 +13,23 @@ overflow_cast-sid g c =
 pub loop-sid-preserved : goal.loop-sid-preserved
 loop-sid-preserved g c =
     let shown = g.S.Store.shown in
+    let before = c.loop-sid in
     let file : File = (
       events_name c.index-clients-sid.result.label,
-      events_text c.args.scene.now.entries c.loop-sid.sid
-          (ending_of (session (state_now c.args.scene.now) c.loop-sid.sid)),
+      events_text c.args.scene.now.entries before.sid (ending_of (session (state_now c.args.scene.now) before.sid)),
     ) in
-    let step : PutsNext file (put_state_of_run (shown c.loop-sid.store) c.loop-sid.fault)
+    let step : PutsNext file (put_state_of_run (shown before.store) before.fault)
     (put_state_of_run (shown c.if-is_none.store) c.if-is_none.fault) =
     elim c.if-is_none.branch [
-      | then-is_none w ↦ rw w.store-is
-          (rw w.fault-is (next_goes file (shown c.loop-sid.store) c.loop-sid.fault
+      | then-is_none w ↦ rw (w.store-is, w.fault-is) (next_goes file (shown before.store) before.fault
           (put_state_of_run (shown w.put_events_of-fault.new.store) w.put_events_of-fault.result) (c.is_none.ensures
-          ∙ ap not w.if-is_none.true) w.put_events_of-fault.ensures))
-      | else-is_none w ↦ rw w.store-is
-          (rw w.fault-is (next_stays (shown c.loop-sid.store) file c.loop-sid.fault (c.is_none.ensures
-          ∙ ap not w.if-is_none.false)))
+          ∙ ap not w.if-is_none.true) w.put_events_of-fault.ensures)
+      | else-is_none w ↦ rw (w.store-is, w.fault-is) (next_stays (shown before.store) file before.fault
+          (c.is_none.ensures ∙ ap not w.if-is_none.false))
     ] in
-    one_more_text c.args.scene.now.config c.args.scene.now.entries c.args.clients.now c.loop-sid.sid
-    c.index-clients-sid.result (put_state_of_run (shown c.args.store.now) c.args.fault)
-    (put_state_of_run (shown c.loop-sid.store) c.loop-sid.fault)
+    let inside = rw c.requires at c.loop-sid-test.true in
+    one_more_text c.args.scene.now.config c.args.scene.now.entries before.sid
+    (put_state_of_run (shown c.args.store.now) c.args.fault) (put_state_of_run (shown before.store) before.fault)
     (put_state_of_run (shown c.if-is_none.store) c.if-is_none.fault)
-    c.requires c.loop-sid-test.true c.index-clients-sid.is c.loop-sid.invariant step
+    (c.index-clients-sid.is ∙ at_member c.args.scene.now.config c.args.clients.now before.sid c.index-clients-sid.result
+    c.requires inside) before.invariant step

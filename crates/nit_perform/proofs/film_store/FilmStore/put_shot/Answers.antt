@@ -1,28 +1,20 @@
-use Rattle.std.proofs.Common.{◌≢◌, ◌∙◌, ◌+◌, ◌++◌, ◌∷◌, [], Bool, ℕ, List, true, false, ap, subst}
-use Rattle.nit_perform.proofs.Lemmas.{AllByRecursion, CaptureModel, IsFilmOf, before_shot}
-use Rattle.nit_perform.proofs.Lemmas.{film_grows, one_shot_more, picture_names, sym, with_last}
+use Rattle.std.proofs.Common.{◌+◌, false}
+use Rattle.nit_perform.proofs.Lemmas.{before_shot, film_grows, one_shot_more, picture_names}
 use Rattle.nit_perform.proofs.film_store.FilmStore.put_shot.Goals as goal
 
 pub invariant_of-self-2 : goal.invariant_of-self-2
 invariant_of-self-2 g c =
     let self = c.args.self.now in
-    let begun = g.F.Filming.begun in
-    let old = g.S.Store.shown self.store.now in
-    let new = g.S.Store.shown c.put_filmed.new.store in
     let now = c.put_filmed.new.film in
     let done = c.in_ok-put_filmed.ensures in
-    let names = picture_names self.count false in
-    let start = rw (c.requires.can.is_whole, c.requires.can.going) at self.tie in
-    let grown : IsFilmOf true begun now.capture (names ++ c.args.name.now ∷ []) new.files now.bytes.items =
-    film_grows begun self.film.capture now.capture names self.film.bytes.items now.bytes.items old new c.args.name.now
-    c.args.bytes.now c.in_ok-put_filmed.field-0
-    (subst (λ (name : List ℕ). AllByRecursion (λ n. n ≢ name) names) (sym c.requires.name)
-    (before_shot self.count c.requires.can.few)) done.put self.screen done.capture done.film start in
     record {
       same = self.same;
-      screen = done.screen ∙ ap (λ (k : CaptureModel). with_last k now.capture.before) self.screen;
-      tie = subst (λ (b : Bool). IsFilmOf true begun now.capture (picture_names (self.count + 1) b) new.files
-          now.bytes.items) (sym c.requires.can.going)
-          (subst (λ (ns : List (List ℕ)). IsFilmOf true begun now.capture ns new.files now.bytes.items)
-          (ap (λ (name : List ℕ). names ++ name ∷ []) c.requires.name ∙ sym (one_shot_more self.count)) grown);
+      screen = rw (done.screen, self.screen);
+      tie = rw c.requires.can.going (film_grows g.F.Filming.begun self.film.capture now.capture
+          (picture_names self.count false) (picture_names (self.count + 1) false) self.film.bytes.items now.bytes.items
+          (g.S.Store.shown self.store.now)
+          (g.S.Store.shown c.put_filmed.new.store) c.args.name.now c.args.bytes.now c.in_ok-put_filmed.field-0
+          (rw c.requires.name (before_shot self.count c.requires.can.few)) done.put self.screen done.capture done.film
+          (rw (c.requires.can.is_whole, c.requires.can.going) at self.tie)
+          (rw (c.requires.name, one_shot_more self.count)));
     }
