@@ -91,7 +91,7 @@ def program_at(path):
     crate = program.parent.parent / "crates" / "nitpicker"
     if program.parent.name == "bin" and crate.is_dir():
         subprocess.run([program], stdout=subprocess.DEVNULL, check=False)
-        if asked := re.search(r"{GLIBC_TUNABLES-(.*)}", program.read_text(encoding="utf8")):
+        if asked := re.search(r"^pages=(.*)$", program.read_text(encoding="utf8"), re.M):
             os.environ.setdefault("GLIBC_TUNABLES", asked[1])
         program = crate / "out" / "nitpicker"
     if not (program.is_file() and os.access(program, os.X_OK)):
