@@ -12,6 +12,7 @@ from aside import Refusal, run_aside
 TOP = Path(__file__).resolve().parent.parent
 STARTER = TOP / "bin" / "nitpicker"
 HELP = TOP / "bin" / "help.txt"
+PAGES = TOP / "bin" / "pages.txt"
 
 
 def say(text):
@@ -60,9 +61,11 @@ def version():
 
 
 def start(program, words):
-    """Has this process become a program, with the signals as they were."""
+    """Has this process become a program, with the signals as they were and the pages of memory that
+    bin/nitpicker asks for."""
     for number in (signal.SIGPIPE, signal.SIGXFSZ):
         signal.signal(number, signal.SIG_DFL)
+    os.environ.setdefault("GLIBC_TUNABLES", PAGES.read_text(encoding="utf8").strip())
     os.execv(program, [program, *words])
 
 

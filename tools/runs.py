@@ -2,7 +2,6 @@
 import importlib.machinery
 import importlib.util
 import os
-import re
 import subprocess
 import sys
 import time
@@ -91,8 +90,8 @@ def program_at(path):
     crate = program.parent.parent / "crates" / "nitpicker"
     if program.parent.name == "bin" and crate.is_dir():
         subprocess.run([program], stdout=subprocess.DEVNULL, check=False)
-        if asked := re.search(r"^pages=(.*)$", program.read_text(encoding="utf8"), re.M):
-            os.environ.setdefault("GLIBC_TUNABLES", asked[1])
+        pages = (program.parent / "pages.txt").read_text(encoding="utf8").strip()
+        os.environ.setdefault("GLIBC_TUNABLES", pages)
         program = crate / "out" / "nitpicker"
     if not (program.is_file() and os.access(program, os.X_OK)):
         raise WrongWords(f"{path}: not a program")
@@ -130,7 +129,7 @@ def read_files(folder):
 
 
 def run(program, words, folder, environment=None):
-    """Runs the program in the folder. The status is below 0 where it is killed or takes too long."""
+    """Runs the program in the folder. The status is below 0 where it is killed or late."""
     try:
         ended = subprocess.run(
             [program, *words], cwd=folder, env=environment, timeout=SECONDS, check=False,

@@ -109,6 +109,8 @@ elif words[:1] == [b"many"]:
         time.sleep(0.001)
 elif words[:1] == [b"read"]:
     print("nitpicker: " + open(words[1]).read().strip())
+elif words[:1] == [b"known"]:
+    print(os.environb.get(words[1], b"nothing").decode())
 else:
     print(words)
     sys.exit(7)
@@ -136,6 +138,7 @@ class Repository:
         self.environment = {**os.environ, "PATH": f"{self.tools}:{os.environ['PATH']}",
                             "STAND_IN_LOG": str(self.log),
                             "STAND_IN_PROGRAM": str(program or self.program)}
+        self.environment.pop("GLIBC_TUNABLES", None)
 
     def write(self, name, text):
         path = self.folder / name
