@@ -3,11 +3,11 @@ use Rattle.std.proofs.Common.{List, None, Option, Some, [], ap, refl, subst, sym
 use Rattle.std.proofs.Common.{◌≡◌}
 use Rattle.nit_host.proofs.Basics.{Act, Calls, Comes, Does, HostModel, IsStepOf, Looks, Refreshes}
 use Rattle.nit_host.proofs.Basics.{Serves, State, Step, after_act, after_acts, after_step, called}
-use Rattle.nit_host.proofs.Basics.{cond_both, is_accepted, refreshed, reply_to, step_of}
-use Rattle.nit_host.proofs.Basics.{step_unless, steps_of, unless_for, unseated, unserved_call}
-use Rattle.nit_host.proofs.Basics.{unserved_refresh}
+use Rattle.nit_host.proofs.Basics.{cond_both, fold-append, is_accepted, refreshed, reply_to}
+use Rattle.nit_host.proofs.Basics.{step_of, step_unless, steps_of, unless_for, unseated}
+use Rattle.nit_host.proofs.Basics.{unserved_call, unserved_refresh}
 use Rattle.nit_host.proofs.Seatings.{may_sit}
-use Rattle.nit_host.proofs.Served.{may_call, may_refresh}
+use Rattle.nit_host.proofs.Served.{is_seat}
 use Rattle.nit_journal.specs.Steps.{AreSteps, after_steps}
 use Rattle.nit_events.specs.declared.call.Call.TheVariants as call
 use Rattle.nit_events.specs.declared.entry.Entry.TheVariants as entry
@@ -39,10 +39,10 @@ same_call h seat x y w height words =
 
 pub one_act : (h : HostModel) (act : Act) → Goes h (after_act h act) (step_of h act)
 one_act h (Calls seat c) =
-    one h _ _ (unserved_call h seat c) (λ none. (0, ((may_call {h' = h} {call = c} refl (sym none)).inside, refl))) refl
+    one h _ _ (unserved_call h seat c) (λ none. (0, (is_seat {h' = h} seat _ _ refl (sym none), refl))) refl
 one_act h (Refreshes seat x y w height words) =
     one h _ _ (unserved_refresh h seat words)
-    (λ none. (0, ((may_refresh {h' = h} {words = words} refl (sym none)).inside, refl)))
+    (λ none. (0, (is_seat {h' = h} seat _ _ refl (sym none), refl)))
     (same_call h seat x y w height words)
 one_act h (Does dev) = one h _ _ (Rattle.nit_host.specs.Terms.unserved_input h dev) (λ none. (0, refl)) refl
 one_act h (Comes seat label) =
@@ -55,10 +55,6 @@ both : (s : State) (xs ys : List Step) → AreSteps s xs → AreSteps (after_ste
 both s [] ys a b = b
 both s (t ∷ ts) ys a b = (a.0, both (after_step s t) ts ys a.1 b)
 
-both_after : (s : State) (xs ys : List Step) → after_steps s (xs ++ ys) ≡ after_steps (after_steps s xs) ys
-both_after s [] ys = refl
-both_after s (t ∷ ts) ys = both_after (after_step s t) ts ys
-
 pub all_acts : (h : HostModel) (acts : List Act) → Goes h (after_acts h acts) (steps_of h acts)
 all_acts h [] = (tt, refl)
 all_acts h (act ∷ rest) =
@@ -67,5 +63,5 @@ all_acts h (act ∷ rest) =
       both h.state (step_of h act) (steps_of (after_act h act) rest) first.0
           (subst (λ (s : State). AreSteps s (steps_of (after_act h act) rest)) first.1 more.0),
       more.1 ∙ ap (λ (s : State). after_steps s (steps_of (after_act h act) rest)) first.1
-          ∙ sym (both_after h.state (step_of h act) (steps_of (after_act h act) rest)),
+          ∙ sym (fold-append after_step h.state (step_of h act) (steps_of (after_act h act) rest)),
     )

@@ -27,19 +27,18 @@ pub use Rattle.nit_host.specs.Terms.{is_touched, is_view, is_within, is_word_in,
 pub use Rattle.nit_host.specs.Terms.{lacks_handles, layer, list_all, list_any, low_bytes, member}
 pub use Rattle.nit_host.specs.Terms.{no_sight, opened, option_map, option_map_or, owner_of}
 pub use Rattle.nit_host.specs.Terms.{owns_either, picture, picture_from, pixel, pixel_count}
-pub use Rattle.nit_host.specs.Terms.{place_at, plain_sight, planned, point}
-pub use Rattle.nit_host.specs.Terms.{projection, range_with_len, rectangle, rectangle_over}
-pub use Rattle.nit_host.specs.Terms.{refreshed, refusal, refused_plan, relabelled, reply_to, route}
-pub use Rattle.nit_host.specs.Terms.{routed_as, routed_of, scenery_of, seated, seats_of, seen}
-pub use Rattle.nit_host.specs.Terms.{serve, session, session_owns, set_where, sheet_at, sheet_in}
-pub use Rattle.nit_host.specs.Terms.{sheets_of, shown, shown_index, shows_part, shows_place}
-pub use Rattle.nit_host.specs.Terms.{since_opening, size_at, slice_index, source_at, source_of}
-pub use Rattle.nit_host.specs.Terms.{source_under, spans, step_of, step_unless, steps_of}
-pub use Rattle.nit_host.specs.Terms.{table_size, told, told_words, touch_of, touched_by, touched_in}
-pub use Rattle.nit_host.specs.Terms.{touched_over, unless_for, unseated, unserved_call}
-pub use Rattle.nit_host.specs.Terms.{unserved_input, unserved_refresh, vacant_state, view_owns}
-pub use Rattle.nit_host.specs.Terms.{waiting_label, waiting_member, with_handed, word_from, word_of}
-pub use Rattle.nit_host.specs.Terms.{words_of, zeros}
+pub use Rattle.nit_host.specs.Terms.{place_at, plain_sight, planned, point, projection}
+pub use Rattle.nit_host.specs.Terms.{range_with_len, rectangle, rectangle_over, refreshed, refusal}
+pub use Rattle.nit_host.specs.Terms.{refused_plan, relabelled, reply_to, route, routed_as}
+pub use Rattle.nit_host.specs.Terms.{routed_of, scenery_of, seated, seats_of, seen, serve, session}
+pub use Rattle.nit_host.specs.Terms.{session_owns, set_where, sheet_at, sheet_in, sheets_of, shown}
+pub use Rattle.nit_host.specs.Terms.{shown_index, shows_part, shows_place, since_opening, size_at}
+pub use Rattle.nit_host.specs.Terms.{slice_index, source_at, source_of, source_under, spans}
+pub use Rattle.nit_host.specs.Terms.{step_of, step_unless, steps_of, table_size, told, told_words}
+pub use Rattle.nit_host.specs.Terms.{touch_of, touched_by, touched_in, touched_over, unless_for}
+pub use Rattle.nit_host.specs.Terms.{unseated, unserved_call, unserved_input, unserved_refresh}
+pub use Rattle.nit_host.specs.Terms.{vacant_state, view_owns, waiting_label, waiting_member}
+pub use Rattle.nit_host.specs.Terms.{with_handed, word_from, word_of, words_of, zeros}
 pub use Rattle.nit_journal.proofs.ForCallers.{refused_reply, serve_accepted, serve_refused}
 pub use Rattle.nit_overlay.proofs.ForCallers.{flat_shown, get_or-frame, length-frame, same_frame}
 pub use Rattle.nit_screen.proofs.ForCallers.{owns_none, unaccepted_state}
@@ -60,12 +59,13 @@ pub use Rattle.std.proofs.lemmas.Int.{ints}
 pub use Rattle.std.proofs.lemmas.List.{ext_get_or, get_or-replicate, get_or-set_same}
 pub use Rattle.std.proofs.lemmas.List.{get_or_append_left, get_or_default, get_or_past}
 pub use Rattle.std.proofs.lemmas.List.{length-append, length-map, length-take-le, map-append}
-pub use Rattle.std.proofs.lemmas.List.{map-set, set-get_or, set-set, take_all, take_at, take_more}
+pub use Rattle.std.proofs.lemmas.List.{map-set, set-get_or, set-set, set_past, take_all, take_at}
+pub use Rattle.std.proofs.lemmas.List.{take_more}
 pub use Rattle.std.proofs.lemmas.List.Folds.{find_at, list_any_at, list_any_none}
 pub use Rattle.std.proofs.lemmas.List.FromFn.{get_or-enumerate_from, get_or-map-range_with_len}
 pub use Rattle.std.proofs.lemmas.List.FromFn.{get_or-range_with_len, length-enumerate_from}
 pub use Rattle.std.proofs.lemmas.List.FromFn.{length-range_with_len}
-pub use Rattle.std.proofs.lemmas.List.Sums.{AllPass-from_list_all, passes_at_first}
+pub use Rattle.std.proofs.lemmas.List.Sums.{AllPass-from_list_all, fold-append, passes_at_first}
 pub use Rattle.std.proofs.lemmas.List.Sums.{position_or_len_is}
 pub use Rattle.std.proofs.lemmas.Nat.{div-add-mod', div-mul-add, mod-mul-add, mod_below, mul-add-lt}
 pub use Rattle.std.proofs.lemmas.Option.{get_or_from_slice_get, same_Some, slice_get-get_or}

@@ -1,22 +1,20 @@
 -- The sheets of a host before its first step.
 use Rattle.std.proofs.Common.{Option, List, None, [], ap, arith, get_or, length, refl, replicate}
-use Rattle.std.proofs.Common.{sym, false, slice_index, true, ℕ, ◌*◌, ◌++◌, ◌+◌, ◌<◌, ◌∙◌, ◌∷◌, ◌≡◌}
+use Rattle.std.proofs.Common.{sym, false, true, ℕ, ◌%◌, ◌*◌, ◌++◌, ◌+◌, ◌/◌, ◌<◌, ◌∙◌, ◌∷◌, ◌≡◌}
 use Rattle.std.proofs.Common.{◌≤◌}
 use Rattle.nit_host.proofs.Basics.{AreBlank, AreGlasses, AreHollow, AreSheets, Bare, Configuration}
 use Rattle.nit_host.proofs.Basics.{DesktopModel, IsFresh, IsHost, Member, Point, SheetModel, Sight}
 use Rattle.nit_host.proofs.Basics.{State, View, bar_rows, bare_word, blank_sheet, blank_sheets}
 use Rattle.nit_host.proofs.Basics.{buffer_size, cond_both, ext_get_or, first_host}
 use Rattle.nit_host.proofs.Basics.{get_or-append_seam, get_or-map, get_or-replicate}
-use Rattle.nit_host.proofs.Basics.{get_or_append_left, get_or_default, glass_in, in_bar}
-use Rattle.nit_host.proofs.Basics.{length-append, length-map, length-zeros, pixel, pixel_count}
-use Rattle.nit_host.proofs.Basics.{plain_sight, sheet_at, sheet_in, sheets_of, size_at, source_of}
-use Rattle.nit_host.proofs.Basics.{source_under, table_size, told_words, word_from, zeros}
-use Rattle.nit_host.proofs.SheetLists.{no_sheet, sight_at, sights, words_at}
+use Rattle.nit_host.proofs.Basics.{get_or_append_left, get_or_default, in_bar, length-append}
+use Rattle.nit_host.proofs.Basics.{length-map, length-zeros, pixel, pixel_count, sheet_at, sheet_in}
+use Rattle.nit_host.proofs.Basics.{sheets_of, size_at, source_of, source_under, table_size}
+use Rattle.nit_host.proofs.Basics.{told_words, zeros, Area, IsAreaOf, IsPlainOf, IsSeenBut}
+use Rattle.nit_host.proofs.Basics.{column_and_row, has_place}
+use Rattle.nit_host.proofs.SheetLists.{no_sheet, sight_at, words_at, blank_tells}
 use mathlib.Core.Logic.{dite}
 use native.Mathlib.Decide.{dec_lt}
-use Rattle.nit_host.proofs.Basics.{Area, IsAreaOf, IsPlainOf, IsSeenBut, has_place}
-use Rattle.nit_host.proofs.SheetLists.{blank_tells}
-use Rattle.nit_host.proofs.Looking.{nothing_seen}
 
 abbrev pub no_client : Member
 no_client = record { label = []; donation = 0; script = []; layer = 0; clicks = false }
@@ -32,14 +30,14 @@ pub record AreTo (P : ℕ → SheetModel → Type 0) (n : ℕ) (sheets : List Sh
 pub one_sheet : (P : ℕ → SheetModel → Type 0) (n : ℕ) (sheets : List SheetModel) (sheet : SheetModel)
     → AreTo P n sheets → P n sheet → AreTo P (n + 1) (sheets ++ sheet ∷ [])
 one_sheet P n sheets sheet are is = record {
-  count = length-append sheets (sheet ∷ []) ∙ ap (λ k. k + 1) are.count;
+  count = omega (arith, length-append sheets (sheet ∷ []), are.count);
   each = λ t below. dite (dec_lt t n)
       (λ inside. rw (get_or_append_left sheets (sheet ∷ []) no_sheet t (omega (arith, inside, are.count)))
       (are.each t inside))
       (λ past.
       let at : t ≡ n = omega arith in
-      let last : sheet_at (sheets ++ sheet ∷ []) n ≡ sheet = ap (sheet_at (sheets ++ sheet ∷ [])) (sym are.count)
-      ∙ get_or-append_seam sheets sheet [] no_sheet in
+      let last : sheet_at (sheets ++ sheet ∷ []) n ≡ sheet =
+      rw (← are.count) (get_or-append_seam sheets sheet [] no_sheet) in
       rw (at, last) is);
 }
 
@@ -115,8 +113,7 @@ bare_source s p bare = rw bare (cond_both (in_bar (bar_rows s.config) p) None No
 pub bare_fresh : (s : State) (tables : ℕ → List ℕ) (raw : List ℕ) → s.stack ≡ []
     → raw ≡ replicate (pixel_count s) bare_word → IsFresh s tables raw
 bare_fresh s tables raw bare is k inside =
-    ap (λ (ws : List ℕ). slice_index ws k) is ∙ get_or-replicate (pixel_count s) k bare_word 0 inside
-    ∙ sym (ap (word_from tables) (bare_source s (pixel s.config.width k) bare))
+    rw (is, bare_source s (pixel s.config.width k) bare) (get_or-replicate (pixel_count s) k bare_word 0 inside)
 
 -- ---- the host
 
@@ -135,7 +132,9 @@ begun d {s} {config} {sheets} are hollow is glasses raw configured bare a all on
         hollow = rw (is, configured) hollow;
         fresh = rw (is, glasses) (bare_fresh s (sheet_in (sheets_of sheets)) d.raw bare (rw configured raw));
       },
-      nothing_seen d.state config (sheets_of d.glasses) a same all,
+      λ k less.
+          let at = column_and_row config.width config.height k (rw same at less) in
+          rw same (all (k % config.width) (k / config.width) at.0 at.1),
       rw same on,
     )
 

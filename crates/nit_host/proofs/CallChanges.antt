@@ -1,19 +1,18 @@
 -- What of the frame a call changes.
 use Rattle.std.proofs.Common.{List, None, Option, Some, ap, false, length, refl, sym, true, ℕ, ◌%◌}
 use Rattle.std.proofs.Common.{◌/◌, ◌<◌, ◌∙◌, ◌≡◌}
-use Rattle.nit_host.proofs.Basics.{Answered, Area, Call, HoldsBoth, HoldsTouched, IsAreaOf}
-use Rattle.nit_host.proofs.Basics.{IsSeenBut, Mode, Reply, State, StaysOutside, Touch, View, after}
-use Rattle.nit_host.proofs.Basics.{after_accepted, and_left, and_parts, bar_rows, bar_word}
-use Rattle.nit_host.proofs.Basics.{column_and_row, cond_both, dirty, dirty_by_call}
-use Rattle.nit_host.proofs.Basics.{false_from_ne_true, false≢true, frame_by, in_bar}
-use Rattle.nit_host.proofs.Basics.{input_after_call, is_accepted, is_inside, layer, pixel}
-use Rattle.nit_host.proofs.Basics.{pixel_count, refusal, refused_reply, scenery_of, serve}
-use Rattle.nit_host.proofs.Basics.{serve_refused, session, sheet_in, source_at, touch_of}
-use Rattle.nit_host.proofs.Basics.{touched_by, touched_in, touched_over, unaccepted_state}
-use Rattle.nit_host.proofs.Basics.{word_from}
+use Rattle.nit_host.proofs.Basics.{Area, Call, HoldsBoth, HoldsTouched, IsAreaOf, IsSeenBut, Mode}
+use Rattle.nit_host.proofs.Basics.{Reply, State, StaysOutside, Touch, View, after, after_accepted}
+use Rattle.nit_host.proofs.Basics.{and_left, and_parts, bar_rows, bar_word, column_and_row}
+use Rattle.nit_host.proofs.Basics.{cond_both, dirty, dirty_by_call, false_from_ne_true, false≢true}
+use Rattle.nit_host.proofs.Basics.{frame_by, in_bar, input_after_call, is_accepted, is_inside}
+use Rattle.nit_host.proofs.Basics.{layer, pixel, pixel_count, refusal, refused_reply, scenery_of}
+use Rattle.nit_host.proofs.Basics.{serve, serve_refused, session, sheet_in, source_at, touch_of}
+use Rattle.nit_host.proofs.Basics.{touched_by, touched_over, unaccepted_state, word_from}
 use Rattle.nit_events.specs.declared.call.Call.TheVariants as call
 use Rattle.nit_events.specs.declared.device.Mode.TheVariants as mode
 use Rattle.nit_events.specs.declared.entry.Entry.TheVariants as entry
+use Rattle.nit_host.specs.Touch.{touched_unless}
 use Rattle.nit_journal.specs.StackAfter.{stack_after_call}
 use Rattle.nit_host.proofs.Steps.{KeepSources, Words}
 use Rattle.nit_host.proofs.Touching.{call_inside, touched_more}
@@ -55,15 +54,13 @@ module _ (s : State) (seat : ℕ) (r : Reply) (sheets sheets' : List (List ℕ))
       → dirty s (entry.Call seat c r) (behind c) (pixel s.config.width k) ≡ false
       → word_from (sheet_in sheets) (source_at s k) ≡ word_from (sheet_in sheets') (source_at (behind c) k)
   clean_stays c kept k clean =
-      ap (word_from (sheet_in sheets)) (sym (keep s 0 (entry.Call seat c r) (pixel s.config.width k) (inside, kept.0)
-      clean)) ∙ kept.1 k clean
+      rw (← keep s 0 (entry.Call seat c r) (pixel s.config.width k) (inside, kept.0) clean) (kept.1 k clean)
 
   -- a refused call
   refused_stays : (c : Call) (why : Reply) → refusal (session s seat) c ≡ Some why → Keeps c → Stays c
   refused_stays c why is kept k less off =
       let no_ : is_accepted r ≡ false =
-      ap is_accepted (kept.0 ∙ ap (λ (x : Answered). x.reply) (serve_refused (session s seat) c why is))
-      ∙ refused_reply (session s seat) c why is in
+      rw (kept.0, serve_refused (session s seat) c why is) (refused_reply (session s seat) c why is) in
       same_pixel s (behind c) sheets sheets' a refl refl refl k less
       (ap scenery_of (unaccepted_state s seat c r kept.0 no_))
       (clean_stays c kept k (and_left (is_accepted r) _ no_))
@@ -102,21 +99,18 @@ module _ (s : State) (seat : ℕ) (r : Reply) (sheets sheets' : List (List ℕ))
   over_stays call.Take kept holds = steady_stays call.Take refl refl kept holds
   over_stays (call.Upgrade n) kept holds = steady_stays (call.Upgrade n) refl refl kept holds
   over_stays other kept holds =
-      whole_stays s.config.width s.config.height a (frame_by s sheets) (frame_by (behind other) sheets')
-      (λ x y wide high. holds.0.bare x y wide high refl)
-
-  accepted_stays : (c : Call) (m : Mode) → s.input.mode ≡ m → Keeps c → Holds (touched_in m c) c → Stays c
-  accepted_stays c mode.Flat is kept holds =
-      flat_stays s (behind c) sheets sheets' a refl refl refl is (call_mode seat c r s ∙ is)
-      (λ k less off. clean_stays c kept k (clean_outside c holds k less off)) (bar_stays c holds)
-  accepted_stays c other is kept holds = over_stays c kept holds
+      whole_stays _ _ a _ _ (λ x y wide high. holds.0.bare x y wide high refl)
 
   pub call_stays : (c : Call) → Keeps c → Holds (touch_of s seat c) c → Stays c
-  call_stays c kept holds = go (refusal (session s seat) c) refl
+  call_stays c kept holds = go (refusal (session s seat) c) s.input.mode refl refl holds
     where
-      go : (o : Option Reply) → refusal (session s seat) c ≡ o → Stays c
-      go None is = accepted_stays c s.input.mode refl kept (rw is at holds)
-      go (Some why) is = refused_stays c why is kept
+      go : (o : Option Reply) (m : Mode) → refusal (session s seat) c ≡ o → s.input.mode ≡ m
+          → Holds (touched_unless o m c) c → Stays c
+      go (Some why) m is mode_is holds = refused_stays c why is kept
+      go None mode.Flat is flat holds =
+          flat_stays s (behind c) sheets sheets' a refl refl refl flat (call_mode seat c r s ∙ flat)
+          (λ k less off. clean_stays c kept k (clean_outside c holds k less off)) (bar_stays c holds)
+      go None other is mode_is holds = over_stays c kept holds
 
 -- what a call left of what was seen, and the area of what has changed since
 pub seen_called : {s s' : State} {seat : ℕ} (c : Call) {r : Reply} (sheets sheets' : List (List ℕ)) {t : Touch}

@@ -1,5 +1,5 @@
 -- Who gets the focus by an act.
-use Rattle.std.proofs.Common.{None, Option, Some, inl, inr, subst, sym, true, ℕ, ◌⊎◌, ◌∙◌, ◌≡◌}
+use Rattle.std.proofs.Common.{None, Option, Some, inl, inr, sym, true, ℕ, ◌⊎◌, ◌∙◌, ◌≡◌}
 use Rattle.nit_events.specs.declared.call.Call.TheVariants as call
 use Rattle.nit_events.specs.declared.entry.Entry.TheVariants as entry
 use Rattle.nit_host.proofs.Basics.{Act, Call, Calls, Comes, Device, Does, HostModel, IsClickAt}
@@ -20,9 +20,6 @@ pub record FocusLaws : Type 0 where
       → (after s (entry.Input dev routed)).input.focus ≡ Some x
       → (s.input.focus ≡ Some x) ⊎ IsClickAt s dev x
 
-never : {A : Type 0} (x : ℕ) → ◌≡◌ {A = Option ℕ} None (Some x) → A
-never x e = cc
-
 -- a step that there is a reason against gives nobody the focus
 by_reason : {A Q : Type 0} (o : Option A) (served h : HostModel) (x : ℕ)
     → (served.state.input.focus ≡ Some x → (h.state.input.focus ≡ Some x) ⊎ Q)
@@ -36,8 +33,10 @@ module _ (laws : FocusLaws) where
   by_call s seat c r x is =
       elim (laws.calls s seat c r) [
         | inl e ↦ sym e ∙ is
-        | inr gone ↦ never x (sym (laws.closed s seat r gone.1 gone.2)
-            ∙ subst (λ (k : Call). (after s (entry.Call seat k r)).input.focus ≡ Some x) gone.0 is)
+        | inr gone ↦
+            let wrong : ◌≡◌ {A = Option ℕ} None (Some x) = sym (laws.closed s seat r gone.1 gone.2)
+            ∙ (rw gone.0 at is) in
+            cc
       ]
 
   pub by_act : (h : HostModel) (act : Act) (x : ℕ) → (after_act h act).state.input.focus ≡ Some x
@@ -49,7 +48,7 @@ module _ (laws : FocusLaws) where
       by_reason (unserved_refresh h seat words) (refreshed seat left top w height words h) h x
       (λ e. inl (by_call h.state seat (call.Refresh left top w height)
       (reply_to h seat (call.Refresh left top w height)) x
-      (subst (λ (s : State). s.input.focus ≡ Some x) (same_call h seat left top w height words) e))) is
+      (rw (same_call h seat left top w height words) at e))) is
   by_act h (Does dev) x is =
       by_reason (unserved_input h dev) (told dev h) h x (λ e. laws.clicks h.state dev (routed_of h dev) x e) is
   by_act h (Comes seat label) x is =

@@ -7,7 +7,7 @@ use Rattle.nit_host.proofs.Basics.{eq-eqb, false_from_ne_true, false≢true, fin
 use Rattle.nit_host.proofs.Basics.{get_or-range_with_len, has_label, is_label_taken, is_taken}
 use Rattle.nit_host.proofs.Basics.{length-range_with_len, list_any_at, list_any_none, member}
 use Rattle.nit_host.proofs.Basics.{nat_tests, ne_eqb, position_or_len_is, range_with_len, seats_of}
-use Rattle.nit_host.proofs.Basics.{slice_get-get_or, slice_get_past, true_from_ne_false, unseated}
+use Rattle.nit_host.proofs.Basics.{slice_get-get_or, slice_get_past, unseated}
 use Rattle.nit_host.specs.declared.refusal.Unseated.TheVariants as why
 
 -- ---- the first of so many numbers
@@ -65,15 +65,10 @@ pub free_of : (s : State) (seat : ℕ) (label : List ℕ) → length s.sessions 
 free_of s seat label long none t inside other same =
     let within : t < length s.sessions = omega (arith, inside, long) in
     let numbered : t < length (seats_of s) = omega (arith, within, length-range_with_len 0 (length s.sessions)) in
-    let here : other_has s seat label t ≡ true = ap (λ (b : Bool). not b && has_label s label t) (ne_eqb t seat other)
-    ∙ (bytes_eq-Decides (member s.config t).label label).1 same in
+    let here : other_has s seat label t ≡ true =
+    rw (ne_eqb t seat other) ((bytes_eq-Decides (member s.config t).label label).1 same) in
     false≢true (sym none ∙ list_any_at (other_has s seat label) (seats_of s) t 0 numbered
     (ap (other_has s seat label) (in_order (length s.sessions) t 0 within) ∙ here))
-
-pub taken_unless_free : (s : State) (seat : ℕ) (label : List ℕ) → length s.sessions ≡ length s.config.clients
-    → (IsFreeLabel s.config seat label → ⊥) → is_label_taken s seat label ≡ true
-taken_unless_free s seat label long not_free =
-    true_from_ne_false (is_label_taken s seat label) (λ off. not_free (free_of s seat label long off))
 
 pub label_decides : (h : HostModel) (seat : ℕ) (label : List ℕ) (b : Bool) → seat < length h.state.sessions
     → is_taken h.state seat ≡ false → is_label_taken h.state seat label ≡ b

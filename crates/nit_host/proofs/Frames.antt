@@ -39,8 +39,7 @@ flat_pixel s sheets k less flat below =
 bar_pixel : (s : State) (sheets : List (List ℕ)) (k : ℕ) → k < pixel_count s
     → in_bar (bar_rows s.config) (pixel s.config.width k) ≡ true
     → slice_index (frame_by s sheets) k ≡ bar_word (scenery_of s) (pixel s.config.width k)
-bar_pixel s sheets k less inside =
-    frame_pixel s sheets k less ∙ rw inside refl
+bar_pixel s sheets k less inside = frame_pixel s sheets k less ∙ rw inside refl
 
 -- ---- all pixels outside of an area
 

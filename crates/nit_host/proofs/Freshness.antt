@@ -2,9 +2,9 @@
 use Rattle.std.proofs.Common.{List, inl, inr, ap, arith, false, length, slice_index, sym, ℕ, ◌<◌}
 use Rattle.std.proofs.Common.{◌==◌, ◌∙◌, ◌≡◌}
 use Rattle.nit_host.proofs.Basics.{AreSheets, Bare, Black, Configuration, Entry, IsFresh, IsLoaded}
-use Rattle.nit_host.proofs.Basics.{IsWordOfSource, Painted, PixelSource, SheetModel, Sight, State}
+use Rattle.nit_host.proofs.Basics.{IsWordOfSource, Painted, PixelSource, SheetModel, State}
 use Rattle.nit_host.proofs.Basics.{Word, cases_Bool, dirty, eqb-true, false≢true, frame}
-use Rattle.nit_host.proofs.Basics.{get_or-map-range_with_len, get_or_past, glass_in, no_sight}
+use Rattle.nit_host.proofs.Basics.{get_or-map-range_with_len, get_or_past, glass_in}
 use Rattle.nit_host.proofs.Basics.{pixel, pixel_count, same_frame, scenery_of, sheet_at, sheet_in}
 use Rattle.nit_host.proofs.Basics.{sheets_of, source_at, true_from_ne_false, word_from, words_of}
 use Rattle.nit_host.proofs.SheetLists.{no_sheet, sight_at, sights, words_at}
@@ -12,11 +12,6 @@ use mathlib.Core.Logic.{dite}
 use native.Mathlib.Decide.{dec_lt}
 
 -- ---- what is loaded is what the sheets tell
-
-none_told : (sight : Sight) (i w : ℕ) → sight ≡ no_sight → IsLoaded sight i w → w ≡ 0
-none_told sight i w is loaded =
-    let inked = (rw is at loaded).inked in
-    eqb-true w 0 (true_from_ne_false (w == 0) (λ off. false≢true (rw off at inked)))
 
 pub sheet_told : (config : Configuration) (sheets : List SheetModel) (t i w : ℕ) → AreSheets config sheets
     → IsLoaded (glass_in (sights sheets) t) i w → w ≡ slice_index (sheet_in (sheets_of sheets) t) i
@@ -27,7 +22,8 @@ sheet_told config sheets t i w are loaded =
     (λ inside. (rw (are.plain t inside).0 at there).told)
     (λ behind.
     let none : sheet_at sheets t ≡ no_sheet = get_or_past sheets t no_sheet (omega (arith, are.count)) in
-    rw none (none_told (sheet_at sheets t).sight i w (ap (λ (g : SheetModel). g.sight) none) there)))
+    let inked = (rw none at there).inked in
+    rw none (eqb-true w 0 (true_from_ne_false (w == 0) (λ off. false≢true (rw off at inked))))))
 
 -- a pixel that was loaded again
 source_told : (config : Configuration) (sheets : List SheetModel) (x : PixelSource) (w : ℕ) → AreSheets config sheets

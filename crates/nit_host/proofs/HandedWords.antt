@@ -1,17 +1,17 @@
 -- Words that a client hands in, by their columns and rows.
-use Rattle.std.proofs.Common.{Bool, List, None, Option, Some, [], ap, arith, cond, false}
-use Rattle.std.proofs.Common.{get_or-set_other, get_or-set_same, inl, inr, length, nat_lt, pos}
-use Rattle.std.proofs.Common.{refl, set, slice_index, sym, true, ℕ, ℤ, ◌%◌, ◌*◌, ◌+◌, ◌/◌, ◌<◌, ◌^◌}
-use Rattle.std.proofs.Common.{◌∙◌, ◌≡◌, ◌≢◌, ◌≤◌}
+use Rattle.std.proofs.Common.{Bool, List, None, Option, Some, [], ap, arith, false}
+use Rattle.std.proofs.Common.{get_or-set_other, get_or-set_same, inl, inr, length, refl, set}
+use Rattle.std.proofs.Common.{slice_index, sym, true, ℕ, ℤ, ◌%◌, ◌*◌, ◌+◌, ◌/◌, ◌<◌, ◌^◌, ◌∙◌, ◌≡◌}
+use Rattle.std.proofs.Common.{◌≢◌, ◌≤◌}
 use Rattle.nit_host.proofs.Basics.{Call, Calls, Comes, Device, Does, HostModel, IsInPart, Rectangle}
-use Rattle.nit_host.proofs.Basics.{Refreshes, Session, after_act, and_from, and_parts, called}
-use Rattle.nit_host.proofs.Basics.{cases_eq, column_and_row, cond_both, covers, div-add-mod'}
-use Rattle.nit_host.proofs.Basics.{div-mul-add, donation_of, false_from_ne_true, get_or_past}
-use Rattle.nit_host.proofs.Basics.{handed, ints, is_accepted, is_handed, length-set, low_bytes}
-use Rattle.nit_host.proofs.Basics.{mod-mul-add, mul-add-lt, nat_tests, pixel, rectangle, refreshed}
-use Rattle.nit_host.proofs.Basics.{reply_to, seated, session, set_long, set_where, sheet_in, spans}
-use Rattle.nit_host.proofs.Basics.{table_size, unless_for, unseated, unserved_call, unserved_input}
-use Rattle.nit_host.proofs.Basics.{unserved_refresh, with_handed, word_at, word_of, zero_at, zeros}
+use Rattle.nit_host.proofs.Basics.{Refreshes, Session, after_act, called, cases_eq, column_and_row}
+use Rattle.nit_host.proofs.Basics.{cond_both, div-add-mod', div-mul-add, donation_of}
+use Rattle.nit_host.proofs.Basics.{false_from_ne_true, get_or_past, handed, ints, is_accepted}
+use Rattle.nit_host.proofs.Basics.{is_handed, length-set, low_bytes, mod-mul-add, mul-add-lt}
+use Rattle.nit_host.proofs.Basics.{nat_tests, rectangle, refreshed, reply_to, seated, session}
+use Rattle.nit_host.proofs.Basics.{set_long, set_where, sheet_in, set_past, table_size, unless_for}
+use Rattle.nit_host.proofs.Basics.{unseated, unserved_call, unserved_input, unserved_refresh}
+use Rattle.nit_host.proofs.Basics.{with_handed, word_at, word_of, zero_at, zeros}
 use Rattle.nit_events.specs.declared.call.Call.TheVariants as call
 use mathlib.Core.Logic.{dite}
 use native.Mathlib.Decide.{dec_lt}
@@ -21,45 +21,25 @@ use native.Mathlib.Decide.{dec_lt}
 pub in_part : (s : Session) (x y : ℤ) (w height i j : ℕ) → IsInPart s x y w height i j
     → is_handed s.bw s.bh (rectangle x y w height) (j * s.bw + i) ≡ true
 in_part s x y w height i j is =
-    let before : j * s.bw + i < s.bw * s.bh = mul-add-lt j s.bw i s.bh is.row is.column in
-    let test : nat_lt (j * s.bw + i) (s.bw * s.bh) ≡ true = grind (arith, nat_tests) in
-    let low = is.left in let high = is.right in let above = is.top in let below = is.bottom in
-    let across : spans x w (pos i) ≡ true = grind (arith, nat_tests, ints) in
-    let down : spans y height (pos j) ≡ true = grind (arith, nat_tests, ints) in
-    and_from _ _ test (and_from _ _
-    (ap (λ (n : ℕ). spans x w (pos n)) (mod-mul-add j s.bw i is.column) ∙ across)
-    (ap (λ (n : ℕ). spans y height (pos n)) (div-mul-add j s.bw i is.column) ∙ down))
+    let before = mul-add-lt j s.bw i s.bh is.row is.column in
+    let across = mod-mul-add j s.bw i is.column in
+    let down = div-mul-add j s.bw i is.column in
+    grind (arith, nat_tests, ints, before, across, down, is.left, is.right, is.top, is.bottom)
 
 pub part_in : (s : Session) (x y : ℤ) (w height n : ℕ) → is_handed s.bw s.bh (rectangle x y w height) n ≡ true
     → IsInPart s x y w height (n % s.bw) (n / s.bw)
 part_in s x y w height n is =
-    let two = and_parts (nat_lt n (s.bw * s.bh)) (covers (rectangle x y w height) (pixel s.bw n)) is in
-    let sides = and_parts (spans x w (pos (n % s.bw))) (spans y height (pos (n / s.bw))) two.1 in
-    let before : n < s.bw * s.bh = (let test = two.0 in grind (arith, nat_tests)) in
-    let at = column_and_row s.bw s.bh n before in
-    let across = sides.0 in
-    let down = sides.1 in
+    let at = column_and_row s.bw s.bh n (grind (arith, nat_tests, is)) in
     record {
       column = at.0;
       row = at.1;
-      left = grind (arith, nat_tests, ints);
-      right = grind (arith, nat_tests, ints);
-      top = grind (arith, nat_tests, ints);
-      bottom = grind (arith, nat_tests, ints);
+      left = grind (arith, nat_tests, ints, is);
+      right = grind (arith, nat_tests, ints, is);
+      top = grind (arith, nat_tests, ints, is);
+      bottom = grind (arith, nat_tests, ints, is);
     }
 
-pub not_handed : (s : Session) (x y : ℤ) (w height n : ℕ)
-    → ((i j : ℕ) → IsInPart s x y w height i j → n ≢ j * s.bw + i)
-    → is_handed s.bw s.bh (rectangle x y w height) n ≡ false
-not_handed s x y w height n none =
-    false_from_ne_true (is_handed s.bw s.bh (rectangle x y w height) n)
-    (λ is. none (n % s.bw) (n / s.bw) (part_in s x y w height n is) (omega (arith, div-add-mod' n s.bw)))
-
 -- ---- one word of a list
-
-pub set_here : (p : ℕ → Bool) (c : ℕ → ℕ) (words : List ℕ) (n : ℕ) → n < length words → p n ≡ true
-    → slice_index (set_where p c words) n ≡ c n
-set_here p c words n inside is = word_at p c words n inside ∙ rw is refl
 
 pub not_here : (p : ℕ → Bool) (c : ℕ → ℕ) (words : List ℕ) (n : ℕ) → p n ≡ false
     → slice_index (set_where p c words) n ≡ slice_index words n
@@ -78,12 +58,8 @@ word_elsewhere sheets seat t n now same =
       | inl e ↦
           dite (dec_lt seat (length sheets))
           (λ inside. rw (e, get_or-set_same sheets seat now [] inside) (same e))
-          (λ behind.
-          let long = length-set sheets seat now in
-          ap (λ (ws : List ℕ). slice_index ws n)
-          (get_or_past (set sheets seat now) t [] (omega (arith, e, long, behind))
-          ∙ sym (get_or_past sheets t [] (omega (arith, e, behind)))))
-      | inr other ↦ ap (λ (ws : List ℕ). slice_index ws n) (get_or-set_other sheets seat t now [] other)
+          (λ behind. rw (set_past sheets seat now (omega (arith, behind))) refl)
+      | inr other ↦ rw (get_or-set_other sheets seat t now [] other) refl
     ]
 
 -- what holds of the host as it is served, and as it was, holds of the host behind an act
@@ -108,18 +84,14 @@ module _ (h : HostModel) (seat : ℕ) (x y : ℤ) (w height : ℕ) (words : List
   abbrev asked : Call
   asked = call.Refresh x y w height
 
-  abbrev refreshed_if : Bool → HostModel
-  refreshed_if b = cond b (called seat asked (with_handed seat part words h)) (called seat asked h)
-
   pub handed_word : (i j : ℕ) → unserved_refresh h seat words ≡ None → is_accepted (reply_to h seat asked) ≡ true
       → s.bw * s.bh ≤ length (sheet_in h.sheets seat) → IsInPart s x y w height i j
       → word_of (after_act h (Refreshes seat x y w height words)) seat (j * s.bw + i)
       ≡ slice_index words (j * s.bw + i) % 2 ^ 24
   handed_word i j none accepted fits is =
-      rw (none, accepted) (ap (λ (ws : List ℕ). slice_index ws (j * s.bw + i))
-      (get_or-set_same h.sheets seat (handed s part words (sheet_in h.sheets seat)) [] inside)
-      ∙ set_here (is_handed s.bw s.bh part) (low_bytes words) (sheet_in h.sheets seat) (j * s.bw + i)
-      (omega (arith, before, fits)) (in_part s x y w height i j is))
+      rw (none, accepted, get_or-set_same h.sheets seat (handed s part words (sheet_in h.sheets seat)) [] inside)
+      (word_at (is_handed s.bw s.bh part) (low_bytes words) (sheet_in h.sheets seat) (j * s.bw + i)
+      (omega (arith, before, fits)) ∙ rw (in_part s x y w height i j is) refl)
     where
       before : j * s.bw + i < s.bw * s.bh
       before = mul-add-lt j s.bw i s.bh is.row is.column
@@ -138,12 +110,13 @@ module _ (h : HostModel) (seat : ℕ) (x y : ℤ) (w height : ℕ) (words : List
       (called seat asked (with_handed seat part words h)) (called seat asked h) (λ m. word_of m t n ≡ word_of h t n)
       (λ _. word_elsewhere h.sheets seat t n (handed s part words (sheet_in h.sheets seat))
       (λ e. not_here (is_handed s.bw s.bh part) (low_bytes words) (sheet_in h.sheets seat) n
-      (not_handed s x y w height n (none e)))) (λ _. refl)) refl
+      (false_from_ne_true (is_handed s.bw s.bh part n) (λ is. none e (n % s.bw) (n / s.bw)
+      (part_in s x y w height n is) (omega (arith, div-add-mod' n s.bw)))))) (λ _. refl)) refl
 
   pub refused_words : is_accepted (reply_to h seat asked) ≡ false
       → (after_act h (Refreshes seat x y w height words)).sheets ≡ h.sheets
   refused_words refused = same_sheets_for (unserved_refresh h seat words) (refreshed seat x y w height words h) h
-      (ap (λ (b : Bool). (refreshed_if b).sheets) refused)
+      (rw refused refl)
 
 -- ---- what is no refresh
 
@@ -159,16 +132,16 @@ pub come_word : (h : HostModel) (seat : ℕ) (label : List ℕ) (n : ℕ) → un
     → word_of (after_act h (Comes seat label)) seat n ≡ 0
 come_word h seat label n none =
     rw none (dite (dec_lt seat (length h.sheets))
-    (λ inside. ap (λ (ws : List ℕ). slice_index ws n) (get_or-set_same h.sheets seat blank [] inside)
-    ∙ zero_at (table_size (donation_of h.state.config seat)) n)
-    (λ behind. ap (λ (ws : List ℕ). slice_index ws n)
-    (get_or_past (set h.sheets seat blank) seat [] (omega (arith, length-set h.sheets seat blank, behind)))))
+    (λ inside. rw (get_or-set_same h.sheets seat blank [] inside)
+    (zero_at (table_size (donation_of h.state.config seat)) n))
+    (λ behind. rw (get_or_past (set h.sheets seat blank) seat []
+    (omega (arith, length-set h.sheets seat blank, behind))) refl))
   where
     blank : List ℕ
     blank = zeros (table_size (donation_of h.state.config seat))
 
 pub stay_word : (h : HostModel) (seat : ℕ) (label : List ℕ) (t n : ℕ) → t ≢ seat
     → word_of (after_act h (Comes seat label)) t n ≡ word_of h t n
-stay_word h seat label t n other = kept_for (unseated h seat label) (seated seat label h) h
-    (λ m. word_of m t n ≡ word_of h t n) (ap (λ (ws : List ℕ). slice_index ws n)
-    (get_or-set_other h.sheets seat t (zeros (table_size (donation_of h.state.config seat))) [] other)) refl
+stay_word h seat label t n other =
+    kept_for (unseated h seat label) (seated seat label h) h (λ m. word_of m t n ≡ word_of h t n)
+    (word_elsewhere h.sheets seat t n _ (λ e. absurd (other e))) refl

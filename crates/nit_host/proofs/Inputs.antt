@@ -3,9 +3,9 @@ use Rattle.std.proofs.Common.{List, Option, Some, ap, refl, ℕ, ◌-◌, ◌∙
 use Rattle.nit_events.specs.declared.entry.Entry.TheVariants as entry
 use Rattle.nit_host.proofs.Basics.{DesktopModel, Device, Entry, HostModel, IsHost, Painted, Routed}
 use Rattle.nit_host.proofs.Basics.{SheetModel, State, after, glass_in, pixel, route, routed_as}
-use Rattle.nit_host.proofs.Basics.{routed_of, sheet_in, sheets_of, told}
+use Rattle.nit_host.proofs.Basics.{Sight, routed_of, sheet_in, sheets_of, told}
 use Rattle.nit_host.proofs.Freshness.{fresh_after}
-use Rattle.nit_host.proofs.SheetLists.{quiet_sheets, rooms, seen_sheets, sights}
+use Rattle.nit_host.proofs.SheetLists.{quiet_sheets, rooms, not_seen, same_sheets, sight_at, sights}
 use Rattle.nit_host.proofs.Steps.{KeepSources, host_model}
 
 -- what a device event left of a host
@@ -23,7 +23,9 @@ module _ {d : DesktopModel SheetModel} (d2 : DesktopModel SheetModel) {hollows :
     (glass_in (sights d2.glasses)) d.raw d2.raw) (rests : rooms d2.glasses ≡ rooms d.glasses) (keep : KeepSources)
   where
     stay : d2.glasses ≡ d.glasses
-    stay = seen_sheets d.glasses d2.glasses (quiet_sheets host.sheets) (λ t. (painted.loads t, painted.sights t)) rests
+    stay = same_sheets d2.glasses d.glasses (λ t. painted.sights t
+        ∙ not_seen (glass_in (sights d.glasses) t) (painted.loads t)
+        (ap (λ (g : Sight). g.log) (sight_at d.glasses t) ∙ quiet_sheets host.sheets t)) rests
 
     config_stays : d2.state.config ≡ d.state.config
     config_stays = ap (λ (s : State). s.config) state

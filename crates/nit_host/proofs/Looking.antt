@@ -1,23 +1,17 @@
 -- A look at what can have changed.
-use Rattle.std.proofs.Common.{List, None, Option, Some, ap, arith, false, inl, inr, length}
-use Rattle.std.proofs.Common.{slice_index, sym, true, pos, ℕ, ◌%◌, ◌&&◌, ◌+◌, ◌-◌, ◌/◌, ◌<◌, ◌∙◌}
-use Rattle.std.proofs.Common.{◌≡◌, ◌≤◌}
-use Rattle.nit_host.proofs.Basics.{AgreeOutside, Area, Configuration, IsAreaOf, IsOneOf, IsSeenBut}
-use Rattle.nit_host.proofs.Basics.{State, cases_lt, column_and_row, covers, false≢true, frame_by}
-use Rattle.nit_host.proofs.Basics.{get_or_past, has_place, is_between, is_inside, length-frame}
+use Rattle.std.proofs.Common.{List, None, Option, Some, ap, arith, false, inl, inr, length, refl}
+use Rattle.std.proofs.Common.{slice_index, sym, ℕ, ◌%◌, ◌&&◌, ◌+◌, ◌-◌, ◌/◌, ◌<◌, ◌∙◌, ◌≡◌}
+use Rattle.nit_host.proofs.Basics.{AgreeOutside, Area, IsAreaOf, IsOneOf, IsSeenBut}
+use Rattle.nit_host.proofs.Basics.{State, cases_lt, covers, false≢true, frame_by}
+use Rattle.nit_host.proofs.Basics.{get_or_past, is_between, is_inside, length-frame}
 use Rattle.nit_host.proofs.Basics.{picture_from, pixel_count, place_at, rectangle_over, scenery_of}
-use Rattle.nit_host.proofs.Basics.{spans}
-
--- the places of an area's columns or rows
-spans_between : (from to n : ℕ) → from ≤ to → spans (pos from) (to - from) (pos n) ≡ is_between from to n
-spans_between from to n order =
-    let same : from + (to - from) ≡ to = omega arith in
-    ap (λ (m : ℕ). is_between from m n) same
 
 pub covers_inside : (width height k : ℕ) (a : Area) → IsAreaOf width height a
     → covers (rectangle_over a) (place_at width k) ≡ is_inside width a k
 covers_inside width height k a on =
-    λ i. spans_between a.left a.right (k % width) on.across i && spans_between a.top a.bottom (k / width) on.down i
+    let wide : a.left + (a.right - a.left) ≡ a.right = omega (arith, on.across) in
+    let high : a.top + (a.bottom - a.top) ≡ a.bottom = omega (arith, on.down) in
+    λ i. is_between a.left (wide i) (k % width) && is_between a.top (high i) (k / width)
 
 pub agree_outside : (s : State) (sheets : List (List ℕ)) (a : Area) (seen : Option (List ℕ)) (out : List ℕ)
     → IsAreaOf s.config.width s.config.height a → IsSeenBut s sheets a seen → IsOneOf seen out
@@ -42,13 +36,5 @@ agree_outside s sheets a seen out on known one long k off =
 pub seen_now : (s : State) (sheets : List (List ℕ)) (a : Area) → IsSeenBut s sheets a (Some (frame_by s sheets))
 seen_now s sheets a = (
   length-frame (scenery_of s) (picture_from s sheets),
-  λ k less off. λ i. slice_index
-      (frame_by s sheets) k,
+  λ k less off. refl,
 )
-
--- before the first look
-pub nothing_seen : (s : State) (config : Configuration) (sheets : List (List ℕ)) (a : Area) → s.config ≡ config
-    → ((x y : ℕ) → x < config.width → y < config.height → has_place a x y ≡ true) → IsSeenBut s sheets a None
-nothing_seen s config sheets a is all k less =
-    let at = column_and_row config.width config.height k (rw is at less) in
-    rw is (all (k % config.width) (k / config.width) at.0 at.1)

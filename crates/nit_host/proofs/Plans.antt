@@ -1,8 +1,8 @@
 -- The configuration of a plan that is not refused.
 use Rattle.std.proofs.Common.{Bool, List, None, [], ap, arith, false, get_or, length, map, nat_le}
-use Rattle.std.proofs.Common.{not, refl, rules, subst, sym, take, true, ℕ, ◌++◌, ◌+◌, ◌<◌, ◌||◌}
+use Rattle.std.proofs.Common.{not, refl, rules, sym, take, true, ℕ, ◌++◌, ◌+◌, ◌<◌, ◌||◌}
 use Rattle.std.proofs.Common.{◌∙◌, ◌∷◌, ◌≡◌, ◌≢◌, ◌≤◌, IsTrue}
-use Rattle.nit_host.proofs.Basics.{AllPass-from_list_all, IsConfiguration, IsMember, Member}
+use Rattle.nit_host.proofs.Basics.{AllPass-from_list_all, IsConfiguration, Member}
 use Rattle.nit_host.proofs.Basics.{SeatPlan, and_parts, enumerate_from, false≢true}
 use Rattle.nit_host.proofs.Basics.{get_or-enumerate_from, get_or-map, get_or_default, hex_digit}
 use Rattle.nit_host.proofs.Basics.{is_label, is_screen, is_within, length-enumerate_from}
@@ -17,8 +17,7 @@ numbered_joined : {A : Type 0} (from : ℕ) (xs : List A) (x : A) → enumerate_
 numbered_joined from [] x = let e : from ≡ from + 0 = omega arith in ap (λ (n : ℕ). (n, x) ∷ []) e
 numbered_joined from (y ∷ ys) x =
     let e : from + 1 + length ys ≡ from + length (y ∷ ys) = omega arith in
-    ap (λ rest. (from, y) ∷ rest) (numbered_joined (from + 1) ys x
-    ∙ ap (λ (n : ℕ). enumerate_from (from + 1) ys ++ (n, x) ∷ []) e)
+    rw (numbered_joined (from + 1) ys x, e) refl
 
 pub one_more : {A B : Type 0} (f : ℕ → A → B) (xs : List A) (i : ℕ) (x d : A) (made : List B) (b : B) → i < length xs
     → x ≡ get_or xs i d → made ≡ map (λ p. f p.0 p.1) (enumerate_from 0 (take i xs)) → b ≡ f i x
@@ -37,15 +36,6 @@ pub record IsPlan (width height : ℕ) (bar : Bool) (seats : List SeatPlan) : Ty
   pub donations : list_all (λ s. is_within 256 8388608 s.donation) seats ≡ true
   pub layers : list_all (λ s. nat_le s.layer 7) seats ≡ true
 
-pub is_plan : (width height : ℕ) (bar : Bool) (seats : List SeatPlan) → refused_plan width height bar seats ≡ None
-    → IsPlan width height bar seats
-is_plan width height bar seats none =
-    let a = passed _ _ _ none in
-    let b = passed _ _ _ a.1 in
-    let c = passed _ _ _ b.1 in
-    let d = passed _ _ _ c.1 in
-    record { screen = a.0; count = b.0; donations = c.0; layers = d.0 }
-
 within : (first last n : ℕ) → is_within first last n ≡ true → (first ≤ n) × (n ≤ last)
 within first last n is = (grind (arith, nat_tests), grind (arith, nat_tests))
 
@@ -55,11 +45,10 @@ within first last n is = (grind (arith, nat_tests), grind (arith, nat_tests))
 pub hex_label : (n : ℕ) → n < 16 → IsTrue (is_label (waiting_label n))
 hex_label n few = search rules
 
-digits_differ : (i j : ℕ) → i < j → j < 16 → hex_digit i ≢ hex_digit j
-digits_differ i j less few same = grind (arith, nat_tests)
-
 labels_differ : (i j : ℕ) → i < j → j < 16 → waiting_label i ≢ waiting_label j
-labels_differ i j less few same = digits_differ i j less few (ap (λ (xs : List ℕ). get_or xs 1 0) same)
+labels_differ i j less few same =
+    let digits : hex_digit i ≡ hex_digit j = ap (λ (xs : List ℕ). get_or xs 1 0) same in
+    grind (arith, nat_tests, digits)
 
 -- ---- its ranges
 
@@ -70,7 +59,12 @@ bar_fits false height is there = absurd (false≢true there)
 module _ (width height : ℕ) (bar : Bool) (seats : List SeatPlan) (none : refused_plan width height bar seats ≡ None)
   where
     is : IsPlan width height bar seats
-    is = is_plan width height bar seats none
+    is =
+        let a = passed _ _ _ none in
+        let b = passed _ _ _ a.1 in
+        let c = passed _ _ _ b.1 in
+        let d = passed _ _ _ c.1 in
+        record { screen = a.0; count = b.0; donations = c.0; layers = d.0 }
 
     clients : List Member
     clients = (planned width height bar seats).clients
@@ -102,21 +96,23 @@ module _ (width height : ℕ) (bar : Bool) (seats : List SeatPlan) (none : refus
           height = within 1 768 height size.1;
           bar = bar_fits bar height screen.1;
           input = refl;
-          count = subst (λ (n : ℕ). (1 ≤ n) × (n ≤ 16)) (sym long) (within 1 16 (length seats) is.count);
+          count = rw long (within 1 16 (length seats) is.count);
           clients = λ k m inside.
               let there : k < length seats = omega (arith, long, inside) in
-              subst IsMember (sym (client_at k m s there)) (record {
+              rw (client_at k m s there) (record {
                 label = hex_label k (omega (arith, there, few));
                 donation = within 256 8388608 _ (AllPass-from_list_all
                     (λ (p : SeatPlan). is_within 256 8388608 p.donation) seats is.donations k s there);
                 script = refl;
-                layer =
-                    let test = AllPass-from_list_all (λ (p : SeatPlan). nat_le p.layer 7) seats is.layers k s there in
-                    grind (arith, nat_tests, test);
+                layer = grind (
+                  arith,
+                  nat_tests,
+                  AllPass-from_list_all (λ (p : SeatPlan). nat_le p.layer 7) seats
+                      is.layers k s there,
+                );
               });
           labels = λ i j m less inside.
               let there : j < length seats = omega (arith, long, inside) in
-              let a = ap (λ (c : Member). c.label) (client_at i m s (omega arith)) in
-              let b = ap (λ (c : Member). c.label) (client_at j m s there) in
-              λ same. labels_differ i j less (omega (arith, there, few)) (sym a ∙ same ∙ b);
+              rw (client_at i m s (omega arith), client_at j m s there)
+              (labels_differ i j less (omega (arith, there, few)));
         }

@@ -9,11 +9,11 @@ use Rattle.nit_host.proofs.Basics.{called, cases_eq, covers, dirty, eq-eqb, firs
 use Rattle.nit_host.proofs.Basics.{get_or-set_same, handed, is_accepted, is_handed, is_word_in}
 use Rattle.nit_host.proofs.Basics.{low_bytes, pixel, plain_sight, rectangle, refreshed, refusal}
 use Rattle.nit_host.proofs.Basics.{refused_reply, reply_to, serve, serve_accepted, serve_refused}
-use Rattle.nit_host.proofs.Basics.{session, set_long, set_where, sheet_at, sheet_in, sheets_of}
-use Rattle.nit_host.proofs.Basics.{size_at, slice_get_within, source_at, told_words, word_from}
+use Rattle.nit_host.proofs.Basics.{session, set_long, set_where, sheet_in, sheets_of}
+use Rattle.nit_host.proofs.Basics.{slice_get_within, source_at, told_words, word_from}
 use Rattle.nit_events.specs.declared.call.Call.TheVariants as call
 use Rattle.nit_events.specs.declared.entry.Entry.TheVariants as entry
-use Rattle.nit_host.proofs.SheetLists.{hollow_there, own_plain, own_room, own_words, put_there}
+use Rattle.nit_host.proofs.SheetLists.{own_plain, own_room, own_words, put_there}
 use Rattle.nit_host.proofs.SheetLists.{words_at, words_elsewhere, words_with}
 use Rattle.nit_host.proofs.HandedWords.{not_here}
 use Rattle.nit_host.proofs.Steps.{KeepSources, Serves, WasCalled, Words, called_now, glasses_now}
@@ -88,12 +88,10 @@ module _ {d d1 d2 : DesktopModel SheetModel} {hollows : List SheetModel} {seat :
   client = omega arith
 
   new_words : told_words own'.sight.words ≡ after_handing s.bw s.bh found words (sheet_in old_words seat)
-  new_words = ap (λ (g : Sight). told_words g.words) in_
-      ∙ ap (after_handing s.bw s.bh found words) (own_words d.glasses seat out)
+  new_words = rw (in_, own_words d.glasses seat out) refl
 
   own_now : sheet_in (sheets_of new_sheets) seat ≡ told_words own'.sight.words
-  own_now = words_at new_sheets seat ∙ ap (λ (g : SheetModel). told_words g.sight.words)
-      (put_there d.glasses seat own' (slice_get_within d.glasses seat own out))
+  own_now = rw (words_at new_sheets seat, put_there d.glasses seat own' (slice_get_within d.glasses seat own out)) refl
 
   reply_now : r ≡ (serve s asked).reply
   reply_now = rw swapped at served.reply
@@ -103,9 +101,9 @@ module _ {d d1 d2 : DesktopModel SheetModel} {hollows : List SheetModel} {seat :
       → is_word_in seat s.bw (rectangle x y w h) (source_at behind k) ≡ false
   off_now none k clean =
       let done_ = serve_accepted s asked none in
-      let columns : (session behind seat).bw ≡ s.bw = ap (λ (t : Session). t.bw) (get_or-set_same d.state.sessions seat
-      (serve s asked).session (first_session 0) inside) ∙ ap (λ (a : Answered). a.session.bw) done_ in
-      let yes_ : is_accepted r ≡ true = ap is_accepted (reply_now ∙ ap (λ (a : Answered). a.reply) done_) in
+      let columns : (session behind seat).bw ≡ s.bw =
+      rw (get_or-set_same d.state.sessions seat (serve s asked).session (first_session 0) inside, done_) refl in
+      let yes_ : is_accepted r ≡ true = rw (reply_now, done_) refl in
       rw (yes_, columns) at clean
 
   -- the seat's words where it is accepted, and where it is not

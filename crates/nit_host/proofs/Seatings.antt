@@ -14,11 +14,10 @@ use Rattle.nit_events.specs.declared.event.Status.TheVariants as status
 use Rattle.nit_screen.specs.Terms.{is_session, option_map_or}
 use Rattle.nit_host.proofs.Beginnings.{blank_plain, no_client}
 use Rattle.nit_host.proofs.Served.{not_met, passed}
-use Rattle.nit_host.proofs.SheetLists.{each_put, hollow_there, own_plain, own_room, put_there}
-use Rattle.nit_host.proofs.SheetLists.{rooms, same_sheets, sight_at, sights, words_elsewhere}
-use Rattle.nit_host.proofs.SheetLists.{words_with}
+use Rattle.nit_host.proofs.SheetLists.{each_put, own_room, put_there, rooms, same_sheets, sight_at}
+use Rattle.nit_host.proofs.SheetLists.{sights, words_elsewhere, words_with, blank_again_of}
+use Rattle.nit_host.proofs.SheetLists.{hollow_blank}
 use Rattle.nit_host.proofs.Steps.{host_model, sheets_with, with_sheet}
-use Rattle.nit_host.proofs.SheetLists.{blank_again_of, hollow_blank}
 
 -- ---- what it means that nothing is against it
 

@@ -1,14 +1,13 @@
 -- Lists of sheets: what is seen of each, and that a call leaves them as they are.
 use Rattle.std.proofs.Common.{List, [], None, Some, ap, arith, get_or, get_or-set_other}
-use Rattle.std.proofs.Common.{get_or-set_same, inl, inr, length, map, refl, set, slice_get, subst}
-use Rattle.std.proofs.Common.{sym, ℕ, ◌++◌, ◌<◌, ◌∙◌, ◌≡◌, ◌≢◌, ◌≤◌}
+use Rattle.std.proofs.Common.{get_or-set_same, inl, inr, length, map, refl, set, slice_get, sym, ℕ}
+use Rattle.std.proofs.Common.{◌++◌, ◌<◌, ◌∙◌, ◌≡◌, ◌≢◌, ◌≤◌}
 use Rattle.nit_host.proofs.Basics.{AreHollow, AreQuiet, AreSheets, Configuration, IsPlainOf}
 use Rattle.nit_host.proofs.Basics.{SheetModel, Sight, blank_sheet, cases_eq, eq-eqb, ext_get_or}
 use Rattle.nit_host.proofs.Basics.{get_or-map, get_or_default, get_or_from_slice_get, get_or_past}
 use Rattle.nit_host.proofs.Basics.{glass_in, glasses_of_call, length-map, length-zeros, map-set}
-use Rattle.nit_host.proofs.Basics.{ne_eqb, no_sight, option_map, plain_sight, seen, set-get_or}
-use Rattle.nit_host.proofs.Basics.{sheet_at, sheet_in, sheets_of, size_at, slice_get_within}
-use Rattle.nit_host.proofs.Basics.{told_words}
+use Rattle.nit_host.proofs.Basics.{ne_eqb, no_sight, option_map, plain_sight, seen, sheet_at}
+use Rattle.nit_host.proofs.Basics.{sheet_in, sheets_of, size_at, slice_get_within, told_words}
 use mathlib.Core.Logic.{dite}
 use native.Mathlib.Decide.{dec_lt}
 
@@ -46,17 +45,9 @@ pub taken_out : (sheets : List SheetModel) (seat : ℕ) (out : SheetModel) → s
     → sheet_at sheets seat ≡ out
 taken_out sheets seat out is = get_or_from_slice_get sheets seat out no_sheet is
 
-pub put_same : (sheets : List SheetModel) (seat : ℕ) (sheet : SheetModel) → sheet_at sheets seat ≡ sheet
-    → set sheets seat sheet ≡ sheets
-put_same sheets seat sheet is = ap (set sheets seat) (sym is) ∙ set-get_or sheets seat no_sheet
-
 pub put_there : (sheets : List SheetModel) (seat : ℕ) (sheet : SheetModel) → seat < length sheets
     → sheet_at (set sheets seat sheet) seat ≡ sheet
 put_there sheets seat sheet inside = get_or-set_same sheets seat sheet no_sheet inside
-
-pub put_elsewhere : (sheets : List SheetModel) (seat t : ℕ) (sheet : SheetModel) → t ≢ seat
-    → sheet_at (set sheets seat sheet) t ≡ sheet_at sheets t
-put_elsewhere sheets seat t sheet other = get_or-set_other sheets seat t sheet no_sheet other
 
 -- what holds of the sheet that is put in, and of the others, holds of each
 pub each_put : (P : ℕ → SheetModel → Type 0) (sheets : List SheetModel) (seat t : ℕ) (sheet : SheetModel)
@@ -64,14 +55,13 @@ pub each_put : (P : ℕ → SheetModel → Type 0) (sheets : List SheetModel) (s
     → P t (sheet_at (set sheets seat sheet) t)
 each_put P sheets seat t sheet inside here there =
     elim (cases_eq t seat) [
-      | inl e ↦ subst (λ (n : ℕ). P n (sheet_at (set sheets seat sheet) n)) (sym e)
-          (rw (put_there sheets seat sheet (inside e)) here)
-      | inr other ↦ rw (put_elsewhere sheets seat t sheet other) there
+      | inl e ↦ rw (e, put_there sheets seat sheet (inside e)) here
+      | inr other ↦ rw (get_or-set_other sheets seat t sheet no_sheet other) there
     ]
 
 -- ---- sheets that tell no loads
 
-not_seen : (g : Sight) (loads : List (ℕ × ℕ)) → g.log ≡ None → seen g loads ≡ g
+pub not_seen : (g : Sight) (loads : List (ℕ × ℕ)) → g.log ≡ None → seen g loads ≡ g
 not_seen g loads quiet = ap (λ log. record g { log = option_map (λ before. before ++ loads) log }) quiet
     ∙ sym (ap (λ log. record g { log = log }) quiet)
 
@@ -90,18 +80,17 @@ quiet_with sheets seat {own} other out quiet is t =
 
 -- ---- a call with its own glass beside them
 
-pub same_sheet : (a b : SheetModel) → a.sight ≡ b.sight → a.room ≡ b.room → a ≡ b
-same_sheet a b sight room = λ i. record { sight = sight i; room = room i }
-
 pub same_sheets : (a b : List SheetModel) → ((t : ℕ) → glass_in (sights a) t ≡ glass_in (sights b) t)
     → rooms a ≡ rooms b → a ≡ b
 same_sheets a b sight room =
     let long : length a ≡ length b = sym (length-map a (λ (g : SheetModel). g.room)) ∙ ap length room
     ∙ length-map b (λ (g : SheetModel). g.room) in
     ext_get_or no_sheet a b long
-    (λ t inside. same_sheet (sheet_at a t) (sheet_at b t) (sym (sight_at a t) ∙ sight t ∙ sight_at b t)
-    (sym (get_or-map (λ (g : SheetModel). g.room) a t no_sheet) ∙ ap (λ (xs : List ℕ). get_or xs t 0) room
-    ∙ get_or-map (λ (g : SheetModel). g.room) b t no_sheet))
+    (λ t inside i. record {
+      sight = (sym (sight_at a t) ∙ sight t ∙ sight_at b t) i;
+      room = (sym (get_or-map (λ (g : SheetModel). g.room) a t no_sheet) ∙ ap (λ (xs : List ℕ). get_or xs t 0) room
+          ∙ get_or-map (λ (g : SheetModel). g.room) b t no_sheet) i;
+    })
 
 own_seen : (glasses : List Sight) (seat : ℕ) (own : Sight) → glasses_of_call glasses seat own seat ≡ own
 own_seen glasses seat own = rw (eq-eqb seat seat refl) refl
@@ -110,21 +99,17 @@ other_seen : (glasses : List Sight) (seat t : ℕ) (own : Sight) → t ≢ seat 
     ≡ glass_in glasses t
 other_seen glasses seat t own other = rw (ne_eqb t seat other) refl
 
-abbrev pub WereSeen : List SheetModel → List SheetModel → ℕ → SheetModel → SheetModel → Type 0
-WereSeen old new seat own own' =
-    (t : ℕ) → (loads : List (ℕ × ℕ))
-    × (glasses_of_call (sights new) seat own'.sight t ≡ seen (glasses_of_call (sights old) seat own.sight t) loads)
-
 module _ (old new : List SheetModel) (seat : ℕ) (own own' : SheetModel) (quiet : AreQuiet old)
-    (own_quiet : own.sight.log ≡ None) (were : WereSeen old new seat own own')
+    (own_quiet : own.sight.log ≡ None) (were : (t : ℕ) → (loads : List (ℕ × ℕ))
+    × (glasses_of_call (sights new) seat own'.sight t ≡ seen (glasses_of_call (sights old) seat own.sight t) loads))
     (idle : glass_in (sights new) seat ≡ glass_in (sights old) seat) (rest : own'.room ≡ own.room)
     (rests : rooms new ≡ rooms old) where
   own_stays : own' ≡ own
   own_stays =
       let saw = were seat in
-      same_sheet own' own (sym (own_seen (sights new) seat own'.sight) ∙ saw.1
-      ∙ ap (λ (g : Sight). seen g saw.0) (own_seen (sights old) seat own.sight)
-      ∙ not_seen own.sight saw.0 own_quiet) rest
+      let sight = (rw (own_seen (sights new) seat own'.sight, own_seen (sights old) seat own.sight) at saw.1)
+      ∙ not_seen own.sight saw.0 own_quiet in
+      λ i. record { sight = sight i; room = rest i }
 
   at : (t : ℕ) → glass_in (sights new) t ≡ glass_in (sights old) t
   at t =
@@ -132,8 +117,10 @@ module _ (old new : List SheetModel) (seat : ℕ) (own own' : SheetModel) (quiet
         | inl e ↦ rw e idle
         | inr other ↦
             let saw = were t in
-            sym (other_seen (sights new) seat t own'.sight other) ∙ saw.1
-            ∙ ap (λ (g : Sight). seen g saw.0) (other_seen (sights old) seat t own.sight other)
+            (rw (
+              other_seen (sights new) seat t own'.sight other,
+              other_seen (sights old) seat t own.sight other,
+            ) at saw.1)
             ∙ not_seen (glass_in (sights old) t) saw.0 (ap (λ (g : Sight). g.log) (sight_at old t) ∙ quiet t)
       ]
 
@@ -150,7 +137,7 @@ with_own sheets seat own inside = λ i t. each t i
         elim (cases_eq t seat) [
           | inl e ↦ rw (e, sight_at (set sheets seat own) seat, put_there sheets seat own inside)
               (own_seen (sights sheets) seat own.sight)
-          | inr other ↦ rw (sight_at (set sheets seat own) t, put_elsewhere sheets seat t own other)
+          | inr other ↦ rw (sight_at (set sheets seat own) t, get_or-set_other sheets seat t own no_sheet other)
               (other_seen (sights sheets) seat t own.sight other ∙ sight_at sheets t)
         ]
 
@@ -189,16 +176,6 @@ module _ {config : Configuration} {sheets : List SheetModel} {seat : ℕ} {own :
 pub own_words : (sheets : List SheetModel) (seat : ℕ) {own : SheetModel} → slice_get sheets seat ≡ Some own
     → told_words own.sight.words ≡ sheet_in (sheets_of sheets) seat
 own_words sheets seat {own} is = rw (words_at sheets seat, taken_out sheets seat own is) refl
-
--- ---- an event that is no call
-
-pub seen_sheets : (old new : List SheetModel) → AreQuiet old
-    → ((t : ℕ) → (loads : List (ℕ × ℕ)) × (glass_in (sights new) t ≡ seen (glass_in (sights old) t) loads))
-    → rooms new ≡ rooms old → new ≡ old
-seen_sheets old new quiet were rests =
-    same_sheets new old
-    (λ t. let saw = were t in saw.1
-    ∙ not_seen (glass_in (sights old) t) saw.0 (ap (λ (g : Sight). g.log) (sight_at old t) ∙ quiet t)) rests
 
 -- a plain sheet by its own number
 pub plain_by_owner : {seat : ℕ} {sight : Sight} → sight ≡ plain_sight seat (told_words sight.words)

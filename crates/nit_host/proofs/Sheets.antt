@@ -1,10 +1,10 @@
 -- Words that are kept as far as they were reached, and are 0 behind.
-use Rattle.std.proofs.Common.{All, inl, inr, Bool, List, ap, arith, cond, [], length, refl, subst}
+use Rattle.std.proofs.Common.{All, inl, inr, Bool, List, ap, arith, [], length, refl, subst}
 use Rattle.std.proofs.Common.{sym, take, ℕ, ◌%◌, ◌++◌, ◌+◌, ◌-◌, ◌<◌, ◌==◌, ◌^◌, ◌∙◌, ◌≡◌, ◌≤◌}
 use Rattle.std.proofs.Common.{slice_index}
 use Rattle.nit_host.proofs.Basics.{IsLoaded, IsWord, SheetModel, Sight, are_set, cases_Bool}
 use Rattle.nit_host.proofs.Basics.{cond_both, eq-eqb, filled_at, filled_long, filled_up}
-use Rattle.nit_host.proofs.Basics.{get_or-eq_default, get_or_default, is_between, length-append}
+use Rattle.nit_host.proofs.Basics.{get_or_default, get_or_past, is_between, length-append}
 use Rattle.nit_host.proofs.Basics.{length-zeros, low_bytes, none_past, plain_sight, same_filled}
 use Rattle.nit_host.proofs.Basics.{set_long, set_where, take_at, word_at, zeros}
 use mathlib.Core.Logic.{dite}
@@ -13,8 +13,9 @@ use native.Mathlib.Decide.{dec_lt}
 -- ---- words below 2^24
 
 at_any : (words : List ℕ) (k : ℕ) → All IsWord words → IsWord (slice_index words k)
-at_any words k all = dite (dec_lt k (length words)) (λ inside. all k 0 inside) (λ behind. let none : slice_index words k
-    ≡ 0 = get_or-eq_default words 0 (omega arith) in omega (arith, none))
+at_any words k all =
+    dite (dec_lt k (length words)) (λ inside. all k 0 inside)
+    (λ behind. rw (get_or_past words k 0 (omega (arith, behind))) (omega arith))
 
 all_words : (words : List ℕ) → ((k : ℕ) → IsWord (slice_index words k)) → All IsWord words
 all_words words each k d inside = subst IsWord (sym (get_or_default words k d 0 inside)) (each k)
@@ -26,8 +27,7 @@ pub words_set : (p : ℕ → Bool) (others words now : List ℕ) → All IsWord 
     → now ≡ set_where p (low_bytes others) words → All IsWord now
 words_set p others words now all is k d inside =
     let within : k < length words = omega (arith, ap length is, set_long p (low_bytes others) words, inside) in
-    subst IsWord (sym (get_or_default now k d 0 inside ∙ ap (λ (ws : List ℕ). slice_index ws k) is
-    ∙ word_at p (low_bytes others) words k within))
+    rw (get_or_default now k d 0 inside, is, word_at p (low_bytes others) words k within)
     (cond_both (p k) (slice_index others k % 2 ^ 24) (slice_index words k) IsWord (λ _. omega arith)
     (λ _. all k 0 within))
 
@@ -37,7 +37,7 @@ pub word_loaded : (owner size : ℕ) (words : List ℕ) (sight : Sight) (i w : �
     ≡ sight → All IsWord words → length words ≤ size → i < sight.size → w ≡ slice_index words i → IsLoaded sight i w
 word_loaded owner size words sight i w view all few place is =
     let told : w ≡ slice_index (filled_up size words) i = is ∙ sym (filled_at size words i) in
-    subst (λ (s : Sight). IsLoaded s i w) view (record {
+    rw (← view) (record {
       fits = subst IsWord (sym is) (at_any words i all);
       inked = elim (cases_Bool (w == 0)) [
         | inl zero_is ↦ rw zero_is refl
@@ -59,11 +59,10 @@ set_filled from to size others words few reached =
     let long = set_long p c words in
     are_set p c (filled_up size words) (filled_up size (set_where p c words))
     (filled_long size (set_where p c words) (omega (arith, long)) ∙ sym (filled_long size words few))
-    (λ k inside. filled_at size (set_where p c words) k ∙ dite (dec_lt k (length words))
-    (λ within. word_at p c words k within ∙ ap (λ (w : ℕ). cond (p k) (c k) w) (sym (filled_at size words k)))
-    (λ behind. get_or-eq_default (set_where p c words) 0 (omega (arith, long))
-    ∙ sym (get_or-eq_default words 0 (omega arith)) ∙ sym (filled_at size words k)
-    ∙ ap (λ (b : Bool). cond b (c k) (slice_index (filled_up size words) k)) (sym (none_past from to k (omega arith)))))
+    (λ k inside. rw (filled_at size (set_where p c words) k, filled_at size words k) (dite (dec_lt k (length words))
+    (λ within. word_at p c words k within)
+    (λ behind. rw (none_past from to k (omega arith), get_or_past words k 0 (omega (arith, behind)))
+    (get_or_past (set_where p c words) k 0 (omega (arith, long, behind))))))
 
 -- what is kept of the words after some were handed in
 pub record IsHandedIn (from to size : ℕ) (others words back : List ℕ) : Type 0 where

@@ -3,16 +3,14 @@ use Rattle.std.proofs.Common.{List, Option, Some, [], ap, arith, false, get_or, 
 use Rattle.std.proofs.Common.{slice_get, sym, ℕ, ◌-◌, ◌<◌, ◌∙◌, ◌≡◌, ◌≤◌}
 use Rattle.nit_host.proofs.Basics.{Agrees, AreSheets, Call, Configuration, DesktopModel, Entry}
 use Rattle.nit_host.proofs.Basics.{HostModel, IsHost, IsPlainOf, Painted, Point, Reply, SheetModel}
-use Rattle.nit_host.proofs.Basics.{State, after, called, dirty, glass_in, glasses_of_call}
-use Rattle.nit_host.proofs.Basics.{length-set, pixel, serve, session, set-get_or, set-set, sheet_at}
-use Rattle.nit_host.proofs.Basics.{sheet_in, sheets_of, size_at, source_at, source_of, told_words}
-use Rattle.nit_host.proofs.Basics.{word_from}
+use Rattle.nit_host.proofs.Basics.{State, after, called, dirty, glass_in, sheet_at, length-set}
+use Rattle.nit_host.proofs.Basics.{pixel, serve, session, set-get_or, set-set, sheet_in, sheets_of}
+use Rattle.nit_host.proofs.Basics.{size_at, source_at, source_of, told_words, word_from}
+use Rattle.nit_host.proofs.Basics.{slice_get_within}
 use Rattle.nit_events.specs.declared.entry.Entry.TheVariants as entry
 use Rattle.nit_host.proofs.Freshness.{fresh_after}
-use Rattle.nit_host.proofs.SheetLists.{each_put, hollow_there, own_plain, own_room}
-use Rattle.nit_host.proofs.SheetLists.{own_words, put_same, sights, with_own, words_with}
-use Rattle.nit_host.proofs.SheetLists.{put_there, taken_out}
-use Rattle.nit_host.proofs.Basics.{slice_get_within}
+use Rattle.nit_host.proofs.SheetLists.{each_put, hollow_there, own_plain, own_room, own_words}
+use Rattle.nit_host.proofs.SheetLists.{sights, words_with, no_sheet, put_there, taken_out}
 
 -- what a law says of pixels that are not dirty
 abbrev pub KeepSources : Type 0
@@ -103,9 +101,11 @@ module _ {d d1 d2 : DesktopModel SheetModel} {hollows : List SheetModel} {seat :
       (keep : KeepSources) where
     -- the hollow sheet stands in its place again
     hollows_stay : set hollows seat last ≡ hollows
-    hollows_stay = put_same hollows seat last (hollow_there host.hollow at (omega (arith, inside, long))
+    hollows_stay =
+        let same : sheet_at hollows seat ≡ last = hollow_there host.hollow at (omega (arith, inside, long))
         ∙ sym (put_there d.glasses seat hollow (slice_get_within d.glasses seat own out))
-        ∙ taken_out (set d.glasses seat hollow) seat last s0.out)
+        ∙ taken_out (set d.glasses seat hollow) seat last s0.out in
+        rw (← same) (set-get_or hollows seat no_sheet)
 
     all : AreSheets d.state.config (set d.glasses seat own')
     all = sheets_with host.sheets plain room
@@ -138,15 +138,6 @@ module _ {d d1 d2 : DesktopModel SheetModel} {hollows : List SheetModel} {seat :
     }
 
 -- ---- the call itself
-
--- what was painted by a call with its own sheet is painted by all sheets, once it is put back
-pub painted_by_all : (s : State) (e : Entry) (d d2 d3 : DesktopModel SheetModel) (seat : ℕ) (own own' : SheetModel)
-    → (d2.glasses ≡ d.glasses) × (own' ≡ own) → seat < length d.glasses → d3 ≡ with_sheet d2 seat own'
-    → Painted s e d2.state (glasses_of_call (sights d.glasses) seat own.sight)
-    (glasses_of_call (sights d2.glasses) seat own'.sight) d.raw d2.raw
-    → Painted s e d3.state (glass_in (sights d3.glasses)) (glass_in (sights d3.glasses)) d.raw d3.raw
-painted_by_all s e d d2 d3 seat own own' stay inside put painted =
-    rw (put, stay.0, stay.1) (rw (stay.0, stay.1, with_own d.glasses seat own inside) at painted)
 
 -- a call that takes nothing over
 pub only_called : {d d1 d2 : DesktopModel SheetModel} {hollows : List SheetModel} {seat : ℕ} {call : Call} {r : Reply}

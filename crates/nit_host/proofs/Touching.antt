@@ -1,6 +1,6 @@
 -- What a call makes dirty lies in the areas of what it touches.
 use Rattle.std.proofs.Common.{Bool, List, None, Option, Some, ap, arith, cond, false, find, inl}
-use Rattle.std.proofs.Common.{inr, nat_lt, negsuc, pos, refl, slice_get, sym, true, ℕ, ℤ, ◌%◌, ◌&&◌}
+use Rattle.std.proofs.Common.{inr, negsuc, pos, refl, slice_get, sym, true, ℕ, ℤ, ◌%◌, ◌&&◌}
 use Rattle.std.proofs.Common.{◌*◌, ◌+◌, ◌/◌, ◌<◌, ◌==◌, ◌∙◌, ◌≡◌}
 use Rattle.nit_host.proofs.Basics.{Area, Call, HoldsTouched, Point, Rectangle, Size, State, Touch}
 use Rattle.nit_host.proofs.Basics.{View, among, and_from, and_parts, bar_rows, black_or_word}
@@ -9,7 +9,7 @@ use Rattle.nit_host.proofs.Basics.{eqb-true, false≢true, find_at, get_or_from_
 use Rattle.nit_host.proofs.Basics.{in_bar, index_at, is_owned_by, is_rectangle, is_session}
 use Rattle.nit_host.proofs.Basics.{is_touched, is_view, is_word_in, mod-mul-add, nat_tests}
 use Rattle.nit_host.proofs.Basics.{option_map_or, or_cases, owner_of, owns_either, passes_at_first}
-use Rattle.nit_host.proofs.Basics.{pixel, point, rectangle, same_Some, session}
+use Rattle.nit_host.proofs.Basics.{PixelSource, pixel, point, rectangle, same_Some, session}
 use Rattle.nit_host.proofs.Basics.{shown_index, shows_part, shows_place, slice_get_within}
 use Rattle.nit_host.proofs.Basics.{source_under, spans, touched_by, view_owns}
 use Rattle.nit_events.specs.declared.call.Call.TheVariants as call
@@ -18,27 +18,29 @@ use Rattle.std.specs.List.{position_or_len}
 
 -- ---- the view that owns a pixel stands in the stack
 
-record Stands (test : View → Bool) (stack : List View) (v : View) : Type 0 where
+record Stands (p : Point) (stack : List View) (v : View) : Type 0 where
   pub place : ℕ
   pub there : slice_get stack place ≡ Some v
-  pub passes : test v ≡ true
+  pub covered : covers v.rect p ≡ true
 
-found_there : (test : View → Bool) (stack : List View) (v : View) → find test stack ≡ Some v → Stands test stack v
-found_there test stack v is =
-    let at : slice_get stack (position_or_len test stack) ≡ Some v = sym (find_at test stack) ∙ is in record {
-      place = position_or_len test stack;
-      there = at;
-      passes = ap test (sym (get_or_from_slice_get stack (position_or_len test stack) v v at))
-          ∙ passes_at_first test stack v (slice_get_within stack (position_or_len test stack) v at);
-    }
-
-owner_there : (s : State) (p : Point) (v : View) → owner_of s p ≡ Some v → Stands (λ v. covers v.rect p) s.stack v
+owner_there : (s : State) (p : Point) (v : View) → owner_of s p ≡ Some v → Stands p s.stack v
 owner_there s p v is = go (in_bar (bar_rows s.config) p) is
   where
-    go : (b : Bool) → cond b None (find (λ v. covers v.rect p) s.stack) ≡ Some v
-        → Stands (λ v. covers v.rect p) s.stack v
+    test : View → Bool
+    test u = covers u.rect p
+
+    at : ℕ
+    at = position_or_len test s.stack
+
+    go : (b : Bool) → cond b None (find test s.stack) ≡ Some v → Stands p s.stack v
     go true none = cc
-    go false found = found_there (λ v. covers v.rect p) s.stack v found
+    go false found =
+        let there : slice_get s.stack at ≡ Some v = sym (find_at test s.stack) ∙ found in record {
+          place = at;
+          there = there;
+          covered = ap test (sym (get_or_from_slice_get s.stack at v v there))
+              ∙ passes_at_first test s.stack v (slice_get_within s.stack at v there);
+        }
 
 -- a pixel whose owner passes a test lies in an area that has each view's pixels that pass it
 owned_inside : (test : View → Bool) (s : State) (p : Point) (inside : Bool)
@@ -48,16 +50,12 @@ owned_inside test s p inside holds owned = go (owner_of s p) refl owned
   where
     go : (o : Option View) → owner_of s p ≡ o → option_map_or test o false ≡ true → inside ≡ true
     go None is none = absurd (false≢true none)
-    go (Some v) is passes = let at = owner_there s p v is in holds at.place v at.there passes at.passes
+    go (Some v) is passes = let at = owner_there s p v is in holds at.place v at.there passes at.covered
 
 -- ---- a pixel that shows a part
 
 among_is : (z : ℤ) (most n : ℕ) → among z most ≡ Some n → (z ≡ pos n) × (n < most)
-among_is (pos m) most n is = go (nat_lt m most) refl is
-  where
-    go : (b : Bool) → nat_lt m most ≡ b → cond b (Some m) None ≡ Some n → (pos m ≡ pos n) × (n < most)
-    go true less here = let same : m ≡ n = same_Some m n here in (ap pos same, grind (arith, nat_tests))
-    go false more none = cc
+among_is (pos m) most n is = (grind (arith, nat_tests), grind (arith, nat_tests))
 among_is (negsuc m) most n is = cc
 
 pub record IsPlaceOf (columns rows i : ℕ) (a b : ℤ) : Type 0 where
@@ -94,22 +92,28 @@ part_inside : (seat : ℕ) (part : Rectangle) (s : State) (p : Point) (inside : 
     → ((i : ℕ) (v : View) → slice_get s.stack i ≡ Some v
     → (is_session seat v && (covers v.rect p && shows_place part v p)) ≡ true → inside ≡ true)
     → shows_part seat part s p ≡ true → inside ≡ true
-part_inside seat part s p inside holds shows = go (owner_of s p) refl shows
+part_inside seat part s p inside holds shows =
+    owned_inside (λ v. of_part (black_or_word v.sid (shown_index (buffer_size s.sessions v.sid) v p))) s p inside
+    (λ i v there word covered. by_index i v there covered (shown_index (buffer_size s.sessions v.sid) v p) refl word)
+    (go (owner_of s p) shows)
   where
-    by_index : (v : View) → Stands (λ v. covers v.rect p) s.stack v → (o : Option ℕ)
-        → shown_index (buffer_size s.sessions v.sid) v p ≡ o
-        → is_word_in seat (session s seat).bw part (black_or_word v.sid o) ≡ true → inside ≡ true
-    by_index v at None is none = absurd (false≢true none)
-    by_index v at (Some i) is word =
-        let both = and_parts (v.sid == seat) (covers part (pixel (session s seat).bw i)) word in
-        let there : shows_place part v p ≡ true = shown_part part (buffer_size s.sessions v.sid) v p i is
-        (ap (λ (t : ℕ). covers part (pixel (session s t).bw i)) (eqb-true v.sid seat both.0) ∙ both.1) in
-        holds at.place v at.there (λ k. both.0 k && (at.passes k && there k))
+    of_part : PixelSource → Bool
+    of_part source = is_word_in seat (session s seat).bw part source
 
-    go : (o : Option View) → owner_of s p ≡ o
-        → is_word_in seat (session s seat).bw part (source_under (buffer_size s.sessions) p o) ≡ true → inside ≡ true
-    go None is none = absurd (false≢true none)
-    go (Some v) is word = by_index v (owner_there s p v is) (shown_index (buffer_size s.sessions v.sid) v p) refl word
+    by_index : (i : ℕ) (v : View) → slice_get s.stack i ≡ Some v → covers v.rect p ≡ true → (o : Option ℕ)
+        → shown_index (buffer_size s.sessions v.sid) v p ≡ o → of_part (black_or_word v.sid o) ≡ true
+        → inside ≡ true
+    by_index i v there covered None is none = absurd (false≢true none)
+    by_index i v there covered (Some n) is word =
+        let both = and_parts (v.sid == seat) (covers part (pixel (session s seat).bw n)) word in
+        let shown = shown_part part (buffer_size s.sessions v.sid) v p n is (rw (eqb-true v.sid seat both.0) both.1) in
+        holds i v there (λ k. both.0 k && (covered k && shown k))
+
+    go : (o : Option View) → of_part (source_under (buffer_size s.sessions) p o) ≡ true
+        → option_map_or (λ v. of_part (black_or_word v.sid (shown_index (buffer_size s.sessions v.sid) v p))) o false
+        ≡ true
+    go None none = none
+    go (Some v) word = word
 
 -- ---- an accepted call
 

@@ -1,30 +1,29 @@
 use Rattle.std.proofs.Common.{Ok, ap, arith, length, set, sym, ◌<◌, ◌∙◌}
 use Rattle.nit_host.proofs.Lemmas.{DesktopModel, HostModel, SheetModel, WasCalled, after, called}
-use Rattle.nit_host.proofs.Lemmas.{frame_at, may_call, only_called, option_map}
-use Rattle.nit_host.proofs.Lemmas.{own_plain, seen_called, serve, sheets_of, unserved_call}
-use Rattle.nit_host.proofs.Lemmas.{when_served, words_stay}
+use Rattle.nit_host.proofs.Lemmas.{frame_at, is_seat, only_called, option_map, own_plain}
+use Rattle.nit_host.proofs.Lemmas.{seen_called, serve, sheets_of, when_served, words_stay, Serves}
+use Rattle.nit_host.proofs.Lemmas.{blank_tells, hollow_blank}
 use Rattle.nit_events.specs.declared.entry.Entry.TheVariants as entry
 use Rattle.nit_host.specs.Below.{session as session_}
 use Rattle.nit_host.proofs.host.Host.call.Goals as goal
-use Rattle.nit_host.proofs.Lemmas.{Serves, blank_tells, hollow_blank}
 
 pub exchange-requires-clause-glass : goal.exchange-requires-clause-glass
 exchange-requires-clause-glass c =
-    let may = may_call c.self.view_is c.in_default.ensures in
+    let inside = is_seat c.args.seat _ _ c.self.view_is c.in_default.ensures in
     blank_tells (hollow_blank c.self.invariant.0.hollow c.index_mut-own.ensures.value
-    (omega (arith, may.inside, c.facts.ensures.sessions)))
+    (omega (arith, inside, c.facts.ensures.sessions)))
 
 pub serve-reply-requires-clause-own : goal.serve-reply-requires-clause-own
 serve-reply-requires-clause-own c =
-    let may = may_call c.self.view_is c.in_default.ensures in
+    let inside = is_seat c.args.seat _ _ c.self.view_is c.in_default.ensures in
     rw c.exchange.ensures.desktop (own_plain c.self.invariant.0.sheets c.exchange.ensures.out
-    (omega (arith, may.inside, c.facts.ensures.sessions)))
+    (omega (arith, inside, c.facts.ensures.sessions)))
 
 abbrev known : (c : goal.After-self-4-1) → c.args.seat < length c.self.inside.desktop.state.sessions
-known c = (may_call c.self.view_is c.in_default.ensures).inside
+known c = is_seat c.args.seat _ _ c.self.view_is c.in_default.ensures
 
 -- what the call left
-abbrev done : (c : goal.After-self-4-1) → WasCalled c.args.seat c.args.call.now c.serve-reply.result c.args.self.now
+done : (c : goal.After-self-4-1) → WasCalled c.args.seat c.args.call.now c.serve-reply.result c.args.self.now
     (option_map (λ s. frame_at s.value) c.self.inside.seen) c.serve-reply.new.desktop
     (set c.self.inside.hollows.items c.args.seat c.serve-reply.new.own)
 done c =

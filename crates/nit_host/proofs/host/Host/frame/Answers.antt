@@ -1,5 +1,5 @@
-use Rattle.std.proofs.Common.{ap, subst, ◌∙◌, ◌≡◌}
-use Rattle.nit_host.proofs.Lemmas.{HostModel, ShowsLabels, State, frame, picture, scenery_of}
+use Rattle.std.proofs.Common.{ap, ◌∙◌, ◌≡◌}
+use Rattle.nit_host.proofs.Lemmas.{HostModel, frame, picture, scenery_of}
 use Rattle.nit_host.proofs.Lemmas.{sheet_in, sheets_of, shown_fresh}
 use Rattle.nit_host.proofs.host.Host.frame.Goals as goal
 
@@ -11,6 +11,6 @@ returns-clause-shown c =
     record {
       frame = e.frame ∙ shown_fresh d.state (sheet_in (sheets_of d.glasses)) d.raw c.self.invariant.0.fresh
           ∙ ap (λ (h : HostModel). frame (scenery_of h.state) (picture h)) c.self.view_is;
-      labels = subst (λ (s : State). ShowsLabels (scenery_of s) c.frame.result.now) state_ e.labels;
+      labels = rw state_ at e.labels;
       words = e.words;
     }

@@ -1,5 +1,5 @@
 use Rattle.nit_host.proofs.Lemmas.{HostModel, Ok, WasTold, ap, frame_at, option_map, seen_input}
-use Rattle.nit_host.proofs.Lemmas.{sheets_of, sym, told, unserved_input, was_told, when_served, ◌∙◌}
+use Rattle.nit_host.proofs.Lemmas.{sheets_of, sym, told, was_told, when_served, ◌∙◌}
 use Rattle.nit_host.proofs.host.Host.input.Goals as goal
 
 -- what the event left

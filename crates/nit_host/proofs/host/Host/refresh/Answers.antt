@@ -1,26 +1,24 @@
 use Rattle.std.proofs.Common.{Ok, ap, arith, length, set, subst, ◌<◌, ◌∙◌, ◌≡◌}
 use Rattle.nit_host.proofs.Lemmas.{Call, IsPlainOf, WasRefreshed, after, after_handing, frame_at}
-use Rattle.nit_host.proofs.Lemmas.{handed_plain, may_refresh}
-use Rattle.nit_host.proofs.Lemmas.{option_map, own_plain, own_room, plain_by_owner, plain_sight}
-use Rattle.nit_host.proofs.Lemmas.{quiet_sheets, quiet_with, refreshed, seen_called, serve, session}
-use Rattle.nit_host.proofs.Lemmas.{sheets_of, told_words, touch_of, unserved_refresh, was_refreshed}
-use Rattle.nit_host.proofs.Lemmas.{when_served}
+use Rattle.nit_host.proofs.Lemmas.{handed_plain, is_seat, option_map, own_plain, own_room}
+use Rattle.nit_host.proofs.Lemmas.{plain_by_owner, plain_sight, quiet_sheets, quiet_with}
+use Rattle.nit_host.proofs.Lemmas.{seen_called, serve, session, sheets_of, told_words, touch_of}
+use Rattle.nit_host.proofs.Lemmas.{was_refreshed, when_served, Sight, blank_tells, hollow_blank}
 use Rattle.nit_events.specs.declared.call.Call.TheVariants as call
 use Rattle.nit_events.specs.declared.entry.Entry.TheVariants as entry
 use Rattle.nit_host.proofs.Steps.{Serves}
 use Rattle.nit_host.proofs.host.Host.refresh.Goals as goal
-use Rattle.nit_host.proofs.Lemmas.{Sight, blank_tells, hollow_blank}
 
 pub exchange-requires-clause-glass : goal.exchange-requires-clause-glass
 exchange-requires-clause-glass c =
-    let may = may_refresh c.self.view_is c.in_default.ensures in
+    let inside = is_seat c.args.seat _ _ c.self.view_is c.in_default.ensures in
     blank_tells (hollow_blank c.self.invariant.0.hollow c.index_mut-own.ensures.value
-    (omega (arith, may.inside, c.facts.ensures.sessions)))
+    (omega (arith, inside, c.facts.ensures.sessions)))
 
 -- ---- the words are handed in
 
 abbrev client : (c : goal.After-part-1) → c.args.seat < length c.self.inside.desktop.state.config.clients
-client c = omega (arith, (may_refresh c.self.view_is c.in_default.ensures).inside, c.facts.ensures.sessions)
+client c = omega (arith, is_seat c.args.seat _ _ c.self.view_is c.in_default.ensures, c.facts.ensures.sessions)
 
 abbrev plain : (c : goal.After-part-1) → IsPlainOf c.self.inside.desktop.state.config c.args.seat
     c.exchange.new.glass.sight
@@ -38,7 +36,7 @@ hand_in-requires-clause-sheet c = record {
 -- ---- the call is served
 
 abbrev client_then : (c : goal.After-call-2-1) → c.args.seat < length c.self.inside.desktop.state.config.clients
-client_then c = omega (arith, (may_refresh c.self.view_is c.in_default.ensures).inside, c.facts.ensures.sessions)
+client_then c = omega (arith, is_seat c.args.seat _ _ c.self.view_is c.in_default.ensures, c.facts.ensures.sessions)
 
 pub serve-reply-requires-clause-own : goal.serve-reply-requires-clause-own
 serve-reply-requires-clause-own c =
@@ -58,10 +56,10 @@ serve-reply-requires-clause-quiet c =
 -- ---- what is left
 
 abbrev known : (c : goal.After-self-3-1) → c.args.seat < length c.self.inside.desktop.state.sessions
-known c = (may_refresh c.self.view_is c.in_default.ensures).inside
+known c = is_seat c.args.seat _ _ c.self.view_is c.in_default.ensures
 
 -- what the refresh left
-abbrev done : (c : goal.After-self-3-1) → WasRefreshed c.args.seat c.args.place.0 c.args.place.1 c.args.size.0
+done : (c : goal.After-self-3-1) → WasRefreshed c.args.seat c.args.place.0 c.args.place.1 c.args.size.0
     c.args.size.1 c.args.words.now c.serve-reply.result c.args.self.now
     (option_map (λ s. frame_at s.value) c.self.inside.seen) c.self.inside.desktop c.serve-reply.new.desktop
     (set c.self.inside.hollows.items c.args.seat c.serve-reply.new.own)

@@ -1,9 +1,8 @@
-use Rattle.nit_host.proofs.Lemmas.{DesktopModel, SheetModel, WasSeated, ap, arith}
-use Rattle.nit_host.proofs.Lemmas.{frame_at, free_of, may_sit, opened, option_map}
-use Rattle.nit_host.proofs.Lemmas.{refl, seated, seen_seated, set, sheets_of, unseated, was_seated}
-use Rattle.nit_host.proofs.Lemmas.{when_served, ◌∙◌}
+use Rattle.nit_host.proofs.Lemmas.{DesktopModel, SheetModel, WasSeated, ap, arith, frame_at}
+use Rattle.nit_host.proofs.Lemmas.{free_of, may_sit, opened, option_map, refl, seen_seated, set}
+use Rattle.nit_host.proofs.Lemmas.{sheets_of, was_seated, when_served, ◌∙◌, Opens, blank_again_of}
+use Rattle.nit_host.proofs.Lemmas.{blank_tells, hollow_blank}
 use Rattle.nit_host.proofs.host.Host.seat.Goals as goal
-use Rattle.nit_host.proofs.Lemmas.{Opens, blank_again_of, blank_tells, hollow_blank}
 
 pub exchange-requires-clause-glass : goal.exchange-requires-clause-glass
 exchange-requires-clause-glass c =
@@ -24,7 +23,7 @@ reopen-requires-clause-glass c =
     (omega (arith, may.inside, c.facts.ensures.sessions)) c.wipe.ensures.sight))
 
 -- what is left
-abbrev done : (c : goal.After-self-3-1) → WasSeated c.args.seat c.args.label c.args.self.now
+done : (c : goal.After-self-3-1) → WasSeated c.args.seat c.args.label c.args.self.now
     (option_map (λ s. frame_at s.value) c.self.inside.seen) c.self.inside.desktop c.reopen.new.self
     (set c.self.inside.hollows.items c.args.seat c.hollow_out.new.self)
 done c =

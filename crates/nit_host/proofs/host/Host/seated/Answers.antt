@@ -1,5 +1,5 @@
 use Rattle.nit_host.proofs.Lemmas.{DesktopModel, SheetModel, ap, arith, begun, blank_glasses}
-use Rattle.nit_host.proofs.Lemmas.{first_now, first_state, refl, sheets_of}
+use Rattle.nit_host.proofs.Lemmas.{first_now, first_state, refl}
 use Rattle.nit_host.proofs.host.Host.seated.Goals as goal
 
 pub new-requires-clause-glasses : goal.new-requires-clause-glasses

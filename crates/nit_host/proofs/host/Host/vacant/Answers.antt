@@ -1,6 +1,5 @@
-use Rattle.nit_host.proofs.Lemmas.{List, Sight, State, ap, arith, begun, blank_glasses, first_now}
-use Rattle.nit_host.proofs.Lemmas.{glass_in, refl, same_sheets, sheets_of}
-use Rattle.nit_host.proofs.Lemmas.{vacant_state}
+use Rattle.nit_host.proofs.Lemmas.{List, Sight, ap, arith, begun, blank_glasses, first_now}
+use Rattle.nit_host.proofs.Lemmas.{glass_in, refl, same_sheets, vacant_state}
 use Rattle.nit_host.proofs.host.Host.vacant.Goals as goal
 
 pub vacant-requires-clause-glasses : goal.vacant-requires-clause-glasses

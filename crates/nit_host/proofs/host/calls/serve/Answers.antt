@@ -1,7 +1,6 @@
 use Rattle.std.proofs.Common.{List, ap, arith, set, slice_get, sym, ◌∙◌, ◌≡◌}
 use Rattle.nit_events.specs.declared.entry.Entry.TheVariants as entry
-use Rattle.nit_host.proofs.Lemmas.{DesktopModel, SheetModel, painted_by_all, plain_quiet}
-use Rattle.nit_host.proofs.Lemmas.{sheets_stay}
+use Rattle.nit_host.proofs.Lemmas.{DesktopModel, SheetModel, plain_quiet, sheets_stay, with_own}
 use Rattle.nit_host.proofs.host.calls.serve.Goals as goal
 
 abbrev stay : (c : goal.After-exchange) → (c.call-reply.new.self.glasses ≡ c.args.desktop.now.glasses)
@@ -21,7 +20,7 @@ returns-clause-own c = ap (λ (gs : List SheetModel). slice_get gs c.args.seat) 
 
 pub returns-clause-painted : goal.returns-clause-painted
 returns-clause-painted c =
-    painted_by_all c.args.desktop.now.state (entry.Call c.args.seat c.args.call.now c.call-reply.result)
-    c.args.desktop.now c.call-reply.new.self c.exchange.new.self c.args.seat c.args.own.now c.call-reply.new.own
-    (stay c) (omega (arith, c.requires.session, c.facts.ensures.sessions, c.facts.ensures.glasses.each))
-    c.exchange.ensures.desktop c.call-reply.ensures.painted
+    let own = with_own c.args.desktop.now.glasses c.args.seat c.args.own.now
+    (omega (arith, c.requires.session, c.facts.ensures.sessions, c.facts.ensures.glasses.each)) in
+    rw (c.exchange.ensures.desktop, (stay c).0, (stay c).1)
+    (rw ((stay c).0, (stay c).1, own) at c.call-reply.ensures.painted)

@@ -1,4 +1,4 @@
-use Rattle.std.proofs.Common.{ap, arith, subst, sym, ℕ, ◌*◌, ◌+◌, ◌∙◌, ◌≡◌, ◌≤◌}
+use Rattle.std.proofs.Common.{ap, arith, sym, ◌∙◌, ◌≡◌}
 use Rattle.nit_host.proofs.Lemmas.{Sight, row_fits, row_more, rows_begun, rows_sized, told_words}
 use Rattle.nit_host.proofs.host.handing.hand_in_rows.Goals as goal
 
@@ -11,8 +11,7 @@ as_many c =
 
 pub hand_in-requires-clause-places : goal.hand_in-requires-clause-places
 hand_in-requires-clause-places c =
-    subst (λ (n : ℕ). c.rows.row * c.args.width + c.args.columns.1 ≤ n) (sym (as_many c))
-    (row_fits c.args.width c.args.columns.1 c.rows.row c.args.rows.1 c.args.sheet.now.sight.size
+    rw (as_many c) (row_fits c.args.width c.args.columns.1 c.rows.row c.args.rows.1 c.args.sheet.now.sight.size
     c.requires.columns.1 c.rows-test.true c.requires.places)
 
 pub hand_in-requires-clause-room : goal.hand_in-requires-clause-room

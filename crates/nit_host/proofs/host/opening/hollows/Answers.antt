@@ -1,6 +1,5 @@
-use Rattle.std.proofs.Common.{◌≡◌, ap, arith, length, ◌∙◌}
-use Rattle.nit_host.proofs.Lemmas.{Configuration, IsHollow, all_hollow, one_sheet, size_at}
-use Rattle.nit_host.proofs.Lemmas.{sized_at}
+use Rattle.std.proofs.Common.{ap, arith, length, ◌∙◌}
+use Rattle.nit_host.proofs.Lemmas.{Configuration, IsHollow, all_hollow, one_sheet, sized_at}
 use Rattle.nit_host.proofs.host.opening.hollows.Goals as goal
 
 pub seats-preserved : goal.seats-preserved
@@ -14,5 +13,4 @@ seats-preserved c =
 pub returns : goal.returns
 returns c =
     let same = c.as_slice-clients.ensures.value ∙ ap (λ (k : Configuration). k.clients) c.config.view_is in
-    let long = ap length same in
-    all_hollow (omega (arith, c.seats-test.false, c.seats.auto.seat-end, long)) c.seats.invariant
+    all_hollow (omega (arith, c.seats-test.false, c.seats.auto.seat-end, ap length same)) c.seats.invariant

@@ -1,6 +1,6 @@
 use Rattle.std.proofs.Common.{◌≡◌, ap, arith, length, ◌∙◌}
 use Rattle.nit_host.proofs.Lemmas.{Configuration, HasRoom, all_blank, all_sheets, one_sheet}
-use Rattle.nit_host.proofs.Lemmas.{size_at, sized_at}
+use Rattle.nit_host.proofs.Lemmas.{sized_at}
 use Rattle.nit_host.proofs.host.opening.sheets.Goals as goal
 
 pub seats-preserved : goal.seats-preserved
@@ -14,7 +14,6 @@ seats-preserved c =
 pub returns : goal.returns
 returns c =
     let same = c.as_slice-clients.ensures.value ∙ ap (λ (k : Configuration). k.clients) c.config.view_is in
-    let long = ap length same in
     let far : c.seats.seat ≡ length c.args.config.now.clients =
-    omega (arith, c.seats-test.false, c.seats.auto.seat-end, long) in
+    omega (arith, c.seats-test.false, c.seats.auto.seat-end, ap length same) in
     record { blank = all_blank far c.seats.invariant; room = all_sheets far c.seats.invariant }
