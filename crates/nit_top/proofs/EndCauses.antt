@@ -1,28 +1,36 @@
 -- How the work came to its end is why.
-use Rattle.nit_top.specs.Terms.{IsSetupOf}
-use Rattle.nit_top.proofs.AuditCourse.{none_put, audit_makes_none, no_outside_audit, not_run}
-use Rattle.nit_top.proofs.AuditCourse.{with_run, with_run_not, empty_course, front_none}
-use Rattle.nit_top.proofs.ToldJudgements.{some_so, told_valid, told_refused, told_codes, told_side}
-use Rattle.nit_top.proofs.ToldJudgements.{told_outside}
-use Rattle.nit_top.proofs.Basics.{AllFiles, AllScripts, AreAllFiles, AreAudited, Audit, BothFiles}
-use Rattle.nit_top.proofs.Basics.{Came, Capture, Command, Course, End, Entry, Fault, File}
-use Rattle.nit_top.proofs.Basics.{FilesRead, Gen, HasRead, HasValidFiles, IfSome, IfSome_then}
-use Rattle.nit_top.proofs.Basics.{IsAudit, IsAudited, IsBothRead, IsCommandRun, IsCutShort, IsEarly}
-use Rattle.nit_top.proofs.Basics.{IsLastRead, IsMadeBefore, IsMadeInPart, IsNotBegun, IsOutside}
-use Rattle.nit_top.proofs.Basics.{IsPutWhole, IsRefusedAt, IsRefusedWith, IsSomeAnd, IsValid}
-use Rattle.nit_top.proofs.Basics.{IsValidSo, Judged, Nested, NoCommand, NoFile, Refused, RunFiles}
-use Rattle.nit_top.proofs.Basics.{Setup, StoreModel, WithRun, asked_also, audited_line, code_of}
+use Rattle.std.proofs.Common.{◌≡◌, ℕ, true, List, Option, refl, sym, ap, subst, ◌∙◌, inl, inr, ◌⊎◌}
+use Rattle.std.proofs.Common.{Some, false, [], ◌∷◌, ◌++◌}
+use Rattle.nit_top.proofs.Basics.{Came, Command, Course, End, Entry, File, Gen, HasValidFiles}
+use Rattle.nit_top.proofs.Basics.{IfSome, IsAudit, IsAudited, IsCommandRun, IsEarly, IsMadeBefore}
+use Rattle.nit_top.proofs.Basics.{IsNotBegun, IsPutWhole, IsRefusedAt, IsRefusedWith, IsSomeAnd}
+use Rattle.nit_top.proofs.Basics.{IsValidSo, NoCommand, StoreModel, WithRun, audited_line, code_of}
+use Rattle.nit_top.proofs.Basics.{command, summary_line, totals, AllFiles, AllScripts, AreAllFiles}
+use Rattle.nit_top.proofs.Basics.{AreAudited, Audit, BothFiles, Capture, Fault, FilesRead, HasRead}
+use Rattle.nit_top.proofs.Basics.{IfSome_then, IsBothRead, IsLastRead, IsOutside, IsValid, Judged}
+use Rattle.nit_top.proofs.Basics.{Nested, NoFile, Refused, RunFiles, Setup, asked_also}
 use Rattle.nit_top.proofs.Basics.{is_outside_of, made_by, names_read, next_name, not_both, reads}
-use Rattle.nit_top.proofs.Basics.{summary_line, totals}
-use Rattle.std.proofs.Common.{◌≡◌, ℕ, true, false, List, [], ◌∷◌, ◌++◌, Option, Some, refl, sym, ap}
-use Rattle.std.proofs.Common.{subst, ◌∙◌, arith, inl, inr, ◌⊎◌}
-use Rattle.nit_top.proofs.EndCodes.{is_fault_code, not_fault, not_early_0, not_early_4, not_early_7}
+use Rattle.nit_top.proofs.CauseLemmas.{audit_makes_none, front_none, is_fault_code}
+use Rattle.nit_top.proofs.CauseLemmas.{no_outside_audit, none_put, not_code, not_run, some_so}
+use Rattle.nit_top.proofs.CauseLemmas.{told_codes, told_refused, told_side, told_valid, with_run}
+use Rattle.nit_top.proofs.CauseLemmas.{with_run_not}
+use Rattle.nit_top.proofs.StoredFiles.{SoFar}
+use Rattle.nit_top.specs.Terms.{IsSetupOf}
 use Rattle.nit_setup.specs.declared.stop.End.TheVariants as ends
 
 -- ---- what came, by its code
 
-module _ (c : Command) (old : StoreModel) (files : Option (List File)) (asked : Option (List (List ℕ)))
-    (journal : List Entry) (course : Course old c journal) where
+module _ (words : List (List ℕ)) (old new : StoreModel) (journal : List Entry)
+    (course : Course old (command words) journal) where
+  abbrev c : Command
+  c = command words
+
+  abbrev files : Option (List File)
+  files = new.files
+
+  abbrev asked : Option (List (List ℕ))
+  asked = new.asked
+
   not_begun : (name : List ℕ) → IsLastRead course files asked name → IsNotBegun course files asked
   not_begun name l = record {
     none = l.none;
@@ -66,9 +74,7 @@ module _ (c : Command) (old : StoreModel) (files : Option (List File)) (asked : 
 
   pub usage_at : (e : End) (line : List ℕ) → Came course files asked e line → code_of e ≡ 2 → c ≡ NoCommand
   usage_at ends.Usage line h n = h.0
-  usage_at (ends.Refused f) line h n = absurd (not_fault f 2 n refl)
-  usage_at (ends.Unfit f) line h n = absurd (not_fault f 2 n refl)
-  usage_at e line h n = absurd (omega arith)
+  usage_at other line h n = absurd (not_code other 2 n refl)
 
   pub refused_at : (n : ℕ) (e : End) (line : List ℕ) → Came course files asked e line → code_of e ≡ n
       → is_fault_code n ≡ true → IfSome old.files (λ told. IsRefusedWith n c told)
@@ -84,34 +90,25 @@ module _ (c : Command) (old : StoreModel) (files : Option (List File)) (asked : 
   pub whole_at : (e : End) (line : List ℕ) → Came course files asked e line → code_of e ≡ 0 → AllDone line
   whole_at ends.Whole line h n = inr h
   whole_at (ends.Audited count) line h n = inl (count, h.0, h.1)
-  whole_at (ends.Refused f) line h n = absurd (not_fault f 0 n refl)
-  whole_at (ends.Unfit f) line h n = absurd (not_fault f 0 n refl)
-  whole_at e line h n = absurd (omega arith)
+  whole_at other line h n = absurd (not_code other 0 n refl)
 
   pub before_at : (e : End) (line : List ℕ) → Came course files asked e line → code_of e ≡ 4
       → (name : List ℕ) × (IsMadeBefore course files asked name
       ⊎ WithRun course (λ run. IsRefusedAt run files asked name))
   before_at ends.WriteFault line h n = (h.0, h.1)
-  before_at (ends.Refused f) line h n = absurd (not_fault f 4 n refl)
-  before_at (ends.Unfit f) line h n = absurd (not_fault f 4 n refl)
-  before_at e line h n = absurd (omega arith)
+  before_at other line h n = absurd (not_code other 4 n refl)
 
   pub early_at : (e : End) (line : List ℕ) → Came course files asked e line → IsEarly (code_of e)
       → IsNotBegun course files asked
   early_at ends.Usage line h early = h.1
+  early_at ends.ReadFault line h early = not_begun h.0 h.1
+  early_at (ends.Refused f) line h early = not_begun h.0 h.1
   early_at (ends.Unfit f) line h early = both_begun h.1
-  early_at ends.WriteFault line h early = absurd (not_early_4 early)
-  early_at ends.NoMemory line h early = absurd (not_early_7 early)
   early_at ends.Outside line h early = outside_begun h.0
-  early_at ends.Whole line h early = absurd (not_early_0 early)
-  early_at (ends.Audited count) line h early = absurd (not_early_0 early)
-  early_at other line h early = not_begun h.0 h.1
+  early_at other line h early = absurd cc
 
   -- how far a run came, whatever the end
-  pub so_far : (e : End) (line : List ℕ) → Came course files asked e line
-      → IsNotBegun course files asked
-      ⊎ (IsMadeInPart course files asked
-      ⊎ WithRun course (λ run. IsPutWhole run files asked ⊎ IsCutShort run files asked))
+  pub so_far : (e : End) (line : List ℕ) → Came course files asked e line → SoFar course files asked
   so_far ends.Usage line h = inl h.1
   so_far (ends.Unfit f) line h = inl (both_begun h.1)
   so_far ends.WriteFault line h = elim h.1 [
@@ -149,34 +146,36 @@ module _ (c : Command) (old : StoreModel) (files : Option (List File)) (asked : 
   nothing_both : c ≡ NoCommand → IsBothRead course files asked → ⊥
   nothing_both is b = rw is at b.valid
 
-  no_run : (Holds : IsCommandRun old c journal → Type 0) → c ≡ NoCommand → WithRun course Holds → ⊥
-  no_run Holds is h = with_run_not course h (λ r x. rw is at r.files_are.of_command)
+  no_run : c ≡ NoCommand → IsCommandRun old c journal → ⊥
+  no_run is run = rw is at run.files_are.of_command
 
   -- a file that is made before a run is one of a generated run
-  pub made_none : (name : List ℕ) → made_by c ≡ [] → IsMadeBefore course files asked name → ⊥
-  made_none name none (bytes, behind, m) = not_empty m.front (name, bytes) behind (sym m.parts ∙ none)
-    where
-      not_empty : (front : List File) (f : File) (rest : List File) → front ++ f ∷ rest ≡ [] → ⊥
-      not_empty [] f rest e = cc
-      not_empty (g ∷ front) f rest e = cc
+  made_none : (name : List ℕ) → made_by c ≡ [] → IsMadeBefore course files asked name → ⊥
+  made_none name none (bytes, behind, m) =
+      let parts = sym m.parts ∙ none in
+      let last = rw (front_none m.front ((name, bytes) ∷ behind) parts) at parts in cc
+
+  -- where the command makes no files, and no run of it is begun, no put is refused
+  pub no_put : made_by c ≡ [] → (IsCommandRun old c journal → ⊥) → (Holds : IsCommandRun old c journal → Type 0)
+      → (name : List ℕ) → IsMadeBefore course files asked name ⊎ WithRun course Holds → ⊥
+  no_put none never Holds name (inl made) = made_none name none made
+  no_put none never Holds name (inr run) = with_run_not course Holds run never
 
   pub no_command : (e : End) (line : List ℕ) → c ≡ NoCommand → Came course files asked e line → (code_of e ≡ 2)
       ⊎ (code_of e ≡ 7)
   no_command ends.Usage line is h = inl refl
   no_command (ends.Unfit f) line is h = absurd (nothing_both is h.1)
-  no_command ends.WriteFault line is h =
-      absurd (elim h.1 [ inl m ↦ made_none h.0 (ap made_by is) m | inr x ↦ no_run _ is x ])
+  no_command ends.WriteFault line is h = absurd (no_put (ap made_by is) (no_run is) _ h.0 h.1)
   no_command ends.NoMemory line is h = inr refl
   no_command ends.Outside line is h = absurd (subst (λ (k : Command). IsSetupOf k h.0.setup) is h.0.valid.of_command)
-  no_command ends.Whole line is h = absurd (no_run _ is h)
+  no_command ends.Whole line is h = absurd (with_run_not course _ h (no_run is))
   no_command (ends.Audited count) line is h = absurd (subst IsAudit is h.0.audit)
   no_command other line is h = absurd (none_next c (subst ReadsNone (sym is) tt) h.1.read h.0 h.1.valid h.1.next)
 
   -- ---- where the files are refused, or valid
 
-  no_valid_run : (n : ℕ) (Holds : IsCommandRun old c journal → Type 0) → WithRun course Holds
-      → IsSomeAnd old.files (λ told. IsRefusedWith n c told) → ⊥
-  no_valid_run n Holds h r = with_run_not course h (λ run x. told_valid c old.files run.setup n run.files_are.valid r)
+  no_valid_run : (n : ℕ) → IsSomeAnd old.files (λ told. IsRefusedWith n c told) → IsCommandRun old c journal → ⊥
+  no_valid_run n r run = told_valid c old.files run.setup n run.files_are.valid r
 
   -- no file of a command that makes some is refused
   made_not_refused : (k : Command) (n : ℕ) → IsSomeAnd old.files (λ told. IsRefusedWith n k told) → made_by k ≡ []
@@ -199,10 +198,10 @@ module _ (c : Command) (old : StoreModel) (files : Option (List File)) (asked : 
   is_refused_at n (ends.Refused f) line h r = inr (inl (told_codes c old.files h.0 f n h.2 r))
   is_refused_at n (ends.Unfit f) line h r = inr (inl (told_codes c old.files h.0 f n h.2 r))
   is_refused_at n ends.WriteFault line h r =
-      absurd (elim h.1 [ inl m ↦ made_none h.0 (made_not_refused c n r) m | inr x ↦ no_valid_run n _ x r ])
+      absurd (no_put (made_not_refused c n r) (no_valid_run n r) _ h.0 h.1)
   is_refused_at n ends.NoMemory line h r = inr (inr refl)
   is_refused_at n ends.Outside line h r = absurd (told_valid c old.files h.0.setup n h.0.valid.valid r)
-  is_refused_at n ends.Whole line h r = absurd (no_valid_run n _ h r)
+  is_refused_at n ends.Whole line h r = absurd (with_run_not course _ h (no_valid_run n r))
   is_refused_at n (ends.Audited count) line h r = absurd (told_valid c old.files h.0.setup n (audit_valid count h.0) r)
 
   -- valid files are not refused
@@ -230,10 +229,9 @@ module _ (c : Command) (old : StoreModel) (files : Option (List File)) (asked : 
   outside_not other s v all out = not_both (is_outside_of other s.config) out refl
 
   -- a run was begun only where the region lies on the screen
-  no_outside_run : (Holds : IsCommandRun old c journal → Type 0) → WithRun course Holds
-      → IsSomeAnd old.files (IsValidSo c true) → ⊥
-  no_outside_run Holds h v = with_run_not course h (λ run x. not_both (is_outside_of c run.setup.config)
-      (told_side c old.files run.setup true run.files_are.valid v) run.inside)
+  no_outside_run : IsSomeAnd old.files (IsValidSo c true) → IsCommandRun old c journal → ⊥
+  no_outside_run v run = not_both (is_outside_of c run.setup.config)
+      (told_side c old.files run.setup true run.files_are.valid v) run.inside
 
   -- no file of a command that makes some is read, and no region lies outside
   made_not_outside : (k : Command) → IsSomeAnd old.files (IsValidSo k true) → made_by k ≡ []
@@ -242,10 +240,8 @@ module _ (c : Command) (old : StoreModel) (files : Option (List File)) (asked : 
 
   pub outside_at : (e : End) (line : List ℕ) → Came course files asked e line → code_of e ≡ 10
       → IfSome old.files (IsValidSo c true)
-  outside_at ends.Outside line h n = told_outside c old.files h.0.setup true h.0.valid.valid h.0.outside
-  outside_at (ends.Refused f) line h n = absurd (not_fault f 10 n refl)
-  outside_at (ends.Unfit f) line h n = absurd (not_fault f 10 n refl)
-  outside_at e line h n = absurd (omega arith)
+  outside_at ends.Outside line h n = IfSome_then old.files h.0.valid.valid (λ all v. (h.0.setup, v, h.0.outside))
+  outside_at other line h n = absurd (not_code other 10 n refl)
 
   pub is_outside_at : (e : End) (line : List ℕ) → Came course files asked e line
       → IsSomeAnd old.files (IsValidSo c true) → (code_of e ≡ 3) ⊎ ((code_of e ≡ 10) ⊎ (code_of e ≡ 7))
@@ -254,11 +250,10 @@ module _ (c : Command) (old : StoreModel) (files : Option (List File)) (asked : 
   is_outside_at ends.ReadFault line h v = inl refl
   is_outside_at (ends.Refused f) line h v = absurd (told_refused c old.files h.0 f h.2 true v)
   is_outside_at (ends.Unfit f) line h v = absurd (told_refused c old.files h.0 f h.2 true v)
-  is_outside_at ends.WriteFault line h v =
-      absurd (elim h.1 [ inl m ↦ made_none h.0 (made_not_outside c v) m | inr x ↦ no_outside_run _ x v ])
+  is_outside_at ends.WriteFault line h v = absurd (no_put (made_not_outside c v) (no_outside_run v) _ h.0 h.1)
   is_outside_at ends.NoMemory line h v = inr (inr refl)
   is_outside_at ends.Outside line h v = inr (inl refl)
-  is_outside_at ends.Whole line h v = absurd (no_outside_run _ h v)
+  is_outside_at ends.Whole line h v = absurd (with_run_not course _ h (no_outside_run v))
   is_outside_at (ends.Audited count) line h v = absurd (no_outside_audit c old.files h.0.audit v)
 
   pub is_valid_at : (e : End) (line : List ℕ) → Came course files asked e line → HasValidFiles c old.files
@@ -277,12 +272,12 @@ module _ (c : Command) (old : StoreModel) (files : Option (List File)) (asked : 
 
   -- an audit begins no run
   pub no_audit_run : (Holds : IsCommandRun old c journal → Type 0) → IsAudit c → WithRun course Holds → ⊥
-  no_audit_run Holds is h = with_run_not course h (λ run x. not_run run is)
+  no_audit_run Holds is h = with_run_not course Holds h (λ run. not_run run is)
 
   -- it leaves the files
   pub audit_same : IsAudit c → (e : End) (line : List ℕ) → Came course files asked e line → files ≡ old.files
   audit_same is ends.WriteFault line h =
-      absurd (elim h.1 [ inl m ↦ made_none h.0 (audit_makes_none c is) m | inr x ↦ no_audit_run _ is x ])
+      absurd (no_put (audit_makes_none c is) (λ run. not_run run is) _ h.0 h.1)
   audit_same is ends.NoMemory line h = elim h.0 [
     | inl b ↦ b.same
     | inr (inl (inl m)) ↦ absurd (made_none m.0 (audit_makes_none c is) m.1)
@@ -294,7 +289,3 @@ module _ (c : Command) (old : StoreModel) (files : Option (List File)) (asked : 
   audit_same is ends.Whole line h = absurd (no_audit_run _ is h)
   audit_same is (ends.Audited count) line h = h.0.same
   audit_same is other line h = h.1.same
-
-  -- and its journal is empty
-  pub audit_empty : IsAudit c → journal ≡ []
-  audit_empty is = empty_course is course

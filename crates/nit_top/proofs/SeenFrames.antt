@@ -1,22 +1,127 @@
 -- Where a pixel of the outer run's last picture shows the first session's buffer, it shows the last inner frame.
-use Rattle.std.proofs.Common.{get_or}
-use Rattle.nit_top.proofs.Basics.{frames_behind, lines_of_frames, next_frame, woven}
-use Rattle.std.proofs.Common.{suc, ◌≡◌, ◌∙◌, ℕ, ◌+◌, ◌*◌, ◌<◌, ◌≤◌, List, [], ◌∷◌, ◌++◌, map}
-use Rattle.std.proofs.Common.{length, take, None, false, refl, sym, ap, inl, inr, arith}
+use Rattle.std.proofs.Common.{◌≡◌, Bool, true, false, cond, ◌+◌, List, [], ◌∷◌, ◌++◌, length}
+use Rattle.std.proofs.Common.{nat_lt, Option, Some, None, refl, inl, inr, ◌⊎◌, ◌∙◌, ℕ, ◌*◌, ◌<◌, ℤ}
+use Rattle.std.proofs.Common.{pos, negsuc, ap, subst, get_or, suc, ◌≤◌, map, take, sym, arith}
 use Rattle.std.proofs.Common.{length-append}
-use Rattle.nit_top.proofs.Basics.{Buffer, CanPay, Configuration, Entry, HoldsAtEnd, IsJournal, Line}
-use Rattle.nit_top.proofs.Basics.{MachinesLaw, NestModel, RunFiles, Session, Setup, ShotFrame}
-use Rattle.nit_top.proofs.Basics.{ShowsFrames, ShowsNest, State, Word, buffer_size, calls_in}
-use Rattle.nit_top.proofs.Basics.{calls_of, calls_to_make, cases_Bool, donation_of, done}
+use Rattle.nit_top.proofs.Basics.{Call, Calls, Close, Event, Gets, Item, Observation, Reply}
+use Rattle.nit_top.proofs.Basics.{Session, Status, Take, accepted, after_observations, by_call}
+use Rattle.nit_top.proofs.Basics.{by_life, by_refusal, by_status, first_none, receive, refusal}
+use Rattle.nit_top.proofs.Basics.{taking, PixelSource, Point, Size, View, Word, among}
+use Rattle.nit_top.proofs.Basics.{black_or_word, buffer_place, index_at, ltb-true, mul-add-lt}
+use Rattle.nit_top.proofs.Basics.{shown_index, source_under, frames_behind, lines_of_frames}
+use Rattle.nit_top.proofs.Basics.{next_frame, woven, Buffer, CanPay, Configuration, Entry}
+use Rattle.nit_top.proofs.Basics.{HoldsAtEnd, IsJournal, Line, MachinesLaw, NestModel, RunFiles}
+use Rattle.nit_top.proofs.Basics.{Setup, ShotFrame, ShowsFrames, ShowsNest, State, buffer_size}
+use Rattle.nit_top.proofs.Basics.{calls_in, calls_of, calls_to_make, cases_Bool, donation_of, done}
 use Rattle.nit_top.proofs.Basics.{first_forbidden, first_session, frames_of, get_or-take}
 use Rattle.nit_top.proofs.Basics.{is_accepted, last_frame, nest_of, nest_script, owner_of, phases}
-use Rattle.nit_top.proofs.Basics.{pixel, projection, replay, script_in, serve, session}
-use Rattle.nit_top.proofs.Basics.{shot_frames_of, slice_index, source_at, static, tables_left}
-use Rattle.nit_top.proofs.Basics.{take_all, word_from, words_left}
+use Rattle.nit_top.proofs.Basics.{pixel, projection, replay, script_in, session, shot_frames_of}
+use Rattle.nit_top.proofs.Basics.{slice_index, source_at, static, tables_left, take_all, word_from}
+use Rattle.nit_top.proofs.Basics.{words_left}
+use Rattle.nit_journal.specs.Session.{serve}
 use Rattle.nit_top.proofs.NestedRuns.{PhasesStay}
-use Rattle.nit_top.proofs.ServedMachines.{IsServedOrBare, served_or_bare}
-use Rattle.nit_top.proofs.WordSources.{word_within}
+use Rattle.nit_events.specs.declared.event.Item.TheVariants as item
 use Rattle.nit_events.specs.declared.event.Status.TheVariants as status
+
+-- ---- a machine that is not served has no buffer
+
+abbrev pub IsServedOrBare : Session → Type 0
+IsServedOrBare s = (s.status ≡ status.Live) ⊎ (s.bw ≡ 0)
+
+-- ---- a call
+
+taking_keeps : (queue : List Event) (s : Session) → IsServedOrBare s → IsServedOrBare (taking queue s).session
+taking_keeps [] s h = h
+taking_keeps (e ∷ es) s h = h
+
+accepted_keeps : (s : Session) (call : Call) → s.status ≡ status.Live → IsServedOrBare (accepted s call).session
+accepted_keeps s Close live = inr refl
+accepted_keeps s Take live = taking_keeps s.queue s (inl live)
+accepted_keeps s other live = inl live
+
+refusal_keeps : (s : Session) (call : Call) (o : Option Reply) → (o ≡ None → s.status ≡ status.Live) → IsServedOrBare s
+    → IsServedOrBare (by_refusal s call o).session
+refusal_keeps s call (Some r) live h = h
+refusal_keeps s call None live h = accepted_keeps s call (live refl)
+
+live_if : (how : Status) → by_status how ≡ None → how ≡ status.Live
+live_if status.Live e = refl
+live_if other e = absurd cc
+
+serve_keeps : (s : Session) (call : Call) → IsServedOrBare s → IsServedOrBare (serve s call).session
+unfolding serve
+serve_keeps s call h = refusal_keeps s call (refusal s call)
+    (λ e. live_if s.status (first_none (by_status s.status) (by_call s call) e)) h
+
+-- ---- an item
+
+queued_keeps : (b : Bool) (e : Event) (s : Session) → IsServedOrBare s
+    → IsServedOrBare (cond b (record s { queue = s.queue ++ e ∷ [] }) (record s { lost = s.lost + 1 }))
+queued_keeps true e s h = h
+queued_keeps false e s h = h
+
+life_keeps : (how : Status) (i : Item) (s : Session) → IsServedOrBare s → IsServedOrBare (by_life how i s)
+life_keeps status.Live (item.Event e) s h = queued_keeps (nat_lt (length s.queue) 64) e s h
+life_keeps status.Live item.Kill s h = inr refl
+life_keeps other i s h = h
+
+-- ---- along what a session sees
+
+pub served_or_bare : (s : Session) (moments : List Observation) → IsServedOrBare s
+    → IsServedOrBare (after_observations s moments)
+served_or_bare s [] h = h
+served_or_bare s (Calls call ∷ rest) h = served_or_bare (serve s call).session rest (serve_keeps s call h)
+served_or_bare s (Gets i ∷ rest) h = served_or_bare (receive s i) rest (life_keeps s.status i s h)
+
+-- ---- a pixel whose source is a word of a session shows a place within the session's buffer
+
+abbrev number_in : Option ℕ → ℕ
+number_in None = 0
+number_in (Some n) = n
+
+among_within : (z : ℤ) (most n : ℕ) → among z most ≡ Some n → n < most
+among_within (negsuc m) most n e = absurd cc
+among_within (pos m) most n e = go (nat_lt m most) refl e
+  where
+    go : (b : Bool) → nat_lt m most ≡ b → cond b (Some m) None ≡ Some n → n < most
+    go true is e = subst (λ (k : ℕ). k < most) (ap number_in e) (ltb-true m most is)
+    go false is e = absurd cc
+
+index_within : (w h : ℕ) (x y : Option ℕ) (j : ℕ) → ((n : ℕ) → x ≡ Some n → n < w) → ((n : ℕ) → y ≡ Some n → n < h)
+    → index_at w x y ≡ Some j → j < w * h
+index_within w h (Some x) (Some y) j wide tall e =
+    subst (λ (n : ℕ). n < w * h) (ap number_in e) (mul-add-lt y w x h (tall y refl) (wide x refl))
+index_within w h (Some x) None j wide tall e = absurd cc
+index_within w h None y j wide tall e = absurd cc
+
+shown_within : (size : Size) (v : View) (p : Point) (j : ℕ) → shown_index size v p ≡ Some j → j < size.w * size.h
+shown_within size v p j e =
+    let x : ℤ = buffer_place p.x v.rect.x v.ox in
+    let y : ℤ = buffer_place p.y v.rect.y v.oy in
+    index_within size.w size.h (among x size.w) (among y size.h) j (λ n is. among_within x size.w n is)
+    (λ n is. among_within y size.h n is) e
+
+abbrev session_in : PixelSource → ℕ
+session_in (Word t j) = t
+session_in other = 0
+
+abbrev place_in : PixelSource → ℕ
+place_in (Word t j) = j
+place_in other = 0
+
+pub word_within : (sizes : ℕ → Size) (p : Point) (o : Option View) (t j : ℕ) → source_under sizes p o ≡ Word t j
+    → j < (sizes t).w * (sizes t).h
+word_within sizes p None t j e = absurd cc
+word_within sizes p (Some v) t j e = go (shown_index (sizes v.sid) v p) refl e
+  where
+    go : (o : Option ℕ) → shown_index (sizes v.sid) v p ≡ o → black_or_word v.sid o ≡ Word t j
+        → j < (sizes t).w * (sizes t).h
+    go None is e = absurd cc
+    go (Some n) is e =
+        subst (λ (k : ℕ). j < (sizes k).w * (sizes k).h) (ap session_in e)
+        (shown_within (sizes v.sid) v p j (is ∙ ap Some (ap place_in e)))
+
+-- ---- the last frame
 
 -- what the laws of scripts and nests say
 pub record SeenLaws : Type 0 where

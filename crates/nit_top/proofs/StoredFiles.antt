@@ -4,14 +4,12 @@ use Rattle.std.proofs.Common.{◌≡◌, ◌≢◌, ℕ, List, [], ◌∷◌, Op
 use Rattle.std.proofs.Common.{arith, ◌++◌, refl, inl, inr, ◌⊎◌}
 use Rattle.nit_top.proofs.Basics.{All, All-from_recursion, AllByRecursion, Apart, AreStored, Begun}
 use Rattle.nit_top.proofs.Basics.{Came, Command, Course, End, Entry, File, HasDifferentNames}
-use Rattle.nit_top.proofs.Basics.{IsAudited, IsCommandRun, IsCutShort, IsMadeInPart, IsMadeUpTo}
+use Rattle.nit_top.proofs.Basics.{IsCommandRun, IsCutShort, IsMadeInPart, IsMadeUpTo}
 use Rattle.nit_top.proofs.Basics.{IsNotBegun, IsPutBefore, IsPutWhole, NotBegun, OtherThan, PutEach}
 use Rattle.nit_top.proofs.Basics.{PutFiles, Stand, StandIn, StoreModel, WithRun, WithoutRun}
 use Rattle.nit_top.proofs.Basics.{apart_front, apart_of, append-nil, code_of, file_at, made_by}
 use Rattle.nit_top.proofs.Basics.{stays, to_put}
-use Rattle.nit_top.proofs.AuditCourse.{audit_makes_none, with_run}
-use Rattle.nit_top.proofs.EndCauses.{so_far}
-use Rattle.nit_top.proofs.EndCodes.{not_fault}
+use Rattle.nit_top.proofs.CauseLemmas.{audit_makes_none, not_code, with_run}
 use Rattle.nit_setup.specs.declared.stop.End.TheVariants as ends
 
 each_stands : (files old new : List File) → Apart files → PutEach files old new
@@ -57,6 +55,13 @@ none_put : (old new : Option (List File)) → new ≡ old → PutFiles [] old ne
 none_put None new same = same
 none_put (Some all) new same = (all, same, refl)
 
+-- how far a command came, whatever the end
+abbrev pub SoFar : {old : StoreModel} {c : Command} {journal : List Entry} → Course old c journal → Option (List File)
+    → Option (List (List ℕ)) → Type 0
+SoFar course files asked = IsNotBegun course files asked
+    ⊎ (IsMadeInPart course files asked
+    ⊎ WithRun course (λ run. IsPutWhole run files asked ⊎ IsCutShort run files asked))
+
 module _ (law : NamesLaw) (c : Command) (old : StoreModel) (files : Option (List File)) (asked : Option (List (List ℕ)))
     (journal : List Entry) (status : ℕ) where
   first_put : (course : Course old c journal) (front back : List File) → to_put course ≡ front ++ back
@@ -76,58 +81,34 @@ module _ (law : NamesLaw) (c : Command) (old : StoreModel) (files : Option (List
   all_stored (Begun run) h = first_put (Begun run) run.puts [] (sym (append-nil run.puts)) (λ s. refl) h.put
   all_stored (NotBegun empty) h = absurd h
 
-  audit_stored : (course : Course old c journal) (count : ℕ) → IsAudited course files asked count
-      → AreStored (to_put course) status old.files files
-  audit_stored course count a = first_put course [] [] (made_then course a.none ∙ audit_makes_none c a.audit)
-      (λ s. refl) (none_put old.files files a.same)
-
   -- at a status that is not 0
   module _ (some : status ≡ 0 → ⊥) where
-    none_stored : (course : Course old c journal) → IsNotBegun course files asked
-        → AreStored (to_put course) status old.files files
-    none_stored course n = first_put course [] (to_put course) refl (λ s. absurd (some s))
-        (none_put old.files files n.same)
-
     made_stored : (course : Course old c journal) (last : List File) (more : List (List ℕ))
         → IsMadeUpTo course files asked last more → AreStored (to_put course) status old.files files
     made_stored course last more m =
         first_put course m.front last (made_then course m.none ∙ m.parts) (λ s. absurd (some s)) m.put
-
-    part_stored : (course : Course old c journal) → IsMadeInPart course files asked
-        → AreStored (to_put course) status old.files files
-    part_stored course (inl (name, (bytes, behind, m))) = made_stored course ((name, bytes) ∷ behind) (name ∷ []) m
-    part_stored course (inr (last, m)) = made_stored course last [] m
 
     before_stored : (run : IsCommandRun old c journal) (name : List ℕ) (more : List (List ℕ))
         → IsPutBefore run files asked name more → AreStored run.puts status old.files files
     before_stored run name more b =
         first_put (Begun run) b.front ((name, b.bytes) ∷ b.back) b.parts (λ s. absurd (some s)) b.put
 
-    run_stored : (course : Course old c journal)
-        → WithRun course (λ run. IsPutWhole run files asked ⊎ IsCutShort run files asked)
+    far_stored : (course : Course old c journal) → SoFar course files asked
         → AreStored (to_put course) status old.files files
-    run_stored (Begun run) (inl whole) = all_stored (Begun run) whole
-    run_stored (Begun run) (inr (name, inl b)) = before_stored run name (name ∷ []) b
-    run_stored (Begun run) (inr (name, inr b)) = before_stored run name [] b
-    run_stored (NotBegun empty) h = absurd h
-
-    far_stored : (course : Course old c journal) → IsNotBegun course files asked
-        ⊎ (IsMadeInPart course files asked
-        ⊎ WithRun course (λ run. IsPutWhole run files asked ⊎ IsCutShort run files asked))
-        → AreStored (to_put course) status old.files files
-    far_stored course (inl n) = none_stored course n
-    far_stored course (inr (inl m)) = part_stored course m
-    far_stored course (inr (inr r)) = run_stored course r
+    far_stored course (inl n) = first_put course [] (to_put course) refl (λ s. absurd (some s))
+        (none_put old.files files n.same)
+    far_stored course (inr (inl (inl (name, (bytes, behind, m))))) =
+        made_stored course ((name, bytes) ∷ behind) (name ∷ []) m
+    far_stored course (inr (inl (inr (last, m)))) = made_stored course last [] m
+    far_stored (Begun run) (inr (inr (inl whole))) = all_stored (Begun run) whole
+    far_stored (Begun run) (inr (inr (inr (name, inl b)))) = before_stored run name (name ∷ []) b
+    far_stored (Begun run) (inr (inr (inr (name, inr b)))) = before_stored run name [] b
+    far_stored (NotBegun empty) (inr (inr h)) = absurd h
 
   pub stored : (course : Course old c journal) (e : End) (line : List ℕ) → Came course files asked e line
-      → (status ≡ 0 → code_of e ≡ 0) → AreStored (to_put course) status old.files files
-  stored course ends.Whole line h zero = all_stored course (with_run course h (λ run p. p.0))
-  stored course (ends.Audited count) line h zero = audit_stored course count h.0
-  stored course (ends.Refused f) line h zero =
-      far_stored (λ s. not_fault f 0 (zero s) refl) course
-      (so_far c old files asked journal course (ends.Refused f) line h)
-  stored course (ends.Unfit f) line h zero =
-      far_stored (λ s. not_fault f 0 (zero s) refl) course
-      (so_far c old files asked journal course (ends.Unfit f) line h)
-  stored course e line h zero =
-      far_stored (λ s. let is = zero s in omega arith) course (so_far c old files asked journal course e line h)
+      → SoFar course files asked → (status ≡ 0 → code_of e ≡ 0) → AreStored (to_put course) status old.files files
+  stored course ends.Whole line h far zero = all_stored course (with_run course h (λ run p. p.0))
+  stored course (ends.Audited count) line h far zero =
+      first_put course [] [] (made_then course h.0.none ∙ audit_makes_none c h.0.audit) (λ s. refl)
+      (none_put old.files files h.0.same)
+  stored course other line h far zero = far_stored (λ s. not_code other 0 (zero s) refl) course far

@@ -1,7 +1,8 @@
-use Rattle.std.proofs.Common.{◌∙◌, List, ◌∷◌, ◌++◌, refl, ap, Some}
+use Rattle.std.proofs.Common.{◌∙◌, List, ◌∷◌, ◌++◌, refl, ap, Some, subst}
+use Rattle.nit_top.proofs.Basics.{MayShowFrames}
 use Rattle.nit_top.proofs.Lemmas.{AreOutputs, AreShots, Entry, File, IsInnerJournal, RunFiles}
 use Rattle.nit_top.proofs.Lemmas.{SeenLaws, Setup, begun_first, by_turns, final_name, final_picture}
-use Rattle.nit_top.proofs.Lemmas.{first_counts, first_may, first_state, fits_first, frames_pictured}
+use Rattle.nit_top.proofs.Lemmas.{first_counts, first_state, fits_first, frames_pictured}
 use Rattle.nit_top.proofs.Lemmas.{nest_of, seen, shots_of, shown_first, text_files}
 use Rattle.nit_top.proofs.laws.inner_runs_are_seen.Goals as goal
 
@@ -65,7 +66,7 @@ returns-clause-seen c = λ old outer inner journal run.
                 λ j at.
                     seen laws s journal run.headline.one_journal n.i own rest scripts
                     run.files_are.runnable.configured.count.0
-                    (first_may n.o.scripts own rest begun.2 n.is_outer.may)
+                    (subst MayShowFrames begun.2 n.is_outer.may)
                     (first_counts n.o n.i own rest begun.2 n.is_outer none)
                     (rw scripts at n.shows) k e.0 j e.1 at,
               ),

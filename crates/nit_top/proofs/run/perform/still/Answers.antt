@@ -1,22 +1,12 @@
 use Rattle.nit_top.proofs.Lemmas.{Configuration, InputLine, Line, idle_user, inl, performed_ends}
 use Rattle.nit_top.proofs.Lemmas.{rules, setup_of, still_configuration, still_setup, stopped_ends}
-use Rattle.nit_top.proofs.Lemmas.{texts}
-use Rattle.std.proofs.Common.{◌≡◌, false, ◌∷◌, [], ℕ, List, None, refl}
+use Rattle.std.proofs.Common.{◌≡◌, false, ◌∷◌, [], ℕ, List, refl}
 use Rattle.nit_top.proofs.run.perform.still.Goals as goal
 
 same_setup : (width height : ℕ) (config : Configuration) (lines : List Line) (input : List InputLine)
     → config ≡ still_configuration width height → input ≡ idle_user lines
     → setup_of config (lines ∷ []) input false false ≡ still_setup width height lines
-same_setup width height config lines input c i = λ j. record {
-  config = c j;
-  scripts = lines ∷ [];
-  input = i j;
-  texts = false;
-  beside = false;
-  made = [];
-  inner = None;
-  clips = [];
-}
+same_setup width height config lines input c i = rw (c, i) refl
 
 pub returns-in-Err : goal.returns-in-Err
 returns-in-Err g c =
