@@ -8,15 +8,15 @@ pub use Rattle.nit_actor.specs.Terms.{IsPictureAmong, IsQuietlyOn, IsRoleIn, Lin
 pub use Rattle.nit_actor.specs.Terms.{OpeningParts, Pair, PairIsOneOn, PairIsThrough, PairRole}
 pub use Rattle.nit_actor.specs.Terms.{PassModel, PutState, PutsNext, PutsShotsBehind, Reply, Role}
 pub use Rattle.nit_actor.specs.Terms.{RoomModel, Routed, ShotsBehind, Sight, StepOn, StepTogether}
-pub use Rattle.nit_actor.specs.Terms.{StoreModel, TakesShots, Tells, TellsShot, UserAction}
-pub use Rattle.nit_actor.specs.Terms.{UserBelongs, UserPassModel, UserRole, action_of}
-pub use Rattle.nit_actor.specs.Terms.{actions_to_be, after_arrival, arrived_one, call_of_line}
-pub use Rattle.nit_actor.specs.Terms.{calls_in, clip_phases, clip_phases_before, clip_role_of}
-pub use Rattle.nit_actor.specs.Terms.{cons_option, idle_user, is_clip_phase, is_dirtied, is_phase}
-pub use Rattle.nit_actor.specs.Terms.{lesser, next_device, pair_phase_left, pair_role_of}
-pub use Rattle.nit_actor.specs.Terms.{phase_left, phases, phases_before, phases_left, picture}
-pub use Rattle.nit_actor.specs.Terms.{pixel, raw_behind, replay, role_of, scenery_of, shot_name}
-pub use Rattle.nit_actor.specs.Terms.{shots, shown, slice_index, slice_index_or, user_actions_from}
+pub use Rattle.nit_actor.specs.Terms.{StoreModel, TakesShots, Tells, TellsShot, UserBelongs}
+pub use Rattle.nit_actor.specs.Terms.{UserPassModel, UserRole, action_of, actions_to_be}
+pub use Rattle.nit_actor.specs.Terms.{after_arrival, arrived_one, call_of_line, calls_in}
+pub use Rattle.nit_actor.specs.Terms.{clip_phases_before, clip_role_of, cons_option, idle_user}
+pub use Rattle.nit_actor.specs.Terms.{is_clip_phase, is_dirtied, is_phase, lesser, next_device}
+pub use Rattle.nit_actor.specs.Terms.{pair_phase_left, pair_role_of, phase_left, phases}
+pub use Rattle.nit_actor.specs.Terms.{phases_before, phases_left, picture, pixel, raw_behind}
+pub use Rattle.nit_actor.specs.Terms.{replay, role_of, scenery_of, shot_name, shots, shown}
+pub use Rattle.nit_actor.specs.Terms.{slice_index, slice_index_or, user_actions_from}
 pub use Rattle.nit_actor.specs.Terms.{user_actions_in, user_actions_of, user_actions_to_do}
 pub use Rattle.nit_actor.specs.Terms.{user_phase_left, user_role_of}
 pub use Rattle.nit_hall.proofs.ForCallers.{actions_line, counted_more, counted_same, not_both}
@@ -26,12 +26,11 @@ pub use Rattle.nit_rounds.proofs.ForCallers.{as_many_files, file_of_a_shot, file
 pub use Rattle.nit_rounds.proofs.ForCallers.{shots_along, shots_both}
 pub use Rattle.nit_stack.proofs.ForCallers.{drop_at}
 pub use Rattle.nit_store.proofs.ForCallers.{puts_both}
-pub use Rattle.std.proofs.Common.{All, Bool, Contains, IfSome, List, None, Option, Some, [], ap}
-pub use Rattle.std.proofs.Common.{append_assoc, ap₂, arith, cond, count_by, drop, false, filter_map}
-pub use Rattle.std.proofs.Common.{get_or, inl, inr, length, length-append, length-drop, map, min}
-pub use Rattle.std.proofs.Common.{refl, replicate, rules, set, subst, suc, sym, take, ℕ, ◌∙◌}
-pub use Rattle.std.proofs.Math.Nat.{min-eq_left, min-eq_right, min-le_left, min-le_right}
-pub use Rattle.std.proofs.lemmas.Bool.{and_parts, cases_lt, eq-eqb, eqb-true}
+pub use Rattle.std.proofs.Common.{All, Bool, IfSome, List, None, Option, Some, [], ap, append_assoc}
+pub use Rattle.std.proofs.Common.{ap₂, arith, cond, count_by, drop, false, filter_map, get_or, inl}
+pub use Rattle.std.proofs.Common.{inr, length, length-append, length-drop, map, min, refl}
+pub use Rattle.std.proofs.Common.{replicate, rules, set, subst, suc, sym, take, ℕ, ◌∙◌}
+pub use Rattle.std.proofs.lemmas.Bool.{cases_lt, eq-eqb, eqb-true}
 pub use Rattle.std.proofs.lemmas.List.{append-nil, length-map, take_all, take_more}
 pub use Rattle.std.proofs.lemmas.List.Elements.{All-cons, All-push, All-set, Contains-append_left}
 pub use Rattle.std.proofs.lemmas.List.Elements.{Contains-push, filter_map-append}

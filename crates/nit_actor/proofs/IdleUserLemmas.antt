@@ -1,17 +1,16 @@
 -- One client and a user who does nothing, stepped together.
-use Rattle.nit_actor.proofs.Basics.{Action, Belongs, Bool, Call, Calls, Entry, Line, List, Option}
-use Rattle.nit_actor.proofs.Basics.{PassModel, Reply, Role, RoomModel, Sight, Some, StepOn}
-use Rattle.nit_actor.proofs.Basics.{StepTogether, UserBelongs, UserPassModel, [], action_of}
-use Rattle.nit_actor.proofs.Basics.{actions_to_be, after_arrival, ap, ap₂, arith, arrived_one}
-use Rattle.nit_actor.proofs.Basics.{call_of_line, calls_in, cond, count_by, drop, drop_at, false}
-use Rattle.nit_actor.proofs.Basics.{idle_user, is_phase, length, length-drop, map, refl, replicate}
-use Rattle.nit_actor.proofs.Basics.{role_of, subst, suc, sum_by-cons, sym, user_actions_from}
-use Rattle.nit_actor.proofs.Basics.{user_actions_to_do}
-use Rattle.std.proofs.Common.{slice_get, zero, ℕ, ◌++◌, ◌+◌, ◌∙◌, ◌∷◌, ◌≡◌, ◌≤◌}
+use Rattle.nit_actor.proofs.Basics.{Action, Call, Calls, Entry, Line, List, Option, PassModel}
+use Rattle.nit_actor.proofs.Basics.{Reply, Role, RoomModel, Sight, Some, StepOn, StepTogether}
+use Rattle.nit_actor.proofs.Basics.{UserPassModel, [], action_of, actions_to_be, after_arrival, ap}
+use Rattle.nit_actor.proofs.Basics.{ap₂, arith, arrived_one, call_of_line, calls_in, cond, count_by}
+use Rattle.nit_actor.proofs.Basics.{drop, drop_at, false, idle_user, is_phase, length, length-drop}
+use Rattle.nit_actor.proofs.Basics.{map, refl, replicate, role_of, suc, sum_by-cons}
+use Rattle.nit_actor.proofs.Basics.{user_actions_from, user_actions_to_do}
+use Rattle.std.proofs.Common.{slice_get, zero, zero-add, ℕ, ◌++◌, ◌+◌, ◌∙◌, ◌∷◌, ◌≡◌, ◌≤◌}
+use Rattle.std.proofs.lemmas.List.{drop_all}
 use Rattle.nit_events.specs.declared.entry.Entry.TheVariants as entry
 use Rattle.nit_script.specs.declared.line.Line.TheVariants as line
 use Rattle.nit_script.specs.declared.line.InputLine.TheVariants as input
-use Rattle.nit_actor.proofs.RoleLemmas.{fits_belongs, role_fits, user_again}
 
 -- ---- what is left of a list
 
@@ -22,26 +21,15 @@ first_left (suc k) [] x ys e = absurd (cc)
 first_left (suc k) (y ∷ xs) x ys e = first_left k xs x ys e
 
 others_left : {X : Type 0} (k : ℕ) (xs : List X) (x : X) (ys : List X) → drop k xs ≡ x ∷ ys → drop (k + 1) xs ≡ ys
-others_left k xs x ys e =
-    let at = first_left k xs x ys e in
-    let same : x ∷ drop (k + 1) xs ≡ x ∷ ys = sym (drop_at xs k x at) ∙ e in
-    cc
-
-nothing_left : (ls : List Line) (k : ℕ) → k ≡ length ls → drop k ls ≡ []
-nothing_left [] zero e = refl
-nothing_left [] (suc k) e = absurd (omega (arith, e))
-nothing_left (l ∷ ls) zero e = absurd (omega (arith, e))
-nothing_left (l ∷ ls) (suc k) e = nothing_left ls k (omega (arith, e))
+others_left k xs x ys e = cc (drop_at xs k x (first_left k xs x ys e), e)
 
 -- the next line is a call, and this one
 pub at_call : (o : Option Line) (l : Line) (c : Call) → o ≡ Some l → l ≡ line.Call c
     → o ≡ Some (line.Call (call_of_line o))
-at_call o l c at is =
-    let found : o ≡ Some (line.Call c) = at ∙ ap (λ (x : Line). Some x) is in
-    found ∙ ap (λ (d : Call). Some (line.Call d)) (sym (ap call_of_line found))
+at_call o l c at is = rw (at, is)
 
 pub at_line : (o : Option Line) (l m : Line) → o ≡ Some l → l ≡ m → o ≡ Some m
-at_line o l m at is = at ∙ ap (λ (x : Line). Some x) is
+at_line o l m at is = rw (at, is)
 
 -- ---- the idle user
 
@@ -50,10 +38,7 @@ count_line : (l : Line) (ls : List Line)
 count_line l ls = sum_by-cons _ l ls
 
 pub idle_on : (l : Line) (ls : List Line) → is_phase l ≡ false → idle_user (l ∷ ls) ≡ idle_user ls
-idle_on l ls other =
-    let n : count_by is_phase (l ∷ ls) ≡ count_by is_phase ls = count_line l ls
-    ∙ ap (λ (b : Bool). cond {A = ℕ} b 1 0 + count_by is_phase ls) other ∙ omega arith in
-    ap (λ (k : ℕ). replicate k input.Phase) n
+idle_on l ls other = rw (count_line l ls, other, zero-add (count_by is_phase ls))
 
 pub idle_phase : (ls : List Line) → idle_user (line.Phase ∷ ls) ≡ input.Phase ∷ idle_user ls
 idle_phase ls =
@@ -62,25 +47,22 @@ idle_phase ls =
 
 -- ---- one line of the client's
 
-pub step_on : (r r' : RoomModel) (p p' : PassModel) (u : UserPassModel) (l : Line) (met : ℕ) (seen : List Entry)
-    (sight : Sight)
-    → StepTogether r p u → slice_get p.script p.next ≡ Some l → is_phase l ≡ false
+pub step_on : {r r' : RoomModel} {p p' : PassModel} {u : UserPassModel} {l : Line} {met : ℕ} {seen : List Entry}
+    {sight : Sight} → StepTogether r p u → slice_get p.script p.next ≡ Some l → is_phase l ≡ false
     → r'.parts ≡ r.parts → r'.phase ≡ r.phase → r'.arrived ≡ r.arrived
     → p' ≡ record p { next = p.next + 1; met = met; seen = seen; sight = sight } → StepOn r p u r' p' u
-step_on r r' p p' u l met seen sight s at other parts phase arrived is =
-    subst (λ (q : PassModel). StepOn r p u r' q u) (sym is)
-    (record {
+step_on {p = p} {l = l} s at other parts phase arrived is =
+    rw is (record {
       step = record {
-        one = ap (λ x. length x.scripts) parts ∙ s.one;
-        belongs = subst (λ x. Belongs x (record p { next = p.next + 1; met = met; seen = seen; sight = sight }))
-            (sym parts) (fits_belongs r.parts _ (role_fits r.parts p s.belongs));
-        user_belongs = subst (λ x. UserBelongs x u) (sym parts) s.user_belongs;
-        phase = s.phase ∙ sym phase;
-        user_phase = s.user_phase ∙ sym phase;
-        arrived = arrived ∙ s.arrived;
+        one = rw parts s.one;
+        belongs = rw parts (assumption s.belongs);
+        user_belongs = rw parts s.user_belongs;
+        phase = rw phase s.phase;
+        user_phase = rw phase s.user_phase;
+        arrived = rw arrived s.arrived;
         idle = s.idle ∙ ap idle_user (drop_at p.script p.next l at) ∙ idle_on l (drop (p.next + 1) p.script) other;
       };
-      pass = record { same = refl; next = refl };
+      pass = assumption;
       user_same = refl;
       parts = parts;
     })
@@ -95,51 +77,45 @@ user_at_phase r p u s at =
     (s.idle ∙ ap idle_user (drop_at p.script p.next line.Phase at) ∙ idle_phase (drop (p.next + 1) p.script))
 
 one_arrived : (n phase arrived : ℕ) → n ≡ 1 → arrived ≡ 0 → after_arrival n phase arrived ≡ (phase, 1)
-one_arrived n phase arrived one none = ap (λ (x : ℕ). after_arrival x phase arrived) one
-    ∙ ap (λ (x : ℕ). after_arrival 1 phase x) none
+one_arrived n phase arrived one none = rw (one, none)
 
 both_arrived : (n phase arrived : ℕ) → n ≡ 1 → arrived ≡ 1 → after_arrival n phase arrived ≡ (phase + 1, 0)
-both_arrived n phase arrived one has = ap (λ (x : ℕ). after_arrival x phase arrived) one
-    ∙ ap (λ (x : ℕ). after_arrival 1 phase x) has
+both_arrived n phase arrived one has = rw (one, has)
 
-pub phase_ended : (r r1 r2 : RoomModel) (p p' : PassModel) (u u' : UserPassModel) (n m : ℕ) (seen known : List Entry)
-    (raws : List (List ℕ)) → StepTogether r p u → slice_get p.script p.next ≡ Some line.Phase
+pub phase_ended : {r r1 r2 : RoomModel} {p p' : PassModel} {u u' : UserPassModel} (n m : ℕ) {seen known : List Entry}
+    {raws : List (List ℕ)} → StepTogether r p u → slice_get p.script p.next ≡ Some line.Phase
     → r1 ≡ arrived_one r n → r2 ≡ arrived_one r1 m
     → p' ≡ record p { next = p.next + 1; phase = p.phase + 1; seen = seen }
     → u' ≡ record u { next = u.next + 1; phase = u.phase + 1; seen = known; raws = raws } → StepOn r p u r2 p' u'
-phase_ended r r1 r2 p p' u u' n m seen known raws s at is_first is_second passed user_passed =
-    let rooms : r2 ≡ arrived_one (arrived_one r n) m = is_second ∙ ap (λ (x : RoomModel). arrived_one x m) is_first in
+phase_ended {r = r} {p = p} {u = u} n m s at is_first is_second passed user_passed =
     let first = one_arrived (length r.parts.scripts) r.phase r.arrived s.one s.arrived in
     let then = both_arrived (length r.parts.scripts) (arrived_one r n).phase (arrived_one r n).arrived s.one
     (ap (λ x. x.1) first) in
     let served : (arrived_one (arrived_one r n) m).phase ≡ r.phase + 1 = ap (λ x. x.0) then
     ∙ ap (λ (x : ℕ × ℕ). x.0 + 1) first in
-    subst (λ (x : RoomModel). StepOn r p u x p' u') (sym rooms)
-    (subst (λ (x : PassModel). StepOn r p u (arrived_one (arrived_one r n) m) x u') (sym passed)
-    (subst (λ (x : UserPassModel). StepOn r p u (arrived_one (arrived_one r n) m)
-    (record p { next = p.next + 1; phase = p.phase + 1; seen = seen }) x) (sym user_passed)
-    (record {
+    let idle = others_left u.next u.input input.Phase (idle_user (drop (p.next + 1) p.script))
+    (s.idle ∙ ap idle_user (drop_at p.script p.next line.Phase at) ∙ idle_phase (drop (p.next + 1) p.script)) in
+    rw (is_second, is_first, passed, user_passed) (record {
       step = record {
         one = s.one;
-        belongs = fits_belongs r.parts _ (role_fits r.parts p s.belongs);
-        user_belongs = user_again r.parts u _ s.user_belongs refl;
-        phase = ap (λ (x : ℕ). x + 1) s.phase ∙ sym served;
-        user_phase = ap (λ (x : ℕ). x + 1) s.user_phase ∙ sym served;
+        belongs = assumption s.belongs;
+        user_belongs = assumption s.user_belongs;
+        phase = rw (s.phase, served);
+        user_phase = rw (s.user_phase, served);
         arrived = ap (λ x. x.1) then;
-        idle = others_left u.next u.input input.Phase (idle_user (drop (p.next + 1) p.script))
-            (s.idle ∙ ap idle_user (drop_at p.script p.next line.Phase at) ∙ idle_phase (drop (p.next + 1) p.script));
+        idle = idle;
       };
-      pass = record { same = refl; next = refl };
+      pass = assumption;
       user_same = refl;
       parts = refl;
-    })))
+    })
 
 -- ---- at the end
 
 pub user_ended : (r : RoomModel) (p : PassModel) (u : UserPassModel) → StepTogether r p u → p.next ≡ length p.script
     → u.next ≤ length u.input → u.next ≡ length u.input
 user_ended r p u s ended within =
-    let none : drop u.next u.input ≡ [] = s.idle ∙ ap idle_user (nothing_left p.script p.next ended) in
+    let none = s.idle ∙ ap idle_user (drop_all p.next p.script (omega arith)) in
     omega (arith, ap length none, length-drop u.next u.input, within)
 
 -- ---- what is recorded
@@ -147,30 +123,23 @@ user_ended r p u s ended within =
 acts_behind : (es : List Entry) (e : Entry) (more : List Action) → map action_of (es ++ e ∷ []) ++ more
     ≡ map action_of es ++ (action_of e ∷ more)
 acts_behind [] e more = refl
-acts_behind (x ∷ es) e more = ap (λ (xs : List Action). action_of x ∷ xs) (acts_behind es e more)
+acts_behind (x ∷ es) e more = rw (acts_behind es e more)
 
-pub call_recorded : (entries now : List Entry) (p p' : PassModel) (c : Call) (r : Reply) (met : ℕ) (seen : List Entry)
-    (sight : Sight) → slice_get p.script p.next ≡ Some (line.Call c)
+pub call_recorded : (entries : List Entry) (p : PassModel) (r : Reply) {now seen : List Entry} {p' : PassModel}
+    {c : Call} {met : ℕ} {sight : Sight} → slice_get p.script p.next ≡ Some (line.Call c)
     → now ≡ entries ++ entry.Call p.sid c r ∷ []
     → p' ≡ record p { next = p.next + 1; met = met; seen = seen; sight = sight }
     → actions_to_be now p' ≡ actions_to_be entries p
-call_recorded entries now p p' c r met seen sight at recorded is =
-    ap (λ (x : PassModel). actions_to_be now x) is
-    ∙ ap (λ (es : List Entry). map action_of es ++ map (Calls p.sid) (calls_in (drop (p.next + 1) p.script)))
-    recorded
-    ∙ acts_behind entries (entry.Call p.sid c r) (map (Calls p.sid) (calls_in (drop (p.next + 1) p.script)))
-    ∙ ap (λ (ls : List Line). map action_of entries ++ map (Calls p.sid) (calls_in ls))
-    (sym (drop_at p.script p.next (line.Call c) at))
+call_recorded entries p r {c = c} at recorded is =
+    rw (is, recorded, drop_at p.script p.next (line.Call c) at) (acts_behind entries (entry.Call p.sid c r) _)
 
 -- a line that is no call records nothing
 pub nothing_recorded : (entries now : List Entry) (p p' : PassModel) (l : Line) → slice_get p.script p.next ≡ Some l
     → ((ls : List Line) → calls_in (l ∷ ls) ≡ calls_in ls)
     → now ≡ entries → role_of p' ≡ role_of p → p'.next ≡ p.next + 1 → actions_to_be now p' ≡ actions_to_be entries p
 nothing_recorded entries now p p' l at none same role next =
-    ap (λ (es : List Entry). actions_to_be es p') same
-    ∙ ap₂ (λ (r : Role) (n : ℕ). map action_of entries ++ map (Calls r.sid) (calls_in (drop n r.script))) role next
-    ∙ ap (λ (cs : List Call). map action_of entries ++ map (Calls p.sid) cs) (sym (none (drop (p.next + 1) p.script))
-    ∙ ap calls_in (sym (drop_at p.script p.next l at)))
+    ap₂ (λ (r : Role) (n : ℕ). map action_of now ++ map (Calls r.sid) (calls_in (drop n r.script))) role next
+    ∙ rw (same, drop_at p.script p.next l at, none (drop (p.next + 1) p.script))
 
 -- ---- the idle user's actions
 

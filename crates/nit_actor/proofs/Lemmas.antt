@@ -7,13 +7,10 @@ pub use Rattle.nit_actor.proofs.Basics.{file_of_a_shot, filter_map, length, next
 pub use Rattle.nit_actor.proofs.Basics.{refl, replay, role_of, rules, same_throughout, scenery_of}
 pub use Rattle.nit_actor.proofs.Basics.{shown, slice_index, slice_index_or, subst, sym, take}
 pub use Rattle.nit_actor.proofs.Basics.{user_role_of, ℕ, ◌∙◌}
-pub use Rattle.nit_actor.proofs.HistoryLemmas.{held_still}
+pub use Rattle.nit_actor.proofs.Shots.{also, grown_raws, held_still, puts_shot, quiet_device}
+pub use Rattle.nit_actor.proofs.Shots.{quiet_phase, ready_again}
 pub use Rattle.nit_actor.proofs.IdleUserLemmas.{at_call, at_line, call_recorded, idle_actions}
 pub use Rattle.nit_actor.proofs.IdleUserLemmas.{nothing_recorded, phase_ended, step_on}
 pub use Rattle.nit_actor.proofs.IdleUserLemmas.{user_at_phase, user_ended}
-pub use Rattle.nit_actor.proofs.LeastPhases.{all_ended, left_in_all, left_more, none_before}
-pub use Rattle.nit_actor.proofs.LeastPhases.{pair_none}
-pub use Rattle.nit_actor.proofs.Pairs.{pairs_again}
-pub use Rattle.nit_actor.proofs.RoleLemmas.{all_again, same_set}
-pub use Rattle.nit_actor.proofs.Shots.{also, grown_raws, puts_shot, quiet_device, quiet_phase}
-pub use Rattle.nit_actor.proofs.Shots.{ready_again}
+pub use Rattle.nit_actor.proofs.Roles.{all_again, all_ended, left_in_all, left_more}
+pub use Rattle.nit_actor.proofs.Roles.{none_before, pair_none, pairs_again, same_set}

@@ -1,9 +1,5 @@
-pub mod RoleLemmas
-pub mod PhaseCounts
-pub mod Pairs
-pub mod LeastPhases
+pub mod Roles
 pub mod Shots
-pub mod HistoryLemmas
 pub mod IdleUserLemmas
 pub mod ForCallers
 pub mod Basics

@@ -77,7 +77,7 @@ impl<'h, 'a, N: Name, K: Checkpoint> Actor<GatedHall<'h, 'a, N, K>> for Pass<'a>
         }
     }
 
-    #[tactic(auto, using(crate::proofs::LeastPhases::client_none))]
+    #[tactic(auto, using(crate::proofs::Roles::client_none))]
     fn run<R: Wait>(&mut self, rt: &R, gated: &GatedHall<'h, 'a, N, K>) {
         'lines: while let Some(line) = self.next() {
             do_line(rt, gated, self, &line);
@@ -89,7 +89,7 @@ impl<'h, 'a, N: Name, K: Checkpoint> Actor<GatedHall<'h, 'a, N, K>> for Pass<'a>
 /// call and the end of a phase wait until the room serves the pass's phase. A stroke waits so
 /// before it passes the gate, where the pass has not found its phase served yet; all others take no
 /// lock.
-#[tactic(auto, using(crate::proofs::LeastPhases::client_ended))]
+#[tactic(auto, using(crate::proofs::Roles::client_ended))]
 pub fn run_actor<'a, N: Name, G: Gate, R: Wait>(
     rt: &R,
     gated: GatedHall<'_, 'a, N, &G>,

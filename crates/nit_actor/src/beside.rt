@@ -50,7 +50,7 @@ impl<'a, 's, W: UserTurns<'a>, A: Actor<W>, S: Store> CallerThread<A, W>
 /// done. No memory is taken but by the store: the place where unstarted passes wait is empty and
 /// has room for all, and there is a flag for each pass, which is not raised. Where the flag of a
 /// pass is raised, its thread leaves it as it is, and the calling thread steps it at the end.
-#[tactic(auto, using(crate::proofs::LeastPhases::clients_done))]
+#[tactic(auto, using(crate::proofs::Roles::clients_done))]
 pub fn run_beside<'a, 's, N: Name + Send + Sync, G: Gate, S: Store, R: Threads + Wait + Sync>(
     rt: &R,
     gated: GatedHall<'_, 'a, N, &G>,
@@ -75,7 +75,7 @@ pub fn run_beside<'a, 's, N: Name + Send + Sync, G: Gate, S: Store, R: Threads +
 /// empty and has room for all, and there is a flag for each pair, which is not raised. Where the
 /// flag of a pair is raised, its thread leaves it as it is, and the calling thread steps it at the
 /// end.
-#[tactic(auto, using(crate::proofs::Pairs::pairs_fit, crate::proofs::LeastPhases::pairs_done))]
+#[tactic(auto, using(crate::proofs::Roles::pairs_fit, crate::proofs::Roles::pairs_done))]
 pub fn run_beside_clips<'a, 's, N: Name + Send + Sync, G: Gate, S: Store, R: Threads + Wait + Sync>(
     rt: &R,
     gated: GatedHall<'_, 'a, N, &G>,

@@ -19,7 +19,7 @@ use std::sync::Wait;
 /// the shots until a put is refused. In each turn those of the least phase that has a line left do
 /// a line each, so the thread waits only where each that is not done has ended its phase. Each
 /// passes the gate before its line, outside the lock.
-#[tactic(auto, using(crate::proofs::LeastPhases::clients_done))]
+#[tactic(auto, using(crate::proofs::Roles::clients_done))]
 pub fn run_mine<'a, N: Name, G: Gate, S: Store, R: Wait>(
     rt: &R,
     gated: GatedHall<'_, 'a, N, &G>,
@@ -39,7 +39,7 @@ pub fn run_mine<'a, N: Name, G: Gate, S: Store, R: Wait>(
 /// turn in which the pass's own next line ends the phase, or behind its last line; they pass no
 /// gate. Of each pair the pass and the clip pass are of this opening, of one client and in one
 /// phase, and its two scripts have as many phases; so it is again when all are done.
-#[tactic(auto, using(crate::proofs::Pairs::pairs_fit, crate::proofs::LeastPhases::pairs_done))]
+#[tactic(auto, using(crate::proofs::Roles::pairs_fit, crate::proofs::Roles::pairs_done))]
 pub fn run_mine_clips<'a, N: Name, G: Gate, S: Store, R: Wait>(
     rt: &R,
     gated: GatedHall<'_, 'a, N, &G>,
@@ -60,7 +60,7 @@ pub fn run_mine_clips<'a, N: Name, G: Gate, S: Store, R: Wait>(
 
 /// Does all that is left of these actors and of the user, by turns. In each turn those of the least
 /// phase that has a line left do what is next.
-#[tactic(auto, using(crate::proofs::LeastPhases::user_not_before, crate::proofs::Shots::nothing))]
+#[tactic(auto, using(crate::proofs::Roles::user_not_before, crate::proofs::Shots::nothing))]
 pub(crate) fn run_turns<'a, W: UserTurns<'a>, A: Actor<W>, S: Store, R: Wait>(
     rt: &R,
     shared: &W,

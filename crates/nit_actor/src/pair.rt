@@ -42,7 +42,7 @@ impl<'h, 'a, N: Name, K: Checkpoint> Actor<GatedHall<'h, 'a, N, K>> for Pair<'a>
         }
     }
 
-    #[tactic(auto, using(crate::proofs::Pairs::fits_pair, crate::proofs::Pairs::pair_role_again))]
+    #[tactic(auto, using(crate::proofs::Roles::fits_pair, crate::proofs::Roles::pair_role_again))]
     fn step<R: Wait>(&mut self, rt: &R, gated: &GatedHall<'h, 'a, N, K>) {
         match self.pass.next() {
             Some(line) => do_pair_line(rt, gated, &mut self.pass, &mut self.clip, &line),
@@ -50,7 +50,7 @@ impl<'h, 'a, N: Name, K: Checkpoint> Actor<GatedHall<'h, 'a, N, K>> for Pair<'a>
         }
     }
 
-    #[tactic(auto, using(crate::proofs::Pairs::fits_pair, crate::proofs::Pairs::pair_role_again))]
+    #[tactic(auto, using(crate::proofs::Roles::fits_pair, crate::proofs::Roles::pair_role_again))]
     fn run<R: Wait>(&mut self, rt: &R, gated: &GatedHall<'h, 'a, N, K>) {
         run_pair(rt, gated, &mut self.pass, &mut self.clip);
     }
@@ -91,7 +91,7 @@ fn run_pair<'a, N: Name, K: Checkpoint, R: Wait>(
 
 /// Does the next line of the pass, which is this one. Where it ends a phase, the clip calls of the
 /// phase are done before it, and the clip script's line `phase` behind it.
-#[tactic(auto, using(crate::proofs::Pairs::line_together))]
+#[tactic(auto, using(crate::proofs::Roles::line_together))]
 fn do_pair_line<'a, N: Name, K: Checkpoint, R: Wait>(
     rt: &R,
     gated: &GatedHall<'_, 'a, N, K>,
@@ -114,7 +114,7 @@ fn do_pair_line<'a, N: Name, K: Checkpoint, R: Wait>(
 
 /// Does the clip calls that are left of the phase, the pass's next line, which ends it, and the
 /// line of the clip script that ends it.
-#[tactic(auto, using(crate::proofs::Pairs::one_ahead, crate::proofs::Pairs::turned))]
+#[tactic(auto, using(crate::proofs::Roles::one_ahead, crate::proofs::Roles::turned))]
 fn end_phase<'a, N: Name, K: Checkpoint, R: Wait>(
     rt: &R,
     gated: &GatedHall<'_, 'a, N, K>,
@@ -133,7 +133,7 @@ fn end_phase<'a, N: Name, K: Checkpoint, R: Wait>(
 
 /// Does the clip calls that are left of a phase that the pass's next line ends. The next line of
 /// the clip script then ends it too.
-#[tactic(auto, using(crate::proofs::Pairs::clip_phase_next))]
+#[tactic(auto, using(crate::proofs::Roles::clip_phase_next))]
 fn do_phase_clips<'a, N: Name, R: Wait>(
     rt: &R,
     hall: &Hall<'a, N>,
@@ -149,7 +149,7 @@ fn do_phase_clips<'a, N: Name, R: Wait>(
 }
 
 /// Does the clip calls that are left behind the last line of the pass.
-#[tactic(auto, using(crate::proofs::Pairs::clip_done_too))]
+#[tactic(auto, using(crate::proofs::Roles::clip_done_too))]
 fn do_last_clips<'a, N: Name, R: Wait>(
     rt: &R,
     hall: &Hall<'a, N>,

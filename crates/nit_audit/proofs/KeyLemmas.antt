@@ -1,16 +1,15 @@
 -- The views of keys, when keys and records change.
 use Rattle.nit_audit.proofs.Basics.{AllByRecursion, AllHaveViews, Bool, Change, Err, HasView}
-use Rattle.nit_audit.proofs.Basics.{IfSome, IsSomeAnd, List, None, Ok, OnOk, Option, Point, Result}
-use Rattle.nit_audit.proofs.Basics.{Slab, Some, Updates, View, Which, [], above_is, ap, cases_Bool}
-use Rattle.nit_audit.proofs.Basics.{changed, changed_if, cond, covers, eq-eqb, false}
-use Rattle.nit_audit.proofs.Basics.{filter, find, find-map, front_is, get, has_key}
-use Rattle.nit_audit.proofs.Basics.{in_bar, insert, is_meant, is_some, map-insert, map-map}
-use Rattle.nit_audit.proofs.Basics.{map-put_above, map-put_back, map-put_front, map-without}
-use Rattle.nit_audit.proofs.Basics.{map_twice, moved, option_map, owner}
-use Rattle.nit_audit.proofs.Basics.{position_or_len, put_above, put_back, put_front, swept}
-use Rattle.nit_audit.proofs.Basics.{taken_if, view_or, view_under, views_at, with_change, without}
-use Rattle.std.proofs.Common.{arith, inl, inr, map, nat_le, refl, suc, sym, true, zero, ℕ, ◌<◌}
-use Rattle.std.proofs.Common.{◌∷◌, ◌≡◌}
+use Rattle.nit_audit.proofs.Basics.{IfSome, IsSomeAnd, List, None, Ok, OnOk, Option, Result, Slab}
+use Rattle.nit_audit.proofs.Basics.{Some, Updates, View, Which, [], above_is, ap, cases_Bool}
+use Rattle.nit_audit.proofs.Basics.{changed, changed_if, cond, cond_both, eq-eqb, filter, find}
+use Rattle.nit_audit.proofs.Basics.{find-map, front_is, get, has_key, insert, is_meant, is_some}
+use Rattle.nit_audit.proofs.Basics.{map-insert, map-map, map-put_above, map-put_back, map-put_front}
+use Rattle.nit_audit.proofs.Basics.{map-without, moved, option_map, position_or_len, put_above}
+use Rattle.nit_audit.proofs.Basics.{put_back, put_front, swept, taken_if, view_or, view_under}
+use Rattle.nit_audit.proofs.Basics.{views_at, with_change, without}
+use Rattle.std.proofs.Common.{arith, inl, inr, map, nat_le, refl, suc, sym, true, zero, ℕ, ◌<◌, ◌∷◌}
+use Rattle.std.proofs.Common.{◌≡◌}
 use Rattle.nit_audit.specs.declared.keys.Change.TheVariants as change
 
 -- ---- what holds of the keys of a list
@@ -27,10 +26,7 @@ swept_all P Q f g (k ∷ ks) all h =
 pub all_filter : (P : ℕ → Type 0) (test : ℕ → Bool) (ks : List ℕ) → AllByRecursion P ks
     → AllByRecursion P (filter test ks)
 all_filter P test [] all = tt
-all_filter P test (k ∷ ks) all = elim (cases_Bool (test k)) [
-  | inl is ↦ rw is (all.0, all_filter P test ks all.1)
-  | inr is ↦ rw is (all_filter P test ks all.1)
-]
+all_filter P test (k ∷ ks) all = grind (arith, all_filter P test ks)
 
 pub all_insert : (P : ℕ → Type 0) (ks : List ℕ) (i k : ℕ) → P k → AllByRecursion P ks → AllByRecursion P (insert ks i k)
 all_insert P ks zero k p all = (p, all)
@@ -40,10 +36,9 @@ all_insert P (j ∷ ks) (suc i) k p all = (all.0, all_insert P ks i k p all.1)
 pub found_all : (P : ℕ → Type 0) (test : ℕ → Bool) (ks : List ℕ) (k : ℕ) → AllByRecursion P ks → find test ks ≡ Some k
     → P k
 found_all P test [] k all is = absurd (cc)
-found_all P test (j ∷ ks) k all is = elim (cases_Bool (test j)) [
-  | inl yes_ ↦ let same : j ≡ k = cc in rw (← same) all.0
-  | inr no_ ↦ found_all P test ks k all.1 (rw no_ at is)
-]
+found_all P test (j ∷ ks) k all is =
+    cond_both (test j) (Some j) _ (λ o. o ≡ Some k → P k) (λ yes_ e. let same : j ≡ k = cc in rw (← same) all.0)
+    (λ no_. found_all P test ks k all.1) is
 
 -- ---- a view that is changed
 
@@ -63,10 +58,7 @@ there : (o : Option View) (w : Which) (c : Change) → IsSomeAnd o (λ v. v.sid 
 there None w c h = absurd h
 there (Some v) w c h = (
   refl,
-  elim (cases_Bool (is_meant w v)) [
-    | inl is ↦ rw (is, session_still c v) h
-    | inr is ↦ rw is h
-  ],
+  grind (arith, session_still c v),
 )
 
 pub changed_all : (w : Which) (c : Change) (keys : List ℕ) (old new : Slab View) → AllHaveViews old keys
@@ -140,12 +132,8 @@ pub moves : (is : View → Bool) (put : View → List View → List View) (recor
     → views_at records now
     ≡ put (view_under records key) (views_at records (without (λ k. is (view_under records k)) keys))
     → views_at records now ≡ moved is put (views_at records keys)
-moves is put records keys now key found puts = rw (
-  puts,
-  map-without (view_under records) is keys,
-  find-map is (view_under records) keys,
-  found,
-) refl
+moves is put records keys now key found puts =
+    rw (puts, map-without (view_under records) is keys, find-map is (view_under records) keys, found) refl
 
 module _ (records : Slab View) (keys : List ℕ) (key place : ℕ) where
   pub fronted : (layer : View → ℕ) (l : ℕ)
@@ -165,13 +153,6 @@ module _ (records : Slab View) (keys : List ℕ) (key place : ℕ) where
       (map-put_above (view_under records) next key keys)
 
 -- ---- the owner of a pixel
-
-pub owner_below : (rows : ℕ) (p : Point) (records : Slab View) (keys : List ℕ) → in_bar rows p ≡ false
-    → option_map (λ k. (view_under records k).sid) (find (λ k. covers (view_under records k).rect p) keys)
-    ≡ option_map (λ v. v.sid) (owner rows (views_at records keys) p)
-owner_below rows p records keys below =
-    rw (below, find-map (λ (v : View). covers v.rect p) (view_under records) keys)
-    (sym (map_twice (λ (v : View). v.sid) (view_under records) (find (λ k. covers (view_under records k).rect p) keys)))
 
 small_at : (o : Option View) → IsSomeAnd o (λ v. v.sid < 16) → (view_or o).sid < 16
 small_at None h = absurd h

@@ -1,12 +1,7 @@
 pub mod GoodEntryLemmas
 pub mod VerdictLemmas
-mod GoodAndWhole
 mod KeyLemmas
-mod CallEntries
-mod NextEntry
-mod EachEntry
-mod InputEntries
-mod FirstState
+mod Entries
 pub mod ForCallers
 pub mod Basics
 pub mod Lemmas

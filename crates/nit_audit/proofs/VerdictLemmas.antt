@@ -1,10 +1,21 @@
 -- What is answered of entries, one at a time.
-use Rattle.nit_audit.proofs.Basics.{Entry, Err, IfOk, IsLeastBad, IsOpen, IsVerdict}
-use Rattle.nit_audit.proofs.Basics.{IsVerdictFrom, List, Ok, Result, Verdict, [], ap, arith}
-use Rattle.nit_audit.proofs.Basics.{cases_lt, inl, inr, refl, subst, suc, sym}
-use Rattle.std.proofs.Common.{take, zero, ℕ, ◌++◌, ◌+◌, ◌<◌, ◌∙◌, ◌∷◌, ◌≡◌, ◌↔◌, ◌≢◌}
+use Rattle.nit_audit.proofs.Basics.{Audited, Call, Configuration, Entry, Err, IfOk, IsAhead}
+use Rattle.nit_audit.proofs.Basics.{IsAllDone, IsEnded, IsFollowed, IsGoodFor, IsGoodFrom}
+use Rattle.nit_audit.proofs.Basics.{IsLeastBad, IsLegal, IsNothingLeft, IsOpen, IsReplay, IsVerdict}
+use Rattle.nit_audit.proofs.Basics.{IsVerdictFrom, IsWhole, LegalFrom, List, MayFollow, Ok, Result}
+use Rattle.nit_audit.proofs.Basics.{State, UnderwayModel, UserAction, Verdict, [], add-one, after}
+use Rattle.nit_audit.proofs.Basics.{ap, append-nil, arith, audited, calls_of, cases_lt, drop}
+use Rattle.nit_audit.proofs.Basics.{drop-cons, drop_all, first_audited, first_state, get_or, inl}
+use Rattle.nit_audit.proofs.Basics.{inr, refl, subst, suc, sym, user_actions_of}
+use Rattle.std.proofs.Common.{List, [], inl, inr, length, refl, suc, sym, take, zero, ℕ, ◌++◌, ◌+◌}
+use Rattle.std.proofs.Common.{◌<◌, ◌↔◌, ◌∙◌, ◌∷◌, ◌≡◌, ◌≢◌, ◌⊎◌}
 use Rattle.nit_events.specs.declared.entry.Entry.TheVariants as entry
 use Rattle.nit_audit.specs.declared.auditing.Verdict.TheVariants as verdict
+use Rattle.nit_journal.proofs.ForCallers.{actions_same, calls_same}
+use mathlib.Core.List.{cons≢nil}
+use Rattle.nit_audit.proofs.GoodEntryLemmas.{comes_next, final_good, final_left, good_back}
+use Rattle.nit_audit.proofs.GoodEntryLemmas.{good_fewer, good_for, good_from, good_on, may_follow}
+use Rattle.nit_audit.proofs.GoodEntryLemmas.{none_good}
 
 -- ---- one more entry in front
 
@@ -71,8 +82,7 @@ verdict_for G H entries (verdict.No k) on back (j, is, inl bad) =
     (record {
       within = bad.within;
       bad = λ g. bad.bad (back (take j entries) g);
-      before =
-          λ i lt. on (take i entries) (bad.before i lt);
+      before = λ i lt. on (take i entries) (bad.before i lt);
     }))
 verdict_for G H entries (verdict.No k) on back (j, is, inr un) =
     inr (record { behind = omega (arith, is, un.behind); good = on entries un.good; unended = un.unended })
@@ -110,14 +120,133 @@ one_verdict G fewer entries (verdict.No j) (verdict.No k) (inr a) (inr b) = ap v
 
 -- ---- an answer of the call
 
--- a verdict that was answered holds
-pub answered_yes : {E : Type 0} (Is : Verdict → Type 0) (r : Result Verdict E) → IfOk r Is → r ≡ Ok verdict.Yes
-    → Is verdict.Yes
-answered_yes {E} Is r h e = rw e at h
-
 -- `Yes` is answered exactly where something holds that follows from it and gives it
 pub if_ok_yes : {E : Type 0} (Is : Verdict → Type 0) (Says : Type 0) (r : Result Verdict E) → IfOk r Is
     → IfOk r (λ v. (other : Verdict) → Is other → v ≡ other) → (Is verdict.Yes → Says) → (Says → Is verdict.Yes)
     → IfOk r (λ v. (v ≡ verdict.Yes) ↔ Says)
 if_ok_yes {E} Is Says (Ok v) h only says comes = (λ is. says (subst Is is h), λ s. only verdict.Yes (comes s))
 if_ok_yes {E} Is Says (Err e) h only says comes = tt
+
+-- ---- good entries that end are whole
+
+pub whole : (config : Configuration) (clients : List (List (ℕ × Call))) (user : List (ℕ × UserAction))
+    (entries : List Entry) → IsGoodFor config clients user entries → IsEnded entries → IsWhole clients user entries
+whole config clients user entries g ended =
+    let all : IsAllDone clients user ended.0 = g.final ended.0 [] ended.1 in
+    record {
+      calls = λ s lt. rw (ended.1, calls_same s ended.0 entry.Final refl) (all.calls s lt);
+      actions = rw (ended.1, actions_same ended.0 entry.Final refl) all.actions;
+      phases = g.phases;
+      ends = ended;
+    }
+
+-- ---- a legal and whole journal is good
+
+-- nothing stands behind the last picture of legal entries
+last_of : (s : State) (taken : ℕ) (front rest : List Entry) → LegalFrom s taken (front ++ entry.Final ∷ rest)
+    → rest ≡ []
+last_of s taken [] rest legal = legal
+last_of s taken (entry.Shot number ∷ front) rest legal = last_of s (taken + 1) front rest legal.1
+last_of s taken (entry.Final ∷ []) rest legal = absurd (cc)
+last_of s taken (entry.Final ∷ e ∷ front) rest legal = absurd (cc)
+last_of s taken (e ∷ front) rest legal = last_of (after s e) taken front rest legal.1
+
+-- all is done before the last picture of a legal and whole journal
+all_before : (config : Configuration) (clients : List (List (ℕ × Call))) (user : List (ℕ × UserAction))
+    (entries front rest : List Entry) → IsLegal config entries → IsWhole clients user entries
+    → entries ≡ front ++ entry.Final ∷ rest → IsAllDone clients user front
+all_before config clients user entries front rest legal w is =
+    let none = last_of (first_state config) 0 front rest (rw is at legal) in
+    let ends = rw none at is in
+    record {
+      calls = λ s lt. rw (← calls_same s front entry.Final refl, ← ends) (w.calls s lt);
+      actions = rw (← actions_same front entry.Final refl, ← ends) w.actions;
+    }
+
+pub good : (config : Configuration) (clients : List (List (ℕ × Call))) (user : List (ℕ × UserAction))
+    (entries : List Entry) → IsLegal config entries → IsWhole clients user entries
+    → IsGoodFor config clients user entries
+good config clients user entries legal w = record {
+  legal = legal;
+  calls = λ s lt. ([], append-nil (calls_of s entries) ∙ w.calls s lt);
+  actions = ([], append-nil (user_actions_of entries) ∙ w.actions);
+  phases = w.phases;
+  final = λ front rest is. all_before config clients user entries front rest legal w is;
+}
+
+-- what is left, with the entry in front
+left_at : (entries : List Entry) (i : ℕ) (e : Entry) → i < length entries → e ≡ get_or entries i e
+    → drop i entries ≡ e ∷ drop (suc i) entries
+left_at entries i e lt at = rw at (drop-cons entries i e lt)
+
+-- the entry may follow
+pub ahead_on : (first : Audited) (entries : List Entry) (config : Configuration) (old new : UnderwayModel) (i : ℕ)
+    (e : Entry) → i < length entries → e ≡ get_or entries i e → e ≢ entry.Final → IsAhead first entries config old i
+    → IsFollowed config e old new → IsAhead first entries config new (i + 1)
+ahead_on first entries config old new i e lt at other ahead follows = record {
+  all = λ v h. ahead.all v (rw (left_at entries i e lt at)
+      (front_verdict (IsGoodFrom (audited config old)) (IsGoodFrom (audited config new)) i e (drop (suc i) entries) v
+      other (none_good (audited config old))
+      (λ xs g. rw follows.audit (good_on (audited config old) e xs other g).1)
+      (λ xs g. good_back (audited config old) e xs other (comes_next (audited config old) e other follows.may)
+      (rw follows.audit at g)) (rw (← add-one i) h)));
+}
+
+-- the three answers at the last picture
+abbrev pub EndedAs : UnderwayModel → List Entry → ℕ → Verdict → Type 0
+EndedAs p entries i v = ((IsNothingLeft p.clients p.user → ⊥) × (v ≡ verdict.No (i + 1)))
+    ⊎ ((IsNothingLeft p.clients p.user × (i + 1 ≡ length entries) × (v ≡ verdict.Yes))
+    ⊎ (IsNothingLeft p.clients p.user × (i + 1 < length entries) × (v ≡ verdict.No (i + 2))))
+
+-- ---- the verdict on all, from what is left
+
+module _ (config : Configuration) (clients : List (List (ℕ × Call))) (user : List (ℕ × UserAction))
+    (entries : List Entry)
+  where
+    -- only one is it
+    pub only_one : (a b : Verdict) → IsVerdict (IsGoodFor config clients user) entries a
+        → IsVerdict (IsGoodFor config clients user) entries b → a ≡ b
+    only_one a b h i =
+        one_verdict (IsGoodFor config clients user) (good_fewer config clients user) entries a b h i
+
+    module _ (old : UnderwayModel) (i : ℕ) (ahead : IsAhead (first_audited config clients user) entries config old i)
+      where
+        on_all : (v : Verdict) → IsVerdictFrom (IsGoodFrom (audited config old)) i (drop i entries) v
+            → IsVerdict (IsGoodFor config clients user) entries v
+        on_all v h = verdict_for (IsGoodFrom (first_audited config clients user)) (IsGoodFor config clients user)
+            entries v (good_for config clients user) (good_from config clients user) (ahead.all v h)
+
+        -- nothing comes any more
+        pub verdict_unended : i ≡ length entries
+            → IsVerdict (IsGoodFor config clients user) entries (verdict.No (length entries + 1))
+        verdict_unended is = rw (← is) (on_all (verdict.No (i + 1)) (rw (drop_all i entries (omega arith))
+            (1, refl, inr (record { behind = refl; good = none_good (audited config old); unended = tt }))))
+
+        -- the entry may not follow
+        pub verdict_bad : (e : Entry) → i < length entries → e ≡ get_or entries i e → e ≢ entry.Final
+            → IsReplay config old.replay → length old.clients ≡ length config.clients
+            → (MayFollow (audited config old) e → ⊥)
+            → IsVerdict (IsGoodFor config clients user) entries (verdict.No (i + 1))
+        verdict_bad e lt at other kept many bad =
+            on_all (verdict.No (i + 1)) (rw (left_at entries i e lt at)
+            (front_bad (IsGoodFrom (audited config old)) i e (drop (suc i) entries) (none_good (audited config old))
+            (λ g. bad (may_follow (audited config old) e other (many ∙ sym kept.each)
+            (good_on (audited config old) e [] other g).0))))
+
+        -- the last picture
+        pub verdict_ended : (e : Entry) (v : Verdict) → i < length entries → e ≡ get_or entries i e → e ≡ entry.Final
+            → EndedAs old entries i v → IsVerdict (IsGoodFor config clients user) entries v
+        verdict_ended e v lt at is how =
+            let a : Audited = audited config old in
+            let left = rw is at (left_at entries i e lt at) in
+            on_all v (rw left (elim how [
+              | inl (some, as_) ↦ rw as_ (front_bad (IsGoodFrom a) i entry.Final (drop (suc i) entries) (none_good a)
+                  (λ g. some (final_left a [] g)))
+              | inr (inl (none, end_, as_)) ↦ rw (as_, drop_all (suc i) entries (omega arith))
+                  (final_good a none, ([], refl))
+              | inr (inr (none, more, as_)) ↦
+                  rw (as_, drop-cons entries (suc i) entry.Final (omega (arith, more)))
+                  (final_behind (IsGoodFrom a) i (get_or entries (suc i) entry.Final) (drop (suc (suc i)) entries)
+                  (none_good a) (final_good a none)
+                  (λ g. cons≢nil g.legal))
+            ]))

@@ -1,5 +1,6 @@
 pub mod Owners
 pub mod Plans
 pub mod Refreshes
+pub mod Machine
 pub mod Basics
 pub mod Lemmas

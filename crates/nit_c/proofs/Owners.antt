@@ -1,15 +1,8 @@
 -- A struct by value that owns memory, where its fields are plain data: it is made of what it owns beside them.
 use Rattle.std.proofs.Common.{List, ◌∷◌}
-use seplogic.Ra.Ura.{Ura}
-use mir.Val.{Val}
-use types.Logic.{Logic}
-use types.Kit.{Goal, Step, step, Item, ‵, ◌$◌, fjoin}
-use denote.Laws.{Is, Typed}
-use denote.Steps.{owned}
-use denote.Struct.Laws.{lawfuls}
-use denote.Struct.Owning.{Owning, fields, row, shape, to}
-use denote.Struct.OwningLaws.{Laws}
-use denote.Struct.Struct.{Plains, Struct, Struct-Lawful, Struct-Makes}
+use Rattle.nit_c.proofs.Machine.{Goal, Is, Item, Laws, Logic, Owning, Plains, Step, Struct}
+use Rattle.nit_c.proofs.Machine.{Struct-Lawful, Struct-Makes, Typed, Ura, Val, fields, fjoin}
+use Rattle.nit_c.proofs.Machine.{lawfuls, owned, row, shape, step, to, ‵, ◌$◌}
 
 module _ {M : Type 1} {𝓤 : Ura M} (𝓛 : Logic 𝓤) (S : Owning) where
   -- the machine values have the struct's type

@@ -1,33 +1,31 @@
 -- What lemmas use: the words of clauses, the library's lemmas, and those of the crates below.
 pub use Rattle.nit_capture.specs.Terms.{AgreeInside, All, AllAgree, AllByRecursion, Appends}
-pub use Rattle.nit_capture.specs.Terms.{HasPixels, HasRecord, IsErr}
-pub use Rattle.nit_capture.specs.Terms.{IsPartOfScreen, IsPicture, IsPictureSize, IsPlace, IsWord}
-pub use Rattle.nit_capture.specs.Terms.{LiesIn, List, Rectangle, Shows, [], area, behind_two, black}
-pub use Rattle.nit_capture.specs.Terms.{blue, changed_tiles, channels, cond, crop, crop_pixel}
-pub use Rattle.nit_capture.specs.Terms.{differs, drop, filter, flat_map, green, high, is_next}
-pub use Rattle.nit_capture.specs.Terms.{left_of, length, list_any, nat_abs, negsuc, no_word}
-pub use Rattle.nit_capture.specs.Terms.{pixels_at, place, pos, prefix_len, range_with_len}
-pub use Rattle.nit_capture.specs.Terms.{record_at, record_of, records, red, run_at}
-pub use Rattle.nit_capture.specs.Terms.{run_bytes, runs, screen, slice_index, slice_set, spans}
-pub use Rattle.nit_capture.specs.Terms.{stream, take, tile, tile_at, tile_bytes, tile_count}
-pub use Rattle.nit_capture.specs.Terms.{tile_pixels, tiles_at, top_of, turn_at, two_bytes, wide}
-pub use Rattle.nit_capture.specs.Terms.{word_of, word_of_bytes, ℕ, ℤ, ◌>>=◌}
-pub use Rattle.nit_capture.specs.Capture.{CaptureModel, IsCapture}
+pub use Rattle.nit_capture.specs.Terms.{HasPixels, HasRecord, IsErr, IsPartOfScreen, IsPicture}
+pub use Rattle.nit_capture.specs.Terms.{IsPictureSize, IsPlace, IsWord, LiesIn, List, Rectangle}
+pub use Rattle.nit_capture.specs.Terms.{Shows, [], area, behind_two, black, blue, changed_tiles}
+pub use Rattle.nit_capture.specs.Terms.{channels, cond, crop, crop_pixel, differs, drop, filter}
+pub use Rattle.nit_capture.specs.Terms.{flat_map, green, high, is_next, left_of, length, list_any}
+pub use Rattle.nit_capture.specs.Terms.{nat_abs, negsuc, no_word, pixels_at, place, pos, prefix_len}
+pub use Rattle.nit_capture.specs.Terms.{range_with_len, record_at, records, red, run_at, run_bytes}
+pub use Rattle.nit_capture.specs.Terms.{runs, screen, slice_index, slice_set, spans, stream, take}
+pub use Rattle.nit_capture.specs.Terms.{tile, tile_at, tile_bytes, tile_count, tile_pixels}
+pub use Rattle.nit_capture.specs.Terms.{tiles_at, top_of, turn_at, two_bytes, wide, word_of}
+pub use Rattle.nit_capture.specs.Terms.{word_of_bytes, ℕ, ℤ, ◌>>=◌}
 pub use Rattle.nit_capture.specs.Tiles.{row_place}
 pub use Rattle.nit_rect.proofs.ForCallers.{and_true, bind_some, spans_holds, within}
 pub use Rattle.nit_word.proofs.ForCallers.{put_long}
-pub use Rattle.std.proofs.Common.{Bool, Err, None, Ok, Result, Some, add-one, add-zero, add_assoc}
-pub use Rattle.std.proofs.Common.{ap, append_assoc, ap₂, arith, false, inl, inr, length-append}
-pub use Rattle.std.proofs.Common.{lit<, map, mul_comm, not, refl, rules, suc, sym, true, ◌∙◌}
-pub use Rattle.std.proofs.lemmas.Bool.{cases_Bool, cases_eq, cases_lt, eq-eqb, ne_eqb}
-pub use Rattle.std.proofs.lemmas.Bool.{true_from_ne_false, true≢false}
+pub use Rattle.std.proofs.Common.{Bool, Err, None, Ok, Result, Some, add-one, add_assoc, ap}
+pub use Rattle.std.proofs.Common.{append_assoc, arith, false, inl, inr, length-append, lit<, map}
+pub use Rattle.std.proofs.Common.{mul_comm, not, refl, suc, sym, true, ◌∙◌}
+pub use Rattle.std.proofs.lemmas.Bool.{cases_Bool, cases_eq, eq-eqb, ne_eqb, true_from_ne_false}
+pub use Rattle.std.proofs.lemmas.Bool.{true≢false}
 pub use Rattle.std.proofs.lemmas.Bool.Decides.{nat_tests}
 pub use Rattle.std.proofs.lemmas.Int.{ints, to_z-of_z}
 pub use Rattle.std.proofs.lemmas.List.{append-nil, drop-drop, ext_get_or, get_or-append-add}
 pub use Rattle.std.proofs.lemmas.List.{get_or-drop, get_or-set_other, get_or-set_same, get_or-take}
-pub use Rattle.std.proofs.lemmas.List.{get_or_append_left, get_or_past, length-drop}
-pub use Rattle.std.proofs.lemmas.List.{length-replicate, length-set, length-take, length-take-le}
-pub use Rattle.std.proofs.lemmas.List.{map-id, nil_from_length, take_all, take_more_set, take_rest}
+pub use Rattle.std.proofs.lemmas.List.{get_or_past, length-drop, length-replicate, length-set}
+pub use Rattle.std.proofs.lemmas.List.{length-take, length-take-le, map-id, nil_from_length}
+pub use Rattle.std.proofs.lemmas.List.{take_all, take_more_set, take_rest}
 pub use Rattle.std.proofs.lemmas.List.Concat.{flat_map-append, get_or-flat_map}
 pub use Rattle.std.proofs.lemmas.List.Elements.{All-filter, All-set}
 pub use Rattle.std.proofs.lemmas.List.Folds.{list_any_at, list_any_none}

@@ -1,14 +1,6 @@
-pub mod Pictures
 pub mod Tiles
-pub mod TileDifferences
-pub mod PixelRows
-pub mod ReaderSteps
-pub mod RunsRead
 pub mod TilesRead
-pub mod RecordsRead
-pub mod RunsWritten
-pub mod RecordsWritten
+pub mod Records
 pub mod CropLemmas
-pub mod FilmLaws
 pub mod Basics
 pub mod Lemmas

@@ -1,17 +1,51 @@
--- The entries of a whole and legal clip list are within their ranges where the scripts are.
+-- The clip calls of a script, and that entries are within their ranges where the scripts are.
+use Rattle.std.proofs.Common.{Bool, List, None, Option, Some, [], ap, arith, cond, drop, false}
+use Rattle.std.proofs.Common.{length, map, refl, suc, take, true, zero, ℕ, ◌++◌, ◌+◌, ◌<◌, ◌==◌}
+use Rattle.std.proofs.Common.{◌^◌, ◌∷◌, ◌≡◌, ◌≤◌}
 use Rattle.nit_clip.proofs.Basics.{AllByRecursion, AreAnsweredFrom, Call, ClipCall, ClipEntry}
 use Rattle.nit_clip.proofs.Basics.{ClipLine, ClipReply, Configuration, Entry, FitsClipCall}
 use Rattle.nit_clip.proofs.Basics.{FitsClipEntry, FitsClipLine, FitsClipReply, FitsText}
 use Rattle.nit_clip.proofs.Basics.{IsLegalClips, IsThere, IsWholeClips, UserAction, clip_calls_in}
-use Rattle.nit_clip.proofs.Basics.{clip_calls_of, clipboard_after, clips_to_do, clips_to_make, done}
-use Rattle.nit_clip.proofs.Basics.{eq-eqb, focused_answer, has_focus, length-map}
-use Rattle.std.proofs.Common.{Bool, List, None, Option, Some, [], arith, cond, false, length, map}
-use Rattle.std.proofs.Common.{refl, subst, suc, sym, true, zero, ℕ, ◌<◌, ◌==◌, ◌^◌, ◌∷◌, ◌≡◌, ◌≤◌}
+use Rattle.nit_clip.proofs.Basics.{clip_calls_of, clipboard_after, clips_from, clips_to_do}
+use Rattle.nit_clip.proofs.Basics.{clips_to_make, count_by, done, eq-eqb, focused_answer, has_focus}
+use Rattle.nit_clip.proofs.Basics.{is_clip_phase, length-map, next_phase, same_Some, slice_get}
+use Rattle.nit_clip.proofs.Basics.{sum_by-cons}
+use Rattle.nit_clip.specs.declared.line.ClipLine.TheVariants as line
 use Rattle.nit_clip.specs.declared.call.ClipCall.TheVariants as call
 use Rattle.nit_clip.specs.declared.call.ClipReply.TheVariants as reply
-use Rattle.nit_clip.specs.declared.line.ClipLine.TheVariants as line
-use Rattle.nit_clip.proofs.ClipScriptLemmas.{all_calls}
-use Rattle.nit_clip.proofs.LegalClipLemmas.{before_all}
+use Rattle.nit_clip.proofs.ClipListLemmas.{before_all, each_so}
+
+-- ---- the clip calls of a script, line by line
+
+pub all_calls : (p : ℕ) (lines : List ClipLine) → clip_calls_in lines ≡ done (clips_from p lines)
+all_calls p [] = refl
+all_calls p (line.Call c ∷ lines) = ap (λ (cs : List ClipCall). c ∷ cs) (all_calls p lines)
+all_calls p (line.Phase ∷ lines) = all_calls (suc p) lines
+
+-- one more line adds its call, if it is one
+pub line_more : (lines : List ClipLine) (k : ℕ) (l : ClipLine) → slice_get lines k ≡ Some l
+    → clip_calls_in (take (suc k) lines) ≡ clip_calls_in (take k lines) ++ clip_calls_in (l ∷ [])
+line_more [] k l at = cc
+line_more (x ∷ lines) zero l at = rw (same_Some x l at)
+line_more (line.Call d ∷ lines) (suc k) l at = ap (λ (cs : List ClipCall). d ∷ cs) (line_more lines k l at)
+line_more (line.Phase ∷ lines) (suc k) l at = line_more lines k l at
+
+ended_more : (l : ClipLine) (lines : List ClipLine) → count_by is_clip_phase (l ∷ lines)
+    ≡ cond {A = ℕ} (is_clip_phase l) 1 0 + count_by is_clip_phase lines
+ended_more l lines = sum_by-cons (λ m. cond {A = ℕ} (is_clip_phase m) 1 0) l lines
+
+pub phase_of_clip : (lines : List ClipLine) (p k : ℕ) (c : ClipCall) → slice_get lines k ≡ Some (line.Call c)
+    → next_phase (drop (length (clip_calls_in (take k lines))) (clips_from p lines))
+    ≡ p + count_by is_clip_phase (take k lines)
+phase_of_clip [] p k c at = absurd cc
+phase_of_clip (line.Call d ∷ lines) p zero c at = omega arith
+phase_of_clip (line.Phase ∷ lines) p zero c at = absurd cc
+phase_of_clip (line.Call d ∷ lines) p (suc k) c at =
+    omega (arith, phase_of_clip lines p k c at, ended_more (line.Call d) (take k lines))
+phase_of_clip (line.Phase ∷ lines) p (suc k) c at =
+    omega (arith, phase_of_clip lines (suc p) k c at, ended_more line.Phase (take k lines))
+
+-- ---- the entries of a whole and legal clip list are within their ranges where the scripts are
 
 -- ---- calls
 
@@ -24,7 +58,7 @@ lines_fit (line.Phase ∷ lines) all = lines_fit lines all.1
 scripts_fit : (scripts : List (List ClipLine)) (sid : ℕ) → AllByRecursion (AllByRecursion FitsClipLine) scripts
     → AllByRecursion FitsClipCall (done (clips_to_do (map clips_to_make scripts) sid))
 scripts_fit [] sid all = tt
-scripts_fit (lines ∷ scripts) zero all = subst (AllByRecursion FitsClipCall) (all_calls 0 lines) (lines_fit lines all.0)
+scripts_fit (lines ∷ scripts) zero all = rw (all_calls 0 lines) at (lines_fit lines all.0)
 scripts_fit (lines ∷ scripts) (suc sid) all = scripts_fit scripts sid all.1
 
 -- what holds of all calls of each session holds of all calls
@@ -33,17 +67,12 @@ behind_fit : (b : Bool) (c : ClipCall) (more : List ClipCall) → AllByRecursion
 behind_fit true c more all = all.1
 behind_fit false c more all = all
 
-first_fits : (b : Bool) (c : ClipCall) (more : List ClipCall) → b ≡ true
-    → AllByRecursion FitsClipCall (cond b (c ∷ more) more) → FitsClipCall c
-first_fits true c more own all = all.0
-first_fits false c more own all = absurd cc
-
 calls_fit : (n : ℕ) (clips : List ClipEntry) → AllByRecursion (λ e. e.sid < n) clips
     → ((sid : ℕ) → sid < n → AllByRecursion FitsClipCall (clip_calls_of sid clips))
     → AllByRecursion (λ e. FitsClipCall e.call) clips
 calls_fit n [] known each = tt
 calls_fit n (e ∷ clips) known each = (
-  first_fits (e.sid == e.sid) e.call (clip_calls_of e.sid clips) (eq-eqb e.sid e.sid refl) (each e.sid known.0),
+  (rw (eq-eqb e.sid e.sid refl) at (each e.sid known.0)).0,
   calls_fit n clips known.1 (λ sid lt. behind_fit (e.sid == sid) e.call (clip_calls_of sid clips) (each sid lt)),
 )
 
@@ -65,27 +94,19 @@ answer_fits clipboard call.Paste false held = tt
 held_after : (clipboard : Option (List ℕ)) (c : ClipCall) (r : ClipReply) → HeldFits clipboard → FitsClipCall c
     → HeldFits (clipboard_after clipboard c r)
 held_after clipboard (call.Copy t) reply.Copied held fits = fits
-held_after clipboard (call.Copy t) (reply.Pasted u) held fits = held
-held_after clipboard (call.Copy t) reply.Empty held fits = held
-held_after clipboard (call.Copy t) reply.NotFocused held fits = held
-held_after clipboard call.Paste r held fits = held
+held_after clipboard c r held fits = held
 
 replies_fit : (clipboard : Option (List ℕ)) (clips : List ClipEntry) → HeldFits clipboard
     → AllByRecursion (λ e. FitsClipCall e.call) clips → AreAnsweredFrom clipboard clips
     → AllByRecursion (λ e. FitsClipReply e.call e.reply) clips
 replies_fit clipboard [] held calls answered = tt
 replies_fit clipboard (e ∷ clips) held calls answered = (
-  subst (FitsClipReply e.call) (sym answered.0) (answer_fits clipboard e.call (has_focus e.focus e.sid) held),
+  rw answered.0 (answer_fits clipboard e.call (has_focus e.focus e.sid) held),
   replies_fit (clipboard_after clipboard e.call e.reply) clips (held_after clipboard e.call e.reply held calls.0)
       calls.1 answered.1,
 )
 
 -- ---- a list
-
-known : (config : Configuration) (journal : List Entry) (clips : List ClipEntry)
-    → AllByRecursion (IsThere config journal) clips → AllByRecursion (λ e. e.sid < length config.clients) clips
-known config journal [] there = tt
-known config journal (e ∷ clips) there = (there.0.session, known config journal clips there.1)
 
 entries_fit : (config : Configuration) (journal : List Entry) (clips : List ClipEntry) → length config.clients ≤ 2 ^ 32
     → length journal < 2 ^ 32
@@ -109,10 +130,8 @@ pub whole_fit : (config : Configuration) (clients : List (List (ℕ × Call))) (
     → IsLegalClips config journal clips → IsWholeClips clients user journal (map clips_to_make scripts) clips
     → AllByRecursion FitsClipEntry clips
 whole_fit config clients user journal scripts clips fit same few short legal whole =
-    let of_each : (sid : ℕ) → sid < length config.clients → AllByRecursion FitsClipCall (clip_calls_of sid clips) =
-    λ sid lt. subst (AllByRecursion FitsClipCall)
-    (sym (whole.calls sid (omega (arith, lt, same, length-map scripts clips_to_make))))
-    (scripts_fit scripts sid fit) in
-    let calls = calls_fit (length config.clients) clips (known config journal clips legal.there) of_each in
+    let known = each_so (λ c (there : IsThere config journal c). there.session) clips legal.there in
+    let calls = calls_fit (length config.clients) clips known (λ sid lt.
+    rw (whole.calls sid (omega (arith, lt, same, length-map scripts clips_to_make))) (scripts_fit scripts sid fit)) in
     entries_fit config journal clips (omega (arith, same, few)) short legal.there calls
     (replies_fit None clips tt calls legal.answered)

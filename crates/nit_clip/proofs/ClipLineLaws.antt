@@ -1,54 +1,47 @@
 -- Lines of a clip script are read exactly.
 use Rattle.nit_clip.proofs.Basics.{ClipCall, ClipLine, FitsClipCall, FitsClipLine, HasOneReading}
-use Rattle.nit_clip.proofs.Basics.{IsKind, IsReader, Takes, anything, at_made, clip_call_spelling}
-use Rattle.nit_clip.proofs.Basics.{clip_line_spelling, codes, ended_again, ended_takes, first_takes}
-use Rattle.nit_clip.proofs.Basics.{kind, made_takes, nothing, one_reading, stops_text, text_fields}
+use Rattle.nit_clip.proofs.Basics.{IsReader, Takes, at_made, clip_call_spelling, clip_line_spelling}
+use Rattle.nit_clip.proofs.Basics.{codes, ended_again, ended_takes, first_takes, kind, made_takes}
+use Rattle.nit_clip.proofs.Basics.{nothing, one_reading, text_fields}
 use Rattle.std.proofs.Common.{List, Some, refl, ℕ, ◌++◌, ◌∷◌, ◌≡◌}
 use Rattle.nit_clip.specs.ClipReaders.{clip_call_at, clip_front_at, clip_line_at, clip_phase_at}
 use Rattle.nit_clip.specs.ClipReaders.{copy_at, paste_at}
 use Rattle.nit_clip.specs.declared.call.ClipCall.TheVariants as call
 use Rattle.nit_clip.specs.declared.line.ClipLine.TheVariants as line
 
-copies : IsKind copy_at clip_call_spelling FitsClipCall stops_text (λ (t : List ℕ). call.Copy t)
-unfolding copy_at
-copies = kind text_fields clip_call_spelling FitsClipCall (codes "copy") _ (λ t h. h) (λ t h. h) (λ t. refl)
-
-pastes : IsKind paste_at clip_call_spelling FitsClipCall anything (λ (_ : Unit {0}). call.Paste)
-unfolding paste_at
-pastes = kind nothing clip_call_spelling FitsClipCall (codes "paste") _ (λ p h. tt) (λ p h. tt) (λ p. refl)
-
 call_takes : Takes clip_call_at clip_call_spelling FitsClipCall
-unfolding clip_call_at
-call_takes = first_takes copy_at paste_at clip_call_spelling FitsClipCall copies.takes pastes.takes
+unfolding clip_call_at copy_at paste_at
+call_takes =
+    first_takes copy_at paste_at clip_call_spelling FitsClipCall
+    (kind text_fields clip_call_spelling FitsClipCall (codes "copy") call.Copy (λ t h. h) (λ t h. h) (λ t. refl)).takes
+    (kind nothing clip_call_spelling FitsClipCall (codes "paste") (λ _. call.Paste) (λ p h. tt) (λ p h. tt)
+    (λ p. refl)).takes
 
 call_again : (c : ClipCall) (rest : List ℕ) → FitsClipCall c → clip_call_at (clip_call_spelling c ++ 10 ∷ rest)
     ≡ Some (c, 10 ∷ rest)
 unfolding clip_call_at copy_at paste_at
-call_again (call.Copy t) rest fits = rw (copies.again t (10 ∷ rest) fits refl) refl
+call_again (call.Copy t) rest fits = rw (text_fields.again t (10 ∷ rest) fits refl)
 call_again call.Paste rest fits = refl
 
-phases : IsKind clip_phase_at clip_line_spelling FitsClipLine anything (λ (_ : Unit {0}). line.Phase)
-unfolding clip_phase_at
-phases = kind nothing clip_line_spelling FitsClipLine (codes "phase") _ (λ p h. tt) (λ p h. tt) (λ p. refl)
-
 front_takes : Takes clip_front_at clip_line_spelling FitsClipLine
-unfolding clip_front_at
+unfolding clip_front_at clip_phase_at
 front_takes =
     first_takes (at_made line.Call clip_call_at) clip_phase_at clip_line_spelling FitsClipLine
-    (made_takes clip_call_at clip_call_spelling FitsClipCall line.Call clip_line_spelling FitsClipLine call_takes
-    (λ c. refl) (λ c h. h)) phases.takes
+    (made_takes clip_call_at clip_call_spelling FitsClipCall line.Call _ _ call_takes (λ c. refl) (λ c h. h))
+    (kind nothing clip_line_spelling FitsClipLine (codes "phase") (λ _. line.Phase) (λ p h. tt) (λ p h. tt)
+    (λ p. refl)).takes
 
 front_again : (l : ClipLine) (rest : List ℕ) → FitsClipLine l → clip_front_at (clip_line_spelling l ++ 10 ∷ rest)
     ≡ Some (l, 10 ∷ rest)
 unfolding clip_front_at clip_call_at copy_at paste_at clip_phase_at
-front_again (line.Call c) rest fits = rw (call_again c rest fits) refl
+front_again (line.Call c) rest fits = rw (call_again c rest fits)
 front_again line.Phase rest fits = refl
 
 -- a line of a clip script is read exactly
 pub clip_reader : IsReader FitsClipLine clip_line_spelling clip_line_at
 unfolding clip_line_at
 clip_reader = record {
-  takes = λ bytes l rest e. ended_takes clip_front_at clip_line_spelling FitsClipLine front_takes bytes l rest e;
+  takes = ended_takes clip_front_at clip_line_spelling FitsClipLine front_takes;
   again = λ l rest fits. ended_again clip_front_at clip_line_spelling l rest (front_again l rest fits);
 }
 

@@ -1,14 +1,14 @@
 -- A clip list's text tells the list, but for what its entries keep of the focus.
 use Rattle.nit_clip.proofs.Basics.{AllByRecursion, AllDigits, ClipCall, ClipEntry, ClipReply}
 use Rattle.nit_clip.proofs.Basics.{Configuration, Entry, FitsClipCall, FitsClipEntry, FitsClipReply}
-use Rattle.nit_clip.proofs.Basics.{FitsText, IsLegalClips, IsThere, and_from, and_parts}
-use Rattle.nit_clip.proofs.Basics.{append_cancel_left, append_cancel_right, clip_call_spelling}
-use Rattle.nit_clip.proofs.Basics.{clip_entry_spelling, clip_reply_spelling, clip_text, codes}
-use Rattle.nit_clip.proofs.Basics.{decimal, decimal_injective, decimal_is_IsNumeral}
-use Rattle.nit_clip.proofs.Basics.{digit_from_value, eqb-false, is_printable, leb-true, list_all}
-use Rattle.nit_clip.proofs.Basics.{ne_eqb, not, not-true, replay, spelled, without_focus}
-use Rattle.std.proofs.Common.{List, None, [], ap, append_assoc, arith, get_or, map, refl, sym, take}
-use Rattle.std.proofs.Common.{true, ℕ, ◌++◌, ◌==◌, ◌^◌, ◌<◌, ◌∙◌, ◌∷◌, ◌≡◌, ◌≤◌}
+use Rattle.nit_clip.proofs.Basics.{FitsText, IsLegalClips, IsThere, and_parts, append_cancel_left}
+use Rattle.nit_clip.proofs.Basics.{append_cancel_right, clip_call_spelling, clip_entry_spelling}
+use Rattle.nit_clip.proofs.Basics.{clip_reply_spelling, clip_text, codes, decimal}
+use Rattle.nit_clip.proofs.Basics.{decimal_injective, decimal_is_IsNumeral, digit_from_value}
+use Rattle.nit_clip.proofs.Basics.{is_printable, list_all, list_all-append, nat_tests, not, spelled}
+use Rattle.nit_clip.proofs.Basics.{without_focus}
+use Rattle.std.proofs.Common.{List, None, [], ap, append_assoc, arith, map, refl, sym, true, ℕ}
+use Rattle.std.proofs.Common.{◌++◌, ◌<◌, ◌==◌, ◌^◌, ◌∙◌, ◌∷◌, ◌≡◌}
 use Rattle.nit_clip.specs.declared.call.ClipCall.TheVariants as call
 use Rattle.nit_clip.specs.declared.call.ClipReply.TheVariants as reply
 
@@ -18,40 +18,27 @@ use Rattle.nit_clip.specs.declared.call.ClipReply.TheVariants as reply
 abbrev Lacks : ℕ → List ℕ → Type 0
 Lacks c bytes = list_all (λ b. not (b == c)) bytes ≡ true
 
-differs : (b c : ℕ) → not (b == c) ≡ true → b ≡ c → ⊥
-differs b c other = eqb-false b c (not-true _ other)
-
-lacks_both : (c : ℕ) (xs ys : List ℕ) → Lacks c xs → Lacks c ys → Lacks c (xs ++ ys)
-lacks_both c [] ys p q = q
-lacks_both c (x ∷ xs) ys p q = let first = and_parts _ _ p in and_from _ _ first.0 (lacks_both c xs ys first.1 q)
-
 -- the first mark parts bytes in one way
 parted : (c : ℕ) (xs ys r s : List ℕ) → Lacks c xs → Lacks c ys → xs ++ c ∷ r ≡ ys ++ c ∷ s → (xs ≡ ys) × (r ≡ s)
 parted c [] [] r s p q e = (refl, cc)
-parted c [] (y ∷ ys) r s p q e = absurd (differs y c (and_parts _ _ q).0 cc)
-parted c (x ∷ xs) [] r s p q e = absurd (differs x c (and_parts _ _ p).0 cc)
 parted c (x ∷ xs) (y ∷ ys) r s p q e =
     let rest : xs ++ c ∷ r ≡ ys ++ c ∷ s = cc in
     let more = parted c xs ys r s (and_parts _ _ p).1 (and_parts _ _ q).1 rest in
-    let first : x ≡ y = ap (λ (bytes : List ℕ). get_or bytes 0 0) e in
-    (rw (first, more.0) refl, more.1)
+    (cc (more.0, e), more.1)
+parted c xs ys r s p q e = (grind (arith, nat_tests), grind (arith, nat_tests))
 
 -- ---- what has no space, and what has no line feed
 
 digits_lack : (ds : List ℕ) → AllDigits 10 ds → Lacks 32 ds
 digits_lack [] all = refl
-digits_lack (d ∷ ds) all =
-    and_from _ _ (ap not (ne_eqb d 32 (λ e. absurd (omega (arith, digit_from_value d all.0))))) (digits_lack ds all.1)
+digits_lack (d ∷ ds) all = grind (arith, nat_tests, digit_from_value d all.0, digits_lack ds all.1)
 
 number_lacks : (n : ℕ) → n < 2 ^ 32 → Lacks 32 (decimal n)
 number_lacks n small = digits_lack (decimal n) (decimal_is_IsNumeral n (omega arith)).0.1
 
 printable_lack : (t : List ℕ) → list_all is_printable t ≡ true → Lacks 10 t
 printable_lack [] all = refl
-printable_lack (b ∷ t) all =
-    let first = and_parts _ _ all in
-    let above : 32 ≤ b = leb-true 32 b (and_parts _ _ first.0).0 in
-    and_from _ _ (ap not (ne_eqb b 10 (λ e. absurd (omega (arith, above))))) (printable_lack t first.1)
+printable_lack (b ∷ t) all = grind (arith, nat_tests, printable_lack t)
 
 text_lacks : (t : List ℕ) → FitsText t → Lacks 10 t
 text_lacks t fits = printable_lack t (and_parts _ _ fits).1
@@ -63,23 +50,15 @@ abbrev behind : ClipReply → ClipCall → List ℕ
 behind r c = clip_reply_spelling r ++ (codes " < " ++ clip_call_spelling c)
 
 behind_lacks : (r : ClipReply) (c : ClipCall) → FitsClipCall c → FitsClipReply c r → Lacks 10 (behind r c)
-behind_lacks reply.Copied (call.Copy t) fits ok = text_lacks t fits
-behind_lacks reply.Empty (call.Copy t) fits ok = text_lacks t fits
-behind_lacks reply.NotFocused (call.Copy t) fits ok = text_lacks t fits
 behind_lacks (reply.Pasted u) (call.Copy t) fits ok = absurd ok
-behind_lacks reply.Copied call.Paste fits ok = refl
-behind_lacks reply.Empty call.Paste fits ok = refl
-behind_lacks reply.NotFocused call.Paste fits ok = refl
-behind_lacks (reply.Pasted u) call.Paste fits ok = lacks_both 10 u (codes " < paste") (text_lacks u ok) refl
+behind_lacks r (call.Copy t) fits ok = text_lacks t fits
+behind_lacks (reply.Pasted u) call.Paste fits ok = rw (list_all-append, text_lacks u ok)
+behind_lacks r call.Paste fits ok = refl
 
 same_calls : (c d : ClipCall) → clip_call_spelling c ≡ clip_call_spelling d → c ≡ d
 same_calls (call.Copy t) (call.Copy u) e = cc
-same_calls (call.Copy t) call.Paste e = absurd cc
-same_calls call.Paste (call.Copy u) e = absurd cc
 same_calls call.Paste call.Paste e = refl
-
-heads : (c d : ℕ) (xs ys : List ℕ) → c ∷ xs ≡ d ∷ ys → c ≡ d
-heads c d xs ys e = cc
+same_calls c d e = cc
 
 same_behind : (r s : ClipReply) (c d : ClipCall) → FitsClipReply c r → FitsClipReply d s → behind r c ≡ behind s d
     → (r ≡ s) × (c ≡ d)
@@ -91,27 +70,11 @@ same_behind (reply.Pasted t) (reply.Pasted u) call.Paste call.Paste p q e =
     (ap reply.Pasted (append_cancel_right t u (codes " < paste") (append_cancel_left (codes "pasted =") _ _ e)), refl)
 same_behind (reply.Pasted t) (reply.Pasted u) (call.Copy c) d p q e = absurd p
 same_behind (reply.Pasted t) (reply.Pasted u) call.Paste (call.Copy d) p q e = absurd q
-same_behind reply.Copied (reply.Pasted u) c d p q e = absurd (omega (arith, heads 99 112 _ _ e))
-same_behind reply.Copied reply.Empty c d p q e = absurd (omega (arith, heads 99 101 _ _ e))
-same_behind reply.Copied reply.NotFocused c d p q e = absurd (omega (arith, heads 99 110 _ _ e))
-same_behind reply.Empty reply.Copied c d p q e = absurd (omega (arith, heads 101 99 _ _ e))
-same_behind reply.Empty (reply.Pasted u) c d p q e = absurd (omega (arith, heads 101 112 _ _ e))
-same_behind reply.Empty reply.NotFocused c d p q e = absurd (omega (arith, heads 101 110 _ _ e))
-same_behind reply.NotFocused reply.Copied c d p q e = absurd (omega (arith, heads 110 99 _ _ e))
-same_behind reply.NotFocused (reply.Pasted u) c d p q e = absurd (omega (arith, heads 110 112 _ _ e))
-same_behind reply.NotFocused reply.Empty c d p q e = absurd (omega (arith, heads 110 101 _ _ e))
-same_behind (reply.Pasted t) reply.Copied c d p q e = absurd (omega (arith, heads 112 99 _ _ e))
-same_behind (reply.Pasted t) reply.Empty c d p q e = absurd (omega (arith, heads 112 101 _ _ e))
-same_behind (reply.Pasted t) reply.NotFocused c d p q e = absurd (omega (arith, heads 112 110 _ _ e))
+same_behind r s c d p q e = absurd (grind arith)
 
 line_is : (e : ClipEntry) (rest : List ℕ) → spelled clip_entry_spelling e ++ rest
     ≡ codes "clip " ++ (decimal e.at ++ 32 ∷ (decimal e.sid ++ 32 ∷ (behind e.reply e.call ++ 10 ∷ rest)))
-line_is e rest =
-    let numbered : List ℕ = decimal e.sid ++ 32 ∷ behind e.reply e.call in
-    append_assoc (clip_entry_spelling e) (10 ∷ []) rest
-    ∙ ap (λ (r : List ℕ). codes "clip " ++ r) (append_assoc (decimal e.at) (32 ∷ numbered) (10 ∷ rest))
-    ∙ ap (λ (r : List ℕ). codes "clip " ++ (decimal e.at ++ 32 ∷ r))
-    (append_assoc (decimal e.sid) (32 ∷ behind e.reply e.call) (10 ∷ rest))
+line_is e rest = simp append_assoc
 
 same_line : (e f : ClipEntry) (r s : List ℕ) → FitsClipEntry e → FitsClipEntry f → spelled clip_entry_spelling e ++ r
     ≡ spelled clip_entry_spelling f ++ s → (without_focus e ≡ without_focus f) × (r ≡ s)
@@ -133,13 +96,11 @@ same_line e f r s p q h =
 
 pub same_but_focus : (a b : List ClipEntry) → AllByRecursion FitsClipEntry a → AllByRecursion FitsClipEntry b
     → clip_text a ≡ clip_text b → map without_focus a ≡ map without_focus b
-same_but_focus [] [] p q e = refl
-same_but_focus [] (f ∷ b) p q e = absurd cc
-same_but_focus (e ∷ a) [] p q h = absurd cc
+same_but_focus [] [] p q h = refl
 same_but_focus (e ∷ a) (f ∷ b) p q h =
     let first = same_line e f (clip_text a) (clip_text b) p.0 q.0 h in
-    let more = same_but_focus a b p.1 q.1 first.1 in
-    λ i. first.0 i ∷ more i
+    cc (first.0, same_but_focus a b p.1 q.1 first.1)
+same_but_focus a b p q h = cc
 
 tells_no_focus : (a : List ClipEntry) → clip_text a ≡ clip_text (map without_focus a)
 tells_no_focus [] = refl
@@ -166,20 +127,16 @@ same_there config journal e f p q same =
     let sid : e.sid ≡ f.sid = ap (λ (c : ClipEntry). c.sid) same in
     let asked : e.call ≡ f.call = ap (λ (c : ClipEntry). c.call) same in
     let answered : e.reply ≡ f.reply = ap (λ (c : ClipEntry). c.reply) same in
-    let focus : e.focus ≡ f.focus = p.focus ∙ ap (λ (k : ℕ). (replay config (take k journal)).input.focus) at
-    ∙ sym q.focus in
+    let focus : e.focus ≡ f.focus = cc in
     λ i. record { at = at i; sid = sid i; focus = focus i; call = asked i; reply = answered i }
 
 all_there : (config : Configuration) (journal : List Entry) (a b : List ClipEntry)
     → AllByRecursion (IsThere config journal) a → AllByRecursion (IsThere config journal) b
     → map without_focus a ≡ map without_focus b → a ≡ b
-all_there config journal [] [] p q e = refl
-all_there config journal [] (f ∷ b) p q e = absurd cc
-all_there config journal (e ∷ a) [] p q h = absurd cc
+all_there config journal [] [] p q h = refl
 all_there config journal (e ∷ a) (f ∷ b) p q h =
-    let first : e ≡ f = same_there config journal e f p.0 q.0 cc in
-    let more : a ≡ b = all_there config journal a b p.1 q.1 cc in
-    λ i. first i ∷ more i
+    cc (same_there config journal e f p.0 q.0 cc, all_there config journal a b p.1 q.1 cc)
+all_there config journal a b p q h = cc
 
 pub one_legal : (config : Configuration) (journal : List Entry) (a b : List ClipEntry) → AllByRecursion FitsClipEntry a
     → AllByRecursion FitsClipEntry b → IsLegalClips config journal a → IsLegalClips config journal b

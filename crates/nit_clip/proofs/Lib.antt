@@ -1,11 +1,8 @@
-pub mod ClipboardLemmas
-pub mod LegalClipLemmas
+pub mod ClipListLemmas
 pub mod ClipLineLaws
 pub mod WholeClipLemmas
-pub mod OneMoreClip
-pub mod ClipScriptLemmas
+pub mod ClipFits
 pub mod Basics
 pub mod ForCallers
 pub mod Lemmas
 pub mod ClipTextLemmas
-pub mod ClipFits

@@ -1,43 +1,33 @@
 -- Clip calls stay in their phases while the journal and the clip list grow.
 use Rattle.nit_clip.proofs.Basics.{AllByRecursion, AreInPhases, Call, ClipCall, ClipEntry, Entry}
-use Rattle.nit_clip.proofs.Basics.{IsInPhase, UserAction, before_final, calls_of, calls_up_to}
-use Rattle.nit_clip.proofs.Basics.{cases_eq, cases_lt, clip_calls_of, clips_to_do, drop_left}
-use Rattle.nit_clip.proofs.Basics.{eq-eqb, get_or_past, left, left_after, ne_eqb, next_phase}
-use Rattle.nit_clip.proofs.Basics.{one_clip_done, phases_along, take-append-le, to_do}
-use Rattle.std.proofs.Common.{Bool, List, [], ap, arith, cond, drop, get_or-set_other}
-use Rattle.std.proofs.Common.{get_or-set_same, inl, inr, length, length-set, refl, subst, suc, sym}
-use Rattle.std.proofs.Common.{take, zero, ℕ, ◌++◌, ◌∙◌, ◌∷◌, ◌≡◌, ◌≢◌, ◌≤◌}
+use Rattle.nit_clip.proofs.Basics.{IsInPhase, UserAction, before_final, cases_eq, cases_lt}
+use Rattle.nit_clip.proofs.Basics.{clip_calls_of, clips_to_do, drop_left, eq-eqb, get_or_past, left}
+use Rattle.nit_clip.proofs.Basics.{left_after, ne_eqb, next_phase, one_clip_done, phases_along}
+use Rattle.nit_clip.proofs.Basics.{take-append-le, to_do}
+use Rattle.std.proofs.Common.{List, [], ap, arith, drop, get_or-set_other, get_or-set_same, inl}
+use Rattle.std.proofs.Common.{inr, length, length-set, refl, suc, sym, take, zero, ℕ, ◌++◌, ◌∷◌}
+use Rattle.std.proofs.Common.{◌≡◌, ◌≢◌, ◌≤◌}
 use Rattle.nit_events.specs.declared.entry.Entry.TheVariants as entry
-use Rattle.nit_clip.proofs.LegalClipLemmas.{before_all}
-
-take_none : {A : Type 0} (n : ℕ) (xs ys : List A) → n ≤ 0 → take n xs ≡ take n ys
-take_none zero xs ys none = refl
-take_none (suc n) xs ys none = absurd (omega arith)
+use Rattle.nit_clip.proofs.ClipListLemmas.{before_all}
 
 -- the phases of the first entries are those of the longer journal
 phases_stay : (clients : List (List (ℕ × Call))) (user : List (ℕ × UserAction)) (journal : List Entry) (e : Entry)
     (n : ℕ) → n ≤ before_final journal
     → take n (phases_along clients user (journal ++ e ∷ [])) ≡ take n (phases_along clients user journal)
-phases_stay clients user [] e n few = take_none n _ _ few
-phases_stay clients user (entry.Final ∷ rest) e n few = take_none n _ _ few
-phases_stay clients user (entry.Call sid c r ∷ rest) e zero few = refl
+phases_stay clients user [] e n few = let none : n ≡ 0 = omega arith in rw none
+phases_stay clients user (entry.Final ∷ rest) e n few = let none : n ≡ 0 = omega arith in rw none
 phases_stay clients user (entry.Call sid c r ∷ rest) e (suc n) few =
     ap (λ (ps : List ℕ). next_phase (to_do clients sid) ∷ ps) (phases_stay _ user rest e n (omega (arith, few)))
-phases_stay clients user (entry.Input dev routed ∷ rest) e zero few = refl
-phases_stay clients user (entry.Input dev routed ∷ rest) e (suc n) few =
-    ap (λ (ps : List ℕ). next_phase user ∷ ps) (phases_stay clients (left user) rest e n (omega (arith, few)))
-phases_stay clients user (entry.Shot number ∷ rest) e zero few = refl
-phases_stay clients user (entry.Shot number ∷ rest) e (suc n) few =
+phases_stay clients user (other ∷ rest) e zero few = refl
+phases_stay clients user (other ∷ rest) e (suc n) few =
     ap (λ (ps : List ℕ). next_phase user ∷ ps) (phases_stay clients (left user) rest e n (omega (arith, few)))
 
 placed_stays : (clients : List (List (ℕ × Call))) (user : List (ℕ × UserAction)) (journal : List Entry) (e : Entry)
     (phase : ℕ) (c : ClipEntry) → c.at ≤ before_final journal → IsInPhase clients user journal phase c
     → IsInPhase clients user (journal ++ e ∷ []) phase c
 placed_stays clients user journal e phase c within placed = record {
-  behind = subst (λ (es : List Entry). length (calls_up_to phase (to_do clients c.sid)) ≤ length (calls_of c.sid es))
-      (sym (take-append-le c.at journal (e ∷ []) (omega (arith, within, before_all journal)))) placed.behind;
-  before = subst (λ (ps : List ℕ). AllByRecursion (λ p. p ≤ phase) ps)
-      (sym (phases_stay clients user journal e c.at within)) placed.before;
+  behind = rw (take-append-le c.at journal (e ∷ []) (omega (arith, within, before_all journal))) placed.behind;
+  before = rw (phases_stay clients user journal e c.at within) placed.before;
 }
 
 pub all_placed_stay : (clients : List (List (ℕ × Call))) (user : List (ℕ × UserAction)) (journal : List Entry)
@@ -70,27 +60,18 @@ left_other scripts s t ne = get_or-set_other scripts s t (left (clips_to_do scri
 left_own : (scripts : Scripts) (s : ℕ) → clips_to_do (one_clip_done scripts s) s ≡ left (clips_to_do scripts s)
 left_own scripts s = elim (cases_lt s (length scripts)) [
   | inl inside ↦ get_or-set_same scripts s (left (clips_to_do scripts s)) [] inside
-  | inr past ↦ get_or_past (one_clip_done scripts s) s [] (let n =
-      length-set scripts s (left (clips_to_do scripts s)) in omega (arith, n))
-      ∙ sym (ap left (get_or_past scripts s [] past))
+  | inr past ↦
+      let n = length-set scripts s (left (clips_to_do scripts s)) in
+      rw (get_or_past (one_clip_done scripts s) s [] (omega (arith, n)), get_or_past scripts s [] past)
 ]
 
 pub left_is : (scripts : Scripts) (clips : List ClipEntry) (sid : ℕ) → clips_to_do (left_after scripts clips) sid
     ≡ drop (length (clip_calls_of sid clips)) (clips_to_do scripts sid)
 left_is scripts [] sid = refl
 left_is scripts (e ∷ clips) sid =
-    let calls : List ClipCall = clip_calls_of sid clips in
-    let done_here : Bool → List (ℕ × ClipCall) =
-    λ b. drop (length (cond b (e.call ∷ calls) calls)) (clips_to_do scripts sid) in
-    let before : clips_to_do (left_after (one_clip_done scripts e.sid) clips) sid
-    ≡ drop (length calls) (clips_to_do (one_clip_done scripts e.sid) sid) =
-    left_is (one_clip_done scripts e.sid) clips sid in
+    let before = left_is (one_clip_done scripts e.sid) clips sid in
     elim (cases_eq e.sid sid) [
-      | inl own ↦ before
-          ∙ ap (λ (ts : List (ℕ × ClipCall)). drop (length calls) ts)
-          (subst (λ (s : ℕ). clips_to_do (one_clip_done scripts e.sid) s ≡ left (clips_to_do scripts s)) own
-          (left_own scripts e.sid))
-          ∙ drop_left (length calls) (clips_to_do scripts sid) ∙ sym (ap done_here (eq-eqb e.sid sid own))
-      | inr other ↦ before ∙ ap (λ (ts : List (ℕ × ClipCall)). drop (length calls) ts)
-          (left_other scripts e.sid sid other) ∙ sym (ap done_here (ne_eqb e.sid sid other))
+      | inl own ↦ rw (before, eq-eqb e.sid sid own, own, left_own scripts sid)
+          (drop_left (length (clip_calls_of sid clips)) (clips_to_do scripts sid))
+      | inr other ↦ rw (before, ne_eqb e.sid sid other, left_other scripts e.sid sid other)
     ]

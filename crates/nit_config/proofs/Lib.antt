@@ -1,14 +1,6 @@
-pub mod RefusalTests
-pub mod Ascii
-pub mod MemberLists
-pub mod Clients
+pub mod AcceptedTables
 pub mod Elements
 pub mod OneAnswer
-pub mod HeldValues
-pub mod EachText
-pub mod KeyRows
-pub mod BoolLemmas
-pub mod RangeLemmas
 pub mod ForCallers
 pub mod Basics
 pub mod Lemmas

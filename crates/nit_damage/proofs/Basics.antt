@@ -10,18 +10,19 @@ pub use Rattle.nit_damage.specs.Terms.{is_owned, is_slot, job_at, job_to_come, j
 pub use Rattle.nit_damage.specs.Terms.{option_map, option_map_or, owner_in, part_below_bar}
 pub use Rattle.nit_damage.specs.Terms.{piece_times, pieces_left, place_of, point, position_or_len}
 pub use Rattle.nit_damage.specs.Terms.{rectangle, same_slot, slice_get, slot_view_covers}
-pub use Rattle.nit_damage.specs.Terms.{slot_view_in, spans, times, times_all, to_come, view_ref}
-pub use Rattle.nit_damage.specs.Terms.{weight, weight_of, with_pixels}
-pub use Rattle.nit_rect.proofs.ForCallers.{IsSpanned, IsWithin, and_true, covers_none, no_pixels}
-pub use Rattle.nit_rect.proofs.ForCallers.{pixels_of, same_tests, spans_holds, spans_tells, within}
+pub use Rattle.nit_damage.specs.Terms.{slot_view_in, times, times_all, to_come, view_ref, weight}
+pub use Rattle.nit_damage.specs.Terms.{weight_of, with_pixels}
+pub use Rattle.nit_rect.proofs.ForCallers.{covers_none, no_pixels, pixels_of, within}
 pub use Rattle.nit_stack.proofs.ForCallers.{found_fails, slot_at}
 pub use Rattle.std.proofs.Common.{None, Some, ap, arith, length, refl, sym, ◌∙◌}
-pub use Rattle.std.proofs.Math.Nat.{mul-le-mul_right, pow-suc}
-pub use Rattle.std.proofs.lemmas.Bool.{and_parts, cond_both, eqb-true, false_from_ne_true, not-true}
+pub use Rattle.std.proofs.Math.Nat.{mul-le-mul_right, one-le-pow, pow-suc}
+pub use Rattle.std.proofs.lemmas.Bool.{and_parts, cases_lt, cond_both, eqb-true, false_from_ne_true}
 pub use Rattle.std.proofs.lemmas.Bool.Decides.{nat_tests}
 pub use Rattle.std.proofs.lemmas.Int.{ints}
-pub use Rattle.std.proofs.lemmas.List.{drop_all, get_or-append-add, get_or-map, get_or_append_left}
-pub use Rattle.std.proofs.lemmas.List.{get_or_push, length-map, length-take, map-append, take_all}
+pub use Rattle.std.proofs.lemmas.List.{drop_all, drop_more, get_or-append-add, get_or-map}
+pub use Rattle.std.proofs.lemmas.List.{get_or-take, get_or_append_left, get_or_push, length-map}
+pub use Rattle.std.proofs.lemmas.List.{length-take, map-append, take_all, take_more}
 pub use Rattle.std.proofs.lemmas.List.Elements.{All-append, All-cons, All-nil}
 pub use Rattle.std.proofs.lemmas.List.Sums.{get_or-le-sum_by, sum_by-append, sum_by-cons}
-pub use Rattle.std.proofs.lemmas.Option.{IfSome_then, slice_get_within}
+pub use Rattle.std.proofs.lemmas.Option.{IfSome_then, get_or_from_slice_get, slice_get_within}
+pub use Rattle.std.proofs.lemmas.List.Folds.{list_any-append}

@@ -1,17 +1,16 @@
 -- What one step of the cutter does.
 use Rattle.nit_damage.proofs.Basics.{FitsJobs, HasPixels, IfSome, IsCutStep, IsJob, IsPieceOf}
 use Rattle.nit_damage.proofs.Basics.{IsStack, Job, None, Point, Rectangle, SlotView, Some}
-use Rattle.nit_damage.proofs.Basics.{StackModel, ViewRef, and_parts, arith, covers, drop_all}
-use Rattle.nit_damage.proofs.Basics.{has_slot, length, length-take, option_map, owner_in, refl}
-use Rattle.nit_damage.proofs.Basics.{slot_view_covers, sym, take_all, view_ref}
-use Rattle.std.proofs.Common.{List, Option, false, find, take, true, ℕ, ◌&&◌, ◌+◌, ◌-◌, ◌≡◌, ◌≤◌}
-use Rattle.nit_damage.proofs.Jobs.{heavy}
+use Rattle.nit_damage.proofs.Basics.{StackModel, ViewRef, and_parts, arith, cases_lt, covers}
+use Rattle.nit_damage.proofs.Basics.{drop_all, has_slot, length, length-take, one-le-pow}
+use Rattle.nit_damage.proofs.Basics.{option_map, owner_in, refl, slot_view_covers, sym, take_all}
+use Rattle.nit_damage.proofs.Basics.{view_ref}
+use Rattle.std.proofs.Common.{List, Option, false, find, inl, inr, take, true, ℕ, ◌&&◌, ◌+◌, ◌-◌}
+use Rattle.std.proofs.Common.{◌≡◌, ◌≤◌}
 use Rattle.nit_damage.proofs.RectangleCuts.{IsNextCut, cut_fewer, cut_fits, front_count}
 use Rattle.nit_damage.proofs.RectangleCuts.{piece_count}
 use Rattle.nit_damage.proofs.Screen.{below_not_in_bar, below_on_screen}
 use Rattle.nit_damage.proofs.Views.{front_most, no_view}
-use mathlib.Core.Logic.{dite}
-use native.Mathlib.Decide.{dec_lt}
 
 -- what a piece below the bar is
 piece_of : (s : StackModel) (j : Job) (old : List Job) (r : Rectangle) (owner : Option ViewRef) → IsStack s
@@ -27,10 +26,9 @@ piece_of s j old r owner is job some lies owned stands = record {
 }
 
 -- who owns a pixel of a rectangle
-owner_below : (s : StackModel) (j : Job) (old : List Job) → IsJob s (length old) j → (p : Point)
-    → covers j.rect p ≡ true
+owner_below : {s : StackModel} {k : ℕ} {j : Job} → IsJob s k j → (p : Point) → covers j.rect p ≡ true
     → owner_in (λ x. x.view) s.bar s.views p ≡ find (slot_view_covers p) s.views
-owner_below s j old job p here = rw (below_not_in_bar s p (job.below_bar p here)) refl
+owner_below {s} job p here = rw (below_not_in_bar s p (job.below_bar p here))
 
 -- behind the last view the whole rectangle is a piece
 pub bare : (from : ℕ) (s : StackModel) (j : Job) (old : List Job) → IsStack s → FitsJobs s old → IsJob s (length old) j
@@ -39,40 +37,38 @@ bare from s j old is fits job behind = record {
   fits = fits;
   count = λ p. rw (drop_all j.at (take from s.views) (omega (arith, length-take from s.views))) refl;
   piece = piece_of s j old j.rect None is job job.pixels (λ p here. here)
-      (λ p here. rw (owner_below s j old job p here, no_view p s.views (rw take_all at (job.free p here))) refl) tt;
-  fewer = omega (arith, heavy (length s.views + 1 - j.at));
+      (λ p here. rw (owner_below job p here, no_view p s.views (rw take_all at (job.free p here)))) tt;
+  fewer = omega (arith, one-le-pow (length s.views + 1 - j.at) 5 (omega arith));
 }
 
--- what is cut out has no piece
-pub passed : {s : StackModel} {j : Job} {x : SlotView} {old new : List Job} {both : Option Rectangle} (from : ℕ)
-    → IsNextCut s j x old new both
-    → ((p : Point) → from ≤ j.at → (covers j.rect p && covers x.view.rect p) ≡ false) → IsCutStep from s j old new None
-passed {j = j} from is none = record {
-  fits = cut_fits is;
-  count = λ p. dite (dec_lt j.at from)
-      (λ front. omega (arith, front_count from is front p))
-      (λ behind. rw (piece_count from is (omega arith) p, none p (omega arith)) refl);
-  piece = tt;
-  fewer = cut_fewer is;
-}
+module _ {s : StackModel} {j : Job} {x : SlotView} {old new : List Job} (from : ℕ) where
+  -- what is cut out has no piece
+  pub passed : {both : Option Rectangle} → IsNextCut s j x old new both
+      → ((p : Point) → from ≤ j.at → (covers j.rect p && covers x.view.rect p) ≡ false)
+      → IsCutStep from s j old new None
+  passed is none = record {
+    fits = cut_fits is;
+    count = λ p. elim (cases_lt j.at from) [
+      | inl front ↦ omega (arith, front_count is from front p)
+      | inr behind ↦ rw (piece_count is from behind p, none p behind)
+    ];
+    piece = tt;
+    fewer = cut_fewer is;
+  }
 
--- what is cut out is a piece
-pub given : {s : StackModel} {j : Job} {x : SlotView} {old new : List Job} {r : Rectangle} {v : ViewRef} (from : ℕ)
-    → IsStack s → IsNextCut s j x old new (Some r) → from ≤ j.at → view_ref x ≡ v → has_slot v.0 s.views ≡ true
-    → IsCutStep from s j old new (Some record { rect = r; owner = Some v })
-given {s = s} {j = j} {x = x} {old = old} {r = r} {v = v} from is next behind same stands = record {
-  fits = cut_fits next;
-  count = λ p. rw (piece_count from next behind p, next.cut.part.1 p) refl;
-  piece = piece_of s j old r (Some v) is next.job next.cut.part.0 (λ p here. (both p here).0)
-      (λ p here. rw (
-        owner_below s j old next.job p (both p here).0,
-        front_most p s.views j.at x next.seat
-            (next.job.free p (both p here).0) (both p here).1,
-        same,
-      ) refl)
-      stands;
-  fewer = cut_fewer next;
-}
-  where
-    both : (p : Point) → covers r p ≡ true → (covers j.rect p ≡ true) × (covers x.view.rect p ≡ true)
-    both p here = and_parts (covers j.rect p) (covers x.view.rect p) (rw (next.cut.part.1 p) at here)
+  -- what is cut out is a piece
+  pub given : {r : Rectangle} {v : ViewRef} → IsStack s → IsNextCut s j x old new (Some r) → from ≤ j.at
+      → view_ref x ≡ v → has_slot v.0 s.views ≡ true
+      → IsCutStep from s j old new (Some record { rect = r; owner = Some v })
+  given {r} {v} is next behind same stands =
+      let both = λ (p : Point) (here : covers r p ≡ true). and_parts (covers j.rect p) (covers x.view.rect p)
+      (rw (next.cut.part.1 p) at here) in
+      record {
+        fits = cut_fits next;
+        count = λ p. rw (piece_count next from behind p, next.cut.part.1 p);
+        piece = piece_of s j old r (Some v) is next.job next.cut.part.0 (λ p here. (both p here).0)
+            (λ p here. rw (owner_below next.job p (both p here).0)
+            (rw (front_most p s.views j.at x next.seat (next.job.free p (both p here).0) (both p here).1, same)))
+            stands;
+        fewer = cut_fewer next;
+      }

@@ -1,15 +1,14 @@
 -- Lists of rectangles that are still to be cut.
 use Rattle.nit_damage.proofs.Basics.{All-cons, All-nil, FitsJobs, HasPixels, IsJob, Job, Point}
-use Rattle.nit_damage.proofs.Basics.{Rectangle, StackModel, arith, cond_both, covered, covers_none}
-use Rattle.nit_damage.proofs.Basics.{get_or-append-add, get_or_append_left, get_or_push, job_at}
-use Rattle.nit_damage.proofs.Basics.{job_to_come, jobs_to_come, length, mul-le-mul_right, nat_tests}
-use Rattle.nit_damage.proofs.Basics.{no_pixels, once, pixels_of, pow-suc, refl, sum_by-cons, times}
-use Rattle.nit_damage.proofs.Basics.{times_all, weight, weight_of, with_pixels}
-use Rattle.std.proofs.Common.{All, Bool, List, [], cond, drop, length-append, map, slice_index_or}
-use Rattle.std.proofs.Common.{suc, take, zero, ℕ, ◌&&◌, ◌*◌, ◌++◌, ◌+◌, ◌-◌, ◌<◌, ◌==◌, ◌^◌, ◌||◌}
-use Rattle.std.proofs.Common.{◌∷◌, ◌≡◌, ◌≤◌}
-use mathlib.Core.Logic.{dite}
-use native.Mathlib.Decide.{dec_lt}
+use Rattle.nit_damage.proofs.Basics.{Rectangle, StackModel, arith, cases_lt, cond_both, covered}
+use Rattle.nit_damage.proofs.Basics.{covers_none, get_or-append-add, get_or_append_left}
+use Rattle.nit_damage.proofs.Basics.{get_or_push, job_at, job_to_come, jobs_to_come, length}
+use Rattle.nit_damage.proofs.Basics.{mul-le-mul_right, nat_tests, no_pixels, once, one-le-pow}
+use Rattle.nit_damage.proofs.Basics.{pixels_of, pow-suc, refl, sum_by-cons, times, times_all}
+use Rattle.nit_damage.proofs.Basics.{weight, weight_of, with_pixels}
+use Rattle.std.proofs.Common.{All, Bool, List, [], cond, drop, inl, inr, length-append, map}
+use Rattle.std.proofs.Common.{slice_index_or, suc, take, ℕ, ◌&&◌, ◌*◌, ◌++◌, ◌+◌, ◌-◌, ◌<◌, ◌==◌}
+use Rattle.std.proofs.Common.{◌^◌, ◌||◌, ◌∷◌, ◌≡◌, ◌≤◌}
 
 -- a rectangle, where it has pixels
 pub same_times : (r : Rectangle) (p : Point) → times_all (with_pixels r) p ≡ times r p
@@ -38,15 +37,11 @@ rest_weighs views at [] = omega arith
 rest_weighs views at (r ∷ rest) =
     rw (sum_by-cons (weight_of views) (job_at at r) (map (job_at at) rest), rest_weighs views at rest) (omega arith)
 
-pub heavy : (n : ℕ) → 0 < 5 ^ n
-heavy zero = omega arith
-heavy (suc n) = let h = heavy n in rw pow-suc (omega arith)
-
 pub lighter : (views at few : ℕ) → at < views → few ≤ 4 → few * 5 ^ (views + 1 - (at + 1)) < 5 ^ (views + 1 - at)
 lighter views at few before le =
     let e : views + 1 - at ≡ suc (views + 1 - (at + 1)) = omega arith in
     let w = 5 ^ (views + 1 - (at + 1)) in
-    rw (e, pow-suc) (omega (arith, heavy (views + 1 - (at + 1)), mul-le-mul_right w le))
+    rw (e, pow-suc) (omega (arith, one-le-pow (views + 1 - (at + 1)) 5 (omega arith), mul-le-mul_right w le))
 
 -- one cut, at one pixel: the rest comes where the next views let it, and the part that is cut out comes not at all
 pub cut_in_front : (now next here there : Bool) (rest : ℕ) → now ≡ (there || next)
@@ -58,12 +53,13 @@ cut_in_front now next here there rest e parts = grind arith
 pub fits_append : (s : StackModel) (jobs more : List Job) → FitsJobs s jobs
     → ((k : ℕ) (d : Job) → k < length more → IsJob s (length jobs + k) (slice_index_or more k d))
     → FitsJobs s (jobs ++ more)
-fits_append s jobs more fits fit k d below = dite (dec_lt k (length jobs))
-    (λ front. rw (get_or_append_left jobs more d k front) (fits k d front))
-    (λ behind.
-    let e : length jobs + (k - length jobs) ≡ k = omega arith in
-    let job = fit (k - length jobs) d (omega (arith, length-append jobs more)) in
-    rw e at (rw (← get_or-append-add jobs more (k - length jobs) d) at job))
+fits_append s jobs more fits fit k d below = elim (cases_lt k (length jobs)) [
+  | inl front ↦ rw (get_or_append_left jobs more d k front) (fits k d front)
+  | inr behind ↦
+      let e : length jobs + (k - length jobs) ≡ k = omega arith in
+      let job = fit (k - length jobs) d (omega (arith, length-append jobs more)) in
+      rw e at (rw (← get_or-append-add jobs more (k - length jobs) d) at job)
+]
 
 -- the last rectangle of a list
 pub last_job : (s : StackModel) (jobs : List Job) (j : Job) → FitsJobs s (jobs ++ j ∷ []) → IsJob s (length jobs) j

@@ -1,7 +1,7 @@
 -- What answers use: all that lemmas use, and this crate's lemmas.
 pub use Rattle.nit_damage.proofs.Basics.{CutterModel, FitsJobs, IsSkip, None, Point, Some, ap}
-pub use Rattle.nit_damage.proofs.Basics.{arith, in_front_of, jobs_to_come, length, pixels_of}
-pub use Rattle.nit_damage.proofs.Basics.{place_of, refl, weight, ◌∙◌}
+pub use Rattle.nit_damage.proofs.Basics.{arith, in_front_of, jobs_to_come, pixels_of, place_of}
+pub use Rattle.nit_damage.proofs.Basics.{refl, weight, ◌∙◌}
 pub use Rattle.nit_damage.proofs.CutterSteps.{bare, given, passed}
 pub use Rattle.nit_damage.proofs.Jobs.{last_job}
 pub use Rattle.nit_damage.proofs.NextPiece.{bar_next, below_next, next_came, next_fits, next_piece}

@@ -3,7 +3,7 @@ use Rattle.nit_damage.proofs.Basics.{CutterModel, FitsJobs, FitsStack, IfSome, I
 use Rattle.nit_damage.proofs.Basics.{IsPieceOf, IsScreenSize, IsTrue, Job, MatchOption, None, Piece}
 use Rattle.nit_damage.proofs.Basics.{Point, Some, StackModel, ap, arith, bar_part, covers}
 use Rattle.nit_damage.proofs.Basics.{jobs_to_come, length, once, piece_times, pieces_left, refl}
-use Rattle.nit_damage.proofs.Basics.{times, to_come, weight}
+use Rattle.nit_damage.proofs.Basics.{to_come, weight}
 use Rattle.std.proofs.Common.{List, Option, [], false, true, ◌+◌, ◌<◌, ◌≡◌, ◌≤◌}
 use Rattle.nit_damage.proofs.Screen.{bar_in_bar, bar_on_screen}
 
@@ -17,28 +17,25 @@ pub record IsNext (s : StackModel) (old new : CutterModel) (result : Option Piec
   pub piece : MatchOption result ((p : Point) → to_come old s p ≡ 0) (IsPieceOf s)
   pub fewer : IfSome result (λ _. pieces_left new s < pieces_left old s)
 
-pub next_fits : {s : StackModel} {old new : CutterModel} {result : Option Piece} → IsNext s old new result
-    → FitsStack new s
-next_fits {s = s} is = record {
-  room = rw is.room is.fits.room;
-  jobs = is.jobs;
-  bar = λ some. let none = is.bar in cc;
-  once = λ p. omega (arith, is.count p, is.fits.once p);
-}
+module _ {s : StackModel} {old new : CutterModel} where
+  pub next_fits : {result : Option Piece} → IsNext s old new result → FitsStack new s
+  next_fits is = record {
+    room = rw is.room is.fits.room;
+    jobs = is.jobs;
+    bar = λ some. let none = is.bar in cc;
+    once = λ p. omega (arith, is.count p, is.fits.once p);
+  }
 
-pub next_came : {s : StackModel} {old new : CutterModel} (result : Option Piece) → IsNext s old new result
-    → MatchOption result ((p : Point) → to_come old s p ≡ 0) (λ piece. (p : Point) → IsTrue (covers piece.rect p)
-    → to_come old s p ≡ 1)
-next_came None is = is.piece
-next_came (Some piece) is = λ p here.
-    let one : times piece.rect p ≡ 1 = ap once here in
-    omega (arith, is.count p, is.fits.once p)
+  pub next_came : (result : Option Piece) → IsNext s old new result → MatchOption result
+      ((p : Point) → to_come old s p ≡ 0) (λ piece. (p : Point) → IsTrue (covers piece.rect p) → to_come old s p ≡ 1)
+  next_came None is = is.piece
+  next_came (Some piece) is = λ p here. omega (arith, ap once here, is.count p, is.fits.once p)
 
--- what holds of every piece
-pub next_piece : {s : StackModel} {old new : CutterModel} {Q : Piece → Type 0} (result : Option Piece)
-    → IsNext s old new result → ((piece : Piece) → IsPieceOf s piece → Q piece) → IfSome result Q
-next_piece None is holds = tt
-next_piece (Some piece) is holds = holds piece is.piece
+  -- what holds of every piece
+  pub next_piece : {Q : Piece → Type 0} (result : Option Piece) → IsNext s old new result
+      → ((piece : Piece) → IsPieceOf s piece → Q piece) → IfSome result Q
+  next_piece None is holds = tt
+  next_piece (Some piece) is holds = holds piece is.piece
 
 -- the bar is a piece
 pub bar_next : {s : StackModel} {old : CutterModel} → FitsStack old s → old.bar ≡ true → s.bar ≤ s.height

@@ -1,18 +1,18 @@
 -- One cut of a rectangle by another.
 use Rattle.nit_damage.proofs.Basics.{All-append, CoversBoth, FitsJobs, HasPixels, IsApart, IsCut}
-use Rattle.nit_damage.proofs.Basics.{IsDivided, IsJob, IsWithin, Job, LiesIn, None, Point}
-use Rattle.nit_damage.proofs.Basics.{Rectangle, SlotView, Some, StackModel, Strips, ViewRef}
-use Rattle.nit_damage.proofs.Basics.{and_parts, ap, arith, covered, covers, covers_none}
-use Rattle.nit_damage.proofs.Basics.{get_or-le-sum_by, get_or-map, ints, job_at, job_to_come}
-use Rattle.nit_damage.proofs.Basics.{jobs_to_come, length, length-map, map-append, no_pixels, once}
-use Rattle.nit_damage.proofs.Basics.{option_map, refl, slice_get, slice_get_within, slot_at}
-use Rattle.nit_damage.proofs.Basics.{sum_by-append, sym, times, times_all, view_ref, weight}
-use Rattle.nit_damage.proofs.Basics.{weight_of, with_pixels, within, ◌∙◌}
-use Rattle.std.proofs.Common.{List, Option, append_assoc, cond, drop, false, get_or, length-append}
-use Rattle.std.proofs.Common.{map, take, true, ℕ, ◌&&◌, ◌*◌, ◌++◌, ◌+◌, ◌<◌, ◌≡◌, ◌≤◌}
+use Rattle.nit_damage.proofs.Basics.{IsDivided, IsJob, Job, LiesIn, None, Point, Rectangle}
+use Rattle.nit_damage.proofs.Basics.{SlotView, Some, StackModel, Strips, ViewRef, and_parts, ap}
+use Rattle.nit_damage.proofs.Basics.{arith, covered, covers, covers_none, get_or-le-sum_by}
+use Rattle.nit_damage.proofs.Basics.{get_or-map, ints, job_at, job_to_come, jobs_to_come, length}
+use Rattle.nit_damage.proofs.Basics.{length-map, map-append, no_pixels, once, option_map, slice_get}
+use Rattle.nit_damage.proofs.Basics.{slice_get_within, slot_at, sum_by-append, sym, times}
+use Rattle.nit_damage.proofs.Basics.{times_all, view_ref, weight, weight_of, with_pixels, within}
+use Rattle.nit_damage.proofs.Basics.{◌∙◌}
+use Rattle.std.proofs.Common.{List, Option, append_assoc, cond, drop, false, length-append, map}
+use Rattle.std.proofs.Common.{take, true, ℕ, ◌&&◌, ◌*◌, ◌++◌, ◌+◌, ◌<◌, ◌≡◌, ◌≤◌}
 use Rattle.nit_damage.proofs.Jobs.{all_have_pixels, at_most_one, cut_in_front, fits_append, lighter}
 use Rattle.nit_damage.proofs.Jobs.{rest_to_come, rest_weighs, same_times}
-use Rattle.nit_damage.proofs.Views.{covered_less, covered_more, covered_none, rect_is}
+use Rattle.nit_damage.proofs.Views.{covered_less, covered_more, covered_none}
 
 -- what both cover lies in the first
 pub both_lie : (a b both : Rectangle) → CoversBoth a b both → LiesIn both a
@@ -20,9 +20,7 @@ both_lie a b both is p here = (and_parts (covers a p) (covers b p) (sym (is p) �
 
 -- a rectangle with pixels in another: that one has some too
 pub wider : (a b : Rectangle) → HasPixels a → LiesIn a b → HasPixels b
-wider a b some lie =
-    let edges : IsWithin a b = within a b some lie in
-    (omega (arith, ints, some.0), omega (arith, ints, some.1))
+wider a b some lie = let edges = within a b some lie in (omega (arith, ints, some.0), omega (arith, ints, some.1))
 
 is_apart : (a b both : Rectangle) → CoversBoth a b both → both.w * both.h ≡ 0 → IsApart a b
 is_apart a b both is none p = sym (is p) ∙ covers_none both p (no_pixels both none)
@@ -57,12 +55,6 @@ cut_in_four at rect by both s old new is some divided pushed = record {
   part = (some, is);
 }
 
-rest_lies : (at : ℕ) (rect by : Rectangle) (old new : List Job) (both : Option Rectangle)
-    (cut : IsCut at rect by old new both) (k : ℕ) (d : Rectangle) (p : Point)
-    → k < length cut.rest → covers (get_or cut.rest k d) p ≡ true → (covers rect p ≡ true) × (covers by p ≡ false)
-rest_lies at rect by old new both cut k d p below here =
-    grind (arith, get_or-le-sum_by (λ (r : Rectangle). times r p) cut.rest k d below, cut.pixels p, here)
-
 -- a list with the rest of a cut fits the stack, where each rectangle of the rest does
 pub rest_fits : (s : StackModel) (at : ℕ) (rect by : Rectangle) (old new : List Job) (both : Option Rectangle)
     → IsCut at rect by old new both → FitsJobs s old
@@ -75,7 +67,12 @@ rest_fits s at rect by old new both cut fits fit =
     let few = cut.few in
     let within : k < length cut.rest = omega (arith, length-map cut.rest (job_at at)) in
     rw (get_or-map (job_at at) cut.rest k rect d within)
-    (fit k _ (omega arith) (cut.some k rect within) (λ p. rest_lies at rect by old new both cut k rect p within))))
+    (fit k _ (omega arith) (cut.some k rect within) (λ p here. grind (
+      arith,
+      cut.pixels p,
+      here,
+      get_or-le-sum_by (λ (r : Rectangle). times r p) cut.rest k rect within,
+    )))))
 
 -- the cut of a rectangle that fits the stack, by the next view
 pub record IsNextCut (s : StackModel) (j : Job) (x : SlotView) (old new : List Job) (both : Option Rectangle) : Type 0
@@ -85,64 +82,48 @@ pub record IsNextCut (s : StackModel) (j : Job) (x : SlotView) (old new : List J
     pub seat : slice_get s.views j.at ≡ Some x
     pub cut : IsCut (j.at + 1) j.rect x.view.rect old new both
 
-rest_job : {s : StackModel} {j : Job} {x : SlotView} {old new : List Job} {both : Option Rectangle}
-    (is : IsNextCut s j x old new both) (k : ℕ) (r : Rectangle)
-    → k ≤ 3 → HasPixels r → ((p : Point) → covers r p ≡ true → (covers j.rect p ≡ true)
-    × (covers x.view.rect p ≡ false)) → IsJob s (length old + k) (job_at (j.at + 1) r)
-rest_job {s = s} {j = j} {x = x} is k r few some lies =
-    let low = is.job.low in
-    let before = slice_get_within s.views j.at x is.seat in
-    record {
-      pixels = some;
-      place = omega arith;
-      low = omega arith;
-      below_bar = λ p here. is.job.below_bar p (lies p here).0;
-      free = λ p here. rw (covered_more p s.views j.at x is.seat, is.job.free p (lies p here).0) (lies p here).1;
-    }
+module _ {s : StackModel} {j : Job} {x : SlotView} {old new : List Job} {both : Option Rectangle}
+    (is : IsNextCut s j x old new both) where
+  before : j.at < length s.views
+  before = slice_get_within s.views j.at x is.seat
 
-pub cut_fits : {s : StackModel} {j : Job} {x : SlotView} {old new : List Job} {both : Option Rectangle}
-    → IsNextCut s j x old new both → FitsJobs s new
-cut_fits {s = s} {old = old} is = rest_fits s _ _ _ old _ _ is.cut is.fits (rest_job is)
+  pub cut_fits : FitsJobs s new
+  cut_fits = rest_fits s _ _ _ old _ _ is.cut is.fits (λ k r few some lies.
+      let low = is.job.low in
+      let within = before in
+      record {
+        pixels = some;
+        place = omega arith;
+        low = omega arith;
+        below_bar = λ p here. is.job.below_bar p (lies p here).0;
+        free = λ p here. rw (covered_more p s.views j.at x is.seat, is.job.free p (lies p here).0) (lies p here).1;
+      })
 
-pub cut_fewer : {s : StackModel} {j : Job} {x : SlotView} {old new : List Job} {both : Option Rectangle}
-    → IsNextCut s j x old new both
-    → weight (length s.views) new < weight (length s.views) old + weight_of (length s.views) j
-cut_fewer {s = s} {j = j} {old = old} is =
-    let n = length s.views in
-    let rest = rest_weighs n (j.at + 1) is.cut.rest in
-    let less = lighter n j.at (length is.cut.rest) (slice_get_within s.views j.at _ is.seat) is.cut.few in
-    rw (is.cut.jobs, sum_by-append (weight_of n) old (map (job_at (j.at + 1)) is.cut.rest)) (omega arith)
+  pub cut_fewer : weight (length s.views) new < weight (length s.views) old + weight_of (length s.views) j
+  cut_fewer =
+      let n = length s.views in
+      let rest = rest_weighs n (j.at + 1) is.cut.rest in
+      let less = lighter n j.at (length is.cut.rest) before is.cut.few in
+      rw (is.cut.jobs, sum_by-append (weight_of n) old (map (job_at (j.at + 1)) is.cut.rest)) (omega arith)
 
-cut_sum : {s : StackModel} {j : Job} {x : SlotView} {old new : List Job} {both : Option Rectangle} (from : ℕ)
-    (is : IsNextCut s j x old new both) (p : Point)
-    → jobs_to_come from s new p ≡ jobs_to_come from s old p + cond (covered (drop (j.at + 1) (take from s.views)) p) 0
-    (times_all is.cut.rest p)
-cut_sum {s = s} {j = j} {old = old} from is p =
-    rw (
-      is.cut.jobs,
-      sum_by-append (job_to_come from s p) old (map (job_at (j.at + 1)) is.cut.rest),
-      rest_to_come from (j.at + 1) s p is.cut.rest,
-    ) refl
+  cut_sum : (from : ℕ) (p : Point) → jobs_to_come from s new p
+      ≡ jobs_to_come from s old p + cond (covered (drop (j.at + 1) (take from s.views)) p) 0 (times_all is.cut.rest p)
+  cut_sum from p = rw (is.cut.jobs, sum_by-append (job_to_come from s p) old (map (job_at (j.at + 1)) is.cut.rest))
+      (rw (rest_to_come from (j.at + 1) s p is.cut.rest))
 
--- a view in front of those that have pieces
-pub front_count : {s : StackModel} {j : Job} {x : SlotView} {old new : List Job} {both : Option Rectangle} (from : ℕ)
-    → IsNextCut s j x old new both → j.at < from
-    → (p : Point) → jobs_to_come from s old p + job_to_come from s p j ≡ jobs_to_come from s new p
-front_count {s = s} {j = j} {x = x} from is before p =
-    let less = covered_less p s.views from j.at x is.seat before in
-    rw (cut_sum from is p, cut_in_front _ _ (covers j.rect p) (covers x.view.rect p) _ less (is.cut.pixels p)) refl
+  -- a view in front of those that have pieces
+  pub front_count : (from : ℕ) → j.at < from
+      → (p : Point) → jobs_to_come from s old p + job_to_come from s p j ≡ jobs_to_come from s new p
+  front_count from front p =
+      let less = covered_less p s.views from j.at x is.seat front in
+      rw (cut_sum from p, cut_in_front _ _ (covers j.rect p) (covers x.view.rect p) _ less (is.cut.pixels p))
 
--- a view that has pieces
-pub piece_count : {s : StackModel} {j : Job} {x : SlotView} {old new : List Job} {both : Option Rectangle} (from : ℕ)
-    → IsNextCut s j x old new both → from ≤ j.at
-    → (p : Point) → jobs_to_come from s old p + job_to_come from s p j
-    ≡ jobs_to_come from s new p + once (covers j.rect p && covers x.view.rect p)
-piece_count {s = s} {j = j} from is behind p =
-    rw (
-      cut_sum from is p,
-      covered_none p s.views from j.at behind,
-      covered_none p s.views from (j.at + 1) (omega arith),
-    ) (omega (arith, is.cut.pixels p))
+  -- a view that has pieces
+  pub piece_count : (from : ℕ) → from ≤ j.at → (p : Point) → jobs_to_come from s old p + job_to_come from s p j
+      ≡ jobs_to_come from s new p + once (covers j.rect p && covers x.view.rect p)
+  piece_count from behind p =
+      rw (cut_sum from p, covered_none p s.views from j.at behind)
+      (rw (covered_none p s.views from (j.at + 1) (omega arith)) (omega (arith, is.cut.pixels p)))
 
 -- the next view of a rectangle, by its place and its rectangle
 pub next_view : {s : StackModel} {j : Job} {v : ViewRef} {by : Rectangle} {old new : List Job} {both : Option Rectangle}
@@ -153,7 +134,7 @@ pub next_view : {s : StackModel} {j : Job} {v : ViewRef} {by : Rectangle} {old n
     → (x : SlotView) × (view_ref x ≡ v) × IsNextCut s j x old new both
 next_view {s = s} {j = j} {v = v} {by = by} fits job at rect cut =
     let found = slot_at s.views j.at v at in
-    let same = rect_is (slice_get s.views j.at) found.0 by found.1 rect in (
+    let same : found.0.view.rect ≡ by = let here = rw found.1 at rect in cc in (
       found.0,
       ap (λ (n : ℕ). record { 0 = n }) found.2,
       record { fits = fits; job = job; seat = found.1; cut = rw same cut },

@@ -1,12 +1,11 @@
 -- Views that have no pixel in common with a rectangle, passed over.
 use Rattle.nit_damage.proofs.Basics.{IsApart, IsCutStep, IsSkip, Job, Piece, Rectangle, SlotView}
-use Rattle.nit_damage.proofs.Basics.{Some, StackModel, ViewRef, arith, job_at, length, option_map}
-use Rattle.nit_damage.proofs.Basics.{refl, slice_get, slice_get_within, slot_at, view_ref, ◌∙◌}
-use Rattle.std.proofs.Common.{List, Option, map, ℕ, ◌+◌, ◌≡◌}
+use Rattle.nit_damage.proofs.Basics.{Some, StackModel, ViewRef, arith, cases_lt, job_at, length}
+use Rattle.nit_damage.proofs.Basics.{option_map, slice_get, slice_get_within, slot_at, view_ref}
+use Rattle.nit_damage.proofs.Basics.{◌∙◌}
+use Rattle.std.proofs.Common.{List, Option, inl, inr, map, ℕ, ◌+◌, ◌≡◌}
 use Rattle.nit_damage.proofs.Jobs.{lighter}
-use Rattle.nit_damage.proofs.Views.{covered_less, covered_more, covered_none, rect_is}
-use mathlib.Core.Logic.{dite}
-use native.Mathlib.Decide.{dec_lt}
+use Rattle.nit_damage.proofs.Views.{covered_less, covered_more, covered_none}
 
 pub skip_both : {s : StackModel} {i j k : Job} → IsSkip s i j → IsSkip s j k → IsSkip s i k
 skip_both one more = record {
@@ -24,7 +23,8 @@ skip_next s j v by at rect apart =
     let found = slot_at s.views j.at v at in
     let x = found.0 in
     let before = slice_get_within s.views j.at x found.1 in
-    let nothing : IsApart j.rect x.view.rect = rw (rect_is (slice_get s.views j.at) x by found.1 rect) apart in
+    let same : x.view.rect ≡ by = let here = rw found.1 at rect in cc in
+    let nothing : IsApart j.rect x.view.rect = rw same apart in
     record {
       fits = λ k is. let low = is.low in record {
         pixels = is.pixels;
@@ -33,13 +33,11 @@ skip_next s j v by at rect apart =
         below_bar = is.below_bar;
         free = λ p here. grind (arith, covered_more p s.views j.at x found.1, is.free p here, nothing p, here);
       };
-      count = λ from p. dite (dec_lt j.at from)
-          (λ front. rw (covered_less p s.views from j.at x found.1 front) (grind (arith, nothing p)))
-          (λ behind. rw (
-            covered_none p s.views from j.at (omega arith),
-            covered_none p s.views from (j.at + 1)
-                (omega arith),
-          ) refl);
+      count = λ from p. elim (cases_lt j.at from) [
+        | inl front ↦ rw (covered_less p s.views from j.at x found.1 front) (grind (arith, nothing p))
+        | inr behind ↦ rw (covered_none p s.views from j.at behind)
+            (rw (covered_none p s.views from (j.at + 1) (omega arith)))
+      ];
       no_more = omega (arith, lighter (length s.views) j.at 1 before (omega arith));
     }
 

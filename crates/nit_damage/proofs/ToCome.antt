@@ -8,8 +8,8 @@ use Rattle.nit_damage.proofs.Basics.{job_to_come, jobs_to_come, length, length-m
 use Rattle.nit_damage.proofs.Basics.{option_map, part_below_bar, pixels_of, place_of, refl}
 use Rattle.nit_damage.proofs.Basics.{same_slot, slot_view_in, sum_by-append, times, to_come}
 use Rattle.nit_damage.proofs.Basics.{with_pixels}
-use Rattle.std.proofs.Common.{Bool, List, Option, [], cond, false, inr, map, nat_lt, not, suc, take}
-use Rattle.std.proofs.Common.{zero, ℕ, ◌&&◌, ◌*◌, ◌+◌, ◌==◌, ◌||◌, ◌∷◌, ◌≡◌, ◌≤◌}
+use Rattle.std.proofs.Common.{Bool, List, Option, [], cond, false, inr, map, nat_lt, not, take, ℕ}
+use Rattle.std.proofs.Common.{◌&&◌, ◌*◌, ◌+◌, ◌==◌, ◌||◌, ◌∷◌, ◌≡◌, ◌≤◌}
 use Rattle.nit_damage.proofs.Jobs.{at_most_one, rest_to_come, same_times}
 use Rattle.nit_damage.proofs.RectangleCuts.{rest_fits}
 use Rattle.nit_damage.proofs.Screen.{bar_in_bar, bar_is, bar_off, below_is, below_not_in_bar}
@@ -27,19 +27,16 @@ first_job s k r low some lies = record {
   place = omega arith;
   low = omega arith;
   below_bar = lies;
-  free =
-      λ p here. refl;
+  free = λ p here. refl;
 }
 
 first_fits : (s : StackModel) (r : Rectangle) → LiesIn r (part_below_bar s)
     → FitsJobs s (map (job_at 0) (with_pixels r))
 first_fits s r lies =
     cond_both (r.w * r.h == 0) [] (r ∷ []) (λ rs. FitsJobs s (map (job_at 0) rs)) (λ e k d below. absurd (omega arith))
-    (λ e. one (pixels_of r (λ none. grind (arith, nat_tests))))
-  where
-    one : HasPixels r → FitsJobs s (job_at 0 r ∷ [])
-    one some zero d below = first_job s 0 r (omega arith) some lies
-    one some (suc k) d below = absurd (omega arith)
+    (λ e k d below.
+    let first : k ≡ 0 = omega arith in
+    rw first (first_job s 0 r (omega arith) (pixels_of r (λ none. grind (arith, nat_tests))) lies))
 
 -- what is to come where a rectangle is cut by the views in front of a place
 first_to_come : (s : StackModel) (from : ℕ) (r : Rectangle) (p : Point)
@@ -63,19 +60,15 @@ begun_fits s from r room enough lies = record {
   once = λ p. grind (arith, begun_comes s from r room p);
 }
 
--- a rectangle on the screen, below the bar
-pub gone_comes : (s : StackModel) (from : ℕ) (r part : Rectangle) (room : ℕ) → s.bar ≤ s.height
-    → CoversBoth r (part_below_bar s) part
-    → (p : Point) → IsOnScreen s.width s.height p → to_come (begun_cutter from part room) s p
-    ≡ once (is_behind from s r p)
-gone_comes s from r part room fits both p on =
-    rw (begun_comes s from part room p, both p, below_is s p fits on) (grind arith)
+module _ (s : StackModel) (from : ℕ) (r part : Rectangle) (room : ℕ) (fits : s.bar ≤ s.height)
+    (both : CoversBoth r (part_below_bar s) part) (p : Point) where
+  -- a rectangle on the screen, below the bar
+  pub gone_comes : IsOnScreen s.width s.height p
+      → to_come (begun_cutter from part room) s p ≡ once (is_behind from s r p)
+  gone_comes on = rw (begun_comes s from part room p, both p, below_is s p fits on) (grind arith)
 
-pub begun_off : (s : StackModel) (from : ℕ) (r part : Rectangle) (room : ℕ) → s.bar ≤ s.height
-    → CoversBoth r (part_below_bar s) part
-    → (p : Point) → (IsOnScreen s.width s.height p → ⊥) → to_come (begun_cutter from part room) s p ≡ 0
-begun_off s from r part room fits both p off =
-    rw (begun_comes s from part room p, both p, below_off s p fits off) (grind arith)
+  pub begun_off : (IsOnScreen s.width s.height p → ⊥) → to_come (begun_cutter from part room) s p ≡ 0
+  begun_off off = rw (begun_comes s from part room p, both p, below_off s p fits off) (grind arith)
 
 -- a view in its slot, by its rectangle
 seat_of : (o : Option SlotView) (r : Rectangle) → option_map (λ (a : SlotView). a.view.rect) o ≡ Some r
@@ -91,12 +84,8 @@ pub owned_comes : (s : StackModel) (v : ViewRef) (own r rect part : Rectangle) (
     ≡ once (is_owned v s r p)
 owned_comes s v own r rect part room fits apart at met both p on =
     let x = seat_of (slot_view_in v.0 s.views) own at in
-    rw (
-      gone_comes s (place_of v.0 s.views) rect part room fits both p on,
-      met p,
-      owned_behind s v.0 x.0 p apart x.1,
-      x.2,
-    ) (grind arith)
+    rw (gone_comes s (place_of v.0 s.views) rect part room fits both p on, met p)
+    (rw (owned_behind s v.0 x.0 p apart x.1, x.2) (grind arith))
 
 -- two rectangles, the second cut by the first
 pub record IsMoved (s : StackModel) (rect old part before : Rectangle) (jobs : List Job)
@@ -109,72 +98,64 @@ pub record IsMoved (s : StackModel) (rect old part before : Rectangle) (jobs : L
 abbrev pub moved : ℕ → List Job → ℕ → CutterModel
 moved from jobs room = record { jobs = jobs; from = from; bar = false; room = room }
 
-both_come : {s : StackModel} {rect old part before : Rectangle} {jobs : List Job} {both : Option Rectangle}
-    (from room : ℕ) → IsMoved s rect old part before jobs both
-    → (p : Point) → to_come (moved from jobs room) s p
-    ≡ once (covers (part_below_bar s) p && (covers rect p || covers old p) && not (covered (take from s.views) p))
-both_come {s = s} {rect = rect} {old = old} {part = part} from room is p =
-    let parts = rw (is.was p) at (is.cut.pixels p) in
-    rw (
-      is.cut.jobs,
-      sum_by-append (job_to_come from s p) (map (job_at 0) (with_pixels part)) (map (job_at 0) is.cut.rest),
-      first_to_come s from part p,
-      is.now p,
-      rest_to_come from 0 s p is.cut.rest,
-    ) (table (covered (take from s.views) p) (covers rect p) (covers old p) (covers (part_below_bar s) p) _ parts)
-  where
-    table : (c r o b : Bool) (n : ℕ) → once (o && b) ≡ n + once ((o && b) && r)
-        → 0 + (cond c 0 (once (r && b)) + cond c 0 n) ≡ once (b && (r || o) && not c)
-    table c r o b n e = grind arith
+module _ {s : StackModel} {rect old part before : Rectangle} {jobs : List Job} {both : Option Rectangle}
+    (is : IsMoved s rect old part before jobs both) where
+  both_come : (from room : ℕ) (p : Point) → to_come (moved from jobs room) s p
+      ≡ once (covers (part_below_bar s) p && (covers rect p || covers old p) && not (covered (take from s.views) p))
+  both_come from room p =
+      let parts = rw (is.was p) at (is.cut.pixels p) in
+      let first = map (job_at 0) (with_pixels part) in
+      rw (is.cut.jobs, sum_by-append (job_to_come from s p) first (map (job_at 0) is.cut.rest))
+      (rw (first_to_come s from part p, is.now p, rest_to_come from 0 s p is.cut.rest)
+      (table (covered (take from s.views) p) (covers rect p) (covers old p) (covers (part_below_bar s) p) _ parts))
+    where
+      table : (c r o b : Bool) (n : ℕ) → once (o && b) ≡ n + once ((o && b) && r)
+          → 0 + (cond c 0 (once (r && b)) + cond c 0 n) ≡ once (b && (r || o) && not c)
+      table c r o b n e = grind arith
 
-pub moved_comes : {s : StackModel} {rect old part before : Rectangle} {jobs : List Job} {both : Option Rectangle}
-    (v : ViewRef) (room : ℕ) → option_map (λ (a : SlotView). a.view.rect) (slot_view_in v.0 s.views) ≡ Some rect
-    → IsMoved s rect old part before jobs both → (p : Point) → IsOnScreen s.width s.height p
-    → to_come (moved (place_of v.0 s.views) jobs room) s p ≡ once (is_of_moved v s old p)
-moved_comes {s = s} v room at is p on =
-    rw (both_come (place_of v.0 s.views) room is p, below_is s p is.bar on) (grind (arith, at))
+  pub moved_comes : (v : ViewRef) (room : ℕ)
+      → option_map (λ (a : SlotView). a.view.rect) (slot_view_in v.0 s.views) ≡ Some rect
+      → (p : Point) → IsOnScreen s.width s.height p
+      → to_come (moved (place_of v.0 s.views) jobs room) s p ≡ once (is_of_moved v s old p)
+  moved_comes v room at p on =
+      rw (both_come (place_of v.0 s.views) room p, below_is s p is.bar on) (grind (arith, at))
 
-pub moved_off : {s : StackModel} {rect old part before : Rectangle} {jobs : List Job} {both : Option Rectangle}
-    (from room : ℕ) → IsMoved s rect old part before jobs both
-    → (p : Point) → (IsOnScreen s.width s.height p → ⊥) → to_come (moved from jobs room) s p ≡ 0
-moved_off {s = s} from room is p off = rw (both_come from room is p, below_off s p is.bar off) refl
+  pub moved_off : (from room : ℕ) (p : Point) → (IsOnScreen s.width s.height p → ⊥)
+      → to_come (moved from jobs room) s p ≡ 0
+  moved_off from room p off = rw (both_come from room p, below_off s p is.bar off)
 
-pub moved_fits : {s : StackModel} {rect old part before : Rectangle} {jobs : List Job} {both : Option Rectangle}
-    (from room : ℕ) → length s.views ≤ room → IsMoved s rect old part before jobs both
-    → FitsStack (moved from jobs room) s
-moved_fits {s = s} {rect = rect} {old = old} {part = part} {before = before} from room enough is = record {
-  room = enough;
-  jobs = rest_fits s 0 before rect _ _ _ is.cut (first_fits s part (lies_below s rect part is.now))
-      (λ k r few some lies.
-      let n = length-map (with_pixels part) (job_at 0) in
-      first_job s _ r (omega (arith, at_most_one part)) some
-      (λ p here. lies_below s old before is.was p (lies p here).0));
-  bar = λ no_bar. cc;
-  once = λ p. rw (both_come from room is p) (at_most_once _);
-}
+  pub moved_fits : (from room : ℕ) → length s.views ≤ room → FitsStack (moved from jobs room) s
+  moved_fits from room enough = record {
+    room = enough;
+    jobs = rest_fits s 0 before rect _ _ _ is.cut (first_fits s part (lies_below s rect part is.now))
+        (λ k r few some lies.
+        let n = length-map (with_pixels part) (job_at 0) in
+        first_job s _ r (omega (arith, at_most_one part)) some
+        (λ p here. lies_below s old before is.was p (lies p here).0));
+    bar = λ no_bar. cc;
+    once = λ p. rw (both_come from room p) (at_most_once _);
+  }
 
 -- the whole screen
 abbrev pub whole : StackModel → ℕ → CutterModel
 whole s room = record (begun_cutter 0 (part_below_bar s) room) { bar = nat_lt 0 s.bar }
 
-whole_comes : (s : StackModel) (room : ℕ) (p : Point)
-    → to_come (whole s room) s p ≡ times (bar_part s) p + times (part_below_bar s) p
-whole_comes s room p =
-    let no_bar = λ (none : s.bar ≡ 0). covers_none (bar_part s) p (inr none) in
-    rw (first_to_come s 0 (part_below_bar s) p) (grind (arith, nat_tests, no_bar))
+module _ (s : StackModel) (room : ℕ) where
+  whole_comes : (p : Point) → to_come (whole s room) s p ≡ times (bar_part s) p + times (part_below_bar s) p
+  whole_comes p =
+      let no_bar = λ (none : s.bar ≡ 0). covers_none (bar_part s) p (inr none) in
+      rw (first_to_come s 0 (part_below_bar s) p) (grind (arith, nat_tests, no_bar))
 
-pub whole_on : (s : StackModel) (room : ℕ) → s.bar ≤ s.height → (p : Point) → IsOnScreen s.width s.height p
-    → to_come (whole s room) s p ≡ 1
-whole_on s room fits p on = rw (whole_comes s room p, bar_is s p on, below_is s p fits on) (grind arith)
+  pub whole_on : s.bar ≤ s.height → (p : Point) → IsOnScreen s.width s.height p → to_come (whole s room) s p ≡ 1
+  whole_on fits p on = rw (whole_comes p, bar_is s p on, below_is s p fits on) (grind arith)
 
-pub whole_off : (s : StackModel) (room : ℕ) → s.bar ≤ s.height → (p : Point) → (IsOnScreen s.width s.height p → ⊥)
-    → to_come (whole s room) s p ≡ 0
-whole_off s room fits p off = rw (whole_comes s room p, bar_off s p fits off, below_off s p fits off) refl
+  pub whole_off : s.bar ≤ s.height → (p : Point) → (IsOnScreen s.width s.height p → ⊥) → to_come (whole s room) s p ≡ 0
+  whole_off fits p off = rw (whole_comes p, bar_off s p fits off, below_off s p fits off)
 
-pub whole_fits : (s : StackModel) (room : ℕ) → length s.views ≤ room → FitsStack (whole s room) s
-whole_fits s room enough = record {
-  room = enough;
-  jobs = first_fits s (part_below_bar s) (λ p here. here);
-  bar = λ some. grind (arith, nat_tests);
-  once = λ p. grind (arith, whole_comes s room p, bar_in_bar s p, below_not_in_bar s p);
-}
+  pub whole_fits : length s.views ≤ room → FitsStack (whole s room) s
+  whole_fits enough = record {
+    room = enough;
+    jobs = first_fits s (part_below_bar s) (λ p here. here);
+    bar = λ some. grind (arith, nat_tests);
+    once = λ p. grind (arith, whole_comes p, bar_in_bar s p, below_not_in_bar s p);
+  }

@@ -1,11 +1,12 @@
 -- The views that cover a pixel.
-use Rattle.nit_damage.proofs.Basics.{NoPair, None, Point, Rectangle, SlotView, Some, StackModel}
-use Rattle.nit_damage.proofs.Basics.{arith, covered, drop_all, eqb-true, found_fails, has_slot}
-use Rattle.nit_damage.proofs.Basics.{is_behind, is_slot, length-take, option_map, option_map_or}
-use Rattle.nit_damage.proofs.Basics.{owner_in, place_of, position_or_len, refl, same_slot}
-use Rattle.nit_damage.proofs.Basics.{slice_get, slot_view_covers, slot_view_in}
-use Rattle.std.proofs.Common.{List, Option, [], add-one, drop, false, find, not, suc, take, true}
-use Rattle.std.proofs.Common.{zero, ℕ, ◌&&◌, ◌+◌, ◌<◌, ◌||◌, ◌∷◌, ◌≡◌, ◌≤◌}
+use Rattle.nit_damage.proofs.Basics.{NoPair, None, Point, SlotView, Some, StackModel, arith}
+use Rattle.nit_damage.proofs.Basics.{covered, drop_all, drop_more, eqb-true, found_fails}
+use Rattle.nit_damage.proofs.Basics.{get_or-take, get_or_from_slice_get, has_slot, is_behind}
+use Rattle.nit_damage.proofs.Basics.{is_slot, length-take, list_any-append, option_map_or, owner_in}
+use Rattle.nit_damage.proofs.Basics.{place_of, position_or_len, refl, same_slot, slice_get}
+use Rattle.nit_damage.proofs.Basics.{slice_get_within, slot_view_covers, slot_view_in, take_more}
+use Rattle.std.proofs.Common.{List, [], drop, false, find, not, suc, take, true, zero, ℕ, ◌&&◌, ◌+◌}
+use Rattle.std.proofs.Common.{◌<◌, ◌||◌, ◌∷◌, ◌≡◌, ◌≤◌}
 
 -- the front-most of the views that cover a pixel
 pub front_most : (p : Point) (views : List SlotView) (i : ℕ) (s : SlotView) → slice_get views i ≡ Some s
@@ -21,26 +22,18 @@ no_view p (x ∷ views) none = grind (arith, no_view p views)
 -- one more view is in front
 pub covered_more : (p : Point) (views : List SlotView) (i : ℕ) (s : SlotView) → slice_get views i ≡ Some s
     → covered (take (i + 1) views) p ≡ (covered (take i views) p || slot_view_covers p s)
-covered_more p views i s at = rw add-one (go views i at)
-  where
-    go : (xs : List SlotView) (k : ℕ) → slice_get xs k ≡ Some s
-        → covered (take (suc k) xs) p ≡ (covered (take k xs) p || slot_view_covers p s)
-    go [] k e = cc
-    go (x ∷ xs) zero e = grind arith
-    go (x ∷ xs) (suc k) e = grind (arith, go xs k)
+covered_more p views i s at =
+    let here = get_or_from_slice_get views i s s at in
+    rw (take_more views i s (slice_get_within views i s at), list_any-append) (grind (arith, here))
 
 -- one view less is to be cut out
 pub covered_less : (p : Point) (views : List SlotView) (from at : ℕ) (s : SlotView) → slice_get views at ≡ Some s
     → at < from
     → covered (drop at (take from views)) p ≡ (slot_view_covers p s || covered (drop (at + 1) (take from views)) p)
-covered_less p views from at s here before = rw add-one (go views from at here before)
-  where
-    go : (xs : List SlotView) (n k : ℕ) → slice_get xs k ≡ Some s → k < n
-        → covered (drop k (take n xs)) p ≡ (slot_view_covers p s || covered (drop (suc k) (take n xs)) p)
-    go [] n k e l = cc
-    go (x ∷ xs) zero k e l = absurd (omega arith)
-    go (x ∷ xs) (suc n) zero e l = grind arith
-    go (x ∷ xs) (suc n) (suc k) e l = go xs n k e (omega arith)
+covered_less p views from at s here before =
+    let within = slice_get_within views at s here in
+    rw (drop_more (take from views) at s (omega (arith, length-take from views)), get_or-take from views at s before)
+    (rw (get_or_from_slice_get views at s s here))
 
 -- none is
 pub covered_none : (p : Point) (views : List SlotView) (from at : ℕ) → from ≤ at → covered (drop at (take from views)) p
@@ -59,13 +52,11 @@ pub owned_is : (k : ℕ) (p : Point) (views : List SlotView) (s : SlotView) → 
     ≡ (slot_view_covers p s && not (covered (take (position_or_len (is_slot k) views) views) p))
 owned_is k p [] s apart there = cc
 owned_is k p (x ∷ views) s apart there =
-    let more : take (1 + position_or_len (is_slot k) views) (x ∷ views)
-    ≡ x ∷ take (position_or_len (is_slot k) views) views = rw (one_more (position_or_len (is_slot k) views)) refl in
+    let n = position_or_len (is_slot k) views in
+    let one : 1 + n ≡ suc n = omega arith in
+    let more : take (1 + n) (x ∷ views) ≡ x ∷ take n views = rw one in
     let no_other = λ (is : is_slot k x ≡ true). unowned k p views (rw (eqb-true x.slot k is) at apart.0) in
     grind (arith, more, no_other, owned_is k p views s apart.1)
-  where
-    one_more : (n : ℕ) → 1 + n ≡ suc n
-    one_more n = omega arith
 
 -- the same below the bar and in it
 pub owned_behind : (s : StackModel) (k : ℕ) (x : SlotView) (p : Point) → NoPair same_slot s.views
@@ -73,8 +64,3 @@ pub owned_behind : (s : StackModel) (k : ℕ) (x : SlotView) (p : Point) → NoP
     → option_map_or (is_slot k) (owner_in (λ a. a.view) s.bar s.views p) false
     ≡ is_behind (place_of k s.views) s x.view.rect p
 owned_behind s k x p apart there = grind (arith, owned_is k p s.views x apart there)
-
--- the rectangle of a view that stands at a place
-pub rect_is : (o : Option SlotView) (x : SlotView) (r : Rectangle) → o ≡ Some x
-    → option_map (λ (a : SlotView). a.view.rect) o ≡ Some r → x.view.rect ≡ r
-rect_is o x r e f = grind arith

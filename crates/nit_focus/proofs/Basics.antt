@@ -8,7 +8,8 @@ pub use Rattle.nit_focus.specs.Terms.{Item, Kill, Mode, Routing, Xray, clicks_on
 pub use Rattle.nit_focus.specs.Terms.{deliveries_of, eqb, list_any, nat_eq_equiv, outcome}
 pub use Rattle.nit_focus.specs.Terms.{pointer_after, routing_at, with_pointer}
 pub use Rattle.std.proofs.Common.{lit<}
-pub use Rattle.std.proofs.lemmas.Bool.{cases_eq, eq-eqb, eqb-true, ne_eqb}
+pub use Rattle.std.proofs.lemmas.Bool.{eqb-true}
+pub use Rattle.std.proofs.lemmas.Bool.Decides.{nat_tests}
 pub use Rattle.std.proofs.lemmas.List.{length_push}
 pub use Rattle.std.proofs.lemmas.List.Elements.{All-append, All-cons, All-contains, All-filter}
 pub use Rattle.std.proofs.lemmas.List.Elements.{All-from_recursion, All-nil, All-push, All-same}

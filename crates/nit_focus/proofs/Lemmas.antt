@@ -3,4 +3,4 @@ pub use Rattle.nit_focus.proofs.Basics.{All-same, FocusModel, IsForgottenIfKille
 pub use Rattle.nit_focus.proofs.Basics.{IsWithinReach, deliveries_of, filter-from_retain, lit<}
 pub use Rattle.nit_focus.proofs.Basics.{outcome, routing_at}
 pub use Rattle.nit_focus.proofs.Codes.{held_less, held_more, held_none, held_room}
-pub use Rattle.nit_focus.proofs.Routes.{IsRouted, routed}
+pub use Rattle.nit_focus.proofs.Steps.{IsRouted, routed}

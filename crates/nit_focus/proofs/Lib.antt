@@ -1,6 +1,5 @@
 pub mod Codes
 pub mod Steps
-pub mod Routes
 pub mod ForCallers
 pub mod Basics
 pub mod Lemmas

@@ -1,15 +1,17 @@
 -- A room, and the ends of a client's words that agree.
+use Rattle.std.proofs.lemmas.Bool.Decides.{nat_tests}
 use Rattle.nit_hall.proofs.Basics.{AreWatching, Belongs, BufferName, CanAgree, End, HasMet}
-use Rattle.nit_hall.proofs.Basics.{HaveInks, IsPass, IsRoom, Line, List, PassModel, RoomModel}
-use Rattle.nit_hall.proofs.Basics.{SceneModel, ShareModel, Sight, Some, [], ap, arith, buffers_of}
-use Rattle.nit_hall.proofs.Basics.{cases_eq, donation_of, get_or_from_slice_get, glass_in, inl, inr}
-use Rattle.nit_hall.proofs.Basics.{knowing, length, map, no_sight, none-some, option_map}
-use Rattle.nit_hall.proofs.Basics.{phases_before, refl, same_Some, script_in, served, slice_get}
-use Rattle.nit_hall.proofs.Basics.{slice_get-map, slice_get_within, slice_index, stretch, sym, take}
-use Rattle.nit_hall.proofs.Basics.{with_end_stages, with_room_stages, without_final, ℕ, ◌∙◌}
-use Rattle.std.proofs.Common.{IsSome, suc, zero, ◌<◌, ◌∷◌, ◌≡◌}
-use Rattle.nit_hall.proofs.EndStages.{other_end, own_end, same_buffers, same_ink, same_stands}
-use Rattle.nit_hall.proofs.EndStages.{sights_of}
+use Rattle.nit_hall.proofs.Basics.{HaveInks, IsPass, IsRoom, Line, PassModel, RoomModel, SceneModel}
+use Rattle.nit_hall.proofs.Basics.{ShareModel, buffers_of, cases_eq, donation_of}
+use Rattle.nit_hall.proofs.Basics.{get_or_from_slice_get, glass_in, knowing, length-map}
+use Rattle.nit_hall.proofs.Basics.{phases_before, same_Some, script_in, served, slice_get-map}
+use Rattle.nit_hall.proofs.Basics.{slice_get_within, stretch, with_end_stages, with_room_stages}
+use Rattle.nit_hall.proofs.Basics.{without_final}
+use Rattle.std.proofs.Common.{IsSome, List, Some, [], arith, inl, inr, length, map, refl, slice_get}
+use Rattle.std.proofs.Common.{slice_index, sym, take, ℕ, ◌<◌, ◌∙◌, ◌≡◌}
+use Rattle.nit_hall.proofs.NearLemmas.{other_end, own_end, same_buffers, same_ink, same_stands}
+use Rattle.nit_hall.proofs.NearLemmas.{sight_at, sights_of}
+use Rattle.nit_hall.proofs.LineLemmas.{item_there}
 use Rattle.nit_hall.proofs.ServedCalls.{calls_made}
 
 -- the reader's end of a client, which is of its buffer
@@ -20,32 +22,23 @@ pub record HasEnd (ends : List End) (sid : ℕ) (buffer : BufferName) : Type 0 w
 
 pub end_of_buffer : (ends : List End) (sid : ℕ) (buffer : BufferName)
     → slice_get (buffers_of ends) sid ≡ Some buffer → HasEnd ends sid buffer
-end_of_buffer [] sid buffer at = absurd (none-some buffer at)
-end_of_buffer (e ∷ rest) zero buffer at = record { lens = e; there = refl; of_buffer = same_Some _ _ at }
-end_of_buffer (e ∷ rest) (suc n) buffer at = let h = end_of_buffer rest n buffer at in
-    record { lens = h.lens; there = h.there; of_buffer = h.of_buffer }
-
--- the sight of the end there
-sight_at : (ends : List End) (sid : ℕ) (e : End) → slice_get ends sid ≡ Some e → glass_in (sights_of ends) sid ≡ e.sight
-sight_at ends sid e at = get_or_from_slice_get (sights_of ends) sid e.sight no_sight
-    (rw (slice_get-map (λ (e : End). e.sight) ends sid, at) refl)
+end_of_buffer ends sid buffer at =
+    grind (arith, nat_tests, length-map, item_there, slice_get_within, same_Some, slice_get-map)
 
 -- a client's pass can agree with the room that it belongs to
 pub can_agree : {r : RoomModel} {p : PassModel} {share : ShareModel} (spare : End) → IsRoom r → Belongs r.parts p
     → IsPass p share spare → r.parts.buffers ≡ buffers_of r.scene.glasses
     → CanAgree r.scene p.sid (record { sight = p.sight; stand = p.stand }) spare
 can_agree {r = r} {p = p} spare room of is buffers =
-    let here = end_of_buffer r.scene.glasses p.sid p.stand.buffer (ap (λ bs. slice_get bs p.sid) (sym buffers)
-    ∙ of.buffer) in
+    let here = end_of_buffer r.scene.glasses p.sid p.stand.buffer (rw (← buffers) of.buffer) in
     let inside = slice_get_within r.parts.scripts p.sid p.script of.script in
-    let sight = sight_at r.scene.glasses p.sid here.lens here.there in
     let watch = room.watching p.sid inside in
     record {
       session = rw room.config (omega (arith, inside, room.sessions));
       lens = here.lens;
       there = here.there;
       buffer = here.of_buffer;
-      knows = rw (← sight, watch.stages_are) refl;
+      knows = rw (← (sight_at r.scene.glasses p.sid here.lens here.there), watch.stages_are) refl;
       agreed = is.agreed;
       spare_fits = (is.spare_owner, rw (room.config, ← of.donation) (is.spare_size ∙ is.painted.size));
     }
@@ -60,9 +53,8 @@ can_agree_again {scene = scene} {called = called} {sid = sid} {canvas = canvas} 
     idle buffer agreed =
     let buffers : buffers_of called.glasses ≡ buffers_of scene.glasses =
     same_buffers _ _ (rests ∙ same_stands sid stages scene.glasses) in
-    let here = end_of_buffer called.glasses sid canvas.stand.buffer (ap (λ bs. slice_get bs sid) buffers
-    ∙ slice_get-map (λ (e : End). e.stand.buffer) scene.glasses sid
-    ∙ ap (option_map (λ (e : End). e.stand.buffer)) can.there ∙ ap (λ (b : BufferName). Some b) can.buffer) in
+    let here = end_of_buffer called.glasses sid canvas.stand.buffer
+    (rw (buffers, slice_get-map, can.there, can.buffer)) in
     let many = slice_get_within scene.glasses sid can.lens can.there in
     record {
       session = rw config can.session;
@@ -82,7 +74,6 @@ pub room_admitted : {r : RoomModel} {sid : ℕ} {script : List Line} (next : ℕ
 room_admitted {r = r} {sid = sid} {script = script} next room at counted ready many =
     let stages = stretch script (donation_of r.parts.config sid) next in
     let there : script_in r.parts.scripts sid ≡ script = get_or_from_slice_get r.parts.scripts sid script [] at in
-    let made = calls_made r sid next script room at counted in
     let ends = with_end_stages sid stages r.scene.glasses in
     let inks : HaveInks r.parts.config r.parts.scripts ends =
     λ t. same_ink sid stages r.scene.glasses t ∙ room.inks t in
@@ -90,8 +81,8 @@ room_admitted {r = r} {sid = sid} {script = script} next room at counted ready m
     λ t inside. elim (cases_eq t sid) [
       | inl e ↦ rw e (record {
         since = next;
-        stages_are = rw there (ap (λ (g : Sight). g.stages) (own_end sid stages r.scene.glasses many));
-        behind = rw (there, made) refl;
+        stages_are = rw (there, own_end sid stages r.scene.glasses many);
+        behind = rw (there, calls_made r sid next script room at counted);
         begun = rw there (omega (arith, ready));
       })
       | inr ne ↦ rw (other_end sid stages r.scene.glasses t ne) (room.watching t inside)

@@ -1,16 +1,87 @@
--- What each pixel may hold, after one more entry.
-use Rattle.nit_hall.proofs.Basics.{AreNear, Bare, Black, Call, Colours, Configuration, Entry}
-use Rattle.nit_hall.proofs.Basics.{EntryLaws, IfSome, InputLine, IsLegal, IsLoaded, IsNearBy}
-use Rattle.nit_hall.proofs.Basics.{IsOpen, IsWordOfScripts, IsWordOfSource, Line, List, MayHaveDone}
-use Rattle.nit_hall.proofs.Basics.{None, Option, Painted, PixelSource, Reply, Sight, Some, State}
-use Rattle.nit_hall.proofs.Basics.{Word, [], after, ap, arith, cases_Bool, donation_of, false}
-use Rattle.nit_hall.proofs.Basics.{first_state, ink_in, inl, inr, is_dirtied, length, nat_tests}
-use Rattle.nit_hall.proofs.Basics.{phase_of_entry, pixel, pixel_count, refl, replay, same_config}
-use Rattle.nit_hall.proofs.Basics.{script_in, script_ink, shots, slice_index, slice_index_or}
-use Rattle.nit_hall.proofs.Basics.{source_at, source_of, sym, words_after, words_at_call}
-use Rattle.std.proofs.Common.{nat_lt, true, ℕ, ◌++◌, ◌+◌, ◌<◌, ◌∙◌, ◌∷◌, ◌≡◌, ◌≤◌}
+-- Readers' ends, and what each pixel may hold, after one more entry.
+use Rattle.nit_hall.proofs.Basics.{AreNear, Bare, Black, Call, Colours, Configuration, End, Entry}
+use Rattle.nit_hall.proofs.Basics.{EntryLaws, InputLine, IsLegal, IsLoaded, IsNearBy, IsOpen}
+use Rattle.nit_hall.proofs.Basics.{IsWordOfScripts, IsWordOfSource, KnowsStretch, LegalFrom, Line}
+use Rattle.nit_hall.proofs.Basics.{MayHaveDone, PixelSource, Reply, Sight, Standing, State, Word}
+use Rattle.nit_hall.proofs.Basics.{after, as_many, as_many_as_clients, buffers_of, calls_of}
+use Rattle.nit_hall.proofs.Basics.{calls_of-append, cases_Bool, cases_lt, common_steps, donation_of}
+use Rattle.nit_hall.proofs.Basics.{first_state, get_or_from_slice_get, get_or_past, gets, glass_in}
+use Rattle.nit_hall.proofs.Basics.{ink_in, is_dirtied, map-map, nat_tests, no_ink, no_sight}
+use Rattle.nit_hall.proofs.Basics.{phase_of_entry, pixel, pixel_count, replay, same_Some}
+use Rattle.nit_hall.proofs.Basics.{same_config, script_in, script_ink, shots, slice_get-map}
+use Rattle.nit_hall.proofs.Basics.{source_at, source_of, stretch_end, table_size, with_end_stages}
+use Rattle.nit_hall.proofs.Basics.{with_stages, within_only, words_after, words_at_call, zero_at}
+use Rattle.std.proofs.Common.{IfSome, List, Option, Some, [], ap, append-nil, arith, false, inl}
+use Rattle.std.proofs.Common.{inr, length, map, ne_eqb, refl, set, slice_get, slice_index}
+use Rattle.std.proofs.Common.{slice_index_or, suc, sym, true, zero, ℕ, ◌++◌, ◌+◌, ◌<◌, ◌∙◌, ◌∷◌}
+use Rattle.std.proofs.Common.{◌≡◌, ◌≢◌, ◌≤◌}
 use Rattle.nit_events.specs.declared.entry.Entry.TheVariants as entry
-use Rattle.nit_hall.proofs.LastDirty.{last_is_last, last_before, last_more, one_more_last}
+use Rattle.nit_hall.proofs.EntryLemmas.{KeepsClean, last_before, last_is_last, last_more}
+use Rattle.nit_hall.proofs.EntryLemmas.{one_more_last}
+use Rattle.nit_hall.proofs.LineLemmas.{stretch_same}
+
+-- the sights of ends, in order
+abbrev pub sights_of : List End → List Sight
+sights_of ends = map (λ (e : End). e.sight) ends
+
+-- the sight of the end there
+pub sight_at : (ends : List End) (sid : ℕ) (e : End) → slice_get ends sid ≡ Some e
+    → glass_in (sights_of ends) sid ≡ e.sight
+sight_at ends sid e at = get_or_from_slice_get (sights_of ends) sid e.sight no_sight (rw (slice_get-map, at))
+
+-- the end that knows these stages; all else is as before
+abbrev pub end_with : List (List ℕ) → End → End
+end_with stages e = record e { sight = with_stages stages e.sight }
+
+pub own_end : (sid : ℕ) (stages : List (List ℕ)) (ends : List End) → sid < length ends
+    → glass_in (sights_of (with_end_stages sid stages ends)) sid ≡ with_stages stages (glass_in (sights_of ends) sid)
+own_end sid stages [] inside = absurd (omega arith)
+own_end zero stages (e ∷ rest) inside = refl
+own_end (suc n) stages (e ∷ rest) inside = own_end n stages rest (omega arith)
+
+pub other_end : (sid : ℕ) (stages : List (List ℕ)) (ends : List End) (t : ℕ) → t ≢ sid
+    → glass_in (sights_of (with_end_stages sid stages ends)) t ≡ glass_in (sights_of ends) t
+other_end (suc n) stages (e ∷ rest) (suc t) ne = other_end n stages rest t (λ same. ne (ap suc same))
+other_end zero stages (e ∷ rest) zero ne = absurd (ne refl)
+other_end sid stages ends t ne = refl
+
+-- the ink stays everywhere
+pub same_ink : (sid : ℕ) (stages : List (List ℕ)) (ends : List End) (t : ℕ)
+    → (glass_in (sights_of (with_end_stages sid stages ends)) t).ink ≡ (glass_in (sights_of ends) t).ink
+same_ink (suc n) stages (e ∷ rest) (suc t) = same_ink n stages rest t
+same_ink zero stages (e ∷ rest) zero = refl
+same_ink sid stages ends t = refl
+
+-- the ends stand where they stood
+pub same_stands : (sid : ℕ) (stages : List (List ℕ)) (ends : List End)
+    → map (λ (e : End). e.stand) (with_end_stages sid stages ends) ≡ map (λ (e : End). e.stand) ends
+same_stands (suc n) stages (e ∷ rest) = rw (same_stands n stages rest)
+same_stands zero stages (e ∷ rest) = refl
+same_stands sid stages [] = refl
+
+-- ends that stand where others do are of the same buffers
+pub same_buffers : (ends ends' : List End) → map (λ (e : End). e.stand) ends ≡ map (λ (e : End). e.stand) ends'
+    → buffers_of ends ≡ buffers_of ends'
+same_buffers ends ends' same = rw (map-map, map-map) at (ap (map (λ (s : Standing). s.buffer)) same)
+
+-- the stages that are known last are known
+pub stages_again : (sid : ℕ) (stages before : List (List ℕ)) (ends : List End)
+    → with_end_stages sid stages (with_end_stages sid before ends) ≡ with_end_stages sid stages ends
+stages_again (suc n) stages before (e ∷ rest) = rw (stages_again n stages before rest)
+stages_again zero stages before (e ∷ rest) = refl
+stages_again sid stages before [] = refl
+
+-- an end that is taken out, comes to know the stages, and is put back
+pub put_back : (sid : ℕ) (stages : List (List ℕ)) (ends : List End) (e spare : End) → slice_get ends sid ≡ Some e
+    → set (set ends sid spare) sid (end_with stages e) ≡ with_end_stages sid stages ends
+put_back sid stages [] e spare at = absurd cc
+put_back zero stages (x ∷ rest) e spare at = rw (same_Some x e at)
+put_back (suc n) stages (x ∷ rest) e spare at = rw (put_back n stages rest e spare at)
+
+-- what is put there stands there
+pub set_there : (ends : List End) (sid : ℕ) (e x : End) → slice_get ends sid ≡ Some e
+    → slice_get (set ends sid x) sid ≡ Some x
+set_there ends sid e x at = grind (arith, common_steps, gets)
 
 -- ---- what glasses give
 
@@ -18,23 +89,26 @@ use Rattle.nit_hall.proofs.LastDirty.{last_is_last, last_before, last_more, one_
 abbrev pub AreInks : Configuration → List (List Line) → (ℕ → Sight) → Type 0
 AreInks config scripts glasses = (t : ℕ) → (glasses t).ink ≡ ink_in config scripts t
 
-pub ink_inside : (config : Configuration) (scripts : List (List Line)) (t : ℕ) (script : List Line) (donation : ℕ)
-    → t < length scripts → script_in scripts t ≡ script → donation ≡ donation_of config t
-    → script_ink script donation ≡ ink_in config scripts t
-ink_inside config scripts t script donation inside there paid =
-    let is : nat_lt t (length scripts) ≡ true = grind (arith, nat_tests) in
-    rw (is, there, ← paid) refl
-
 pub ink_behind : (config : Configuration) (scripts : List (List Line)) (t : ℕ) → length scripts ≤ t
     → Colours [] ≡ ink_in config scripts t
-ink_behind config scripts t past =
-    let is : nat_lt t (length scripts) ≡ false = grind (arith, nat_tests) in rw is refl
+ink_behind config scripts t past = grind (arith, nat_tests)
+
+pub all_inks : (config : Configuration) (scripts : List (List Line)) (glasses : List Sight)
+    → length glasses ≡ length scripts
+    → ((t : ℕ) → t < length scripts
+    → (glass_in glasses t).ink ≡ script_ink (script_in scripts t) (donation_of config t))
+    → AreInks config scripts (glass_in glasses)
+all_inks config scripts glasses long inked t = grind (arith, nat_tests, get_or_past, ink_behind)
+
+-- what was loaded was left by lines that the session may have done behind these entries
+abbrev pub WasLeft : Configuration → List (List Line) → ℕ → ℕ → List Entry → ℕ → ℕ → Type 0
+WasLeft config scripts ended t entries i w = (n : ℕ) × MayHaveDone scripts ended t entries n
+    × (w ≡ slice_index (words_after (script_in scripts t) (donation_of config t) n) i)
 
 -- what is loaded through a session's glass behind the next entry was left by lines that it may have done
 abbrev pub ShowsThen : Configuration → List (List Line) → ℕ → List Entry → Entry → (ℕ → Sight) → Type 0
-ShowsThen config scripts ended journal e glasses = (t i w : ℕ) → IsLoaded (glasses t) i w
-    → (n : ℕ) × MayHaveDone scripts ended t (journal ++ e ∷ []) n
-    × (w ≡ slice_index (words_after (script_in scripts t) (donation_of config t) n) i)
+ShowsThen config scripts ended journal e glasses =
+    (t i w : ℕ) → IsLoaded (glasses t) i w → WasLeft config scripts ended t (journal ++ e ∷ []) i w
 
 -- where the entry is a call, the caller's glass tells the words of its script
 abbrev pub TellsWords : Configuration → List (List Line) → List Entry → Entry → (ℕ → Sight) → Type 0
@@ -43,8 +117,7 @@ TellsWords config scripts journal e glasses = (t : ℕ) (call : Call) (r : Reply
 
 pub told_word : (o : Option (List ℕ)) (words : List ℕ) (i w : ℕ) → o ≡ Some words
     → IfSome o (λ ws. w ≡ slice_index ws i) → w ≡ slice_index words i
-told_word None words i w is told = absurd cc
-told_word (Some ws) words i w is told = let same : ws ≡ words = cc in told ∙ ap (λ (x : List ℕ). slice_index x i) same
+told_word o words i w is told = rw is at told
 
 -- the phase that is served is not behind that of the entry, as long as there is no last picture
 abbrev pub IsInPhase : List (List Line) → List InputLine → ℕ → List Entry → Entry → Type 0
@@ -57,79 +130,125 @@ module _ (config : Configuration) (scripts : List (List Line)) (input : List Inp
   -- a pixel that the next entry leaves clean may hold what it might before
   near_still : (k : ℕ) (source : PixelSource) (w : ℕ) → is_dirtied config journal e k ≡ false
       → IsNearBy config scripts input journal k source w → IsNearBy config scripts input (journal ++ e ∷ []) k source w
+  near_still k (Word t i) w clean near = record {
+    left = let l = near.left in record {
+      front = l.front;
+      last = l.last;
+      rest = l.rest ++ e ∷ [];
+      is_last = last_more config journal e k l.front l.last l.rest clean l.is_last;
+      lines = l.lines;
+      done = l.done;
+      word = l.word;
+    };
+    exact = λ front call r rest last.
+        let before = last_before config journal e k front (entry.Call t call r) rest clean last in
+        near.exact front call r before.0 before.1;
+  }
   near_still k Bare w clean near = near
   near_still k Black w clean near = near
-  near_still k (Word t i) w clean near =
-      record {
-        left = let l = near.left in record {
-          front = l.front;
-          last = l.last;
-          rest = l.rest ++ e ∷ [];
-          is_last = last_more config journal e k l.front l.last l.rest clean l.is_last;
-          lines = l.lines;
-          done = l.done;
-          word = l.word;
-        };
-        exact = λ front call r rest last.
-            let before = last_before config journal e k front (entry.Call t call r) rest clean last in
-            near.exact front call r before.0 before.1;
-      }
 
   -- what the glasses give a pixel that the next entry makes dirty is a word that it may hold then
   pub held_near : (phase : ℕ) (glasses : ℕ → Sight) (k : ℕ) (source : PixelSource) (w : ℕ)
       → is_dirtied config journal e k ≡ true → IsInPhase scripts input phase journal e
       → ShowsThen config scripts phase journal e glasses → TellsWords config scripts journal e glasses
       → IsWordOfSource glasses source w → IsNearBy config scripts input (journal ++ e ∷ []) k source w
+  held_near phase glasses k (Word t i) w is served_ shows tells held = record {
+    left = let n = shows t i w held in record {
+      front = journal;
+      last = e;
+      rest = [];
+      is_last = one_more_last config journal e k is;
+      lines = n.0;
+      done = record { calls = n.1.calls; phases = λ still. omega (arith, n.1.phases still, served_ still) };
+      word = n.2;
+    };
+    exact = λ front call r rest last.
+        let at = last_is_last config journal e k front (entry.Call t call r) rest is last in
+        told_word (glasses t).words _ i w (rw at.0 (tells t call r at.1)) held.told;
+  }
   held_near phase glasses k Bare w is served_ shows tells held = held
   held_near phase glasses k Black w is served_ shows tells held = held
-  held_near phase glasses k (Word t i) w is served_ shows tells held =
-      record {
-        left = let n = shows t i w held in record {
-          front = journal;
-          last = e;
-          rest = [];
-          is_last = one_more_last config journal e k is;
-          lines = n.0;
-          done = record {
-            calls = n.1.calls;
-            phases = λ still. let few = n.1.phases still in let here = served_ still in omega (arith, few, here);
-          };
-          word = n.2;
-        };
-        exact = λ front call r rest last.
-            let at = last_is_last config journal e k front (entry.Call t call r) rest is last in
-            told_word (glasses t).words (words_at_call config scripts t front) i w
-            (rw at.0 (tells t call r at.1)) held.told;
-      }
 
-  module _ (laws : EntryLaws) (raw raw' : List ℕ) (legal : IsLegal config (journal ++ e ∷ []))
-      (near : AreNear config scripts input journal raw) where
-    pub near_more : ((k : ℕ) → k < pixel_count (replay config journal) → is_dirtied config journal e k ≡ true
-        → IsNearBy config scripts input (journal ++ e ∷ []) k (source_at (after (replay config journal) e) k)
-        (slice_index_or raw' k 0))
-        → ((k : ℕ) → is_dirtied config journal e k ≡ false → slice_index_or raw' k 0 ≡ slice_index_or raw k 0)
-        → AreNear config scripts input (journal ++ e ∷ []) raw'
-    near_more loaded others k on_screen =
-        let s : State = replay config journal in
-        let now : replay config (journal ++ e ∷ []) ≡ after s e = laws.more (first_state config) journal e in
-        let inside : k < pixel_count s = rw (now, same_config s e) at on_screen in
-        let at : source_at (replay config (journal ++ e ∷ [])) k ≡ source_of (after s e) (pixel s.config.width k) =
-        rw (now, same_config s e) refl in
-        elim (cases_Bool (is_dirtied config journal e k)) [
-          | inl is ↦ rw now (loaded k inside is)
-          | inr clean ↦ rw (
-            at,
-            laws.keeps s (0 + shots journal) e (pixel s.config.width k)
-                (laws.agrees (first_state config) 0 journal e legal) clean,
-            others k clean,
-          ) (near_still k (source_at s k) (slice_index_or raw k 0) clean (near k inside))
-        ]
+  pub near_more : EntryLaws → (raw raw' : List ℕ) → IsLegal config (journal ++ e ∷ [])
+      → AreNear config scripts input journal raw
+      → ((k : ℕ) → k < pixel_count (replay config journal) → is_dirtied config journal e k ≡ true
+      → IsNearBy config scripts input (journal ++ e ∷ []) k (source_at (after (replay config journal) e) k)
+      (slice_index_or raw' k 0))
+      → KeepsClean config journal e raw raw' → AreNear config scripts input (journal ++ e ∷ []) raw'
+  near_more laws raw raw' legal near loaded others k on_screen =
+      let s : State = replay config journal in
+      let now : replay config (journal ++ e ∷ []) ≡ after s e = laws.more (first_state config) journal e in
+      let inside : k < pixel_count s = rw (now, same_config s e) at on_screen in
+      elim (cases_Bool (is_dirtied config journal e k)) [
+        | inl is ↦ rw now (loaded k inside is)
+        | inr clean ↦
+            let at : source_at (replay config (journal ++ e ∷ [])) k ≡ source_of (after s e) (pixel s.config.width k) =
+            rw (now, same_config s e) in
+            let agrees = laws.agrees (first_state config) 0 journal e legal in
+            let kept = laws.keeps s (0 + shots journal) e (pixel s.config.width k) agrees clean in
+            rw (at, kept, others k clean) (near_still k _ _ clean (near k inside))
+      ]
 
 -- ---- what the scripts alone say of it
 
 pub near_word : (config : Configuration) (scripts : List (List Line)) (input : List InputLine) (journal : List Entry)
     (k : ℕ) (source : PixelSource) (w : ℕ) → IsNearBy config scripts input journal k source w
     → IsWordOfScripts config scripts source w
+near_word config scripts input journal k (Word t i) w near = (near.left.lines, near.left.word)
 near_word config scripts input journal k Bare w near = near
 near_word config scripts input journal k Black w near = near
-near_word config scripts input journal k (Word t i) w near = (near.left.lines, near.left.word)
+
+-- ---- a session that there is not makes no call
+
+no_calls_from : (s : State) (taken t : ℕ) (entries : List Entry) → length s.sessions ≤ t → LegalFrom s taken entries
+    → calls_of t entries ≡ []
+no_calls_from s taken t [] past legal = refl
+no_calls_from s taken t (entry.Call sid call r ∷ rest) past legal =
+    rw (ne_eqb sid t (λ e. omega (arith, e, legal.0.0, past)))
+    (no_calls_from (after s (entry.Call sid call r)) taken t rest
+    (omega (arith, as_many s (entry.Call sid call r), past)) legal.1)
+no_calls_from s taken t (entry.Input dev routed ∷ rest) past legal =
+    no_calls_from (after s (entry.Input dev routed)) taken t rest
+    (omega (arith, as_many s (entry.Input dev routed), past)) legal.1
+no_calls_from s taken t (entry.Shot number ∷ rest) past legal = no_calls_from s (taken + 1) t rest past legal.1
+no_calls_from s taken t (entry.Final ∷ rest) past legal = ap (calls_of t) legal
+
+-- ---- what is shown of a session behind the next entry
+
+-- through the reader's end of a session, behind an entry that is no call of it
+pub lens_shows : (config : Configuration) (scripts : List (List Line)) (ended : ℕ) (entries : List Entry) (e : Entry)
+    (t : ℕ) (g : Sight) → IsLegal config (entries ++ e ∷ []) → length scripts ≡ length config.clients
+    → g.ink ≡ ink_in config scripts t
+    → (t < length scripts
+    → KnowsStretch (script_in scripts t) (donation_of config t) (length (calls_of t entries)) ended g)
+    → calls_of t (e ∷ []) ≡ [] → (i w : ℕ) → IsLoaded g i w → WasLeft config scripts ended t (entries ++ e ∷ []) i w
+lens_shows config scripts ended entries e t g legal sessions inked watch none i w loaded =
+    elim (cases_lt t (length scripts)) [
+      | inl inside ↦
+          let known = watch inside in
+          let script = script_in scripts t in
+          let n = within_only script (donation_of config t) known.since (stretch_end script known.since) i w
+          (rw known.stages_are at loaded.stage) in
+          let same = stretch_same script known.since n.0 n.1 n.2 in (
+            n.0,
+            record {
+              calls = rw (calls_of-append t entries (e ∷ []), none, append-nil, same.0) known.behind;
+              phases = λ still_open. omega (arith, same.1, known.begun);
+            },
+            n.3,
+          )
+      | inr past ↦
+          let zero_ = no_ink i w (rw (inked, ← ink_behind config scripts t past) at loaded.inked) in
+          let silent = no_calls_from (first_state config) 0 t (entries ++ e ∷ [])
+          (omega (arith, as_many_as_clients config [], sessions, past)) legal in (
+            0,
+            record { calls = rw silent; phases = λ still_open. omega arith },
+            zero_ ∙ sym (zero_at (table_size (donation_of config t)) i),
+          )
+    ]
+
+-- through a glass that tells what so many lines have left
+pub told_shows : (config : Configuration) (scripts : List (List Line)) (ended : ℕ) (entries : List Entry) (t n : ℕ)
+    (g : Sight) → g.words ≡ Some (words_after (script_in scripts t) (donation_of config t) n)
+    → MayHaveDone scripts ended t entries n → (i w : ℕ) → IsLoaded g i w → WasLeft config scripts ended t entries i w
+told_shows config scripts ended entries t n g told may i w loaded = (n, may, told_word g.words _ i w told loaded.told)

@@ -1,25 +1,30 @@
--- The phase that is served, and the actors that have ended it.
-use Rattle.nit_hall.proofs.Basics.{Bool, InputLine, IsServedPhase, Line, List, [], after_arrival}
-use Rattle.nit_hall.proofs.Basics.{ap, arith, cases_Bool, cases_eq, common_steps, cond, count_by}
-use Rattle.nit_hall.proofs.Basics.{count_by-le-length, eqb-true, false, get_or-set_other}
-use Rattle.nit_hall.proofs.Basics.{get_or-set_same, inl, input_phases_before, inr, is_phase}
-use Rattle.nit_hall.proofs.Basics.{is_served, length, length-replicate, length-set, nat_tests}
-use Rattle.nit_hall.proofs.Basics.{phases_before, phases_ended, raised, refl, replicate, script_in}
-use Rattle.nit_hall.proofs.Basics.{served, set, set-get_or, slice_index, suc, sum_by, sum_by-set}
-use Rattle.std.proofs.Common.{sym, take, true, zero, ℕ, ◌+◌, ◌<◌, ◌==◌, ◌∙◌, ◌∷◌, ◌≡◌, ◌≤◌, ◌⊎◌}
+-- The phase that is served, the actors that have ended it, and a room and its passes after the end of a phase.
+use Rattle.std.proofs.Common.{Bool, IfSome, List, Some, [], ap, arith, cond, count_by, eqb-true}
+use Rattle.std.proofs.Common.{false, get_or-set_other, get_or-set_same, inl, inr, length}
+use Rattle.std.proofs.Common.{length-set, length-take, refl, replicate, set, slice_get, slice_index}
+use Rattle.std.proofs.Common.{suc, sym, take, true, zero, ℕ, ◌+◌, ◌<◌, ◌==◌, ◌∙◌, ◌∷◌, ◌≡◌, ◌≤◌}
+use Rattle.nit_hall.proofs.Basics.{End, Entry, Follows, InputLine, IsOpen, IsPass, IsRoom}
+use Rattle.nit_hall.proofs.Basics.{IsServedPhase, Line, Painting, PassModel, Recorded, RoomModel}
+use Rattle.nit_hall.proofs.Basics.{ShareModel, Stroke, after_arrival, after_line, blank, calls_in}
+use Rattle.nit_hall.proofs.Basics.{calls_of, cases_Bool, count_by-le-length, eqb-false}
+use Rattle.nit_hall.proofs.Basics.{input_phases_before, is_phase, is_served, length-replicate}
+use Rattle.nit_hall.proofs.Basics.{nat_tests, painted_from, phases_before, phases_ended, raised}
+use Rattle.nit_hall.proofs.Basics.{script_in, served, set-get_or, slice_get_within, sum_by-set}
+use Rattle.nit_hall.proofs.Basics.{user_actions_in, user_actions_of, without_final, words_after}
 use Rattle.nit_script.specs.declared.line.Line.TheVariants as line
-use Rattle.nit_hall.proofs.LineLemmas.{count_cons, front_filter}
+use Rattle.nit_hall.proofs.LineLemmas.{count_cons, counted_more, front_filter, no_more_calls}
+use Rattle.nit_hall.proofs.LineLemmas.{served_counted}
 use Rattle.nit_hall.proofs.ScriptsFollowed.{IsNext, IsUserNext, client_is, script_there}
 use Rattle.nit_hall.proofs.ScriptsFollowed.{served_then}
+use Rattle.nit_hall.proofs.RoomSteps.{room_then, room_turned}
 
 -- ---- what each actor has ended
 
 pub ended_long : (scripts : List (List Line)) (input : List InputLine) (counts : List ℕ)
     → length counts ≡ length scripts + 1 → length (phases_ended scripts input counts) ≡ length scripts + 1
-ended_long [] input [] long = absurd (omega arith)
 ended_long [] input (c ∷ cs) long = refl
-ended_long (s ∷ ss) input [] long = absurd (omega arith)
-ended_long (s ∷ ss) input (c ∷ cs) long = let n = ended_long ss input cs (omega arith) in omega arith
+ended_long (s ∷ ss) input (c ∷ cs) long = omega (arith, ended_long ss input cs (omega arith))
+ended_long ss input [] long = absurd (omega arith)
 
 -- ---- a client's next line
 
@@ -43,36 +48,29 @@ client_set : (scripts : List (List Line)) (input : List InputLine) (counts : Lis
     → Ends (phases_ended scripts input counts) (phases_ended scripts input (set counts t n)) t
     (count_by is_phase (take (slice_index counts t) (served (script_in scripts t))))
     (count_by is_phase (take n (served (script_in scripts t))))
-client_set [] input counts t n long h = absurd (omega arith)
-client_set (s ∷ ss) input [] t n long h = absurd (omega arith)
 client_set (s ∷ ss) input (c ∷ cs) zero n long h = record { inside = omega arith; was = refl; is = refl }
 client_set (s ∷ ss) input (c ∷ cs) (suc t) n long h =
-    let e = client_set ss input cs t n (omega arith) (omega arith) in
-    record { inside = omega (arith, e.inside); was = e.was; is = rw e.is refl }
+    grind (arith, nat_tests, client_set ss input cs t n (omega arith) (omega arith))
+client_set ss input [] t n long h = absurd (omega arith)
+client_set [] input counts t n long h = absurd (omega arith)
 
 user_set : (scripts : List (List Line)) (input : List InputLine) (counts : List ℕ) (n : ℕ)
     → length counts ≡ length scripts + 1
     → Ends (phases_ended scripts input counts) (phases_ended scripts input (set counts (length scripts) n))
     (length scripts) (input_phases_before input (slice_index counts (length scripts))) (input_phases_before input n)
-user_set [] input [] n long = absurd (omega arith)
 user_set [] input (c ∷ cs) n long = record { inside = omega arith; was = refl; is = refl }
-user_set (s ∷ ss) input [] n long = absurd (omega arith)
-user_set (s ∷ ss) input (c ∷ cs) n long =
-    let e = user_set ss input cs n (omega arith) in
-    record { inside = omega (arith, e.inside); was = e.was; is = rw e.is refl }
+user_set (s ∷ ss) input (c ∷ cs) n long = grind (arith, nat_tests, user_set ss input cs n (omega arith))
+user_set ss input [] n long = absurd (omega arith)
 
 pub client_ends : {scripts : List (List Line)} {counts : List ℕ} {sid next : ℕ} {script : List Line} {l : Line}
     (input : List InputLine) → length counts ≡ length scripts + 1 → IsNext scripts counts sid next script l
     → Ends (phases_ended scripts input counts) (phases_ended scripts input (raised counts sid)) sid
     (phases_before script next) (phases_before script (next + 1))
 client_ends {scripts = scripts} {counts = counts} {sid = sid} {next = next} {script = script} input long at =
-    rw (
-      ← phases_front script next,
-      ← phases_front script (next + 1),
-      ← at.counted,
-      ← served_then at,
-      ← script_there at,
-    ) (client_set scripts input counts sid (slice_index counts sid + 1) long (client_is at))
+    let front = phases_front script next in
+    let front_then = phases_front script (next + 1) in
+    rw (← front, ← front_then, ← at.counted, ← served_then at, ← script_there at)
+    (client_set scripts input counts sid (slice_index counts sid + 1) long (client_is at))
 
 pub user_ends : {scripts : List (List Line)} {input : List InputLine} {counts : List ℕ} {next : ℕ} {l : InputLine}
     → length counts ≡ length scripts + 1 → IsUserNext scripts input counts next l
@@ -84,36 +82,23 @@ user_ends {scripts = scripts} {input = input} {counts = counts} long at =
 -- a line that ends no phase leaves what the actors have ended
 pub same_phase : {phase arrived actor before after' : ℕ} {old now : List ℕ} → Ends old now actor before after'
     → after' ≡ before → IsServedPhase phase arrived old → IsServedPhase phase arrived now
-same_phase {phase = phase} {arrived = arrived} {actor = actor} {old = old} ends same is =
-    rw (ends.is, same, ← ends.was, set-get_or old actor 0) is
+same_phase ends same is = rw (ends.is, same, ← ends.was, set-get_or) is
 
 -- ---- numbers that pass a test
-
-one_at_most : (b : Bool) → cond {A = ℕ} b 1 0 ≤ 1
-one_at_most true = omega arith
-one_at_most false = omega arith
 
 -- where all pass, each does
 pub all_pass : (p : ℕ → Bool) (xs : List ℕ) → count_by p xs ≡ length xs → (k : ℕ) → k < length xs
     → p (slice_index xs k) ≡ true
+all_pass p (x ∷ xs) full zero h = grind (arith, count_cons p x xs, count_by-le-length p xs)
+all_pass p (x ∷ xs) full (suc k) h = grind (arith, count_cons p x xs, count_by-le-length p xs, all_pass p xs)
 all_pass p [] full k h = absurd (omega arith)
-all_pass p (x ∷ xs) full zero h = elim (cases_Bool (p x)) [
-  | inl is ↦ is
-  | inr not ↦
-      let none : cond {A = ℕ} (p x) 1 0 ≡ 0 = rw not refl in
-      absurd (omega (arith, count_cons p x xs, none, full, count_by-le-length p xs))
-]
-all_pass p (x ∷ xs) full (suc k) h =
-    let n = count_cons p x xs in
-    all_pass p xs (omega (arith, full, n, one_at_most (p x), count_by-le-length p xs)) k (omega arith)
 
 -- where none passes, none is counted
 pub none_pass : (p : ℕ → Bool) (xs : List ℕ) → ((k : ℕ) → k < length xs → p (slice_index xs k) ≡ false)
     → count_by p xs ≡ 0
 none_pass p [] none = refl
-none_pass p (x ∷ xs) none = count_cons p x xs
-    ∙ ap (λ (b : Bool). cond {A = ℕ} b 1 0 + count_by p xs) (none 0 (omega arith))
-    ∙ ap (λ (n : ℕ). 0 + n) (none_pass p xs (λ k h. none (suc k) (omega arith)))
+none_pass p (x ∷ xs) none =
+    grind (arith, none 0, count_cons p x xs, none_pass p xs (λ k h. none (suc k) (omega arith)))
 
 -- ---- one more has ended its phase
 
@@ -122,25 +107,18 @@ pub phase_ended : {phase arrived i before after' : ℕ} {xs now : List ℕ} (cli
     → Ends xs now i before after' → before ≡ phase → after' ≡ phase + 1 → IsServedPhase phase arrived xs
     → IsServedPhase (after_arrival clients phase arrived).0 (after_arrival clients phase arrived).1 now
 phase_ended {phase = phase} {arrived = arrived} {i = i} {xs = xs} clients long ends ready up is =
+    let q : ℕ → Bool = λ n. n == phase + 1 in
     let ys = set xs i (phase + 1) in
-    let at = ends.was ∙ ready in
     let inside = ends.inside in
     let many : length ys ≡ length xs = length-set xs i (phase + 1) in
-    let f : ℕ → ℕ = λ n. cond {A = ℕ} (n == phase + 1) 1 0 in
-    let moved : sum_by f ys + f (slice_index xs i) ≡ sum_by f xs + f (phase + 1) =
-    sum_by-set f xs i (phase + 1) 0 inside in
-    let was : f (slice_index xs i) ≡ 0 = rw at (grind (arith, nat_tests)) in
-    let one : f (phase + 1) ≡ 1 = grind (arith, nat_tests) in
-    let more : count_by (λ n. n == phase + 1) ys ≡ count_by (λ n. n == phase + 1) xs + 1 =
-    omega (arith, moved, was, one) in
-    let counted = is.counted in
-    let left = is.some_left in
+    let moved = sum_by-set (λ n. cond {A = ℕ} (q n) 1 0) xs i (phase + 1) 0 inside in
+    let more : count_by q ys ≡ count_by q xs + 1 = grind (arith, nat_tests, moved, ends.was, ready) in
     rw (ends.is, up) (elim (cases_Bool (arrived == clients)) [
       | inl last ↦
-          let all : arrived ≡ clients = eqb-true arrived clients last in
-          let full : count_by (λ n. n == phase + 1) ys ≡ length ys = omega (arith, more, counted, all, many, long) in
+          let full : count_by q ys ≡ length ys =
+          omega (arith, more, is.counted, eqb-true arrived clients last, many, long) in
           let there : (k : ℕ) → k < length ys → slice_index ys k ≡ phase + 1 =
-          λ k h. eqb-true (slice_index ys k) (phase + 1) (all_pass (λ n. n == phase + 1) ys full k h) in
+          λ k h. eqb-true (slice_index ys k) (phase + 1) (all_pass q ys full k h) in
           rw last (record {
             each = λ k h. inl (there k h);
             counted = sym (none_pass (λ n. n == phase + 1 + 1) ys (λ k h. rw (there k h) (grind (arith, nat_tests))));
@@ -148,44 +126,101 @@ phase_ended {phase = phase} {arrived = arrived} {i = i} {xs = xs} clients long e
           })
       | inr not_last ↦
           rw not_last (record {
-            each = λ k h. elim (cases_eq k i) [
-              | inl e ↦ inr (rw e (get_or-set_same xs i (phase + 1) 0 inside))
-              | inr ne ↦ rw (get_or-set_other xs i k (phase + 1) 0 ne) (is.each k (omega (arith, many, h)))
-            ];
-            counted = omega (arith, more, counted);
-            some_left = let below : arrived + 1 < clients + 1 =
-                fewer arrived clients not_last (omega (arith, left, long)) in omega (arith, below, many, long);
+            each = λ k h.
+                let same = get_or-set_same xs i (phase + 1) 0 inside in
+                grind (arith, same, get_or-set_other xs i k (phase + 1) 0, is.each k (omega (arith, many, h)));
+            counted = omega (arith, more, is.counted);
+            some_left = omega (arith, is.some_left, eqb-false arrived clients not_last, many, long);
           })
     ])
-  where
-    fewer : (a c : ℕ) → (a == c) ≡ false → a ≤ c → a + 1 < c + 1
-    fewer a c ne le = grind (arith, nat_tests)
 
 -- ---- at the beginning
 
+none_ended : (scripts : List (List Line)) (input : List InputLine) (n k : ℕ)
+    → slice_index (phases_ended scripts input (replicate n 0)) k ≡ 0
+none_ended (s ∷ ss) input (suc n) (suc k) = none_ended ss input n k
+none_ended (s ∷ ss) input (suc n) zero = refl
+none_ended [] input (suc n) (suc k) = refl
+none_ended [] input (suc n) zero = refl
+none_ended ss input zero k = refl
+
 pub phases_begun : (scripts : List (List Line)) (input : List InputLine)
     → IsServedPhase 0 0 (phases_ended scripts input (replicate (length scripts + 1) 0))
-phases_begun scripts input =
-    record {
-      each = λ k h. inl (nothing k h);
-      counted = sym (none_pass (λ n. n == 0 + 1) (phases_ended scripts input counts) (λ k h. rw (nothing k h) refl));
-      some_left = omega (arith, ended_long scripts input counts long);
-    }
-  where
-    counts : List ℕ
-    counts = replicate (length scripts + 1) 0
+phases_begun scripts input = grind (arith, nat_tests, none_ended, none_pass, length-replicate)
 
-    long : length counts ≡ length scripts + 1
-    long = length-replicate (length scripts + 1) 0
+-- ---- phases
 
-    none : (k : ℕ) → slice_index counts k ≡ 0
-    none k = grind (arith, common_steps)
+pub phase_small : {X : Type 0} (p : X → Bool) (script : List X) (k : ℕ) (l : X) → slice_get script k ≡ Some l
+    → length script ≤ 65536 → count_by p (take k script) < 65536
+phase_small p script k l at most = grind (arith, nat_tests, slice_get_within, count_by-le-length, length-take)
 
-    nothing : (k : ℕ) → k < length (phases_ended scripts input counts)
-        → slice_index (phases_ended scripts input counts) k ≡ 0
-    nothing k h = elim (cases_eq k (length scripts)) [
-      | inl e ↦ rw (e, (user_set scripts input counts 0 long).was, none (length scripts)) refl
-      | inr ne ↦
-          let inside : k < length scripts = omega (arith, ended_long scripts input counts long, h, ne) in
-          rw ((client_set scripts input counts k 0 long inside).was, none k) refl
-    ]
+pub not_back : (clients phase arrived : ℕ) → phase ≤ (after_arrival clients phase arrived).0
+not_back clients phase arrived = grind (arith, nat_tests)
+
+-- ---- the passes
+
+-- what the law of one more line says
+abbrev pub NextLine : Type 0
+NextLine = (p : Painting) (script : List Line) (k : ℕ) (l : Line) → slice_get script k ≡ Some l
+    → painted_from p (take (k + 1) script) ≡ after_line (painted_from p (take k script)) l
+
+-- the end of a phase was served
+pub pass_phase : NextLine → {p : PassModel} {share share' : ShareModel} {spare : End} (name : _)
+    (known : List Recorded) (known' : List Entry) → IsPass p share spare → slice_get p.script p.next ≡ Some line.Phase
+    → share' ≡ record share { count = share.count + 1; seen = known }
+    → calls_of p.sid known' ≡ calls_in (take p.next p.script)
+    → IsPass (record p { next = p.next + 1; phase = p.phase + 1; name = name; seen = known' }) share' spare
+pass_phase next {p = p} name known known' is at e knows =
+    let told : p.sight.words ≡ Some (words_after p.script p.donation (p.next + 1)) =
+    rw (next (blank p.donation) p.script p.next line.Phase at, words_after) is.told in
+    let words : IfSome p.sight.words (λ words. words ≡ words_after p.script p.donation (p.next + 1)) = rw told refl in
+    rw e (record {
+      number = is.number;
+      counted = ap (λ (n : ℕ). n + 1) is.counted ∙ sym (served_counted p.script p.next line.Phase at refl);
+      within = omega (arith, slice_get_within p.script p.next line.Phase at);
+      phase = ap (λ (n : ℕ). n + 1) is.phase ∙ sym (counted_more is_phase p.script p.next line.Phase at refl);
+      known = knows ∙ sym (no_more_calls p.script p.next line.Phase at refl);
+      owner = is.owner;
+      painted = assumption (words, is.painted);
+      inked = is.inked;
+      told = told;
+      not_ahead = omega (arith, is.not_ahead);
+      agreed = is.agreed;
+      stretch = λ same. absurd (omega (arith, is.not_ahead, same));
+      spare_owner = is.spare_owner;
+      spare_size = is.spare_size;
+    })
+
+-- ---- the room
+
+-- an actor has ended the phase that is served
+pub phase_over : {r : RoomModel} {actor before after' : ℕ} (counts : List ℕ) → IsRoom r → IsOpen r.scene.entries
+    → Ends (phases_ended r.parts.scripts r.parts.input r.counts) (phases_ended r.parts.scripts r.parts.input counts)
+    actor before after' → before ≡ r.phase → after' ≡ before + 1
+    → ((later : ℕ) → r.phase ≤ later
+    → Follows r.parts.scripts r.parts.input counts later (without_final r.scene.entries))
+    → let then = after_arrival (length r.parts.scripts) r.phase r.arrived in IsRoom
+    (room_then r r.scene r.raws counts then.0 then.1)
+phase_over {r = r} counts room o ends ready up follows =
+    let risen = not_back (length r.parts.scripts) r.phase r.arrived in
+    room_turned counts _ _ room o risen (follows _ risen) (phase_ended _
+    (ended_long r.parts.scripts r.parts.input r.counts room.follows.each) ends ready (rw ready at up) room.phases)
+
+-- the room in which the user has a line left is open
+pub user_open : {r : RoomModel} {next : ℕ} {l : InputLine} → IsRoom r
+    → IsUserNext r.parts.scripts r.parts.input r.counts next l → IsOpen r.scene.entries
+user_open {r = r} {next = next} {l = l} room at = elim room.ended [
+  | inl o ↦ o
+  | inr all ↦ absurd (omega (arith, slice_get_within r.parts.input next l at.line_is, all.1, at.counted))
+]
+
+-- not all actors have ended the phase that is served
+pub few_arrived : {r : RoomModel} → IsRoom r → r.arrived ≤ length r.parts.scripts
+few_arrived {r = r} room =
+    omega (arith, room.phases.some_left, ended_long r.parts.scripts r.parts.input r.counts room.follows.each)
+
+-- what the user knows of the journal at its next line
+pub actions_known : {r : RoomModel} {next : ℕ} (input : List InputLine) → IsRoom r → input ≡ r.parts.input
+    → slice_index r.counts (length r.parts.scripts) ≡ next
+    → user_actions_of (without_final r.scene.entries) ≡ user_actions_in (take next input)
+actions_known input room same counted = rw (same, ← counted) room.follows.actions

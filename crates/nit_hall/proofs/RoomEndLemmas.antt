@@ -1,46 +1,45 @@
 -- Passes that are done, and the last picture.
+use Rattle.std.proofs.lemmas.Bool.Decides.{nat_tests}
 use Rattle.nit_hall.proofs.Basics.{AllServed, AreDone, AreGlasses, Bare, Black, Configuration, End}
-use Rattle.nit_hall.proofs.Basics.{Entry, EntryLaws, HasMet, IsAdded, IsDonePass, IsGlass}
-use Rattle.nit_hall.proofs.Basics.{IsKnownPass, IsOpen, IsRoom, IsWordOfSource, Line, List, Painted}
-use Rattle.nit_hall.proofs.Basics.{Painting, PassModel, PassRest, PixelSource, RoomModel}
-use Rattle.nit_hall.proofs.Basics.{SceneModel, Sight, Some, State, Word, [], ap, append-nil, ap₂}
-use Rattle.nit_hall.proofs.Basics.{arith, blank, calls_in, calls_of, calls_of-append, cases_eq}
-use Rattle.nit_hall.proofs.Basics.{cases_lt, donation_of, drop, frame, get_or}
-use Rattle.nit_hall.proofs.Basics.{get_or-map-range_with_len, get_or_from_slice_get, get_or_past}
-use Rattle.nit_hall.proofs.Basics.{glass_in, inl, inr, knowing, left_word, length, length-map, map}
-use Rattle.nit_hall.proofs.Basics.{map-map, map_over_more, no_ink, no_sight, option_map}
-use Rattle.nit_hall.proofs.Basics.{painted_from, pixel_count, range_with_len, refl, rest_of}
-use Rattle.nit_hall.proofs.Basics.{same_Some, same_frame, scenery_of, script_in, served, set}
-use Rattle.nit_hall.proofs.Basics.{slice_get, slice_get-get_or, slice_get-map, slice_get_read}
-use Rattle.nit_hall.proofs.Basics.{slice_index, source_at, state_now, subst, table_size, take_all}
+use Rattle.nit_hall.proofs.Basics.{Entry, EntryLaws, HasMet, IsAdded, IsDonePass, IsKnownPass}
+use Rattle.nit_hall.proofs.Basics.{IsOpen, IsRoom, IsWordOfSource, Line, Painted, Painting}
+use Rattle.nit_hall.proofs.Basics.{PassModel, PassRest, PixelSource, RoomModel, SceneModel, Sight}
+use Rattle.nit_hall.proofs.Basics.{State, Word, blank, calls_of-append, cases_lt, common_steps}
+use Rattle.nit_hall.proofs.Basics.{donation_of, frame, get_or-map-range_with_len}
+use Rattle.nit_hall.proofs.Basics.{get_or_from_slice_get, get_or_past, gets, glass_in, knowing}
+use Rattle.nit_hall.proofs.Basics.{left_word, length-map, map-map, map_over_more, no_ink, no_sight}
+use Rattle.nit_hall.proofs.Basics.{painted_from, pixel_count, rest_of, same_frame, scenery_of}
+use Rattle.nit_hall.proofs.Basics.{script_in, slice_get-map, slice_get_within, source_at, state_now}
 use Rattle.nit_hall.proofs.Basics.{without_final, words_after, words_left, words_left_in, zero_at}
-use Rattle.std.proofs.Common.{suc, sym, take, zero, zero-add, ℕ, ◌++◌, ◌+◌, ◌<◌, ◌∙◌, ◌∷◌, ◌≡◌, ◌≤◌}
+use Rattle.std.proofs.Common.{List, Some, [], ap, append-nil, arith, drop, get_or, inl, inr, length}
+use Rattle.std.proofs.Common.{map, refl, set, slice_get, slice_index, sym, take, take_all, zero-add}
+use Rattle.std.proofs.Common.{ℕ, ◌++◌, ◌+◌, ◌<◌, ◌∙◌, ◌∷◌, ◌≡◌, ◌≤◌}
 use Rattle.nit_events.specs.declared.entry.Entry.TheVariants as entry
-use Rattle.nit_hall.proofs.FinalEntries.{not_open, open_whole, without-append}
-use Rattle.nit_hall.proofs.NearLemmas.{AreInks, ink_behind, ink_inside, told_word, ShowsThen}
+use Rattle.nit_hall.proofs.NearLemmas.{AreInks, ShowsThen, all_inks, lens_shows, told_shows}
+use Rattle.nit_hall.proofs.NearLemmas.{told_word}
+use Rattle.nit_hall.proofs.LineLemmas.{item_there}
+use Rattle.nit_hall.proofs.EntryLemmas.{not_open, open_whole, without-append}
 use Rattle.nit_hall.proofs.RoomSteps.{inks_before, legal_then, near_then, room_grown, room_then}
 use Rattle.nit_hall.proofs.ServedCalls.{calls_made}
-use Rattle.nit_hall.proofs.WatchedWords.{lens_shows, told_shows}
 
 -- ---- a list that is changed in place
 
-as_long : {X : Type 0} (f : X → X) (xs : List X) (i : ℕ) → length (map f (take i xs) ++ drop i xs) ≡ length xs
-as_long f [] zero = refl
-as_long f [] (suc i) = refl
-as_long f (x ∷ xs) zero = refl
-as_long f (x ∷ xs) (suc i) = ap suc (as_long f xs i)
+long_same : {X : Type 0} (f : X → X) (xs ys : List X) (i : ℕ) → ys ≡ map f (take i xs) ++ drop i xs
+    → length ys ≡ length xs
+long_same f xs ys i is = grind (arith, common_steps)
 
-unchanged_at : {X : Type 0} (f : X → X) (xs : List X) (i : ℕ) (d : X) → i < length xs
-    → get_or (map f (take i xs) ++ drop i xs) i d ≡ get_or xs i d
-unchanged_at f [] i d h = absurd (omega arith)
-unchanged_at f (x ∷ xs) zero d h = refl
-unchanged_at f (x ∷ xs) (suc i) d h = unchanged_at f xs i d (omega arith)
+-- what holds of each element that the change has come to holds of all when it has come to the end
+pub holds_all : {X : Type 0} (P : ℕ → X → Type 0) (f : X → X) (xs ys : List X) (i : ℕ)
+    → ys ≡ map f (take i xs) ++ drop i xs → length ys ≤ i
+    → ((k : ℕ) (x : X) → k < i → slice_get xs k ≡ Some x → P k x) → (k : ℕ) (x : X) → slice_get xs k ≡ Some x → P k x
+holds_all P f xs ys i is over below k x at = grind (arith, nat_tests, long_same, slice_get_within)
 
 pub still_there : {X : Type 0} (f : X → X) (xs ys : List X) (i : ℕ) (x : X) → i < length ys
     → ys ≡ map f (take i xs) ++ drop i xs → x ≡ get_or ys i x → (i < length xs) × (slice_get xs i ≡ Some x)
 still_there f xs ys i x inside is at =
-    let long : i < length xs = omega (arith, as_long f xs i, ap length is, inside) in
-    (long, slice_get_read xs (length xs) i x refl long (rw (is, unchanged_at f xs i x long) at at))
+    let long = long_same f xs ys i is in
+    let same : get_or ys i x ≡ get_or xs i x = grind (arith, common_steps) in
+    (omega (arith, long, inside), grind (arith, common_steps, gets))
 
 -- ---- a pass is met
 
@@ -50,10 +49,7 @@ met_now {r = r} k is met =
     record {
       front = met.before;
       counted = rw (← is.number) met.counted;
-      glass = (
-        met.owner ∙ is.number,
-        rw (is.belongs.donation, is.number) at met.painted.size,
-      );
+      glass = (met.owner ∙ is.number, rw (is.belongs.donation, is.number) at met.painted.size);
       inked = met.inked;
       told = met.told;
     }
@@ -62,10 +58,7 @@ met_now {r = r} k is met =
 pub holds_below : {X : Type 0} (P : ℕ → X → Type 0) (i : ℕ) (xs : List X) (x : X)
     → ((k : ℕ) (y : X) → k < i → slice_get xs k ≡ Some y → P k y) → slice_get xs i ≡ Some x → P i x
     → (k : ℕ) (y : X) → k < i + 1 → slice_get xs k ≡ Some y → P k y
-holds_below P i xs x below at here k y h e = elim (cases_eq k i) [
-  | inl same ↦ let one : x ≡ y = same_Some x y (rw (← at, ← same) e) in rw (same, ← one) here
-  | inr ne ↦ below k y (omega arith) e
-]
+holds_below P i xs x below at here k y h e = grind arith
 
 -- ---- all are
 
@@ -85,10 +78,8 @@ record IsThereDone (r : RoomModel) (ps : List PassModel) (t : ℕ) : Type 0 wher
 
 pass_there : {r : RoomModel} {ps : List PassModel} (t : ℕ) → AreKnown r ps → t < length r.parts.scripts
     → IsThereDone r ps t
-pass_there {ps = []} t are h = absurd (let n = are.done_all.each in omega (arith, n, h))
-pass_there {r = r} {ps = q ∷ qs} t are h =
-    let at = slice_get-get_or (q ∷ qs) t q (let n = are.done_all.each in omega (arith, n, h)) in
-    let p = get_or (q ∷ qs) t q in
+pass_there {r = r} {ps = ps} t are h =
+    let (p, at) = item_there ps t (omega (arith, are.done_all.each, h)) in
     let is = are.done_all.done_all t p at in
     record {
       p = p;
@@ -96,8 +87,7 @@ pass_there {r = r} {ps = q ∷ qs} t are h =
       known = are.met t p at;
       script = get_or_from_slice_get r.parts.scripts t p.script [] (rw is.number at is.belongs.script);
       donation = rw is.number at is.belongs.donation;
-      sight = get_or_from_slice_get (map (λ (x : PassModel). x.sight) (q ∷ qs)) t p.sight no_sight
-          (rw (slice_get-map (λ (x : PassModel). x.sight) (q ∷ qs) t, at) refl);
+      sight = get_or_from_slice_get (map (λ (x : PassModel). x.sight) ps) t p.sight no_sight (rw (slice_get-map, at));
     }
 
 pub all_served : {r : RoomModel} {ps : List PassModel} → AreKnown r ps
@@ -106,8 +96,8 @@ pub all_served : {r : RoomModel} {ps : List PassModel} → AreKnown r ps
 all_served are user = (
   (λ t h.
       let there = pass_there t are h in
-      there.known.counted ∙ ap (λ (ls : List Line). length (served ls))
-      (take_all there.p.next there.p.script (let e = there.is.ended in omega (arith, e)) ∙ sym there.script)),
+      let whole = take_all there.p.next there.p.script (omega (arith, there.is.ended)) in
+      rw (there.known.counted, whole, there.script)),
   user,
 )
 
@@ -136,13 +126,8 @@ held_left : (config : Configuration) (scripts : List (List Line)) (glasses : Lis
     → IsWordOfSource (glass_in glasses) source w → w ≡ left_word config scripts source
 held_left config scripts glasses Bare w each tell held = held
 held_left config scripts glasses Black w each tell held = held
-held_left config scripts glasses (Word t i) w each tell held = elim (cases_lt t (length scripts)) [
-  | inl inside ↦ told_word (glass_in glasses t).words _ i w (tell t inside) held.told
-  | inr past ↦
-      let none : glass_in glasses t ≡ no_sight = get_or_past glasses t no_sight (omega (arith, each, past)) in
-      let script : script_in scripts t ≡ [] = get_or_past scripts t [] past in
-      rw (script, zero_at (table_size (donation_of config t)) i) (no_ink i w (rw none at held).inked)
-]
+held_left config scripts glasses (Word t i) w each tell held =
+    grind (arith, nat_tests, told_word, get_or_past, zero_at, no_ink)
 
 -- the last picture shows what the scripts leave
 pub last_frame : (config : Configuration) (scripts : List (List Line)) {s s' : State} (glasses : List Sight)
@@ -151,40 +136,27 @@ pub last_frame : (config : Configuration) (scripts : List (List Line)) {s s' : S
     → (glass_in glasses t).words ≡ Some (words_left (script_in scripts t) (donation_of config t)))
     → Painted s entry.Final s' (glass_in glasses) glasses' raw raw'
     → frame (scenery_of s) raw' ≡ frame (scenery_of s) (words_left_in config scripts s)
-last_frame config scripts {s = s} glasses {glasses' = glasses'} {raw = raw} {raw' = raw'} same each tell painted =
-    let p : Painted s entry.Final s (glass_in glasses) glasses' raw raw' = rw same at painted in
+last_frame config scripts {s = s} glasses {raw' = raw'} same each tell painted =
     same_frame (scenery_of s) raw' (words_left_in config scripts s)
     (λ k on_screen. held_left config scripts glasses (source_at s k) (slice_index raw' k) each tell
-    (p.marked k on_screen refl).0
+    ((rw same at painted).marked k on_screen refl).0
     ∙ sym (get_or-map-range_with_len (λ (n : ℕ). left_word config scripts (source_at s n)) 0 (pixel_count s) k k 0
     on_screen (zero-add k)))
 
 -- ---- one pass after the other
 
-pub long_same : {X : Type 0} (f : X → X) (xs ys : List X) (i : ℕ) → ys ≡ map f (take i xs) ++ drop i xs
-    → length ys ≡ length xs
-long_same f xs ys i is = ap length is ∙ as_long f xs i
-
 pub step_far : {X : Type 0} (f : X → X) (xs ys : List X) (i : ℕ) (p q : X) → i < length xs
     → ys ≡ map f (take i xs) ++ drop i xs → p ≡ get_or ys i p → q ≡ f (get_or ys i p)
     → set ys i q ≡ map f (take (i + 1) xs) ++ drop (i + 1) xs
-step_far f xs ys i p q inside so_far at eq =
-    ap (set ys i) (eq ∙ ap f (sym at)) ∙ map_over_more f xs ys i p inside so_far at
+step_far f xs ys i p q inside so_far at eq = grind (arith, nat_tests, map_over_more)
 
 -- ---- the room after the last picture
 
 inks_of : {r : RoomModel} {ps : List PassModel} → AreKnown r ps
     → AreInks r.parts.config r.parts.scripts (glass_in (map (λ (q : PassModel). q.sight) ps))
-inks_of {r = r} {ps = ps} are t = elim (cases_lt t (length r.parts.scripts)) [
-  | inl inside ↦ let there = pass_there t are inside in
-      rw (there.sight, there.known.inked)
-      (ink_inside r.parts.config r.parts.scripts t _ _ inside there.script there.donation)
-  | inr past ↦
-      let n = are.done_all.each in
-      let long = length-map ps (λ (q : PassModel). q.sight) in
-      rw (get_or_past (map (λ (q : PassModel). q.sight) ps) t no_sight (omega (arith, n, long, past)))
-      (ink_behind r.parts.config r.parts.scripts t past)
-]
+inks_of {r = r} {ps = ps} are = all_inks r.parts.config r.parts.scripts (map (λ (q : PassModel). q.sight) ps)
+    (length-map ps (λ (q : PassModel). q.sight) ∙ are.done_all.each)
+    (λ t h. let there = pass_there t are h in rw (there.sight, there.script, ← there.donation) there.known.inked)
 
 -- what the scene promises of the last picture
 pub record IsEnded (old new : SceneModel End) (glasses : List Sight) (glasses' : ℕ → Sight) : Type 0 where
@@ -195,7 +167,7 @@ pub record IsEnded (old new : SceneModel End) (glasses : List Sight) (glasses' :
 -- the last picture does not stand in the book
 pub booked_still : (old new : SceneModel End) → new.entries ≡ old.entries ++ entry.Final ∷ []
     → without_final old.entries ≡ without_final new.entries
-booked_still old new recorded = rw (recorded, without-append old.entries (entry.Final ∷ []), append-nil) refl
+booked_still old new recorded = rw (recorded, without-append, append-nil)
 
 -- what the passes show in the last picture was left by all their lines
 ends_show : EntryLaws → {r : RoomModel} {new : SceneModel End} {ps : List PassModel} → IsRoom r
@@ -206,15 +178,13 @@ ends_show laws {r = r} {ps = ps} room o are added t i w loaded = elim (cases_lt 
   | inl inside ↦
       let there = pass_there t are inside in
       let p = there.p in
-      let made : calls_of t (r.scene.entries ++ entry.Final ∷ []) ≡ calls_in (take p.next p.script) =
-      rw (calls_of-append t r.scene.entries (entry.Final ∷ []), append-nil) (rw (open_whole r.scene.entries o)
-      at (calls_made r t p.next p.script room (rw there.is.number at there.is.belongs.script) there.known.counted)) in
-      let paid : p.donation ≡ donation_of r.scene.config t = there.donation
-      ∙ ap (λ (c : Configuration). donation_of c t) (sym room.config) in
+      let made = rw (open_whole r.scene.entries o)
+      at (calls_made r t p.next p.script room (rw there.is.number at there.is.belongs.script) there.known.counted) in
+      let paid = there.donation ∙ ap (λ (c : Configuration). donation_of c t) (sym room.config) in
       told_shows r.scene.config r.parts.scripts r.phase (r.scene.entries ++ entry.Final ∷ []) t p.next _
       (rw (there.sight, there.script, ← paid) there.known.told)
       (record {
-        calls = rw (there.script, made) refl;
+        calls = rw (there.script, calls_of-append, append-nil, made);
         phases = λ still. absurd (not_open r.scene.entries still);
       }) i w loaded
   | inr past ↦ lens_shows r.scene.config r.parts.scripts r.phase r.scene.entries entry.Final t _
@@ -228,11 +198,10 @@ pub room_ended : EntryLaws → {r : RoomModel} {new : SceneModel End} {ps : List
     → IsRoom (room_then r new r.raws r.counts r.phase r.arrived)
 room_ended laws {r = r} {new = new} room o are all ended =
     let same = booked_still r.scene new ended.added.recorded in
-    let recorded = ended.added.recorded in
     room_grown laws room o ended.added r.raws r.counts
     (record {
       history = rw (← same, room.config) room.history;
-      ends = λ still. absurd (not_open r.scene.entries (rw recorded at still));
+      ends = λ still. absurd (not_open r.scene.entries (rw ended.added.recorded at still));
     })
     (near_then laws room o ended.added (λ still. absurd (not_open r.scene.entries still))
     (ends_show laws room o are ended.added) (λ t call rep same. absurd cc) ended.painted)
@@ -249,8 +218,7 @@ pub glasses_settled : {r : RoomModel} {ps₀ : List PassModel} (ps : List PassMo
     → length r.parts.scripts ≡ length r.parts.config.clients
     → AreGlasses (λ (p : PassModel). p.sight) r.parts.config ps
 glasses_settled {r = r} {ps₀ = ps₀} ps are same sessions = record {
-  each = rw (← length-map ps (λ (p : PassModel). p.sight), same, length-map ps₀ (λ (p : PassModel). p.sight))
-      (are.done_all.each ∙ sessions);
+  each = grind (arith, nat_tests, length-map);
   tables = λ t h.
       let there = pass_there t are (omega (arith, h, sessions)) in rw (same, there.sight) there.known.glass;
 }
@@ -265,9 +233,4 @@ abbrev pub pass_rest : PassModel → PassRest
 pass_rest p = record { pass = rest_of p }
 
 pub rests_again : (ps qs : List PassModel) → map pass_rest ps ≡ map pass_rest qs → map rest_of ps ≡ map rest_of qs
-rests_again ps qs e = sym (map-map (λ (r : PassRest). r.pass) pass_rest ps)
-    ∙ ap (λ (rs : List PassRest). map (λ (r : PassRest). r.pass) rs) e ∙ map-map (λ (r : PassRest). r.pass) pass_rest qs
-
-pub rests_knowing : (known : List Entry) (ps : List PassModel) → map rest_of (map (knowing known) ps)
-    ≡ map (λ (p : PassModel). rest_of (knowing known p)) ps
-rests_knowing known ps = map-map rest_of (knowing known) ps
+rests_again ps qs e = rw (map-map, map-map) at (ap (map (λ (r : PassRest). r.pass)) e)

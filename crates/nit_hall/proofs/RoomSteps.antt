@@ -1,21 +1,18 @@
 -- A room after one more entry, and after the end of a phase.
-use Rattle.nit_hall.proofs.NearLemmas.{held_near, near_more, IsInPhase, ShowsThen, TellsWords}
 use Rattle.nit_hall.proofs.Basics.{AllServed, AreNear, AreWatching, CanAdd, Configuration, End}
 use Rattle.nit_hall.proofs.Basics.{Entry, EntryLaws, Follows, HaveInks, IsAdded, IsLegal, IsLoaded}
-use Rattle.nit_hall.proofs.Basics.{IsOpen, IsRoom, IsServedPhase, KnowsStretch, Line, List, Painted}
-use Rattle.nit_hall.proofs.Basics.{RoomModel, SceneModel, Sight, State, [], after, ap, append-nil}
-use Rattle.nit_hall.proofs.Basics.{arith, buffers_of, calls_of, calls_of-append, donation_of}
-use Rattle.nit_hall.proofs.Basics.{first_state, glass_in, inl, length, length-append, phases_ended}
-use Rattle.nit_hall.proofs.Basics.{refl, script_in, slice_index_or, source_at, state_now, subst}
-use Rattle.nit_hall.proofs.Basics.{sym, without_final, ℕ, ◌∙◌}
-use Rattle.std.proofs.Common.{◌++◌, ◌∷◌, ◌≡◌, ◌≤◌, ◌⊎◌, ◌<◌}
-use Rattle.nit_hall.proofs.ClipsStay.{clips_then}
-use Rattle.nit_hall.proofs.FinalEntries.{open_whole}
-use Rattle.nit_hall.proofs.HistoryLemmas.{GoesOn}
-use Rattle.nit_hall.proofs.EndStages.{sights_of}
-use Rattle.nit_hall.proofs.WatchedWords.{WasLeft, lens_shows}
-use Rattle.nit_hall.proofs.ScriptsFollowed.{entries_within}
+use Rattle.nit_hall.proofs.Basics.{IsOpen, IsRoom, IsServedPhase, KnowsStretch, Painted, RoomModel}
+use Rattle.nit_hall.proofs.Basics.{SceneModel, Sight, after, buffers_of, calls_of, calls_of-append}
+use Rattle.nit_hall.proofs.Basics.{donation_of, first_state, glass_in, phases_ended, script_in}
+use Rattle.nit_hall.proofs.Basics.{state_now, without_final}
+use Rattle.std.proofs.Common.{List, [], ap, append-nil, arith, inl, length, length-append, refl}
+use Rattle.std.proofs.Common.{sym, ℕ, ◌++◌, ◌<◌, ◌∙◌, ◌∷◌, ◌≡◌, ◌≤◌, ◌⊎◌}
 use mathlib.Core.List.{IsPrefix}
+use Rattle.nit_hall.proofs.EntryLemmas.{GoesOn, clean_painted, open_whole}
+use Rattle.nit_hall.proofs.NearLemmas.{IsInPhase, ShowsThen, TellsWords, WasLeft, held_near}
+use Rattle.nit_hall.proofs.NearLemmas.{lens_shows, near_more, sights_of}
+use Rattle.nit_hall.proofs.ClipLineLemmas.{clips_then}
+use Rattle.nit_hall.proofs.ScriptsFollowed.{entries_within}
 
 -- the room with this scene, these raw words behind each entry and these counts, in this phase
 abbrev pub room_then : RoomModel → SceneModel End → List (List ℕ) → List ℕ → ℕ → ℕ → RoomModel
@@ -32,9 +29,7 @@ room_then r scene raws counts phase arrived =
 -- an open room has room for one entry more
 pub can_add : {r : RoomModel} → IsRoom r → IsOpen r.scene.entries → CanAdd r.scene
 can_add {r = r} room o = record {
-  spare =
-      let sum = room.room in
-      omega (arith, entries_within room.follows, ap length (open_whole r.scene.entries o), sum);
+  spare = omega (arith, entries_within room.follows, ap length (open_whole r.scene.entries o), room.room);
   «open» = o;
 }
 
@@ -46,8 +41,8 @@ before_open {r = r} known er o before = rw (← er) (rw (← er, open_whole r.sc
 -- the book has one entry more, and so has an open journal
 pub booked_more : {old new : SceneModel End} {e : Entry} → IsOpen old.entries → IsOpen new.entries
     → IsAdded old new e → without_final old.entries ++ e ∷ [] ≡ without_final new.entries
-booked_more {old = old} {new = new} {e = e} was is added =
-    rw (open_whole old.entries was, open_whole new.entries is, added.recorded) refl
+booked_more {old = old} {new = new} was is added =
+    rw (open_whole old.entries was, open_whole new.entries is, added.recorded)
 
 pub state_later : EntryLaws → {old new : SceneModel End} {e : Entry} → IsAdded old new e
     → state_now new ≡ after (state_now old) e
@@ -58,9 +53,6 @@ module _ (laws : EntryLaws) {r : RoomModel} {new : SceneModel End} {e : Entry} (
     (o : IsOpen r.scene.entries) (added : IsAdded r.scene new e) where
   pub legal_then : IsLegal r.scene.config (r.scene.entries ++ e ∷ [])
   legal_then = rw (added.config, added.recorded) at added.legal
-
-  pub near_before : AreNear r.scene.config r.parts.scripts r.parts.input r.scene.entries r.scene.raw
-  near_before = rw room.config room.near
 
   pub inks_before : HaveInks r.scene.config r.parts.scripts r.scene.glasses
   inks_before = rw room.config room.inks
@@ -84,12 +76,7 @@ module _ (laws : EntryLaws) {r : RoomModel} {new : SceneModel End} {e : Entry} (
       record {
         since = w.since;
         stages_are = rw room.config (same ∙ w.stages_are);
-        behind = rw (
-          ← booked_more o is added,
-          calls_of-append t (without_final r.scene.entries) (e ∷ []),
-          none,
-          append-nil,
-        ) w.behind;
+        behind = rw (← booked_more o is added, calls_of-append, none, append-nil) w.behind;
         begun = w.begun;
       }
 
@@ -99,14 +86,12 @@ module _ (laws : EntryLaws) {r : RoomModel} {new : SceneModel End} {e : Entry} (
       → TellsWords r.scene.config r.parts.scripts r.scene.entries e glasses
       → Painted (state_now r.scene) e (state_now new) glasses glasses' r.scene.raw new.raw
       → AreNear r.scene.config r.parts.scripts r.parts.input (r.scene.entries ++ e ∷ []) new.raw
-  near_then {glasses = glasses} {glasses' = glasses'} served_ shows tells painted =
-      let config = r.scene.config in
-      let s = state_now r.scene in
-      let p : Painted s e (after s e) glasses glasses' r.scene.raw new.raw = rw (state_later laws added) at painted in
-      near_more config r.parts.scripts r.parts.input r.scene.entries e laws r.scene.raw new.raw legal_then near_before
-      (λ k inside is. held_near config r.parts.scripts r.parts.input r.scene.entries e r.phase glasses k
-      (source_at (after s e) k) (slice_index_or new.raw k 0) is served_ shows tells (p.marked k inside is).0)
-      (λ k clean. p.others k (λ _. clean))
+  near_then {glasses = glasses} served_ shows tells painted =
+      near_more r.scene.config r.parts.scripts r.parts.input r.scene.entries e laws r.scene.raw new.raw legal_then
+      (rw room.config room.near)
+      (λ k inside is. held_near r.scene.config r.parts.scripts r.parts.input r.scene.entries e r.phase glasses k _ _ is
+      served_ shows tells ((rw (state_later laws added) at painted).marked k inside is).0)
+      (clean_painted r.scene new e (state_later laws added) painted)
 
   pub room_grown : (raws : List (List ℕ)) (counts : List ℕ) → GoesOn r.scene.config new raws
       → AreNear r.scene.config r.parts.scripts r.parts.input (r.scene.entries ++ e ∷ []) new.raw
@@ -141,11 +126,13 @@ pub room_turned : {r : RoomModel} (counts : List ℕ) (phase arrived : ℕ) → 
     → IsRoom (room_then r r.scene r.raws counts phase arrived)
 room_turned {r = r} counts phase arrived room o risen follows phases =
     let watching : AreWatching r.parts.scripts r.parts.config (without_final r.scene.entries) phase r.scene.glasses =
-    λ t inside. let w = room.watching t inside in record {
+    λ t inside.
+    let w = room.watching t inside in
+    record {
       since = w.since;
       stages_are = w.stages_are;
       behind = w.behind;
-      begun = let b = w.begun in omega (arith, b, risen);
+      begun = omega (arith, w.begun, risen);
     } in
     let ended : IsOpen r.scene.entries ⊎ AllServed r.parts.scripts r.parts.input counts = inl o in
     rw room.config assumption

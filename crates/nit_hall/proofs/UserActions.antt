@@ -1,29 +1,28 @@
 -- A room and the user's pass after a device event, and after a shot.
-use Rattle.std.proofs.Common.{take, slice_get, subst, sym, ℕ, ◌++◌, ◌+◌, ◌-◌, ◌<◌, ◌∙◌, ◌∷◌, ◌≡◌}
-use Rattle.nit_hall.proofs.RoomSteps.{watching_other, before_open, inks_before, booked_more}
-use Rattle.nit_hall.proofs.RoomSteps.{legal_then, near_before, near_then, lenses_show, room_grown}
-use Rattle.nit_hall.proofs.RoomSteps.{room_then, state_later}
-use Rattle.nit_hall.proofs.Basics.{AreNear, BookModel, Device, End, Entry, EntryLaws, Follows}
-use Rattle.nit_hall.proofs.Basics.{HasActed, HaveInks, InputLine, IsAdded, IsOpen, IsRoom}
-use Rattle.nit_hall.proofs.Basics.{IsUserPass, Line, List, Painted, Recorded, RoomModel, Routed}
-use Rattle.nit_hall.proofs.Basics.{SceneModel, ShareModel, Sight, Some, UserBelongs, UserHasMet}
-use Rattle.nit_hall.proofs.Basics.{UserPassModel, [], actions_of-append, ap, arith, buffers_of}
-use Rattle.nit_hall.proofs.Basics.{entries_in, glass_in, inl, input_phases_before, is_input_phase}
-use Rattle.nit_hall.proofs.Basics.{length, raised, raws_in, refl, slice_get_within, slice_index}
-use Rattle.nit_hall.proofs.Basics.{slice_index_or, state_now, with_entry, without_final}
-use Rattle.nit_hall.proofs.FinalEntries.{open_whole}
+use Rattle.std.proofs.lemmas.Bool.Decides.{nat_tests}
+use Rattle.std.proofs.Common.{List, Some, [], ap, arith, inl, length, length-append, refl}
+use Rattle.std.proofs.Common.{slice_get, take, ℕ, ◌++◌, ◌+◌, ◌-◌, ◌∙◌, ◌∷◌, ◌≡◌}
+use Rattle.nit_hall.proofs.Basics.{AreNear, BookModel, Device, End, Entry, EntryLaws, HasActed}
+use Rattle.nit_hall.proofs.Basics.{HaveInks, InputLine, IsAdded, IsOpen, IsRoom, IsUserPass, Line}
+use Rattle.nit_hall.proofs.Basics.{OpeningParts, Painted, RoomModel, Routed, SceneModel, ShareModel}
+use Rattle.nit_hall.proofs.Basics.{Sight, TellsShot, UserBelongs, UserHasMet, UserPassModel}
+use Rattle.nit_hall.proofs.Basics.{actions_of-append, buffers_of, entries_in, frame, glass_in}
+use Rattle.nit_hall.proofs.Basics.{input_phases_before, is_input_phase, lenses, raised, raws_in}
+use Rattle.nit_hall.proofs.Basics.{scenery_of, slice_get_within, state_now, with_entry}
+use Rattle.nit_hall.proofs.Basics.{without_final}
 use Rattle.nit_events.specs.declared.entry.Entry.TheVariants as entry
 use Rattle.nit_script.specs.declared.line.InputLine.TheVariants as inputs
-use Rattle.nit_hall.proofs.LineLemmas.{counted_same, actions_line}
-use Rattle.nit_hall.proofs.NearLemmas.{IsInPhase, near_more}
+use Rattle.nit_hall.proofs.RoomSteps.{before_open, booked_more, inks_before, legal_then}
+use Rattle.nit_hall.proofs.RoomSteps.{lenses_show, near_then, room_grown, state_later}
+use Rattle.nit_hall.proofs.RoomSteps.{watching_other}
+use Rattle.nit_hall.proofs.EntryLemmas.{KeepsClean, clean_painted, goes_on, open_whole, raws_more}
+use Rattle.nit_hall.proofs.EntryLemmas.{seen_more}
+use Rattle.nit_hall.proofs.LineLemmas.{actions_line, counted_same}
+use Rattle.nit_hall.proofs.NearLemmas.{near_more}
 use Rattle.nit_hall.proofs.ScriptsFollowed.{AddsAction, IsUserNext, follows_action}
 use Rattle.nit_hall.proofs.ScriptsFollowed.{phase_of_action_next}
-use Rattle.nit_hall.proofs.Phases.{same_phase, user_ends}
-use Rattle.nit_hall.proofs.HistoryLemmas.{KeepsClean, clean_painted, goes_on, raws_more, seen_more}
-use Rattle.nit_hall.proofs.PassCounts.{user_back, user_raised}
-use Rattle.nit_hall.proofs.RoomEntered.{book_then, entered, room_of}
-use Rattle.nit_hall.proofs.PhaseEnds.{actions_known, user_open}
-use Rattle.nit_hall.proofs.ServedCalls.{sights}
+use Rattle.nit_hall.proofs.Phases.{actions_known, same_phase, user_ends, user_open}
+use Rattle.nit_hall.proofs.PassCounts.{book_then, entered, room_of, user_back, user_raised}
 
 -- a device event, and a shot, are the user's
 pub adds_input : {dev : Device} {routed : Routed} → AddsAction (inputs.Device dev) (entry.Input dev routed)
@@ -38,7 +37,7 @@ pub record IsDone (scripts : List (List Line)) (input : List InputLine) (old new
   pub added : IsAdded old new e
   pub open_is : IsOpen new.entries
   pub inks : HaveInks old.config scripts new.glasses
-  pub watching : (t : ℕ) → (glass_in (sights new) t).stages ≡ (glass_in (sights old) t).stages
+  pub watching : (t : ℕ) → (glass_in (lenses new) t).stages ≡ (glass_in (lenses old) t).stages
   pub near : AreNear old.config scripts input (old.entries ++ e ∷ []) new.raw
   pub keeps : KeepsClean old.config old.entries e old.raw new.raw
 
@@ -46,8 +45,8 @@ pub done_input : EntryLaws → {r : RoomModel} {new : SceneModel End} {next : �
     → IsRoom r → IsUserNext r.parts.scripts r.parts.input r.counts next (inputs.Device dev)
     → r.phase ≡ input_phases_before r.parts.input next
     → IsOpen r.scene.entries → IsAdded r.scene new (entry.Input dev routed) → IsOpen new.entries
-    → Painted (state_now r.scene) (entry.Input dev routed) (state_now new) (glass_in (sights r.scene))
-    (glass_in (sights new)) r.scene.raw new.raw
+    → Painted (state_now r.scene) (entry.Input dev routed) (state_now new) (glass_in (lenses r.scene))
+    (glass_in (lenses new)) r.scene.raw new.raw
     → IsDone r.parts.scripts r.parts.input r.scene new (entry.Input dev routed)
 done_input laws {r = r} {new = new} {dev = dev} {routed = routed} room at ready was added open_is painted =
     record {
@@ -67,17 +66,17 @@ pub done_shot : EntryLaws → {r : RoomModel} {new : SceneModel End} {number : �
     → new ≡ record r.scene { entries = r.scene.entries ++ entry.Shot number ∷ []; spare = r.scene.spare - 1 }
     → IsAdded r.scene new (entry.Shot number) → IsOpen new.entries
     → IsDone r.parts.scripts r.parts.input r.scene new (entry.Shot number)
-done_shot laws {r = r} {new = new} {number = number} room was is added open_is =
+done_shot laws {r = r} {number = number} room was is added open_is =
     record {
       added = added;
       open_is = open_is;
       inks = λ t. rw is (inks_before laws room was added t);
-      watching = λ t. rw is refl;
+      watching = λ t. rw is;
       near = rw is
           (near_more r.scene.config r.parts.scripts r.parts.input r.scene.entries (entry.Shot number) laws r.scene.raw
-          r.scene.raw (legal_then laws room was added) (near_before laws room was added)
+          r.scene.raw (legal_then laws room was added) (rw room.config room.near)
           (λ k inside dirty. absurd cc) (λ k clean. refl));
-      keeps = λ k clean. rw is refl;
+      keeps = λ k clean. rw is;
     }
 
 -- ---- what an action finds
@@ -139,7 +138,7 @@ module _ {r : RoomModel} {u : UserPassModel} {new : SceneModel End} {book book' 
 
   -- the share knows the book, in which the entry is the last one
   share_knows : entries_in share'.seen ≡ without_final r.scene.entries ++ e ∷ []
-  share_knows = seen_more book.entries e new.raw (rw (a.share_is, a.book_is) refl) a.booked
+  share_knows = seen_more book.entries e new.raw (rw (a.share_is, a.book_is)) a.booked
 
   pub action_room : EntryLaws
       → IsRoom (room_of r new book') × (entries_in book'.entries ≡ without_final new.entries)
@@ -148,15 +147,10 @@ module _ {r : RoomModel} {u : UserPassModel} {new : SceneModel End} {book book' 
       let room = a.room in
       let at = a.found.next_is in
       let did = a.did in
-      let ready = user_ready a.user a.found in (
-        rw (
-          a.book_is,
-          a.user.number,
-          a.found.number_is,
-          raws_more book.entries e new.raw,
-          user_raised m book.counts,
-          user_back m book.counts,
-        )
+      let ready = user_ready a.user a.found in
+      let raised_then = user_raised m book.counts in
+      let back = user_back m book.counts in (
+        rw (a.book_is, a.user.number, a.found.number_is, raws_more book.entries e new.raw, raised_then, back)
             (room_grown laws room was_open did.added _ (raised (take (m + 1) book.counts) m)
             (goes_on room was_open did.open_is did.added did.keeps) did.near did.inks
             (λ t inside. watching_other laws room was_open did.added t inside did.open_is (did.watching t)
@@ -169,38 +163,29 @@ module _ {r : RoomModel} {u : UserPassModel} {new : SceneModel End} {book book' 
       )
 
   pub action_user : IsUserPass (user_with u share') share'
-  action_user =
-      let f = a.found in
-      record {
-        number = refl;
-        counted = rw a.share_is (ap (λ (n : ℕ). n + 1) a.user.counted);
-        within = omega (arith, slice_get_within u.input u.next l f.own_line);
-        phase = a.user.phase ∙ sym (counted_same is_input_phase u.input u.next l f.own_line a.adds.no_phase);
-        known = rw (
-          share_knows,
-          actions_of-append (without_final r.scene.entries) (e ∷ []),
-          actions_known u.input a.room f.input_is f.next_is.counted,
-          a.adds.action_is,
-        ) (sym (actions_line u.input u.next l f.own_line));
-      }
+  action_user = grind (
+    arith,
+    nat_tests,
+    slice_get_within,
+    counted_same,
+    actions_known,
+    share_knows,
+    actions_of-append,
+    actions_line,
+  )
 
   module _ {r₀ r₁ : RoomModel} {u₀ u₁ : UserPassModel} (er : room_of r r.scene book ≡ r₁)
       (met : UserHasMet r₀ u₀ r₁ u₁) where
     pub action_acted : u ≡ u₁ → HasActed r₀ u₀ (room_of r new book') (user_with u share')
     action_acted eu =
         let known : entries_in share'.seen ≡ new.entries =
-        rw (share_knows, open_whole r.scene.entries was_open, a.did.added.recorded) refl in
-        let raws : raws_in share'.seen ≡ raws_in book'.entries = rw a.share_is refl in
+        rw (share_knows, open_whole r.scene.entries was_open, a.did.added.recorded) in
+        let raws : raws_in share'.seen ≡ raws_in book'.entries = rw a.share_is in
         let number : share'.number ≡ u.number = rw a.share_is a.user.number in
         let name : share'.name ≡ u.name = rw a.share_is a.name in
         let added = a.did.added in
         record {
-          user = (λ i. record u { number = number i; next = u.next + 1; name = name i; seen = known i; raws = raws i })
-              ∙ ap (λ (x : UserPassModel). record x {
-                next = x.next + 1;
-                seen = new.entries;
-                raws = raws_in book'.entries;
-              }) (eu ∙ met.user);
+          user = rw (number, name, known, raws, eu ∙ met.user);
           before = before_open u₀.seen (er ∙ met.room) was_open met.before;
           raws_before = met.raws_before;
           counted = met.counted;
@@ -216,3 +201,26 @@ module _ {r : RoomModel} {u : UserPassModel} {new : SceneModel End} {book book' 
     action_entered ee buffers = entered r book (er ∙ met.room) a.did.added
         (rw (a.user.number, a.found.number_is) at a.book_is) (omega arith)
         (ap (λ (x : RoomModel). length x.parts.scripts) (er ∙ met.room)) ee buffers
+
+-- ---- what a shot tells the user
+
+pub shot_told : {r r' : RoomModel} {u u' : UserPassModel} {parts : OpeningParts} (number : ℕ) (words : List ℕ)
+    → r.parts ≡ parts → r.scene.config ≡ r.parts.config
+    → AreNear r.parts.config r.parts.scripts r.parts.input r.scene.entries r.scene.raw
+    → words ≡ frame (scenery_of (state_now r.scene)) r.scene.raw
+    → r' ≡ with_entry r (length r.parts.scripts) (entry.Shot number) r.scene.raw r.scene.glasses → HasActed r u r' u'
+    → TellsShot parts u.seen u.raws number u'.seen u'.raws words
+shot_told {r = r} {r' = r'} {u = u} {u' = u'} {parts = parts} number words of config near shown then acted =
+    let (between, front) = acted.before in
+    let (more, front_raws) = acted.raws_before in
+    record {
+      between = between;
+      told = rw (acted.user, then, front);
+      near = (r.scene.raw, rw (← of, front) near, rw (← of, ← config, front) shown);
+      between_raws = more;
+      raws_told = rw (acted.user, then, front_raws);
+      each =
+          let long = simp length-append at (ap (λ (x : RoomModel). length x.scene.entries) then) in
+          let many = simp length-append at (ap (λ (x : RoomModel). length x.raws) then) in
+          omega (arith, acted.history.each, long, many, ap length front, ap length front_raws);
+    }

@@ -1,20 +1,29 @@
 -- The sheets of a host before its first step.
-use Rattle.std.proofs.Common.{Option, List, None, [], ap, arith, get_or, length, refl, replicate}
-use Rattle.std.proofs.Common.{sym, false, true, ℕ, ◌%◌, ◌*◌, ◌++◌, ◌+◌, ◌/◌, ◌<◌, ◌∙◌, ◌∷◌, ◌≡◌}
-use Rattle.std.proofs.Common.{◌≤◌}
-use Rattle.nit_host.proofs.Basics.{AreBlank, AreGlasses, AreHollow, AreSheets, Bare, Configuration}
-use Rattle.nit_host.proofs.Basics.{DesktopModel, IsFresh, IsHost, Member, Point, SheetModel, Sight}
-use Rattle.nit_host.proofs.Basics.{State, View, bar_rows, bare_word, blank_sheet, blank_sheets}
-use Rattle.nit_host.proofs.Basics.{buffer_size, cond_both, ext_get_or, first_host}
-use Rattle.nit_host.proofs.Basics.{get_or-append_seam, get_or-map, get_or-replicate}
-use Rattle.nit_host.proofs.Basics.{get_or_append_left, get_or_default, in_bar, length-append}
-use Rattle.nit_host.proofs.Basics.{length-map, length-zeros, pixel, pixel_count, sheet_at, sheet_in}
-use Rattle.nit_host.proofs.Basics.{sheets_of, size_at, source_of, source_under, table_size}
-use Rattle.nit_host.proofs.Basics.{told_words, zeros, Area, IsAreaOf, IsPlainOf, IsSeenBut}
-use Rattle.nit_host.proofs.Basics.{column_and_row, has_place}
-use Rattle.nit_host.proofs.SheetLists.{no_sheet, sight_at, words_at, blank_tells}
-use mathlib.Core.Logic.{dite}
-use native.Mathlib.Decide.{dec_lt}
+use Rattle.std.proofs.Common.{Bool, IsTrue, List, None, Option, Some, [], ap, arith, false, find}
+use Rattle.std.proofs.Common.{get_or, if◌then◌else◌, length, map, nat_le, nat_lt, not, refl}
+use Rattle.std.proofs.Common.{replicate, rules, slice_get, sym, take, true, ℕ, ◌&&◌, ◌*◌, ◌++◌, ◌+◌}
+use Rattle.std.proofs.Common.{◌<◌, ◌==◌, ◌||◌, ◌∙◌, ◌∷◌, ◌≡◌, ◌≢◌, ◌≤◌}
+use Rattle.nit_host.proofs.Basics.{AllPass-from_list_all, AreBlank, AreGlasses, AreHollow}
+use Rattle.nit_host.proofs.Basics.{AreSheets, Area, Bare, Configuration, DesktopModel, HostModel}
+use Rattle.nit_host.proofs.Basics.{IsAreaOf, IsConfiguration, IsFreeLabel, IsFresh, IsHost}
+use Rattle.nit_host.proofs.Basics.{IsPlainOf, IsSeenBut, Member, Point, SeatPlan, SheetModel, Sight}
+use Rattle.nit_host.proofs.Basics.{State, and_parts, bare_word, blank_sheet, blank_sheets}
+use Rattle.nit_host.proofs.Basics.{bytes_eq-Decides, column_and_row, cond_both, enumerate_from}
+use Rattle.nit_host.proofs.Basics.{eq-eqb, ext_get_or, false_from_ne_true, false≢true, find_at}
+use Rattle.nit_host.proofs.Basics.{first_host, get_or-append_seam, get_or-enumerate_from}
+use Rattle.nit_host.proofs.Basics.{get_or-map, get_or-range_with_len, get_or-replicate}
+use Rattle.nit_host.proofs.Basics.{get_or_append_left, get_or_default, has_label, has_place}
+use Rattle.nit_host.proofs.Basics.{is_label, is_label_taken, is_screen, is_taken, is_within}
+use Rattle.nit_host.proofs.Basics.{length-append, length-enumerate_from, length-map}
+use Rattle.nit_host.proofs.Basics.{length-range_with_len, length-take-le, length-zeros, list_all}
+use Rattle.nit_host.proofs.Basics.{list_any_at, list_any_none, map-append, member, nat_tests}
+use Rattle.nit_host.proofs.Basics.{ne_eqb, pixel_count, planned, position_or_len_is, range_with_len}
+use Rattle.nit_host.proofs.Basics.{refused_plan, seats_of, sheet_at, sheets_of, size_at}
+use Rattle.nit_host.proofs.Basics.{slice_get-get_or, slice_get_past, source_of, table_size}
+use Rattle.nit_host.proofs.Basics.{take_more, told_words, unseated, waiting_label, waiting_member}
+use Rattle.nit_host.proofs.Basics.{zeros}
+use Rattle.nit_host.proofs.Steps.{blank_tells, sight_at, words_at}
+use Rattle.nit_host.specs.declared.refusal.Unseated.TheVariants as why
 
 abbrev pub no_client : Member
 no_client = record { label = []; donation = 0; script = []; layer = 0; clicks = false }
@@ -29,17 +38,7 @@ pub record AreTo (P : ℕ → SheetModel → Type 0) (n : ℕ) (sheets : List Sh
 -- what holds of the sheet that is put behind them, and of those, holds of each
 pub one_sheet : (P : ℕ → SheetModel → Type 0) (n : ℕ) (sheets : List SheetModel) (sheet : SheetModel)
     → AreTo P n sheets → P n sheet → AreTo P (n + 1) (sheets ++ sheet ∷ [])
-one_sheet P n sheets sheet are is = record {
-  count = omega (arith, length-append sheets (sheet ∷ []), are.count);
-  each = λ t below. dite (dec_lt t n)
-      (λ inside. rw (get_or_append_left sheets (sheet ∷ []) no_sheet t (omega (arith, inside, are.count)))
-      (are.each t inside))
-      (λ past.
-      let at : t ≡ n = omega arith in
-      let last : sheet_at (sheets ++ sheet ∷ []) n ≡ sheet =
-      rw (← are.count) (get_or-append_seam sheets sheet [] no_sheet) in
-      rw (at, last) is);
-}
+one_sheet P n sheets sheet are is = grind (arith, nat_tests, length-append, get_or_append_left, get_or-append_seam)
 
 -- blank ones, with room and without
 abbrev pub HasRoom : Configuration → ℕ → SheetModel → Type 0
@@ -63,17 +62,10 @@ blank_plain config {seat} is = rw is (refl, length-zeros (size_at config seat))
 
 module _ {config : Configuration} {n : ℕ} {sheets : List SheetModel} (far : n ≡ length config.clients) where
   pub all_hollow : AreTo (IsHollow config) n sheets → AreHollow config sheets
-  all_hollow are = record {
-    count = are.count ∙ far;
-    blank = λ t inside. (are.each t (omega (arith, inside, far))).0;
-    room = λ t inside. (are.each t (omega (arith, inside, far))).1;
-  }
+  all_hollow are = grind (arith, nat_tests)
 
   pub all_blank : AreTo (HasRoom config) n sheets → AreBlank config sheets
-  all_blank are = record {
-    count = are.count ∙ far;
-    blank = λ t inside. (are.each t (omega (arith, inside, far))).0;
-  }
+  all_blank are = grind (arith, nat_tests)
 
   pub all_sheets : AreTo (HasRoom config) n sheets → AreSheets config sheets
   all_sheets are = record {
@@ -107,13 +99,11 @@ words_blank config sheets are =
 -- ---- the bare screen
 
 bare_source : (s : State) (p : Point) → s.stack ≡ [] → source_of s p ≡ Bare
-bare_source s p bare = rw bare (cond_both (in_bar (bar_rows s.config) p) None None
-    (λ (o : Option View). source_under (buffer_size s.sessions) p o ≡ Bare) (λ _. refl) (λ _. refl))
+bare_source s p bare = grind (arith, nat_tests, cond_both)
 
 pub bare_fresh : (s : State) (tables : ℕ → List ℕ) (raw : List ℕ) → s.stack ≡ []
     → raw ≡ replicate (pixel_count s) bare_word → IsFresh s tables raw
-bare_fresh s tables raw bare is k inside =
-    rw (is, bare_source s (pixel s.config.width k) bare) (get_or-replicate (pixel_count s) k bare_word 0 inside)
+bare_fresh s tables raw bare is k inside = grind (arith, nat_tests, bare_source, get_or-replicate)
 
 -- ---- the host
 
@@ -125,21 +115,185 @@ pub begun : (d : DesktopModel SheetModel) {s : State} {config : Configuration} {
     → IsAreaOf config.width config.height a
     → IsHost d hollows × IsSeenBut d.state (sheets_of d.glasses) a None
     × IsAreaOf d.state.config.width d.state.config.height a
-begun d {s} {config} {sheets} are hollow is glasses raw configured bare a all on =
-    let same : d.state.config ≡ config = ap (λ (x : State). x.config) is ∙ configured in (
-      record {
-        sheets = rw (is, configured, glasses) are;
-        hollow = rw (is, configured) hollow;
-        fresh = rw (is, glasses) (bare_fresh s (sheet_in (sheets_of sheets)) d.raw bare (rw configured raw));
-      },
-      λ k less.
-          let at = column_and_row config.width config.height k (rw same at less) in
-          rw same (all (k % config.width) (k / config.width) at.0 at.1),
-      rw same on,
-    )
+begun d are hollow is glasses raw configured bare a all on = grind (arith, nat_tests, bare_fresh, column_and_row)
 
 pub first_now : (s : State) (config : Configuration) (d : DesktopModel SheetModel) (sheets : List SheetModel)
     → d.state ≡ s → d.left ≡ 4611686018427387904 → d.glasses ≡ sheets → AreBlank config sheets
     → record { state = d.state; sheets = sheets_of d.glasses; left = d.left; last = None; seen = None }
     ≡ first_host s config
 first_now s config d sheets is left glasses blank = rw (is, glasses, left, words_blank config sheets blank) refl
+
+-- The first seat that passes a test, and whether another seat has a label.
+
+-- ---- the first of so many numbers
+
+in_order : (n k d : ℕ) → k < n → get_or (range_with_len 0 n) k d ≡ k
+in_order n k d inside = get_or-range_with_len 0 n k d inside ∙ omega arith
+
+-- what is found is the first number that passes
+found_at : (p : ℕ → Bool) (n i : ℕ) → i ≤ n → ((k : ℕ) → k < i → p k ≡ false) → (i < n → p i ≡ true)
+    → find p (range_with_len 0 n) ≡ slice_get (range_with_len 0 n) i
+found_at p n i reached before here =
+    let long = length-range_with_len 0 n in
+    find_at p (range_with_len 0 n) ∙ ap (slice_get (range_with_len 0 n))
+    (position_or_len_is p (range_with_len 0 n) i 0 (omega (arith, long))
+    (λ k less. ap p (in_order n k 0 (omega arith)) ∙ before k less)
+    (λ inside. ap p (in_order n i 0 (omega (arith, inside, long))) ∙ here (omega (arith, inside, long))))
+
+pub first_seat : (p : ℕ → Bool) (n i : ℕ) → i < n → ((k : ℕ) → k < i → p k ≡ false) → p i ≡ true
+    → find p (range_with_len 0 n) ≡ Some i
+first_seat p n i inside before here =
+    found_at p n i (omega arith) before (λ _. here)
+    ∙ slice_get-get_or (range_with_len 0 n) i 0 (omega (arith, length-range_with_len 0 n))
+    ∙ ap Some (in_order n i 0 inside)
+
+pub no_seat : (p : ℕ → Bool) (n i : ℕ) → n ≡ i → ((k : ℕ) → k < i → p k ≡ false) → find p (range_with_len 0 n) ≡ None
+no_seat p n i far none = grind (arith, nat_tests, found_at, slice_get_past, length-range_with_len)
+
+-- ---- a label that another seat has
+
+abbrev other_has : State → ℕ → List ℕ → ℕ → Bool
+other_has s seat label t = not (t == seat) && has_label s label t
+
+none_has : (s : State) (seat : ℕ) (label : List ℕ) (t : ℕ) → (t ≢ seat → (member s.config t).label ≢ label)
+    → other_has s seat label t ≡ false
+none_has s seat label t free =
+    grind (arith, nat_tests, eq-eqb, ne_eqb, false_from_ne_true, bytes_eq-Decides)
+
+pub free_not_taken : (s : State) (seat : ℕ) (label : List ℕ) → length s.sessions ≡ length s.config.clients
+    → IsFreeLabel s.config seat label → is_label_taken s seat label ≡ false
+free_not_taken s seat label long free =
+    list_any_none (other_has s seat label) (seats_of s)
+    (λ k d inside.
+    let within : k < length s.sessions = omega (arith, inside, length-range_with_len 0 (length s.sessions)) in
+    ap (other_has s seat label) (in_order (length s.sessions) k d within)
+    ∙ none_has s seat label k (free k (omega (arith, within, long))))
+
+pub free_of : (s : State) (seat : ℕ) (label : List ℕ) → length s.sessions ≡ length s.config.clients
+    → is_label_taken s seat label ≡ false → IsFreeLabel s.config seat label
+free_of s seat label long none t inside other same =
+    let within : t < length s.sessions = omega (arith, inside, long) in
+    let numbered : t < length (seats_of s) = omega (arith, within, length-range_with_len 0 (length s.sessions)) in
+    let here : other_has s seat label t ≡ true =
+    rw (ne_eqb t seat other) ((bytes_eq-Decides (member s.config t).label label).1 same) in
+    false≢true (sym none ∙ list_any_at (other_has s seat label) (seats_of s) t 0 numbered
+    (ap (other_has s seat label) (in_order (length s.sessions) t 0 within) ∙ here))
+
+pub label_decides : (h : HostModel) (seat : ℕ) (label : List ℕ) (b : Bool) → seat < length h.state.sessions
+    → is_taken h.state seat ≡ false → is_label_taken h.state seat label ≡ b
+    → unseated h seat label ≡ (if b then Some why.LabelTaken else None)
+label_decides h seat label b inside free is = grind (arith, nat_tests)
+
+-- The configuration of a plan that is not refused.
+
+-- ---- what it means that nothing is against a call or a refresh
+
+-- the first test was passed, or was not met
+pub passed : {A : Type 0} (b : Bool) (why : A) (rest : Option A) → (if not b then Some why else rest) ≡ None
+    → (b ≡ true) × (rest ≡ None)
+passed true why rest is = (refl, is)
+passed false why rest is = cc
+
+pub not_met : {A : Type 0} (b : Bool) (why : A) (rest : Option A) → (if b then Some why else rest) ≡ None
+    → (b ≡ false) × (rest ≡ None)
+not_met true why rest is = cc
+not_met false why rest is = (refl, is)
+
+-- what is asked of a seat, and nothing is against it, is asked of one that there is
+pub is_seat : {A : Type 0} {h h' : HostModel} (seat : ℕ) (why : A) (rest : Option A) → h ≡ h'
+    → None ≡ (if not (nat_lt seat (length h'.state.sessions)) then Some why else rest)
+    → seat < length h.state.sessions
+is_seat seat why rest view is = grind (arith, nat_tests, passed)
+
+-- ---- a list with numbers, and one element more
+
+numbered_joined : {A : Type 0} (from : ℕ) (xs : List A) (x : A) → enumerate_from from (xs ++ x ∷ [])
+    ≡ enumerate_from from xs ++ (from + length xs, x) ∷ []
+numbered_joined from [] x = let e : from ≡ from + 0 = omega arith in ap (λ (n : ℕ). (n, x) ∷ []) e
+numbered_joined from (y ∷ ys) x = grind (arith, nat_tests, numbered_joined (from + 1) ys x)
+
+pub one_more : {A B : Type 0} (f : ℕ → A → B) (xs : List A) (i : ℕ) (x d : A) (made : List B) (b : B) → i < length xs
+    → x ≡ get_or xs i d → made ≡ map (λ p. f p.0 p.1) (enumerate_from 0 (take i xs)) → b ≡ f i x
+    → made ++ b ∷ [] ≡ map (λ p. f p.0 p.1) (enumerate_from 0 (take (i + 1) xs))
+one_more {A} {B} f xs i x d made b inside here so is =
+    let long : 0 + length (take i xs) ≡ i = omega (arith, length-take-le i xs (omega arith)) in
+    let g : ℕ × A → B = λ p. f p.0 p.1 in
+    rw (so, is, here, take_more xs i d inside, numbered_joined 0 (take i xs) (get_or xs i d), long)
+    (sym (map-append g (enumerate_from 0 (take i xs)) ((i, get_or xs i d) ∷ [])))
+
+-- ---- what a plan that is not refused has
+
+pub record IsPlan (width height : ℕ) (bar : Bool) (seats : List SeatPlan) : Type 0 where
+  pub screen : is_screen width height bar ≡ true
+  pub count : is_within 1 16 (length seats) ≡ true
+  pub donations : list_all (λ s. is_within 256 8388608 s.donation) seats ≡ true
+  pub layers : list_all (λ s. nat_le s.layer 7) seats ≡ true
+
+within : (first last n : ℕ) → is_within first last n ≡ true → (first ≤ n) × (n ≤ last)
+within first last n is = (grind (arith, nat_tests), grind (arith, nat_tests))
+
+-- ---- the labels
+
+-- a digit that is one
+pub hex_label : (n : ℕ) → n < 16 → IsTrue (is_label (waiting_label n))
+hex_label n few = search rules
+
+labels_differ : (i j : ℕ) → i < j → j < 16 → waiting_label i ≢ waiting_label j
+labels_differ i j less few same = grind (arith, nat_tests)
+
+-- ---- its ranges
+
+bar_fits : (bar : Bool) (height : ℕ) → (not bar || nat_le 8 height) ≡ true → IsTrue bar → 8 ≤ height
+bar_fits bar height is there = grind (arith, nat_tests)
+
+module _ (width height : ℕ) (bar : Bool) (seats : List SeatPlan) (none : refused_plan width height bar seats ≡ None)
+  where
+    is : IsPlan width height bar seats
+    is = grind (arith, nat_tests)
+
+    clients : List Member
+    clients = (planned width height bar seats).clients
+
+    long : length clients ≡ length seats
+    unfolding clients
+    long = length-map (enumerate_from 0 seats) (λ p. waiting_member p.0 p.1) ∙ length-enumerate_from 0 seats
+
+    few : length seats ≤ 16
+    few = (within 1 16 (length seats) is.count).1
+
+    client_at : (k : ℕ) (m : Member) (s : SeatPlan) → k < length seats
+        → get_or clients k m ≡ waiting_member k (get_or seats k s)
+    unfolding clients
+    client_at k m s inside =
+        get_or_default clients k m (waiting_member 0 s) (omega (arith, long))
+        ∙ get_or-map (λ p. waiting_member p.0 p.1) (enumerate_from 0 seats) k (0, s)
+        ∙ ap (λ p. waiting_member p.0 p.1) (get_or-enumerate_from 0 seats k (0, s) inside)
+        ∙ ap (λ (n : ℕ). waiting_member n (get_or seats k s)) (omega arith)
+
+    pub plan_configured : IsConfiguration (planned width height bar seats)
+    unfolding clients
+    plan_configured =
+        let screen = and_parts _ (not bar || nat_le 8 height) is.screen in
+        let size = and_parts _ _ screen.0 in
+        let s : SeatPlan = record { donation = 0; layer = 0; clicks = false } in
+        record {
+          width = within 1 1024 width size.0;
+          height = within 1 768 height size.1;
+          bar = bar_fits bar height screen.1;
+          input = refl;
+          count = rw long (within 1 16 (length seats) is.count);
+          clients = λ k m inside.
+              let there : k < length seats = omega (arith, long, inside) in
+              let few_layers = AllPass-from_list_all (λ (p : SeatPlan). nat_le p.layer 7) seats is.layers k s there in
+              rw (client_at k m s there) (record {
+                label = hex_label k (omega (arith, there, few));
+                donation = within 256 8388608 _ (AllPass-from_list_all
+                    (λ (p : SeatPlan). is_within 256 8388608 p.donation) seats is.donations k s there);
+                script = refl;
+                layer = grind (arith, nat_tests, few_layers);
+              });
+          labels = λ i j m less inside.
+              let there : j < length seats = omega (arith, long, inside) in
+              rw (client_at i m s (omega arith), client_at j m s there)
+              (labels_differ i j less (omega (arith, there, few)));
+        }

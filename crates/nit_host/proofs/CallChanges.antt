@@ -1,22 +1,27 @@
 -- What of the frame a call changes.
-use Rattle.std.proofs.Common.{List, None, Option, Some, ap, false, length, refl, sym, true, ℕ, ◌%◌}
-use Rattle.std.proofs.Common.{◌/◌, ◌<◌, ◌∙◌, ◌≡◌}
-use Rattle.nit_host.proofs.Basics.{Area, Call, HoldsBoth, HoldsTouched, IsAreaOf, IsSeenBut, Mode}
-use Rattle.nit_host.proofs.Basics.{Reply, State, StaysOutside, Touch, View, after, after_accepted}
-use Rattle.nit_host.proofs.Basics.{and_left, and_parts, bar_rows, bar_word, column_and_row}
-use Rattle.nit_host.proofs.Basics.{cond_both, dirty, dirty_by_call, false_from_ne_true, false≢true}
-use Rattle.nit_host.proofs.Basics.{frame_by, in_bar, input_after_call, is_accepted, is_inside}
-use Rattle.nit_host.proofs.Basics.{layer, pixel, pixel_count, refusal, refused_reply, scenery_of}
-use Rattle.nit_host.proofs.Basics.{serve, serve_refused, session, sheet_in, source_at, touch_of}
+use Rattle.std.proofs.Common.{Bool, List, None, Option, Some, [], ap, false, inl, inr, length, refl}
+use Rattle.std.proofs.Common.{sym, true, ℕ, ◌%◌, ◌/◌, ◌<◌, ◌∙◌, ◌∷◌, ◌≡◌}
+use Rattle.nit_host.proofs.Basics.{Area, Call, Delivery, Device, HoldsBar, HoldsBarIn, HoldsBoth}
+use Rattle.nit_host.proofs.Basics.{HoldsTouched, HoldsUnless, IsAreaOf, IsBarArea, IsSeenBut}
+use Rattle.nit_host.proofs.Basics.{IsToldArea, Mode, Point, Reply, Routed, State, StaysOutside}
+use Rattle.nit_host.proofs.Basics.{Touch, View, after, after_accepted, after_deliveries, and_left}
+use Rattle.nit_host.proofs.Basics.{and_parts, arith, bar_rows, bar_word, cases_Bool, column_and_row}
+use Rattle.nit_host.proofs.Basics.{cond_both, deliveries_of, dirty, dirty_by_call}
+use Rattle.nit_host.proofs.Basics.{false_from_ne_true, false≢true, frame_by, has_place, in_bar}
+use Rattle.nit_host.proofs.Basics.{input_after_call, is_accepted, is_inside, is_killed, kills}
+use Rattle.nit_host.proofs.Basics.{layer, list_any, nat_tests, opened, pixel, pixel_count, refusal}
+use Rattle.nit_host.proofs.Basics.{refused_reply, route, routed_as, scenery_of, serve}
+use Rattle.nit_host.proofs.Basics.{serve_refused, session, sheet_in, source_at, touch_of}
 use Rattle.nit_host.proofs.Basics.{touched_by, touched_over, unaccepted_state, word_from}
-use Rattle.nit_events.specs.declared.call.Call.TheVariants as call
-use Rattle.nit_events.specs.declared.device.Mode.TheVariants as mode
-use Rattle.nit_events.specs.declared.entry.Entry.TheVariants as entry
 use Rattle.nit_host.specs.Touch.{touched_unless}
 use Rattle.nit_journal.specs.StackAfter.{stack_after_call}
 use Rattle.nit_host.proofs.Steps.{KeepSources, Words}
-use Rattle.nit_host.proofs.Touching.{call_inside, touched_more}
-use Rattle.nit_host.proofs.Frames.{flat_stays, same_pixel, seen_after, whole_stays}
+use Rattle.nit_host.proofs.Frames.{call_inside, flat_stays, same_pixel, seen_after, touched_more}
+use Rattle.nit_host.proofs.Frames.{whole_stays}
+use Rattle.nit_events.specs.declared.call.Call.TheVariants as call
+use Rattle.nit_events.specs.declared.device.Mode.TheVariants as mode
+use Rattle.nit_events.specs.declared.entry.Entry.TheVariants as entry
+use Rattle.nit_events.specs.declared.event.Item.TheVariants as item
 
 -- ---- a call
 
@@ -24,14 +29,11 @@ use Rattle.nit_host.proofs.Frames.{flat_stays, same_pixel, seen_after, whole_sta
 stack_steady : (layers : ℕ → ℕ) (seat : ℕ) (c : Call) (r : Reply) (stack : List View)
     → after_accepted layers seat c r stack ≡ stack → stack_after_call layers seat c r stack ≡ stack
 unfolding stack_after_call
-stack_steady layers seat c r stack same =
-    cond_both (is_accepted r) (after_accepted layers seat c r stack) stack (λ x. x ≡ stack) (λ _. same) (λ _. refl)
+stack_steady layers seat c r stack same = grind (arith, nat_tests, cond_both)
 
 -- no call but `Close` changes what the input knows, and none the mode
 call_mode : (seat : ℕ) (c : Call) (r : Reply) (s : State) → (input_after_call seat c r s.input).mode ≡ s.input.mode
-call_mode seat call.Close r s =
-    cond_both (is_accepted r) (Rattle.nit_events.specs.Input.forget s.input seat) s.input
-    (λ x. x.mode ≡ s.input.mode) (λ _. refl) (λ _. refl)
+call_mode seat call.Close r s = grind (arith, nat_tests, cond_both)
 call_mode seat other r s = refl
 
 module _ (s : State) (seat : ℕ) (r : Reply) (sheets sheets' : List (List ℕ)) (a : Area)
@@ -79,9 +81,7 @@ module _ (s : State) (seat : ℕ) (r : Reply) (sheets sheets' : List (List ℕ))
   bar_stays : (c : Call) → Holds (touched_by c) c → (k : ℕ) → k < pixel_count s
       → is_inside s.config.width a k ≡ false → in_bar (bar_rows s.config) (pixel s.config.width k) ≡ true
       → bar_word (scenery_of s) (pixel s.config.width k) ≡ bar_word (scenery_of (behind c)) (pixel s.config.width k)
-  bar_stays call.Close holds k less off in_ =
-      let at = column_and_row s.config.width s.config.height k less in
-      absurd (false≢true (sym off ∙ holds.0.bare (k % s.config.width) (k / s.config.width) at.0 at.1 in_))
+  bar_stays call.Close holds k less off in_ = grind (arith, nat_tests, column_and_row, false≢true)
   bar_stays other holds k less off in_ = refl
 
   -- a call that changes nothing of what is shown but words
@@ -132,4 +132,106 @@ seen_called {s} {s'} {seat} c {r} sheets sheets' {t} {a0} {before} {now} {a2 = a
             touched_more (after s (entry.Call seat c r)) seat t now a2 new_.0 two.others,
           ))),
       two.area s.config.width s.config.height (one.area s.config.width s.config.height on old.1) new_.1,
+    )
+
+-- What of the frame the user changes, and a client that comes.
+
+-- ---- steps that show each pixel's word where it was
+
+module _ (s s' : State) (sheets sheets' : List (List ℕ)) (a : Area) (width : s'.config.width ≡ s.config.width)
+    (height : s'.config.height ≡ s.config.height) (bar : bar_rows s'.config ≡ bar_rows s.config)
+    (words : (k : ℕ) → k < pixel_count s → word_from (sheet_in sheets) (source_at s k)
+    ≡ word_from (sheet_in sheets') (source_at s' k)) where
+  by_modes : (m m' : Mode) → s.input.mode ≡ m → s'.input.mode ≡ m'
+      → HoldsBarIn m s.config.width s.config.height (bar_rows s.config) a
+      → HoldsBarIn m' s'.config.width s'.config.height (bar_rows s'.config) a
+      → StaysOutside s.config.width (pixel_count s) a (frame_by s sheets) (frame_by s' sheets')
+  by_modes mode.Flat mode.Flat is is' holds holds' = grind (arith, nat_tests, flat_stays, column_and_row, false≢true)
+  by_modes mode.Flat other is is' holds holds' =
+      whole_stays _ _ a _ _ (λ x y wide high. holds' x y (rw width wide) (rw height high))
+  by_modes other m' is is' holds holds' = whole_stays _ _ a _ _ holds
+
+  -- all that changes is the bar
+  pub bar_changes : HoldsBar s a → HoldsBar s' a
+      → StaysOutside s.config.width (pixel_count s) a (frame_by s sheets) (frame_by s' sheets')
+  bar_changes holds holds' = by_modes s.input.mode s'.input.mode refl refl holds holds'
+
+pub bar_more : (s : State) (a b : Area) → HoldsBar s a → ((x y : ℕ) → has_place a x y ≡ true → has_place b x y ≡ true)
+    → HoldsBar s b
+bar_more s a b holds more = grind (arith, nat_tests, cond_both)
+
+-- ---- what the user does
+
+none_killed : (s : State) (p : Point) (ds : List Delivery) → kills ds ≡ false
+    → list_any (λ d. is_killed s p d.sid d.item) ds ≡ false
+none_killed s p [] none = refl
+none_killed s p (d ∷ ds) none = grind (arith, nat_tests, none_killed s p ds)
+
+-- nor is a view taken away
+kept_views : (ds : List Delivery) (stack : List View) → kills ds ≡ false → after_deliveries ds stack ≡ stack
+kept_views [] stack e = refl
+kept_views (d ∷ ds) stack e = grind (arith, nat_tests, kept_views ds stack)
+
+module _ (s s' : State) (dev : Device) (routed : Routed) (sheets sheets' : List (List ℕ)) (a0 a1 : Area)
+    (seen : Option (List ℕ)) (agrees : routed ≡ routed_as (route s.config s.input s.stack dev).deliveries)
+    (keep : KeepSources) (is : s' ≡ after s (entry.Input dev routed)) (same : sheets' ≡ sheets)
+    (known : IsSeenBut s sheets a0 seen) where
+  abbrev after_it : State
+  after_it = after s (entry.Input dev routed)
+
+  -- where nobody is locked out, each pixel shows the word that it showed
+  words_told : kills (deliveries_of routed) ≡ false → (k : ℕ) → word_from (sheet_in sheets) (source_at s k)
+      ≡ word_from (sheet_in sheets') (source_at after_it k)
+  words_told none k = rw same (ap (word_from (sheet_in sheets)) (sym (keep s 0 (entry.Input dev routed)
+      (pixel s.config.width k) agrees (none_killed s (pixel s.config.width k) (deliveries_of routed) none))))
+
+  -- what the user does, by whether the screen shows the same, and the area of what has changed since
+  pub seen_input : (is_same : Bool) (before now : Area)
+      → deliveries_of routed ≡ (route s.config s.input s.stack dev).deliveries → IsBarArea s before
+      → IsToldArea s' (deliveries_of routed) now → (is_same ≡ true → kills (deliveries_of routed) ≡ false)
+      → (is_same ≡ true → s.input.mode ≡ s'.input.mode) → (is_same ≡ true → s.input.focus ≡ s'.input.focus)
+      → HoldsUnless is_same a0 before now a1 → IsAreaOf s.config.width s.config.height a0
+      → IsSeenBut s' sheets' a1 seen × IsAreaOf s'.config.width s'.config.height a1
+  seen_input is_same before now told old new none modes focuses joined on =
+      rw is (
+        seen_after s after_it sheets sheets' a1 refl refl refl a0 seen known joined.own (go is_same refl),
+        joined.area s.config.width s.config.height on old.area new_.area,
+      )
+    where
+      new_ : IsToldArea after_it (deliveries_of routed) now
+      new_ = rw is at new
+
+      go : (b : Bool) → is_same ≡ b
+          → StaysOutside s.config.width (pixel_count s) a1 (frame_by s sheets) (frame_by after_it sheets')
+      go true known_ = λ k less off.
+          let stays = kept_views (route s.config s.input s.stack dev).deliveries s.stack
+          (sym (ap kills told) ∙ none known_) in
+          same_pixel s after_it sheets sheets' a1 refl refl refl k less
+          (λ i. record (scenery_of s) {
+            stack = sym stays i;
+            mode = (modes known_ ∙ ap (λ (x : State). x.input.mode) is) i;
+            focus = (focuses known_ ∙ ap (λ (x : State). x.input.focus) is) i;
+          })
+          (words_told (none known_) k)
+      go false other = elim (cases_Bool (kills (deliveries_of routed))) [
+        | inl there ↦ whole_stays _ _ a1 _ _ (λ x y wide high. joined.new other x y (new_.screen there x y wide high))
+        | inr none ↦ bar_changes s after_it sheets sheets' a1 refl refl refl (λ k less. words_told none k)
+            (bar_more s before a1 old.bar (joined.old other)) (bar_more after_it now a1 new_.bar (joined.new other))
+      ]
+
+-- ---- a client that comes
+
+pub seen_seated : (s s' : State) (seat : ℕ) (label : List ℕ) (sheets sheets' : List (List ℕ)) (a0 part a1 : Area)
+    (seen : Option (List ℕ)) → s' ≡ opened seat label s
+    → ((k : ℕ) → word_from (sheet_in sheets) (source_at s k)
+    ≡ word_from (sheet_in sheets') (source_at (opened seat label s) k))
+    → IsBarArea s part → HoldsBoth a0 part a1 → IsSeenBut s sheets a0 seen
+    → IsAreaOf s.config.width s.config.height a0
+    → IsSeenBut s' sheets' a1 seen × IsAreaOf s'.config.width s'.config.height a1
+seen_seated s s' seat label sheets sheets' a0 part a1 seen is words holds both known on =
+    let all = bar_more s part a1 holds.bar both.others in
+    rw is (
+      seen_after s (opened seat label s) sheets sheets' a1 refl refl refl a0 seen known both.own
+          (bar_changes s (opened seat label s) sheets sheets' a1 refl refl refl (λ k less. words k) all all),
+      both.area s.config.width s.config.height on holds.area,
     )

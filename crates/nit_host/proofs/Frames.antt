@@ -1,39 +1,39 @@
 -- What of a frame stays, pixel by pixel.
-use Rattle.std.proofs.Common.{Bool, List, None, Option, Some, ap, arith, cond, false, refl}
-use Rattle.std.proofs.Common.{slice_index, subst, sym, true, ℕ, ◌%◌, ◌*◌, ◌/◌, ◌<◌, ◌∙◌, ◌≡◌}
-use Rattle.nit_host.proofs.Basics.{Area, IsSeenBut, State, StaysOutside, View, bar_rows, bar_word}
-use Rattle.nit_host.proofs.Basics.{bare_word, buffer_size, column_and_row, false_from_ne_true}
-use Rattle.nit_host.proofs.Basics.{false≢true, flat_shown, frame_by, get_or-frame}
-use Rattle.nit_host.proofs.Basics.{get_or-map-range_with_len, has_place, in_bar, is_inside, is_some}
-use Rattle.nit_host.proofs.Basics.{owner_of, picture_from, pixel, pixel_count, scenery_of, sheet_in}
-use Rattle.nit_host.proofs.Basics.{shown, source_at, source_under, word_from}
+use Rattle.nit_host.proofs.Basics.{AgreeOutside, Area, Bare, Call, HoldsTouched, HostModel}
+use Rattle.nit_host.proofs.Basics.{IsAreaOf, IsOneOf, IsSeenBut, PixelSource, Point, Rectangle}
+use Rattle.nit_host.proofs.Basics.{Size, State, StaysOutside, Touch, View, among, and_from}
+use Rattle.nit_host.proofs.Basics.{and_parts, arith, bar_rows, bar_word, bare_word, black_or_word}
+use Rattle.nit_host.proofs.Basics.{buffer_place, buffer_size, column_and_row, covers, dirty_by_call}
+use Rattle.nit_host.proofs.Basics.{div-mul-add, eqb-true, false_from_ne_true, false≢true, find_at}
+use Rattle.nit_host.proofs.Basics.{flat_shown, frame_by, get_or-frame, get_or-map-range_with_len}
+use Rattle.nit_host.proofs.Basics.{get_or_from_slice_get, get_or_past, has_place, in_bar, index_at}
+use Rattle.nit_host.proofs.Basics.{ints, is_between, is_inside, is_owned_by, is_session, is_touched}
+use Rattle.nit_host.proofs.Basics.{is_word_in, length-frame, mod-mul-add, nat_tests, option_map_or}
+use Rattle.nit_host.proofs.Basics.{or_cases, owner_of, owns_either, passes_at_first, picture, pixel}
+use Rattle.nit_host.proofs.Basics.{pixel_count, place_at, point, rectangle, rectangle_over}
+use Rattle.nit_host.proofs.Basics.{same_Some, scenery_of, session, sheet_in, shown, shown_index}
+use Rattle.nit_host.proofs.Basics.{shows_part, shows_place, slice_get_within, source_at}
+use Rattle.nit_host.proofs.Basics.{source_under, spans, touched_by, word_from}
+use Rattle.std.proofs.Common.{Bool, List, None, Option, Some, ap, cond, false, find, length, negsuc}
+use Rattle.std.proofs.Common.{pos, refl, slice_get, slice_index, subst, sym, true, ℕ, ℤ, ◌%◌, ◌&&◌}
+use Rattle.std.proofs.Common.{◌*◌, ◌+ℤ◌, ◌+◌, ◌-ℤ◌, ◌-◌, ◌/◌, ◌<◌, ◌==◌, ◌∙◌, ◌≡◌}
+use Rattle.std.specs.List.{position_or_len}
+use Rattle.nit_events.specs.declared.call.Call.TheVariants as call
 use Rattle.nit_events.specs.declared.device.Mode.TheVariants as mode
+use Rattle.nit_host.specs.declared.host.touch.Touch.TheVariants as touch
 
 -- ---- one pixel of a frame
 
 pub frame_pixel : (s : State) (sheets : List (List ℕ)) (k : ℕ) → k < pixel_count s
     → slice_index (frame_by s sheets) k
     ≡ shown (scenery_of s) (pixel s.config.width k) (word_from (sheet_in sheets) (source_at s k))
-frame_pixel s sheets k less =
-    get_or-frame (scenery_of s) (picture_from s sheets) k less
-    ∙ ap (shown (scenery_of s) (pixel s.config.width k))
-    (get_or-map-range_with_len (λ n. word_from (sheet_in sheets) (source_at s n)) 0 (pixel_count s) k k 0 less
-    (omega arith))
+frame_pixel s sheets k less = grind (arith, nat_tests, get_or-frame, get_or-map-range_with_len)
 
 -- in mode Flat and below the bar it is the word of its source
 flat_pixel : (s : State) (sheets : List (List ℕ)) (k : ℕ) → k < pixel_count s → s.input.mode ≡ mode.Flat
     → in_bar (bar_rows s.config) (pixel s.config.width k) ≡ false
     → slice_index (frame_by s sheets) k ≡ word_from (sheet_in sheets) (source_at s k)
-flat_pixel s sheets k less flat below =
-    frame_pixel s sheets k less
-    ∙ flat_shown (scenery_of s) (pixel s.config.width k) (word_from (sheet_in sheets) (source_at s k)) flat below
-    ∙ go (owner_of s (pixel s.config.width k))
-  where
-    go : (o : Option View) → cond (is_some o)
-        (word_from (sheet_in sheets) (source_under (buffer_size s.sessions) (pixel s.config.width k) o)) bare_word
-        ≡ word_from (sheet_in sheets) (source_under (buffer_size s.sessions) (pixel s.config.width k) o)
-    go None = refl
-    go (Some v) = refl
+flat_pixel s sheets k less flat below = grind (arith, nat_tests, frame_pixel, flat_shown)
 
 -- in the bar it is the bar's
 bar_pixel : (s : State) (sheets : List (List ℕ)) (k : ℕ) → k < pixel_count s
@@ -47,9 +47,7 @@ bar_pixel s sheets k less inside = frame_pixel s sheets k less ∙ rw inside ref
 pub whole_stays : (width height : ℕ) (a : Area) (before now : List ℕ)
     → ((x y : ℕ) → x < width → y < height → has_place a x y ≡ true)
     → StaysOutside width (width * height) a before now
-whole_stays width height a before now whole k less off =
-    let at = column_and_row width height k less in
-    absurd (false≢true (sym off ∙ whole (k % width) (k / width) at.0 at.1))
+whole_stays width height a before now whole k less off = grind (arith, nat_tests, column_and_row, false≢true)
 
 module _ (s s' : State) (sheets sheets' : List (List ℕ)) (a : Area) (width : s'.config.width ≡ s.config.width)
     (height : s'.config.height ≡ s.config.height) (bar : bar_rows s'.config ≡ bar_rows s.config) where
@@ -60,9 +58,7 @@ module _ (s s' : State) (sheets sheets' : List (List ℕ)) (a : Area) (width : s
   pub same_pixel : (k : ℕ) → k < pixel_count s → scenery_of s ≡ scenery_of s'
       → word_from (sheet_in sheets) (source_at s k) ≡ word_from (sheet_in sheets') (source_at s' k)
       → slice_index (frame_by s sheets) k ≡ slice_index (frame_by s' sheets') k
-  same_pixel k less scene word =
-      frame_pixel s sheets k less ∙ (λ i. shown (scene i) (pixel (scene i).width k) (word i))
-      ∙ sym (frame_pixel s' sheets' k (count k less))
+  same_pixel k less scene word = grind (arith, nat_tests, frame_pixel)
 
   -- where the mode is Flat before and after
   pub flat_stays : s.input.mode ≡ mode.Flat → s'.input.mode ≡ mode.Flat
@@ -72,30 +68,183 @@ module _ (s s' : State) (sheets sheets' : List (List ℕ)) (a : Area) (width : s
       → in_bar (bar_rows s.config) (pixel s.config.width k) ≡ true
       → bar_word (scenery_of s) (pixel s.config.width k) ≡ bar_word (scenery_of s') (pixel s.config.width k))
       → StaysOutside s.config.width (pixel_count s) a (frame_by s sheets) (frame_by s' sheets')
-  flat_stays flat flat' words bars k less off = go (in_bar (bar_rows s.config) (pixel s.config.width k)) refl
-    where
-      go : (b : Bool) → in_bar (bar_rows s.config) (pixel s.config.width k) ≡ b
-          → slice_index (frame_by s sheets) k ≡ slice_index (frame_by s' sheets') k
-      go false below =
-          flat_pixel s sheets k less flat below ∙ words k less off
-          ∙ sym (flat_pixel s' sheets' k (count k less) flat' ((λ i. in_bar (bar i) (pixel (width i) k)) ∙ below))
-      go true inside =
-          bar_pixel s sheets k less inside ∙ bars k less off inside
-          ∙ ap (λ (n : ℕ). bar_word (scenery_of s') (pixel n k)) (sym width)
-          ∙ sym (bar_pixel s' sheets' k (count k less) ((λ i. in_bar (bar i) (pixel (width i) k)) ∙ inside))
+  flat_stays flat flat' words bars k less off = grind (arith, nat_tests, flat_pixel, bar_pixel, count)
 
   -- what was seen is still the frame, but for an area with what changed
   pub seen_after : (a0 : Area) (seen : Option (List ℕ)) → IsSeenBut s sheets a0 seen
       → ((x y : ℕ) → has_place a0 x y ≡ true → has_place a x y ≡ true)
       → StaysOutside s.config.width (pixel_count s) a (frame_by s sheets) (frame_by s' sheets')
       → IsSeenBut s' sheets' a seen
-  seen_after a0 None all more stays = λ k less. rw width
-      (more (k % s.config.width) (k / s.config.width) (all k (rw (width, height) at less)))
-  seen_after a0 (Some seen) all more stays = (
-    all.0 ∙ sym (λ i. width i * height i),
-    λ k less off.
-        let less_ : k < pixel_count s = rw (width, height) at less in
-        let off_ : is_inside s.config.width a k ≡ false = rw width at off in
-        all.1 k less_ (false_from_ne_true _ (λ is. false≢true (sym off_
-        ∙ more (k % s.config.width) (k / s.config.width) is))) ∙ stays k less_ off_,
-  )
+  seen_after a0 None all more stays = grind (arith, nat_tests)
+  seen_after a0 (Some seen) all more stays = grind (arith, nat_tests, false_from_ne_true, false≢true)
+
+-- What a call makes dirty lies in the areas of what it touches.
+
+-- ---- the view that owns a pixel stands in the stack
+
+-- a pixel whose owner passes a test lies in an area that has each view's pixels that pass it
+owned_inside : (test : View → Bool) (s : State) (p : Point) (inside : Bool)
+    → ((i : ℕ) (v : View) → slice_get s.stack i ≡ Some v → test v ≡ true → covers v.rect p ≡ true → inside ≡ true)
+    → is_owned_by test s p ≡ true → inside ≡ true
+owned_inside test s p inside holds owned = go (in_bar (bar_rows s.config) p) (find shows s.stack) refl owned
+  where
+    shows : View → Bool
+    shows v = covers v.rect p
+
+    go : (b : Bool) (o : Option View) → find shows s.stack ≡ o → option_map_or test (cond b None o) false ≡ true
+        → inside ≡ true
+    go false (Some v) is passes =
+        let at : ℕ = position_or_len shows s.stack in
+        let there : slice_get s.stack at ≡ Some v = sym (find_at shows s.stack) ∙ is in
+        holds at v there passes (ap shows (sym (get_or_from_slice_get s.stack at v v there))
+        ∙ passes_at_first shows s.stack v (slice_get_within s.stack at v there))
+    go false None is none = absurd (false≢true none)
+    go true o is none = absurd (false≢true none)
+
+-- ---- a pixel that shows a part
+
+among_is : (z : ℤ) (most n : ℕ) → among z most ≡ Some n → (z ≡ pos n) × (n < most)
+among_is (pos m) most n is = (grind (arith, nat_tests), grind (arith, nat_tests))
+among_is (negsuc m) most n is = cc
+
+pub record IsPlaceOf (columns rows i : ℕ) (a b : ℤ) : Type 0 where
+  pub column : a ≡ pos (i % columns)
+  pub row : b ≡ pos (i / columns)
+  pub wide : i % columns < columns
+  pub high : i / columns < rows
+
+pub index_is : (columns rows i : ℕ) (a b : ℤ) → index_at columns (among a columns) (among b rows) ≡ Some i
+    → IsPlaceOf columns rows i a b
+index_is columns rows i a b is = grind (arith, nat_tests, among_is, same_Some, mod-mul-add, div-mul-add)
+
+shown_part : (part : Rectangle) (size : Size) (v : View) (p : Point) (i : ℕ) → shown_index size v p ≡ Some i
+    → covers part (pixel size.w i) ≡ true → shows_place part v p ≡ true
+shown_part part size v p i is covered = grind (arith, nat_tests, index_is)
+
+part_inside : (seat : ℕ) (part : Rectangle) (s : State) (p : Point) (inside : Bool)
+    → ((i : ℕ) (v : View) → slice_get s.stack i ≡ Some v
+    → (is_session seat v && (covers v.rect p && shows_place part v p)) ≡ true → inside ≡ true)
+    → shows_part seat part s p ≡ true → inside ≡ true
+part_inside seat part s p inside holds shows =
+    owned_inside (λ v. of_part (black_or_word v.sid (shown_index (buffer_size s.sessions v.sid) v p))) s p inside
+    (λ i v there word covered. by_index i v there covered (shown_index (buffer_size s.sessions v.sid) v p) refl word)
+    (go (owner_of s p) shows)
+  where
+    of_part : PixelSource → Bool
+    of_part source = is_word_in seat (session s seat).bw part source
+
+    by_index : (i : ℕ) (v : View) → slice_get s.stack i ≡ Some v → covers v.rect p ≡ true → (o : Option ℕ)
+        → shown_index (buffer_size s.sessions v.sid) v p ≡ o → of_part (black_or_word v.sid o) ≡ true
+        → inside ≡ true
+    by_index i v there covered None is none = absurd (false≢true none)
+    by_index i v there covered (Some n) is word =
+        let both = and_parts (v.sid == seat) (covers part (pixel (session s seat).bw n)) word in
+        let shown = shown_part part (buffer_size s.sessions v.sid) v p n is (rw (eqb-true v.sid seat both.0) both.1) in
+        holds i v there (λ k. both.0 k && (covered k && shown k))
+
+    go : (o : Option View) → of_part (source_under (buffer_size s.sessions) p o) ≡ true
+        → option_map_or (λ v. of_part (black_or_word v.sid (shown_index (buffer_size s.sessions v.sid) v p))) o false
+        ≡ true
+    go None none = none
+    go (Some v) word = word
+
+-- ---- an accepted call
+
+-- a pixel of a view that the test of a touch names
+owned_place : (s : State) (seat : ℕ) (a : Area) (x y : ℕ) (t : Touch) (test : View → Bool) → x < s.config.width
+    → y < s.config.height → HoldsTouched s seat t a
+    → ((v : View) → is_touched t seat v (point x y) ≡ (test v && covers v.rect (point x y)))
+    → is_owned_by test s (point x y) ≡ true → has_place a x y ≡ true
+owned_place s seat a x y t test wide high holds touched owned = owned_inside test s (point x y) (has_place a x y)
+    (λ i u there own covered. holds.views i x y u there wide high (touched u ∙ and_from _ _ own covered)) owned
+
+module _ (s s' : State) (seat : ℕ) (a : Area) (x y : ℕ) (wide : x < s.config.width) (high : y < s.config.height)
+    (wide' : x < s'.config.width) (high' : y < s'.config.height) where
+  on_view : (v : ℕ) → HoldsTouched s seat (touch.View v) a → HoldsTouched s' seat (touch.View v) a
+      → owns_either seat v s s' (point x y) ≡ true → has_place a x y ≡ true
+  on_view v holds holds' own = grind (arith, nat_tests, or_cases, owned_place)
+
+  of_part : (px py : ℤ) (w h : ℕ) (b : Bool)
+      → HoldsTouched s' seat (cond b (touch.Part (rectangle px py w h)) touch.Screen) a
+      → shows_part seat (rectangle px py w h) s' (point x y) ≡ true → has_place a x y ≡ true
+  of_part px py w h true holds shows = part_inside seat (rectangle px py w h) s' (point x y) (has_place a x y)
+      (λ i u there is. holds.views i x y u there wide' high' is) shows
+  of_part px py w h false holds shows = holds.bare x y wide' high' refl
+
+  -- a pixel that an accepted call makes dirty in mode Flat
+  pub call_inside : (c : Call) → HoldsTouched s seat (touched_by c) a → HoldsTouched s' seat (touched_by c) a
+      → dirty_by_call seat c s s' (point x y) ≡ true → has_place a x y ≡ true
+  call_inside c holds holds' is = grind (arith, nat_tests, on_view, owned_place, of_part)
+
+-- more than what is touched
+pub touched_more : (s : State) (seat : ℕ) (t : Touch) (a b : Area) → HoldsTouched s seat t a
+    → ((x y : ℕ) → has_place a x y ≡ true → has_place b x y ≡ true) → HoldsTouched s seat t b
+touched_more s seat t a b holds more = grind (arith, nat_tests)
+
+-- ---- which word a pixel of a host's picture shows
+
+pub by_source : (h : HostModel) (k : ℕ) (source : PixelSource) → k < pixel_count h.state → source_at h.state k ≡ source
+    → slice_index (picture h) k ≡ word_from (sheet_in h.sheets) source
+by_source h k source less is = grind (arith, nat_tests, get_or-map-range_with_len)
+
+no_index : (columns rows : ℕ) (a b : ℤ)
+    → ((i j : ℕ) → a ≡ pos i → i < columns → b ≡ pos j → j < rows → ⊥)
+    → index_at columns (among a columns) (among b rows) ≡ None
+no_index columns rows a b none = grind (arith, nat_tests, index_is)
+
+-- the word of a pixel to which the buffer of its view does not reach
+pub of_past : (h : HostModel) (k : ℕ) (v : View) → k < pixel_count h.state
+    → owner_of h.state (pixel h.state.config.width k) ≡ Some v
+    → ((i j : ℕ) → (pos (k % h.state.config.width) -ℤ v.rect.x) -ℤ v.ox ≡ pos i
+    → i < (session h.state v.sid).bw
+    → (pos (k / h.state.config.width) -ℤ v.rect.y) -ℤ v.oy ≡ pos j → j < (session h.state v.sid).bh → ⊥)
+    → slice_index (picture h) k ≡ 0
+of_past h k v less owned none = grind (arith, nat_tests, by_source, no_index)
+
+pub of_none : (h : HostModel) (k : ℕ) → k < pixel_count h.state
+    → owner_of h.state (pixel h.state.config.width k) ≡ None → slice_index (picture h) k ≡ bare_word
+of_none h k less none = by_source h k Bare less (rw none refl)
+
+-- ---- what of a view is touched, as an area
+
+-- a place of the screen that shows one of these places of the buffer
+shifted : (from corner offset start : ℤ) (long n : ℕ) → start ≡ (corner +ℤ offset) +ℤ from
+    → spans from long (buffer_place (pos n) corner offset) ≡ true → spans start long (pos n) ≡ true
+shifted from corner offset start long n is shows = grind (arith, ints, nat_tests)
+
+-- the columns and rows that show the part
+pub shown_there : (part : Rectangle) (v : View) (x y w h left right top bottom : ℕ) (column row : ℤ)
+    → column ≡ (v.rect.x +ℤ v.ox) +ℤ part.x → row ≡ (v.rect.y +ℤ v.oy) +ℤ part.y → w ≡ part.w → h ≡ part.h
+    → spans column w (pos x) ≡ is_between left right x → spans row h (pos y) ≡ is_between top bottom y
+    → shows_place part v (point x y) ≡ true → (is_between left right x && is_between top bottom y) ≡ true
+shown_there part v x y w h left right top bottom column row column_is row_is w_is h_is across down shows =
+    let both = and_parts (spans part.x part.w (buffer_place (pos x) v.rect.x v.ox))
+    (spans part.y part.h (buffer_place (pos y) v.rect.y v.oy)) shows in
+    and_from (is_between left right x) (is_between top bottom y)
+    (rw (← across, w_is) (shifted part.x v.rect.x v.ox column part.w x column_is both.0))
+    (rw (← down, h_is) (shifted part.y v.rect.y v.oy row part.h y row_is both.1))
+
+-- the view at a place is the one that was read there
+pub same_view : (stack : List View) (i k : ℕ) (v w : View) (t : Touch) (seat : ℕ) (size : ℕ × ℕ) (width height : ℕ)
+    (a : Area) (x y : ℕ) → i ≡ k → slice_get stack i ≡ Some v → slice_get stack k ≡ Some w
+    → ◌≡◌ {A = ℕ × ℕ} size (width, height)
+    → ((x y : ℕ) → x < size.0 → y < size.1 → is_touched t seat w (point x y) ≡ true → has_place a x y ≡ true)
+    → x < width → y < height → is_touched t seat v (point x y) ≡ true → has_place a x y ≡ true
+same_view stack i k v w t seat size width height a x y at there read sized holds wide high is =
+    grind (arith, nat_tests, same_Some)
+
+-- ---- a look at what can have changed
+
+pub covers_inside : (width height k : ℕ) (a : Area) → IsAreaOf width height a
+    → covers (rectangle_over a) (place_at width k) ≡ is_inside width a k
+covers_inside width height k a on = grind (arith, nat_tests)
+
+pub agree_outside : (s : State) (sheets : List (List ℕ)) (a : Area) (seen : Option (List ℕ)) (out : List ℕ)
+    → IsAreaOf s.config.width s.config.height a → IsSeenBut s sheets a seen → IsOneOf seen out
+    → length out ≡ pixel_count s → AgreeOutside s.config.width out (frame_by s sheets) (rectangle_over a)
+agree_outside s sheets a seen out on known one long k off =
+    grind (arith, nat_tests, covers_inside, get_or_past, length-frame, false≢true)
+
+-- nothing has changed since the look
+pub seen_now : (s : State) (sheets : List (List ℕ)) (a : Area) → IsSeenBut s sheets a (Some (frame_by s sheets))
+seen_now s sheets a = grind (arith, nat_tests, length-frame)

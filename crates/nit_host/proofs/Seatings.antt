@@ -1,23 +1,21 @@
 -- What is left where a client was given a seat.
 use Rattle.std.proofs.Common.{map, List, None, Option, Some, ap, arith, false, get_or, length, refl}
-use Rattle.std.proofs.Common.{set, slice_get, slice_index, sym, ℕ, ◌<◌, ◌∙◌, ◌≡◌, ◌≢◌, ◌≤◌, nat_lt}
+use Rattle.std.proofs.Common.{set, slice_get, sym, ℕ, ◌<◌, ◌∙◌, ◌≡◌, ◌≢◌, ◌≤◌}
 use Rattle.nit_host.proofs.Basics.{AreHollow, AreLive, AreSheets, Configuration, DesktopModel}
-use Rattle.nit_host.proofs.Basics.{Entry, HostModel, IsHost, Member, Point, SheetModel, Sight}
-use Rattle.nit_host.proofs.Basics.{State, View, black_or_word, blank_sheet, buffer_size, eq-eqb}
-use Rattle.nit_host.proofs.Basics.{false≢true, get_or-map, glass_in, is_label_taken, is_live}
-use Rattle.nit_host.proofs.Basics.{is_taken, length-set, length-zeros, map-set, member, nat_tests}
-use Rattle.nit_host.proofs.Basics.{opened, owner_of, owns_none, pixel, relabelled, seated, session}
-use Rattle.nit_host.proofs.Basics.{session_owns, set-get_or, set-set, sheet_in, sheets_of}
-use Rattle.nit_host.proofs.Basics.{shown_index, size_at, slice_get_within, source_at, source_of}
-use Rattle.nit_host.proofs.Basics.{source_under, table_size, told_words, unseated, word_from}
+use Rattle.nit_host.proofs.Basics.{Entry, HostModel, IsHost, Member, Point, SheetModel, State, View}
+use Rattle.nit_host.proofs.Basics.{black_or_word, blank_sheet, buffer_size, eq-eqb, false≢true}
+use Rattle.nit_host.proofs.Basics.{get_or-map, glass_in, is_label_taken, length-set, length-zeros}
+use Rattle.nit_host.proofs.Basics.{map-set, member, nat_tests, opened, owner_of, owns_none, pixel}
+use Rattle.nit_host.proofs.Basics.{relabelled, seated, session, session_owns, set-get_or, set-set}
+use Rattle.nit_host.proofs.Basics.{sheet_in, sheets_of, shown_index, size_at, slice_get_within}
+use Rattle.nit_host.proofs.Basics.{source_at, source_of, source_under, table_size, unseated}
+use Rattle.nit_host.proofs.Basics.{word_from}
 use Rattle.nit_events.specs.declared.event.Status.TheVariants as status
 use Rattle.nit_screen.specs.Terms.{is_session, option_map_or}
-use Rattle.nit_host.proofs.Beginnings.{blank_plain, no_client}
-use Rattle.nit_host.proofs.Served.{not_met, passed}
-use Rattle.nit_host.proofs.SheetLists.{each_put, own_room, put_there, rooms, same_sheets, sight_at}
-use Rattle.nit_host.proofs.SheetLists.{sights, words_elsewhere, words_with, blank_again_of}
-use Rattle.nit_host.proofs.SheetLists.{hollow_blank}
-use Rattle.nit_host.proofs.Steps.{host_model, sheets_with, with_sheet}
+use Rattle.nit_host.proofs.Beginnings.{blank_plain, no_client, not_met, passed}
+use Rattle.nit_host.proofs.Steps.{blank_again_of, each_put, hollow_blank, host_model, own_room}
+use Rattle.nit_host.proofs.Steps.{put_there, rooms, same_sheets, sheets_with, sight_at, sights}
+use Rattle.nit_host.proofs.Steps.{with_sheet, words_elsewhere, words_with}
 
 -- ---- what it means that nothing is against it
 
@@ -28,12 +26,7 @@ pub record MaySit (h : HostModel) (seat : ℕ) (label : List ℕ) : Type 0 where
 
 pub may_sit : {h h' : HostModel} {seat : ℕ} {label : List ℕ} → h ≡ h' → None ≡ unseated h' seat label
     → MaySit h seat label
-may_sit {h} {h'} {seat} {label} view is =
-    let none : unseated h seat label ≡ None = rw view (sym is) in
-    let a = passed (nat_lt seat (length h.state.sessions)) _ _ none in
-    let b = not_met (is_taken h.state seat) _ _ a.1 in
-    let c = not_met (is_label_taken h.state seat label) _ _ b.1 in
-    record { inside = grind (arith, nat_tests); over = λ live. false≢true (sym b.0 ∙ ap is_live live); free = c.0 }
+may_sit view is = grind (arith, nat_tests, passed, not_met)
 
 -- ---- the configuration with another label
 
@@ -54,19 +47,11 @@ module _ (config : Configuration) (seat : ℕ) (label : List ℕ) where
 
   sheets_relabelled : {sheets : List SheetModel} → AreSheets config sheets
       → AreSheets (relabelled seat label config) sheets
-  sheets_relabelled are = record {
-    count = are.count ∙ sym same_count;
-    plain = λ t inside. rw (same_size t) (are.plain t (omega (arith, inside, same_count)));
-    room = λ t inside. rw (same_size t) (are.room t (omega (arith, inside, same_count)));
-  }
+  sheets_relabelled are = grind (arith, nat_tests, same_count, same_size)
 
   hollow_relabelled : {sheets : List SheetModel} → AreHollow config sheets
       → AreHollow (relabelled seat label config) sheets
-  hollow_relabelled are = record {
-    count = are.count ∙ sym same_count;
-    blank = λ t inside. rw (same_size t) (are.blank t (omega (arith, inside, same_count)));
-    room = λ t inside. are.room t (omega (arith, inside, same_count));
-  }
+  hollow_relabelled are = grind (arith, nat_tests, same_count, same_size)
 
 -- another hollow sheet of the seat
 hollow_with : {config : Configuration} {hollows : List SheetModel} {seat : ℕ} {sheet : SheetModel}
@@ -90,8 +75,7 @@ word_stays s {seat} p {tables} {tables'} same none = go (owner_of s p) none
     shows : (v : View) (o : Option ℕ) → is_session seat v ≡ false
         → word_from tables (black_or_word v.sid o) ≡ word_from tables' (black_or_word v.sid o)
     shows v None off = refl
-    shows v (Some i) off =
-        ap (λ (ws : List ℕ). slice_index ws i) (same v.sid (λ e. false≢true (sym off ∙ eq-eqb v.sid seat e)))
+    shows v (Some i) off = grind (arith, nat_tests, false≢true, eq-eqb)
 
     go : (o : Option View) → option_map_or (is_session seat) o false ≡ false
         → word_from tables (source_under (buffer_size s.sessions) p o)
@@ -141,12 +125,7 @@ module _ {d d1 d2 : DesktopModel SheetModel} {hollows : List SheetModel} {seat :
   o0 = rw swapped at opens
 
   glasses_now : d2.glasses ≡ now_all
-  glasses_now =
-      same_sheets d2.glasses (set (set d.glasses seat hollow) seat blank)
-      (λ t. ap (λ (ss : List Sight). glass_in ss t) (o0.sights_now
-      ∙ sym (map-set (λ (g : SheetModel). g.sight) (set d.glasses seat hollow) seat blank)))
-      (o0.rooms_now ∙ sym (map-set (λ (g : SheetModel). g.room) (set d.glasses seat hollow) seat blank))
-      ∙ set-set d.glasses seat hollow blank
+  glasses_now = grind (arith, nat_tests, same_sheets, o0, map-set, set-set)
 
   blank_is : blank.sight ≡ blank_sheet seat size
   blank_is = blank_again_of host.sheets out inside wiped
@@ -175,19 +154,12 @@ module _ {d d1 d2 : DesktopModel SheetModel} {hollows : List SheetModel} {seat :
 
   pub was_seated : {kept : Option Entry} {seen : Option (List ℕ)} {h : HostModel} → host_model d kept seen ≡ h
       → WasSeated seat label h seen d d2 (set hollows seat gone)
-  was_seated {seen = seen} view = rw (← view) (record {
+  was_seated view = rw (← view) (record {
     host = record {
       sheets = rw (config_now, glasses_now) (sheets_relabelled d.state.config seat label all);
       hollow = rw config_now (hollow_relabelled d.state.config seat label (hollow_with host.hollow gone_is nothing));
       fresh = rw (o0.state, glasses_now, o0.raw) (λ k within. host.fresh k within ∙ words_now k);
     };
-    now = λ i. record {
-      state = o0.state i;
-      sheets = (ap sheets_of glasses_now ∙ words_with d.glasses seat blank
-          ∙ ap (λ (s : Sight). set (sheets_of d.glasses) seat (told_words s.words)) blank_is) i;
-      left = o0.left i;
-      last = None;
-      seen = seen;
-    };
+    now = rw (o0.state, o0.left, glasses_now, words_with d.glasses seat blank, blank_is) refl;
     words = rw glasses_now words_now;
   })

@@ -1,4 +1,5 @@
 -- Worked rows of one session and of a small journal, computed from the definitions.
+use Rattle.std.proofs.lemmas.Bool.Decides.{nat_tests}
 use Rattle.std.proofs.Common.{List, Some, [], arith, false, map, negsuc, pos, refl, suc, true, zero}
 use Rattle.std.proofs.Common.{ℕ, ◌++◌, ◌∷◌, ◌≡◌}
 use Rattle.nit_journal.proofs.Basics.{AreSteps, Bare, Buffer, Call, Calls, Close, Configuration}
@@ -87,10 +88,7 @@ clicked =
 
 clicked_is_legal : IsLegal (still_configuration 8 4) clicked
 unfolding serve stack_after_call route
-clicked_is_legal = (
-  (omega arith, refl),
-  ((omega arith, refl), ((omega arith, refl), (refl, (refl, ((omega arith, refl), refl))))),
-)
+clicked_is_legal = grind (arith, nat_tests)
 
 -- its own calls alone: the machine knows nothing of the user, and has no event to take
 clicked_by_itself : own_machine (still_configuration 8 4) 0 clicked

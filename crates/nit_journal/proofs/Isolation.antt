@@ -1,23 +1,22 @@
 -- Each session is served as if it were alone: along a legal journal, and along any steps since it last opened.
-use Rattle.std.proofs.Common.{List, [], append-nil, length, length-set, refl, sym, ℕ, ◌++◌, ◌<◌}
-use Rattle.std.proofs.Common.{◌==◌, ◌∷◌, ◌≡◌, if◌then◌else◌}
+use Rattle.std.proofs.Common.{List, [], append-nil, if◌then◌else◌, length, length-set, refl, sym, ℕ}
+use Rattle.std.proofs.Common.{◌++◌, ◌<◌, ◌==◌, ◌∷◌, ◌≡◌}
 use Rattle.nit_journal.proofs.Basics.{Agrees, AreSteps, Calls, Configuration, Delivery, Entry, Gets}
 use Rattle.nit_journal.proofs.Basics.{IsLegal, Member, Observation, Opens, Reply, Session, State}
 use Rattle.nit_journal.proofs.Basics.{Step, after, after_observations, after_steps, alone}
-use Rattle.nit_journal.proofs.Basics.{alone_machine, delivered, donation_of, first_session}
-use Rattle.nit_journal.proofs.Basics.{first_state, items_to, opened, opening_of, projection}
-use Rattle.nit_journal.proofs.Basics.{receive, replay, replies_from, replies_to, route, serve}
-use Rattle.nit_journal.proofs.Basics.{session, session_in, since_opening}
+use Rattle.nit_journal.proofs.Basics.{delivered, donation_of, first_session, first_state, items_to}
+use Rattle.nit_journal.proofs.Basics.{opened, opening_of, projection, receive, replay, replies_from}
+use Rattle.nit_journal.proofs.Basics.{replies_to, route, serve, session, session_in, since_opening}
 use Rattle.nit_events.specs.declared.entry.Entry.TheVariants as entry
-use Rattle.nit_journal.proofs.Along.{IsKept, along, behind}
-use Rattle.nit_journal.proofs.DeliveryLemmas.{entry_keeps_all}
+use Rattle.nit_journal.proofs.JournalFronts.{IsKept, along, behind}
+use Rattle.nit_journal.proofs.Ways.{entry_keeps_all}
 use Rattle.nit_journal.proofs.ProjectionLemmas.{machine_both, projection_both, replies_both}
 use Rattle.nit_journal.proofs.ProjectionLemmas.{replies_to_both}
 use Rattle.nit_journal.proofs.SessionLists.{after_set, as_many, at_change, handed, opens}
 use Rattle.nit_journal.proofs.SessionLists.{same_config, still_there, there_at_first}
 
 -- these moments get these replies of a machine, and leave this one
-abbrev Served : Session → List Observation → List Reply → Session → Type 0
+abbrev pub Served : Session → List Observation → List Reply → Session → Type 0
 Served m seen replies now = (replies ≡ replies_from m seen) × (now ≡ after_observations m seen)
 
 served_both : (m : Session) (xs ys : List Observation) (rs qs : List Reply) (t u : Session) → Served m xs rs t
@@ -51,7 +50,7 @@ served_entry s taken other x agrees lt = (refl, refl)
 -- ---- entry after entry
 
 -- the session's machine is this one behind the entries, and their replies are its
-abbrev IsAlone : ℕ → Session → State → List Entry → Type 0
+abbrev pub IsAlone : ℕ → Session → State → List Entry → Type 0
 IsAlone x m s done = (x < length s.sessions) × Served m (projection x done) (replies_to x done) (session s x)
 
 one_more : (x : ℕ) (m : Session) → IsKept (IsAlone x m)
@@ -65,10 +64,10 @@ one_more x m s taken e done agrees h = (
 -- ---- a session opens
 
 -- each session has its client, and this one has this donation
-abbrev AreClients : ℕ → ℕ → State → Type 0
+abbrev pub AreClients : ℕ → ℕ → State → Type 0
 AreClients x donation s = (length s.sessions ≡ length s.config.clients) × (donation_of s.config x ≡ donation)
 
-abbrev IsSeat : ℕ → ℕ → Session → State → List Entry → Type 0
+abbrev pub IsSeat : ℕ → ℕ → Session → State → List Entry → Type 0
 IsSeat x donation m s done = AreClients x donation s × IsAlone x m s done
 
 seat_kept : (x donation : ℕ) (m : Session) → IsKept (IsSeat x donation m)
@@ -94,7 +93,7 @@ seat_opens x donation m s sid label done are h = (
   ),
 )
 
-seat : (s : State) (steps : List Step) (x : ℕ) → length s.sessions ≡ length s.config.clients → AreSteps s steps
+pub seat : (s : State) (steps : List Step) (x : ℕ) → length s.sessions ≡ length s.config.clients → AreSteps s steps
     → x < length s.sessions → IsSeat x (donation_of s.config x) (opening_of s x steps) (after_steps s steps)
     (since_opening x steps)
 seat s steps x each are lt =
@@ -102,19 +101,9 @@ seat s steps x each are lt =
     along x (IsSeat x donation) (first_session donation) (seat_kept x donation) (seat_opens x donation) (session s x) s
     steps [] are ((each, refl), (lt, (refl, refl)))
 
-pub seat_replies : (s : State) (steps : List Step) (x : ℕ) → length s.sessions ≡ length s.config.clients
-    → AreSteps s steps → x < length s.sessions
-    → replies_to x (since_opening x steps) ≡ replies_from (opening_of s x steps) (projection x (since_opening x steps))
-seat_replies s steps x each are lt = (seat s steps x each are lt).1.1.0
-
-pub seat_machine : (s : State) (steps : List Step) (x : ℕ) → length s.sessions ≡ length s.config.clients
-    → AreSteps s steps → x < length s.sessions
-    → session (after_steps s steps) x ≡ after_observations (opening_of s x steps) (projection x (since_opening x steps))
-seat_machine s steps x each are lt = (seat s steps x each are lt).1.1.1
-
 -- ---- a whole journal
 
-whole : (config : Configuration) (journal : List Entry) (x : ℕ) → IsLegal config journal → x < length config.clients
+pub whole : (config : Configuration) (journal : List Entry) (x : ℕ) → IsLegal config journal → x < length config.clients
     → IsAlone x (first_session (donation_of config x)) (replay config journal) journal
 whole config journal x legal lt =
     let m = first_session (donation_of config x) in
@@ -124,26 +113,3 @@ whole config journal x legal lt =
 pub served_alone : (config : Configuration) (journal : List Entry) (s : ℕ) → IsLegal config journal
     → s < length config.clients → replies_to s journal ≡ alone (donation_of config s) (projection s journal)
 served_alone config journal s legal lt = (whole config journal s legal lt).1.0
-
-pub stands_alone : (config : Configuration) (journal : List Entry) (x : ℕ) → IsLegal config journal
-    → x < length config.clients → session (replay config journal) x
-    ≡ alone_machine (donation_of config x) (projection x journal)
-stands_alone config journal x legal lt = (whole config journal x legal lt).1.1
-
--- ---- two worlds
-
-pub two_fronts : (c d : Configuration) (js ks : List Entry) (s t : ℕ) → IsLegal c js → IsLegal d ks
-    → s < length c.clients → t < length d.clients
-    → donation_of c s ≡ donation_of d t → (more : List Observation) → projection t ks ≡ projection s js ++ more
-    → (rest : List Reply) × (replies_to t ks ≡ replies_to s js ++ rest)
-two_fronts c d js ks s t p q lt ld same more longer =
-    let m = first_session (donation_of d t) in (
-      replies_from (after_observations m (projection s js)) more,
-      rw (served_alone d ks t q ld, longer, served_alone c js s p lt, same) (replies_both m (projection s js) more),
-    )
-
-pub two_worlds : (c d : Configuration) (js ks : List Entry) (s t : ℕ) → IsLegal c js → IsLegal d ks
-    → s < length c.clients → t < length d.clients
-    → donation_of c s ≡ donation_of d t → projection s js ≡ projection t ks → replies_to s js ≡ replies_to t ks
-two_worlds c d js ks s t p q lt ld same seen =
-    rw (served_alone c js s p lt, served_alone d ks t q ld, same, seen) refl

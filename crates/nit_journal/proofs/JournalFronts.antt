@@ -1,8 +1,12 @@
 -- Journals that grow at their end, and fronts of journals.
-use Rattle.std.proofs.Common.{List, [], arith, refl, subst, zero-add, ℕ, ◌++◌, ◌+◌, ◌∷◌, ◌≡◌}
-use Rattle.nit_journal.proofs.Basics.{Agrees, Configuration, Entry, IsLegal, IsOpen, LegalFrom}
-use Rattle.nit_journal.proofs.Basics.{State, after, first_state, fold-append, replay, replay_from}
-use Rattle.nit_journal.proofs.Basics.{shots}
+use Rattle.std.proofs.lemmas.Bool.Decides.{nat_tests}
+use Rattle.std.proofs.Common.{Bool, List, [], append-nil, append_assoc, false, if◌then◌else◌, map}
+use Rattle.std.proofs.Common.{refl, subst, true, zero-add, ℕ, ◌++◌, ◌+◌, ◌==◌, ◌||◌, ◌∷◌, ◌≡◌}
+use Rattle.nit_journal.proofs.Basics.{Agrees, AreSteps, Bare, Configuration, Entry, IsLegal, IsOpen}
+use Rattle.nit_journal.proofs.Basics.{LegalFrom, Opens, Point, Serves, State, Step, action_of}
+use Rattle.nit_journal.proofs.Basics.{after, after_steps, arith, first_state, fold-append}
+use Rattle.nit_journal.proofs.Basics.{is_opening, list_any, opened, replay, replay_from, shots}
+use Rattle.nit_journal.proofs.Basics.{since, source_of}
 use Rattle.nit_events.specs.declared.entry.Entry.TheVariants as entry
 
 pub replay_more : (s : State) (journal : List Entry) (e : Entry) → replay_from s (journal ++ e ∷ [])
@@ -54,9 +58,7 @@ front_open s taken (j ∷ front) e rest legal = front_open (after s j) (counted 
 
 pub next_agrees : (s : State) (taken : ℕ) (front : List Entry) (e : Entry) (rest : List Entry)
     → LegalFrom s taken (front ++ e ∷ rest) → Agrees (replay_from s front) (taken + shots front) e
-next_agrees s taken [] e rest legal =
-    let none : taken ≡ taken + 0 = omega arith in
-    subst (λ (n : ℕ). Agrees s n e) none (legal_first s taken e rest legal).0
+next_agrees s taken [] e rest legal = grind (arith, nat_tests, legal_first)
 next_agrees s taken (j ∷ front) e rest legal =
     rw (← counted_more taken j front)
     (next_agrees (after s j) (counted taken j) front e rest (legal_first s taken j (front ++ e ∷ rest) legal).1)
@@ -65,3 +67,64 @@ pub agrees_behind : (config : Configuration) (front : List Entry) (e : Entry) (r
     → IsLegal config (front ++ e ∷ rest) → Agrees (replay config front) (shots front) e
 agrees_behind config front e rest legal = subst (λ (n : ℕ). Agrees (replay config front) n e) (zero-add (shots front))
     (next_agrees (first_state config) 0 front e rest legal)
+
+-- one more entry leaves it so
+abbrev pub IsKept : (State → List Entry → Type 0) → Type 0
+IsKept P = (s : State) (taken : ℕ) (e : Entry) (done : List Entry) → Agrees s taken e → P s done
+    → P (after s e) (done ++ e ∷ [])
+
+pub behind : (P : State → List Entry → Type 0) → IsKept P → (s : State) (taken : ℕ) (journal done : List Entry)
+    → LegalFrom s taken journal → P s done → P (replay_from s journal) (done ++ journal)
+behind P kept s taken [] done legal h = rw append-nil h
+behind P kept s taken (e ∷ rest) done legal h =
+    let first = legal_first s taken e rest legal in
+    subst (P (replay_from (after s e) rest)) (append_assoc done (e ∷ []) rest)
+    (behind P kept (after s e) (counted taken e) rest (done ++ e ∷ []) first.1 (kept s taken e done first.0 h))
+
+-- where the session x opens the first parameter becomes `fresh`, and what holds is of what was done since then
+pub along : {A : Type 0} (x : ℕ) (P : A → State → List Entry → Type 0) (fresh : A) → ((a : A) → IsKept (P a))
+    → ((a : A) (s : State) (sid : ℕ) (label : List ℕ) (done : List Entry) → AreSteps s (Opens sid label ∷ [])
+    → P a s done
+    → P (if sid == x then fresh else a) (opened sid label s) (if sid == x then [] else done))
+    → (a : A) (s : State) (steps : List Step) (done : List Entry) → AreSteps s steps → P a s done
+    → P (if list_any (is_opening x) steps then fresh else a) (after_steps s steps) (since x done steps)
+along x P fresh kept opens a s [] done are h = h
+along x P fresh kept opens a s (Serves e ∷ rest) done are h =
+    along x P fresh kept opens a (after s e) rest (done ++ e ∷ []) are.1 (kept a s are.0.0 e done are.0.1 h)
+along x P fresh kept opens a s (Opens sid label ∷ rest) done are h =
+    go (sid == x) (list_any (is_opening x) rest)
+    (along x P fresh kept opens (if sid == x then fresh else a) (opened sid label s) rest
+    (if sid == x then [] else done) are.1 (opens a s sid label done (are.0, tt) h))
+  where
+    go : (c d : Bool) → P (if d then fresh else if c then fresh else a) (after_steps (opened sid label s) rest)
+        (since x (if c then [] else done) rest)
+        → P (if c || d then fresh else a) (after_steps (opened sid label s) rest)
+        (if c then since x [] rest else since x done rest)
+    go false d h = h
+    go true true h = h
+    go true false h = h
+
+-- one entry
+same_entry : (s : State) (taken : ℕ) (e f : Entry) → Agrees s taken e → Agrees s taken f → action_of e ≡ action_of f
+    → e ≡ f
+same_entry s taken (entry.Call sid c r) (entry.Call t d q) here there same = grind (arith, nat_tests)
+same_entry s taken (entry.Input dev routed) (entry.Input other sent) here there same = grind (arith, nat_tests)
+same_entry s taken (entry.Shot m) (entry.Shot n) here there same = rw (here, there) refl
+same_entry s taken entry.Final entry.Final here there same = refl
+same_entry s taken e f here there same = absurd cc
+
+-- a journal from any state on
+pub same_journal : (s : State) (taken : ℕ) (es fs : List Entry) → LegalFrom s taken es → LegalFrom s taken fs
+    → map action_of es ≡ map action_of fs → es ≡ fs
+same_journal s taken [] [] here there same = refl
+same_journal s taken (e ∷ es) (f ∷ fs) here there same =
+    let mine = legal_first s taken e es here in
+    let theirs = legal_first s taken f fs there in
+    let first : f ≡ e = same_entry s taken f e theirs.0 mine.0 cc in
+    let rest : es ≡ fs = same_journal (after s e) (counted taken e) es fs mine.1 (rw first at theirs.1) cc in
+    cc
+same_journal s taken es fs here there same = absurd cc
+
+-- no view stands anywhere
+pub bare_everywhere : (config : Configuration) (p : Point) → source_of (first_state config) p ≡ Bare
+bare_everywhere config p = grind arith

@@ -1,17 +1,17 @@
 -- What holds of the sessions that the input knows and points at holds of those that a device event tells, and of
 -- those that are known afterwards. And who is killed is killed alone, and forgotten.
-use Rattle.nit_journal.proofs.Basics.{All, All-append, All-cons, All-head, All-nil, All-tail}
-use Rattle.nit_journal.proofs.Basics.{Configuration, Delivery, Device, Event, InputState}
-use Rattle.nit_journal.proofs.Basics.{IsKillAlone, Point, Routing, View, bar_rows, cases_eq, covers}
-use Rattle.nit_journal.proofs.Basics.{either, eq-eqb, in_bar, is_kill, kills, ne_eqb, not}
-use Rattle.nit_journal.proofs.Basics.{option_map, or_from, owner, point, route}
-use Rattle.std.proofs.Common.{Bool, IfSome, List, None, Option, Some, [], ap, false, filter, find}
-use Rattle.std.proofs.Common.{inl, inr, length, refl, sym, ℕ, ◌&&◌, ◌==◌, ◌∷◌, ◌≡◌, ◌≢◌, ◌⊎◌}
+use Rattle.nit_journal.proofs.Basics.{All, All-append, All-head, All-nil, All-tail, All_found}
+use Rattle.nit_journal.proofs.Basics.{Configuration, Delivery, Device, Event, InputState, Point}
+use Rattle.nit_journal.proofs.Basics.{Routing, View, arith, bar_rows, cond_both, covers, either}
+use Rattle.nit_journal.proofs.Basics.{in_bar, is_kill, kills, nat_tests, option_map, or_from, owner}
+use Rattle.nit_journal.proofs.Basics.{point, route}
+use Rattle.std.proofs.Common.{Bool, IfSome, List, None, Option, Some, [], false, find, inl, inr}
+use Rattle.std.proofs.Common.{refl, ℕ, ◌∷◌, ◌≡◌, ◌≢◌, ◌⊎◌}
 use Rattle.nit_events.specs.declared.event.Event.TheVariants as event
 use Rattle.nit_events.specs.declared.event.Item.TheVariants as item
 use Rattle.nit_events.specs.Input
 use Rattle.nit_journal.proofs.Ways.{Clicks, Free, Hovers, Kills, Leaves, Lifts, More, Moves}
-use Rattle.nit_journal.proofs.Ways.{Nothing, Points, Switches, Types, Unseen, Way, routed}
+use Rattle.nit_journal.proofs.Ways.{Nothing, Points, Switches, Types, Unseen, Way, one_to, routed}
 
 -- such a session is told, and not killed
 abbrev pub IsTold : (ℕ → Type 0) → Delivery → Type 0
@@ -40,11 +40,7 @@ IsStep P r = IsHarmless P r ⊎ IsKilling P r
 forgets : (P : ℕ → Type 0) (s : ℕ) (other : Option ℕ) → IfSome other P
     → IfSome (Input.unless_it_is s other) (λ t. P t × (t ≢ s))
 forgets P s None p = tt
-forgets P s (Some t) p =
-    elim (cases_eq s t) [
-      | inl same ↦ rw (eq-eqb s t same) tt
-      | inr apart ↦ rw (ne_eqb s t apart) (p, λ e. apart (sym e))
-    ]
+forgets P s (Some t) p = grind (arith, nat_tests, cond_both)
 
 pub forgotten : (P : ℕ → Type 0) (s : ℕ) (i : InputState) → AreKnown P i
     → AreKnown (λ t. P t × (t ≢ s)) (Input.forget i s)
@@ -53,9 +49,7 @@ forgotten P s i known = (forgets P s i.receiver known.0, forgets P s i.hover kno
 -- ---- the ways of a device event
 
 told_to : (P : ℕ → Type 0) (s : Option ℕ) (e : Event) → IfSome s P → All (IsTold P) (Input.to s e)
-told_to P None e p = All-nil (IsTold P)
-told_to P (Some s) e p =
-    All-cons (IsTold P) (record { sid = s; item = item.Event e }) [] (p, refl) (All-nil (IsTold P))
+told_to P s e p = one_to (IsTold P) s e (λ t is. (rw is at p, refl))
 
 left : (P : ℕ → Type 0) (held : List ℕ) (i : InputState) → AreKnown P i → AreKnown P (Input.letting_go held i)
 left P [] i known = (tt, known.1, known.2)
@@ -63,12 +57,7 @@ left P (k ∷ ks) i known = known
 
 focusing : (P : ℕ → Type 0) (clicks : Bool) (pointed : Option ℕ) (i : InputState) → AreKnown P i → IfSome pointed P
     → IsHarmless P (Input.focusing clicks pointed i)
-focusing P clicks pointed i known p =
-    either (IsHarmless P) (Input.takes_focus clicks pointed && not (Input.is_same pointed i.focus)) _ _ (
-      (known.0, known.1, p),
-      All-append (IsTold P) _ _ (told_to P i.focus event.FocusLeave known.2) (told_to P pointed event.FocusEnter p),
-    )
-    (known, All-nil (IsTold P))
+focusing P clicks pointed i known p = grind (arith, nat_tests, either, All-append, told_to, All-nil)
 
 killing : (P : ℕ → Type 0) (pointed : Option ℕ) (i : InputState) → AreKnown P i → IfSome pointed P
     → IsStep P (Input.unreceived (Input.killing pointed i))
@@ -85,24 +74,13 @@ module _ (P : ℕ → Type 0) (clicks : Bool) (pointed : Option ℕ) (i : InputS
   step known p Nothing = inl (known, All-nil (IsTold P))
   step known p (Moves e calm) = inl (known, told_to P i.receiver e known.0)
   step known p (More k) = inl (known, told_to P i.receiver (event.Press k) known.0)
-  step known p (Lifts k held) = inl (
-    left P (filter (λ j. not (j == k)) i.held) i known,
-    told_to P i.receiver (event.Release k) known.0,
-  )
-  step known p (Free none (Hovers e calm flat)) = inl (
-    (known.0, p, known.2),
-    All-append (IsTold P) _ _ (either (All (IsTold P)) (Input.is_same i.hover pointed) [] _ (All-nil (IsTold P))
-        (told_to P i.hover event.Leave known.1)) (told_to P pointed e p),
-  )
+  step known p (Lifts k held) = grind (arith, nat_tests, told_to)
+  step known p (Free none (Hovers e calm flat)) = grind (arith, nat_tests, All-append, either, All-nil, told_to)
   step known p (Free none (Leaves new flat)) = inl ((known.0, tt, known.2), told_to P i.hover event.Leave known.1)
   step known p (Free none (Switches new)) = inl (known, All-nil (IsTold P))
-  step known p (Free none (Clicks k is button flat)) =
-      let click = focusing P clicks pointed (Input.with_held i k) known p in
-      inl ((p, click.0.1, click.0.2), All-append (IsTold P) _ _ click.1 (told_to P pointed (event.Press k) p))
+  step known p (Free none (Clicks k is button flat)) = grind (arith, nat_tests, All-append, told_to)
   step known p (Free none (Types k flat)) = inl ((known.2, known.1, known.2), told_to P i.focus (event.Press k) known.2)
-  step known p (Free none (Points k is button xray)) =
-      let click = focusing P clicks pointed (Input.with_held i k) known p in
-      inl ((tt, click.0.1, click.0.2), click.1)
+  step known p (Free none (Points k is button xray)) = grind (arith, nat_tests)
   step known p (Free none (Kills k is kill)) = killing P pointed (Input.with_held i k) known p
   step known p (Free none (Unseen k)) = inl ((tt, known.1, known.2), All-nil (IsTold P))
 
@@ -112,14 +90,11 @@ module _ (P : ℕ → Type 0) where
       → IfSome (option_map (λ v. v.sid) (owner rows stack p)) P
   pointed_known rows p stack all =
       either (λ (o : Option View). IfSome (option_map (λ w. w.sid) o) P) (in_bar rows p) None
-      (find (λ v. covers v.rect p) stack) tt (found stack all)
+      (find (λ v. covers v.rect p) stack) tt (found (find (λ v. covers v.rect p) stack) refl)
     where
-      found : (views : List View) → All (λ v. P v.sid) views
-          → IfSome (option_map (λ v. v.sid) (find (λ v. covers v.rect p) views)) P
-      found [] h = tt
-      found (v ∷ views) h =
-          either (λ (o : Option View). IfSome (option_map (λ w. w.sid) o) P) (covers v.rect p) (Some v) _
-          (All-head (λ (w : View). P w.sid) v views h) (found views (All-tail (λ (w : View). P w.sid) v views h))
+      found : (o : Option View) → find (λ v. covers v.rect p) stack ≡ o → IfSome (option_map (λ v. v.sid) o) P
+      found None e = tt
+      found (Some v) e = All_found (λ w. P w.sid) (λ w. covers w.rect p) stack v all e
 
   pub route_step : (config : Configuration) (i : InputState) (stack : List View) (dev : Device) → AreKnown P i
       → All (λ v. P v.sid) stack → IsStep P (route config i stack dev)
@@ -129,23 +104,15 @@ module _ (P : ℕ → Type 0) where
 
 -- ---- kills
 
-none_kills : (P : ℕ → Type 0) (ds : List Delivery) → All (IsTold P) ds → kills ds ≡ false
+pub none_kills : (P : ℕ → Type 0) (ds : List Delivery) → All (IsTold P) ds → kills ds ≡ false
 none_kills P [] h = refl
 none_kills P (d ∷ ds) h = or_from (is_kill d.item) (kills ds) (All-head (IsTold P) d ds h).1
     (none_kills P ds (All-tail (IsTold P) d ds h))
 
 -- any session
-abbrev Any : ℕ → Type 0
+abbrev pub Any : ℕ → Type 0
 Any s = Unit {0}
 
-any_of : (o : Option ℕ) → IfSome o Any
+pub any_of : (o : Option ℕ) → IfSome o Any
 any_of None = tt
 any_of (Some s) = tt
-
-pub kills_alone : (config : Configuration) (i : InputState) (stack : List View) (dev : Device)
-    → IsKillAlone (route config i stack dev).deliveries
-kills_alone config i stack dev some =
-    elim (route_step Any config i stack dev (any_of i.receiver, any_of i.hover, any_of i.focus) (λ k d lt. tt)) [
-      | inl h ↦ (let none = none_kills Any _ h.1 in cc)
-      | inr h ↦ ap length h.alone
-    ]

@@ -1,21 +1,24 @@
 -- Whoever the input knows, and whoever has a view, is live in every state that a legal journal leads to. So whoever is
 -- told anything is live.
-use Rattle.nit_journal.proofs.Basics.{Above, All, All-cons, All-filter, All-head, All-insert}
-use Rattle.nit_journal.proofs.Basics.{All-map, All-nil, All-tail, All-weaker, All_found, AreLive}
-use Rattle.nit_journal.proofs.Basics.{Back, Call, Close, Delivery, Destroy, Event, Front}
-use Rattle.nit_journal.proofs.Basics.{IfSome_then, InputState, IsLive, Item, Offset, Place, Put}
-use Rattle.nit_journal.proofs.Basics.{Put-above, Put-back, Put-front, Reply, Routing, Session}
-use Rattle.nit_journal.proofs.Basics.{State, Status, Take, Title, accepted, after, after_accepted}
-use Rattle.nit_journal.proofs.Basics.{after_deliveries, after_delivery, by_life, by_refusal}
-use Rattle.nit_journal.proofs.Basics.{changed, cond_both, delivered, either, eqb-false}
-use Rattle.nit_journal.proofs.Basics.{first_session, forget, input_after_call, is_accepted, is_kill}
-use Rattle.nit_journal.proofs.Basics.{is_view, layer, moved, new_view, not, not-true, put_again}
-use Rattle.nit_journal.proofs.Basics.{receive, rectangle, refusal, routed_to, session, session_in}
-use Rattle.nit_journal.proofs.Basics.{taking, without}
+use Rattle.std.proofs.lemmas.Bool.Decides.{nat_tests}
+use Rattle.std.proofs.lemmas.List.Elements.{filter_passes}
+use Rattle.nit_journal.proofs.Basics.{Above, Agrees, All, All-cons, All-filter, All-head}
+use Rattle.nit_journal.proofs.Basics.{All-insert, All-map, All-nil, All-tail, All-weaker, All_found}
+use Rattle.nit_journal.proofs.Basics.{AreLive, Back, Call, Close, Configuration, Delivery, Destroy}
+use Rattle.nit_journal.proofs.Basics.{Device, Entry, Event, Front, IfSome_then, InputState, IsLegal}
+use Rattle.nit_journal.proofs.Basics.{IsLive, Item, Offset, Place, Put, Put-above, Put-back}
+use Rattle.nit_journal.proofs.Basics.{Put-front, Reply, Routing, Session, State, Status, Take}
+use Rattle.nit_journal.proofs.Basics.{Title, accepted, after, after_accepted, after_deliveries}
+use Rattle.nit_journal.proofs.Basics.{after_delivery, arith, by_life, by_refusal, changed}
+use Rattle.nit_journal.proofs.Basics.{cond_both, delivered, either, eqb-false, first_input}
+use Rattle.nit_journal.proofs.Basics.{first_session, first_state, forget, input_after_call}
+use Rattle.nit_journal.proofs.Basics.{is_accepted, is_kill, is_view, layer, moved, new_view, not}
+use Rattle.nit_journal.proofs.Basics.{not-true, opened, put_again, receive, refusal, replay, route}
+use Rattle.nit_journal.proofs.Basics.{routed_to, session, session_in, taking, without}
 use Rattle.nit_events.specs.declared.call.Call.TheVariants.{View}
-use Rattle.std.proofs.Common.{Bool, List, None, Option, Some, [], ap, cond, false, find, IfSome}
-use Rattle.std.proofs.Common.{set, ◌⊎◌, inl, inr, length, length-set, nat_lt, refl, sym, true, ℕ}
-use Rattle.std.proofs.Common.{◌++◌, ◌+◌, ◌<◌, ◌==◌, ◌∙◌, ◌∷◌, ◌≡◌, ◌≢◌, if◌then◌else◌}
+use Rattle.std.proofs.Common.{Bool, IfSome, List, None, Option, Some, [], ap, cond, false, find}
+use Rattle.std.proofs.Common.{inl, inr, length, length-set, refl, set, sym, true, ℕ, ◌<◌, ◌==◌, ◌∙◌}
+use Rattle.std.proofs.Common.{◌∷◌, ◌≡◌, ◌≢◌, ◌⊎◌}
 use Rattle.nit_journal.specs.Session.{serve}
 use Rattle.nit_journal.specs.StackAfter.{stack_after_call}
 use Rattle.nit_events.specs.declared.event.Item.TheVariants as item
@@ -23,10 +26,10 @@ use Rattle.nit_events.specs.declared.event.Status.TheVariants as status
 use Rattle.nit_events.specs.declared.call.Reply.TheVariants as reply
 use Rattle.nit_events.specs.declared.entry.Entry.TheVariants as entry
 use Rattle.nit_stack.specs.declared.view.View.{View as ViewOf}
-use Rattle.nit_journal.proofs.KnownSessions.{AreKnown, IsStep, IsTold, forgotten}
+use Rattle.nit_journal.proofs.KnownSessions.{AreKnown, IsStep, IsTold, forgotten, route_step}
 use Rattle.nit_events.specs.Input
-use Rattle.nit_journal.proofs.CallRefusals.{live_if}
-use Rattle.nit_journal.proofs.SessionLists.{after_set, delivered_length, handed}
+use Rattle.nit_journal.proofs.SessionLists.{after_set, delivered_length, handed, live_if}
+use Rattle.nit_journal.proofs.JournalFronts.{behind}
 
 -- the views' sessions have this
 abbrev pub HaveAll : (ℕ → Type 0) → List ViewOf → Type 0
@@ -35,14 +38,7 @@ HaveAll P stack = All (λ v. P v.sid) stack
 -- the input and the stack know those alone of whom this holds, and such are live now
 pub live_now : (Q : ℕ → Type 0) (now : State) → ((t : ℕ) → Q t → IsLive now t) → AreKnown Q now.input
     → HaveAll Q now.stack → AreLive now
-live_now Q now live known all = record {
-  known = record {
-    receiver = IfSome_then now.input.receiver known.0 live;
-    hover = IfSome_then now.input.hover known.1 live;
-    focus = IfSome_then now.input.focus known.2 live;
-  };
-  views = All-weaker (λ (w : ViewOf). Q w.sid) (λ (w : ViewOf). IsLive now w.sid) (λ w. live w.sid) now.stack all;
-}
+live_now Q now live known all = grind (arith, nat_tests, IfSome_then, All-weaker)
 
 -- as the input's walk has it
 pub are_known : (s : State) → AreLive s → AreKnown (IsLive s) s.input
@@ -60,13 +56,10 @@ module _ (P : ℕ → Type 0) where
   -- all views of a session are gone
   others_have : (sid : ℕ) (xs : List ViewOf) → HaveAll P xs
       → HaveAll (λ t. P t × (t ≢ sid)) (without (λ v. v.sid == sid) xs)
-  others_have sid [] h = All-nil (λ (w : ViewOf). P w.sid × (w.sid ≢ sid))
-  others_have sid (x ∷ xs) h =
-      let rest = others_have sid xs (All-tail Has x xs h) in
-      cond_both (not (x.sid == sid)) (x ∷ without (λ v. v.sid == sid) xs) (without (λ v. v.sid == sid) xs)
-      (HaveAll (λ t. P t × (t ≢ sid)))
-      (λ stays. All-cons (λ (w : ViewOf). P w.sid × (w.sid ≢ sid)) x _
-      (All-head Has x xs h, eqb-false x.sid sid (not-true (x.sid == sid) stays)) rest) (λ goes. rest)
+  others_have sid xs h k d lt = (
+    All-filter (λ v. not (v.sid == sid)) Has xs h k d lt,
+    eqb-false _ sid (not-true _ (filter_passes (λ (v : ViewOf). not (v.sid == sid)) xs k d lt)),
+  )
 
   changed_has : (is : ViewOf → Bool) (change : ViewOf → ViewOf) → ((v : ViewOf) → (change v).sid ≡ v.sid)
       → (xs : List ViewOf) → HaveAll P xs → HaveAll P (changed is change xs)
@@ -92,12 +85,9 @@ module _ (P : ℕ → Type 0) where
       let there = Put-front (λ (v : ViewOf). layers v.sid) (layers sid) (new_view sid h) stack in
       rw there.is (All-insert Has stack there.at (new_view sid h) p all)
   accepted_has layers sid View other stack p all = all
-  accepted_has layers sid (Place v x y w h) r stack p all =
-      changed_has (is_view sid v) (λ view. record view { rect = rectangle x y w h }) (λ view. refl) stack all
-  accepted_has layers sid (Offset v ox oy) r stack p all =
-      changed_has (is_view sid v) (λ view. record view { ox = ox; oy = oy }) (λ view. refl) stack all
-  accepted_has layers sid (Title v text) r stack p all =
-      changed_has (is_view sid v) (λ view. record view { title = text }) (λ view. refl) stack all
+  accepted_has layers sid (Place v x y w h) r stack p all = changed_has (is_view sid v) _ (λ view. refl) stack all
+  accepted_has layers sid (Offset v ox oy) r stack p all = changed_has (is_view sid v) _ (λ view. refl) stack all
+  accepted_has layers sid (Title v text) r stack p all = changed_has (is_view sid v) _ (λ view. refl) stack all
   accepted_has layers sid (Front v) r stack p all =
       moved_has (is_view sid v) _ (Put-front (λ view. layers view.sid) (layers sid)) stack all
   accepted_has layers sid (Back v) r stack p all =
@@ -111,8 +101,7 @@ module _ (P : ℕ → Type 0) where
   call_has : (layers : ℕ → ℕ) (sid : ℕ) (call : Call) (r : Reply) (stack : List ViewOf)
       → (is_accepted r ≡ true → P sid) → HaveAll P stack → HaveAll P (stack_after_call layers sid call r stack)
   unfolding stack_after_call
-  call_has layers sid call r stack p all =
-      cond_both (is_accepted r) _ stack (HaveAll P) (λ e. accepted_has layers sid call r stack (p e) all) (λ e. all)
+  call_has layers sid call r stack p all = grind (arith, nat_tests, cond_both, accepted_has)
 
   deliveries_have : (ds : List Delivery) (stack : List ViewOf) → HaveAll P stack
       → HaveAll P (after_deliveries ds stack)
@@ -186,13 +175,8 @@ live_after_call s sid call r h there replied =
 
 -- ---- a device event
 
-queued_status : (b : Bool) (e : Event) (u : Session)
-    → (if b then record u { queue = u.queue ++ e ∷ [] } else record u { lost = u.lost + 1 }).status ≡ u.status
-queued_status true e u = refl
-queued_status false e u = refl
-
 told_status : (st : Status) (i : Item) (u : Session) → is_kill i ≡ false → (by_life st i u).status ≡ u.status
-told_status status.Live (item.Event e) u not_ = queued_status (nat_lt (length u.queue) 64) e u
+told_status status.Live (item.Event e) u not_ = grind arith
 told_status status.Live item.Kill u not_ = cc
 told_status other i u not_ = refl
 
@@ -218,3 +202,49 @@ live_after_routing s r h (inr step) =
     (λ t live. still_live s (routed_to r s) step.killed (receive (session s step.killed) item.Kill)
     (rw step.alone refl) t (λ own. absurd (live.1 (sym own))) live.0)
     step.known (rw step.alone (others_have (IsLive s) step.killed s.stack h.views))
+
+-- ---- a whole journal
+
+pub live_after : (s : State) (taken : ℕ) (e : Entry) → AreLive s → Agrees s taken e → AreLive (after s e)
+live_after s taken (entry.Call sid call r) h agrees = live_after_call s sid call r h agrees.0 agrees.1
+live_after s taken (entry.Input dev routed) h agrees =
+    live_after_routing s (route s.config s.input s.stack dev) h
+    (route_step (IsLive s) s.config s.input s.stack dev (are_known s h) h.views)
+live_after s taken other h agrees = h
+
+-- where nobody has had any input, and there is no view
+pub begun : (s : State) → s.input ≡ first_input → s.stack ≡ [] → AreLive s
+begun s first none = grind (arith, nat_tests, live_now, All-nil)
+
+pub live_first : (config : Configuration) → AreLive (first_state config)
+live_first config = begun (first_state config) refl refl
+
+pub live_throughout : (config : Configuration) (journal : List Entry) → IsLegal config journal
+    → AreLive (replay config journal)
+live_throughout config journal legal =
+    behind (λ s done. AreLive s) (λ s taken e done agrees h. live_after s taken e h agrees) (first_state config) 0
+    journal [] legal (live_first config)
+
+-- whom a device event tells
+told_live : (s : State) (r : Routing) → IsStep (IsLive s) r → All (λ d. IsLive s d.sid) r.deliveries
+told_live s r (inl step) = All-weaker (IsTold (IsLive s)) (λ d. IsLive s d.sid) (λ d t. t.0) r.deliveries step.1
+told_live s r (inr step) = grind (arith, nat_tests, All-cons, All-nil)
+
+pub told_next : (s : State) (dev : Device) → AreLive s
+    → All (λ d. IsLive s d.sid) (route s.config s.input s.stack dev).deliveries
+told_next s dev h = told_live s (route s.config s.input s.stack dev)
+    (route_step (IsLive s) s.config s.input s.stack dev (are_known s h) h.views)
+
+pub told_are_live : (config : Configuration) (journal : List Entry) (dev : Device) → IsLegal config journal
+    → let s = replay config journal in All (λ d. IsLive s d.sid) (route s.config s.input s.stack dev).deliveries
+told_are_live config journal dev legal = told_next (replay config journal) dev (live_throughout config journal legal)
+
+-- ---- any steps
+
+-- a session that opens is live, and the others stay so
+pub live_opened : (s : State) (sid : ℕ) (label : List ℕ) → AreLive s → AreLive (opened sid label s)
+live_opened s sid label h =
+    live_now (IsLive s) (opened sid label s) (λ t live. (
+      rw length-set live.0,
+      after_set (λ (u : Session). u.status ≡ status.Live) s.sessions sid t _ (first_session 0) (λ own. refl) live.1,
+    )) (are_known s h) h.views

@@ -1,20 +1,25 @@
 -- While a session is live, the user's input is seen in its queue and its losses alone. The rest of it is as its
 -- calls alone would have it.
-use Rattle.std.proofs.Common.{Bool, List, None, Option, Some, [], ap, false, length, nat_lt, refl}
-use Rattle.std.proofs.Common.{sym, true, ℕ, ◌++◌, ◌+◌, ◌<◌, ◌∙◌, ◌∷◌, ◌≡◌, ◌≢◌, if◌then◌else◌}
-use Rattle.nit_journal.proofs.Basics.{Answered, Call, Configuration, Delivery, Entry, Event, Item}
-use Rattle.nit_journal.proofs.Basics.{Reply, Session, State, Status, Take, accepted, after}
-use Rattle.nit_journal.proofs.Basics.{after_calls, by_life, by_refusal, calls_of, delivered}
-use Rattle.nit_journal.proofs.Basics.{donation_of, first_session, first_state, own_machine, receive}
-use Rattle.nit_journal.proofs.Basics.{refusal, replay, replay_from, route, session, session_in}
-use Rattle.nit_journal.proofs.Basics.{taking}
+use Rattle.std.proofs.lemmas.Bool.Decides.{nat_tests}
+use Rattle.std.proofs.Common.{Bool, List, None, Option, Some, [], ap, append-nil, false}
+use Rattle.std.proofs.Common.{if◌then◌else◌, length, refl, sym, true, ℕ, ◌++◌, ◌+◌, ◌<◌, ◌∙◌, ◌∷◌}
+use Rattle.std.proofs.Common.{◌≡◌, ◌≢◌}
+use Rattle.nit_journal.proofs.Basics.{Agrees, Answered, Call, Close, Configuration, Delivery, Entry}
+use Rattle.nit_journal.proofs.Basics.{Event, IsLegal, Item, Reply, Session, State, Status, Take}
+use Rattle.nit_journal.proofs.Basics.{accepted, after, after_calls, arith, by_life, by_refusal}
+use Rattle.nit_journal.proofs.Basics.{by_status, calls_of, delivered, donation_of, first_session}
+use Rattle.nit_journal.proofs.Basics.{first_state, own_machine, receive, refusal, replay}
+use Rattle.nit_journal.proofs.Basics.{replay_from, route, session, session_in, shots, taking}
+use Rattle.nit_journal.proofs.Basics.{◌orelse◌}
 use Rattle.nit_journal.specs.Session.{serve}
 use Rattle.nit_events.specs.declared.event.Item.TheVariants as item
 use Rattle.nit_events.specs.declared.event.Status.TheVariants as status
 use Rattle.nit_events.specs.declared.entry.Entry.TheVariants as entry
-use Rattle.nit_journal.proofs.CallRefusals.{live_before}
-use Rattle.nit_journal.proofs.SessionLists.{after_set, at_change, handed, opens, still_there}
+use Rattle.nit_journal.proofs.SessionLists.{IsShort, after_set, as_many_as_clients, at_change}
+use Rattle.nit_journal.proofs.SessionLists.{handed, live_if, opens, short_answer, still_there}
 use Rattle.nit_journal.proofs.SessionLists.{there_at_first}
+use Rattle.nit_events.specs.declared.call.Reply.TheVariants as reply
+use Rattle.nit_journal.proofs.JournalFronts.{agrees_behind}
 
 -- without its queue and its losses
 abbrev quiet : Session → Session
@@ -52,18 +57,14 @@ alike t call = rw (quiet_refusal t call) (go (refusal (quiet t) call))
     go None = alike_accepted t call
 
 matches_served : (t u : Session) (call : Call) → Matches t u → Matches (serve t call).session (serve u call).session
-matches_served t u call h live = (alike t call).0
-    ∙ ap (λ (v : Session). quiet (serve v call).session) (h (live_before t call live)) ∙ sym (alike u call).0
+matches_served t u call h live =
+    let before = live_if (λ a. a.session.status ≡ status.Live) t call (λ e. e) (λ e. e) live in
+    (alike t call).0 ∙ ap (λ (v : Session). quiet (serve v call).session) (h before) ∙ sym (alike u call).0
 
 -- ---- one item
 
-queued_kept : (room : Bool) (e : Event) (t : Session)
-    → quiet (if room then record t { queue = t.queue ++ e ∷ [] } else record t { lost = t.lost + 1 }) ≡ quiet t
-queued_kept true e t = refl
-queued_kept false e t = refl
-
 received_by : (t u : Session) (i : Item) (was : Status) → t.status ≡ was → Matches t u → Matches (by_life was i t) u
-received_by t u (item.Event e) status.Live was h live = queued_kept (nat_lt (length t.queue) 64) e t ∙ h was
+received_by t u (item.Event e) status.Live was h live = grind (arith, h was)
 received_by t u item.Kill status.Live was h live = cc
 received_by t u i status.Closed was h live = h live
 received_by t u i status.Killed was h live = h live
@@ -109,18 +110,66 @@ pub as_its_calls_have_it : (config : Configuration) (journal : List Entry) (s : 
     → session (replay config journal) s
     ≡ record (own_machine config s journal) {
       queue = (session (replay config journal) s).queue;
-      lost =
-          (session (replay config journal) s).lost;
+      lost = (session (replay config journal) s).lost;
     }
-as_its_calls_have_it config journal s lt live =
-    let now = session (replay config journal) s in
-    ap (λ (t : Session). record t { queue = now.queue; lost = now.lost }) (matches_calls config journal s lt live)
+as_its_calls_have_it config journal s lt live = grind (arith, nat_tests, matches_calls)
 
 pub answered_alike : (config : Configuration) (journal : List Entry) (s : ℕ) → s < length config.clients
     → (session (replay config journal) s).status ≡ status.Live
     → (call : Call) → (call ≡ Take → ⊥) → (serve (session (replay config journal) s) call).reply
     ≡ (serve (own_machine config s journal) call).reply
-answered_alike config journal s lt live call other =
-    (alike (session (replay config journal) s) call).1 other
-    ∙ ap (λ (t : Session). (serve t call).reply) (matches_calls config journal s lt live)
-    ∙ sym ((alike (own_machine config s journal) call).1 other)
+answered_alike config journal s lt live call other = grind (arith, nat_tests, alike, matches_calls)
+
+-- events are taken from the front of a queue, and none is put in
+abbrev pub IsTaken : List Event → List Event → Type 0
+IsTaken before now = (taken : List Event) × (before ≡ taken ++ now)
+
+taken_by : (queue : List Event) (t : Session) → t.queue ≡ queue → IsTaken t.queue (taking queue t).session.queue
+taken_by [] t e = ([], refl)
+taken_by (event ∷ events) t e = (event ∷ [], e)
+
+taken_accepted : (t : Session) (call : Call) → IsTaken t.queue (accepted t call).session.queue
+taken_accepted t Take = taken_by t.queue t refl
+taken_accepted t Close = (t.queue, sym (append-nil t.queue))
+taken_accepted t other = ([], refl)
+
+pub taken_served : (t : Session) (call : Call) → IsTaken t.queue (serve t call).session.queue
+unfolding serve
+taken_served t call = go (refusal t call)
+  where
+    go : (refused : Option Reply) → IsTaken t.queue (by_refusal t call refused).session.queue
+    go (Some r) = ([], refl)
+    go None = taken_accepted t call
+
+-- the reply is a refusal for want of quota or reserve
+abbrev pub is_lack : Reply → Bool
+is_lack (reply.OutOfQuota need left) = true
+is_lack (reply.NoReserve need left) = true
+is_lack other = false
+
+-- to take an event costs nothing
+no_take : (t : Session) (call : Call) → is_lack (serve t call).reply ≡ true → call ≢ Take
+unfolding serve
+no_take t call lack take = go t.status t.queue (rw take at lack)
+  where
+    go : (was : Status) (queue : List Event)
+        → is_lack (by_refusal (record t { queue = queue }) Take (by_status was orelse None)).reply ≡ true → ⊥
+    go status.Live [] lack = cc
+    go status.Live (e ∷ es) lack = cc
+    go status.Closed queue lack = cc
+    go status.Killed queue lack = cc
+
+-- ---- in a legal journal
+
+pub lacks_by_itself : (config : Configuration) (front rest : List Entry) (sid : ℕ) (call : Call) (r : Reply)
+    → is_lack r ≡ true → IsLegal config (front ++ entry.Call sid call r ∷ rest)
+    → IsShort r × ((serve (own_machine config sid front) call).reply ≡ r)
+lacks_by_itself config front rest sid call r lack legal =
+    let now = session (replay config front) sid in
+    let agrees : Agrees (replay config front) (shots front) (entry.Call sid call r) =
+    agrees_behind config front (entry.Call sid call r) rest legal in
+    let inside : sid < length config.clients = rw (← as_many_as_clients config front) agrees.0 in
+    let lacking : is_lack (serve now call).reply ≡ true = rw agrees.1 at lack in
+    let live = live_if (λ a. is_lack a.reply ≡ true) now call (λ e. cc) (λ e. cc) lacking in
+    let alike = answered_alike config front sid inside live call (no_take now call lacking) in
+    (rw agrees.1 (short_answer now call), sym alike ∙ sym agrees.1)

@@ -1,18 +1,17 @@
 -- Each kind of step keeps the rule of a book.
 use Rattle.nit_ledger.proofs.Basics.{Allows, Bears, BearsShare, BookView, FitsView, IsBookAt}
 use Rattle.nit_ledger.proofs.Basics.{IsBookRule, IsTokenInStep, Joins, OfBook, OfShare, Recorded}
-use Rattle.nit_ledger.proofs.Basics.{Spent, Splits, State, StepDone, Token, at_last, at_longer}
-use Rattle.nit_ledger.proofs.Basics.{at_set}
-use Rattle.nit_ledger.proofs.Basics.{book_at_rest, book_with_share, cases_eq, get_or-append_seam}
-use Rattle.nit_ledger.proofs.Basics.{get_or_append_left, keeps, length-set, opening, raised_by}
-use Rattle.nit_ledger.proofs.Basics.{set_else, set_here, step, token}
-use Rattle.std.proofs.Common.{List, None, Option, Some, [], ap, arith, cond, eq-eqb, eqb}
-use Rattle.std.proofs.Common.{get_or-set_other, get_or-set_same, inl, inr, length, length-append}
-use Rattle.std.proofs.Common.{ne_eqb, refl, set, slice_index, subst, suc, sym, zero, ℕ, ⊎_elim}
-use Rattle.std.proofs.Common.{◌++◌, ◌+◌, ◌<◌, ◌∙◌, ◌∷◌, ◌≡◌, ◌≢◌, ◌⊎◌}
-use mathlib.Core.Option.{some, none, some-ne-none, some-injective}
+use Rattle.nit_ledger.proofs.Basics.{Spent, Splits, State, StepDone, Token, append-nil, at_last}
+use Rattle.nit_ledger.proofs.Basics.{at_longer, at_set, book_at_rest, book_with_share, cases_eq}
+use Rattle.nit_ledger.proofs.Basics.{get_or-append_seam, get_or_append_left, keeps, length-set}
+use Rattle.nit_ledger.proofs.Basics.{opening, raised_by, set-get_or, set_else, set_here, step}
+use Rattle.nit_ledger.proofs.Basics.{token}
+use Rattle.std.proofs.Common.{List, None, Option, Some, [], add-zero, ap, append_assoc, arith, cond}
+use Rattle.std.proofs.Common.{eq-eqb, eqb, get_or-set_other, get_or-set_same, inl, inr, length}
+use Rattle.std.proofs.Common.{length-append, ne_eqb, refl, set, slice_index, suc, sym, zero, ℕ}
+use Rattle.std.proofs.Common.{⊎_elim, ◌++◌, ◌+◌, ◌<◌, ◌∙◌, ◌∷◌, ◌≡◌, ◌≢◌, ◌⊎◌}
+use mathlib.Core.Option.{none, some, some-injective, some-ne-none}
 use lib.ListN.{get_elem?}
-use Rattle.nit_ledger.proofs.Prefixes.{front_self, front_trans}
 
 at_snoc : {A : Type 0} (l : List A) (a b : A) (j : ℕ) → get_elem? (l ++ a ∷ []) j ≡ some b → (get_elem? l j ≡ some b)
     ⊎ ((j ≡ length l) × (a ≡ b))
@@ -25,20 +24,18 @@ at_snoc (x ∷ xs) a b (suc j) e = ⊎_elim (λ p. inl p) (λ q. inr (ap suc q.0
 over_set : (F : ℕ → BookView → Type 0) (views : List BookView) (by : ℕ) (w : BookView)
     → ((j : ℕ) (u : BookView) → j ≢ by → get_elem? views j ≡ some u → F j u) → F by w → (j : ℕ) (u : BookView)
     → get_elem? (set views by w) j ≡ some u → F j u
-over_set F views by w others mine j u e =
-    ⊎_elim
-    (λ (x : (j ≡ by) × (w ≡ u)). subst (λ (y : ℕ × BookView). F y.0 y.1) (λ i. (sym x.0 i, x.1 i)) mine)
-    (λ (x : (j ≢ by) × (get_elem? views j ≡ some u)). others j u x.0 x.1)
-    (at_set views by j w u e)
+over_set F views by w others mine j u e = elim (at_set views by j w u e) [
+  | inl x ↦ rw (x.0, ← x.1) mine
+  | inr x ↦ others j u x.0 x.1
+]
 
 over_snoc : (F : ℕ → BookView → Type 0) (views : List BookView) (w : BookView)
     → ((j : ℕ) (u : BookView) → get_elem? views j ≡ some u → F j u) → F (length views) w → (j : ℕ) (u : BookView)
     → get_elem? (views ++ w ∷ []) j ≡ some u → F j u
-over_snoc F views w others mine j u e =
-    ⊎_elim
-    (λ (x : get_elem? views j ≡ some u). others j u x)
-    (λ (x : (j ≡ length views) × (w ≡ u)). subst (λ (y : ℕ × BookView). F y.0 y.1) (λ i. (sym x.0 i, x.1 i)) mine)
-    (at_snoc views w u j e)
+over_snoc F views w others mine j u e = elim (at_snoc views w u j e) [
+  | inl x ↦ others j u x
+  | inr x ↦ rw (x.0, ← x.1) mine
+]
 
 -- who holds a number, after the number n has moved
 moved : (ℕ → ℕ) → ℕ → ℕ → ℕ → ℕ
@@ -83,18 +80,15 @@ stands_last views w n b = (w, at_last views w (length views) refl, b)
 -- a number is held elsewhere where the view does not hold it
 elsewhere : (views : List BookView) (by : ℕ) (v : BookView) (j n : ℕ) → get_elem? views by ≡ some v → (Bears n v → ⊥)
     → BearsShare views j n → j ≢ by
-elsewhere views by v j n at free s e =
-    let there : get_elem? views by ≡ some s.0 = subst (λ (k : ℕ). get_elem? views k ≡ some s.0) e s.1 in
-    free (subst (Bears n) (some-injective _ _ (sym there ∙ at)) s.2)
+elsewhere views by v j n at free s e = free (rw (some-injective _ _ (sym (rw e at s.1) ∙ at)) at s.2)
 
 -- the holder of a number, by whether it is the one that moved
 by_number : (holder : ℕ → ℕ) (views : List BookView) (m to n : ℕ) → (n ≡ m → BearsShare views to n)
     → (n ≢ m → BearsShare views (holder n) n) → BearsShare views (moved holder m to n) n
-by_number holder views m to n hit miss =
-    ⊎_elim
-    (λ (e : n ≡ m). subst (λ (k : ℕ). BearsShare views k n) (sym (moved_here holder m to n e)) (hit e))
-    (λ (e : n ≡ m → ⊥). subst (λ (k : ℕ). BearsShare views k n) (sym (moved_else holder m to n e)) (miss e))
-    (cases_eq n m)
+by_number holder views m to n hit miss = elim (cases_eq n m) [
+  | inl e ↦ rw (moved_here holder m to n e) (hit e)
+  | inr e ↦ rw (moved_else holder m to n e) (miss e)
+]
 
 -- the book's view is at its seat after a step of that seat, where a view is put behind the others
 booked_push : (views : List BookView) (id : ℕ) (v w : BookView) (es : List Recorded) (cs : List ℕ)
@@ -111,35 +105,38 @@ begins = record {
   holder = λ n. 0;
   word = refl;
   book = (None, refl);
-  fits =
-      one;
+  fits = one;
   held = λ n lt. absurd (omega arith);
 }
   where
     one : (by : ℕ) (v : BookView) → get_elem? (OfBook [] [] None ∷ []) by ≡ some v → FitsView [] [] 0 (λ n. 0) by v
-    one zero v e = subst (FitsView [] [] 0 (λ n. 0) 0) (some-injective _ _ e) (refl, refl, refl, tt)
+    one zero v e = rw (← some-injective _ _ e) (refl, refl, refl, tt)
     one (suc by) v e = absurd (some-ne-none v (sym e))
 
--- the rule, at the view of the book's seat
-settled : (s : State (Unit {0}) BookView) (kept : IsBookRule s) (id : ℕ) (es : List Recorded) (cs : List ℕ)
-    (t : Option Token) → get_elem? s.views id ≡ some (OfBook es cs t) → (j : ℕ) (u : BookView)
-    → get_elem? s.views j ≡ some u → FitsView es cs id kept.holder j u
-settled s kept id es cs t at j u e =
-    let here = kept.fits id (OfBook es cs t) at in
-    subst (λ (y : List Recorded × List ℕ × ℕ). FitsView y.0 y.1 y.2 kept.holder j u)
-    (λ i. (sym here.1 i, sym here.2 i, sym here.0 i)) (kept.fits j u e)
+module _ {s : State (Unit {0}) BookView} (kept : IsBookRule s) (id : ℕ) {es : List Recorded} {cs : List ℕ}
+    {t : Option Token} (at : get_elem? s.views id ≡ some (OfBook es cs t)) where
+  -- the rule, at the view of the book's seat
+  settled : (j : ℕ) (u : BookView) → get_elem? s.views j ≡ some u → FitsView es cs id kept.holder j u
+  settled j u e =
+      let here = kept.fits id (OfBook es cs t) at in
+      rw (here.0, here.1, here.2) (kept.fits j u e)
+
+  -- a number that the book does not bear stays where it was
+  still_held : (w : BookView) (n : ℕ) → n < length cs → (Bears n (OfBook es cs t) → ⊥)
+      → BearsShare (set s.views id w) (kept.holder n) n
+  still_held w n lt free =
+      let counts : cs ≡ kept.counts = (kept.fits id (OfBook es cs t) at).2 in
+      let was = kept.held n (rw counts at lt) in
+      stands_set s.views id w (kept.holder n) n (elsewhere s.views id _ (kept.holder n) n at free was) was
 
 opened_part : (es : List Recorded) (cs : List ℕ) (holder : ℕ → ℕ) (to j : ℕ) (t : Token) → holder t.number ≡ j
     → IsTokenInStep es cs t → (moved holder (length cs) to t.number ≡ j) × IsTokenInStep es (cs ++ 0 ∷ []) t
 opened_part es cs holder to j t h a =
-    let below = a.below in
-    let ne : t.number ≢ length cs = λ q. omega arith in (
-      moved_else holder (length cs) to t.number ne
-          ∙ h,
+    let below = a.below in (
+      moved_else holder (length cs) to t.number (omega arith) ∙ h,
       record {
         below = omega (arith, length-append cs (0 ∷ []));
-        counted =
-            get_or_append_left cs (0 ∷ []) 0 t.number a.below ∙ a.counted;
+        counted = get_or_append_left cs (0 ∷ []) 0 t.number a.below ∙ a.counted;
         front = a.front;
       },
     )
@@ -161,25 +158,19 @@ opens id es cs s kept at =
       fits = over_snoc F (set s.views id w) (OfShare (token (length cs) 0 es))
           (over_set F s.views id w
           (λ j u apart e. other_fits es es cs (cs ++ 0 ∷ []) id kept.holder holder j u apart
-          (opened_part es cs kept.holder to j) (settled s kept id es cs None at j u e))
+          (opened_part es cs kept.holder to j) (settled kept id at j u e))
           (refl, refl, refl, tt)) (
             moved_here kept.holder (length cs) to (length cs) refl,
             record {
               below = omega (arith, length-append cs (0 ∷ []));
               counted = get_or-append_seam cs 0 [] 0;
-              front =
-                  front_self es;
+              front = ([], append-nil es);
             },
           );
       held = λ n lt. by_number kept.holder (set s.views id w ++ OfShare (token (length cs) 0 es) ∷ []) (length cs) to n
           (λ e. stands_last (set s.views id w) (OfShare (token (length cs) 0 es)) n (sym e))
-          (λ ne.
-          let less : n < length cs = let l = length-append cs (0 ∷ []) in omega arith in
-          let counts : cs ≡ kept.counts = (kept.fits id (OfBook es cs None) at).2 in
-          let was = kept.held n (subst (λ (c : List ℕ). n < length c) counts less) in
-          stands_push (set s.views id w) _ (kept.holder n) n
-          (stands_set s.views id w (kept.holder n) n
-          (elsewhere s.views id (OfBook es cs None) (kept.holder n) n at (λ b. b) was) was));
+          (λ ne. stands_push (set s.views id w) _ (kept.holder n) n
+          (still_held kept id at w n (omega (arith, lt, length-append cs (0 ∷ []))) (λ b. b)));
     }
 
 taken_part : (es : List Recorded) (cs : List ℕ) (holder : ℕ → ℕ) (n to from j : ℕ) → holder n ≡ from → j ≢ from
@@ -194,12 +185,9 @@ takes id es cs other t s kept at apart there =
     let w : BookView = book_with_share es cs t in
     let holder : ℕ → ℕ = moved kept.holder t.number id in
     let F : ℕ → BookView → Type 0 = FitsView es cs id holder in
-    let all = settled s kept id es cs None at in
-    let was' : get_elem? s.views other ≡ some (OfShare t) =
-    ⊎_elim (λ (x : (other ≡ id) × (w ≡ OfShare t)). absurd (apart x.0))
-    (λ (x : (other ≢ id) × (get_elem? s.views other ≡ some (OfShare t))). x.1)
-    (at_set s.views id other w (OfShare t) there) in
-    let theirs = all other (OfShare t) was' in
+    let all = settled kept id at in
+    let theirs : (kept.holder t.number ≡ other) × IsTokenInStep es cs t =
+    all other (OfShare t) (sym (set_else s.views id other w apart) ∙ there) in
     record {
       entries = es;
       counts = cs;
@@ -211,35 +199,19 @@ takes id es cs other t s kept at apart there =
         set_else (set s.views id w) other id Spent (λ q. apart (sym q))
             ∙ set_here s.views id w (at_within s.views id (book_at_rest es cs) at),
       );
-      fits = λ j u e. last s.views id es cs other t kept.holder all theirs j u e;
+      fits = over_set F (set s.views id w) other Spent (λ j u off e.
+          over_set (λ i v. i ≢ other → F i v) s.views id w (λ i v apart' e' off'.
+          other_fits es es cs cs id kept.holder holder i v apart'
+          (taken_part es cs kept.holder t.number id other i theirs.0 off') (all i v e'))
+          (λ off'. (refl, refl, refl, (theirs.1, moved_here kept.holder t.number id t.number refl))) j u e off) tt;
       held = λ n lt. by_number kept.holder (set (set s.views id w) other Spent) t.number id n
           (λ e. stands_set (set s.views id w) other Spent id n (λ q. apart (sym q))
           (stands_here s.views id (OfBook es cs None) w n at (sym e)))
           (λ ne.
-          let counts : cs ≡ kept.counts = (kept.fits id (OfBook es cs None) at).2 in
-          let was = kept.held n (subst (λ (c : List ℕ). n < length c) counts lt) in
+          let still = still_held kept id at w n lt (λ b. b) in
           stands_set (set s.views id w) other Spent (kept.holder n) n
-          (elsewhere s.views other (OfShare t) (kept.holder n) n was' (λ b. ne (sym b)) was)
-          (stands_set s.views id w (kept.holder n) n
-          (elsewhere s.views id (OfBook es cs None) (kept.holder n) n at (λ b. b) was) was));
+          (elsewhere (set s.views id w) other (OfShare t) (kept.holder n) n there (λ b. ne (sym b)) still) still);
     }
-  where
-    last : (views : List BookView) (id : ℕ) (es : List Recorded) (cs : List ℕ) (other : ℕ) (t : Token) (holder : ℕ → ℕ)
-        → ((j : ℕ) (u : BookView) → get_elem? views j ≡ some u → FitsView es cs id holder j u)
-        → (holder t.number ≡ other) × IsTokenInStep es cs t → (j : ℕ) (u : BookView)
-        → get_elem? (set (set views id (book_with_share es cs t)) other Spent) j ≡ some u
-        → FitsView es cs id (moved holder t.number id) j u
-    last views id es cs other t holder all theirs j u e =
-        ⊎_elim
-        (λ (x : (j ≡ other) × (Spent ≡ u)). subst (FitsView es cs id (moved holder t.number id) j) x.1 tt)
-        (λ (x : (j ≢ other) × (get_elem? (set views id (book_with_share es cs t)) j ≡ some u)).
-        ⊎_elim
-        (λ (y : (j ≡ id) × (book_with_share es cs t ≡ u)). subst (FitsView es cs id (moved holder t.number id) j) y.1
-        (y.0, refl, refl, (theirs.1, moved_here holder t.number id t.number refl)))
-        (λ (y : (j ≢ id) × (get_elem? views j ≡ some u)). other_fits es es cs cs id holder (moved holder t.number id) j
-        u y.0 (taken_part es cs holder t.number id other j theirs.0 x.0) (all j u y.1))
-        (at_set views id j (book_with_share es cs t) u x.1))
-        (at_set (set views id (book_with_share es cs t)) other j Spent u e)
 
 pub gives : (id : ℕ) (es : List Recorded) (cs : List ℕ) (t : Token)
     → Splits IsBookRule id (book_with_share es cs t) (book_at_rest es cs) (OfShare t)
@@ -248,7 +220,7 @@ gives id es cs t s kept at =
     let to : ℕ = length (set s.views id w) in
     let holder : ℕ → ℕ = moved kept.holder t.number to in
     let F : ℕ → BookView → Type 0 = FitsView es cs id holder in
-    let all = settled s kept id es cs (Some t) at in
+    let all = settled kept id at in
     let mine = (all id (OfBook es cs (Some t)) at).3 in
     record {
       entries = es;
@@ -265,12 +237,8 @@ gives id es cs t s kept at =
           (moved_here kept.holder t.number to t.number refl, mine.0);
       held = λ n lt. by_number kept.holder (set s.views id w ++ OfShare t ∷ []) t.number to n
           (λ e. stands_last (set s.views id w) (OfShare t) n (sym e))
-          (λ ne.
-          let counts : cs ≡ kept.counts = (kept.fits id (OfBook es cs (Some t)) at).2 in
-          let was = kept.held n (subst (λ (c : List ℕ). n < length c) counts lt) in
-          stands_push (set s.views id w) (OfShare t) (kept.holder n) n
-          (stands_set s.views id w (kept.holder n) n
-          (elsewhere s.views id (OfBook es cs (Some t)) (kept.holder n) n at (λ b. ne (sym b)) was) was));
+          (λ ne. stands_push (set s.views id w) (OfShare t) (kept.holder n) n
+          (still_held kept id at w n lt (λ b. ne (sym b))));
     }
 
 -- another share, after the share n has added entries and counted
@@ -283,27 +251,10 @@ grown_part es cs added risen holder n id j is apart t h a =
       h,
       record {
         below = omega (arith, length-set cs n (slice_index cs n + risen));
-        counted =
-            get_or-set_other cs n t.number (slice_index cs n + risen) 0 ne ∙ a.counted;
-        front =
-            front_trans t.seen es (es ++ added) a.front (added, refl);
+        counted = get_or-set_other cs n t.number (slice_index cs n + risen) 0 ne ∙ a.counted;
+        front = (a.front.0 ++ added, sym (append_assoc t.seen a.front.0 added) ∙ ap (λ w. w ++ added) a.front.1);
       },
     )
-
--- the seat that has taken a share in keeps its number
-holding_on : (s : State (Unit {0}) BookView) (kept : IsBookRule s) (id : ℕ) (es : List Recorded) (cs : List ℕ)
-    (t : Token) (w : BookView) → get_elem? s.views id ≡ some (OfBook es cs (Some t)) → kept.holder t.number ≡ id
-    → Bears t.number w → (n : ℕ) → n < length cs → BearsShare (set s.views id w) (kept.holder n) n
-holding_on s kept id es cs t w at is b n lt =
-    ⊎_elim
-    (λ (e : n ≡ t.number). subst (λ (k : ℕ). BearsShare (set s.views id w) k n) (sym (ap kept.holder e ∙ is))
-    (stands_here s.views id (OfBook es cs (Some t)) w n at (subst (λ (k : ℕ). Bears k w) (sym e) b)))
-    (λ (ne : n ≡ t.number → ⊥).
-    let counts : cs ≡ kept.counts = (kept.fits id (OfBook es cs (Some t)) at).2 in
-    let was = kept.held n (subst (λ (c : List ℕ). n < length c) counts lt) in
-    stands_set s.views id w (kept.holder n) n
-    (elsewhere s.views id (OfBook es cs (Some t)) (kept.holder n) n at (λ q. ne (sym q)) was) was)
-    (cases_eq n t.number)
 
 -- the share that is taken in adds entries and counts
 pub does : (slots id : ℕ) (es : List Recorded) (cs : List ℕ) (t : Token) (added : List Recorded) (risen : ℕ)
@@ -315,7 +266,7 @@ does slots id es cs t added risen s kept homes at fits =
     let t' : Token = token t.number (t.count + risen) es' in
     let w : BookView = book_with_share es' cs' t' in
     let F : ℕ → BookView → Type 0 = FitsView es' cs' id kept.holder in
-    let all = settled s kept id es cs (Some t) at in
+    let all = settled kept id at in
     let mine = (all id (OfBook es cs (Some t)) at).3 in
     let below = mine.0.below in (
       w,
@@ -336,18 +287,25 @@ does slots id es cs t added risen s kept homes at fits =
               refl,
               (
                 record {
-                  below =
-                      omega (arith, length-set cs t.number (slice_index cs t.number + risen));
+                  below = omega (arith, length-set cs t.number (slice_index cs t.number + risen));
                   counted =
                       get_or-set_same cs t.number (slice_index cs t.number + risen) 0 mine.0.below
                       ∙ ap (λ (k : ℕ). k + risen) mine.0.counted;
-                  front = front_self es';
+                  front = ([], append-nil es');
                 },
                 mine.1,
               ),
             );
-        held = λ n lt. holding_on s kept id es cs t w at mine.1 refl n (let l =
-            length-set cs t.number (slice_index cs t.number + risen) in omega arith);
+        held = λ n lt. elim (cases_eq n t.number) [
+          | inl e ↦ rw (e, mine.1) (stands_here s.views id (OfBook es cs (Some t)) w t.number at refl)
+          | inr ne ↦
+              let less : n < length cs = omega (arith, lt, length-set cs t.number (slice_index cs t.number + risen)) in
+              still_held kept id at w n less (λ b. ne (sym b))
+        ];
       },
       ((refl, mine.0), refl),
     )
+
+-- a count that rises by nothing stays
+pub raised_by-zero : (counts : List ℕ) (number : ℕ) → raised_by counts number 0 ≡ counts
+raised_by-zero counts number = rw (add-zero, set-get_or counts number 0)

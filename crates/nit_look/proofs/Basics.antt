@@ -3,17 +3,13 @@ pub use Rattle.nit_look.specs.Terms.{AgreeIn, AgreeOutside, AreEdges, Bound, Cov
 pub use Rattle.nit_look.specs.Terms.{DiffersWhere, Edges, IsBetween, IsMerged, IsSpan, IsTouched}
 pub use Rattle.nit_look.specs.Terms.{LiesOn, None, Span, Spans, drop, is_among, is_in_rows}
 pub use Rattle.nit_look.specs.Terms.{picture_row, place_at, pos, rectangle_between, slice_index}
-pub use Rattle.nit_look.specs.Terms.{spans, take}
-pub use Rattle.nit_rect.proofs.ForCallers.{and_true, spans_holds}
+pub use Rattle.nit_look.specs.Terms.{take}
 pub use Rattle.std.proofs.Common.{Bool, IfSome, List, Option, Some, ap, arith, cond, false, inl}
-pub use Rattle.std.proofs.Common.{inr, length, max, min, mul_comm, refl, subst, sym, ℕ, ◌∙◌}
+pub use Rattle.std.proofs.Common.{inr, length, max, min, mul_comm, refl, ◌∙◌}
 pub use Rattle.std.proofs.Math.Nat.{le-div_iff_mul-le}
-pub use Rattle.std.proofs.Math.Seq.{take-add}
-pub use Rattle.std.proofs.lemmas.Bool.{cases_eq, cases_lt}
+pub use Rattle.std.proofs.lemmas.Bool.{cases_Bool, cases_eq, cases_lt}
 pub use Rattle.std.proofs.lemmas.Bool.Decides.{nat_tests}
 pub use Rattle.std.proofs.lemmas.Int.{ints}
-pub use Rattle.std.proofs.lemmas.List.{drop-drop, ext_get_or, get_or-drop, get_or-take, get_or_past}
-pub use Rattle.std.proofs.lemmas.List.{length-drop, length-take, places}
+pub use Rattle.std.proofs.lemmas.List.{ext_get_or, get_or_past, length-drop, length-take, places}
 pub use Rattle.std.proofs.lemmas.Nat.{div-mul-add, div_below, mod-mul-add, mod_below, mul-le}
 pub use Rattle.std.proofs.lemmas.Nat.{row_fits}
-pub use Rattle.std.proofs.lemmas.Slice.{drop-put_mid, take-put_mid}

@@ -1,4 +1,3 @@
-pub mod Copies
 pub mod Rows
 pub mod Merging
 pub mod Patches

@@ -30,5 +30,5 @@ pub use Rattle.std.proofs.lemmas.List.{length-take-le, map-append, nil_from_leng
 pub use Rattle.std.proofs.lemmas.List.{take-append-drop}
 pub use Rattle.std.proofs.lemmas.List.Elements.{recursion_from_All}
 pub use Rattle.std.proofs.lemmas.List.FromFn.{get_or-enumerate_from, length-enumerate_from}
-pub use Rattle.std.proofs.lemmas.List.Sums.{fold-append, sum_by-append}
+pub use Rattle.std.proofs.lemmas.List.Sums.{fold-append, sum_by-append, sum_by-cons}
 pub use Rattle.std.proofs.lemmas.Nat.{div-mul-add, div_below, mod-mul-add, mul-add-lt}

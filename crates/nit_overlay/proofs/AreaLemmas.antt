@@ -1,11 +1,46 @@
--- An area is painted row by row.
-use Rattle.std.proofs.Common.{List, ap, arith, cond, false, get_or, inl, inr, length, rules, true}
-use Rattle.std.proofs.Common.{ℕ, ◌%◌, ◌*◌, ◌+◌, ◌-◌, ◌/◌, ◌<◌, ◌∙◌, ◌≡◌, ◌≤◌}
-use Rattle.nit_overlay.proofs.Basics.{Area, IsOverlaid, IsPainted, between, cases_lt, div-mul-add}
-use Rattle.nit_overlay.proofs.Basics.{get_or-between, in_area, le-div, mod-mul-add, nat_tests}
-use Rattle.nit_overlay.proofs.Basics.{places}
+-- An area is painted part by part: rows of runs, bands of rows, and runs of columns; and the rows of the bar.
+use Rattle.std.proofs.Common.{List, ap, arith, cond, false, get_or, inl, inr, length, min, refl}
+use Rattle.std.proofs.Common.{rules, slice_index, true, ℕ, ◌%◌, ◌*◌, ◌+◌, ◌-◌, ◌/◌, ◌<◌, ◌||◌, ◌∙◌}
+use Rattle.std.proofs.Common.{◌≡◌, ◌≤◌, ◌⊎◌}
+use Rattle.nit_overlay.proofs.Basics.{Area, IsAreaBy, IsOverlaid, IsPainted, Scenery, bar_text}
+use Rattle.nit_overlay.proofs.Basics.{bar_word, between, cases_lt, div-lt_iff_lt-mul, div-mul-add}
+use Rattle.nit_overlay.proofs.Basics.{dot, get_or-between, in_area, in_bar, ink_of, ints}
+use Rattle.nit_overlay.proofs.Basics.{is_in_picture, le-div, max, mod-mul-add, nat_lt, nat_tests}
+use Rattle.nit_overlay.proofs.Basics.{picture_width, pixel, places, point, shown, unowned_word}
 use borrow.Rule.Slice.PartMut.{put_mid}
-use Rattle.nit_overlay.proofs.RowParts.{painted_by}
+
+-- ---- a row is painted part by part
+
+-- as far as the parts have come
+pub record RowSoFar (f : ℕ → ℕ → ℕ) (raw old now : List ℕ) (from to at : ℕ) : Type 0 where
+  pub after : from ≤ at
+  pub inside : at ≤ to
+  pub whole : IsPainted f raw old now from at
+
+pub nothing : {f : ℕ → ℕ → ℕ} {raw row : List ℕ} {from : ℕ} → IsPainted f raw row row from from
+nothing = record { painted = λ k le lt. absurd (omega arith); before = λ k lt. refl; after = λ k le. refl }
+
+-- what is painted by one rule is painted by another that gives the same words there
+pub painted_by : {f g : ℕ → ℕ → ℕ} {raw old now : List ℕ} {from to : ℕ} → IsPainted f raw old now from to
+    → ((k w : ℕ) → from ≤ k → k < to → f k w ≡ g k w) → IsPainted g raw old now from to
+painted_by {raw = raw} row same = record {
+  painted = λ k le lt. row.painted k le lt ∙ same k (slice_index raw k) le lt;
+  before = row.before;
+  after = row.after;
+}
+
+pub joined : {f : ℕ → ℕ → ℕ} {raw old now new : List ℕ} {from mid to : ℕ} → from ≤ mid → mid ≤ to
+    → IsPainted f raw old now from mid → IsPainted f raw now new mid to → IsPainted f raw old new from to
+joined {mid = mid} le more first second = record {
+  painted = λ k from_le lt. grind (arith, second.before k, first.painted k from_le, second.painted k);
+  before = λ k lt. second.before k (omega arith) ∙ first.before k lt;
+  after = λ k ge. second.after k ge ∙ first.after k (omega arith);
+}
+
+pub further : {f : ℕ → ℕ → ℕ} {raw old now new : List ℕ} {from to at next : ℕ} → RowSoFar f raw old now from to at
+    → at ≤ next → next ≤ to → IsPainted f raw now new at next → RowSoFar f raw old new from to next
+further far le short part =
+    record { after = omega (arith, far.after); inside = short; whole = joined far.after le far.whole part }
 
 -- ---- a part of a list that is put back
 
@@ -14,11 +49,11 @@ put_in : (a n : ℕ) (xs mid : List ℕ) (k : ℕ) → a + n ≤ length xs → l
 put_in a n xs mid k room long lt = search (rules, places)
 
 -- a row that was painted by its columns, in the whole
-pub put_back : (f : ℕ → ℕ → ℕ) (raw old mid : List ℕ) (start n from to : ℕ) → start + n ≤ length old → length mid ≡ n
-    → from ≤ to → to ≤ n
+put_back : {f : ℕ → ℕ → ℕ} {raw old mid : List ℕ} (start n : ℕ) {from to : ℕ} → start + n ≤ length old
+    → length mid ≡ n → from ≤ to → to ≤ n
     → IsPainted (λ x w. f (start + x) w) (between start (start + n) raw) (between start (start + n) old) mid from to
     → IsPainted f raw old (put_mid start n old mid) (start + from) (start + to)
-put_back f raw old mid start n from to room long order short row = record {
+put_back {f} {raw} {old} {mid} start n {from} {to} room long order short row = record {
   painted =
       λ k le lt.
       let e : start + (k - start) ≡ k = omega arith in
@@ -67,19 +102,14 @@ below a width k some ge =
     let row : a.bottom ≤ k / width = le-div a.bottom k width some ge in grind (arith, nat_tests)
 
 -- a row whose words are told by their indexes
-pub next_part : (f : ℕ → ℕ → ℕ) (a : Area) (width y : ℕ) (raw old now new : List ℕ) → a.left ≤ a.right → a.right ≤ width
-    → y < a.bottom → RowsSoFar f a width raw old now y
+next_part : {f : ℕ → ℕ → ℕ} {a : Area} {width y : ℕ} {raw old now new : List ℕ} → RowsSoFar f a width raw old now y
+    → a.left ≤ a.right → a.right ≤ width → y < a.bottom
     → IsPainted f raw now new (y * width + a.left) (y * width + a.right) → RowsSoFar f a width raw old new (y + 1)
-next_part f a width y raw old now new order short down far part = record {
+next_part {f} {a} {width} {y} {raw} {old} {now} {new} far order short down part = record {
   after = omega (arith, far.after);
   inside = omega arith;
   whole = record {
-    words =
-        λ k lt.
-        elim (cases_lt k (y * width)) [
-          | inl less ↦ part.before k (omega arith) ∙ far.whole.words k less
-          | inr ge ↦ in_the_row k ge (omega arith)
-        ];
+    words = λ k lt. grind (arith, part.before k, far.whole.words k, in_the_row k);
     rest = λ k ge. part.after k (omega arith) ∙ far.whole.rest k (omega arith);
   };
 }
@@ -91,20 +121,7 @@ next_part f a width y raw old now new order short down far part = record {
         let column = rw e at (mod-mul-add y width (k - y * width) (omega arith)) in
         let row = rw e at (div-mul-add y width (k - y * width) (omega arith)) in
         let top = far.after in
-        elim (cases_lt k (y * width + a.left)) [
-          | inl before ↦
-              let outside : in_area a (k % width) (k / width) ≡ false = grind (arith, nat_tests) in
-              rw outside (part.before k before ∙ far.whole.rest k ge)
-          | inr from ↦
-              elim (cases_lt k (y * width + a.right)) [
-                | inl less ↦
-                    let inside : in_area a (k % width) (k / width) ≡ true =
-                    grind (arith, nat_tests) in rw inside (part.painted k from less)
-                | inr past ↦
-                    let outside : in_area a (k % width) (k / width) ≡ false = grind (arith, nat_tests) in
-                    rw outside (part.after k past ∙ far.whole.rest k ge)
-              ]
-        ]
+        grind (arith, nat_tests, part.before k, part.painted k, part.after k, far.whole.rest k ge)
 
 -- a row that was painted by columns and rows
 pub next_of : (f : ℕ → ℕ → ℕ → ℕ) {a : Area} {width y : ℕ} {raw old now mid : List ℕ}
@@ -114,23 +131,131 @@ pub next_of : (f : ℕ → ℕ → ℕ → ℕ) {a : Area} {width y : ℕ} {raw 
     → a.left ≤ a.right → a.right ≤ width → y < a.bottom → y * width + width ≤ length now → length mid ≡ width
     → RowsSoFar (λ k w. f (k % width) (k / width) w) a width raw old
     (put_mid (y * width) (y * width + width - y * width) now mid) (y + 1)
-next_of f {a} {width} {y} {raw} {old} {now} {mid} far row order short less room long =
-    let g = λ (k w : ℕ). f (k % width) (k / width) w in
+next_of f {width = width} {y} far row order short less room long =
     let is : y * width + width - y * width ≡ width = omega arith in
-    rw is (next_part g a width y raw old now (put_mid (y * width) width now mid) order short less far
-    (put_back g raw now mid (y * width) width a.left a.right room long order short
-    (painted_by (λ x w. f x y w) (λ x w. f ((y * width + x) % width) ((y * width + x) / width) w) _ _ mid a.left a.right
-    (λ x w from lt. let on : x < width = omega arith in rw (mod-mul-add y width x on, div-mul-add y width x on)) row)))
+    rw is (next_part far order short less (put_back (y * width) width room long order short
+    (painted_by row (λ x w from lt.
+    let on : x < width = omega arith in rw (mod-mul-add y width x on, div-mul-add y width x on)))))
 
-pub last_row : (f : ℕ → ℕ → ℕ) (count : ℕ) {a : Area} {width : ℕ} {raw old now : List ℕ}
+pub last_row : {f : ℕ → ℕ → ℕ} {count : ℕ} {a : Area} {width : ℕ} {raw old now : List ℕ}
     → RowsSoFar f a width raw old now a.bottom → 0 < width → a.bottom * width ≤ count
     → IsOverlaid f (λ k. in_area a (k % width) (k / width)) raw old now count
-last_row f count {a} {width} far some room = record {
-  words =
-      λ k lt.
-      elim (cases_lt k (a.bottom * width)) [
-        | inl less ↦ far.whole.words k less
-        | inr ge ↦ rw (below a width k some ge) (far.whole.rest k ge)
-      ];
+last_row {a = a} {width} far some room = record {
+  words = λ k lt. grind (arith, nat_tests, far.whole.words k, far.whole.rest k, below a width k some);
   rest = λ k ge. far.whole.rest k (omega arith);
 }
+
+-- ---- parts of an area
+
+-- the columns from left to before right, in the rows from top to before bottom
+abbrev pub part_at : (left top right bottom : ℕ) → Area
+part_at left top right bottom = record { left = left; top = top; right = right; bottom = bottom }
+
+pub in_rows : (a : Area) (x y : ℕ) → in_area a x y ≡ true → (a.top ≤ y) × (y < a.bottom)
+in_rows a x y on = (grind (arith, nat_tests), grind (arith, nat_tests))
+
+pub in_columns : (a : Area) (x y : ℕ) → in_area a x y ≡ true → (a.left ≤ x) × (x < a.right)
+in_columns a x y on = (grind (arith, nat_tests), grind (arith, nat_tests))
+
+-- what is painted by one function is painted by another that gives the same words there
+pub area_as : (f g : ℕ → ℕ → ℕ → ℕ) (a : Area) (width : ℕ) {raw old new : List ℕ} {count : ℕ}
+    → ((x y w : ℕ) → in_area a x y ≡ true → f x y w ≡ g x y w)
+    → IsAreaBy f a width raw old new count → IsAreaBy g a width raw old new count
+area_as f g a width {raw} {old} same is = record {
+  words = λ k lt. grind (arith, is.words k lt, same (k % width) (k / width) (get_or raw k 0));
+  rest = is.rest;
+}
+
+module _ (f : ℕ → ℕ → ℕ → ℕ) (width : ℕ) {raw old : List ℕ} {count : ℕ} where
+  -- no row or no column yet
+  pub no_pixels : (left top right bottom : ℕ) → (right ≤ left) ⊎ (bottom ≤ top)
+      → IsAreaBy f (part_at left top right bottom) width raw old old count
+  no_pixels left top right bottom none =
+      record { words = λ k lt. grind (arith, nat_tests, none); rest = λ k ge. refl }
+
+  -- one area is painted first, and then another
+  more_part : (first second all : Area) {mid new : List ℕ}
+      → ((x y : ℕ) → in_area all x y ≡ (in_area second x y || in_area first x y))
+      → IsAreaBy f first width raw old mid count → IsAreaBy f second width raw mid new count
+      → IsAreaBy f all width raw old new count
+  more_part first second all is one two = record {
+    words = λ k lt. grind (arith, two.words k lt, one.words k lt, is (k % width) (k / width));
+    rest = λ k ge. two.rest k ge ∙ one.rest k ge;
+  }
+
+  pub more_rows : (left top right y next : ℕ) {mid new : List ℕ} → top ≤ y → y ≤ next
+      → IsAreaBy f (part_at left top right y) width raw old mid count
+      → IsAreaBy f (part_at left y right next) width raw mid new count
+      → IsAreaBy f (part_at left top right next) width raw old new count
+  more_rows left top right y next from le = more_part (part_at left top right y) (part_at left y right next)
+      (part_at left top right next) (λ u v. grind (arith, nat_tests))
+
+  pub more_columns : (left top bottom x next : ℕ) {mid new : List ℕ} → left ≤ x → x ≤ next
+      → IsAreaBy f (part_at left top x bottom) width raw old mid count
+      → IsAreaBy f (part_at x top next bottom) width raw mid new count
+      → IsAreaBy f (part_at left top next bottom) width raw old new count
+  more_columns left top bottom x next from le = more_part (part_at left top x bottom) (part_at x top next bottom)
+      (part_at left top next bottom) (λ u v. grind (arith, nat_tests))
+
+-- ---- the rows of the status bar
+
+-- the pixels of the bar
+abbrev pub bar_area : ℕ → ℕ → Area
+bar_area width bar = record { left = 0; top = 0; right = width; bottom = bar }
+
+-- in the picture of the text, and behind it
+in_text : (s : Scenery) (x y : ℕ) → x < picture_width (length (bar_text s)) → y < 7
+    → ink_of (dot (bar_text s) (x - 0) (y - 0)) ≡ bar_word s (point x y)
+in_text s x y left row =
+    let here : is_in_picture (bar_text s) 0 0 (point x y) ≡ true = grind (arith, ints) in rw here
+
+past_text : (s : Scenery) (x y : ℕ) → picture_width (length (bar_text s)) ≤ x → 0 ≡ bar_word s (point x y)
+past_text s x y right =
+    let no : is_in_picture (bar_text s) 0 0 (point x y) ≡ false = grind (arith, ints) in rw no
+
+-- a row of the bar: the picture of its text, and black behind it
+module _ (s : Scenery) (y : ℕ) {from cut to wide : ℕ} {text raw old new : List ℕ} (is : text ≡ bar_text s)
+    (width : wide ≡ picture_width (length text)) (least : cut ≡ max (min wide to) from) (order : from ≤ to) where
+  bar_ground : from ≤ cut → (mid : List ℕ) → IsPainted (λ x w. bar_word s (point x y)) raw old mid from cut
+      → IsPainted (λ x w. 0) raw mid new cut to → IsPainted (λ x w. bar_word s (point x y)) raw old new from to
+  bar_ground le mid first ground = joined le (omega (arith, least)) first (painted_by ground (λ x w f l.
+      let all = rw is at width in past_text s x y (omega (arith, all, least))))
+
+  pub bar_row : y < 7 → from < cut → (mid : List ℕ)
+      → IsPainted (λ x w. ink_of (dot text (x - 0) (y - 0))) raw old mid from cut
+      → IsPainted (λ x w. 0) raw mid new cut to
+      → IsPainted (λ x w. bar_word s (point x y)) raw old new from to
+  bar_row row some mid drawn ground = bar_ground (omega (arith, some)) mid (painted_by drawn (λ x w f l.
+      let all = rw is at width in rw is (in_text s x y (omega (arith, all, least, some, l)) row))) ground
+
+  pub bar_black : cut ≤ from → IsPainted (λ x w. 0) raw old new cut to
+      → IsPainted (λ x w. bar_word s (point x y)) raw old new from to
+  bar_black none ground =
+      let all : cut ≡ from = omega (arith, none, least) in
+      bar_ground (omega (arith, least)) old (rw all nothing) ground
+
+in_row : (bar x y : ℕ) → y < bar → in_bar bar (point x y) ≡ true
+in_row bar x y less = grind (arith, ints)
+
+-- what is painted of the bar is what is shown there, whatever the raw words, and whether a view owns the pixel or none
+-- does
+pub bar_shown : (s : Scenery) (y : ℕ) {from to : ℕ} {raw old now : List ℕ} → y < s.bar
+    → IsPainted (λ x w. bar_word s (point x y)) raw old now from to
+    → IsPainted (λ x w. shown s (point x y) w) raw old now from to
+bar_shown s y less row = painted_by row (λ x w f l. rw (in_row s.bar x y less))
+
+pub bar_unowned : (s : Scenery) (y : ℕ) {from to : ℕ} {raw old now : List ℕ} → y < s.bar
+    → IsPainted (λ x w. bar_word s (point x y)) raw old now from to
+    → IsPainted (λ x w. unowned_word s (point x y)) raw old now from to
+bar_unowned s y less row = painted_by row (λ x w f l. rw (in_row s.bar x y less))
+
+-- ---- the rows
+
+-- all of the bar's pixels are set, and no other
+pub bar_done : (s : Scenery) (width bar : ℕ) (old now : List ℕ) → 0 < width
+    → RowsSoFar (λ k w. bar_word s (point (k % width) (k / width))) (bar_area width bar) width old old now bar
+    → (k : ℕ) → slice_index now k ≡ cond (nat_lt k (width * bar)) (bar_word s (pixel width k)) (slice_index old k)
+bar_done s width bar old now some far k =
+    let row : k < bar * width → k / width < bar = (div-lt_iff_lt-mul some).1 in
+    let column : k % width < width = omega arith in
+    grind (arith, nat_tests, far.whole.words k, far.whole.rest k)

@@ -1,13 +1,20 @@
--- Frames, word by word.
-use Rattle.nit_overlay.proofs.Basics.{Area, Flat, IsShownIn, IsWord, Kill, Look, Mode, Point}
-use Rattle.nit_overlay.proofs.Basics.{Rectangle, Scenery, View, Xray, bar_word, by_label, by_mode}
-use Rattle.nit_overlay.proofs.Basics.{column_and_row, covers, dim, get_or-map-range_with_len}
-use Rattle.nit_overlay.proofs.Basics.{get_or_default, grey_word, has_dot, in_area, in_bar, ink_of}
-use Rattle.nit_overlay.proofs.Basics.{is_in_picture, length-map-range_with_len, nat_tests, owner}
-use Rattle.nit_overlay.proofs.Basics.{owner_word, pixel, point, same_number_lists, scenery, shown}
-use Rattle.nit_overlay.proofs.Basics.{view_word, white_word}
-use Rattle.std.proofs.Common.{Bool, List, None, Option, Some, ap, arith, cond, false, get_or}
-use Rattle.std.proofs.Common.{length, slice_index, sym, true, ℕ, ◌%◌, ◌*◌, ◌/◌, ◌<◌, ◌∙◌, ◌≡◌, refl}
+-- Frames, word by word: who owns a pixel, what is shown of it, frames that are kept, and the server's marks.
+use Rattle.nit_overlay.proofs.Basics.{Area, Flat, IsBright, IsMark, IsOfNamed, IsReddish, IsRenewed}
+use Rattle.nit_overlay.proofs.Basics.{IsShownIn, IsWord, Kill, Look, Mode, NoPair, Point, Rectangle}
+use Rattle.nit_overlay.proofs.Basics.{Scenery, SlotView, View, ViewRef, Xray, bar_word, bare_word}
+use Rattle.nit_overlay.proofs.Basics.{by_label, by_mode, column_and_row, covers, ext_get_or, frame}
+use Rattle.nit_overlay.proofs.Basics.{get_or-map-range_with_len, get_or_default, grey_word, has_dot}
+use Rattle.nit_overlay.proofs.Basics.{in_area, in_bar, in_label, ink_of, is_dot_of_text}
+use Rattle.nit_overlay.proofs.Basics.{is_in_picture, is_in_text, is_on_ring, is_same, is_some}
+use Rattle.nit_overlay.proofs.Basics.{label_place_of, le-ltb, length-map-range_with_len, nat_tests}
+use Rattle.nit_overlay.proofs.Basics.{option_map, owner, owner_is, owner_of_views, owner_word}
+use Rattle.nit_overlay.proofs.Basics.{pixel, point, same_number_lists, same_slot, scenery}
+use Rattle.nit_overlay.proofs.Basics.{seat_owner, shown, slice_get, slice_get_within, slot_view_in}
+use Rattle.nit_overlay.proofs.Basics.{true_from_ne_false, unowned_word, view_ref, view_text}
+use Rattle.nit_overlay.proofs.Basics.{view_word, views_of, white_word}
+use Rattle.std.proofs.Common.{Bool, List, None, Option, Some, [], ap, arith, cond, false, find}
+use Rattle.std.proofs.Common.{get_or, inl, inr, length, refl, slice_index, subst, suc, sym, true}
+use Rattle.std.proofs.Common.{zero, ℕ, ◌%◌, ◌&&◌, ◌*◌, ◌/◌, ◌<◌, ◌∙◌, ◌∷◌, ◌≡◌, ◌≤◌, ◌⊎◌}
 use Rattle.nit_overlay.specs.Frame.{frame}
 
 pub length-frame : (s : Scenery) (raw : List ℕ) → length (frame s raw) ≡ s.width * s.height
@@ -39,33 +46,15 @@ shown_below s p w below = rw below
 
 pub shown_of_owner : (s : Scenery) (p : Point) (w : ℕ) (v : View) → owner s.bar s.stack p ≡ Some v
     → shown s p w ≡ view_word s.mode s v p w
-shown_of_owner s p w v owns = go (in_bar s.bar p) refl
-  where
-    go : (b : Bool) → in_bar s.bar p ≡ b → shown s p w ≡ view_word s.mode s v p w
-    go true e = let none = rw e at owns in cc
-    go false e = shown_below s p w e ∙ ap (owner_word s p w) owns
+shown_of_owner s p w v owns = grind arith
 
 -- ---- each word that is shown is below 2^24
 
-either : (b : Bool) (x y : ℕ) → IsWord x → IsWord y → IsWord (cond b x y)
-either true x y fits more = fits
-either false x y fits more = more
-
-ink_fits : (b : Bool) → IsWord (ink_of b)
-ink_fits b = either b white_word 0 (omega arith) (omega arith)
-
 mode_fits : (mode : Mode) (is_ring is_focused : Bool) (w : ℕ) → IsWord w → IsWord (by_mode mode is_ring is_focused w)
-mode_fits Flat is_ring is_focused w fits = fits
-mode_fits Xray true is_focused w fits = either is_focused white_word grey_word (omega arith) (omega arith)
-mode_fits Xray false is_focused w fits = let half : IsWord (dim w) =
-    omega arith in either is_focused w (dim w) fits half
-mode_fits Kill true is_focused w fits = omega arith
-mode_fits Kill false is_focused w fits = omega arith
+mode_fits mode is_ring is_focused w fits = grind arith
 
 label_fits : (text : List ℕ) (place : Option (ℕ × ℕ)) (p : Point) (w : ℕ) → IsWord w → IsWord (by_label text place p w)
-label_fits text None p w fits = fits
-label_fits text (Some q) p w fits = either (is_in_picture text q.0 q.1 p) (ink_of (has_dot text q.0 q.1 p)) w
-    (ink_fits (has_dot text q.0 q.1 p)) fits
+label_fits text place p w fits = grind arith
 
 view_fits : (mode : Mode) (s : Scenery) (v : View) (p : Point) (w : ℕ) → IsWord w → IsWord (view_word mode s v p w)
 view_fits Flat s v p w fits = fits
@@ -77,18 +66,17 @@ owner_fits s p w None fits = omega arith
 owner_fits s p w (Some v) fits = view_fits s.mode s v p w fits
 
 pub shown_fits : (s : Scenery) (p : Point) (w : ℕ) → IsWord w → IsWord (shown s p w)
-shown_fits s p w fits = either (in_bar s.bar p) (bar_word s p) (owner_word s p w (owner s.bar s.stack p)) (ink_fits _)
-    (owner_fits s p w (owner s.bar s.stack p) fits)
+shown_fits s p w fits = grind (arith, owner_fits s p w (owner s.bar s.stack p) fits)
 
 -- ---- an area that is shown
 
 -- where the area has the pixels of a rectangle
-pub rect_shown : (a : Area) (look : Look) (r : Rectangle) (raw old now : List ℕ) → IsShownIn a look raw old now
+pub rect_shown : (a : Area) (look : Look) (r : Rectangle) {raw old now : List ℕ} → IsShownIn a look raw old now
     → ((x y : ℕ) → x < look.stack.now.width → y < look.stack.now.height → in_area a x y ≡ covers r (point x y))
     → (k : ℕ) → k < look.stack.now.width * look.stack.now.height
     → get_or now k 0 ≡ cond (covers r (pixel look.stack.now.width k))
     (shown (scenery look) (pixel look.stack.now.width k) (get_or raw k 0)) (get_or old k 0)
-rect_shown a look r raw old now all same k lt =
+rect_shown a look r all same k lt =
     let on = column_and_row look.stack.now.width look.stack.now.height k lt in
     rw (← same (k % look.stack.now.width) (k / look.stack.now.width) on.0 on.1) (all.words k lt)
 
@@ -97,10 +85,10 @@ pub is_whole : (width height wide high x y : ℕ) → wide ≡ width → high �
 is_whole width height wide high x y w h lt less = grind (arith, nat_tests)
 
 -- where the area is the whole screen
-pub is_frame : (a : Area) (look : Look) (raw old now : List ℕ) → IsShownIn a look raw old now
+pub is_frame : (a : Area) (look : Look) {raw old now : List ℕ} → IsShownIn a look raw old now
     → ((x y : ℕ) → x < look.stack.now.width → y < look.stack.now.height → in_area a x y ≡ true)
     → length now ≡ look.stack.now.width * look.stack.now.height → now ≡ frame (scenery look) raw
-is_frame a look raw old now all same long =
+is_frame a look {raw} {old} {now} all same long =
     same_number_lists now (frame (scenery look) raw) (long ∙ sym (length-frame (scenery look) raw))
     (λ k lt.
     let within : k < look.stack.now.width * look.stack.now.height = omega arith in
@@ -118,3 +106,205 @@ frame_fits s raw long fits k d lt =
     let is : get_or (frame s raw) k d ≡ shown s (pixel s.width k) (get_or raw k 0) =
     get_or_default (frame s raw) k d 0 lt ∙ get_or-frame s raw k within in
     rw is here
+
+-- ---- frames that are kept
+
+pub renewed : (before now : Scenery) (chosen : ℕ → Bool) (raw raw' old new : List ℕ)
+    → IsRenewed before now chosen raw raw' old new → old ≡ frame before raw → new ≡ frame now raw'
+renewed before now chosen raw raw' old new r was =
+    ext_get_or 0 new (frame now raw') (r.count ∙ sym (length-frame now raw')) (λ k l. let n =
+    r.count in at k (omega (arith, n)) (chosen k) refl)
+  where
+    many : now.width * now.height ≡ before.width * before.height
+    many = λ i. r.size.0 i * r.size.1 i
+
+    at : (k : ℕ) → k < now.width * now.height → (b : Bool) → chosen k ≡ b
+        → slice_index new k ≡ slice_index (frame now raw') k
+    at k l true e = r.set k l e ∙ sym (get_or-frame now raw' k l)
+    at k l false e =
+        rw (r.left k l e, was, get_or-frame before raw k (rw many at l), get_or-frame now raw' k l)
+        (ap (λ (w : ℕ). shown before (pixel w k) (slice_index raw k)) (sym r.size.0) ∙ sym (r.same k l e))
+
+-- in mode Flat, below the bar
+pub flat_shown : (s : Scenery) (p : Point) (w : ℕ) → s.mode ≡ Flat → in_bar s.bar p ≡ false
+    → shown s p w ≡ cond (is_some (owner s.bar s.stack p)) w bare_word
+flat_shown s p w flat below = grind (arith, shown_below s p w below)
+
+pub flat_same : (before now : Scenery) (p : Point) (w : ℕ) → before.mode ≡ Flat → now.mode ≡ Flat → before.bar ≡ now.bar
+    → in_bar now.bar p ≡ false
+    → is_some (owner now.bar now.stack p) ≡ is_some (owner before.bar before.stack p) → shown now p w ≡ shown before p w
+flat_same before now p w flat flat' bar below same =
+    rw (flat_shown now p w flat' below, flat_shown before p w flat (rw bar below), same)
+
+-- ---- a pixel whose owner is known
+
+-- a view's pixel
+pub shown_owned : (look : Look) (p : Point) (w : ℕ) (v : ViewRef) (view : View) → NoPair same_slot look.stack.now.views
+    → Some v ≡ option_map view_ref (seat_owner look.stack.now.bar look.stack.now.views p)
+    → slot_view_in v.0 look.stack.now.views ≡ Some (record { slot = v.0; view = view })
+    → shown (scenery look) p w ≡ view_word look.mode (scenery look) view p w
+shown_owned look p w v view apart owned at =
+    let bar = look.stack.now.bar in
+    let views = look.stack.now.views in
+    shown_of_owner (scenery look) p w view (owner_of_views bar views p
+    ∙ ap (option_map (λ s. s.view)) (owner_is bar views p v view apart owned at))
+
+-- a pixel that no view owns
+pub shown_unowned : (look : Look) (p : Point) (w : ℕ)
+    → None ≡ option_map view_ref (seat_owner look.stack.now.bar look.stack.now.views p)
+    → shown (scenery look) p w ≡ unowned_word (scenery look) p
+shown_unowned look p w owned =
+    ap (λ o. cond (in_bar look.stack.now.bar p) (bar_word (scenery look) p) (owner_word (scenery look) p w o))
+    (owner_of_views look.stack.now.bar look.stack.now.views p
+    ∙ none (seat_owner look.stack.now.bar look.stack.now.views p) owned)
+  where
+    none : (o : Option SlotView) → None ≡ option_map view_ref o → option_map (λ s. s.view) o ≡ None
+    none None e = refl
+    none (Some s) e = cc
+
+-- ---- the owner of each pixel of a run
+
+find_none : (p : View → Bool) (seats : List SlotView)
+    → ((k : ℕ) (s : SlotView) → slice_get seats k ≡ Some s → p s.view ≡ false) → find p (views_of seats) ≡ None
+find_none p [] fails = refl
+find_none p (s ∷ seats) fails = rw (fails 0 s refl) (find_none p seats (λ k t is. fails (suc k) t is))
+
+find_first : (p : View → Bool) (seats : List SlotView) (n : ℕ) (s : SlotView) → slice_get seats n ≡ Some s
+    → ((k : ℕ) (t : SlotView) → k < n → slice_get seats k ≡ Some t → p t.view ≡ false) → p s.view ≡ true
+    → find p (views_of seats) ≡ Some s.view
+find_first p [] n s is fails here = cc
+find_first p (t ∷ seats) zero s is fails here = grind arith
+find_first p (t ∷ seats) (suc n) s is fails here =
+    rw (fails 0 t (omega arith) refl) (find_first p seats n s is (λ k u less. fails (suc k) u (omega arith)) here)
+
+-- no view before number n covers a pixel of the run
+pub record RunSoFar (seats : List SlotView) (n x y to run_end : ℕ) : Type 0 where
+  pub after : x < run_end
+  pub within : run_end ≤ to
+  pub uncovered : (k z : ℕ) (s : SlotView) → k < n → slice_get seats k ≡ Some s → x ≤ z → z < run_end
+      → covers s.view.rect (point z y) ≡ false
+
+-- a row below the bar is not in it
+pub below_bar : {A : Type 0} (bar y z : ℕ) (o : A) (found : A) → bar ≤ y → cond (in_bar bar (point z y)) o found ≡ found
+below_bar bar y z o found below = let e : in_bar bar (point z y) ≡ false = le-ltb y bar below in rw e refl
+
+-- the view at number n covers all of the run
+pub owned_run : {seats : List SlotView} (bar : ℕ) {n x y to run_end : ℕ} (last : ℕ) {s : SlotView}
+    → RunSoFar seats n x y to run_end → slice_get seats n ≡ Some s → last ≤ run_end
+    → ((z : ℕ) → x ≤ z → z < last → covers s.view.rect (point z y) ≡ true) → bar ≤ y
+    → (z : ℕ) → x ≤ z → z < last → owner bar (views_of seats) (point z y) ≡ Some s.view
+owned_run {seats} bar {n} {y = y} last {s} far is short covered below z from less =
+    below_bar bar y z None (find (λ v. covers v.rect (point z y)) (views_of seats)) below
+    ∙ find_first (λ v. covers v.rect (point z y)) seats n s is
+    (λ k t before at. far.uncovered k z t before at from (omega arith)) (covered z from less)
+
+-- no view covers any of it
+pub bare_run : {seats : List SlotView} (bar : ℕ) {n x y to run_end : ℕ} → RunSoFar seats n x y to run_end
+    → length seats ≤ n → bar ≤ y
+    → (z : ℕ) → x ≤ z → z < run_end → owner bar (views_of seats) (point z y) ≡ None
+bare_run {seats} bar {y = y} far all below z from less =
+    below_bar bar y z None (find (λ v. covers v.rect (point z y)) (views_of seats)) below
+    ∙ find_none (λ v. covers v.rect (point z y)) seats
+    (λ k s is. far.uncovered k z s (omega (arith, slice_get_within seats k s is)) is from less)
+
+-- ---- the server's marks in the modes Xray and Kill
+
+-- ---- a view's pixel in mode Xray
+
+-- the pixel is of the focused session, a dot of the label, or on the ring outside the label
+abbrev IsOneOf : List ℕ → Option (ℕ × ℕ) → Point → Bool → Bool → ℕ → Type 0
+IsOneOf text place p ring focused word =
+    (focused ≡ true) ⊎ ((is_dot_of_text text place p ≡ true) × (word ≡ white_word))
+    ⊎ ((is_in_text text place p ≡ false) × (ring ≡ true) × (word ≡ grey_word))
+
+by_text : (inside dot ring focused : Bool) (w : ℕ) → IsWord w
+    → IsBright (cond inside (ink_of dot) (by_mode Xray ring focused w))
+    → (focused ≡ true) ⊎ (((inside && dot) ≡ true)
+    × (cond inside (ink_of dot) (by_mode Xray ring focused w) ≡ white_word))
+    ⊎ ((inside ≡ false) × (ring ≡ true) × (cond inside (ink_of dot) (by_mode Xray ring focused w) ≡ grey_word))
+by_text true true ring focused w fits bright = inr (inl (refl, refl))
+by_text true false ring focused w fits bright = absurd (grind arith)
+by_text false dot ring true w fits bright = inl refl
+by_text false dot true false w fits bright = inr (inr (refl, refl, refl))
+by_text false dot false false w fits bright = absurd (grind arith)
+
+view_bright : (text : List ℕ) (place : Option (ℕ × ℕ)) (p : Point) (ring focused : Bool) (w : ℕ) → IsWord w
+    → IsBright (by_label text place p (by_mode Xray ring focused w))
+    → IsOneOf text place p ring focused (by_label text place p (by_mode Xray ring focused w))
+view_bright text None p ring focused w fits bright = by_text false false ring focused w fits bright
+view_bright text (Some q) p ring focused w fits bright =
+    by_text (is_in_picture text q.0 q.1 p) (has_dot text q.0 q.1 p) ring focused w fits bright
+
+focus_is : (focus : Option ℕ) (sid : ℕ) → is_same focus (Some sid) ≡ true → focus ≡ Some sid
+focus_is focus sid e = grind (arith, nat_tests)
+
+owned_bright : (s : Scenery) (p : Point) (w : ℕ) (v : View) → s.mode ≡ Xray → IsWord w → owner s.bar s.stack p ≡ Some v
+    → IsBright (view_word Xray s v p w) → IsOfNamed s p ⊎ IsMark s p (view_word Xray s v p w)
+owned_bright s p w v xray fits owns bright =
+    elim (view_bright (view_text s v) (label_place_of s v) p (is_on_ring v.rect p) (is_same s.focus (Some v.sid)) w fits
+    bright) [
+      | inl same ↦
+          let focus : s.focus ≡ Some v.sid = focus_is s.focus v.sid same in
+          inl (record { view = v; owns = owns; focused = focus; named = rw (xray, focus) })
+      | inr is ↦ inr (record { view = v; owns = owns; is = is })
+    ]
+
+pub xray_bright : (s : Scenery) (p : Point) (w : ℕ) → s.mode ≡ Xray → IsWord w → IsBright (shown s p w)
+    → (in_bar s.bar p ≡ true) ⊎ IsOfNamed s p ⊎ IsMark s p (shown s p w)
+xray_bright s p w xray fits bright = go (in_bar s.bar p) (owner s.bar s.stack p) refl refl bright
+  where
+    go : (b : Bool) (o : Option View) → in_bar s.bar p ≡ b → owner s.bar s.stack p ≡ o
+        → IsBright (cond b (bar_word s p) (owner_word s p w o))
+        → (in_bar s.bar p ≡ true) ⊎ IsOfNamed s p ⊎ IsMark s p (cond b (bar_word s p) (owner_word s p w o))
+    go true o below owns bright = inl below
+    go false None below owns bright = absurd (grind arith)
+    go false (Some v) below owns bright =
+        let is = ap (λ (m : Mode). view_word m s v p w) xray in
+        inr (rw is (owned_bright s p w v xray fits owns (rw is at bright)))
+
+-- ---- a label
+
+unlabelled : (text : List ℕ) (place : Option (ℕ × ℕ)) (p : Point) (w : ℕ) → is_in_text text place p ≡ false
+    → by_label text place p w ≡ w
+unlabelled text place p w e = grind arith
+
+-- ---- a view's pixel in mode Kill
+
+kill_reddish : (ring focused : Bool) (w : ℕ) → IsWord w → IsReddish (by_mode Kill ring focused w)
+kill_reddish true focused w fits = omega arith
+kill_reddish false focused w fits = omega arith
+
+pub kill_tints : (s : Scenery) (p : Point) (w : ℕ) (v : View) → s.mode ≡ Kill → IsWord w
+    → owner s.bar s.stack p ≡ Some v → in_label s v p ≡ false → IsReddish (shown s p w)
+kill_tints s p w v kill fits owns out =
+    let is : shown s p w ≡ by_mode Kill (is_on_ring v.rect p) (is_same s.focus (Some v.sid)) w =
+    shown_of_owner s p w v owns ∙ ap (λ (m : Mode). view_word m s v p w) kill
+    ∙ unlabelled (view_text s v) (label_place_of s v) p _ out in
+    rw is (kill_reddish (is_on_ring v.rect p) (is_same s.focus (Some v.sid)) w fits)
+
+-- white or black
+abbrev IsPlain : ℕ → Type 0
+IsPlain w = (w ≡ white_word) ⊎ (w ≡ 0)
+
+abbrev IsLabelled : Scenery → Point → Type 0
+IsLabelled s p = (v : View) × (owner s.bar s.stack p ≡ Some v) × (in_label s v p ≡ true)
+
+not_plain : (w : ℕ) → IsReddish w → IsPlain w → ⊥
+not_plain w is plain = let g = is.little_green in let r = is.much_red in grind arith
+
+bare_not_plain : IsPlain bare_word → ⊥
+bare_not_plain plain = grind arith
+
+pub plain_is_label : (s : Scenery) (p : Point) (w : ℕ) → s.mode ≡ Kill → IsWord w → in_bar s.bar p ≡ false
+    → IsPlain (shown s p w) → IsLabelled s p
+plain_is_label s p w kill fits below plain = go (owner s.bar s.stack p) refl
+  where
+    go : (o : Option View) → owner s.bar s.stack p ≡ o → IsLabelled s p
+    go None none =
+        absurd (bare_not_plain (subst IsPlain (shown_below s p w below ∙ ap (owner_word s p w) none) plain))
+    go (Some v) owns = (
+      v,
+      owns,
+      true_from_ne_false (in_label s v p)
+          (λ out. not_plain (shown s p w) (kill_tints s p w v kill fits owns out) plain),
+    )

@@ -15,7 +15,8 @@ pub use Rattle.nit_word.proofs.ForCallers.{at_place, loaded_after, more_taken, s
 pub use Rattle.nit_word.proofs.ForCallers.{seen_twice}
 pub use Rattle.std.proofs.Common.{ap, arith, refl}
 pub use Rattle.std.proofs.Math.Nat.{mul-le-mul_left, mul-le-mul_right}
-pub use Rattle.std.proofs.lemmas.Bool.{cases_lt, eq-eqb, eqb-true, false≢true, or_parts}
+pub use Rattle.std.proofs.lemmas.Bool.{cases_Bool, cases_lt, cases_order, eq-eqb, eqb-true}
+pub use Rattle.std.proofs.lemmas.Bool.{or_parts}
 pub use Rattle.std.proofs.lemmas.Bool.Decides.{nat_tests}
 pub use Rattle.std.proofs.lemmas.Grind.{get_or-set_at}
 pub use Rattle.std.proofs.lemmas.Int.{ints, to_z-of_z}

@@ -1,24 +1,22 @@
 -- Rows of a block of the screen, and the pixels of each.
-use Rattle.std.proofs.Common.{List, Option, ap, arith, false, nat_le, nat_lt, subst, suc, sym, ℕ}
-use Rattle.std.proofs.Common.{◌%◌, ◌&&◌, ◌*◌, ◌+◌, ◌/◌, ◌<◌, ◌==◌, ◌||◌, ◌∙◌, ◌≡◌, ◌≤◌}
+use Rattle.std.proofs.Common.{List, Option, ap, arith, false, inl, inr, nat_le, nat_lt, suc-mul}
+use Rattle.std.proofs.Common.{sym, ℕ, ◌%◌, ◌&&◌, ◌*◌, ◌+◌, ◌/◌, ◌<◌, ◌==◌, ◌||◌, ◌∙◌, ◌≡◌, ◌≤◌}
 use Rattle.nit_paint.proofs.Basics.{Block, PixelSource, Reach, Repainted, Sight, black_or_word}
-use Rattle.nit_paint.proofs.Basics.{in_rows, in_run, index_at, index_from, long, mul-le-mul_right}
-use Rattle.nit_paint.proofs.Basics.{nat_tests, option_map, reached, row_at, row_source}
-use mathlib.Core.Logic.{dite}
-use native.Mathlib.Decide.{ℕ_discrete, dec_lt}
-use Rattle.nit_paint.proofs.RepaintLemmas.{other_count, repainted_none, repainted_union}
+use Rattle.nit_paint.proofs.Basics.{cases_order, in_rows, in_run, index_at, index_from, long}
+use Rattle.nit_paint.proofs.Basics.{mul-le-mul_right, nat_tests, option_map, reached, row_at}
+use Rattle.nit_paint.proofs.Basics.{row_source}
+use Rattle.nit_paint.proofs.RepaintLemmas.{repainted_none, repainted_union}
 
 -- the column and the row of a pixel say whether it is one of a run within a row
 run_in_row : (w y x n q r : ℕ) → r < w → x + n ≤ w
     → in_run (y * w + x) n (q * w + r) ≡ ((nat_le x r && nat_lt r (x + n)) && (q == y))
-run_in_row w y x n q r inside fits = dite (ℕ_discrete q y)
-    (λ e. subst (λ (z : ℕ). in_run (y * w + x) n (z * w + r) ≡ ((nat_le x r && nat_lt r (x + n)) && (z == y))) (sym e)
-    (grind (arith, nat_tests)))
-    (λ ne. dite (dec_lt q y)
-    (λ l. let m : suc q * w ≤ y * w = mul-le-mul_right w l in let p : suc q * w ≡ q * w + w =
-    omega (arith, Rattle.std.proofs.Common.suc-mul q w) in grind (arith, nat_tests))
-    (λ l. let m : suc y * w ≤ q * w = mul-le-mul_right w (omega arith) in let p : suc y * w ≡ y * w + w =
-    omega (arith, Rattle.std.proofs.Common.suc-mul y w) in grind (arith, nat_tests)))
+run_in_row w y x n q r inside fits = elim (cases_order q y) [
+  | inl e ↦ rw e (grind (arith, nat_tests))
+  | inr other ↦ elim other [
+    | inl l ↦ let m = mul-le-mul_right w l in let p = suc-mul q w in grind (arith, nat_tests)
+    | inr l ↦ let m = mul-le-mul_right w l in let p = suc-mul y w in grind (arith, nat_tests)
+  ]
+]
 
 module _ (b : Block) (fits : b.left + b.wide ≤ b.width) (some : 0 < b.width) (j k : ℕ) where
   this_row : in_run (row_at b j) b.wide k
@@ -44,16 +42,8 @@ pub rows_more : (source : ℕ → PixelSource) (b : Block) (j at wide n m : ℕ)
     → Repainted source (in_rows b j) n before mid raw first → Repainted source (in_run at wide) m mid after first last
     → Repainted source (in_rows b (j + 1)) n before after raw last
 rows_more source b j at wide n m before mid after raw first last fits some is all count r s =
-    repainted_union source (in_rows b j) (in_run (row_at b j) b.wide) (in_rows b (j + 1)) n before mid after raw first
-    last (row_apart b fits some j) (row_next b fits some j) r row
-  where
-    row : Repainted source (in_run (row_at b j) b.wide) n mid after first last
-    row = rw (is, all) at (other_count source (in_run at wide) m n mid after first last count s)
-
-pub rows_end : (source : ℕ → PixelSource) (b : Block) (j rows n : ℕ) (before after : ℕ → Sight) (raw raw' : List ℕ)
-    → j ≡ rows
-    → Repainted source (in_rows b j) n before after raw raw' → Repainted source (in_rows b rows) n before after raw raw'
-rows_end source b j rows n before after raw raw' e r = rw e at r
+    repainted_union source (in_rows b j) (in_run (row_at b j) b.wide) (in_rows b (j + 1)) _ _ _ _ _ _ _
+    (row_apart b fits some j) (row_next b fits some j) r (rw (is, all, count) at s)
 
 -- the index of a word by its column, and by its row's first word
 by_start : (w : ℕ) (column row : Option ℕ) → index_at w column row ≡ index_from (option_map (λ y. y * w) row) column

@@ -1,35 +1,21 @@
 -- Worked rows of painting, computed from the definitions.
-use Rattle.std.proofs.Common.{[], false, pos, refl, true, ◌∷◌, ◌≡◌}
+use Rattle.std.proofs.Common.{[], false, pos, refl, true, ℕ, ◌∷◌, ◌≡◌}
+use Rattle.nit_stack.specs.Stack.{SlotView}
 use Rattle.nit_paint.proofs.Basics.{Bare, Black, Rectangle, StackModel, Word, has_pixel, loads_at}
 use Rattle.nit_paint.proofs.Basics.{rectangle, source_of_number, times_shown}
 
--- A screen of 8 by 4. In front stands a view of 2 by 1 at (6, 0). Another view of the same session, of 4 by 2 at (1,
--- 1),
--- moves the session's buffer of 4 by 2 by one column.
+-- a view of session 0 in its slot
+abbrev seat : ℕ → ℕ → Rectangle → ℕ → SlotView
+seat slot handle rect ox = record {
+  slot = slot;
+  view = record { sid = 0; handle = handle; rect = rect; ox = pos ox; oy = pos 0; title = [] };
+}
+
+-- A screen of 8 by 4. In front stands a view of 2 by 1 at (6, 0). Another view of the same session, of 4 by 2 at
+-- (1, 1), moves the session's buffer of 4 by 2 by one column.
 abbrev two_views : StackModel
 two_views = record {
-  views = record {
-    slot = 1;
-    view = record {
-      sid = 0;
-      handle = 2;
-      rect = rectangle (pos 6) (pos 0) 2 1;
-      ox = pos 0;
-      oy = pos 0;
-      title = [];
-    };
-  }
-      ∷ record {
-        slot = 0;
-        view = record {
-          sid = 0;
-          handle = 1;
-          rect = rectangle (pos 1) (pos 1) 4 2;
-          ox = pos 1;
-          oy = pos 0;
-          title = [];
-        };
-      } ∷ [];
+  views = seat 1 2 (rectangle (pos 6) (pos 0) 2 1) 0 ∷ seat 0 1 (rectangle (pos 1) (pos 1) 4 2) 1 ∷ [];
   sizes = record { w = 4; h = 2 } ∷ [];
   layers = 0 ∷ [];
   width = 8;

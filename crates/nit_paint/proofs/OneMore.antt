@@ -1,7 +1,7 @@
 -- What one pixel more does to a repaint that counts from the first pixel on.
 use Rattle.nit_paint.proofs.Basics.{IsWordOfSource, PixelSource, Repainted, Sight, is_word_of}
 use Rattle.nit_paint.proofs.Basics.{loads_of, nat_tests, seen, times_shown}
-use Rattle.std.proofs.Common.{refl, not, Bool, List, add-one, ap, arith, cond, false, length, set}
+use Rattle.std.proofs.Common.{Bool, List, add-one, ap, arith, cond, false, length, not, refl, set}
 use Rattle.std.proofs.Common.{true, ℕ, ◌&&◌, ◌+◌, ◌<◌, ◌==◌, ◌≡◌}
 use Rattle.nit_paint.proofs.RepaintLemmas.{repainted_one, repainted_same, repainted_union}
 
@@ -26,10 +26,9 @@ pub loaded_by : (source : ℕ → PixelSource) (marked : ℕ → Bool) (k w : �
     → IsWordOfSource mid s w → ((t : ℕ) → after t ≡ seen (mid t) (loads_of s w t))
     → Repainted source marked k before mid raw raw' → Repainted source marked (k + 1) before after raw (set raw' k w)
 loaded_by source marked k w s before mid after raw raw' is l read now log r =
-    repainted_union source others (λ j. j == k) marked (k + 1) before mid after raw raw' (set raw' k w)
-    (λ j. grind arith) (λ j. grind (arith, nat_tests, is))
+    repainted_union _ others (λ j. j == k) marked _ _ _ _ _ _ _ (λ j. grind arith) (λ j. grind (arith, nat_tests, is))
     (skipped source others k before mid raw raw' (grind (arith, nat_tests))
-    (repainted_same source source marked others k before before mid mid raw raw' (λ j m. grind (arith, nat_tests))
+    (repainted_same source source marked others k _ _ _ _ _ _ (λ j m. grind (arith, nat_tests))
     (λ j m h. refl) (λ t. refl) (λ t. refl) r))
     (repainted_one source k w (k + 1) mid after raw' (omega arith) l (rw read at now) (λ t. rw (← read) (log t)))
   where

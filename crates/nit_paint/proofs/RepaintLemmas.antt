@@ -1,34 +1,21 @@
 -- How repainted pixels of a screen go together.
 use Rattle.nit_paint.proofs.Basics.{Bare, Black, Contains-append_left, Contains-append_right}
-use Rattle.nit_paint.proofs.Basics.{Contains-push, IsAmongLoads, IsLoaded, IsWord, IsWordOfSource}
-use Rattle.nit_paint.proofs.Basics.{PixelSource, Repainted, Sight, Word, eq-eqb, eqb-true}
-use Rattle.nit_paint.proofs.Basics.{false≢true, get_or_default, is_word_of, loads_at, loads_of}
-use Rattle.nit_paint.proofs.Basics.{nat_tests, or_parts, own_word, seen, seen_none, seen_twice}
-use Rattle.nit_paint.proofs.Basics.{sum_by-append, times_shown}
-use Rattle.std.proofs.Common.{Some, All, Bool, List, [], ap, arith, cond, false, get_or}
-use Rattle.std.proofs.Common.{get_or-set_other, get_or-set_same, length, refl, set, slice_index_or}
-use Rattle.std.proofs.Common.{suc, sym, true, zero, ℕ, ◌&&◌, ◌++◌, ◌+◌, ◌<◌, ◌==◌, ◌||◌, ◌∙◌, ◌≡◌}
-use Rattle.std.proofs.Common.{◌≤◌}
-use mathlib.Core.Logic.{dite}
-use native.Mathlib.Decide.{dec_lt}
-
--- the pixel holds what it may, and its load is among these
-abbrev pub Shows : (ℕ → Sight) → (ℕ → List (ℕ × ℕ)) → PixelSource → ℕ → Type 0
-Shows glasses loads s w = IsWordOfSource glasses s w × IsAmongLoads loads s w
+use Rattle.nit_paint.proofs.Basics.{Contains-push, IsAmongLoads, IsWord, IsWordOfSource}
+use Rattle.nit_paint.proofs.Basics.{PixelSource, Repainted, Sight, Word, cases_Bool, cases_lt}
+use Rattle.nit_paint.proofs.Basics.{eq-eqb, eqb-true, get_or_default, is_word_of, loads_at}
+use Rattle.nit_paint.proofs.Basics.{loads_of, nat_tests, or_parts, own_word, seen, seen_none}
+use Rattle.nit_paint.proofs.Basics.{seen_twice, sum_by-append, times_shown}
+use Rattle.std.proofs.Common.{All, Bool, List, Some, [], arith, cond, false, get_or}
+use Rattle.std.proofs.Common.{get_or-set_other, get_or-set_same, inl, inr, length, refl, set}
+use Rattle.std.proofs.Common.{slice_index_or, suc, sym, true, zero, ℕ, ◌&&◌, ◌++◌, ◌+◌, ◌<◌, ◌==◌}
+use Rattle.std.proofs.Common.{◌||◌, ◌∙◌, ◌≡◌, ◌≤◌}
 
 -- where no marked pixel shows a word of a glass
 pub none_shown : (source : ℕ → PixelSource) (d : ℕ → Bool) (w t i n : ℕ)
     → ((k : ℕ) → k < n → d k ≡ true → own_word (source k) ≡ Some w) → times_shown source d t i n ≡ 0
 none_shown source d w t i zero own = refl
 none_shown source d w t i (suc n) own =
-    let rest = none_shown source d w t i n (λ k l. own k (omega arith)) in
-    let last = one (d n) (source n) (own n (omega arith)) in
-    omega arith
-  where
-    one : (b : Bool) (s : PixelSource) → (b ≡ true → own_word s ≡ Some w) → cond {A = ℕ} (b && is_word_of t i s) 1 0 ≡ 0
-    one b Bare h = grind arith
-    one b Black h = grind arith
-    one b (Word u j) h = grind (arith, h)
+    grind (arith, none_shown source d w t i n (λ k l. own k (omega arith)), own n (omega arith))
 
 pub repainted_none : (source : ℕ → PixelSource) (d : ℕ → Bool) (n : ℕ) (glasses : ℕ → Sight) (raw : List ℕ)
     → ((k : ℕ) → k < n → d k ≡ false)
@@ -36,7 +23,7 @@ pub repainted_none : (source : ℕ → PixelSource) (d : ℕ → Bool) (n : ℕ)
 repainted_none source d n glasses raw h = record {
   loads = λ t. [];
   sights = λ t. seen_none (glasses t);
-  marked = λ k l m. absurd (false≢true (sym (h k l) ∙ m));
+  marked = λ k l m. let unmarked = h k l in cc;
   others = λ k m. refl;
   counts = λ t i. sym (none_shown source d 0 t i n (λ k l m. cc (h k l)));
 }
@@ -45,8 +32,7 @@ repainted_none source d n glasses raw h = record {
 pub since : (before after : ℕ → Sight) (loads : ℕ → List (ℕ × ℕ)) (s : PixelSource) (w : ℕ)
     → ((t : ℕ) → after t ≡ seen (before t) (loads t)) → IsWordOfSource after s w → IsWordOfSource before s w
 since before after loads (Word t i) w e h =
-    let was : IsLoaded (seen (before t) (loads t)) i w = rw (e t) at h in
-    record { fits = was.fits; inked = was.inked; stage = was.stage; told = was.told }
+    let was = rw (e t) at h in record { fits = was.fits; inked = was.inked; stage = was.stage; told = was.told }
 since before after loads other w e h = h
 
 pub among_first : (a b : ℕ → List (ℕ × ℕ)) (s : PixelSource) (w : ℕ) → IsAmongLoads a s w
@@ -68,9 +54,7 @@ both_shown : (source : ℕ → PixelSource) (d e : ℕ → Bool) (t i n : ℕ) �
     → times_shown source d t i n + times_shown source e t i n ≡ times_shown source (λ k. d k || e k) t i n
 both_shown source d e t i zero h = refl
 both_shown source d e t i (suc n) h =
-    let rest = both_shown source d e t i n (λ k l. h k (omega arith)) in
-    let last = h n (omega arith) in
-    grind (arith, rest, last)
+    grind (arith, both_shown source d e t i n (λ k l. h k (omega arith)), h n (omega arith))
 
 pub repainted_both : (source : ℕ → PixelSource) (d e : ℕ → Bool) (n : ℕ) (before mid after : ℕ → Sight)
     (raw first last : List ℕ) → ((k : ℕ) → k < n → (d k && e k) ≡ false)
@@ -78,24 +62,19 @@ pub repainted_both : (source : ℕ → PixelSource) (d e : ℕ → Bool) (n : �
     → Repainted source (λ k. d k || e k) n before after raw last
 repainted_both source d e n before mid after raw first last apart r s = record {
   loads = λ t. r.loads t ++ s.loads t;
-  sights = λ t. s.sights t ∙ ap (λ x. seen x (s.loads t)) (r.sights t) ∙ seen_twice (before t) (r.loads t) (s.loads t);
-  marked = λ k l h. at k l (e k) refl (d k) refl h;
+  sights = λ t. rw (s.sights t, r.sights t) (seen_twice (before t) (r.loads t) (s.loads t));
+  marked = λ k l h. elim (cases_Bool (e k)) [
+    | inl p ↦
+        let new = s.marked k l p in
+        (since before mid r.loads (source k) _ r.sights new.0, among_last r.loads s.loads (source k) _ new.1)
+    | inr p ↦
+        let old = r.marked k l (grind arith) in
+        rw (s.others k (λ m. p)) (old.0, among_first r.loads s.loads (source k) _ old.1)
+  ];
   others = λ k h. s.others k (λ l. (or_parts (d k) (e k) (h l)).1) ∙ r.others k (λ l. (or_parts (d k) (e k) (h l)).0);
   counts = λ t i. sum_by-append (λ x. cond (x.0 == i) 1 0) (r.loads t) (s.loads t)
       ∙ (λ z. r.counts t i z + s.counts t i z) ∙ both_shown source d e t i n apart;
 }
-  where
-    at : (k : ℕ) → k < n → (b : Bool) → e k ≡ b → (a : Bool) → d k ≡ a → (a || b) ≡ true
-        → Shows before (λ t. r.loads t ++ s.loads t) (source k) (slice_index_or last k 0)
-    at k l true p a q h =
-        let new = s.marked k l p in (
-          since before mid r.loads (source k) (slice_index_or last k 0) r.sights new.0,
-          among_last r.loads s.loads (source k) (slice_index_or last k 0) new.1,
-        )
-    at k l false p true q h =
-        let old = r.marked k l q in
-        rw (s.others k (λ m. p)) (old.0, among_first r.loads s.loads (source k) (slice_index_or first k 0) old.1)
-    at k l false p false q h = cc
 
 -- the same marks, sources and glasses
 same_shown : (source source' : ℕ → PixelSource) (d e : ℕ → Bool) (t i n : ℕ) → ((k : ℕ) → k < n → d k ≡ e k)
@@ -104,30 +83,23 @@ same_shown : (source source' : ℕ → PixelSource) (d e : ℕ → Bool) (t i n 
 same_shown source source' d e t i zero h q = refl
 same_shown source source' d e t i (suc n) h q =
     let rest = same_shown source source' d e t i n (λ k l. h k (omega arith)) (λ k l. q k (omega arith)) in
-    let same = h n (omega arith) in
-    let shown = q n (omega arith) in
-    grind (arith, rest, same, shown)
-
-same_held : (before before' : ℕ → Sight) (s : PixelSource) (w : ℕ) → ((t : ℕ) → before t ≡ before' t)
-    → IsWordOfSource before s w → IsWordOfSource before' s w
-same_held before before' (Word t i) w e h = rw (e t) at h
-same_held before before' other w e h = h
+    grind (arith, rest, h n (omega arith), q n (omega arith))
 
 pub repainted_same : (source source' : ℕ → PixelSource) (d e : ℕ → Bool) (n : ℕ) (before before' after after' : ℕ
     → Sight) (raw raw' : List ℕ)
     → ((k : ℕ) → k < n → d k ≡ e k) → ((k : ℕ) → k < n → d k ≡ true → source k ≡ source' k)
     → ((t : ℕ) → before t ≡ before' t) → ((t : ℕ) → after t ≡ after' t)
     → Repainted source d n before after raw raw' → Repainted source' e n before' after' raw raw'
-repainted_same source source' d e n before before' after after' raw raw' marks sources old new r = record {
-  loads = r.loads;
-  sights = λ t. sym (new t) ∙ r.sights t ∙ ap (λ x. seen x (r.loads t)) (old t);
-  marked = λ k l h.
-      let was : d k ≡ true = marks k l ∙ h in
-      let m = r.marked k l was in
-      rw (← sources k l was) (same_held before before' (source k) (slice_index_or raw' k 0) old m.0, m.1);
-  others = λ k h. r.others k (λ l. marks k l ∙ h l);
-  counts = λ t i. r.counts t i ∙ same_shown source source' d e t i n marks sources;
-}
+repainted_same source source' d e n before before' after after' raw raw' marks sources old new r =
+    let same_before : before ≡ before' = λ i t. old t i in
+    let same_after : after ≡ after' = λ i t. new t i in
+    rw (← same_before, ← same_after) (record {
+      loads = r.loads;
+      sights = r.sights;
+      marked = λ k l h. let was = marks k l ∙ h in rw (← sources k l was) (r.marked k l was);
+      others = λ k h. r.others k (λ l. marks k l ∙ h l);
+      counts = λ t i. r.counts t i ∙ same_shown source source' d e t i n marks sources;
+    })
 
 -- disjoint parts under the name of their union
 pub repainted_union : (source : ℕ → PixelSource) (d e union : ℕ → Bool) (n : ℕ) (before mid after : ℕ → Sight)
@@ -136,8 +108,7 @@ pub repainted_union : (source : ℕ → PixelSource) (d e union : ℕ → Bool) 
     → Repainted source union n before after raw last
 repainted_union source d e union n before mid after raw first last apart all r s =
     repainted_same source source (λ k. d k || e k) union n before before after after raw last (λ k l. all k)
-    (λ k l m. refl) (λ t. refl) (λ t. refl)
-    (repainted_both source d e n before mid after raw first last (λ k l. apart k) r s)
+    (λ k l m. refl) (λ t. refl) (λ t. refl) (repainted_both _ _ _ _ _ _ _ _ _ _ (λ k l. apart k) r s)
 
 -- the same number of pixels in other words
 pub other_count : (source : ℕ → PixelSource) (d : ℕ → Bool) (m n : ℕ) (before after : ℕ → Sight) (raw raw' : List ℕ)
@@ -163,9 +134,7 @@ before_it source k t i n l = none_shown source (λ j. j == k) 0 t i n (λ j m e.
 one_shown : (source : ℕ → PixelSource) (k t i n : ℕ) → k < n → times_shown source (λ j. j == k) t i n
     ≡ cond (is_word_of t i (source k)) 1 0
 one_shown source k t i zero l = absurd (omega arith)
-one_shown source k t i (suc n) l =
-    let none = before_it source k t i n in
-    grind (arith, nat_tests, none, one_shown source k t i n)
+one_shown source k t i (suc n) l = grind (arith, nat_tests, before_it source k t i n, one_shown source k t i n)
 
 pub one_load : (s : PixelSource) (w t i : ℕ) → loads_at i (loads_of s w t) ≡ cond (is_word_of t i s) 1 0
 one_load Bare w t i = refl
@@ -189,16 +158,14 @@ pub repainted_words : (source : ℕ → PixelSource) (d : ℕ → Bool) (n : ℕ
     → length raw' ≡ length raw
     → Repainted source d n before after raw raw' → All IsWord raw → All IsWord raw'
 repainted_words source d n before after raw raw' long r fit k x l =
-    rw (← get_or_default raw' k 0 x l) (dite (dec_lt k n) (λ m. at m (d k) refl)
-    (λ m. kept (λ p. absurd (omega arith))))
+    rw (← get_or_default raw' k 0 x l) (elim (cases_lt k n) [
+      | inl m ↦ elim (cases_Bool (d k)) [
+        | inl e ↦ held (source k) (r.marked k m e).0
+        | inr e ↦ rw (r.others k (λ p. e)) (fit k 0 (omega arith))
+      ]
+      | inr m ↦ rw (r.others k (λ p. absurd (omega arith))) (fit k 0 (omega arith))
+    ])
   where
-    kept : (k < n → d k ≡ false) → IsWord (get_or raw' k 0)
-    kept h = rw (r.others k h) (fit k 0 (omega arith))
-
     held : (s : PixelSource) → IsWordOfSource before s (get_or raw' k 0) → IsWord (get_or raw' k 0)
     held (Word t i) h = h.fits
     held other h = omega arith
-
-    at : k < n → (b : Bool) → d k ≡ b → IsWord (get_or raw' k 0)
-    at m true e = held (source k) (r.marked k m e).0
-    at m false e = kept (λ p. e)

@@ -5,17 +5,16 @@ pub use Rattle.nit_hall.proofs.ForCallers.{actions_done, told_word}
 pub use Rattle.nit_journal.proofs.ForCallers.{actions_of-append, as_many_as_clients, kept_config}
 pub use Rattle.nit_journal.proofs.ForCallers.{same_throughout}
 pub use Rattle.nit_overlay.proofs.ForCallers.{same_frame}
-pub use Rattle.nit_perform.specs.Terms.{ActorLine, AfterPut, All, AllByRecursion, AreClipsOf}
+pub use Rattle.nit_perform.specs.Terms.{ActorLine, AfterPut, All, AllByRecursion, AreAllDone}
 pub use Rattle.nit_perform.specs.Terms.{AreDone, AreDoneClips, AreFirstClipPasses, AreInkedPlans}
-pub use Rattle.nit_perform.specs.Terms.{AreKeysBlank, AreOutputs, AreRoundsOf, AreScriptsOf}
-pub use Rattle.nit_perform.specs.Terms.{AskedAtMost, Bad, Bare, Belongs, ByUser, CanTakeLast}
-pub use Rattle.nit_perform.specs.Terms.{CaptureModel, ClipLine, ClipPassModel, ClipRole}
-pub use Rattle.nit_perform.specs.Terms.{Configuration, Desk, Drawing, End, Entry, File, Global}
-pub use Rattle.nit_perform.specs.Terms.{HasEnded, HasFilmed, HasRun, HasRunClips, HasTaken}
-pub use Rattle.nit_perform.specs.Terms.{HaveTables, IfOk, InputLine, IsAlone, IsClipListText}
-pub use Rattle.nit_perform.specs.Terms.{IsDoneClip, IsDoneUser, IsFilmOf, IsGlass, IsJournal}
-pub use Rattle.nit_perform.specs.Terms.{IsKnownWhole, IsLegal, IsNearPicture, IsOpening, IsPairIn}
-pub use Rattle.nit_perform.specs.Terms.{IsPictureAmong, IsPut, IsReady, IsReadyAlone}
+pub use Rattle.nit_perform.specs.Terms.{AreKeysBlank, AreRoundsOf, AreScriptsOf, AskedAtMost, Bad}
+pub use Rattle.nit_perform.specs.Terms.{Bare, Belongs, ByUser, CanTakeLast, CaptureModel, ClipLine}
+pub use Rattle.nit_perform.specs.Terms.{ClipPassModel, ClipRole, Configuration, Desk, Drawing, End}
+pub use Rattle.nit_perform.specs.Terms.{Entry, File, Global, HasEnded, HasFilmed, HasRun}
+pub use Rattle.nit_perform.specs.Terms.{HasRunClips, HaveTables, IfOk, InputLine, IsAlone}
+pub use Rattle.nit_perform.specs.Terms.{IsClipListText, IsDoneClip, IsFilmOf, IsGlass, IsJournal}
+pub use Rattle.nit_perform.specs.Terms.{IsKnownWhole, IsLegal, IsNearPicture, IsOpen, IsOpening}
+pub use Rattle.nit_perform.specs.Terms.{IsPairIn, IsPictureAmong, IsPut, IsReady, IsReadyAlone}
 pub use Rattle.nit_perform.specs.Terms.{IsReadyWithClips, IsRoundsOpening, IsRoundsRun, IsRunOf}
 pub use Rattle.nit_perform.specs.Terms.{IsRunnable, IsSetUp, IsSetting, IsUtf8, IsWhole, IsWord}
 pub use Rattle.nit_perform.specs.Terms.{IsWordOfSource, Line, LineTurn, Member, NestError}
@@ -34,7 +33,7 @@ pub use Rattle.nit_perform.specs.Terms.{black_or_word, blank, buffer_place, buff
 pub use Rattle.nit_perform.specs.Terms.{bytes_of, bytes_under, calls_to_make, client_text}
 pub use Rattle.nit_perform.specs.Terms.{clip_number, clip_phases, clip_role_of, clip_text}
 pub use Rattle.nit_perform.specs.Terms.{clips_name, clips_setup, clips_setup_in, codes, count_by}
-pub use Rattle.nit_perform.specs.Terms.{count_lines, cropped_bytes, decimal, donation_of, drawn}
+pub use Rattle.nit_perform.specs.Terms.{count_lines, cropped_bytes, decimal, donation_of}
 pub use Rattle.nit_perform.specs.Terms.{drawn_shot, ending_of, events_file, events_files}
 pub use Rattle.nit_perform.specs.Terms.{events_name, events_text, false, file_at, film_header}
 pub use Rattle.nit_perform.specs.Terms.{film_name, film_of, final_name, final_picture}
@@ -46,9 +45,9 @@ pub use Rattle.nit_perform.specs.Terms.{is_label_byte, is_phase, is_shot_line, i
 pub use Rattle.nit_perform.specs.Terms.{journal_file, journal_text, last_frame, last_of, left_word}
 pub use Rattle.nit_perform.specs.Terms.{lines_of_frames, list_all, member, most_lines, negsuc}
 pub use Rattle.nit_perform.specs.Terms.{nest_of, nest_script, new_sight, next_record, no_sight}
-pub use Rattle.nit_perform.specs.Terms.{opening_drawing, output_name, owner, pair_role_of, phases}
-pub use Rattle.nit_perform.specs.Terms.{picture, picture_by, picture_names, pictures_in, pixel}
-pub use Rattle.nit_perform.specs.Terms.{pixel_count, plan_of_script, plans_of, pos, put_state_at}
+pub use Rattle.nit_perform.specs.Terms.{output_name, owner, pair_role_of, phases, picture}
+pub use Rattle.nit_perform.specs.Terms.{picture_by, picture_names, pictures_in, pixel, pixel_count}
+pub use Rattle.nit_perform.specs.Terms.{plan_of_script, plans_of, pos, put_state_at}
 pub use Rattle.nit_perform.specs.Terms.{put_state_of_desk, put_state_of_run, range_with_len}
 pub use Rattle.nit_perform.specs.Terms.{raw_words, record_of, records, refusal_by, replay}
 pub use Rattle.nit_perform.specs.Terms.{replay_from, role_of, rounds, run_files, scenery_of}
@@ -71,7 +70,7 @@ pub use Rattle.nit_store.proofs.ForCallers.{none_behind, puts_both, puts_more}
 pub use Rattle.std.proofs.Common.{Err, List, None, Ok, Some, [], ap, arith, length, map, not, refl}
 pub use Rattle.std.proofs.Common.{rules, subst, sym, ◌∙◌}
 pub use Rattle.std.proofs.Math.Seq.{take-append_seam}
-pub use Rattle.std.proofs.lemmas.Bool.{and_parts, cases_lt, eq-eqb, lt-ltb, ltb-true}
+pub use Rattle.std.proofs.lemmas.Bool.{and_parts, cases_Bool, cases_lt, eq-eqb, lt-ltb}
 pub use Rattle.std.proofs.lemmas.Bool.Decides.{nat_tests}
 pub use Rattle.std.proofs.lemmas.Fmt.{IsAscii-decimal, decimal_digit}
 pub use Rattle.std.proofs.lemmas.List.{append-nil, append_cancel_left, get_or_default, get_or_past}
@@ -83,4 +82,4 @@ pub use Rattle.std.proofs.lemmas.List.FromFn.{map-range_with_len_more}
 pub use Rattle.std.proofs.lemmas.List.Sums.{sum_by-append, sum_by-cons}
 pub use Rattle.std.proofs.lemmas.Option.{get_or_from_slice_get, same_Some, slice_get-get_or}
 pub use Rattle.std.proofs.lemmas.Option.{slice_get-map, slice_get_within}
-pub use Rattle.std.proofs.lemmas.Str.{IsUtf8-append, IsUtf8-from_ascii}
+pub use Rattle.std.proofs.lemmas.Str.{IsAscii-append, IsUtf8-from_ascii}

@@ -1,23 +1,21 @@
 -- The frames of an inner run: how many there are, and what is known of the nest that took them.
-use Rattle.std.proofs.Common.{◌≡◌, ◌∙◌, ℕ, ◌+◌, Bool, true, false, cond, List, [], ◌∷◌, ◌++◌, map}
-use Rattle.std.proofs.Common.{length, fold, Option, Some, None, Result, Ok, Err, refl, sym, ap}
-use Rattle.std.proofs.Common.{subst, inl, inr, arith, add-zero, zero-add, append_assoc, append-nil}
-use Rattle.std.proofs.Common.{length-append}
+use Rattle.std.proofs.Common.{Bool, Err, List, None, Ok, Option, Result, Some, [], add-zero, ap}
+use Rattle.std.proofs.Common.{append-nil, append_assoc, arith, cond, false, fold, inl, inr, length}
+use Rattle.std.proofs.Common.{length-append, map, refl, subst, sym, true, zero-add, ℕ, ◌++◌, ◌+◌}
+use Rattle.std.proofs.Common.{◌<◌, ◌∙◌, ◌∷◌, ◌≡◌}
 use Rattle.nit_nested.specs.declared.error.NestError.TheVariants.{NoMemory}
 use Rattle.nit_perform.proofs.Basics.{ActorLine, AreRoundsOf, Bad, ByUser, Configuration, Drawing}
-use Rattle.nit_perform.proofs.Basics.{Entry, InputLine, IsJournal, IsLegal, Line, LineTurn}
-use Rattle.nit_perform.proofs.Basics.{NestError, NestModel, NestState, NestsRun, Phases, RunFiles}
-use Rattle.nit_perform.proofs.Basics.{SceneModel, ShotFrame, ShowsEach, Sight, TakesAll, TakesLast}
-use Rattle.nit_perform.proofs.Basics.{TakesNext, TooLong, UnlessMemory, action_of, actions_of_turns}
-use Rattle.nit_perform.proofs.Basics.{after_turn, by_turns, count_by, count_lines, drawn_shot}
-use Rattle.nit_perform.proofs.Basics.{eq-eqb, first_forbidden, frame, frame_answer, frame_lines}
-use Rattle.nit_perform.proofs.Basics.{frames_of, input_by_user, input_lines_of, is_shot_line}
-use Rattle.nit_perform.proofs.Basics.{is_too_long, last_frame, length-map, lines_of_frames, lt-ltb}
-use Rattle.nit_perform.proofs.Basics.{ltb-true, map-append, most_lines, nest_of, nest_script}
-use Rattle.nit_perform.proofs.Basics.{opening_drawing, phases, raw_words, replay, rounds}
-use Rattle.nit_perform.proofs.Basics.{scenery_of, script_answer, shot_frames_of, shots_after}
-use Rattle.nit_perform.proofs.Basics.{state_now, sum_by-append, sum_by-cons, tables_left}
-use Rattle.nit_perform.proofs.RunLemmas.{WholeLaw}
+use Rattle.nit_perform.proofs.Basics.{Entry, InputLine, IsLegal, Line, LineTurn, NestError}
+use Rattle.nit_perform.proofs.Basics.{NestModel, NestState, NestsRun, Phases, RunFiles, SceneModel}
+use Rattle.nit_perform.proofs.Basics.{ShotFrame, ShowsEach, Sight, TakesAll, TakesNext, TooLong}
+use Rattle.nit_perform.proofs.Basics.{UnlessMemory, action_of, actions_of_turns, after_turn}
+use Rattle.nit_perform.proofs.Basics.{count_by, count_lines, drawn_shot, eq-eqb, first_forbidden}
+use Rattle.nit_perform.proofs.Basics.{frame, frame_answer, frame_lines, frames_of, input_by_user}
+use Rattle.nit_perform.proofs.Basics.{input_lines_of, is_shot_line, is_too_long, last_frame}
+use Rattle.nit_perform.proofs.Basics.{length-map, lines_of_frames, lt-ltb, map-append, most_lines}
+use Rattle.nit_perform.proofs.Basics.{nat_tests, nest_of, nest_script, phases, raw_words, replay}
+use Rattle.nit_perform.proofs.Basics.{rounds, scenery_of, script_answer, shots_after, state_now}
+use Rattle.nit_perform.proofs.Basics.{sum_by-append, sum_by-cons, tables_left}
 use Rattle.nit_rounds.specs.Drawing.{drawn}
 use Rattle.nit_script.specs.declared.line.InputLine.TheVariants as input
 
@@ -35,22 +33,16 @@ shots_from : (config : Configuration) (scripts : List (List Line)) (moves : List
 shots_from config scripts [] d = sym (add-zero (length d.shots))
 shots_from config scripts (m ∷ moves) d =
     let more = shots_from config scripts moves (after_turn config scripts d m) in
-    let here = one_line config m.doing d in
     let both = sum_by-append (λ l. cond (is_shot_line l) 1 0) (input_by_user m.doing) (input_lines_of moves) in
-    omega (arith, more, here, both)
+    omega (arith, one_line config m.doing d)
 
 -- what the law of rounds says
 abbrev pub UserOnce : Type 0
 UserOnce = (scripts : List (List Line)) (lines : List InputLine) → input_lines_of (rounds scripts lines) ≡ lines
 
-shots_counted : UserOnce → (config : Configuration) (scripts : List (List Line)) (lines : List InputLine)
-    → length (shot_frames_of config scripts lines) ≡ count_by is_shot_line lines
-unfolding drawn
-shots_counted once config scripts lines =
-    rw (shots_from config scripts (rounds scripts lines) (opening_drawing config), zero-add, once scripts lines)
-
 pub frames_counted : UserOnce → (i : RunFiles) → length (frames_of i) ≡ count_by is_shot_line i.input + 1
-frames_counted once i = rw (length-append, length-map, shots_counted once i.config i.scripts i.input)
+unfolding drawn
+frames_counted once i = rw (length-append, length-map, shots_from, zero-add, once i.scripts i.input)
 
 -- ---- what the nest took
 
@@ -58,18 +50,14 @@ frames_counted once i = rw (length-append, length-map, shots_counted once i.conf
 abbrev pub with_frames : NestModel → List (List ℕ) → NestModel
 with_frames n frames = record n { frames = n.frames ++ frames }
 
--- one of these frames was too long behind those before it
-pub record IsTooLongAt (n : NestModel) (frames : List (List ℕ)) : Type 0 where
-  pub before : List (List ℕ)
-  pub words : List ℕ
-  pub behind : List (List ℕ)
-  pub parts : frames ≡ before ++ words ∷ behind
-  pub answer : frame_answer (with_frames n before) words ≡ Err TooLong
+-- the lines of these frames are too many for a script
+abbrev AreTooLong : NestModel → List (List ℕ) → Type 0
+AreTooLong n frames = most_lines < 1 + count_lines (map (frame_lines n.w n.h) (n.frames ++ frames))
 
 -- all frames were taken, or one was too long, or memory ran out
 abbrev pub Took : NestModel → List (List ℕ) → NestModel → Option NestError → Type 0
 Took n frames now None = now ≡ with_frames n frames
-Took n frames now (Some TooLong) = IsTooLongAt n frames
+Took n frames now (Some TooLong) = AreTooLong n frames
 Took n frames now (Some NoMemory) = Unit {0}
 Took n frames now (Some (Bad line)) = ⊥
 Took n frames now (Some Phases) = ⊥
@@ -85,14 +73,22 @@ kept (words ∷ rest) old now e is (mid, next, more) =
 longer : (n : NestModel) (first : List ℕ) (rest : List (List ℕ)) (now : NestModel) (fault : Option NestError)
     → Took (with_frames n (first ∷ [])) rest now fault → Took n (first ∷ rest) now fault
 longer n first rest now None took = rw (took, append_assoc n.frames (first ∷ []) rest)
-longer n first rest now (Some TooLong) took = record {
-  before = first ∷ took.before;
-  words = took.words;
-  behind = took.behind;
-  parts = rw took.parts;
-  answer = rw (append_assoc n.frames (first ∷ []) took.before) at took.answer;
-}
+longer n first rest now (Some TooLong) took = rw (append_assoc n.frames (first ∷ []) rest) at took
 longer n first rest now (Some other) took = took
+
+-- a frame that is too long makes all of them too long
+too_long : (n : NestModel) (words : List ℕ) (rest : List (List ℕ)) → frame_answer n words ≡ Err TooLong
+    → AreTooLong n (words ∷ rest)
+too_long n words rest answer =
+    let lines : List ℕ → List Line = frame_lines n.w n.h in
+    let long : most_lines < 1 + count_lines (map lines n.frames) + length (lines words) =
+    grind (arith, nat_tests, answer) in
+    let count : count_lines (map lines (n.frames ++ words ∷ rest))
+    ≡ count_lines (map lines n.frames) + (length (lines words) + count_lines (map lines rest)) =
+    rw (map-append lines n.frames (words ∷ rest))
+    (rw (sum_by-append (λ (ls : List Line). length ls) (map lines n.frames) (map lines (words ∷ rest)))
+    (rw (sum_by-cons (λ (ls : List Line). length ls) (lines words) (map lines rest)))) in
+    omega arith
 
 all_taken : (frames : List (List ℕ)) (n : NestModel) (now : NestState)
     → TakesAll frames (record { nest = n; fault = None }) now → Took n frames now.nest now.fault
@@ -103,63 +99,16 @@ all_taken (words ∷ rest) n now (mid, inl (none, is), more) =
     longer n words rest now.nest now.fault
     (all_taken rest (with_frames n (words ∷ [])) now (subst (λ (s : NestState). TakesAll rest s now) same more))
 all_taken (words ∷ rest) n now (mid, inr (inl (long, answer)), more) =
-    rw (kept rest mid now TooLong long more, long) (record {
-      before = [];
-      words = words;
-      behind = rest;
-      parts = refl;
-      answer = rw (append-nil n.frames) answer;
-    })
+    rw (kept rest mid now TooLong long more, long) (too_long n words rest answer)
 all_taken (words ∷ rest) n now (mid, inr (inr memory), more) =
     rw (kept rest mid now NoMemory memory more, memory) tt
-
--- ---- how long the script would be
-
--- a refused frame is too long
-over : (b : Bool) → ◌≡◌ {A = Result (Unit {0}) NestError} (cond b (Err TooLong) (Ok tt)) (Err TooLong) → b ≡ true
-over true e = refl
-over false e = absurd cc
-
--- one frame that is too long makes all of them too long
-pub long_frames : (n : NestModel) (own : List Line) → n.frames ≡ [] → (frames : List (List ℕ)) → IsTooLongAt n frames
-    → is_too_long (with_frames n frames) (own ∷ []) ≡ true
-long_frames n own none frames t =
-    let lines : List ℕ → List Line = frame_lines n.w n.h in
-    let before = map lines (n.frames ++ t.before) in
-    let long = ltb-true most_lines (1 + count_lines before + length (lines t.words)) (over _ t.answer) in
-    let count : count_lines (map lines (n.frames ++ frames))
-    ≡ count_lines before + (length (lines t.words) + count_lines (map lines t.behind)) =
-    rw (
-      t.parts,
-      ← append_assoc n.frames t.before (t.words ∷ t.behind),
-      map-append lines (n.frames ++ t.before) (t.words ∷ t.behind),
-      sum_by-append (λ (ls : List Line). length ls) before (map lines (t.words ∷ t.behind)),
-      sum_by-cons (λ (ls : List Line). length ls) (lines t.words) (map lines t.behind),
-    ) in
-    lt-ltb most_lines (1 + count_lines (map lines (n.frames ++ frames)) + length own) (omega arith)
 
 -- what the law on the lines of the script says
 abbrev pub Counted : Type 0
 Counted = (n : NestModel) (own : List Line) → phases own ≡ length n.frames
     → length (nest_script n own) ≡ 1 + count_lines (lines_of_frames n) + length own
 
--- the script is answered by its length alone
-pub answer_by_length : Counted → (n : NestModel) (own : List Line) → first_forbidden 1 own ≡ None
-    → phases own ≡ length n.frames
-    → script_answer n own ≡ cond (is_too_long n (own ∷ [])) (Err TooLong) (Ok (nest_script n own))
-answer_by_length counted n own may same =
-    rw (may, eq-eqb (phases own) (length n.frames) same, counted n own same)
-
 -- ---- the run
-
--- the journal is one of the run by turns
-pub rounds_journal : WholeLaw → (i : RunFiles) (mid last : SceneModel Sight) → mid.config ≡ i.config
-    → AreRoundsOf mid.entries i.scripts i.input → TakesLast mid last → IsJournal (by_turns i) last.entries
-rounds_journal whole i mid last config rounds_are taken = record {
-  legal = rw (taken.config ∙ config) at taken.legal;
-  whole = rw (← taken.recorded) at (whole i.scripts i.input mid.entries rounds_are);
-  rounds = λ is. (mid.entries, rounds_are, taken.recorded);
-}
 
 -- what the law of drawing says
 abbrev pub DrawnLaw : Type 0
@@ -195,18 +144,28 @@ takes_more (f ∷ frames) words old mid new (at, first, rest) next =
 abbrev pub no_frames : RunFiles → NestModel
 no_frames i = record { w = i.config.width; h = i.config.height; frames = [] }
 
--- the nest that took the frames, and the refusal that it met
-pub took_frames : (i : RunFiles) (now : NestModel) (fault : Option NestError)
-    → TakesAll (frames_of i) (record { nest = no_frames i; fault = None }) (record { nest = now; fault = fault })
-    → Took (no_frames i) (frames_of i) now fault
-took_frames i now fault = all_taken (frames_of i) (no_frames i) (record { nest = now; fault = fault })
+none_left : (o : Option NestError) → ((e : NestError) → o ≡ Some e → ⊥) → o ≡ None
+none_left None never = refl
+none_left (Some e) never = absurd (never e refl)
 
--- a frame was refused
-pub frame_refused : (i : RunFiles) (own : List Line) (now : NestModel) (e : NestError)
-    → Took (no_frames i) (frames_of i) now (Some e) → NestsRun i own (Err e)
-frame_refused i own now TooLong took = long_frames (no_frames i) own refl (frames_of i) took
-frame_refused i own now NoMemory took = tt
-frame_refused i own now other took = absurd took
+-- the nest took the frames up to a refusal
+module _ (i : RunFiles) (own : List Line) (now : NestModel) (fault : Option NestError)
+    (takes : TakesAll (frames_of i) (record { nest = no_frames i; fault = None })
+    (record { nest = now; fault = fault })) where
+  took : Took (no_frames i) (frames_of i) now fault
+  took = all_taken (frames_of i) (no_frames i) (record { nest = now; fault = fault }) takes
+
+  -- a frame was refused
+  pub frame_refused : (e : NestError) → fault ≡ Some e → NestsRun i own (Err e)
+  frame_refused TooLong is =
+      let long : most_lines < 1 + count_lines (lines_of_frames (nest_of i)) = rw is at took in
+      lt-ltb most_lines (1 + count_lines (lines_of_frames (nest_of i)) + length own) (omega arith)
+  frame_refused NoMemory is = tt
+  frame_refused other is = absurd (rw is at took)
+
+  -- none was
+  pub whole_nest : ((e : NestError) → fault ≡ Some e → ⊥) → now ≡ nest_of i
+  whole_nest never = rw (none_left fault never) at took
 
 -- how a script is answered by whether it is too long
 abbrev IsAnswered : Bool → List Line → Result (List Line) NestError → Type 0
@@ -223,8 +182,9 @@ module _ (counted : Counted) (i : RunFiles) (own : List Line) (may : first_forbi
     (same : phases own ≡ length (frames_of i)) where
   pub answered : (n : NestModel) → n ≡ nest_of i → (r : Result (List Line) NestError) → r ≡ script_answer n own
       → IsAnswered (is_too_long (nest_of i) (own ∷ [])) (nest_script (nest_of i) own) r
-  answered n whole r answer = rw (answer, whole, answer_by_length counted (nest_of i) own may same)
-      (one_answer (is_too_long (nest_of i) (own ∷ [])) (nest_script (nest_of i) own))
+  answered n whole r answer = rw (answer, whole, may, eq-eqb (phases own) (length (frames_of i)) same)
+      (rw (counted (nest_of i) own same)
+      (one_answer (is_too_long (nest_of i) (own ∷ [])) (nest_script (nest_of i) own)))
 
   pub script_refused : (n : NestModel) → n ≡ nest_of i → (e : NestError)
       → UnlessMemory {A = List Line} (Err e) (Err e ≡ script_answer n own) → NestsRun i own (Err e)

@@ -2,34 +2,31 @@
 pub use Rattle.nit_perform.proofs.Basics.{All, All-push, AreKeysBlank, ClipPassModel, Configuration}
 pub use Rattle.nit_perform.proofs.Basics.{End, Err, File, HasFilmed, HasRun, HasRunClips}
 pub use Rattle.nit_perform.proofs.Basics.{HaveTables, IsClipListText, IsSetting, IsWord, List}
-pub use Rattle.nit_perform.proofs.Basics.{NestError, NestState, None, Ok, PassModel, PlanModel}
-pub use Rattle.nit_perform.proofs.Basics.{PutFault, PutsAll, PutsNext, ShotFrame, Some, State}
-pub use Rattle.nit_perform.proofs.Basics.{StoreModel, TakesNext, [], ap, arith, blank}
+pub use Rattle.nit_perform.proofs.Basics.{NestState, None, Ok, PassModel, PlanModel, PutFault}
+pub use Rattle.nit_perform.proofs.Basics.{PutsAll, PutsNext, ShotFrame, Some, State, StoreModel}
+pub use Rattle.nit_perform.proofs.Basics.{TakesNext, [], ap, arith, blank, by_turns, client_text}
 pub use Rattle.nit_perform.proofs.Basics.{clips_setup_in, donation_of, ending_of, events_file}
 pub use Rattle.nit_perform.proofs.Basics.{events_name, events_text, false, few_digits, frame}
 pub use Rattle.nit_perform.proofs.Basics.{get_or_default, glass_after, into_iter_items}
 pub use Rattle.nit_perform.proofs.Basics.{journal_text, last_frame, length}
 pub use Rattle.nit_perform.proofs.Basics.{length-map-range_with_len, length_push, map, map_push}
-pub use Rattle.nit_perform.proofs.Basics.{nest_of, new_sight, not, picture_names, plan_of_script}
+pub use Rattle.nit_perform.proofs.Basics.{new_sight, not, picture_names, plan_of_script}
 pub use Rattle.nit_perform.proofs.Basics.{put_state_of_desk, put_state_of_run, range_with_len, refl}
 pub use Rattle.nit_perform.proofs.Basics.{rounds, rules, run_files, scenery_of, script_files}
-pub use Rattle.nit_perform.proofs.Basics.{script_in, session, setup_of, shot_frames_of, state_now}
-pub use Rattle.nit_perform.proofs.Basics.{subst, sym, tables_left, text_at, text_files, true}
-pub use Rattle.nit_perform.proofs.Basics.{with_texts, ◌∙◌}
-pub use Rattle.nit_perform.proofs.ClipRunLemmas.{back_long, clips_done, clips_leave, opened_ready}
-pub use Rattle.nit_perform.proofs.ClipRunLemmas.{passes_done}
-pub use Rattle.nit_perform.proofs.EventTexts.{one_more_text}
-pub use Rattle.nit_perform.proofs.FilmFiles.{IsFilmEnd, film_leaves}
-pub use Rattle.nit_perform.proofs.FilmPictures.{before_last, before_shot, film_grows, film_stays}
-pub use Rattle.nit_perform.proofs.FilmPictures.{last_more, one_shot_more, other_names}
-pub use Rattle.nit_perform.proofs.FinalWords.{finished_frame, last_picture, written_whole}
-pub use Rattle.nit_perform.proofs.GeneratedPuts.{name_bytes, name_is_text, one_script_more}
-pub use Rattle.nit_perform.proofs.InnerLemmas.{answered, frame_refused, no_frames, rounds_journal}
-pub use Rattle.nit_perform.proofs.InnerLemmas.{script_refused, taken_all, takes_more, took_frames}
-pub use Rattle.nit_perform.proofs.PerClient.{at_member, blank_glass, can_take_last, inked}
-pub use Rattle.nit_perform.proofs.PerClient.{left_tables, one_made, set_up, setting}
-pub use Rattle.nit_perform.proofs.PutLemmas.{next_goes, next_stays, no_put, no_text}
-pub use Rattle.nit_perform.proofs.RoomRunLemmas.{all_done, all_push, beside_leaves, is_ready}
-pub use Rattle.nit_perform.proofs.RoomRunLemmas.{known_whole, last_is, setup_in, user_done}
-pub use Rattle.nit_perform.proofs.RunLemmas.{PutsLast, run_leaves}
-pub use Rattle.nit_perform.proofs.StillRun.{alone_leaves, ended_as, is_ready_alone}
+pub use Rattle.nit_perform.proofs.Basics.{script_in, script_name, session, setup_of, shot_frames_of}
+pub use Rattle.nit_perform.proofs.Basics.{state_now, subst, sym, tables_left, text_at, text_files}
+pub use Rattle.nit_perform.proofs.Basics.{true, with_texts, ◌∙◌}
+pub use Rattle.nit_perform.proofs.RoomRunLemmas.{all_done, all_push, alone_leaves, are_all_done}
+pub use Rattle.nit_perform.proofs.RoomRunLemmas.{back_long, beside_leaves, clips_done, clips_leave}
+pub use Rattle.nit_perform.proofs.RoomRunLemmas.{ended_as, is_ready, is_ready_alone, known_whole}
+pub use Rattle.nit_perform.proofs.RoomRunLemmas.{last_is, opened_ready, passes_done, setup_in}
+pub use Rattle.nit_perform.proofs.PutLemmas.{IsFilmEnd, before_last, before_shot, film_grows}
+pub use Rattle.nit_perform.proofs.PutLemmas.{film_leaves, film_stays, last_more, name_bytes}
+pub use Rattle.nit_perform.proofs.PutLemmas.{next_goes, next_stays, no_put, one_file_more}
+pub use Rattle.nit_perform.proofs.PutLemmas.{one_shot_more, other_names, script_name_is_text}
+pub use Rattle.nit_perform.proofs.RunLemmas.{PutsLast, at_member, blank_glass, can_take_last}
+pub use Rattle.nit_perform.proofs.RunLemmas.{finished_frame, inked, last_picture, left_tables}
+pub use Rattle.nit_perform.proofs.RunLemmas.{one_made, rounds_journal, run_leaves, set_up, setting}
+pub use Rattle.nit_perform.proofs.RunLemmas.{written_whole}
+pub use Rattle.nit_perform.proofs.InnerLemmas.{answered, frame_refused, no_frames, script_refused}
+pub use Rattle.nit_perform.proofs.InnerLemmas.{taken_all, takes_more, whole_nest}

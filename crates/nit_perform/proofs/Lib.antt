@@ -1,16 +1,7 @@
-pub mod ClipRunLemmas
-pub mod EventNames
-pub mod EventTexts
-pub mod FilmFiles
-pub mod FilmPictures
-pub mod FinalWords
 pub mod ForCallers
-pub mod GeneratedPuts
 pub mod InnerLemmas
-pub mod PerClient
 pub mod PutLemmas
 pub mod RoomRunLemmas
 pub mod RunLemmas
-pub mod StillRun
 pub mod Basics
 pub mod Lemmas

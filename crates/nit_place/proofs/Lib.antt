@@ -1,6 +1,4 @@
-pub mod BoundLemmas
 pub mod SearchLemmas
-pub mod Seats
 pub mod Grid
 pub mod Names
 pub mod Fits

@@ -3,20 +3,19 @@ pub use Rattle.nit_events.proofs.ForCallers.{either}
 pub use Rattle.nit_journal.proofs.ForCallers.{as_its_calls_have_it, first_none, holds_of}
 pub use Rattle.nit_journal.proofs.ForCallers.{refused_reply, second_none, serve_accepted}
 pub use Rattle.nit_journal.proofs.ForCallers.{within_quota, within_reserve}
-pub use Rattle.nit_plan.specs.Terms.{AllByRecursion, Buffer, Call, Check, Close, Configuration}
-pub use Rattle.nit_plan.specs.Terms.{Destroy, Entry, Event, Expect, Fill, FitsLine, HasStage}
-pub use Rattle.nit_plan.specs.Terms.{HasStages, IsAmong, IsInked, IsLineInked, IsOfColours}
-pub use Rattle.nit_plan.specs.Terms.{IsPaintedTo, IsStrokeInked, IsWord, Line, List, MayHold}
-pub use Rattle.nit_plan.specs.Terms.{MayHoldBetween, Nothing, Painting, PlanModel, Reply, Session}
-pub use Rattle.nit_plan.specs.Terms.{Sight, Size, Step, Stroke, Take, Taken, TellsAll, Upgrade}
-pub use Rattle.nit_plan.specs.Terms.{View, [], accepted, accepts, after_calls, after_line, blank}
-pub use Rattle.nit_plan.specs.Terms.{buffer_left, buffer_need, by_call, by_quota, by_refusal}
-pub use Rattle.nit_plan.specs.Terms.{by_status, calls_from, calls_in, calls_of, calls_to_make}
+pub use Rattle.nit_plan.specs.Terms.{AllByRecursion, Buffer, Call, Check, Close, Destroy, Event}
+pub use Rattle.nit_plan.specs.Terms.{Expect, Fill, FitsLine, HasStage, HasStages, IsAmong, IsInked}
+pub use Rattle.nit_plan.specs.Terms.{IsLineInked, IsOfColours, IsPaintedTo, IsStrokeInked, IsWord}
+pub use Rattle.nit_plan.specs.Terms.{Line, List, MayHold, MayHoldBetween, Nothing, Painting}
+pub use Rattle.nit_plan.specs.Terms.{PlanModel, Reply, Session, Sight, Size, Step, Stroke, Take}
+pub use Rattle.nit_plan.specs.Terms.{Taken, Upgrade, View, [], accepted, accepts, after_calls}
+pub use Rattle.nit_plan.specs.Terms.{after_line, blank, buffer_left, buffer_need, by_call, by_quota}
+pub use Rattle.nit_plan.specs.Terms.{by_refusal, by_status, calls_from, calls_in, calls_to_make}
 pub use Rattle.nit_plan.specs.Terms.{colours, donation_of, done, enumerate_from, first_session}
 pub use Rattle.nit_plan.specs.Terms.{in_turn, ink, is_accepted, is_between, is_set_by, is_side}
 pub use Rattle.nit_plan.specs.Terms.{is_stroked, is_within, list_any, option_map, painted_from}
-pub use Rattle.nit_plan.specs.Terms.{place_colour, plan_of_script, range_with_len, refusal, replay}
-pub use Rattle.nit_plan.specs.Terms.{room, script_ink, serve, session, session_after, session_size}
+pub use Rattle.nit_plan.specs.Terms.{place_colour, plan_of_script, range_with_len, refusal, room}
+pub use Rattle.nit_plan.specs.Terms.{script_ink, serve, session, session_after, session_size}
 pub use Rattle.nit_plan.specs.Terms.{set_where, slice_get, slice_index, stages_from, stages_within}
 pub use Rattle.nit_plan.specs.Terms.{static, step_of, steps_from, stroke_colour, stroked}
 pub use Rattle.nit_plan.specs.Terms.{table_size, take, taking, unless, view_left, with_words}
@@ -28,10 +27,10 @@ pub use Rattle.nit_word.proofs.ForCallers.{none_set, same_colours, same_set, set
 pub use Rattle.nit_word.proofs.ForCallers.{word_at, zero_at}
 pub use Rattle.std.proofs.Common.{All, Bool, IfSome, None, Option, Some, ap, arith, cond, drop}
 pub use Rattle.std.proofs.Common.{false, filter, fold, get_or, length, length-append, map, min}
-pub use Rattle.std.proofs.Common.{nat_lt, not, refl, suc, true, ◌∙◌}
+pub use Rattle.std.proofs.Common.{nat_lt, not, refl, suc, sym, true, ◌∙◌}
 pub use Rattle.std.proofs.Math.ListN.{get_or-eq_default}
 pub use Rattle.std.proofs.Math.Nat.{mul-le-mul_right}
-pub use Rattle.std.proofs.lemmas.Bool.{cond_both, eq-eqb, eqb-true, ne_eqb, or_cases, or_right}
+pub use Rattle.std.proofs.lemmas.Bool.{cond_both, eq-eqb, eqb-true, or_cases, or_right}
 pub use Rattle.std.proofs.lemmas.Bool.Decides.{nat_tests}
 pub use Rattle.std.proofs.lemmas.Grind.{common_steps}
 pub use Rattle.std.proofs.lemmas.List.{get_or-append_right, get_or-drop, get_or_append_left}
@@ -40,5 +39,5 @@ pub use Rattle.std.proofs.lemmas.List.Elements.{All-append, All-cons}
 pub use Rattle.std.proofs.lemmas.List.Folds.{list_any-append}
 pub use Rattle.std.proofs.lemmas.List.Sums.{fold-append}
 pub use Rattle.std.proofs.lemmas.Nat.{div-mul-add, div_below, mod-mul-add, mul-add-lt}
-pub use Rattle.std.proofs.lemmas.Option.{get_or_from_slice_get, same_Some, slice_get-get_or}
-pub use Rattle.std.proofs.lemmas.Option.{slice_get_read, slice_get_within}
+pub use Rattle.std.proofs.lemmas.Option.{IfSome_then, get_or_from_slice_get, same_Some}
+pub use Rattle.std.proofs.lemmas.Option.{slice_get-get_or, slice_get_read, slice_get_within}

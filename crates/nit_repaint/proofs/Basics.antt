@@ -7,37 +7,34 @@ pub use Rattle.nit_paint.proofs.ForCallers.{set_then}
 pub use Rattle.nit_rect.proofs.ForCallers.{IsSpanned, le_tested, same_tests, spans_holds}
 pub use Rattle.nit_rect.proofs.ForCallers.{spans_tells}
 pub use Rattle.nit_repaint.specs.Terms.{AreSet, CoversBoth, CutterModel, FitsStack, HoldBuffers}
-pub use Rattle.nit_repaint.specs.Terms.{IsOnScreen, IsRemovedFrom, IsScreenSize, IsSlotView}
-pub use Rattle.nit_repaint.specs.Terms.{IsStack, IsTrue, IsViewChange, Look, NoPair}
-pub use Rattle.nit_repaint.specs.Terms.{PaintsByList, PaintsMarked, Piece, PixelSource, Point}
-pub use Rattle.nit_repaint.specs.Terms.{Rectangle, Repainted, Sight, SlotView, StackModel, View}
-pub use Rattle.nit_repaint.specs.Terms.{ViewRef, among, black_or_word, buffer_place, changed}
-pub use Rattle.nit_repaint.specs.Terms.{covered, covers, frame, glass_in, glasses_of_call, has_come}
-pub use Rattle.nit_repaint.specs.Terms.{has_pixel, in_bar, index_at, insert, int_le, is_behind}
-pub use Rattle.nit_repaint.specs.Terms.{is_index_in, is_of_moved, is_of_session, is_owned, is_slot}
-pub use Rattle.nit_repaint.specs.Terms.{is_to_come, is_wanted, is_word_in, list_any, moved}
-pub use Rattle.nit_repaint.specs.Terms.{moved_above, negsuc, no_sight, on_view, once, option_map}
+pub use Rattle.nit_repaint.specs.Terms.{IsOnScreen, IsRemovedFrom, IsSlotView, IsStack}
+pub use Rattle.nit_repaint.specs.Terms.{IsViewChange, Look, NoPair, PaintsByList, PaintsMarked}
+pub use Rattle.nit_repaint.specs.Terms.{PixelSource, Point, Rectangle, Repainted, Sight, SlotView}
+pub use Rattle.nit_repaint.specs.Terms.{StackModel, View, ViewRef, among, black_or_word}
+pub use Rattle.nit_repaint.specs.Terms.{buffer_place, changed, covered, covers, frame, glass_in}
+pub use Rattle.nit_repaint.specs.Terms.{glasses_of_call, has_come, has_pixel, in_bar, index_at}
+pub use Rattle.nit_repaint.specs.Terms.{is_behind, is_index_in, is_of_moved, is_of_session}
+pub use Rattle.nit_repaint.specs.Terms.{is_owned, is_slot, is_to_come, is_wanted, is_word_in}
+pub use Rattle.nit_repaint.specs.Terms.{list_any, moved, moved_above, no_sight, on_view, once}
 pub use Rattle.nit_repaint.specs.Terms.{option_map_or, owner_in, owner_passes, pieces_left, pixel}
-pub use Rattle.nit_repaint.specs.Terms.{place_of, point, pos, position_or_len, put_above, put_again}
+pub use Rattle.nit_repaint.specs.Terms.{place_of, point, position_or_len, put_above, put_again}
 pub use Rattle.nit_repaint.specs.Terms.{put_own_back, put_own_front, rectangle, same_slot, scenery}
-pub use Rattle.nit_repaint.specs.Terms.{seen, session_of, session_shown, shown_at, shown_index}
-pub use Rattle.nit_repaint.specs.Terms.{size_of, slice_get, slice_index, slot_owns_either}
+pub use Rattle.nit_repaint.specs.Terms.{seen, shown_at, shown_index, size_of, slot_owns_either}
 pub use Rattle.nit_repaint.specs.Terms.{slot_view_covers, slot_view_in, slot_view_layer, source_in}
 pub use Rattle.nit_repaint.specs.Terms.{source_of_number, source_under, spans, times, to_come}
 pub use Rattle.nit_repaint.specs.Terms.{uncovered, views_of, wanted, wanted_of_first, wants}
 pub use Rattle.nit_repaint.specs.Terms.{with_glass, with_offset, with_rect, without}
-pub use Rattle.nit_repaint.specs.Terms.{without_session, word_count, ℤ}
+pub use Rattle.nit_repaint.specs.Terms.{without_session}
 pub use Rattle.nit_stack.proofs.ForCallers.{All_found, Put, Put-above, Put-back, Put-front, drop_at}
 pub use Rattle.nit_stack.proofs.ForCallers.{found_fails, found_passes, found_some, owner_of_views}
 pub use Rattle.nit_stack.proofs.ForCallers.{place_is}
-pub use Rattle.std.proofs.Common.{ap, arith, length, refl, slice_index_or, sym, true, ◌∙◌}
 pub use Rattle.std.proofs.Math.Seq.{map-set_same}
-pub use Rattle.std.proofs.lemmas.Bool.{and_parts, eq-eqb, eqb-false, eqb-true, false≢true, ne_eqb}
+pub use Rattle.std.proofs.lemmas.Bool.{and_parts, false_from_ne_true}
 pub use Rattle.std.proofs.lemmas.Bool.Decides.{nat_tests}
 pub use Rattle.std.proofs.lemmas.Grind.{get_or-set_at, same_number_lists}
 pub use Rattle.std.proofs.lemmas.Int.{ints}
 pub use Rattle.std.proofs.lemmas.List.{drop_all, get_or-map, get_or_default, get_or_past}
-pub use Rattle.std.proofs.lemmas.List.{length-map, map-set, set-get_or}
+pub use Rattle.std.proofs.lemmas.List.{length-map, map-set}
 pub use Rattle.std.proofs.lemmas.List.Folds.{list_any_at}
 pub use Rattle.std.proofs.lemmas.Nat.{rows}
 pub use Rattle.std.proofs.lemmas.Option.{get_or_from_slice_get, same_Some, slice_get_within}

@@ -1,15 +1,6 @@
-pub mod Screen
-pub mod GlassLemmas
-pub mod PaintSteps
-pub mod PieceLemmas
-pub mod ViewsInFront
-pub mod ChangedOwners
-pub mod ViewRemovalLemmas
-pub mod OneViewGone
-pub mod ViewChangeLemmas
 pub mod WantedLemmas
-pub mod BufferParts
-pub mod FrameCopies
+pub mod ViewRemovalLemmas
+pub mod ViewChangeLemmas
 pub mod ForCallers
 pub mod Basics
 pub mod Lemmas

@@ -1,18 +1,131 @@
--- What views uncover when they are taken away.
-use Rattle.nit_repaint.proofs.Basics.{HoldBuffers, IsRemovedFrom, NoPair, Point, Repainted, Sight}
-use Rattle.nit_repaint.proofs.Basics.{SlotView, StackModel, drop_all, drop_at, eq-eqb}
-use Rattle.nit_repaint.proofs.Basics.{is_of_session, is_slot, list_any}
-use Rattle.nit_repaint.proofs.Basics.{nat_tests, ne_eqb, option_map, option_map_or, owner_in}
-use Rattle.nit_repaint.proofs.Basics.{owner_of_views, owner_passes, pixel, repainted_same}
-use Rattle.nit_repaint.proofs.Basics.{repainted_union, same_slot, seen, size_of, slice_get}
-use Rattle.nit_repaint.proofs.Basics.{slot_view_covers, source_in, source_of_number, source_under}
-use Rattle.nit_repaint.proofs.Basics.{uncovered, without, without_session}
-use Rattle.std.proofs.Common.{Bool, List, Some, [], add-one, ap, arith, drop}
-use Rattle.std.proofs.Common.{false, find, length, not, refl, suc, sym, true, zero, ℕ, ◌&&◌}
-use Rattle.std.proofs.Common.{◌+◌, ◌<◌, ◌∙◌, ◌∷◌, ◌≡◌}
-use Rattle.nit_repaint.proofs.GlassLemmas.{still_held}
-use Rattle.nit_repaint.proofs.ChangedOwners.{owned_not}
-use Rattle.nit_repaint.proofs.ViewsInFront.{found_not, other_slot, without_none}
+-- What the painting of one piece does to the glasses of a call.
+use Rattle.nit_repaint.proofs.Basics.{CutterModel, HoldBuffers, IsRemovedFrom, NoPair, PaintsMarked}
+use Rattle.nit_repaint.proofs.Basics.{PixelSource, Point, Repainted, Sight, SlotView, StackModel}
+use Rattle.nit_repaint.proofs.Basics.{and_parts, drop_all, drop_at, get_or-map, get_or-set_at}
+use Rattle.nit_repaint.proofs.Basics.{get_or_past, glass_in, glasses_of_call, is_of_session}
+use Rattle.nit_repaint.proofs.Basics.{is_slot, length-map, list_any, map-set, map-set_same}
+use Rattle.nit_repaint.proofs.Basics.{nat_tests, no_sight, option_map_or, owner_in, owner_of_views}
+use Rattle.nit_repaint.proofs.Basics.{owner_passes, pixel, repainted_same, repainted_union}
+use Rattle.nit_repaint.proofs.Basics.{same_slot, seen, size_of, slot_view_covers, source_in}
+use Rattle.nit_repaint.proofs.Basics.{source_of_number, source_under, uncovered, with_glass}
+use Rattle.nit_repaint.proofs.Basics.{without, without_session}
+use Rattle.std.proofs.Common.{Bool, List, Some, [], add-one, ap, arith, cond, drop, eq-eqb, false}
+use Rattle.std.proofs.Common.{find, get_or-set_other, length, map, ne_eqb, not, option_map, refl}
+use Rattle.std.proofs.Common.{set, slice_get, slice_index_or, suc, sym, true, zero, ℕ, ◌&&◌, ◌+◌}
+use Rattle.std.proofs.Common.{◌<◌, ◌==◌, ◌∙◌, ◌∷◌, ◌≡◌, ◌≤◌}
+use Rattle.nit_repaint.specs.declared.painter.Painter.{Painter}
+use Rattle.nit_repaint.proofs.ViewChangeLemmas.{found_not, marked_same, other_slot, owned_not}
+use Rattle.nit_repaint.proofs.ViewChangeLemmas.{without_none}
+
+-- a glass of a list, which a piece leaves as another one
+module _ {G : Type 0} (f : G → Sight) (gs : List G) (g g' : G) (t : ℕ) (is : g ≡ slice_index_or gs t g)
+    (l : t < length gs) where
+  it_is : f g ≡ slice_index_or (map f gs) t no_sight
+  it_is = ap f is ∙ sym (get_or-map f gs t g no_sight l)
+
+  all_of : t < length (map f gs)
+  all_of = rw length-map l
+
+  -- the glasses of the list after it
+  now_at : (u : ℕ) → glass_in (map f (set gs t g')) u ≡ cond (u == t) (f g') (glass_in (map f gs) u)
+  now_at u =
+      let other = get_or-set_other (map f gs) t u (f g') no_sight in
+      rw (map-set f gs t g') (grind (arith, nat_tests, get_or-set_at (map f gs) t u (f g') no_sight, other, all_of))
+
+  -- a piece of a session of the list
+  pub listed_painted : (source : ℕ → PixelSource) (marked : ℕ → Bool) (n shown : ℕ) (raw raw' : List ℕ) → shown ≡ t
+      → ((others : ℕ → Sight) → Repainted source marked n (with_glass others shown (f g))
+      (with_glass others shown (f g')) raw raw')
+      → Repainted source marked n (glass_in (map f gs)) (glass_in (map f (set gs t g'))) raw raw'
+  listed_painted source marked n shown raw raw' e h =
+      repainted_same source source marked marked n _ _ _ _ raw raw' (λ k m. refl) (λ k m d. refl)
+      (λ u. grind (arith, nat_tests, it_is))
+      (λ u. grind (arith, nat_tests, now_at u))
+      (rw e at (h (glass_in (map f gs))))
+
+  module _ (sid : ℕ) (ne : t ≡ sid → ⊥) where
+    -- a piece of another session than the caller's
+    pub scene_painted : (source : ℕ → PixelSource) (marked : ℕ → Bool) (n shown : ℕ) (own : Sight) (raw raw' : List ℕ)
+        → shown ≡ t
+        → ((others : ℕ → Sight) → Repainted source marked n (with_glass others shown (f g))
+        (with_glass others shown (f g')) raw raw')
+        → Repainted source marked n (glasses_of_call (map f gs) sid own) (glasses_of_call (map f (set gs t g')) sid own)
+        raw raw'
+    scene_painted source marked n shown own raw raw' e h =
+        repainted_same source source marked marked n _ _ _ _ raw raw' (λ k m. refl) (λ k m d. refl)
+        (λ u. grind (arith, nat_tests, it_is, ne))
+        (λ u. grind (arith, nat_tests, now_at u, ne))
+        (rw e at (h (glasses_of_call (map f gs) sid own)))
+
+    pub idle_at : slice_index_or (map f (set gs t g')) sid no_sight ≡ slice_index_or (map f gs) sid no_sight
+    idle_at = grind (arith, nat_tests, now_at sid, ne)
+
+-- what a load leaves of a glass stays in the list of all
+pub left_at : {G R : Type 0} (f : G → R) (gs : List G) (g g' : G) (t : ℕ) → g ≡ slice_index_or gs t g → f g' ≡ f g
+    → map f (set gs t g') ≡ map f gs
+left_at f gs g g' t is e = map-set_same f gs t g' g (e ∙ ap f is)
+
+-- lists of which each element has the same of these are as long
+pub as_many : {G R : Type 0} (f : G → R) (gs' gs : List G) → map f gs' ≡ map f gs → length gs' ≡ length gs
+as_many f gs' gs e = sym (length-map gs' f) ∙ ap length e ∙ length-map gs f
+
+-- loads leave the sizes of the glasses
+pub still_held : (s : StackModel) (count count' : ℕ) (before after : ℕ → Sight) (loads : ℕ → List (ℕ × ℕ))
+    → count' ≡ count → ((t : ℕ) → after t ≡ seen (before t) (loads t)) → HoldBuffers s count before
+    → HoldBuffers s count' after
+still_held s count count' before after loads same e h = λ t l.
+    (rw same (h t l).0, rw (e t) (h t l).1)
+
+-- where nobody calls, all glasses are those of the list
+pub nobody_calls : {G : Type 0} (f : G → Sight) (gs : List G) (n : ℕ) → length gs ≤ n → (t : ℕ)
+    → glasses_of_call (map f gs) n no_sight t ≡ glass_in (map f gs) t
+nobody_calls f gs n l t = grind (arith, nat_tests, length-map gs f, get_or_past (map f gs) t no_sight)
+
+pub held_by_all : {G : Type 0} (f : G → Sight) (s : StackModel) (gs : List G) (n : ℕ) → length gs ≤ n
+    → HoldBuffers s (length gs) (glass_in (map f gs))
+    → HoldBuffers s (length gs) (glasses_of_call (map f gs) n no_sight)
+held_by_all f s gs n l h = λ t m.
+    let was = h t m in
+    (was.0, rw (nobody_calls f gs n l t) was.1)
+
+-- ==== Pixels that are painted for one call, one set after the other.
+
+abbrev IsBy : {G C : Type 0} → (G → Sight) → (C → Sight) → StackModel → ℕ → (ℕ → Bool) → Painter G → Painter G → C → C
+    → Type 0
+IsBy sight own_sight s sid is_marked before after' own own' =
+    Repainted (source_of_number s) is_marked (length before.raw.items)
+    (glasses_of_call (map sight before.glasses.items) sid (own_sight own))
+    (glasses_of_call (map sight after'.glasses.items) sid (own_sight own'))
+    before.raw.items after'.raw.items
+
+module _ {G C R Q : Type 0} {sight : G → Sight} {own_sight : C → Sight} {rest : G → R} {own_rest : C → Q}
+    {s : StackModel} {sid : ℕ} {all : ℕ → Bool} where
+  -- nothing yet
+  pub nothing_painted : {p : Painter G} {own : C} → IsBy sight own_sight s sid all p p own own
+      → PaintsMarked sight own_sight rest own_rest s sid all p p own own
+  nothing_painted painted = record {
+    painted = painted;
+    kept = record { count = refl; room = refl; idle = refl; rest_of_own = refl; rests = refl };
+  }
+
+  -- and more is painted
+  pub more_painted : {first second : ℕ → Bool} {a b c : Painter G} {k : CutterModel} {own own' own'' : C}
+      → PaintsMarked sight own_sight rest own_rest s sid first a b own own' → k.room ≡ b.cutter.room
+      → PaintsMarked sight own_sight rest own_rest s sid second (record b { cutter = k }) c own' own''
+      → IsBy sight own_sight s sid all a c own own''
+      → PaintsMarked sight own_sight rest own_rest s sid all a c own own''
+  more_painted was room new painted = record {
+    painted = painted;
+    kept = record {
+      count = new.kept.count ∙ was.kept.count;
+      room = new.kept.room ∙ room ∙ was.kept.room;
+      idle = new.kept.idle ∙ was.kept.idle;
+      rest_of_own = new.kept.rest_of_own ∙ was.kept.rest_of_own;
+      rests = new.kept.rests ∙ was.kept.rests;
+    };
+  }
+
+-- ==== What views uncover when they are taken away.
 
 -- ---- all views of a session go, from the rear one on
 
@@ -22,6 +135,7 @@ pub record Rear (is : SlotView → Bool) (k : ℕ) (q : SlotView → Bool) (xs :
       ≡ (option_map_or is (find q xs) false && not (option_map_or (is_slot k) (find q xs) false))
   pub seen_through : option_map_or (is_slot k) (find q xs) false ≡ true
       → find q (without (is_slot k) xs) ≡ find q (without is xs)
+  pub own : option_map_or (is_slot k) (find q xs) false ≡ true → option_map_or is (find q xs) false ≡ true
 
 -- no view behind one of a list of views apart stands in its slot
 others_of : (k : ℕ) (y x : SlotView) (ys : List SlotView) → list_any (same_slot y) ys ≡ false
@@ -38,10 +152,10 @@ rear is k q (y ∷ ys) zero x apart at slot own none =
     let others : list_any (is_slot k) ys ≡ false = others_of k y x ys apart.0 at slot in
     let left = without_none (is_slot k) ys others in
     let bare = without_none is ys none in
-    let unfound = found_not is q ys none in
     record {
-      owned = grind (arith, nat_tests, left, bare, unfound);
+      owned = grind (arith, nat_tests, left, bare, found_not is q ys none);
       seen_through = λ e. grind (arith, nat_tests, left, bare);
+      own = λ e. grind (arith, nat_tests, found_not (is_slot k) q ys others);
     }
 rear is k q (y ∷ ys) (suc i) x apart at slot own none =
     let other = other_slot ys i x y apart.0 at in
@@ -49,44 +163,23 @@ rear is k q (y ∷ ys) (suc i) x apart at slot own none =
     record {
       owned = grind (arith, nat_tests, other, r.owned);
       seen_through = λ e. grind (arith, nat_tests, other, r.seen_through);
+      own = λ e. grind (arith, nat_tests, other, r.own);
     }
-
--- what is found in the slot of a view is that view
-pub of_slot : (is : SlotView → Bool) (k : ℕ) (q : SlotView → Bool) (xs : List SlotView) (i : ℕ) (x : SlotView)
-    → NoPair same_slot xs → slice_get xs i ≡ Some x → x.slot ≡ k → is x ≡ true
-    → option_map_or (is_slot k) (find q xs) false ≡ true → option_map_or is (find q xs) false ≡ true
-of_slot is k q [] i x apart at slot own e = cc
-of_slot is k q (y ∷ ys) zero x apart at slot own e =
-    grind (arith, nat_tests, found_not (is_slot k) q ys (others_of k y x ys apart.0 at slot))
-of_slot is k q (y ∷ ys) (suc i) x apart at slot own e =
-    grind (arith, nat_tests, other_slot ys i x y apart.0 at, of_slot is k q ys i x apart.1 at slot own)
 
 -- ---- the list that is left
 
-pub left_behind : (is : SlotView → Bool) (k : ℕ) (xs : List SlotView) (i : ℕ) (x : SlotView) → NoPair same_slot xs
-    → slice_get xs i ≡ Some x → x.slot ≡ k → drop i (without (is_slot k) xs) ≡ drop (suc i) xs
-left_behind is k [] i x apart at slot = cc
-left_behind is k (y ∷ ys) zero x apart at slot =
-    grind (arith, nat_tests, without_none (is_slot k) ys (others_of k y x ys apart.0 at slot))
-left_behind is k (y ∷ ys) (suc i) x apart at slot =
-    grind (arith, nat_tests, other_slot ys i x y apart.0 at, left_behind is k ys i x apart.1 at slot)
-
--- the same views of others
-pub same_left : (is : SlotView → Bool) (k : ℕ) (xs : List SlotView) (i : ℕ) (x : SlotView) → NoPair same_slot xs
-    → slice_get xs i ≡ Some x → x.slot ≡ k → is x ≡ true → without is (without (is_slot k) xs) ≡ without is xs
-same_left is k [] i x apart at slot own = cc
-same_left is k (y ∷ ys) zero x apart at slot own =
-    grind (arith, nat_tests, without_none (is_slot k) ys (others_of k y x ys apart.0 at slot))
-same_left is k (y ∷ ys) (suc i) x apart at slot own =
-    grind (arith, nat_tests, other_slot ys i x y apart.0 at, same_left is k ys i x apart.1 at slot own)
-
-pub one_less : (k : ℕ) (xs : List SlotView) (i : ℕ) (x : SlotView) → NoPair same_slot xs → slice_get xs i ≡ Some x
-    → x.slot ≡ k → suc (length (without (is_slot k) xs)) ≡ length xs
-one_less k [] i x apart at slot = cc
-one_less k (y ∷ ys) zero x apart at slot =
-    grind (arith, nat_tests, without_none (is_slot k) ys (others_of k y x ys apart.0 at slot))
-one_less k (y ∷ ys) (suc i) x apart at slot =
-    grind (arith, nat_tests, other_slot ys i x y apart.0 at, one_less k ys i x apart.1 at slot)
+-- what is behind the view stays, and so do the views of others, and there is one view less
+taken_out : (is : SlotView → Bool) (k : ℕ) (xs : List SlotView) (i : ℕ) (x : SlotView) → NoPair same_slot xs
+    → slice_get xs i ≡ Some x → x.slot ≡ k → is x ≡ true → (drop i (without (is_slot k) xs) ≡ drop (suc i) xs)
+    × (without is (without (is_slot k) xs) ≡ without is xs) × (suc (length (without (is_slot k) xs)) ≡ length xs)
+taken_out is k [] i x apart at slot own = cc
+taken_out is k (y ∷ ys) zero x apart at slot own =
+    let left = without_none (is_slot k) ys (others_of k y x ys apart.0 at slot) in
+    (grind (arith, nat_tests, left), grind (arith, nat_tests, left), grind (arith, nat_tests, left))
+taken_out is k (y ∷ ys) (suc i) x apart at slot own =
+    let other = other_slot ys i x y apart.0 at in
+    let rest = taken_out is k ys i x apart.1 at slot own in
+    (grind (arith, nat_tests, other, rest.0), grind (arith, other, rest.1), grind (arith, other, rest.2))
 
 -- ---- stacks
 
@@ -108,17 +201,13 @@ pub less_owned : (sid k : ℕ) (s : StackModel) (p : Point) → Rear (is_of_sess
     ≡ (owner_passes (is_of_session sid) s p && not (owner_passes (is_slot k) s p))
 less_owned sid k s p r = grind (arith, r.owned)
 
-pub skip_behind : (is : SlotView → Bool) (views : List SlotView) (i : ℕ) (x : SlotView) → slice_get views i ≡ Some x
-    → is x ≡ false → list_any is (drop (i + 1) views) ≡ false → list_any is (drop i views) ≡ false
-skip_behind is views i x at other none = rw (drop_at views i x at) (grind (arith, other, none))
-
 -- a view of another session stays
 pub stays : (sid i : ℕ) (s : StackModel) (x : SlotView) → slice_get s.views i ≡ Some x → (x.view.sid ≡ sid → ⊥)
     → i < length s.views → list_any (is_of_session sid) (drop (i + 1) s.views) ≡ false → IsRemovedFrom sid i s s
 stays sid i s x at other l none = record {
   rest = refl;
   left = refl;
-  behind = skip_behind (is_of_session sid) s.views i x at (ne_eqb x.view.sid sid other) none;
+  behind = rw (drop_at s.views i x at) (grind (arith, ne_eqb x.view.sid sid other, none));
   within = omega arith;
   fewer = omega arith;
   owned = λ p e. e;
@@ -142,36 +231,26 @@ module _ (sid i k : ℕ) (s s' : StackModel) (x : SlotView) (apart : NoPair same
   it p = rear (is_of_session sid) k (slot_view_covers p) s.views i x apart at slot mine behind
 
   pub goes : i < length s.views → IsRemovedFrom sid i s s'
-  goes l = rw now record {
+  goes l = let out = taken_out (is_of_session sid) k s.views i x apart at slot mine in rw now record {
     rest = refl;
-    left = same_left (is_of_session sid) k s.views i x apart at slot mine;
-    behind = ap (list_any (is_of_session sid)) (left_behind (is_of_session sid) k s.views i x apart at slot) ∙ behind;
-    within = omega (arith, one_less k s.views i x apart at slot, l);
-    fewer = omega (arith, one_less k s.views i x apart at slot);
-    owned = λ p e. grind (arith, less_owned sid k s p (it p), e);
+    left = out.1;
+    behind = ap (list_any (is_of_session sid)) out.0 ∙ behind;
+    within = omega (arith, out.2, l);
+    fewer = omega (arith, out.2);
+    owned = λ p e. (and_parts _ _ (sym (less_owned sid k s p (it p)) ∙ e)).0;
   }
-
-  pub goes_uncovered : (p : Point) → owner_passes (is_slot k) s p ≡ uncovered sid s s' p
-  goes_uncovered p =
-      let owned = of_slot (is_of_session sid) k (slot_view_covers p) s.views i x apart at slot mine in
-      rw now (rw (less_owned sid k s p (it p)) (grind (arith, owned)))
 
   pub goes_painted : (n : ℕ) (a b : ℕ → Sight) (raw raw' : List ℕ)
       → Repainted (source_of_number s') (λ j. owner_passes (is_slot k) s (pixel s.width j)) n a b raw raw'
       → Repainted (source_of_number (without_session sid s)) (λ j. uncovered sid s s' (pixel s.width j)) n a b raw raw'
   goes_painted n a b raw raw' painted =
       repainted_same _ _ _ _ n a a b b raw raw'
-      (λ j l. goes_uncovered (pixel s.width j))
+      (λ j l. let r = it (pixel s.width j) in
+      rw now (rw (less_owned sid k s (pixel s.width j) r) (grind (arith, r.own))))
       (λ j l m. ap (λ (t : StackModel). source_of_number t j) now
       ∙ same_source sid k s (pixel s.width j) (it (pixel s.width j)) m) (λ t. refl) (λ t. refl) painted
 
 -- ---- one after the other
-
--- the same views of others stand in both
-same_rest : (sid : ℕ) (before now : StackModel) → now ≡ record before { views = now.views }
-    → without (is_of_session sid) now.views ≡ without (is_of_session sid) before.views
-    → without_session sid now ≡ without_session sid before
-same_rest sid before now rest left = rw (rest, left)
 
 pub taken_none : (sid : ℕ) (s : StackModel) → IsRemovedFrom sid (length s.views) s s
 taken_none sid s = record {
@@ -209,7 +288,7 @@ painted_more sid i n before now next a b c raw mid last first second one two =
     one
     (repainted_same _ _ _ _ n b b c c mid last
     (λ k l. ap (λ (t : StackModel). uncovered sid now next (pixel t.width k)) first.rest)
-    (λ k l m. ap (λ (t : StackModel). source_of_number t k) (same_rest sid before now first.rest first.left))
+    (λ k l m. rw (first.rest, first.left))
     (λ t. refl) (λ t. refl) two)
 
 pub taken_held : (sid i count count' : ℕ) (before now : StackModel) (a b : ℕ → Sight) (loads : ℕ → List (ℕ × ℕ))
@@ -230,6 +309,4 @@ pub all_painted : (sid n : ℕ) (before now : StackModel) (a b : ℕ → Sight) 
     → Repainted (source_of_number (without_session sid before))
     (λ k. owner_passes (is_of_session sid) before (pixel before.width k)) n a b raw last
 all_painted sid n before now a b raw last taken painted =
-    repainted_same _ _ _ _ n a a b b raw last
-    (λ k l. grind (arith, owned_not (is_of_session sid) now (pixel before.width k) taken.behind))
-    (λ k l m. refl) (λ t. refl) (λ t. refl) painted
+    marked_same painted (λ k l. grind (arith, owned_not (is_of_session sid) now (pixel before.width k) taken.behind))

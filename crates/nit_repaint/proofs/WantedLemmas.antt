@@ -1,38 +1,193 @@
--- What is wanted of views, one after the other.
-use Rattle.nit_repaint.proofs.Basics.{CutterModel, IsOnScreen, NoPair, PixelSource, Point}
-use Rattle.nit_repaint.proofs.Basics.{Rectangle, Repainted, Sight, SlotView, StackModel, View}
-use Rattle.nit_repaint.proofs.Basics.{ViewRef, black_or_word, covered, covers, eq-eqb}
-use Rattle.nit_repaint.proofs.Basics.{is_index_in, is_of_session, is_owned}
-use Rattle.nit_repaint.proofs.Basics.{is_slot, is_to_come, is_wanted, is_word_in, list_any}
-use Rattle.nit_repaint.proofs.Basics.{nat_tests, ne_eqb, once, option_map, option_map_or, owned_is}
-use Rattle.nit_repaint.proofs.Basics.{owner_in, owner_of_views, owner_passes, pixel, place_is}
-use Rattle.nit_repaint.proofs.Basics.{repainted_none, repainted_same, repainted_union}
-use Rattle.nit_repaint.proofs.Basics.{same_slot, shown_index, size_of, slice_get, slot_view_covers}
-use Rattle.nit_repaint.proofs.Basics.{slot_view_in, source_in, source_under, to_come, wanted}
-use Rattle.nit_repaint.proofs.Basics.{wanted_of_first, wants}
-use Rattle.std.proofs.Common.{Bool, List, None, Option, Some, [], add-one, ap, arith, cond, false}
-use Rattle.std.proofs.Common.{find, length, nat_lt, not, refl, suc, sym, take, take_all}
-use Rattle.std.proofs.Common.{true, zero, ℕ, ◌&&◌, ◌*◌, ◌+◌, ◌<◌, ◌==◌, ◌||◌, ◌∙◌, ◌∷◌, ◌≡◌, ◌≤◌}
-use Rattle.nit_repaint.proofs.Screen.{on_screen}
-use Rattle.nit_repaint.proofs.ChangedOwners.{owned_by}
-use Rattle.nit_repaint.proofs.ViewsInFront.{other_slot}
+-- Where a view shows a part of its session's buffer.
+use Rattle.nit_repaint.proofs.Basics.{AreSet, CoversBoth, CutterModel, IsOnScreen, IsSpanned, Look}
+use Rattle.nit_repaint.proofs.Basics.{NoPair, PixelSource, Point, Rectangle, Repainted, Sight}
+use Rattle.nit_repaint.proofs.Basics.{SlotView, StackModel, View, ViewRef, among, black_or_word}
+use Rattle.nit_repaint.proofs.Basics.{buffer_place, column_of, covered, covers, false_from_ne_true}
+use Rattle.nit_repaint.proofs.Basics.{frame, get_or-frame, has_come, has_pixel, index_at, ints}
+use Rattle.nit_repaint.proofs.Basics.{is_index_in, is_of_session, is_owned, is_slot, is_to_come}
+use Rattle.nit_repaint.proofs.Basics.{is_wanted, is_word_in, le_tested, length-frame, list_any}
+use Rattle.nit_repaint.proofs.Basics.{nat_tests, once, option_map_or, owned_is, owner_in}
+use Rattle.nit_repaint.proofs.Basics.{owner_of_views, owner_passes, pixel, place_is, point}
+use Rattle.nit_repaint.proofs.Basics.{rectangle, repainted_none, repainted_union, row_of, rows}
+use Rattle.nit_repaint.proofs.Basics.{same_number_lists, same_slot, same_tests, scenery, set_same}
+use Rattle.nit_repaint.proofs.Basics.{set_then, shown_at, shown_index, size_of, slot_view_covers}
+use Rattle.nit_repaint.proofs.Basics.{slot_view_in, source_in, source_under, spans, spans_holds}
+use Rattle.nit_repaint.proofs.Basics.{spans_tells, times, to_come, wanted, wanted_of_first, wants}
+use Rattle.std.proofs.Common.{Bool, IsTrue, List, None, Option, Some, [], add-one, ap, arith, cond}
+use Rattle.std.proofs.Common.{eq-eqb, false, find, int_le, length, nat_le, nat_lt, negsuc, not}
+use Rattle.std.proofs.Common.{option_map, pos, refl, slice_get, suc, sym, take, take_all, true}
+use Rattle.std.proofs.Common.{zero, ℕ, ℤ, ◌%◌, ◌&&◌, ◌*◌, ◌+ℤ◌, ◌+◌, ◌-◌, ◌/◌, ◌<ℤ◌, ◌<◌, ◌==◌}
+use Rattle.std.proofs.Common.{◌||◌, ◌∙◌, ◌∷◌, ◌≡◌, ◌≤ℤ◌, ◌≤◌}
+use Rattle.nit_repaint.proofs.ViewChangeLemmas.{marked_same, other_slot, owned_by}
+
+-- a place of the screen stands for a number of any sign
+module _ (n c : ℕ) (z : ℤ) (h : nat_le n c ≡ int_le z (pos c)) where
+  at_or_behind : n ≤ c → z ≤ℤ pos c
+  at_or_behind l = let t : nat_le n c ≡ true = grind (arith, nat_tests) in omega (arith, ints, sym h ∙ t)
+
+  in_front : c < n → pos c <ℤ z
+  in_front l = let t : nat_le n c ≡ false = grind (arith, nat_tests) in omega (arith, ints, sym h ∙ t)
+
+  behind : z ≤ℤ pos c → n ≤ c
+  behind l = let t : nat_le n c ≡ true = h ∙ le_tested z (pos c) l in grind (arith, nat_tests)
+
+  before_it : pos c <ℤ z → c < n
+  before_it l = let t : int_le z (pos c) ≡ false = grind (arith, ints) in grind (arith, nat_tests, h ∙ t)
+
+pub run_same : (from corner offset first end : ℤ) (long left right c : ℕ) → first ≡ ((from +ℤ corner) +ℤ offset)
+    → end ≡ (first +ℤ pos long)
+    → nat_le left c ≡ int_le first (pos c) → nat_le right c ≡ int_le end (pos c) → left < right
+    → spans (pos left) (right - left) (pos c) ≡ spans from long (buffer_place (pos c) corner offset)
+run_same from corner offset first end long left right c f e l r some = same_tests _ _
+    (λ is.
+    let s : IsSpanned (pos left) (right - left) (pos c) = spans_tells (pos left) (right - left) (pos c) is in
+    let a : first ≤ℤ pos c = at_or_behind left c first l (omega (arith, ints)) in
+    let b : pos c <ℤ end = in_front right c end r (omega (arith, ints)) in
+    spans_holds from long (buffer_place (pos c) corner offset) record {
+      low = omega (arith, ints);
+      high = omega (arith, ints);
+    })
+    (λ is.
+    let s : IsSpanned from long (buffer_place (pos c) corner offset) =
+    spans_tells from long (buffer_place (pos c) corner offset) is in
+    let a : left ≤ c = behind left c first l (omega (arith, ints)) in
+    let b : c < right = before_it right c end r (omega (arith, ints)) in
+    spans_holds (pos left) (right - left) (pos c) record { low = omega (arith, ints); high = omega (arith, ints) })
+
+-- nothing lies in a rectangle without pixels
+pub nothing_spanned : (x : ℤ) → spans (pos 0) 0 x ≡ false
+nothing_spanned x = false_from_ne_true _ (λ is.
+    let s : IsSpanned (pos 0) 0 x = spans_tells (pos 0) 0 x is in
+    omega (arith, ints))
+
+pub run_none : (from corner offset first end : ℤ) (long left right c : ℕ) → first ≡ ((from +ℤ corner) +ℤ offset)
+    → end ≡ (first +ℤ pos long)
+    → nat_le left c ≡ int_le first (pos c) → nat_le right c ≡ int_le end (pos c) → right ≤ left
+    → spans (pos 0) 0 (pos c) ≡ spans from long (buffer_place (pos c) corner offset)
+run_none from corner offset first end long left right c f e l r none =
+    nothing_spanned (pos c) ∙ sym (false_from_ne_true _ (λ is.
+    let s : IsSpanned from long (buffer_place (pos c) corner offset) =
+    spans_tells from long (buffer_place (pos c) corner offset) is in
+    let a : left ≤ c = behind left c first l (omega (arith, ints)) in
+    let b : c < right = before_it right c end r (omega (arith, ints)) in
+    omega (arith, a, b, none)))
+
+-- ---- a place of a buffer
+
+spans_all : (w m : ℕ) → spans (pos 0) w (pos m) ≡ nat_lt m w
+spans_all w m = same_tests _ _
+    (λ is.
+    let s : IsSpanned (pos 0) w (pos m) = spans_tells (pos 0) w (pos m) is in
+    let l : m < w = omega (arith, ints) in
+    grind (arith, nat_tests))
+    (λ is. let l : m < w = grind (arith, nat_tests) in spans_holds (pos 0) w (pos m) record {
+      low = omega (arith, ints);
+      high = omega (arith, ints);
+    })
+
+-- a part covers a place of the buffer where it covers the place of its word
+pub index_in : (part : Rectangle) (w h : ℕ) (x y : ℤ)
+    → (covers part (record { x = x; y = y }) && covers (rectangle (pos 0) (pos 0) w h) (record { x = x; y = y }))
+    ≡ is_index_in part w (index_at w (among x w) (among y h))
+index_in part w h (negsuc m) y = grind arith
+index_in part w h (pos m) (negsuc n) = grind (arith, spans_all w m)
+index_in part w h (pos m) (pos n) =
+    (λ i. covers part (point m n) && (spans_all w m i && spans_all h n i)) ∙ within_or_not (nat_lt m w)
+    (nat_lt n h) refl
+  where
+    within_or_not : (a b : Bool) → nat_lt m w ≡ a → (covers part (point m n) && (a && b))
+        ≡ is_index_in part w (index_at w (cond a (Some m) None) (cond b (Some n) None))
+    within_or_not false b e = grind arith
+    within_or_not true false e = grind arith
+    within_or_not true true e =
+        let l : m < w = grind (arith, nat_tests) in
+        rw (column_of w n m l, row_of w n m l) (grind arith)
+
+-- the pixels of the screen at which a view shows a part
+pub part_same : (part whole both rect : Rectangle) (view : View) (w h width height left wide top tall : ℕ) (p : Point)
+    → CoversBoth part whole both → whole ≡ rectangle (pos 0) (pos 0) w h
+    → rect ≡ rectangle (pos left) (pos top) wide tall
+    → ((c : ℕ) → c < width → spans (pos left) wide (pos c)
+    ≡ spans both.x both.w (buffer_place (pos c) view.rect.x view.ox))
+    → ((c : ℕ) → c < height → spans (pos top) tall (pos c)
+    ≡ spans both.y both.h (buffer_place (pos c) view.rect.y view.oy))
+    → IsOnScreen width height p → covers rect p ≡ is_index_in part w (shown_index (record { w = w; h = h }) view p)
+part_same part whole both rect view w h width height left wide top tall p meets whole_ rect_ across down on =
+    by_signs p.x p.y on
+  where
+    by_signs : (x y : ℤ) → IsOnScreen width height (record { x = x; y = y }) → covers rect (record { x = x; y = y })
+        ≡ is_index_in part w (shown_index (record { w = w; h = h }) view (record { x = x; y = y }))
+    by_signs (negsuc a) y on = let low = on.0 in absurd (omega (arith, ints))
+    by_signs (pos a) (negsuc b) on = let low = on.2 in absurd (omega (arith, ints))
+    by_signs (pos a) (pos b) on =
+        let right = on.1 in
+        let bottom = on.3 in
+        let bx = buffer_place (pos a) view.rect.x view.ox in
+        let by = buffer_place (pos b) view.rect.y view.oy in
+        ap (λ (r : Rectangle). covers r (point a b)) rect_
+        ∙ (λ i. across a (omega (arith, ints)) i && down b (omega (arith, ints)) i)
+        ∙ meets (record { x = bx; y = by })
+        ∙ ap (λ (r : Rectangle). covers part (record { x = bx; y = by }) && covers r (record { x = bx; y = by })) whole_
+        ∙ index_in part w h bx by
+
+-- a run by equal numbers
+pub run_told : (from from' corner corner' offset offset' : ℤ) (long long' n at count : ℕ) → from ≡ from' → long ≡ long'
+    → corner ≡ corner' → offset ≡ offset'
+    → ((c : ℕ) → c < n → spans (pos at) count (pos c) ≡ spans from long (buffer_place (pos c) corner offset)) → (c : ℕ)
+    → c < n → spans (pos at) count (pos c) ≡ spans from' long' (buffer_place (pos c) corner' offset')
+run_told from from' corner corner' offset offset' long long' n at count e f g h same c l =
+    rw (← e, ← f, ← g, ← h) (same c l)
+
+-- ==== Pixels of the screen by their numbers.
+
+pub on_screen : (width height k : ℕ) → k < width * height → IsOnScreen width height (pixel width k)
+on_screen width height k l =
+    let row : k / width < height = grind (arith, rows) in
+    let column : k % width < width = grind (arith, rows) in
+    (omega (arith, ints), omega (arith, ints, column), omega (arith, ints), omega (arith, ints, row))
+
+-- ==== Pieces that come one after the other.
+
+-- a pixel by the numbers of times that it is to come: before all, now, and after one more piece
+pub all_count : (b now next : ℕ) (c : Bool) → now ≤ b → now ≡ next + cond c 1 0 → (c ≡ true → now ≡ 1)
+    → (nat_lt now b || c) ≡ nat_lt next b
+all_count b now next c less count came = grind (arith, nat_tests, came, count)
+
+module _ {source : ℕ → PixelSource} (s : StackModel) {n : ℕ} where
+  pub none_came : (c : CutterModel) {glasses : ℕ → Sight} {raw : List ℕ}
+      → Repainted source (has_come c c s) n glasses glasses raw raw
+  none_came c = repainted_none _ _ _ _ _ (λ k l. grind (arith, nat_tests))
+
+  -- one more piece
+  pub one_came : (before now next : CutterModel) (r : Rectangle) {a b c : ℕ → Sight} {raw mid last : List ℕ}
+      → ((p : Point) → to_come before s p ≤ 1) → ((p : Point) → to_come now s p ≤ to_come before s p)
+      → ((p : Point) → to_come now s p ≡ to_come next s p + times r p)
+      → ((p : Point) → IsTrue (covers r p) → to_come now s p ≡ 1)
+      → Repainted source (has_come before now s) n a b raw mid → Repainted source (has_pixel s.width r) n b c mid last
+      → Repainted source (has_come before next s) n a c raw last
+  one_came before now next r once less count came first second =
+      repainted_union _ (has_come before now s) (has_pixel s.width r) (has_come before next s) _ _ _ _ _ _ _
+      (λ k. grind (arith, nat_tests, once (pixel s.width k), came (pixel s.width k)))
+      (λ k. all_count _ _ _ _ (less (pixel s.width k)) (count (pixel s.width k)) (came (pixel s.width k)))
+      first second
+
+  -- all of them
+  pub all_came : (before now : CutterModel) {a b : ℕ → Sight} {raw last : List ℕ} → ((p : Point) → to_come now s p ≡ 0)
+      → Repainted source (has_come before now s) n a b raw last → Repainted source (is_to_come before s) n a b raw last
+  all_came before now none painted = marked_same painted (λ k l. rw (none (pixel s.width k)))
+
+-- ==== What is wanted of views, one after the other.
 
 -- ---- pixels by their numbers
 
-pub lt_once : (b : Bool) → nat_lt 0 (once b) ≡ b
-lt_once true = refl
-lt_once false = refl
-
 -- what comes by a set of pixels is that set
-pub comes_as : (source : ℕ → PixelSource) (s : StackModel) (c : CutterModel) (set : Point → Bool) (n : ℕ) (a b : ℕ
-    → Sight) (raw raw' : List ℕ) → n ≡ s.width * s.height
+pub comes_as : {source : ℕ → PixelSource} (s : StackModel) (c : CutterModel) (set : Point → Bool) {n : ℕ}
+    {a b : ℕ → Sight} {raw raw' : List ℕ} → n ≡ s.width * s.height
     → ((p : Point) → IsOnScreen s.width s.height p → to_come c s p ≡ once (set p))
     → Repainted source (is_to_come c s) n a b raw raw' → Repainted source (λ k. set (pixel s.width k)) n a b raw raw'
-comes_as source s c set n a b raw raw' count come painted =
-    repainted_same source source (is_to_come c s) (λ k. set (pixel s.width k)) n a a b b raw raw'
-    (λ k l. rw (come (pixel s.width k) (on_screen s.width s.height k (rw count at l)))
-    (lt_once (set (pixel s.width k))))
-    (λ k l m. refl) (λ t. refl) (λ t. refl) painted
+comes_as s c set count come painted =
+    marked_same painted (λ k l.
+    grind (arith, nat_tests, come (pixel s.width k) (on_screen s.width s.height k (rw count at l))))
 
 -- ---- one view more
 
@@ -84,10 +239,6 @@ one_more test s p i x apart at =
 
 -- ---- one view
 
-owned_covers : (s : StackModel) (k : ℕ) (seat : SlotView) (p : Point) → NoPair same_slot s.views
-    → slot_view_in k s.views ≡ Some seat → owner_passes (is_slot k) s p ≡ true → covers seat.view.rect p ≡ true
-owned_covers s k seat p apart there owns = grind (arith, owned_by s k seat p apart there, owns)
-
 -- what is wanted of a view of the session, and of another one
 pub wanted_here : (s : StackModel) (view : View) (sid : ℕ) (part : Option Rectangle) (p : Point) → view.sid ≡ sid
     → wants part (size_of s.sizes view.sid) view p ≡ ((view.sid == sid) && wants part (size_of s.sizes sid) view p)
@@ -98,11 +249,6 @@ pub seat_session : (o : Option SlotView) (x : SlotView) (sid : ℕ) → o ≡ So
     → option_map (λ (a : SlotView). a.view.sid) o ≡ Some sid → x.view.sid ≡ sid
 seat_session None x sid e f = cc
 seat_session (Some y) x sid e f = cc
-
--- a view of another session
-pub seat_unset : (s : StackModel) (x : SlotView) (sid : ℕ) (part : Option Rectangle) (p : Point)
-    → (x.view.sid ≡ sid → ⊥) → (owner_passes (is_slot x.slot) s p && is_wanted sid part s p x) ≡ false
-seat_unset s x sid part p other = grind (arith, ne_eqb x.view.sid sid other)
 
 where_owned : (owned over shown wanted : Bool) → (owned ≡ true → shown ≡ true) → (shown ≡ true → over ≡ wanted)
     → (over && owned) ≡ (owned && wanted)
@@ -115,38 +261,30 @@ pub seat_set : (s : StackModel) (rect : Rectangle) (v : ViewRef) (view : View) (
     → (covers view.rect p ≡ true → covers rect p ≡ ((view.sid == sid) && wants part (size_of s.sizes sid) view p))
     → is_owned v s rect p ≡ (owner_passes (is_slot x.slot) s p && is_wanted sid part s p x)
 seat_set s rect v view x sid part p apart there same shows =
-    rw (← same) (where_owned (owner_passes (is_slot v.0) s p) (covers rect p) (covers view.rect p)
-    ((view.sid == sid) && wants part (size_of s.sizes sid) view p)
-    (owned_covers s v.0 (record { slot = v.0; view = view }) p apart there) shows)
+    rw (← same) (where_owned _ (covers rect p) (covers view.rect p) _
+    (λ owns. grind (arith, owned_by s v.0 (record { slot = v.0; view = view }) p apart there, owns)) shows)
 
 -- ---- the first so many views
 
-module _ (source : ℕ → PixelSource) (s : StackModel) (n sid : ℕ) (part : Option Rectangle) where
-  pub none_wanted : (glasses : ℕ → Sight) (raw : List ℕ)
-      → Repainted source (λ k. wanted_of_first 0 sid part s (pixel s.width k)) n glasses glasses raw raw
-  none_wanted glasses raw = repainted_none source _ n glasses raw
-      (λ k l. grind arith)
-
-  pub one_wanted : (i : ℕ) (x : SlotView) (a b c : ℕ → Sight) (raw mid last : List ℕ) → NoPair same_slot s.views
+module _ {source : ℕ → PixelSource} (s : StackModel) {n : ℕ} (sid : ℕ) (part : Option Rectangle) where
+  pub one_wanted : (i : ℕ) (x : SlotView) {a b c : ℕ → Sight} {raw mid last : List ℕ} → NoPair same_slot s.views
       → slice_get s.views i ≡ Some x
       → Repainted source (λ k. wanted_of_first i sid part s (pixel s.width k)) n a b raw mid
       → Repainted source (λ k. let p = pixel s.width k in owner_passes (is_slot x.slot) s p && is_wanted sid part s p x)
       n b c mid last
       → Repainted source (λ k. wanted_of_first (i + 1) sid part s (pixel s.width k)) n a c raw last
-  one_wanted i x a b c raw mid last apart at first second =
-      repainted_union source _ _ (λ k. wanted_of_first (i + 1) sid part s (pixel s.width k)) n a b c raw mid last
+  one_wanted i x apart at first second =
+      repainted_union _ _ _ (λ k. wanted_of_first (i + 1) sid part s (pixel s.width k)) _ _ _ _ _ _ _
       (λ k. (one_more (is_wanted sid part s (pixel s.width k)) s (pixel s.width k) i x apart at).apart)
       (λ k. (one_more (is_wanted sid part s (pixel s.width k)) s (pixel s.width k) i x apart at).all)
       first second
 
-  pub all_wanted : (i : ℕ) (a b : ℕ → Sight) (raw last : List ℕ) → length s.views ≤ i
+  pub all_wanted : (i : ℕ) {a b : ℕ → Sight} {raw last : List ℕ} → length s.views ≤ i
       → Repainted source (λ k. wanted_of_first i sid part s (pixel s.width k)) n a b raw last
       → Repainted source (λ k. wanted sid part s (pixel s.width k)) n a b raw last
-  all_wanted i a b raw last all painted =
-      repainted_same source source _ _ n a a b b raw last
-      (λ k l. ap (λ (xs : List SlotView). option_map_or (is_wanted sid part s (pixel s.width k))
-      (owner_in (λ a. a.view) s.bar xs (pixel s.width k)) false) (take_all i s.views all)) (λ k l m. refl)
-      (λ t. refl) (λ t. refl) painted
+  all_wanted i all painted =
+      marked_same painted (λ k l. ap (λ (xs : List SlotView). option_map_or (is_wanted sid part s (pixel s.width k))
+      (owner_in (λ a. a.view) s.bar xs (pixel s.width k)) false) (take_all i s.views all))
 
 -- the view at a place
 pub seat_there : (views : List SlotView) (i : ℕ) → i < length views → (x : SlotView) × (slice_get views i ≡ Some x)
@@ -157,12 +295,7 @@ seat_there (x ∷ views) (suc i) l = seat_there views i (omega arith)
 -- ---- what is wanted, in other words
 
 pub all_of_session : (sid : ℕ) (s : StackModel) (p : Point) → wanted sid None s p ≡ owner_passes (is_of_session sid) s p
-all_of_session sid s p = owned_or_bare (owner_in (λ a. a.view) s.bar s.views p)
-  where
-    owned_or_bare : (o : Option SlotView) → option_map_or (is_wanted sid None s p) o false
-        ≡ option_map_or (is_of_session sid) o false
-    owned_or_bare None = refl
-    owned_or_bare (Some x) = grind arith
+all_of_session sid s p = grind arith
 
 pub part_of_session : (sid : ℕ) (part : Rectangle) (s : StackModel) (p : Point)
     → wanted sid (Some part) s p ≡ is_word_in sid (size_of s.sizes sid).w part (source_in s p)
@@ -182,3 +315,64 @@ part_of_session sid part s p =
     owned_or_bare None = refl
     owned_or_bare (Some x) =
         grind (arith, nat_tests, shows (shown_index (size_of s.sizes x.view.sid) x.view p) x.view.sid)
+
+-- ==== Words of a frame that are set, one set of pixels after the other.
+
+-- ---- pieces
+
+-- one more piece
+pub one_shown : (s : StackModel) (n : ℕ) (before now next : CutterModel) (r : Rectangle) (word word' : ℕ
+    → ℕ) (frame shown new : List ℕ)
+    → ((p : Point) → to_come now s p ≤ to_come before s p)
+    → ((p : Point) → to_come now s p ≡ to_come next s p + times r p)
+    → ((p : Point) → IsTrue (covers r p) → to_come now s p ≡ 1)
+    → ((k : ℕ) → covers r (pixel s.width k) ≡ false → word' k ≡ word k)
+    → AreSet (has_come before now s) n word frame shown → AreSet (λ k. covers r (pixel s.width k)) n word' shown new
+    → AreSet (has_come before next s) n word' frame new
+one_shown s n before now next r word word' frame shown new less count came still far piece =
+    set_then (has_come before now s) (λ k. covers r (pixel s.width k)) (has_come before next s) n word word' frame shown
+    new
+    (λ k. all_count _ _ _ _ (less (pixel s.width k)) (count (pixel s.width k)) (came (pixel s.width k))) still far piece
+
+-- what comes by a set of pixels is that set
+pub shown_as : (s : StackModel) (c : CutterModel) (set : Point → Bool) {n : ℕ} {word : ℕ → ℕ} {old new : List ℕ}
+    → n ≡ s.width * s.height
+    → ((p : Point) → IsOnScreen s.width s.height p → to_come c s p ≡ once (set p))
+    → AreSet (is_to_come c s) n word old new → AreSet (λ k. set (pixel s.width k)) n word old new
+shown_as s c set count come is =
+    set_same _ _ _ _ _ _
+    (λ k l. grind (arith, nat_tests, come (pixel s.width k) (on_screen s.width s.height k (rw count at l)))) is
+
+-- where all pixels are set, that is the frame
+pub whole_shown : (look : Look) (raw : List ℕ) {old new : List ℕ}
+    → length raw ≡ look.stack.now.width * look.stack.now.height → length old ≡ length raw
+    → AreSet (λ k. true) (length raw) (shown_at look raw) old new → new ≡ frame (scenery look) raw
+whole_shown look raw {new = new} count same is =
+    same_number_lists new (frame (scenery look) raw) (is.count ∙ same ∙ count ∙ sym (length-frame (scenery look) raw))
+    (λ k lt.
+    let here = rw (is.count, same) at lt in
+    is.words k here ∙ sym (get_or-frame (scenery look) raw k (rw count at here)))
+
+-- ---- one view after the other
+
+module _ (s : StackModel) {n : ℕ} (sid : ℕ) (part : Option Rectangle) where
+  pub next_shown : (i : ℕ) (x : SlotView) (word word' : ℕ → ℕ) (frame mid new : List ℕ) → NoPair same_slot s.views
+      → slice_get s.views i ≡ Some x
+      → ((k : ℕ) → (let p = pixel s.width k in owner_passes (is_slot x.slot) s p && is_wanted sid part s p x) ≡ false
+      → word' k ≡ word k)
+      → AreSet (λ k. wanted_of_first i sid part s (pixel s.width k)) n word frame mid
+      → AreSet (λ k. let p = pixel s.width k in owner_passes (is_slot x.slot) s p && is_wanted sid part s p x) n word'
+      mid new
+      → AreSet (λ k. wanted_of_first (i + 1) sid part s (pixel s.width k)) n word' frame new
+  next_shown i x word word' frame mid new apart at still first second =
+      set_then _ _ (λ k. wanted_of_first (i + 1) sid part s (pixel s.width k)) _ word word' frame mid new
+      (λ k. (one_more (is_wanted sid part s (pixel s.width k)) s (pixel s.width k) i x apart at).all) still first
+      second
+
+  pub last_shown : (i : ℕ) {word : ℕ → ℕ} {frame new : List ℕ} → length s.views ≤ i
+      → AreSet (λ k. wanted_of_first i sid part s (pixel s.width k)) n word frame new
+      → AreSet (λ k. wanted sid part s (pixel s.width k)) n word frame new
+  last_shown i all is =
+      set_same _ _ _ _ _ _
+      (λ k l. ap (λ (xs : List SlotView). option_map_or (is_wanted sid part s (pixel s.width k))
+      (owner_in (λ a. a.view) s.bar xs (pixel s.width k)) false) (take_all i s.views all)) is

@@ -1,31 +1,39 @@
--- The configuration of a generated run is within the ranges of the format.
-use Rattle.std.proofs.Common.{IsTrue, ap, arith, drop, get_or, le-leb, map, refl, true, ℕ, ◌+◌, ◌<◌}
-use Rattle.std.proofs.Common.{◌≡◌, ◌≢◌}
-use Rattle.nit_report.proofs.Basics.{IsConfiguration, IsMember, Member, client_label, decimal_digit}
-use Rattle.nit_report.proofs.Basics.{decimal_injective, false≢true, generated_member}
-use Rattle.nit_report.proofs.Basics.{get_or-map-range_with_len, is_file_name, is_label}
-use Rattle.nit_report.proofs.Basics.{is_label_byte, range_with_len, script_name}
+-- Digits, titles, and that the configuration of a generated run is within the ranges of the format.
+use Rattle.std.proofs.Common.{IsTrue, [], ap, arith, drop, get_or, le-leb, length, length-append}
+use Rattle.std.proofs.Common.{map, refl, true, ℕ, ◌%◌, ◌+◌, ◌/◌, ◌<◌, ◌^◌, ◌∷◌, ◌≡◌, ◌≢◌, ◌≤◌}
+use Rattle.nit_report.proofs.Basics.{IsConfiguration, IsMember, Member, cases_lt, decimal}
+use Rattle.nit_report.proofs.Basics.{decimal_digit, decimal_injective, decimal_step, false≢true}
+use Rattle.nit_report.proofs.Basics.{generated_member, get_or-map-range_with_len, is_printable}
+use Rattle.nit_report.proofs.Basics.{is_text, length-decimal-le, range_with_len}
 use Rattle.nit_report.specs.Generator.{generated_configuration}
-use Rattle.nit_report.proofs.Titles.{digit_is_printable}
 
-label_byte : (d : ℕ) → d < 10 → is_label_byte (48 + d) ≡ true
-label_byte d lt = grind (arith, le-leb)
+-- ---- how many digits a number has in decimal
 
-label_is : (c : ℕ) → c < 10 → IsTrue (is_label (client_label c))
-label_is c lt = rw (decimal_digit c lt, label_byte c lt) refl
+pub one_digit : (n : ℕ) → n < 10 → length (decimal n) ≡ 1
+one_digit n lt = rw (decimal_digit n lt) refl
 
-name_is : (c : ℕ) → c < 10 → IsTrue (is_file_name (script_name c))
-name_is c lt = rw (decimal_digit c lt, digit_is_printable c lt) refl
+pub one_digit_more : (n : ℕ) → 10 ≤ n → n < 2 ^ 64 → length (decimal n) ≡ length (decimal (n / 10)) + 1
+one_digit_more n le lt = rw (decimal_step n le lt) (length-append (decimal (n / 10)) ((48 + n % 10) ∷ []))
 
-labels_differ : (i j : ℕ) → i < j → j < 8 → client_label i ≢ client_label j
-labels_differ i j less few same = let e = decimal_injective i j (omega arith) (omega arith) (ap (drop 1) same) in absurd
-    (omega arith)
+pub few_digits : (n : ℕ) → n < 2 ^ 32 → length (decimal n) ≤ 10
+few_digits n lt = length-decimal-le 10 n (omega arith) (omega arith) (omega arith)
+
+-- ---- the titles of generated views
+
+-- a digit is printable
+pub digit_is_printable : (d : ℕ) → d < 10 → is_printable (48 + d) ≡ true
+digit_is_printable d lt = grind (arith, le-leb)
+
+pub is_title : (v : ℕ) → v ≤ 99 → (length (decimal v) ≤ 2) × IsTrue (is_text (119 ∷ decimal v))
+is_title v few = grind (arith, cases_lt v 10, decimal_digit, decimal_step, digit_is_printable)
+
+-- ---- the configuration of a generated run is within the ranges of the format
 
 member_configured : (c : ℕ) → c < 8 → IsMember (generated_member c)
 member_configured c few = record {
-  label = label_is c (omega arith);
+  label = rw (decimal_digit c (omega arith)) (grind (arith, le-leb));
   donation = (omega arith, omega arith);
-  script = name_is c (omega arith);
+  script = rw (decimal_digit c (omega arith), digit_is_printable c (omega arith)) refl;
   layer = omega arith;
 }
 
@@ -42,6 +50,7 @@ generated_is_configured = record {
   input = refl;
   count = (omega arith, omega arith);
   clients = λ k d few. rw (client_at k d few) (member_configured k few);
-  labels = λ i j d less few same. labels_differ i j less few
-      (rw (client_at i d (omega arith), client_at j d few) at same);
+  labels = λ i j d less few same.
+      let e = ap (drop 1) (rw (client_at i d (omega arith), client_at j d few) at same) in
+      omega (arith, decimal_injective i j (omega arith) (omega arith) e);
 }

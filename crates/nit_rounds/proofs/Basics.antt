@@ -23,24 +23,24 @@ pub use Rattle.nit_rounds.specs.Terms.{Reply, Routed, SceneModel, Shoots, ShotFr
 pub use Rattle.nit_rounds.specs.Terms.{ShowsEach, ShowsLine, Sight, Size, Some, Stale, StandsAt}
 pub use Rattle.nit_rounds.specs.Terms.{State, Step, Stroke, Turn, User, UserAction, View, Word}
 pub use Rattle.nit_rounds.specs.Terms.{action_of, actions_of_line, actions_of_turns, actors, after}
-pub use Rattle.nit_rounds.specs.Terms.{after_turn, all_rounds, bar_rows, bare_word, blank}
-pub use Rattle.nit_rounds.specs.Terms.{buffer_size, calls_from, calls_of, calls_to_make}
-pub use Rattle.nit_rounds.specs.Terms.{clients_from, decimal, dirty, donation_of, done, done_after}
-pub use Rattle.nit_rounds.specs.Terms.{drawn, drawn_by_shot, drawn_shot, ends_phase, entry_of}
-pub use Rattle.nit_rounds.specs.Terms.{first_state, flat_map, frame, frame_of, glass_after}
-pub use Rattle.nit_rounds.specs.Terms.{glass_in, glasses_of_call, greatest, in_bar, in_phase}
-pub use Rattle.nit_rounds.specs.Terms.{input_by_user, input_lines_of, is_active, is_between}
-pub use Rattle.nit_rounds.specs.Terms.{is_in_area, is_input_phase, is_number_in, is_phase}
-pub use Rattle.nit_rounds.specs.Terms.{is_set_by, is_stale, left, left_at, lefts, length, line_by}
-pub use Rattle.nit_rounds.specs.Terms.{lines_of, next_phase, next_shot, no_sight, opening_drawing}
-pub use Rattle.nit_rounds.specs.Terms.{option_map, phase_count, phase_rounds, phases, phases_along}
-pub use Rattle.nit_rounds.specs.Terms.{picture_of, pixel, pixel_count, plan_in, plan_of_script}
-pub use Rattle.nit_rounds.specs.Terms.{put_state_of_desk, range_with_len, replay, replay_from}
-pub use Rattle.nit_rounds.specs.Terms.{rest_of_phase, round, rounds, route, routed_as, scenery_of}
-pub use Rattle.nit_rounds.specs.Terms.{script_in, script_of, seen, serve, session, set_where}
-pub use Rattle.nit_rounds.specs.Terms.{settled, shoots, shot_file, shot_name, shots, shots_after}
-pub use Rattle.nit_rounds.specs.Terms.{shots_of, slice_get, slice_index_or, source_at, source_under}
-pub use Rattle.nit_rounds.specs.Terms.{state_after, state_now, static, step_of, stepped, table_size}
+pub use Rattle.nit_rounds.specs.Terms.{after_turn, all_rounds, bar_rows, bare_word, buffer_size}
+pub use Rattle.nit_rounds.specs.Terms.{calls_from, calls_of, calls_to_make, clients_from, decimal}
+pub use Rattle.nit_rounds.specs.Terms.{dirty, donation_of, done, done_after, drawn, drawn_by_shot}
+pub use Rattle.nit_rounds.specs.Terms.{drawn_shot, ends_phase, entry_of, first_state, flat_map}
+pub use Rattle.nit_rounds.specs.Terms.{frame, frame_of, glass_after, glass_in, glasses_of_call}
+pub use Rattle.nit_rounds.specs.Terms.{greatest, in_bar, in_phase, input_by_user, input_lines_of}
+pub use Rattle.nit_rounds.specs.Terms.{is_active, is_between, is_in_area, is_input_phase}
+pub use Rattle.nit_rounds.specs.Terms.{is_number_in, is_phase, is_set_by, is_stale, left, left_at}
+pub use Rattle.nit_rounds.specs.Terms.{lefts, length, line_by, lines_of, next_phase, next_shot}
+pub use Rattle.nit_rounds.specs.Terms.{no_sight, opening_drawing, option_map, phase_count}
+pub use Rattle.nit_rounds.specs.Terms.{phase_rounds, phases, phases_along, picture_of, pixel}
+pub use Rattle.nit_rounds.specs.Terms.{pixel_count, plan_in, plan_of_script, put_state_of_desk}
+pub use Rattle.nit_rounds.specs.Terms.{range_with_len, replay, replay_from, rest_of_phase, round}
+pub use Rattle.nit_rounds.specs.Terms.{rounds, route, routed_as, scenery_of, script_in, script_of}
+pub use Rattle.nit_rounds.specs.Terms.{seen, serve, session, set_where, settled, shoots, shot_file}
+pub use Rattle.nit_rounds.specs.Terms.{shot_name, shots, shots_after, shots_of, slice_get}
+pub use Rattle.nit_rounds.specs.Terms.{slice_index_or, source_at, source_under, state_after}
+pub use Rattle.nit_rounds.specs.Terms.{state_now, static, step_of, stepped, table_size}
 pub use Rattle.nit_rounds.specs.Terms.{tables_after, take, takes_place, to_do, told_at, turn_by}
 pub use Rattle.nit_rounds.specs.Terms.{turn_of, turns_before, turns_from, turns_left, turns_of}
 pub use Rattle.nit_rounds.specs.Terms.{user_actions_from, user_actions_of, user_actions_to_do}
@@ -50,11 +50,11 @@ pub use Rattle.std.proofs.Common.{Bool, List, [], add-one, add-zero, ap, append-
 pub use Rattle.std.proofs.Common.{ap₂, arith, codes, cond, count_by, drop, drop-drop, drop-set-lt}
 pub use Rattle.std.proofs.Common.{false, get_or, get_or-set_other, get_or-set_same, inl, inr}
 pub use Rattle.std.proofs.Common.{le_of_eq, le_trans, length-append, length-drop, length-set, map}
-pub use Rattle.std.proofs.Common.{nat_lt, refl, replicate, set, slice_index, subst, suc, sym}
-pub use Rattle.std.proofs.Common.{take_at, true, zero, zero-add, ℕ, ◌∙◌}
+pub use Rattle.std.proofs.Common.{refl, replicate, set, slice_index, subst, suc, sym, take_at, true}
+pub use Rattle.std.proofs.Common.{zero, zero-add, ℕ, ◌∙◌}
 pub use Rattle.std.proofs.Math.Nat.{mul-le-mul_right}
-pub use Rattle.std.proofs.lemmas.Bool.{and_parts, cases_Bool, cases_eq, cases_lt, eq-eqb, eqb-true}
-pub use Rattle.std.proofs.lemmas.Bool.{false≢true, lt-ltb, ltb-true, ne_eqb, or_parts}
+pub use Rattle.std.proofs.lemmas.Bool.{cases_Bool, cases_eq, cases_lt, eq-eqb, eqb-true, ne_eqb}
+pub use Rattle.std.proofs.lemmas.Bool.{or_parts}
 pub use Rattle.std.proofs.lemmas.Bool.Decides.{nat_tests}
 pub use Rattle.std.proofs.lemmas.Fmt.{IsAscii-decimal}
 pub use Rattle.std.proofs.lemmas.List.{drop_all, drop_more, ext_get_or, get_or-map}
@@ -67,7 +67,7 @@ pub use Rattle.std.proofs.lemmas.List.Elements.{All-get_or}
 pub use Rattle.std.proofs.lemmas.List.Folds.{flat_map-map}
 pub use Rattle.std.proofs.lemmas.List.FromFn.{get_or-map-range_with_len, get_or-range_with_len}
 pub use Rattle.std.proofs.lemmas.List.FromFn.{length-range_with_len}
-pub use Rattle.std.proofs.lemmas.List.Sums.{fold-append, sum_by-append, sum_by-cons}
+pub use Rattle.std.proofs.lemmas.List.Sums.{fold-append, sum_by-cons}
 pub use Rattle.std.proofs.lemmas.Option.{get_or_from_slice_get, same_Some, slice_get-get_or}
 pub use Rattle.std.proofs.lemmas.Option.{slice_get_within}
 pub use Rattle.std.proofs.lemmas.Str.{IsUtf8-append, IsUtf8-from_ascii}

@@ -1,120 +1,23 @@
 -- How many moves there are, as many as lines; which lines of an actor are done in the rounds, and which before a move.
-use Rattle.nit_rounds.proofs.Basics.{ActorLine, ByClient, ByUser, InputLine, Line, LineTurn, List}
-use Rattle.nit_rounds.proofs.Basics.{Some, [], actions_of_line, actions_of_turns, actors, add-one}
-use Rattle.nit_rounds.proofs.Basics.{ap, arith, cases_lt, clients_from, cond, drop, ends_phase}
-use Rattle.nit_rounds.proofs.Basics.{eq-eqb, flat_map, flat_map-append, get_or}
-use Rattle.nit_rounds.proofs.Basics.{get_or-range_with_len, get_or_at, get_or_past, greatest}
-use Rattle.nit_rounds.proofs.Basics.{in_phase, inl, input_by_user, input_lines_of, inr, length}
+use Rattle.nit_rounds.proofs.Basics.{ActorLine, AreRoundsOf, ByClient, ByUser, Calls, Configuration}
+use Rattle.nit_rounds.proofs.Basics.{Entry, InputLine, IsLegal, IsWhole, LegalFrom, Line, LineTurn}
+use Rattle.nit_rounds.proofs.Basics.{List, Some, State, [], action_of, actions_of_line}
+use Rattle.nit_rounds.proofs.Basics.{actions_of_turns, add-one, add-zero, after, ap, arith}
+use Rattle.nit_rounds.proofs.Basics.{as_many_as_clients, calls_from, calls_of, calls_to_make, cond}
+use Rattle.nit_rounds.proofs.Basics.{done, ends_phase, eq-eqb, first_state, flat_map}
+use Rattle.nit_rounds.proofs.Basics.{flat_map-append, get_or, get_or-range_with_len, get_or_at}
+use Rattle.nit_rounds.proofs.Basics.{get_or_past, input_by_user, input_lines_of, length}
 use Rattle.nit_rounds.proofs.Basics.{length-append, length-map, length-range_with_len, line_by}
-use Rattle.nit_rounds.proofs.Basics.{lines_of, map, ne_eqb, phase_count, phase_rounds}
-use Rattle.nit_rounds.proofs.Basics.{range_with_len, refl, rounds, slice_get, suc, sum_by-cons, sym}
-use Rattle.nit_rounds.proofs.Basics.{take_at, turns_from, turns_of}
-use Rattle.std.proofs.Common.{sum, take, take-append-drop, zero, zero-add, ℕ, ◌++◌, ◌+◌, ◌<◌, ◌∙◌}
-use Rattle.std.proofs.Common.{◌∷◌, ◌≡◌, ◌≤◌}
-use Rattle.nit_rounds.proofs.OneActor.{Below, Short, all_walk, no_phases, phases_whole}
-use Rattle.nit_rounds.proofs.OneActor.{short_drop, short_greatest, walk}
-use Rattle.nit_rounds.proofs.Scripts.{below, client_part, user_part}
-use Rattle.nit_script.specs.declared.line.Line.TheVariants as line
+use Rattle.nit_rounds.proofs.Basics.{lines_of, map, nat_tests, ne_eqb, range_with_len, refl, rounds}
+use Rattle.nit_rounds.proofs.Basics.{slice_get, slice_get_within, suc, sum_by-cons, sym, take_at}
+use Rattle.nit_rounds.proofs.Basics.{turns_from, user_actions_from, user_actions_of}
+use Rattle.nit_rounds.proofs.Basics.{user_actions_to_do, zero-add}
+use Rattle.std.proofs.Common.{nat_le, sum, take, zero, ℕ, ◌++◌, ◌+◌, ◌-◌, ◌<◌, ◌∙◌, ◌∷◌, ◌≡◌, ◌≤◌}
+use Rattle.nit_rounds.proofs.PlaceLemmas.{client_part, user_part}
+use Rattle.nit_journal.proofs.ForCallers.{as_many}
+use Rattle.nit_events.specs.declared.entry.Entry.TheVariants as entry
 use Rattle.nit_script.specs.declared.line.InputLine.TheVariants as input
-
--- how many elements the lists have
-total : {X : Type 0} → List (List X) → ℕ
-total [] = 0
-total (l ∷ all) = length l + total all
-
-none_in_all : (all : List (List LineTurn)) → Short 0 all → total all ≡ 0
-unfolding total
-none_in_all [] h = refl
-none_in_all (l ∷ all) h = let here : length l ≤ 0 = h.0 in let rest : total all ≡ 0 = none_in_all all h.1 in omega arith
-
-firsts_and_rest : (all : List (List LineTurn)) → length (flat_map (take 1) all) + total (map (drop 1) all) ≡ total all
-unfolding total
-firsts_and_rest [] = refl
-firsts_and_rest (l ∷ all) =
-    let whole : length (take 1 l) + length (drop 1 l) ≡ length l = rw (
-      ← length-append (take 1 l) (drop 1 l),
-      take-append-drop 1 l,
-    ) in
-    omega (arith, length-append (take 1 l) (flat_map (take 1) all), firsts_and_rest all)
-
-walk_long : (n : ℕ) (all : List (List LineTurn)) → Short n all → length (walk n all) ≡ total all
-walk_long zero all h = sym (none_in_all all h)
-walk_long (suc n) all h = omega (
-  arith,
-  length-append (flat_map (take 1) all) (walk n (map (drop 1) all)),
-  walk_long n (map (drop 1) all) (short_drop n all h),
-  firsts_and_rest all,
-)
-
-phase_long : (all : List (List LineTurn)) (p : ℕ) → length (phase_rounds all p) ≡ total (map (in_phase p) all)
-phase_long all p = rw (
-  all_walk (map (in_phase p) all),
-  walk_long (greatest (map length (map (in_phase p) all))) (map
-      (in_phase p) all) (short_greatest (map (in_phase p) all)),
-)
-
--- the moves of one actor more
-one_actor : (l : List LineTurn) (all : List (List LineTurn)) (ps : List ℕ)
-    → length (flat_map (phase_rounds (l ∷ all)) ps)
-    ≡ length (flat_map (λ p. in_phase p l) ps) + length (flat_map (phase_rounds all) ps)
-unfolding total
-one_actor l all [] = refl
-one_actor l all (p ∷ ps) =
-    omega (
-      arith,
-      length-append (phase_rounds (l ∷ all) p) (flat_map (phase_rounds (l ∷ all)) ps),
-      length-append (phase_rounds all p) (flat_map (phase_rounds all) ps),
-      length-append (in_phase p l) (flat_map (λ q. in_phase q l) ps),
-      phase_long (l ∷ all) p,
-      phase_long all p,
-      one_actor l all ps,
-    )
-
-moves_long : (p n : ℕ) (ds : List ActorLine) → length (turns_from p n ds) ≡ length ds
-moves_long p n [] = refl
-moves_long p n (d ∷ ds) = ap (λ (k : ℕ). suc k) (moves_long _ (suc n) ds)
-
-rounds_long : (count : ℕ) (all : List (List ActorLine)) → ((k : ℕ) → Below count (turns_of (get_or all k [])))
-    → length (flat_map (phase_rounds (map turns_of all)) (range_with_len 0 count)) ≡ total all
-unfolding total
-rounds_long count [] h = ap length (no_phases (range_with_len 0 count))
-rounds_long count (ds ∷ all) h =
-    let here =
-    ap length (phases_whole ds 0 0 count (rw (← zero-add count) at (h 0)))
-    ∙ moves_long 0 0 ds in
-    one_actor (turns_of ds) (map turns_of all) (range_with_len 0 count)
-    ∙ omega (arith, here, rounds_long count all (λ k. h (suc k)))
-
-lines_of_all : (sid : ℕ) (scripts : List (List Line)) (input : List InputLine)
-    → total (clients_from sid scripts ++ map ByUser input ∷ []) ≡ sum (map length scripts) + length input
-unfolding total
-lines_of_all sid [] input = omega (arith, length-map input ByUser)
-lines_of_all sid (x ∷ scripts) input =
-    omega (
-      arith,
-      length-map x (ByClient sid),
-      sum_by-cons (λ (n : ℕ). n) (length x) (map length scripts),
-      lines_of_all (suc sid) scripts input,
-    )
-
-pub as_many_as_lines : (scripts : List (List Line)) (input : List InputLine)
-    → length (rounds scripts input) ≡ sum (map length scripts) + length input
-as_many_as_lines scripts input = rounds_long (phase_count scripts input) (actors scripts input) (below scripts input)
-    ∙ lines_of_all 0 scripts input
-
-one_act : (d : ActorLine) → length (actions_of_line d) ≤ 1
-one_act (ByClient s (line.Call c)) = omega arith
-one_act (ByUser input.Phase) = omega arith
-one_act other = omega arith
-
-pub few_acts : (moves : List LineTurn) → length (actions_of_turns moves) ≤ length moves
-few_acts [] = omega arith
-few_acts (m ∷ moves) = omega (
-  arith,
-  length-append (actions_of_line m.doing) (actions_of_turns moves),
-  one_act m.doing,
-  few_acts moves,
-)
+use Rattle.nit_script.specs.declared.line.Line.TheVariants as line
 
 -- ---- all lines
 
@@ -151,6 +54,74 @@ pub user_lines : (scripts : List (List Line)) (input : List InputLine) → input
 user_lines scripts input = user_part (λ m. input_by_user m.doing) (λ ls. ls) (λ p n t l. refl)
     (made_lines ByUser input_by_user (λ l. refl) 0 0) scripts input
 
+-- ---- as many moves as lines
+
+-- whether the line is of a client from this one on, as a number
+abbrev is_from : ℕ → ActorLine → ℕ
+is_from sid (ByClient t l) = cond (nat_le sid t) 1 0
+is_from sid (ByUser l) = 0
+
+-- how many moves are of clients from this one on
+abbrev moves_from : ℕ → List LineTurn → ℕ
+moves_from sid [] = 0
+moves_from sid (m ∷ moves) = is_from sid m.doing + moves_from sid moves
+
+one_by_client : (sid : ℕ) (d : ActorLine) → is_from sid d ≡ length (line_by sid d) + is_from (suc sid) d
+one_by_client sid (ByClient t l) = grind (arith, nat_tests)
+one_by_client sid (ByUser l) = refl
+
+of_client : (sid : ℕ) (moves : List LineTurn)
+    → moves_from sid moves ≡ length (lines_of sid moves) + moves_from (suc sid) moves
+of_client sid [] = refl
+of_client sid (m ∷ moves) = grind (arith, nat_tests, of_client sid moves, length-append, one_by_client)
+
+not_from : (sid : ℕ) (d : ActorLine) → ((s : ℕ) → sid ≤ s → length (line_by s d) ≡ 0) → is_from sid d ≡ 0
+not_from sid (ByClient t l) none = grind (arith, nat_tests, none t)
+not_from sid (ByUser l) none = refl
+
+none_from : (sid : ℕ) (moves : List LineTurn) → ((s : ℕ) → sid ≤ s → length (lines_of s moves) ≡ 0)
+    → moves_from sid moves ≡ 0
+none_from sid [] none = refl
+none_from sid (m ∷ moves) none =
+    let long = λ (s : ℕ). length-append (line_by s m.doing) (lines_of s moves) in
+    let here = not_from sid m.doing (λ s up. omega (arith, none s up, long s)) in
+    let rest = none_from sid moves (λ s up. omega (arith, none s up, long s)) in
+    omega arith
+
+of_clients : (sid : ℕ) (scripts : List (List Line)) (moves : List LineTurn)
+    → ((k : ℕ) → length (lines_of (sid + k) moves) ≡ length (get_or scripts k []))
+    → moves_from sid moves ≡ sum (map length scripts)
+of_clients sid [] moves each =
+    none_from sid moves (λ s up. let same : sid + (s - sid) ≡ s = omega arith in rw same at (each (s - sid)))
+of_clients sid (x ∷ scripts) moves each =
+    let rest = of_clients (suc sid) scripts moves
+    (λ k. let same : sid + suc k ≡ suc sid + k = omega arith in rw same at (each (suc k))) in
+    let more = sum_by-cons (λ (n : ℕ). n) (length x) (map length scripts) in
+    omega (arith, of_client sid moves, rw (add-zero sid) at (each 0), rest, more)
+
+one_of_all : (d : ActorLine) → length (input_by_user d) + is_from 0 d ≡ 1
+one_of_all (ByClient t l) = grind (arith, nat_tests)
+one_of_all (ByUser l) = refl
+
+of_all : (moves : List LineTurn) → length (input_lines_of moves) + moves_from 0 moves ≡ length moves
+of_all [] = refl
+of_all (m ∷ moves) = grind (arith, nat_tests, of_all moves, length-append, one_of_all)
+
+pub as_many_as_lines : (scripts : List (List Line)) (input : List InputLine)
+    → length (rounds scripts input) ≡ sum (map length scripts) + length input
+as_many_as_lines scripts input = grind (arith, nat_tests, of_clients, client_lines, of_all, user_lines)
+
+one_act : (d : ActorLine) → length (actions_of_line d) ≤ 1
+one_act (ByClient s (line.Call c)) = omega arith
+one_act (ByUser input.Phase) = omega arith
+one_act other = omega arith
+
+pub few_acts : (moves : List LineTurn) → length (actions_of_turns moves) ≤ length moves
+few_acts [] = omega arith
+few_acts (m ∷ moves) = grind (arith, nat_tests, few_acts moves, length-append, one_act)
+
+-- ---- the numbers of the lines
+
 client_numbers : (scripts : List (List Line)) (input : List InputLine) (s : ℕ)
     → flat_map (numbers (line_by s)) (rounds scripts input) ≡ range_with_len 0 (length (get_or scripts s []))
 unfolding numbers
@@ -168,18 +139,11 @@ user_numbers scripts input =
 
 -- ---- the lines before a move
 
-as_many : {L : Type 0} (of : ActorLine → List L) (moves : List LineTurn) → length (flat_map (numbers of) moves)
+as_many_numbers : {L : Type 0} (of : ActorLine → List L) (moves : List LineTurn) → length (flat_map (numbers of) moves)
     ≡ length (flat_map (λ m. of m.doing) moves)
 unfolding numbers
-as_many of [] = refl
-as_many of (m ∷ moves) =
-    omega (
-      arith,
-      length-append (numbers of m) (flat_map (numbers of) moves),
-      length-append (of m.doing) (flat_map (λ x. of x.doing) moves),
-      length-map (of m.doing) (λ _. m.number),
-      as_many of moves,
-    )
+as_many_numbers of [] = refl
+as_many_numbers of (m ∷ moves) = grind (arith, nat_tests, as_many_numbers of moves, length-append, numbers, length-map)
 
 abbrev front_lines : {L : Type 0} → (ActorLine → List L) → List LineTurn → List L
 front_lines of moves = flat_map (λ m. of m.doing) moves
@@ -201,17 +165,10 @@ around {B = B} g all front m back x parts one = rw (parts, flat_map-append g fro
 number_is : (front : List ℕ) (number : ℕ) (back : List ℕ) (n : ℕ) → front ++ number ∷ back ≡ range_with_len 0 n
     → number ≡ length front
 number_is front number back n e =
-    let long : length front + suc (length back) ≡ n = rw (
-      ← length-append front (number ∷ back),
-      e,
-      length-range_with_len 0 n,
-    ) in
-    rw (
-      ← get_or_at front number back 0 (length front) refl,
-      e,
-      get_or-range_with_len 0 n (length front) 0 (omega arith),
-      zero-add (length front),
-    )
+    let inside : length front < n =
+    omega (arith, ap length e, length-append front (number ∷ back), length-range_with_len 0 n) in
+    rw (← get_or_at front number back 0 (length front) refl, e) (get_or-range_with_len 0 n (length front) 0 inside
+    ∙ zero-add (length front))
 
 done_before : {L : Type 0} (of : ActorLine → List L) (script : List L) (all front : List LineTurn) (m : LineTurn)
     (back : List LineTurn) (l : L) →
@@ -225,7 +182,7 @@ done_before of script all front m back l lines counts parts one =
     sym (around (numbers of) all front m back m.number parts (ap (map (λ _. m.number)) one)) ∙ counts in
     let count : m.number ≡ length (front_lines of front) =
     number_is (flat_map (numbers of) front) m.number (flat_map (numbers of) back) (length script) counted
-    ∙ as_many of front in
+    ∙ as_many_numbers of front in
     rw (← by) (
       rw count (middle (front_lines of front) l (front_lines of back)),
       sym (take_at (front_lines of front) (l ∷ front_lines of back) m.number (sym count)),
@@ -239,14 +196,9 @@ client_done scripts input front back m s l parts by =
     let one : line_by s m.doing ≡ l ∷ [] = rw (by, own_line s l) in
     let found : IsDone (line_by s) (get_or scripts s []) front m.number l =
     done_before (line_by s) (get_or scripts s []) (rounds scripts input) front m back l
-    (client_lines scripts input s) (client_numbers scripts input s) parts one in (
-      elim (cases_lt s (length scripts)) [
-        | inl inside ↦ inside
-        | inr past ↦ absurd (let none = rw (get_or_past scripts s [] past) at found.0 in cc)
-      ],
-      found.0,
-      found.1,
-    )
+    (client_lines scripts input s) (client_numbers scripts input s) parts one in
+    let within = slice_get_within (get_or scripts s []) m.number l found.0 in
+    (grind (arith, get_or_past scripts s [], within), found.0, found.1)
 
 pub user_done : (scripts : List (List Line)) (input : List InputLine) (front back : List LineTurn) (m : LineTurn)
     (l : InputLine) → rounds scripts input ≡ front ++ m ∷ back → m.doing ≡ ByUser l →
@@ -254,3 +206,71 @@ pub user_done : (scripts : List (List Line)) (input : List InputLine) (front bac
 user_done scripts input front back m l parts by =
     done_before input_by_user input (rounds scripts input) front m back l (user_lines scripts input)
     (user_numbers scripts input) parts (ap input_by_user by)
+
+-- A run of one client, whose user does nothing but end phases, is by rounds.
+
+-- ---- the rounds
+
+first_alone : (l : Line) (ms : List LineTurn)
+    → ((t : ℕ) → line_by (suc t) (ByClient zero l) ++ lines_of (suc t) ms ≡ []) → (t : ℕ) → lines_of (suc t) ms ≡ []
+first_alone l ms others t = rw (ne_eqb zero (suc t) (λ e. absurd (omega (arith, e)))) at (others t)
+
+-- what these moves record, where no client but the first does a line in them, and the user's are no actions
+abbrev IsAlone : List LineTurn → Type 0
+IsAlone ms = (p q : ℕ) → ((t : ℕ) → lines_of (suc t) ms ≡ []) → user_actions_from q (input_lines_of ms) ≡ []
+    → actions_of_turns ms ≡ map (Calls 0) (done (calls_from p (lines_of 0 ms)))
+
+one_more : (d : ActorLine) (ms : List LineTurn) → IsAlone ms → (p q : ℕ)
+    → ((t : ℕ) → line_by (suc t) d ++ lines_of (suc t) ms ≡ [])
+    → user_actions_from q (input_by_user d ++ input_lines_of ms) ≡ []
+    → actions_of_line d ++ actions_of_turns ms ≡ map (Calls 0) (done (calls_from p (line_by 0 d ++ lines_of 0 ms)))
+one_more (ByClient zero (line.Call c)) ms rest p q others idle =
+    rw (rest p q (first_alone (line.Call c) ms others) idle)
+one_more (ByClient zero (line.Stroke s)) ms rest p q others idle = rest p q (first_alone (line.Stroke s) ms others) idle
+one_more (ByClient zero line.Phase) ms rest p q others idle = rest (suc p) q (first_alone line.Phase ms others) idle
+one_more (ByClient (suc s) l) ms rest p q others idle =
+    absurd (let some = rw (eq-eqb (suc s) (suc s) refl) at (others s) in cc)
+one_more (ByUser input.Phase) ms rest p q others idle = rest p (suc q) others idle
+one_more other ms rest p q others idle = absurd cc
+
+alone : (ms : List LineTurn) → IsAlone ms
+alone [] p q others idle = refl
+alone (m ∷ ms) p q others idle = one_more m.doing ms (alone ms) p q others idle
+
+-- the rounds of one script record its calls, in order
+rounds_alone : (script : List Line) (lines : List InputLine) → user_actions_to_do lines ≡ []
+    → actions_of_turns (rounds (script ∷ []) lines) ≡ map (Calls 0) (done (calls_to_make script))
+rounds_alone script lines idle =
+    let moves = rounds (script ∷ []) lines in
+    alone moves 0 0 (λ t. client_lines (script ∷ []) lines (suc t))
+    (rw (← user_lines (script ∷ []) lines) at idle)
+    ∙ ap (λ (ls : List Line). map (Calls 0) (done (calls_from 0 ls))) (client_lines (script ∷ []) lines 0)
+
+-- ---- the journal
+
+journal_alone : (s : State) (taken : ℕ) (front : List Entry) → length s.sessions ≡ 1
+    → LegalFrom s taken (front ++ entry.Final ∷ []) → user_actions_of (front ++ entry.Final ∷ []) ≡ []
+    → map action_of front ≡ map (Calls 0) (calls_of 0 (front ++ entry.Final ∷ []))
+journal_alone s taken [] one legal none = refl
+journal_alone s taken (entry.Call zero c r ∷ front) one (agrees, legal) none =
+    rw (journal_alone (after s (entry.Call zero c r)) taken front (as_many s (entry.Call zero c r) ∙ one) legal none)
+journal_alone s taken (entry.Call (suc sid) c r ∷ front) one (agrees, legal) none =
+    absurd (let below = agrees.0 in omega (arith, one, below))
+journal_alone s taken (entry.Final ∷ front) one legal none =
+    absurd (omega (arith, ap length legal, length-append front (entry.Final ∷ [])))
+journal_alone s taken other one legal none = absurd cc
+
+pub by_rounds_alone : (config : Configuration) (script : List Line) (lines : List InputLine) (journal : List Entry)
+    → length config.clients ≡ 1 → user_actions_to_do lines ≡ [] → IsLegal config journal
+    → IsWhole (map calls_to_make (script ∷ [])) (user_actions_to_do lines) journal
+    → (entries : List Entry) × AreRoundsOf entries (script ∷ []) lines × (journal ≡ entries ++ entry.Final ∷ [])
+by_rounds_alone config script lines journal one idle legal whole =
+    let (front, ends) = whole.ends in
+    let own = journal_alone (first_state config) 0 front (as_many_as_clients config [] ∙ one)
+    (rw ends at legal) (ap user_actions_of (sym ends) ∙ whole.actions
+    ∙ ap done idle) in (
+      front,
+      own ∙ ap (map (Calls 0)) (rw (← ends, whole.calls 0 (omega arith)))
+          ∙ sym (rounds_alone script lines idle),
+      ends,
+    )

@@ -1,5 +1,6 @@
 -- How the actors begin, all at their first lines, and how they go on: to the next one with a line to do, into a new
 -- round, into a new phase.
+use Rattle.std.proofs.lemmas.Bool.Decides.{nat_tests}
 use Rattle.nit_rounds.proofs.Basics.{ActorLine, ArePlaces, Bool, ByClient, ByUser, HasTurn}
 use Rattle.nit_rounds.proofs.Basics.{InputLine, IsAtTurn, Line, LinePlace, LineTurn, List, NoneHas}
 use Rattle.nit_rounds.proofs.Basics.{Places, Some, [], actors, add-one, ap, arith, cases_eq}
@@ -10,13 +11,13 @@ use Rattle.nit_rounds.proofs.Basics.{phase_count, phase_rounds, range_with_len, 
 use Rattle.nit_rounds.proofs.Basics.{rounds, script_of, slice_get-get_or, stepped, suc, turn_by}
 use Rattle.nit_rounds.proofs.Basics.{turns_left, turns_of}
 use Rattle.nit_rounds.specs.Places.{left_from}
-use Rattle.std.proofs.Common.{set, slice_get, zero, ℕ, ◌+◌, ◌-◌, ◌<◌, ◌∙◌, ◌∷◌, ◌≡◌, ◌≢◌, ◌≤◌}
-use Rattle.nit_rounds.proofs.Scripts.{below}
-use Rattle.nit_rounds.proofs.PlaceLemmas.{active_parts, actors_long, get_lefts, idle, left_first}
-use Rattle.nit_rounds.proofs.PlaceLemmas.{lefts_long, not_in_phase, nothing_more, phase_stands}
-use Rattle.nit_rounds.proofs.PlaceLemmas.{script_client, script_user, set_lefts, step_stands}
-use Rattle.nit_rounds.proofs.PhaseRest.{at_begin, nothing_left, one_taken, phase_begun, round_begun}
-use Rattle.nit_rounds.proofs.PhaseRest.{turned_to}
+use Rattle.std.proofs.Common.{set, slice_get, zero, ℕ, ◌+◌, ◌-◌, ◌<◌, ◌∙◌, ◌∷◌, ◌≡◌, ◌≤◌}
+use Rattle.nit_rounds.proofs.PlaceLemmas.{active_parts, actors_long, below, get_lefts, idle}
+use Rattle.nit_rounds.proofs.PlaceLemmas.{left_first, lefts_long, not_in_phase, nothing_more}
+use Rattle.nit_rounds.proofs.PlaceLemmas.{phase_stands, script_client, script_user, set_lefts}
+use Rattle.nit_rounds.proofs.PlaceLemmas.{step_stands}
+use Rattle.nit_rounds.proofs.OneActor.{at_begin, nothing_left, one_taken, phase_begun, round_begun}
+use Rattle.nit_rounds.proofs.OneActor.{turned_to}
 use Rattle.nit_script.specs.declared.line.Line.TheVariants as line
 use Rattle.nit_script.specs.declared.line.InputLine.TheVariants as input_line
 use Rattle.nit_rounds.specs.declared.turn.Turn.TheVariants as turn
@@ -56,18 +57,14 @@ from_first : (count : ℕ) (all : List (List LineTurn)) → 0 < count
     → left_from count 0 0 all ≡ flat_map (phase_rounds all) (range_with_len 0 count)
 unfolding left_from
 from_first zero all h = absurd (omega arith)
-from_first (suc n) all h =
-    let less : suc n - 1 ≡ n = omega arith in
-    rw (at_begin (map (in_phase 0) all), less)
+from_first (suc n) all h = grind (arith, nat_tests, at_begin)
 
 pub left_first_of : (scripts : List (List Line)) (input : List InputLine) → length scripts ≤ 16
     → turns_left scripts input at_first ≡ rounds scripts input
 left_first_of scripts input few =
     let long : length (actors scripts input) ≡ length scripts + 1 = actors_long scripts input in
-    rw (
-      lefts_first 17 (actors scripts input) (omega arith),
-      from_first (phase_count scripts input) (map turns_of (actors scripts input)) (omega arith),
-    )
+    let first = from_first (phase_count scripts input) (map turns_of (actors scripts input)) (omega arith) in
+    rw (lefts_first 17 (actors scripts input) (omega arith), first)
 
 abbrev pub at_actor : Places → ℕ → Places
 at_actor at b = record { places = at.places; phase = at.phase; actor = b }
@@ -117,8 +114,7 @@ module _ {scripts : List (List Line)} {input : List InputLine} {at : Places} (ke
   -- where no actor from one on has a line to do, none of them has a move in the phase
   all_idle : (from : ℕ) → Idle at.phase from (length scripts + 1) → (i : ℕ) → from ≤ i → i < length all_left
       → in_phase at.phase (get_or all_left i []) ≡ []
-  all_idle from none i up below_ =
-      let long = all_long in idle_by from (length scripts + 1) (omega arith) none i up (omega arith)
+  all_idle from none i up below_ = grind (arith, nat_tests, all_long, idle_by)
 
   -- ---- to an actor
 
@@ -135,13 +131,7 @@ module _ {scripts : List (List Line)} {input : List InputLine} {at : Places} (ke
   -- ---- a new round
 
   begin_round : Idle at.phase at.actor (length scripts + 1) → GoesOn scripts input at (at_actor at 0)
-  begin_round none =
-      let long = all_long in
-      let actor : 0 ≤ length scripts + 1 = omega arith in
-      record {
-        kept = assumption (actor, kept);
-        left = round_begun count at.phase at.actor all_left (omega arith) (all_idle at.actor none);
-      }
+  begin_round none = grind (arith, nat_tests, all_long, round_begun, all_idle)
 
   -- ---- a new phase
 
@@ -152,11 +142,10 @@ module _ {scripts : List (List Line)} {input : List InputLine} {at : Places} (ke
       let parts = active_parts (at.phase + 1) (place b) (script_of scripts input b) (turn.1 first_place) in
       let stands = kept.stand b first_place turn.0 in
       let few : (place b).line < 65536 = turn.2 first_place in
-      let small = stands.small in
-      let same : (place b).phase ≡ at.phase + 1 = parts.0 in
       let inside = rw (left_first (place b) (script_of scripts input b) (ByUser input_line.Shot) parts.1) at
       stands.within in
       let within : (place b).phase < count = inside.0 in
+      let begun = phase_begun count at.phase all_left (omega arith) (all_idle 0 none) in
       record {
         kept = record {
           few = kept.few;
@@ -166,11 +155,7 @@ module _ {scripts : List (List Line)} {input : List InputLine} {at : Places} (ke
           stand = λ k d below_. phase_stands count at.phase (get_or at.places k d) (script_of scripts input k)
               (none k d (omega arith) (omega arith)) (kept.stand k d below_);
         };
-        left = rw (
-          add-one at.phase,
-          phase_begun count at.phase all_left (omega arith) (all_idle 0 none),
-          (begin_round rest).left,
-        );
+        left = rw (add-one at.phase, begun, (begin_round rest).left);
       }
 
   -- ---- the end
@@ -183,21 +168,16 @@ module _ {scripts : List (List Line)} {input : List InputLine} {at : Places} (ke
       ∙ elim (cases_lt (place k).line (length (script_of scripts input k))) [
         | inr past ↦ nothing_more (place k) (script_of scripts input k) past
         | inl more ↦
-            let low : at.phase ≤ (place k).phase = stands.reached more in
-            let high : (place k).phase ≤ suc at.phase = stands.near more in
-            let not_now : (place k).phase ≢ at.phase =
-            not_in_phase at.phase _ (script_of scripts input k) (none k first_place (omega arith) (omega arith)) more in
-            let not_next : (place k).phase ≢ at.phase + 1 =
-            not_in_phase (at.phase + 1) _ (script_of scripts input k) (next k first_place (omega arith) (omega arith))
-            more in
+            let its : List ActorLine = script_of scripts input k in
+            let not_now = not_in_phase at.phase (place k) its (none k first_place (omega arith) (omega arith)) more in
+            let not_next =
+            not_in_phase (at.phase + 1) (place k) its (next k first_place (omega arith) (omega arith)) more in
             absurd (omega arith)
       ]
 
   pub all_done : Idle at.phase 0 (length scripts + 1) → Idle (at.phase + 1) 0 (length scripts + 1)
       → turns_left scripts input at ≡ []
-  all_done none next =
-      let long = all_long in
-      nothing_left count at.phase at.actor all_left (omega arith) (λ i up below_. none_left none next i (omega arith))
+  all_done none next = grind (arith, nat_tests, all_long, nothing_left, none_left)
 
 -- from the first actor of a new round or phase on to one with a line to do
 then_to : {scripts : List (List Line)} {input : List InputLine} {at now : Places} → GoesOn scripts input at now
@@ -282,15 +262,10 @@ module _ {scripts : List (List Line)} {input : List InputLine} {at : Places} (ke
 
   pub client_turn : at.actor < length scripts → turn.Client at.actor present.line ≡ turn_by here present.line
   client_turn inside =
-      let script : own ≡ map (ByClient at.actor) (get_or scripts at.actor []) =
-      script_client scripts input at.actor inside in
-      let long : present.line < length (get_or scripts at.actor []) =
-      rw (script, length-map (get_or scripts at.actor []) (ByClient at.actor)) at parts.1 in
-      cc (
-        get_or-map (ByClient at.actor) (get_or scripts at.actor []) present.line line.Phase (ByUser input_line.Shot)
-            long,
-        script,
-      )
+      let lines : List Line = get_or scripts at.actor [] in
+      let script : own ≡ map (ByClient at.actor) lines = script_client scripts input at.actor inside in
+      let long : present.line < length lines = rw (script, length-map lines (ByClient at.actor)) at parts.1 in
+      cc (get_or-map (ByClient at.actor) lines present.line line.Phase (ByUser input_line.Shot) long, script)
 
   pub user_turn : length scripts ≤ at.actor → turn.User present.line ≡ turn_by here present.line
   user_turn past =

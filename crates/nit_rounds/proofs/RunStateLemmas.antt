@@ -1,40 +1,41 @@
 -- A run that is under way: how it begins, and what one turn does.
-use Rattle.nit_rounds.proofs.Basics.{Action, ActorLine, AreQuiet, AreRaw, Bare, Bool, ByClient}
-use Rattle.nit_rounds.proofs.Basics.{ByUser, Configuration, DoesClientLine, DoesUserLine, Drawing}
-use Rattle.nit_rounds.proofs.Basics.{Entry, InputLine, IsMoved, IsOpen, IsRecorded, IsSetUp}
-use Rattle.nit_rounds.proofs.Basics.{IsShowing, IsUnderWay, IsUserRecorded, Line, LineTurn, List}
-use Rattle.nit_rounds.proofs.Basics.{None, Option, PlanModel, Point, SceneModel, ShotFrame}
-use Rattle.nit_rounds.proofs.Basics.{ShowsEach, ShowsLine, Sight, Size, Some, View, [], action_of}
-use Rattle.nit_rounds.proofs.Basics.{actions_of_line, actions_of_turns, add-zero, after_turn, ap}
-use Rattle.nit_rounds.proofs.Basics.{append-nil, append_assoc, arith, bar_rows, blank, buffer_size}
-use Rattle.nit_rounds.proofs.Basics.{cases_eq, cases_lt, cond, donation_of, done_after, drawn}
-use Rattle.nit_rounds.proofs.Basics.{drawn_shot, entry_of, false, first_state, flat_map-append}
-use Rattle.nit_rounds.proofs.Basics.{get_or-set_other, get_or-set_same, get_or_past, glass_after}
-use Rattle.nit_rounds.proofs.Basics.{glass_in, in_bar, inl, inr, length, length-append, length-map}
-use Rattle.nit_rounds.proofs.Basics.{length-set, length-take-le, line_by, lines_of, map, map-append}
-use Rattle.nit_rounds.proofs.Basics.{no_sight, pixel, refl, rounds, script_in, set, settled, shots}
-use Rattle.nit_rounds.proofs.Basics.{shots_after, slice_get, slice_get_within, source_under}
-use Rattle.nit_rounds.proofs.Basics.{state_now, turn_by, turn_of}
-use Rattle.std.proofs.Common.{suc, sym, true, zero-add, ℕ, ◌++◌, ◌+◌, ◌<◌, ◌∙◌, ◌∷◌, ◌≡◌, ◌≤◌}
-use Rattle.nit_rounds.proofs.DrawingLemmas.{done_more, drawn_more, moved_on, none_drawn}
+use Rattle.std.proofs.lemmas.Bool.Decides.{nat_tests}
+use Rattle.nit_rounds.proofs.Basics.{Action, ActorLine, Acts, All-get_or, AllByRecursion, AreQuiet}
+use Rattle.nit_rounds.proofs.Basics.{AreRaw, Bare, Bool, ByClient, ByUser, Call, Calls}
+use Rattle.nit_rounds.proofs.Basics.{CanDoUserLine, Configuration, Does, DoesClientLine}
+use Rattle.nit_rounds.proofs.Basics.{DoesUserLine, Drawing, Entry, FitsInputLine, InputLine}
+use Rattle.nit_rounds.proofs.Basics.{IsDonation, IsMember, IsMoved, IsOpen, IsPlanOf, IsPlanned}
+use Rattle.nit_rounds.proofs.Basics.{IsRecorded, IsSetUp, IsShowing, IsUnderWay, IsUserRecorded}
+use Rattle.nit_rounds.proofs.Basics.{Line, LineTurn, List, None, Option, PlanModel, Point}
+use Rattle.nit_rounds.proofs.Basics.{SceneModel, Shoots, ShotFrame, ShowsEach, ShowsLine, Sight}
+use Rattle.nit_rounds.proofs.Basics.{Size, Some, Turn, View, [], action_of, actions_of_line}
+use Rattle.nit_rounds.proofs.Basics.{actions_of_turns, add-zero, after_turn, ap, append-nil}
+use Rattle.nit_rounds.proofs.Basics.{append_assoc, arith, bar_rows, buffer_size, cases_eq, cond}
+use Rattle.nit_rounds.proofs.Basics.{donation_of, done_after, drawn, drawn_shot, drop, entry_of}
+use Rattle.nit_rounds.proofs.Basics.{false, first_state, flat_map-append, get_or, get_or-set_other}
+use Rattle.nit_rounds.proofs.Basics.{get_or-set_same, get_or_default, get_or_from_slice_get}
+use Rattle.nit_rounds.proofs.Basics.{get_or_past, glass_after, glass_in, in_bar, inl, inr, length}
+use Rattle.nit_rounds.proofs.Basics.{length-append, length-map, length-set, length-take-le, line_by}
+use Rattle.nit_rounds.proofs.Basics.{lines_of, map, map-append, no_sight, option_map, pixel}
+use Rattle.nit_rounds.proofs.Basics.{plan_in, refl, rounds, same_Some, script_in, set, settled}
+use Rattle.nit_rounds.proofs.Basics.{shots, shots_after, slice_get, slice_get_within, source_under}
+use Rattle.nit_rounds.proofs.Basics.{state_now, takes_place, turn_by, turn_of}
+use Rattle.std.proofs.lemmas.List.Elements.{All-from_recursion}
+use Rattle.std.proofs.Common.{sym, true, zero-add, ℕ, ◌++◌, ◌+◌, ◌<◌, ◌∙◌, ◌∷◌, ◌≡◌, ◌≤◌}
+use Rattle.nit_rounds.proofs.DrawingLemmas.{TellDone, done_more, drawn_more, moved_on, none_drawn}
 use Rattle.nit_rounds.proofs.DrawingLemmas.{shows_drawn, tables_told}
-use Rattle.nit_rounds.proofs.ShotFileLemmas.{device_shots, line_shots, shot_counted}
+use Rattle.nit_rounds.proofs.ShotFiles.{device_shots, line_shots, shot_counted}
 use Rattle.nit_rounds.proofs.LinesDone.{client_done, other_line, own_line, user_done}
 use Rattle.nit_events.specs.declared.entry.Entry.TheVariants as entry
-use Rattle.nit_script.specs.declared.line.Line.TheVariants as line
-use Rattle.nit_script.specs.declared.line.InputLine.TheVariants as input
 use Rattle.nit_rounds.specs.declared.turn.Turn.TheVariants as turn
+use Rattle.nit_script.specs.declared.line.InputLine.TheVariants as input
+use Rattle.nit_script.specs.declared.line.Line.TheVariants as line
 
 -- ---- one move more
 
 lines_more : (t : ℕ) (front : List LineTurn) (m : LineTurn) → length (lines_of t (front ++ m ∷ []))
     ≡ length (lines_of t front) + length (line_by t m.doing)
-lines_more t front m =
-    rw (
-      flat_map-append (λ (x : LineTurn). line_by t x.doing) front (m ∷ []),
-      append-nil (line_by t m.doing),
-      length-append (lines_of t front) (line_by t m.doing),
-    )
+lines_more t front m = grind (arith, nat_tests, flat_map-append, append-nil, length-append)
 
 -- a move of another actor
 none_more : (t : ℕ) (front : List LineTurn) (m : LineTurn) → length (line_by t m.doing) ≡ 0
@@ -43,8 +44,7 @@ none_more t front m none = rw (lines_more t front m, none, add-zero (length (lin
 
 acts_more : (front : List LineTurn) (m : LineTurn) → actions_of_turns (front ++ m ∷ []) ≡ actions_of_turns front
     ++ actions_of_line m.doing
-acts_more front m = flat_map-append (λ (x : LineTurn). actions_of_line x.doing) front (m ∷ [])
-    ∙ rw (append-nil (actions_of_line m.doing))
+acts_more front m = grind (arith, nat_tests, flat_map-append, append-nil)
 
 recorded_acts : (sid : ℕ) (l : Line) (before after' : List Entry) → IsRecorded sid l before after'
     → map action_of after' ≡ map action_of before ++ actions_of_line (ByClient sid l)
@@ -99,25 +99,11 @@ module _ {scripts : List (List Line)} {lines : List InputLine} {before now : Sce
   -- an entry for a move that is left fits
   pub room_for : (a : Action) → actions_of_line m.doing ≡ a ∷ []
       → length (actions_of_turns (rounds scripts lines)) ≤ before.spare → 1 ≤ now.spare
-  room_for a one room =
-      let all : length (actions_of_turns (rounds scripts lines)) ≡ length (actions_of_turns w.front)
-      + suc (length (actions_of_turns left)) = rw (
-        w.parts,
-        flat_map-append (λ (x : LineTurn). actions_of_line x.doing) w.front (m ∷ left),
-        one,
-        length-append (actions_of_turns w.front) (a ∷ actions_of_turns left),
-      ) in
-      let long : length now.entries ≡ length (actions_of_turns w.front) =
-      rw (← length-map now.entries action_of, w.entries) in
-      let sum' : length now.entries + now.spare ≡ before.spare = w.spare in
-      omega (arith, all, long, sum', room)
+  room_for a one room = grind (arith, nat_tests, flat_map-append, length-append, length-map)
 
   -- no glass tells a log
   pub quiet_now : AreQuiet now.glasses
-  quiet_now t = elim (cases_lt t (length scripts)) [
-    | inl inside ↦ rw (w.same, w.done t inside)
-    | inr past ↦ rw (w.same, get_or_past owns t no_sight (rw (← w.owns_each) at past))
-  ]
+  quiet_now t = grind (arith, nat_tests, get_or_past)
 
   pub clients_move : (sid number : ℕ) → turn_of m ≡ turn.Client sid number → IsClientsMove scripts w.front m sid number
   clients_move sid number is =
@@ -125,13 +111,9 @@ module _ {scripts : List (List Line)} {lines : List InputLine} {before now : Sce
       let (inside, at_number, before_it) = client_done scripts lines w.front left m sid l w.parts doing in
       let here : slice_get (script_in scripts sid) number ≡ Some l = cc (same, at_number) in
       let within = slice_get_within (script_in scripts sid) number l here in
-      record {
-        l = l;
-        doing = doing;
-        inside = inside;
-        here = here;
-        count = rw (before_it, same, length-take-le number (script_in scripts sid) (omega (arith, within)));
-      }
+      let count : length (lines_of sid w.front) ≡ number =
+      rw (before_it, same, length-take-le number (script_in scripts sid) (omega (arith, within))) in
+      record { l = l; doing = doing; inside = inside; here = here; count = count }
 
   pub users_move : (number : ℕ) → turn_of m ≡ turn.User number → IsUsersMove lines m number
   users_move number is =
@@ -153,9 +135,7 @@ module _ {V : Type 0} {Fits : ℕ → ℕ → V → Type 0} {Shows : ShotFrame �
       → IsMoved (entry_of (state_now now) m.doing) now now'
       → length (shots_after before.config m.doing d) ≡ shots now'.entries
       → now'.glasses ≡ owns' → length owns' ≡ length scripts
-      → ((t : ℕ) → t < length scripts
-      → glass_in owns' t ≡ glass_after t (script_in scripts t) (donation_of before.config t)
-      (length (lines_of t (p.way.front ++ m ∷ []))))
+      → TellDone before.config scripts owns' (λ t. length (lines_of t (p.way.front ++ m ∷ [])))
       → ShowsEach Shows (shots_after before.config m.doing d) first last
       → Fits before.config.width before.config.height last
       → IsShowing Fits Shows scripts lines before now' owns' left first last
@@ -209,19 +189,15 @@ module _ {V : Type 0} {Fits : ℕ → ℕ → V → Type 0} {Shows : ShotFrame �
       counted : length (lines_of sid (p.way.front ++ m ∷ [])) ≡ number + 1
       counted = rw (lines_more sid p.way.front m, move.doing, own_line sid move.l, move.count)
 
-      done : (t : ℕ) → t < length scripts → glass_in (set owns sid own') t
-          ≡ glass_after t (script_in scripts t) (donation_of before.config t)
-          (length (lines_of t (p.way.front ++ m ∷ [])))
+      done : TellDone before.config scripts (set owns sid own') (λ t. length (lines_of t (p.way.front ++ m ∷ [])))
       done t inside =
           elim (cases_eq t sid) [
             | inl e ↦
                 let there : sid < length owns = rw (← p.way.owns_each) at move.inside in
                 rw e (cc (get_or-set_same owns sid own' no_sight there, own, p.way.config, counted))
-            | inr other ↦ rw (
-              get_or-set_other owns sid t own' no_sight other,
-              p.way.done t inside,
-              ← none_more t p.way.front m (rw (move.doing, other_line t sid move.l (λ e. other (sym e)))),
-            )
+            | inr other ↦
+                let none = none_more t p.way.front m (rw (move.doing, other_line t sid move.l (λ e. other (sym e)))) in
+                rw (get_or-set_other owns sid t own' no_sight other, p.way.done t inside, ← none)
           ]
 
   -- what one turn of the user leaves
@@ -277,3 +253,109 @@ begun Fits Shows scripts lines plans before owns left first all set_up none raw 
   where
     opened : state_now before ≡ first_state before.config
     opened = rw none
+
+-- What a turn finds: all that the line of its actor asks for.
+
+-- ---- a client's turn
+
+-- all that the next line of a client's script asks for
+pub record MayDoLine (scripts : List (List Line)) (plans : List PlanModel) (scene : SceneModel Sight)
+    (owns : List Sight) (sid number : ℕ) : Type 0 where
+  pub in_owns : sid < length owns
+  pub in_scripts : sid < length scripts
+  pub in_plans : sid < length plans
+  pub session : sid < length scene.config.clients
+  pub here : number < length (script_in scripts sid)
+  pub donation : IsDonation (donation_of scene.config sid)
+  pub plan : IsPlanOf (script_in scripts sid) (donation_of scene.config sid) (plan_in plans sid)
+  pub own : glass_in owns sid ≡ glass_after sid (script_in scripts sid) (donation_of scene.config sid) number
+  pub spare : (call : Call) → slice_get (script_in scripts sid) number ≡ Some (line.Call call) → 1 ≤ scene.spare
+
+-- a turn comes next, once what is stale of the scene is copied
+abbrev pub ComesNext : {V : Type 0} → (ℕ → ℕ → V → Type 0) → (ShotFrame → V → V → Type 0) → List (List Line)
+    → List InputLine → SceneModel Sight → List Sight → V → Turn → Type 0
+ComesNext {V = V} Fits Shows scripts lines s owns last t = (before : SceneModel Sight) × (m : LineTurn)
+    × (left : List LineTurn) × (first : V)
+    × IsShowing Fits Shows scripts lines before (settled s owns) owns (m ∷ left) first last × (turn_of m ≡ t)
+    × (length (actions_of_turns (rounds scripts lines)) ≤ before.spare)
+
+-- all that a client's line asks for, once what is stale of others was copied: the scene's glasses are the own ones,
+-- but for that of the session
+pub may_do : {V : Type 0} {Fits : ℕ → ℕ → V → Type 0} {Shows : ShotFrame → V → V → Type 0} {scripts : List (List Line)}
+    {lines : List InputLine} {plans : List PlanModel} {owns : List Sight} {last : V} {t : Turn} {sid number : ℕ}
+    {s' : SceneModel Sight} (s : SceneModel Sight) → IsPlanned s.config scripts plans
+    → ComesNext Fits Shows scripts lines s owns last t → s' ≡ record s { glasses = s'.glasses }
+    → t ≡ turn.Client sid number → MayDoLine scripts plans (settled s' owns) owns sid number
+may_do {owns = owns} {sid = sid} s planned (before, m, left, first, p, of, room) same is =
+    let w = rw (← ap (λ (x : SceneModel Sight). settled x owns) same) at p.way in
+    let planned' = rw (← ap (λ (x : SceneModel Sight). x.config) same) at planned in
+    let move = clients_move w _ _ (of ∙ is) in
+    let session = rw planned'.sessions at move.inside in
+    record {
+      in_owns = rw (← w.owns_each) at move.inside;
+      in_scripts = move.inside;
+      in_plans = rw (← planned.plans_each) at move.inside;
+      session = session;
+      here = slice_get_within _ _ move.l move.here;
+      donation = (All-get_or IsMember _ _ _ session planned'.configured.clients).donation;
+      plan = planned'.planned _ move.inside;
+      own = rw (w.done _ move.inside, move.count, ← w.config);
+      spare = λ call found.
+          let l : move.l ≡ line.Call call = same_Some move.l (line.Call call) (rw move.here at found) in
+          room_for w (Calls sid call) (rw (move.doing, l)) room;
+    }
+
+-- what is read from an equal list, under any default
+pub read_same : {X : Type 0} → (xs ys : List X) (k : ℕ) (d : X) → ys ≡ xs → k < length xs
+    → get_or ys k d ≡ get_or xs k (get_or ys k d)
+read_same {X = X} xs ys k d same inside = cc (same, get_or_default xs k d (get_or ys k d) inside)
+
+-- what stands in a list at a place is what was found there
+pub found_here : {X : Type 0} → (xs : List X) (k : ℕ) (x y : X) → slice_get xs k ≡ Some x → y ≡ get_or xs k y → x ≡ y
+found_here xs k x y found got = sym (get_or_from_slice_get xs k x y found) ∙ sym got
+
+-- ---- the user's turn
+
+-- all that the next line of the input script asks for, once what is stale was copied
+pub record MayDoUserLine (lines : List InputLine) (scene : SceneModel Sight) (number : ℕ) : Type 0 where
+  pub here : number < length lines
+  pub can : (l : InputLine) → l ≡ get_or lines number l → FitsInputLine l → CanDoUserLine l scene
+
+-- what holds of each element holds of the one at a place
+pub each_at : {X : Type 0} (P : X → Type 0) (xs : List X) (k : ℕ) (d : X) → k < length xs → AllByRecursion P xs
+    → P (get_or xs k d)
+each_at P xs k d inside all = All-from_recursion P xs all k d inside
+
+-- a line that takes a place has one act
+one_act : (l : InputLine) → takes_place l ≡ true → (a : Action) × (actions_of_line (ByUser l) ≡ a ∷ [])
+one_act (input.Device dev) takes = (Acts (Does dev), refl)
+one_act input.Shot takes = (Acts Shoots, refl)
+one_act input.Phase takes = absurd (cc)
+
+pub users_turn : {V : Type 0} {Fits : ℕ → ℕ → V → Type 0} {Shows : ShotFrame → V → V → Type 0}
+    {scripts : List (List Line)} {lines : List InputLine} {owns : List Sight} {last : V} {t : Turn} {number : ℕ}
+    (s s' : SceneModel Sight) → ComesNext Fits Shows scripts lines s owns last t → s' ≡ settled s owns
+    → t ≡ turn.User number → MayDoUserLine lines s' number
+users_turn {lines = lines} {number = number} s s' (before, m, left, first, p, of, room) same is =
+    let w = rw (← same) at p.way in
+    let move = users_move w _ (of ∙ is) in
+    record {
+      here = slice_get_within _ _ move.l move.here;
+      can = λ l got fits. record {
+        fits = fits;
+        quiet = quiet_now w;
+        spare = λ takes.
+            let (a, one) = one_act l takes in
+            room_for w a (rw (move.doing, found_here lines number move.l l move.here got, one)) room;
+        unended = w.unended;
+      };
+    }
+
+-- ---- the next turn
+
+-- a turn that comes next is that of the move in front
+pub front_move : (moves rest : List LineTurn) (result : Option Turn) (t : Turn)
+    → result ≡ option_map turn_of (slice_get moves 0) → rest ≡ drop 1 moves → result ≡ Some t
+    → (m : LineTurn) × (moves ≡ m ∷ rest) × (turn_of m ≡ t)
+front_move [] rest result t next left some = absurd (let e : None ≡ Some t = sym next ∙ some in cc)
+front_move (m ∷ moves) rest result t next left some = grind (arith, nat_tests)

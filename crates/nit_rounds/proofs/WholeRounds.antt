@@ -3,18 +3,18 @@ use Rattle.nit_rounds.proofs.Basics.{Action, ActorLine, AllByRecursion, AreRound
 use Rattle.nit_rounds.proofs.Basics.{ByUser, Call, Does, Entry, InputLine, IsNonDecreasing, IsWhole}
 use Rattle.nit_rounds.proofs.Basics.{Line, LineTurn, List, Shoots, UserAction, [], action_of}
 use Rattle.nit_rounds.proofs.Basics.{actions_of_line, actions_of_turns, actors, all_append, ap}
-use Rattle.nit_rounds.proofs.Basics.{arith, calls_from, calls_of, calls_to_make, cases_eq, cases_lt}
-use Rattle.nit_rounds.proofs.Basics.{cond, done, drop, eq-eqb, eqb-true, false, flat_map}
-use Rattle.nit_rounds.proofs.Basics.{flat_map-append, get_or, get_or-set_other, get_or-set_same}
-use Rattle.nit_rounds.proofs.Basics.{get_or_past, in_phase, inl, inr, le_of_eq, le_trans, left}
-use Rattle.nit_rounds.proofs.Basics.{length, map, ne_eqb, next_phase, phase_count, phase_rounds}
-use Rattle.nit_rounds.proofs.Basics.{phases_along, range_with_len, refl, round, rounds, set, subst}
-use Rattle.nit_rounds.proofs.Basics.{suc, sym, to_do, turns_from, turns_of, user_actions_from}
+use Rattle.nit_rounds.proofs.Basics.{arith, calls_from, calls_of, calls_to_make, done, drop, eq-eqb}
+use Rattle.nit_rounds.proofs.Basics.{eqb-true, false, flat_map, flat_map-append, get_or}
+use Rattle.nit_rounds.proofs.Basics.{get_or-set_other, get_or-set_same, get_or_past, in_phase}
+use Rattle.nit_rounds.proofs.Basics.{le_of_eq, le_trans, left, length, map, nat_tests, ne_eqb}
+use Rattle.nit_rounds.proofs.Basics.{next_phase, phase_count, phase_rounds, phases_along}
+use Rattle.nit_rounds.proofs.Basics.{range_with_len, refl, round, rounds, set, subst, suc, sym}
+use Rattle.nit_rounds.proofs.Basics.{to_do, turns_from, turns_of, user_actions_from}
 use Rattle.nit_rounds.proofs.Basics.{user_actions_of, user_actions_to_do}
 use Rattle.std.proofs.Common.{if◌then◌else◌, take, true, zero, ℕ, ◌++◌, ◌+◌, ◌<◌, ◌==◌, ◌∙◌, ◌∷◌}
 use Rattle.std.proofs.Common.{◌≡◌, ◌≤◌}
-use Rattle.nit_rounds.proofs.OneActor.{all_drop, all_take}
-use Rattle.nit_rounds.proofs.Scripts.{client_part, user_part}
+use Rattle.std.proofs.lemmas.Bool.{cond_both}
+use Rattle.nit_rounds.proofs.PlaceLemmas.{client_part, user_part}
 use Rattle.nit_events.specs.declared.entry.Entry.TheVariants as entry
 use Rattle.nit_script.specs.declared.line.Line.TheVariants as line
 use Rattle.nit_script.specs.declared.line.InputLine.TheVariants as input
@@ -33,8 +33,7 @@ rising_at low (x ∷ xs) r (suc j) d h = le_trans r.0 (rising_at x xs r.1 j d (o
 
 pub never_falls : (low : ℕ) (xs : List ℕ) → Rising low xs → IsNonDecreasing xs
 never_falls low [] r i j d up h = absurd (omega arith)
-never_falls low (x ∷ xs) r zero zero d up h = omega arith
-never_falls low (x ∷ xs) r zero (suc j) d up h = rising_at x xs r.1 j d (omega arith)
+never_falls low (x ∷ xs) r zero j d up h = rising_at x (x ∷ xs) (omega arith, r.1) j d h
 never_falls low (x ∷ xs) r (suc i) zero d up h = absurd (omega arith)
 never_falls low (x ∷ xs) r (suc i) (suc j) d up h = never_falls x xs r.1 i j d (omega arith) (omega arith)
 
@@ -44,55 +43,52 @@ from_lower low mid (x ∷ xs) h r = (le_trans h r.0, r.1)
 
 same_then : (q : ℕ) (xs ys : List ℕ) → AllByRecursion (λ x. x ≡ q) xs → Rising q ys → Rising q (xs ++ ys)
 same_then q [] ys h r = r
-same_then q (x ∷ xs) ys h r =
-    (le_of_eq (sym h.0), rw (← h.0) at (same_then q xs ys h.1 r))
+same_then q (x ∷ xs) ys h r = grind (arith, nat_tests, same_then q xs ys h.1 r, le_of_eq)
 
 -- ---- the moves of one phase
-
-abbrev InPhase : ℕ → List LineTurn → Type 0
-InPhase p moves = AllByRecursion (λ m. m.phase ≡ p) moves
-
-kept_in : (p : ℕ) (b : Bool) (m : LineTurn) (moves : List LineTurn) → (m.phase == p) ≡ b → InPhase p moves
-    → InPhase p (cond b (m ∷ moves) moves)
-kept_in p true m moves e h = (eqb-true m.phase p e, h)
-kept_in p false m moves e h = h
-
-phase_in : (p : ℕ) (moves : List LineTurn) → InPhase p (in_phase p moves)
-phase_in p [] = tt
-phase_in p (m ∷ moves) = kept_in p (m.phase == p) m (in_phase p moves) refl (phase_in p moves)
-
-round_in : (p r : ℕ) (all : List (List LineTurn)) → InPhase p (round (map (in_phase p) all) r)
-round_in p r [] = tt
-round_in p r (l ∷ all) =
-    all_append (λ m. m.phase ≡ p) (take 1 (drop r (in_phase p l))) (round (map (in_phase p) all) r)
-    (all_take (λ m. m.phase ≡ p) 1 (drop r (in_phase p l))
-    (all_drop (λ m. m.phase ≡ p) r (in_phase p l) (phase_in p l))) (round_in p r all)
-
-rounds_in : (p : ℕ) (all : List (List LineTurn)) (rs : List ℕ) → InPhase p (flat_map (round (map (in_phase p) all)) rs)
-rounds_in p all [] = tt
-rounds_in p all (r ∷ rs) = all_append (λ m. m.phase ≡ p) (round (map (in_phase p) all) r)
-    (flat_map (round (map (in_phase p) all)) rs) (round_in p r all) (rounds_in p all rs)
-
--- ---- the phases of what is put into a journal
 
 -- the move's phase, once for each entry that it puts into the journal
 abbrev pub act_phases : LineTurn → List ℕ
 act_phases m = map (λ _. m.phase) (actions_of_line m.doing)
 
+-- all that these moves put is of this phase
+abbrev InPhase : ℕ → List LineTurn → Type 0
+InPhase p moves = AllByRecursion (λ m. AllByRecursion (λ n. n ≡ p) (act_phases m)) moves
+
 each_same : (p q : ℕ) (made : List Action) → p ≡ q → AllByRecursion (λ n. n ≡ q) (map (λ _. p) made)
 each_same p q [] e = tt
 each_same p q (a ∷ made) e = (e, each_same p q made e)
 
-all_same : (p : ℕ) (moves : List LineTurn) → InPhase p moves → AllByRecursion (λ n. n ≡ p) (flat_map act_phases moves)
-all_same p [] h = tt
-all_same p (m ∷ moves) h = all_append (λ n. n ≡ p) (act_phases m) (flat_map act_phases moves)
-    (each_same m.phase p (actions_of_line m.doing) h.0) (all_same p moves h.1)
+phase_in : (p : ℕ) (moves : List LineTurn) → InPhase p (in_phase p moves)
+phase_in p [] = tt
+phase_in p (m ∷ moves) = grind (arith, nat_tests, phase_in p moves, cond_both, each_same, eqb-true)
+
+all_flat : {X Y : Type 0} (P : Y → Type 0) (f : X → List Y) (xs : List X)
+    → AllByRecursion (λ x. AllByRecursion P (f x)) xs → AllByRecursion P (flat_map f xs)
+all_flat P f [] h = tt
+all_flat P f (x ∷ xs) h = all_append P (f x) (flat_map f xs) h.0 (all_flat P f xs h.1)
+
+in_round : (p r : ℕ) (moves : List LineTurn) → InPhase p moves → InPhase p (take 1 (drop r moves))
+in_round p zero [] h = tt
+in_round p zero (m ∷ moves) h = (h.0, tt)
+in_round p (suc r) [] h = tt
+in_round p (suc r) (m ∷ moves) h = in_round p r moves h.1
+
+round_in : (p r : ℕ) (all : List (List LineTurn)) → InPhase p (round (map (in_phase p) all) r)
+round_in p r [] = tt
+round_in p r (l ∷ all) = grind (arith, nat_tests, round_in p r all, all_append, in_round, phase_in)
+
+rounds_in : (p : ℕ) (all : List (List LineTurn)) (rs : List ℕ) → InPhase p (flat_map (round (map (in_phase p) all)) rs)
+rounds_in p all [] = tt
+rounds_in p all (r ∷ rs) = grind (arith, nat_tests, rounds_in p all rs, all_append, round_in)
+
+-- ---- the phases of what is put into a journal
 
 pub rounds_rise : (all : List (List LineTurn)) (p n : ℕ)
     → Rising p (flat_map act_phases (flat_map (phase_rounds all) (range_with_len p n)))
 rounds_rise all p zero = tt
 rounds_rise all p (suc n) = rw (flat_map-append act_phases (phase_rounds all p) _)
-    (same_then p _ _ (all_same p (phase_rounds all p) (rounds_in p all _))
+    (same_then p _ _ (all_flat (λ n. n ≡ p) act_phases (phase_rounds all p) (rounds_in p all _))
     (from_lower p (p + 1) _ (omega arith) (rounds_rise all (p + 1) n)))
 
 -- ---- what actors are to do, by their moves
@@ -117,8 +113,7 @@ actions_in m = action_in m.phase m.doing
 script_calls : (s p n : ℕ) (ls : List Line) → flat_map (calls_in s) (turns_from p n (map (ByClient s) ls))
     ≡ calls_from p ls
 script_calls s p n [] = refl
-script_calls s p n (line.Call c ∷ ls) =
-    rw (eq-eqb s s refl) (rw (script_calls s p (suc n) ls))
+script_calls s p n (line.Call c ∷ ls) = grind (arith, nat_tests, script_calls s p (suc n) ls, eq-eqb)
 script_calls s p n (line.Stroke x ∷ ls) = script_calls s p (suc n) ls
 script_calls s p n (line.Phase ∷ ls) = script_calls s (suc p) (suc n) ls
 
@@ -133,22 +128,14 @@ other_call : (s p t : ℕ) (l : Line) → (t ≡ s → ⊥) → call_in s p (ByC
 other_call s p t (line.Call c) other = rw (ne_eqb t s other) refl
 other_call s p t rest other = refl
 
-no_action : (p t : ℕ) (l : Line) → action_in p (ByClient t l) ≡ []
-no_action p t (line.Call c) = refl
-no_action p t other = refl
-
-no_call : (s p : ℕ) (l : InputLine) → call_in s p (ByUser l) ≡ []
-no_call s p (input.Device d) = refl
-no_call s p other = refl
-
 round_calls : (scripts : List (List Line)) (input : List InputLine) (s : ℕ)
     → flat_map (calls_in s) (rounds scripts input) ≡ calls_to_make (get_or scripts s [])
 round_calls scripts input s = client_part (calls_in s) s calls_to_make (λ p n t l other. other_call s p t l other)
-    (λ p n l. no_call s p l) refl (script_calls s 0 0) scripts input
+    (λ p n l. refl) refl (script_calls s 0 0) scripts input
 
 round_actions : (scripts : List (List Line)) (input : List InputLine) → flat_map actions_in (rounds scripts input)
     ≡ user_actions_to_do input
-round_actions scripts input = user_part actions_in user_actions_to_do (λ p n t l. no_action p t l) (script_actions 0 0)
+round_actions scripts input = user_part actions_in user_actions_to_do (λ p n t l. refl) (script_actions 0 0)
     scripts
     input
 
@@ -182,16 +169,7 @@ one_call false p c xs ys e = e
 call_left : (clients : List (List (ℕ × Call))) (s p : ℕ) (c : Call) (ms : List LineTurn)
     → ((x : ℕ) → to_do clients x ≡ call_in x p (ByClient s (line.Call c)) ++ flat_map (calls_in x) ms) →
     (x : ℕ) → to_do (set clients s (left (to_do clients s))) x ≡ flat_map (calls_in x) ms
-call_left clients s p c ms calls x =
-    let here : to_do clients s ≡ (p, c) ∷ flat_map (calls_in s) ms = rw (eq-eqb s s refl) at (calls s) in
-    elim (cases_lt s (length clients)) [
-      | inr past ↦ absurd (cc (get_or_past clients s [] past, here))
-      | inl inside ↦ elim (cases_eq x s) [
-        | inl same ↦ rw same (rw (get_or-set_same clients s (left (to_do clients s)) [] inside, here))
-        | inr other ↦ get_or-set_other clients s x (left (to_do clients s)) [] other
-            ∙ (rw (ne_eqb s x (λ e. other (sym e))) at (calls x))
-      ]
-    ]
+call_left clients s p c ms calls x = grind (arith, nat_tests, eq-eqb, get_or-set_same, get_or-set_other, get_or_past)
 
 -- what these moves do, a move more does in front
 more : (p n : ℕ) (d : ActorLine) (ms : List LineTurn) → AllFollow ms → AllFollow (move p n d ∷ ms)
@@ -210,23 +188,14 @@ more p n (ByClient s (line.Call c)) ms follow clients user other ahead e = absur
 more p n (ByUser (input.Device dev)) ms follow clients user (entry.Input d r ∷ js) ahead e =
     let same : d ≡ dev = cc in
     let rest = follow clients (left user) js (record { calls = ahead.calls; actions = ap left ahead.actions }) cc in
-    record {
-      phases = cc (ap next_phase ahead.actions, rest.phases);
-      calls = rest.calls;
-      actions = cc (same, rest.actions);
-    }
+    record { phases = cc (ap next_phase ahead.actions, rest.phases); calls = rest.calls; actions = cc rest.actions }
 more p n (ByUser (input.Device dev)) ms follow clients user other ahead e = absurd cc
 more p n (ByUser input.Shot) ms follow clients user (entry.Shot k ∷ js) ahead e =
     let rest = follow clients (left user) js (record { calls = ahead.calls; actions = ap left ahead.actions }) cc in
-    record {
-      phases = cc (ap next_phase ahead.actions, rest.phases);
-      calls = rest.calls;
-      actions = cc rest.actions;
-    }
+    record { phases = cc (ap next_phase ahead.actions, rest.phases); calls = rest.calls; actions = cc rest.actions }
 more p n (ByUser input.Shot) ms follow clients user other ahead e = absurd cc
 more p n other ms follow clients user js ahead e =
-    let f = follow clients user js (record { calls = ahead.calls; actions = ahead.actions }) e in
-    record { phases = f.phases; calls = f.calls; actions = f.actions }
+    assumption (follow clients user js (assumption ahead) e)
 
 follow : (ms : List LineTurn) → AllFollow ms
 follow [] clients user [] ahead e = record { phases = refl; calls = λ s. refl; actions = refl }

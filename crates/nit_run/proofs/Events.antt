@@ -1,10 +1,10 @@
 -- The events that a client takes are those among its replies.
 use Rattle.std.proofs.Common.{◌≡◌, ℕ, ◌+◌, ◌==◌, Bool, true, false, cond, List, [], ◌∷◌, ◌++◌}
-use Rattle.std.proofs.Common.{Option, Some, None, refl, sym, rules}
-use Rattle.nit_run.proofs.Basics.{Above, Buffer, Call, Close, Entry, Event, LegalFrom, Offset}
-use Rattle.nit_run.proofs.Basics.{Place, Reply, Session, State, Status, Take, Title, View, accepted}
-use Rattle.nit_run.proofs.Basics.{after, by_call, by_refusal, by_status, events_among, flat_map}
-use Rattle.nit_run.proofs.Basics.{refusal, replies_to, session, taken, unless, ◌orelse◌}
+use Rattle.std.proofs.Common.{Option, Some, None, arith, refl, rules}
+use Rattle.nit_run.proofs.Basics.{Call, Entry, Event, LegalFrom, Reply, Session, State, Status}
+use Rattle.nit_run.proofs.Basics.{Take, accepted, after, by_call, by_refusal, by_status}
+use Rattle.nit_run.proofs.Basics.{events_among, flat_map, nat_tests, refusal, replies_to, taken}
+use Rattle.nit_run.proofs.Basics.{unless, ◌orelse◌}
 use Rattle.nit_journal.specs.Session.{serve}
 use Rattle.nit_events.specs.declared.event.Status.TheVariants as status
 use Rattle.nit_events.specs.declared.call.Reply.TheVariants as reply
@@ -27,15 +27,8 @@ by_first None q first second = second
 
 -- no refusal is an event
 call_refused : (t : Session) (call : Call) → no_event (by_call t call) ≡ true
-call_refused t (Buffer w h) = search (rules, by_first, by_unless)
-call_refused t View = search (rules, by_first, by_unless)
-call_refused t (Place v x y w h) = search (rules, by_first, by_unless)
-call_refused t (Offset v x y) = search (rules, by_first, by_unless)
-call_refused t (Above v w) = search (rules, by_first, by_unless)
-call_refused t (Title v text) = search (rules, by_first, by_unless)
 call_refused t Take = refl
-call_refused t Close = refl
-call_refused t other = search (rules, by_unless)
+call_refused t other = search (rules, by_first, by_unless)
 
 status_refused : (s : Status) → no_event (by_status s) ≡ true
 status_refused status.Live = refl
@@ -72,18 +65,12 @@ among_one other rest is = refl
 
 not_taken : (b : Bool) (r : Reply) (rest : List Reply) → no_event (Some r) ≡ true
     → events_among rest ≡ events_among (cond b (r ∷ rest) rest)
-not_taken true r rest is = sym (among_one r rest is)
-not_taken false r rest is = refl
-
-one_taken : (b : Bool) (e : Event) (rest : List Reply) → cond b (e ∷ []) [] ++ events_among rest
-    ≡ events_among (cond b (reply.Event e ∷ rest) rest)
-one_taken true e rest = refl
-one_taken false e rest = refl
+not_taken b r rest is = grind (arith, nat_tests, among_one r rest is)
 
 -- the event that the session takes in a call, in front of those among its further replies
 taken_here : (s sid : ℕ) (call : Call) (r : Reply) (rest : List Reply) → MayAnswer call r
     → taken s (entry.Call sid call r) ++ events_among rest ≡ events_among (cond (sid == s) (r ∷ rest) rest)
-taken_here s sid Take (reply.Event e) rest may = one_taken (sid == s) e rest
+taken_here s sid Take (reply.Event e) rest may = grind (arith, nat_tests)
 taken_here s sid Take other rest may = not_taken (sid == s) other rest refl
 taken_here s sid other r rest may = not_taken (sid == s) r rest may
 
@@ -91,9 +78,7 @@ pub events_taken : (s : ℕ) (t : State) (n : ℕ) (journal : List Entry) → Le
     → flat_map (taken s) journal ≡ events_among (replies_to s journal)
 events_taken s t n [] legal = refl
 events_taken s t n (entry.Call sid call r ∷ rest) legal =
-    let may : MayAnswer call r = rw legal.0.1 (answered_so (session t sid) call) in
-    rw (events_taken s (after t (entry.Call sid call r)) n rest legal.1)
-    (taken_here s sid call r (replies_to s rest) may)
+    grind (arith, nat_tests, events_taken s (after t (entry.Call sid call r)) n rest legal.1, answered_so, taken_here)
 events_taken s t n (entry.Input dev routed ∷ rest) legal =
     events_taken s (after t (entry.Input dev routed)) n rest legal.1
 events_taken s t n (entry.Shot number ∷ rest) legal = events_taken s t (n + 1) rest legal.1

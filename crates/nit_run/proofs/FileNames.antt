@@ -1,23 +1,23 @@
 -- The names of files that a run puts: those of its shots, and all by their first letters.
-use Rattle.std.proofs.Common.{◌≡◌, ℕ, ◌<◌, ◌^◌, ◌++◌, ◌≢◌, true, false, List, [], ◌∷◌, length, refl}
-use Rattle.std.proofs.Common.{sym, ap, ◌∙◌, suc, ◌+◌, arith, is_none, zero, map, inl, inr}
+use Rattle.std.proofs.lemmas.Bool.Decides.{nat_tests}
+use Rattle.std.proofs.Common.{List, None, Option, Some, [], ap, append_assoc, arith, false, inl}
+use Rattle.std.proofs.Common.{inr, is_none, length, map, refl, suc, sym, true, zero, ℕ, ◌++◌, ◌+◌}
+use Rattle.std.proofs.Common.{◌<◌, ◌^◌, ◌∙◌, ◌∷◌, ◌≡◌, ◌≢◌}
 use Rattle.nit_run.proofs.Basics.{AllByRecursion, Configuration, Entry, File, HasDifferentNames}
-use Rattle.nit_run.proofs.Basics.{LegalFrom, PutEach, ShotsBehind, State, after, all_append}
-use Rattle.nit_run.proofs.Basics.{and_parts, append_cancel_left, append_cancel_right, bytes_eq}
-use Rattle.nit_run.proofs.Basics.{bytes_eq-Decides, cases_Bool, codes, decimal, decimal_injective}
-use Rattle.nit_run.proofs.Basics.{events_file, events_files, false_from_ne_true, file_at}
-use Rattle.nit_run.proofs.Basics.{have_different_names, journal_file, range_with_len, shot_name}
-use Rattle.nit_run.proofs.Basics.{shots, slice_index}
+use Rattle.nit_run.proofs.Basics.{LegalFrom, PutEach, ShotsBehind, State, StoreModel, after}
+use Rattle.nit_run.proofs.Basics.{all_append, and_parts, append-nil, append_cancel_left}
+use Rattle.nit_run.proofs.Basics.{append_cancel_right, asked_also, asking_all, bytes_eq}
+use Rattle.nit_run.proofs.Basics.{bytes_eq-Decides, cases_Bool, decimal_injective, events_file}
+use Rattle.nit_run.proofs.Basics.{events_files, false_from_ne_true, file_at, have_different_names}
+use Rattle.nit_run.proofs.Basics.{journal_file, range_with_len, shot_name, shots, slice_index}
+use Rattle.nit_run.proofs.Basics.{with_asked}
 use Rattle.nit_events.specs.declared.entry.Entry.TheVariants as entry
 
 -- ---- names
 
 -- shots of different numbers have different names
 pub shots_apart : (m n : ℕ) → m < 2 ^ 64 → n < 2 ^ 64 → shot_name m ≡ shot_name n → m ≡ n
-shots_apart m n small few same =
-    decimal_injective m n small few
-    (append_cancel_right (decimal m) (decimal n) (codes ".ppm")
-    (append_cancel_left (codes "shot-") (decimal m ++ codes ".ppm") (decimal n ++ codes ".ppm") same))
+shots_apart m n small few same = grind (arith, nat_tests, decimal_injective, append_cancel_right, append_cancel_left)
 
 -- none of these files has this name
 abbrev pub OtherThan : List ℕ → List File → Type 0
@@ -28,13 +28,15 @@ abbrev pub Apart : List File → Type 0
 Apart [] = Unit {0}
 Apart (f ∷ files) = OtherThan f.0 files × Apart files
 
-other_front : (name : List ℕ) (front back : List File) → OtherThan name (front ++ back) → OtherThan name front
-other_front name [] back other = tt
-other_front name (f ∷ front) back other = (other.0, other_front name front back other.1)
+-- what all have, the first of them have
+pub all_front : {A : Type 0} (P : A → Type 0) (front back : List A) → AllByRecursion P (front ++ back)
+    → AllByRecursion P front
+all_front P [] back h = tt
+all_front P (x ∷ front) back h = (h.0, all_front P front back h.1)
 
 pub apart_front : (front back : List File) → Apart (front ++ back) → Apart front
 apart_front [] back apart = tt
-apart_front (f ∷ front) back apart = (other_front f.0 front back apart.0, apart_front front back apart.1)
+apart_front (f ∷ front) back apart = (all_front _ front back apart.0, apart_front front back apart.1)
 
 -- ---- as the store says it
 
@@ -53,10 +55,8 @@ other_than : (name : List ℕ) (files : List File) → is_none (file_at name fil
 other_than name [] none = tt
 other_than name (f ∷ files) none = elim (cases_Bool (bytes_eq f.0 name)) [
   | inl same ↦ let some = rw same at none in absurd cc
-  | inr other ↦ (
-    (λ is. let equal : bytes_eq f.0 name ≡ true = (bytes_eq-Decides f.0 name).1 (sym is) in absurd cc),
-    other_than name files (rw other at none),
-  )
+  | inr other ↦
+      ((λ is. absurd (cc ((bytes_eq-Decides f.0 name).1 (sym is)))), other_than name files (rw other at none))
 ]
 
 pub apart_of : (files : List File) → HasDifferentNames files → Apart files
@@ -91,10 +91,7 @@ begin_other letter other (f ∷ files) begin apart =
 pub other_letter : (name : List ℕ) (letter : ℕ) (files : List File) → slice_index name 0 ≡ letter
     → BeginOther letter files → OtherThan name files
 other_letter name letter [] is other = tt
-other_letter name letter (f ∷ files) is other = (
-  (λ same. other.0 (ap (λ (n : List ℕ). slice_index n 0) (sym same) ∙ is)),
-  other_letter name letter files is other.1,
-)
+other_letter name letter (f ∷ files) is other = grind (arith, nat_tests, other_letter name letter files is other.1)
 
 pub other_both : (name : List ℕ) (xs ys : List File) → OtherThan name xs → OtherThan name ys → OtherThan name (xs ++ ys)
 other_both name xs ys a b = all_append (λ f. name ≢ f.0) xs ys a b
@@ -102,10 +99,8 @@ other_both name xs ys a b = all_append (λ f. name ≢ f.0) xs ys a b
 pub apart_by : (letter : ℕ) (xs ys : List File) → Begin letter xs → BeginOther letter ys → Apart xs → Apart ys
     → Apart (xs ++ ys)
 apart_by letter [] ys begin other apart more = more
-apart_by letter (x ∷ xs) ys begin other apart more = (
-  other_both x.0 xs ys apart.0 (other_letter x.0 letter ys begin.0 other),
-  apart_by letter xs ys begin.1 other apart.1 more,
-)
+apart_by letter (x ∷ xs) ys begin other apart more =
+    grind (arith, nat_tests, apart_by letter xs ys begin.1 other apart.1 more, other_both, other_letter)
 
 -- ---- the files of shots
 
@@ -119,11 +114,8 @@ pub numbered : (P : List Entry → List ℕ → Type 0) (s : State) (taken : ℕ
     → LegalFrom s taken es → ShotsBehind P before es files → Numbered (taken + 1) files × (length files ≡ shots es)
 numbered P s taken before [] files legal is = rw is (tt, refl)
 numbered P s taken before (entry.Shot number ∷ es) files legal (bytes, more, is, picture, rest) =
-    let others = numbered P s (taken + 1) (before ++ entry.Shot number ∷ []) es more legal.1 rest in
-    rw is ((ap shot_name legal.0, others.0), ap suc others.1)
-numbered P s taken before (entry.Final ∷ es) files legal are =
-    let none : files ≡ [] = rw legal at are in
-    rw (none, legal) (tt, refl)
+    grind (arith, nat_tests, numbered P s (taken + 1) (before ++ entry.Shot number ∷ []) es more legal.1 rest)
+numbered P s taken before (entry.Final ∷ es) files legal are = grind (arith, nat_tests)
 numbered P s taken before (e ∷ es) files legal are =
     numbered P (after s e) taken (before ++ e ∷ []) es files legal.1 are
 
@@ -131,18 +123,14 @@ numbered P s taken before (e ∷ es) files legal are =
 pub later_shots : (n first : ℕ) (files : List File) → n < first → first + length files < 2 ^ 64 → Numbered first files
     → OtherThan (shot_name n) files
 later_shots n first [] less few is = tt
-later_shots n first (f ∷ files) less few is = (
-  λ same. let e : n ≡ first = shots_apart n first (omega arith) (omega arith) (same ∙ is.0) in omega arith,
-  later_shots n (first + 1) files (omega arith) (omega arith) is.1,
-)
+later_shots n first (f ∷ files) less few is =
+    grind (arith, nat_tests, later_shots n (first + 1) files (omega arith) (omega arith) is.1, shots_apart)
 
 pub shots_apart_all : (first : ℕ) (files : List File) → first + length files < 2 ^ 64 → Numbered first files
     → Apart files
 shots_apart_all first [] few is = tt
-shots_apart_all first (f ∷ files) few is = (
-  rw is.0 (later_shots first (first + 1) files (omega arith) (omega arith) is.1),
-  shots_apart_all (first + 1) files (omega arith) is.1,
-)
+shots_apart_all first (f ∷ files) few is =
+    grind (arith, nat_tests, shots_apart_all (first + 1) files (omega arith) is.1, later_shots)
 
 -- their names begin with an s
 pub shots_begin : (first : ℕ) (files : List File) → Numbered first files → Begin 115 files
@@ -162,3 +150,24 @@ texts_other config journal letter e j =
     all_append (λ f. slice_index f.0 0 ≢ letter) (events_files config journal) (journal_file journal ∷ [])
     (begin_other 101 letter (events_files config journal) (events_begin config journal 0 (length config.clients)) e)
     (j, tt)
+
+-- ---- names that are asked for, one after the other
+
+pub also_none : (o : Option (List (List ℕ))) → o ≡ asked_also o []
+also_none None = refl
+also_none (Some names) = ap (λ (x : List (List ℕ)). Some x) (sym (append-nil names))
+
+pub also_more : (o : Option (List (List ℕ))) (a b : List (List ℕ))
+    → asked_also (asked_also o a) b ≡ asked_also o (a ++ b)
+also_more None a b = refl
+also_more (Some names) a b = ap (λ (x : List (List ℕ)). Some x) (append_assoc names a b)
+
+pub asking_none : (old : StoreModel) → old ≡ asking_all old []
+asking_none old = ap (λ (o : Option (List (List ℕ))). record old { asked = o }) (also_none old.asked)
+
+pub asking_both : (old : StoreModel) (a b : List (List ℕ)) → asking_all (asking_all old a) b ≡ asking_all old (a ++ b)
+asking_both old a b = ap (λ (o : Option (List (List ℕ))). record old { asked = o }) (also_more old.asked a b)
+
+pub asking_more : (old : StoreModel) (names : List (List ℕ)) (name : List ℕ) → with_asked (asking_all old names) name
+    ≡ asking_all old (names ++ name ∷ [])
+asking_more old names name = asking_both old names (name ∷ [])

@@ -1,26 +1,25 @@
 -- The entries of a run's journal are within the format of texts.
 use Rattle.std.proofs.Common.{◌≡◌, ◌∙◌, ℕ, suc, ◌+◌, ◌<◌, ◌≤◌, List, [], ◌∷◌, ◌++◌, length, get_or}
-use Rattle.std.proofs.Common.{refl, sym, ap, arith, zero-add, append_assoc, ◌==◌, inl, inr}
-use Rattle.nit_run.proofs.Basics.{Agrees, All, AllByRecursion, AreLines, Call, Calls, Close}
-use Rattle.nit_run.proofs.Basics.{Configuration, Delivery, Device, Does, Entry, FitsCall}
-use Rattle.nit_run.proofs.Basics.{FitsDelivery, FitsDevice, FitsEntry, FitsInputLine, FitsItem}
-use Rattle.nit_run.proofs.Basics.{FitsLine, Gets, InputLine, InputState, IsJournal, IsLegal, IsLive}
-use Rattle.nit_run.proofs.Basics.{IsRunnable, Line, Observation, Reply, Routed, Setup, Shoots}
-use Rattle.nit_run.proofs.Basics.{State, UserAction, actions_of-append, after, alone_machine}
-use Rattle.nit_run.proofs.Basics.{bar_rows, calls_from, calls_of, calls_of-append, calls_to_make}
-use Rattle.nit_run.proofs.Basics.{cases_Bool, clicks_on, count_by-le-length, deliveries_of}
-use Rattle.nit_run.proofs.Basics.{donation_of, done, each_at, either, eq-eqb, first_session}
-use Rattle.nit_run.proofs.Basics.{first_state, get_or-map, input_after_call, is_accepted, is_call}
-use Rattle.nit_run.proofs.Basics.{items_to, length-append, length-filter, length-map, option_map}
-use Rattle.nit_run.proofs.Basics.{owner, point, pointer_after, projection, recursion_from_All}
-use Rattle.nit_run.proofs.Basics.{replay, replay_from, routed_as, session, shots, user_actions_from}
-use Rattle.nit_run.proofs.Basics.{user_actions_of}
+use Rattle.std.proofs.Common.{refl, sym, ap, arith, zero-add}
+use Rattle.nit_run.proofs.Basics.{Agrees, All, AllByRecursion, AreLines, Call, Close, Configuration}
+use Rattle.nit_run.proofs.Basics.{Delivery, Device, Does, Entry, FitsCall, FitsDelivery, FitsDevice}
+use Rattle.nit_run.proofs.Basics.{FitsEntry, FitsInputLine, FitsItem, FitsLine, InputLine}
+use Rattle.nit_run.proofs.Basics.{InputState, IsJournal, IsLegal, IsLive, IsRunnable, Line}
+use Rattle.nit_run.proofs.Basics.{Observation, Reply, Routed, Setup, Shoots, State, UserAction}
+use Rattle.nit_run.proofs.Basics.{after, alone_machine, bar_rows, calls_from, calls_of}
+use Rattle.nit_run.proofs.Basics.{calls_of-append, calls_to_make, clicks_on, count_by-le-length}
+use Rattle.nit_run.proofs.Basics.{deliveries_of, donation_of, done, each_at, either, eq-eqb}
+use Rattle.nit_run.proofs.Basics.{first_session, get_or-map, input_after_call, is_accepted, is_call}
+use Rattle.nit_run.proofs.Basics.{items_to, length-append, length-filter, length-map, nat_tests}
+use Rattle.nit_run.proofs.Basics.{option_map, owner, point, pointer_after, projection}
+use Rattle.nit_run.proofs.Basics.{recursion_from_All, replay, replay_from, routed_as, session}
+use Rattle.nit_run.proofs.Basics.{shots, user_actions_from, user_actions_of}
 use Rattle.nit_journal.specs.State.{route}
 use Rattle.nit_stack.specs.declared.view.View.{View}
-use Rattle.nit_run.proofs.RoutesFit.{ItemsFit, PointsFit, moved_fits, routing_fits}
-use Rattle.nit_run.proofs.MachinesFit.{IsFine, MomentFits, answer_fits, calls_among, moments_fine}
-use Rattle.nit_run.proofs.MachinesFit.{opens_fine}
+use Rattle.nit_run.proofs.MachinesFit.{IsFine, ItemsFit, MomentFits, PointsFit, served, calls_among}
+use Rattle.nit_run.proofs.MachinesFit.{moments_fine, moved_fits, opens_fine, routing_fits}
 use Rattle.nit_run.proofs.EntryCounts.{calls_counted}
+use Rattle.nit_run.proofs.FileNames.{all_front}
 use Rattle.nit_events.specs.declared.entry.Entry.TheVariants as entry
 use Rattle.nit_script.specs.declared.line.Line.TheVariants as line
 use Rattle.nit_script.specs.declared.line.InputLine.TheVariants as input
@@ -60,8 +59,7 @@ actions_few phase (other ∷ rest) = let more = actions_few phase rest in omega 
 
 calls_short : (lines : List Line) → length (done (calls_to_make lines)) ≤ length lines
 calls_short lines =
-    rw (length-map (calls_to_make lines) (λ t. t.1), calls_counted 0 lines, length-filter is_call lines)
-    (count_by-le-length is_call lines)
+    rw (length-map, calls_counted, length-filter) (count_by-le-length is_call lines)
 
 -- ---- what stands in a journal
 
@@ -73,15 +71,7 @@ all_at P (y ∷ front) x rest h = all_at P front x rest h.1
 
 call_there : (front : List Entry) (sid : ℕ) (call : Call) (r : Reply) (rest : List Entry)
     → AllByRecursion FitsCall (calls_of sid (front ++ entry.Call sid call r ∷ rest)) → FitsCall call
-call_there front sid call r rest h =
-    all_at FitsCall (calls_of sid front) call (calls_of sid rest)
-    (rw (calls_of-append sid front (entry.Call sid call r ∷ rest), eq-eqb sid sid refl) at h)
-
-action_there : (front : List Entry) (dev : Device) (routed : Routed) (rest : List Entry)
-    → AllByRecursion ActionFits (user_actions_of (front ++ entry.Input dev routed ∷ rest)) → FitsDevice dev
-action_there front dev routed rest h =
-    all_at ActionFits (user_actions_of front) (Does dev) (user_actions_of rest)
-    (rw (actions_of-append front (entry.Input dev routed ∷ rest)) at h)
+call_there front sid call r rest h = grind (arith, nat_tests, all_at, calls_of-append, eq-eqb)
 
 shot_there : (front : List Entry) (number : ℕ) (rest : List Entry)
     → shots front + 1 ≤ length (user_actions_of (front ++ entry.Shot number ∷ rest))
@@ -95,6 +85,12 @@ shot_there (other ∷ front) number rest = let more = shot_there front number re
 abbrev DevFits : Entry → Type 0
 DevFits (entry.Input dev routed) = FitsDevice dev
 DevFits other = Unit {0}
+
+devices_fit : (es : List Entry) → AllByRecursion ActionFits (user_actions_of es) → AllByRecursion DevFits es
+devices_fit [] h = tt
+devices_fit (entry.Input dev routed ∷ es) h = (h.0, devices_fit es h.1)
+devices_fit (entry.Shot number ∷ es) h = (tt, devices_fit es h.1)
+devices_fit (other ∷ es) h = (tt, devices_fit es h)
 
 -- what is routed, and the pointer after it
 record RoutedFits (config : Configuration) (i : InputState) (stack : List View) (dev : Device) : Type 0 where
@@ -138,36 +134,24 @@ EntryGood other = Unit {0}
 item_moments : (x : ℕ) (ds : List Delivery) (more : List Observation) → ItemsFit ds → AllByRecursion MomentFits more
     → AllByRecursion MomentFits (items_to x ds ++ more)
 item_moments x [] more f h = h
-item_moments x (d ∷ ds) more f h =
-    let g = item_moments x ds more f.1 h in
-    either (λ (os : List Observation). AllByRecursion MomentFits (os ++ more)) (d.sid == x)
-    (Gets d.item ∷ items_to x ds) (items_to x ds) (f.0, g) g
+item_moments x (d ∷ ds) more f h = grind (arith, nat_tests, item_moments x ds more f.1 h, either)
 
 moments_fit : (x : ℕ) (front : List Entry) → AllByRecursion EntryGood front
     → AllByRecursion MomentFits (projection x front)
 moments_fit x [] h = tt
-moments_fit x (entry.Call sid call r ∷ front) h =
-    let g = moments_fit x front h.1 in
-    either (AllByRecursion MomentFits) (sid == x) (Calls call ∷ projection x front) (projection x front) (h.0, g) g
-moments_fit x (entry.Input dev routed ∷ front) h =
-    item_moments x (deliveries_of routed) (projection x front) h.0 (moments_fit x front h.1)
+moments_fit x (entry.Call sid call r ∷ front) h = grind (arith, nat_tests, moments_fit x front h.1, either)
+moments_fit x (entry.Input dev routed ∷ front) h = grind (arith, nat_tests, moments_fit x front h.1, item_moments)
 moments_fit x (other ∷ front) h = moments_fit x front h.1
 
 item_calls : (x : ℕ) (ds : List Delivery) (more : List Observation) → calls_among (items_to x ds ++ more)
     ≡ calls_among more
 item_calls x [] more = refl
-item_calls x (d ∷ ds) more =
-    let g = item_calls x ds more in
-    either (λ (os : List Observation). calls_among (os ++ more) ≡ calls_among more) (d.sid == x)
-    (Gets d.item ∷ items_to x ds) (items_to x ds) g g
+item_calls x (d ∷ ds) more = grind (arith, nat_tests, item_calls x ds more)
 
 calls_few : (x : ℕ) (front : List Entry) → calls_among (projection x front) ≤ length (calls_of x front)
 calls_few x [] = omega arith
-calls_few x (entry.Call sid call r ∷ front) =
-    let g = calls_few x front in
-    elim (cases_Bool (sid == x)) [ inl e ↦ rw e (omega arith) | inr e ↦ rw e g ]
-calls_few x (entry.Input dev routed ∷ front) = rw (item_calls x (deliveries_of routed) (projection x front))
-    (calls_few x front)
+calls_few x (entry.Call sid call r ∷ front) = grind (arith, nat_tests, calls_few x front)
+calls_few x (entry.Input dev routed ∷ front) = grind (arith, nat_tests, calls_few x front, item_calls)
 calls_few x (other ∷ front) = calls_few x front
 
 -- ---- all entries
@@ -199,6 +183,10 @@ module _ (laws : Laws) (s : Setup) (runnable : IsRunnable s) (journal : List Ent
   legal_at : (all : List Entry) → journal ≡ all → IsLegal s.config all
   legal_at all parts = rw (← parts) j.legal
 
+  agrees_at : (front : List Entry) (e : Entry) (rest : List Entry) → journal ≡ front ++ e ∷ rest
+      → Agrees (replay s.config front) (shots front) e
+  agrees_at front e rest parts = laws.agrees s.config front e rest (legal_at (front ++ e ∷ rest) parts)
+
   -- the calls of a client are those of its script
   there : (sid : ℕ) → sid < length s.config.clients → sid < length s.scripts
   there sid inside = rw runnable.scripts inside
@@ -208,8 +196,7 @@ module _ (laws : Laws) (s : Setup) (runnable : IsRunnable s) (journal : List Ent
 
   calls_are : (sid : ℕ) → sid < length s.config.clients
       → calls_of sid journal ≡ done (calls_to_make (get_or s.scripts sid []))
-  calls_are sid inside = j.whole.calls sid (rw (length-map s.scripts calls_to_make) (there sid inside))
-      ∙ ap done (get_or-map calls_to_make s.scripts sid [] [] (there sid inside))
+  calls_are sid inside = grind (arith, nat_tests, length-map, get_or-map)
 
   -- so a front has few of them
   front_few : (front : List Entry) (e : Entry) (rest : List Entry) (sid : ℕ) → journal ≡ front ++ e ∷ rest
@@ -226,48 +213,21 @@ module _ (laws : Laws) (s : Setup) (runnable : IsRunnable s) (journal : List Ent
   call_fits front sid call r rest parts inside =
       call_there front sid call r rest (rw (← parts, calls_are sid inside) (calls_fit 0 _ (lines_are sid inside).0))
 
-  dev_fits : (front : List Entry) (dev : Device) (routed : Routed) (rest : List Entry)
-      → journal ≡ front ++ entry.Input dev routed ∷ rest → FitsDevice dev
-  dev_fits front dev routed rest parts =
-      action_there front dev routed rest
-      (rw (← parts, j.whole.actions) (actions_fit 0 s.input runnable.input_lines.0))
+  devices : AllByRecursion DevFits journal
+  devices = devices_fit journal (rw j.whole.actions (actions_fit 0 s.input runnable.input_lines.0))
 
   -- the caller is a session
   caller : (front : List Entry) (sid : ℕ) (call : Call) (r : Reply) (rest : List Entry)
       → journal ≡ front ++ entry.Call sid call r ∷ rest → sid < length s.config.clients
-  caller front sid call r rest parts =
-      rw (← laws.sessions s.config front) (laws.agrees s.config front (entry.Call sid call r) rest
-      (legal_at (front ++ entry.Call sid call r ∷ rest) parts)).0
-
-  device_at : (front : List Entry) (e : Entry) (rest : List Entry) → journal ≡ front ++ e ∷ rest → DevFits e
-  device_at front (entry.Input dev routed) rest parts = dev_fits front dev routed rest parts
-  device_at front other rest parts = tt
-
-  -- a place of a front is one of the journal
-  within_front : (front : List Entry) (e : Entry) (rest before : List Entry) (x : Entry) (after' : List Entry)
-      → journal ≡ front ++ e ∷ rest → front ≡ before ++ x ∷ after' → journal ≡ before ++ x ∷ (after' ++ e ∷ rest)
-  within_front front e rest before x after' parts is =
-      parts ∙ rw is (append_assoc before (x ∷ after') (e ∷ rest))
-
-  pointer_at : (front : List Entry) (e : Entry) (rest : List Entry) → journal ≡ front ++ e ∷ rest
-      → PointsFit (replay s.config front).input
-  pointer_at front e rest parts =
-      points (first_state s.config) front (record { x = omega arith; y = omega arith })
-      (all_by_front DevFits front (λ before x after' is. device_at before x (after' ++ e ∷ rest)
-      (within_front front e rest before x after' parts is)))
+  caller front sid call r rest parts = grind (arith, nat_tests, agrees_at)
 
   items_at : (front : List Entry) (dev : Device) (routed : Routed) (rest : List Entry)
       → journal ≡ front ++ entry.Input dev routed ∷ rest → ItemsFit (deliveries_of routed)
   items_at front dev routed rest parts =
-      let t = replay s.config front in
-      let e = entry.Input dev routed in
-      rw (laws.kept t (shots front) dev routed (laws.agrees s.config front e rest (legal_at (front ++ e ∷ rest) parts)))
-      (route_fits t.config t.input t.stack dev (dev_fits front dev routed rest parts)
-      (pointer_at front e rest parts)).items
+      grind (arith, nat_tests, devices, agrees_at, route_fits, all_at, points, all_front)
 
   good_at : (front : List Entry) (e : Entry) (rest : List Entry) → journal ≡ front ++ e ∷ rest → EntryGood e
-  good_at front (entry.Call sid call r) rest parts =
-      call_fits front sid call r rest parts (caller front sid call r rest parts)
+  good_at front (entry.Call sid call r) rest parts = grind (arith, nat_tests, call_fits, caller)
   good_at front (entry.Input dev routed) rest parts = items_at front dev routed rest parts
   good_at front other rest parts = tt
 
@@ -276,60 +236,50 @@ module _ (laws : Laws) (s : Setup) (runnable : IsRunnable s) (journal : List Ent
       → IsFine (session (replay s.config front) sid) (calls_among (projection sid front))
   fine_at front e rest sid parts inside =
       let legal = laws.fronts s.config front (e ∷ rest) (legal_at (front ++ e ∷ rest) parts) in
-      let moments : AllByRecursion MomentFits (projection sid front) =
-      moments_fit sid front (all_by_front EntryGood front
-      (λ before x after' is. good_at before x (after' ++ e ∷ rest)
-      (within_front front e rest before x after' parts is))) in
-      let few : 0 + calls_among (projection sid front) ≤ 2000000 = let few =
-      front_few front e rest sid parts inside in omega arith in
-      let donation : donation_of s.config sid ≤ 8388608 = (runnable.configured.clients sid _ inside).donation.1 in
+      let moments = moments_fit sid front
+      (all_front EntryGood front (e ∷ rest) (rw parts at (all_by_front EntryGood journal good_at))) in
       rw (laws.machines s.config front sid legal inside, ← zero-add (calls_among (projection sid front)))
       (moments_fine (first_session (donation_of s.config sid)) 0 (projection sid front)
-      (opens_fine (donation_of s.config sid) donation) few moments)
+      (opens_fine (donation_of s.config sid) (runnable.configured.clients sid _ inside).donation.1)
+      (omega (arith, front_few front e rest sid parts inside)) moments)
 
   session_small : (sid : ℕ) → sid < length s.config.clients → sid ≤ 15
-  session_small sid inside = let few = runnable.configured.count.1 in omega arith
+  session_small sid inside = omega (arith, runnable.configured.count.1)
 
   entry_fits : (front : List Entry) (e : Entry) (rest : List Entry) → journal ≡ front ++ e ∷ rest → FitsEntry e
   entry_fits front (entry.Call sid call r) rest parts =
       let e = entry.Call sid call r in
       let inside = caller front sid call r rest parts in
-      let agrees = laws.agrees s.config front e rest (legal_at (front ++ e ∷ rest) parts) in
-      let few : calls_among (projection sid front) ≤ 2000000 = let few =
-      front_few front e rest sid parts inside in omega arith in
       let fits = call_fits front sid call r rest parts inside in (
         session_small sid inside,
-        rw agrees.1
-            (answer_fits (session (replay s.config front) sid) (calls_among (projection sid front)) call
-            (fine_at front e rest sid parts inside) few fits),
+        rw (agrees_at front e rest parts).1
+            (served (session (replay s.config front) sid) (calls_among (projection sid front)) call
+            (fine_at front e rest sid parts inside) (omega (arith, front_few front e rest sid parts inside))
+            fits).reply_fits,
         fits,
       )
   entry_fits front (entry.Input dev routed) rest parts =
       let e = entry.Input dev routed in
       let t = replay s.config front in
-      let agrees = laws.agrees s.config front e rest (legal_at (front ++ e ∷ rest) parts) in
+      let agrees = agrees_at front e rest parts in
       let ds = deliveries_of routed in
-      let kept : ds ≡ (route t.config t.input t.stack dev).deliveries = laws.kept t (shots front) dev routed agrees in
-      let alive : AllByRecursion (λ d. IsLive t d.sid) ds =
-      recursion_from_All (λ d. IsLive t d.sid) ds
-      (laws.live s.config front dev routed rest (legal_at (front ++ e ∷ rest) parts)) in
-      let each : AllByRecursion FitsDelivery ds =
-      both_all (λ d. IsLive t d.sid) (λ d. FitsItem d.item) FitsDelivery ds
-      (λ d lives fits. (
-        session_small d.sid (rw (← laws.sessions s.config front) lives.0),
-        fits,
-      )) alive (items_at front dev routed rest parts) in
-      (dev_fits front dev routed rest parts, (each, agrees ∙ ap routed_as (sym kept)))
+      let alive = recursion_from_All (λ d. IsLive t d.sid) ds
+      (laws.live s.config front dev routed rest (legal_at (front ++ e ∷ rest) parts)) in (
+        all_at DevFits front e rest (rw parts at devices),
+        (
+          both_all (λ d. IsLive t d.sid) (λ d. FitsItem d.item) FitsDelivery ds
+              (λ d lives fits. (session_small d.sid (rw (← laws.sessions s.config front) lives.0), fits))
+              alive (items_at front dev routed rest parts),
+          agrees ∙ ap routed_as (sym (laws.kept t (shots front) dev routed agrees)),
+        ),
+      )
   entry_fits front (entry.Shot number) rest parts =
-      let e = entry.Shot number in
-      let agrees = laws.agrees s.config front e rest (legal_at (front ++ e ∷ rest) parts) in
-      let there = shot_there front number rest in
-      let actions : length (user_actions_of (front ++ e ∷ rest)) ≡ length (done (user_actions_from 0 s.input)) =
-      rw (← parts, j.whole.actions) refl in
+      let agrees = agrees_at front (entry.Shot number) rest parts in
+      let there : shots front + 1 ≤ length (done (user_actions_from 0 s.input)) =
+      rw (← parts, j.whole.actions) at (shot_there front number rest) in
       let few = actions_few 0 s.input in
-      let lines = runnable.input_lines.1 in
-      (omega (arith, agrees), omega (arith, agrees))
+      (omega (arith, agrees, runnable.input_lines.1), omega (arith, agrees))
   entry_fits front entry.Final rest parts = tt
 
   pub journal_fits : AllByRecursion FitsEntry journal
-  journal_fits = all_by_front FitsEntry journal (λ front e rest parts. entry_fits front e rest parts)
+  journal_fits = all_by_front FitsEntry journal entry_fits

@@ -1,15 +1,10 @@
-pub mod AskedNames
 pub mod EntryCounts
 pub mod Events
 pub mod FileNames
 pub mod ForCallers
-pub mod GeneratedTexts
 pub mod HeadlineLemmas
-pub mod HistoryShown
 pub mod JournalsFit
 pub mod MachinesFit
 pub mod NoShots
-pub mod RoutesFit
-pub mod RunTexts
 pub mod Basics
 pub mod Lemmas

@@ -1,21 +1,24 @@
 -- What the machine of a session answers is within the format of texts.
-use Rattle.std.proofs.Common.{rules, ◌≡◌, ℕ, ◌+◌, ◌*◌, ◌<◌, ◌≤◌, ◌^◌, Bool, true, false, cond, ◌&&◌}
-use Rattle.std.proofs.Common.{nat_lt, nat_le, List, [], ◌∷◌, ◌++◌, length, Option, Some, None, refl}
-use Rattle.std.proofs.Common.{arith, add-zero, add_assoc, inl, inr}
-use Rattle.nit_run.proofs.Basics.{Above, AllByRecursion, Answered, Back, Buffer, Call, Calls, Close}
-use Rattle.nit_run.proofs.Basics.{Destroy, Event, FitsCall, FitsEvent, FitsItem, FitsReply, Front}
-use Rattle.nit_run.proofs.Basics.{Gets, Item, Observation, Offset, Place, Refresh, Reply, Session}
-use Rattle.nit_run.proofs.Basics.{Status, Take, Title, Upgrade, View, accepted, after_observations}
-use Rattle.nit_run.proofs.Basics.{all_append, buffer_left, buffer_need, by_call, by_life}
-use Rattle.nit_run.proofs.Basics.{by_quota, by_refusal, by_reserve, by_status, cases_Bool}
-use Rattle.nit_run.proofs.Basics.{first_session, has_view, is_rectangle, is_side}
-use Rattle.nit_run.proofs.Basics.{leb-true, min-le_right, mul-le, nat_tests, receive}
-use Rattle.nit_run.proofs.Basics.{refusal, second_none, taking, unless, view_left, view_need}
-use Rattle.nit_run.proofs.Basics.{◌orelse◌}
+use Rattle.std.proofs.Common.{Bool, List, None, Option, Some, [], add-zero, add_assoc, arith, cond}
+use Rattle.std.proofs.Common.{false, length, nat_le, nat_lt, refl, rules, true, ℕ, ◌&&◌, ◌++◌, ◌+◌}
+use Rattle.std.proofs.Common.{◌-◌, ◌<◌, ◌^◌, ◌∷◌, ◌≡◌, ◌≤◌}
+use Rattle.nit_run.proofs.Basics.{AllByRecursion, Answered, Buffer, Call, Calls, Delivery, Device}
+use Rattle.nit_run.proofs.Basics.{Event, FitsCall, FitsDevice, FitsEvent, FitsItem, FitsReply, Flat}
+use Rattle.nit_run.proofs.Basics.{Gets, InputState, IsCode, Item, Kill, Mode, Observation, Reply}
+use Rattle.nit_run.proofs.Basics.{Routing, Session, Status, Take, Upgrade, View, Xray, accepted}
+use Rattle.nit_run.proofs.Basics.{after_observations, all_append, buffer_left, buffer_need, by_call}
+use Rattle.nit_run.proofs.Basics.{by_life, by_quota, by_refusal, by_reserve, by_status, either}
+use Rattle.nit_run.proofs.Basics.{first_press, first_session, focusing, hovering, ignored, is_side}
+use Rattle.nit_run.proofs.Basics.{killing, leaving, letting_go, moving, mul-le, nat_tests}
+use Rattle.nit_run.proofs.Basics.{pointer_after, press, pressing, receive, received, refusal}
+use Rattle.nit_run.proofs.Basics.{release, routing, second_none, switching, taking, to, unless}
+use Rattle.nit_run.proofs.Basics.{with_held, ◌orelse◌}
 use Rattle.nit_journal.specs.Session.{serve}
+use Rattle.nit_events.specs.declared.call.Reply.TheVariants as reply
+use Rattle.nit_events.specs.declared.device.Device.TheVariants as device
+use Rattle.nit_events.specs.declared.event.Event.TheVariants as event
 use Rattle.nit_events.specs.declared.event.Item.TheVariants as item
 use Rattle.nit_events.specs.declared.event.Status.TheVariants as status
-use Rattle.nit_events.specs.declared.call.Reply.TheVariants as reply
 
 -- what is known of a machine that was called at most so often
 pub record IsFine (t : Session) (n : ℕ) : Type 0 where
@@ -24,9 +27,7 @@ pub record IsFine (t : Session) (n : ℕ) : Type 0 where
   pub queue : AllByRecursion FitsEvent t.queue
 
 pub opens_fine : (donation : ℕ) → donation ≤ 8388608 → IsFine (first_session donation) 0
-opens_fine donation most =
-    let less = min-le_right (2 * donation) 8388608 in
-    record { sum = omega arith; next = omega arith; queue = tt }
+opens_fine donation most = grind (arith, nat_tests)
 
 -- ---- refusals
 
@@ -43,39 +44,18 @@ fits_first (Some r) q f g = f
 fits_first None q f g = g
 
 need_small : (w h : ℕ) → (is_side w && is_side h) ≡ true → buffer_need w h < 10 ^ 9
-need_small w h is =
-    let sides : (w ≤ 4096) × (h ≤ 4096) = grind (arith, nat_tests) in
-    let most = mul-le w h 4096 4096 sides.0 sides.1 in
-    omega arith
+need_small w h is = grind (arith, nat_tests, mul-le)
 
 fits_buffer : (b : Bool) (t : Session) (n w h : ℕ) → IsFine t n → (is_side w && is_side h) ≡ b
     → RefusalFits (unless b reply.BadSize orelse by_quota (buffer_need w h) (buffer_left t.donation (length t.handles)))
 fits_buffer false t n w h f is = tt
-fits_buffer true t n w h f is =
-    let left : buffer_left t.donation (length t.handles) < 10 ^ 9 = omega (arith, f.sum) in
-    fits_unless (nat_le (buffer_need w h) (buffer_left t.donation (length t.handles)))
-    (reply.OutOfQuota (buffer_need w h) (buffer_left t.donation (length t.handles))) (need_small w h is, left)
+fits_buffer true t n w h f is = grind (arith, nat_tests, fits_unless, need_small)
 
 fits_by_call : (t : Session) (n : ℕ) (call : Call) → IsFine t n → FitsCall call → RefusalFits (by_call t call)
 fits_by_call t n (Buffer w h) f c = fits_buffer (is_side w && is_side h) t n w h f refl
-fits_by_call t n View f c =
-    let left = view_left t.donation (length t.handles) (t.bw * t.bh) in
-    let small : left < 10 ^ 9 = omega (arith, f.sum) in
-    let need : view_need < 10 ^ 9 = omega arith in
-    fits_first (unless (nat_lt (length t.handles) 64) reply.TooManyViews) (by_quota view_need left)
-    (fits_unless (nat_lt (length t.handles) 64) reply.TooManyViews tt)
-    (fits_unless (nat_le view_need left) (reply.OutOfQuota view_need left) (need, small))
-fits_by_call t n (Place v x y w h) f c = search (rules, fits_first, fits_unless)
-fits_by_call t n (Offset v x y) f c = search (rules, fits_first, fits_unless)
-fits_by_call t n (Front v) f c = fits_unless (has_view t v) (reply.NoSuchView v) c
-fits_by_call t n (Back v) f c = fits_unless (has_view t v) (reply.NoSuchView v) c
-fits_by_call t n (Above v w) f c = search (rules, fits_first, fits_unless)
-fits_by_call t n (Title v text) f c = search (rules, fits_first, fits_unless)
-fits_by_call t n (Destroy v) f c = fits_unless (has_view t v) (reply.NoSuchView v) c
-fits_by_call t n (Refresh x y w h) f c = fits_unless (is_rectangle x y w h) reply.BadRect tt
-fits_by_call t n (Upgrade m) f c =
-    fits_unless (nat_le m t.reserve) (reply.NoReserve m t.reserve) (c, (let most = f.sum in omega arith))
-fits_by_call t n other f c = tt
+fits_by_call t n View f c = grind (arith, nat_tests, fits_first, fits_unless)
+fits_by_call t n (Upgrade m) f c = fits_unless (nat_le m t.reserve) _ (c, omega (arith, f.sum))
+fits_by_call t n other f c = search (rules, fits_first, fits_unless)
 
 fits_status : (s : Status) → RefusalFits (by_status s)
 fits_status status.Live = tt
@@ -88,9 +68,9 @@ refusal_fits t n call f c = fits_first (by_status t.status) (by_call t call) (fi
 -- ---- a call that is not refused
 
 -- what it answers, and what it leaves
-record AnswerFits (a : Answered) (n : ℕ) : Type 0 where
-  reply_fits : FitsReply a.reply
-  fine : IsFine a.session (n + 1)
+pub record AnswerFits (a : Answered) (n : ℕ) : Type 0 where
+  pub reply_fits : FitsReply a.reply
+  pub fine : IsFine a.session (n + 1)
 
 later : (t : Session) (n : ℕ) → IsFine t n → IsFine t (n + 1)
 later t n f = record { sum = f.sum; next = omega (arith, f.next); queue = f.queue }
@@ -98,36 +78,21 @@ later t n f = record { sum = f.sum; next = omega (arith, f.next); queue = f.queu
 taking_fits : (queue : List Event) (t : Session) (n : ℕ) → IsFine t n → AllByRecursion FitsEvent queue
     → AnswerFits (taking queue t) n
 taking_fits [] t n f q = record { reply_fits = tt; fine = later t n f }
-taking_fits (e ∷ es) t n f q =
-    record { reply_fits = q.0; fine = record { sum = f.sum; next = omega (arith, f.next); queue = q.1 } }
+taking_fits (e ∷ es) t n f q = grind (arith, nat_tests)
 
 -- an upgrade that is not refused is within the reserve
 within : (t : Session) (m : ℕ) → by_reserve m t.reserve ≡ None → m ≤ t.reserve
-within t m none = elim (cases_Bool (nat_le m t.reserve)) [
-  | inl is ↦ leb-true m t.reserve is
-  | inr is ↦ let some = rw is at none in absurd cc
-]
+within t m none = grind (arith, nat_tests)
 
 accepted_fits : (t : Session) (n : ℕ) (call : Call) → IsFine t n → n ≤ 2000000 → by_call t call ≡ None
     → AnswerFits (accepted t call) n
-accepted_fits t n View f few none =
-    record {
-      reply_fits = omega (arith, f.next);
-      fine = record { sum = f.sum; next = omega (arith, f.next); queue = f.queue };
-    }
+accepted_fits t n View f few none = grind (arith, nat_tests)
 accepted_fits t n Take f few none = taking_fits t.queue t n f f.queue
-accepted_fits t n (Upgrade m) f few none =
-    let room_there = within t m none in
-    record {
-      reply_fits = tt;
-      fine = record { sum = omega (arith, f.sum); next = omega (arith, f.next); queue = f.queue };
-    }
-accepted_fits t n Close f few none =
-    record { reply_fits = tt; fine = record { sum = f.sum; next = omega (arith, f.next); queue = tt } }
-accepted_fits t n other f few none =
-    record { reply_fits = tt; fine = record { sum = f.sum; next = omega (arith, f.next); queue = f.queue } }
+accepted_fits t n (Upgrade m) f few none = grind (arith, nat_tests)
+accepted_fits t n other f few none = record { reply_fits = tt; fine = assumption (tt, later t n f) }
 
-served : (t : Session) (n : ℕ) (call : Call) → IsFine t n → n ≤ 2000000 → FitsCall call → AnswerFits (serve t call) n
+pub served : (t : Session) (n : ℕ) (call : Call) → IsFine t n → n ≤ 2000000 → FitsCall call
+    → AnswerFits (serve t call) n
 unfolding serve
 served t n call f few c = by (refusal t call) refl (refusal_fits t n call f c)
   where
@@ -135,16 +100,11 @@ served t n call f few c = by (refusal t call) refl (refusal_fits t n call f c)
     by (Some r) is g = record { reply_fits = g; fine = later t n f }
     by None is g = accepted_fits t n call f few (second_none (by_status t.status) (by_call t call) is)
 
-pub answer_fits : (t : Session) (n : ℕ) (call : Call) → IsFine t n → n ≤ 2000000 → FitsCall call
-    → FitsReply (serve t call).reply
-answer_fits t n call f few c = (served t n call f few c).reply_fits
-
 -- ---- items, and moments
 
 queued_fine : (b : Bool) (t : Session) (n : ℕ) (e : Event) → IsFine t n → FitsEvent e
     → IsFine (cond b (record t { queue = t.queue ++ e ∷ [] }) (record t { lost = t.lost + 1 })) n
-queued_fine true t n e f g =
-    record { sum = f.sum; next = f.next; queue = all_append FitsEvent t.queue (e ∷ []) f.queue (g, tt) }
+queued_fine true t n e f g = grind (arith, nat_tests, all_append)
 queued_fine false t n e f g = record { sum = f.sum; next = f.next; queue = f.queue }
 
 receive_fine : (s : Status) (t : Session) (n : ℕ) (i : Item) → IsFine t n → FitsItem i → IsFine (by_life s i t) n
@@ -170,3 +130,96 @@ moments_fine t n (Calls call ∷ rest) f few g =
     rw (← add_assoc n 1 (calls_among rest))
     (moments_fine (serve t call).session (n + 1) rest (served t n call f (omega arith) g.0).fine (omega arith) g.1)
 moments_fine t n (Gets i ∷ rest) f few g = moments_fine (receive t i) n rest (receive_fine t.status t n i f g.0) few g.1
+
+-- ---- what the user's input delivers is within the format of texts
+
+-- each item is within the format
+abbrev pub ItemsFit : List Delivery → Type 0
+ItemsFit ds = AllByRecursion (λ d. FitsItem d.item) ds
+
+both : (xs ys : List Delivery) → ItemsFit xs → ItemsFit ys → ItemsFit (xs ++ ys)
+both xs ys f g = all_append (λ d. FitsItem d.item) xs ys f g
+
+-- what is delivered fits, and the pointer stays where it is
+pub record RouteFits (i : InputState) (r : Routing) : Type 0 where
+  pub items : ItemsFit r.deliveries
+  pub x : r.state.x ≡ i.x
+  pub y : r.state.y ≡ i.y
+
+to_fits : (o : Option ℕ) (e : Event) → FitsEvent e → ItemsFit (to o e)
+to_fits None e f = tt
+to_fits (Some s) e f = (f, tt)
+
+ignored_fits : (i : InputState) → RouteFits i (ignored i)
+ignored_fits i = record { items = tt; x = refl; y = refl }
+
+hovering_fits : (m : Mode) (pointed : Option ℕ) (i : InputState) (e : Event) → FitsEvent e
+    → RouteFits i (hovering m pointed i e)
+hovering_fits Flat pointed i e f = grind (arith, nat_tests, either, to_fits, both)
+hovering_fits other pointed i e f = ignored_fits i
+
+moving_fits : (held : List ℕ) (pointed : Option ℕ) (i : InputState) (e : Event) → FitsEvent e
+    → RouteFits i (moving held pointed i e)
+moving_fits [] pointed i e f = hovering_fits i.mode pointed i e f
+moving_fits (k ∷ ks) pointed i e f = record { items = to_fits i.receiver e f; x = refl; y = refl }
+
+leaving_fits : (m : Mode) (i : InputState) (new : Mode) → RouteFits i (leaving m i new)
+leaving_fits Flat i new = record { items = to_fits i.hover event.Leave tt; x = refl; y = refl }
+leaving_fits other i new = record { items = tt; x = refl; y = refl }
+
+switching_fits : (held : List ℕ) (i : InputState) (new : Mode) → RouteFits i (switching held i new)
+switching_fits [] i new = leaving_fits i.mode i new
+switching_fits (k ∷ ks) i new = ignored_fits i
+
+focusing_fits : (clicks : Bool) (pointed : Option ℕ) (i : InputState) → RouteFits i (focusing clicks pointed i)
+focusing_fits clicks pointed i = grind (arith, nat_tests, either, both, to_fits, ignored_fits)
+
+received_fits : {i : InputState} {r : Routing} (s : Option ℕ) (e : Event) → FitsEvent e → RouteFits i r
+    → RouteFits i (received s e r)
+received_fits {r = r} s e f h =
+    record { items = both r.deliveries (to s e) h.items (to_fits s e f); x = h.x; y = h.y }
+
+killing_fits : (pointed : Option ℕ) (i : InputState) → RouteFits i (killing pointed i)
+killing_fits None i = record { items = tt; x = refl; y = refl }
+killing_fits (Some s) i = record { items = (tt, tt); x = refl; y = refl }
+
+first_press_fits : (m : Mode) (clicks : Bool) (pointed : Option ℕ) (i : InputState) (k : ℕ) → IsCode k
+    → RouteFits i (first_press m clicks pointed i k)
+first_press_fits Flat clicks pointed i k f =
+    grind (arith, nat_tests, either, received_fits, focusing_fits, ignored_fits)
+first_press_fits Xray clicks pointed i k f = grind (arith, nat_tests, either, focusing_fits, ignored_fits)
+first_press_fits Kill clicks pointed i k f = grind (arith, nat_tests, either, killing_fits, ignored_fits)
+
+pressing_fits : (held : List ℕ) (clicks : Bool) (pointed : Option ℕ) (i : InputState) (k : ℕ) → IsCode k
+    → RouteFits i (pressing held clicks pointed i k)
+pressing_fits [] clicks pointed i k f = assumption (first_press_fits i.mode clicks pointed (with_held i k) k f)
+pressing_fits (j ∷ js) clicks pointed i k f = grind (arith, nat_tests, to_fits)
+
+press_fits : (clicks : Bool) (pointed : Option ℕ) (i : InputState) (k : ℕ) → IsCode k
+    → RouteFits i (press clicks pointed i k)
+press_fits clicks pointed i k f = grind (arith, nat_tests, either, switching_fits, ignored_fits, pressing_fits)
+
+letting_go_fits : (held : List ℕ) (i : InputState) (ds : List Delivery) → ItemsFit ds
+    → RouteFits i (record { state = letting_go held i; deliveries = ds })
+letting_go_fits [] i ds f = record { items = f; x = refl; y = refl }
+letting_go_fits (j ∷ js) i ds f = record { items = f; x = refl; y = refl }
+
+release_fits : (i : InputState) (k : ℕ) → IsCode k → RouteFits i (release i k)
+release_fits i k f = grind (arith, nat_tests, either, letting_go_fits, to_fits, ignored_fits)
+
+pub routing_fits : (clicks : Bool) (pointed : Option ℕ) (i : InputState) (dev : Device) → FitsDevice dev → i.x ≤ 65535
+    → i.y ≤ 65535 → RouteFits i (routing clicks pointed i dev)
+routing_fits clicks pointed i (device.Motion x y) f a b = moving_fits i.held pointed i (event.Motion i.x i.y) (a, b)
+routing_fits clicks pointed i (device.Wheel n) f a b = moving_fits i.held pointed i (event.Wheel n) f
+routing_fits clicks pointed i (device.Press k) f a b = press_fits clicks pointed i k f
+routing_fits clicks pointed i (device.Release k) f a b = release_fits i k f
+
+-- the pointer is at a place of the format
+pub record PointsFit (i : InputState) : Type 0 where
+  pub x : i.x ≤ 65535
+  pub y : i.y ≤ 65535
+
+pub moved_fits : (width height : ℕ) (i : InputState) (dev : Device) → FitsDevice dev → PointsFit i
+    → PointsFit (pointer_after width height i dev)
+moved_fits width height i (device.Motion x y) f p = record { x = omega (arith, f.0); y = omega (arith, f.1) }
+moved_fits width height i other f p = p

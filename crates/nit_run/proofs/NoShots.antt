@@ -1,8 +1,9 @@
 -- The pictures of a run whose user takes no shot.
-use Rattle.std.proofs.Common.{◌≡◌, List, [], ◌∷◌, refl, ℕ, zero, suc, ◌++◌, replicate, ap, ◌∙◌}
+use Rattle.std.proofs.Common.{arith, ◌≡◌, List, [], ◌∷◌, refl, ℕ, zero, suc, ◌++◌, replicate, ◌∙◌}
+use Rattle.std.proofs.lemmas.Bool.Decides.{nat_tests}
 use Rattle.nit_run.proofs.Basics.{ActorLine, AreOutputs, ByClient, ByUser, Configuration, Drawing}
 use Rattle.nit_run.proofs.Basics.{Entry, File, InputLine, IsJournal, Line, LineTurn, after_turn}
-use Rattle.nit_run.proofs.Basics.{count_by, done, final_name, final_picture, fold, input_by_user}
+use Rattle.nit_run.proofs.Basics.{count_by, final_name, final_picture, fold, input_by_user}
 use Rattle.nit_run.proofs.Basics.{input_lines_of, is_phase, opening_drawing, rounds, shots}
 use Rattle.nit_run.proofs.Basics.{shots_after, still_setup, user_actions_from, user_actions_of}
 use Rattle.nit_rounds.specs.Drawing.{drawn}
@@ -31,10 +32,7 @@ one_move : (config : Configuration) (doing : ActorLine) (d : Drawing) (rest : Li
     → input_by_user doing ++ rest ≡ replicate n input.Phase → (shots_after config doing d ≡ d.shots)
     × ((k : ℕ) × (rest ≡ replicate k input.Phase))
 one_move config (ByClient sid l) d rest n e = (refl, (n, e))
-one_move config (ByUser input.Phase) d rest n e = (refl, (phase_first n input.Phase rest e).1)
-one_move config (ByUser (input.Device dev)) d rest n e = (refl, (phase_first n (input.Device dev) rest e).1)
-one_move config (ByUser input.Shot) d rest n e =
-    absurd (let is : input.Shot ≡ input.Phase = (phase_first n input.Shot rest e).0 in cc)
+one_move config (ByUser l) d rest n e = let (is, more) = phase_first n l rest e in (rw is refl, more)
 
 no_picture_from : (config : Configuration) (scripts : List (List Line)) (moves : List LineTurn) (d : Drawing) (n : ℕ)
     → input_lines_of moves ≡ replicate n input.Phase → (fold (after_turn config scripts) d moves).shots ≡ d.shots
@@ -47,10 +45,6 @@ pub no_picture : (config : Configuration) (scripts : List (List Line)) (moves : 
     → input_lines_of moves ≡ replicate n input.Phase → (drawn config scripts moves).shots ≡ []
 unfolding drawn
 no_picture config scripts moves n e = no_picture_from config scripts moves (opening_drawing config) n e
-
-nothing_done : (width height : ℕ) (lines : List Line) (journal : List Entry)
-    → IsJournal (still_setup width height lines) journal → user_actions_of journal ≡ []
-nothing_done width height lines journal j = j.whole.actions ∙ ap done (no_actions (count_by is_phase lines) 0)
 
 -- what the law of rounds says
 abbrev pub UserOnce : Type 0
@@ -69,4 +63,4 @@ one_file once width height lines journal files j are =
 
 pub no_shot : (width height : ℕ) (lines : List Line) (journal : List Entry)
     → IsJournal (still_setup width height lines) journal → shots journal ≡ 0
-no_shot width height lines journal j = no_shots journal (nothing_done width height lines journal j)
+no_shot width height lines journal j = grind (arith, nat_tests, no_shots, no_actions)

@@ -3,6 +3,5 @@ pub use Rattle.nit_scene.proofs.Basics.{Agrees, All, AreInked, AreRaw, Delivery,
 pub use Rattle.nit_scene.proofs.Basics.{IsOpen, IsScene, JournalModel, List, State, add-zero, ap}
 pub use Rattle.nit_scene.proofs.Basics.{glass_in, glasses_of_call, map, replay, route, state_of}
 pub use Rattle.nit_scene.proofs.Basics.{subst, sym, unaccepted_state, ◌∙◌}
-pub use Rattle.nit_scene.proofs.SceneLemmas.{adds, inks_now, open_more, played, raws_after, replays}
-pub use Rattle.nit_scene.proofs.SceneLemmas.{scene_of, shots_fit, shows}
-pub use Rattle.nit_scene.proofs.SceneOpening.{played_begun}
+pub use Rattle.nit_scene.proofs.SceneLemmas.{adds, inks_now, open_more, played, played_begun}
+pub use Rattle.nit_scene.proofs.SceneLemmas.{raws_after, replays, scene_of, shots_fit, shows}

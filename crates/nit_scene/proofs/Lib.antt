@@ -1,5 +1,3 @@
 pub mod SceneLemmas
-pub mod SceneOpening
-pub mod HandleCounts
 pub mod Basics
 pub mod Lemmas

@@ -1,42 +1,57 @@
 -- A scene after one entry more.
-use Rattle.nit_scene.proofs.Basics.{Agrees, AreInked, AreRaw, Bare, Black, Configuration, Entry}
-use Rattle.nit_scene.proofs.Basics.{IsAdded, IsFrameShown, IsLegal, IsOpen, IsRawOf, IsScene}
-use Rattle.nit_scene.proofs.Basics.{IsWord, JournalModel, Painted, PixelSource, SceneModel, Scenery}
-use Rattle.nit_scene.proofs.Basics.{ServerModel, ShowsLabels, Sight, State, Word, after, alone}
-use Rattle.nit_scene.proofs.Basics.{entry_loses, first_state, frame, get_or_default, labels_stand}
-use Rattle.nit_scene.proofs.Basics.{legal_more, length-append, member, pixel_count, projection}
-use Rattle.nit_scene.proofs.Basics.{replay, replay_more, replies_to, same_config, scenery_of}
-use Rattle.nit_scene.proofs.Basics.{session_in, shots, source_at, state_of}
-use Rattle.std.proofs.Common.{All, List, [], ap, arith, length, slice_index_or, subst, sym}
-use Rattle.std.proofs.Common.{zero-add, ℕ, ◌++◌, ◌+◌, ◌-◌, ◌<◌, ◌∙◌, ◌∷◌, ◌≡◌, ◌≤◌, refl}
+use Rattle.std.proofs.Common.{All, List, None, Option, Some, [], ap, arith, false, get_or, length}
+use Rattle.std.proofs.Common.{refl}
+use Rattle.std.proofs.Common.{replicate, slice_index_or, subst, sym, zero-add, ℕ, ◌*◌, ◌++◌, ◌+◌}
+use Rattle.std.proofs.Common.{◌-◌, ◌<◌, ◌∙◌, ◌∷◌, ◌≡◌, ◌≤◌}
+use Rattle.nit_scene.proofs.Basics.{Agrees, AreInked, AreRaw, Call, Configuration, Entry, IsAdded}
+use Rattle.nit_scene.proofs.Basics.{IsFrameShown, IsLegal, IsOpen, IsRawOf, IsScene, IsWord}
+use Rattle.nit_scene.proofs.Basics.{JournalModel, Member, Painted, PixelSource, Reply, SceneModel}
+use Rattle.nit_scene.proofs.Basics.{ServerModel, Session, ShowsLabels, Sight, State, Take, View}
+use Rattle.nit_scene.proofs.Basics.{accepted, adds_at, after, alone, bare_everywhere, bare_word}
+use Rattle.nit_scene.proofs.Basics.{by_refusal, delivered_keeps_next, entry_loses, first_session}
+use Rattle.nit_scene.proofs.Basics.{first_state, frame, get_or-map, get_or-replicate, labels_stand}
+use Rattle.nit_scene.proofs.Basics.{legal_more, length-append, member, pixel, projection, refusal}
+use Rattle.nit_scene.proofs.Basics.{replay, replay_more, replies_to, route, same_config, scenery_of}
+use Rattle.nit_scene.proofs.Basics.{session, session_in, shots, state_of, taking_keeps_next}
+use Rattle.nit_journal.specs.Session.{serve}
 use Rattle.nit_events.specs.declared.entry.Entry.TheVariants as entry
-use Rattle.nit_scene.proofs.HandleCounts.{entry_adds}
 
--- raw words are words
-held_word : (source : PixelSource) (w : ℕ) → IsRawOf source w → IsWord w
-held_word Bare w h = subst IsWord (sym h) (omega arith)
-held_word Black w h = subst IsWord (sym h) (omega arith)
-held_word (Word t i) w h = h
+-- ---- no entry makes more than one view, so no session's next handle grows by more than one
 
-pub raw_words_fit : (s : State) (raw : List ℕ) → length raw ≡ pixel_count s → AreRaw s raw → All IsWord raw
-raw_words_fit s raw count h = λ k d l.
-    subst IsWord (get_or_default raw k 0 d l)
-    (held_word (source_at s k) (slice_index_or raw k 0) (h k (subst (λ (n : ℕ). k < n) count l)))
+accepted_adds : (t : Session) (call : Call) → (accepted t call).session.next ≤ t.next + 1
+accepted_adds t View = omega arith
+accepted_adds t Take = let same = taking_keeps_next t.queue t in omega arith
+accepted_adds t other = omega arith
+
+adds_unless_refused : (t : Session) (call : Call) (refused : Option Reply)
+    → (by_refusal t call refused).session.next ≤ t.next + 1
+adds_unless_refused t call (Some r) = omega arith
+adds_unless_refused t call None = accepted_adds t call
+
+serve_adds : (t : Session) (call : Call) → (serve t call).session.next ≤ t.next + 1
+unfolding serve
+serve_adds t call = adds_unless_refused t call (refusal t call)
+
+pub entry_adds : (s : State) (e : Entry) (t : ℕ) → (session (after s e) t).next ≤ (session s t).next + 1
+entry_adds s (entry.Call sid call r) t =
+    adds_at (λ (u : Session). u.next) s.sessions sid (serve (session s sid) call).session (first_session 0)
+    (serve_adds (session s sid) call) t
+entry_adds s (entry.Input dev routed) t = let same =
+    delivered_keeps_next (route s.config s.input s.stack dev).deliveries s.sessions t in omega arith
+entry_adds s other t = omega arith
 
 -- how many shots there are
 shots_more : (journal : List Entry) (e : Entry) → shots (journal ++ e ∷ []) ≡ shots journal + shots (e ∷ [])
 shots_more [] e = sym (zero-add (shots (e ∷ [])))
-shots_more (entry.Call sid call r ∷ rest) e = shots_more rest e
-shots_more (entry.Input dev routed ∷ rest) e = shots_more rest e
-shots_more (entry.Shot n ∷ rest) e = let r = shots_more rest e in omega arith
-shots_more (entry.Final ∷ rest) e = shots_more rest e
+shots_more (entry.Shot n ∷ rest) e = omega (arith, shots_more rest e)
+shots_more (other ∷ rest) e = shots_more rest e
 
 -- what is seen of a scene
 abbrev pub scene_of : {G : Type 0} → ServerModel → JournalModel → List ℕ → List G → SceneModel G
 scene_of s j raw glasses =
     record { config = s.config; entries = j.entries; spare = j.spare; raw = raw; glasses = glasses }
 
-module _ (s s' : ServerModel) (entries : List Entry) (spare taken : ℕ) (raw : List ℕ)
+module _ {s : ServerModel} (s' : ServerModel) {entries : List Entry} {spare taken : ℕ} {raw : List ℕ}
     (h : IsScene s entries spare raw taken) (e : Entry) (state_ : state_of s' ≡ after (state_of s) e) where
   config_ : s'.config ≡ s.config
   config_ = ap (λ (t : State). t.config) state_ ∙ same_config (state_of s) e
@@ -49,11 +64,8 @@ module _ (s s' : ServerModel) (entries : List Entry) (spare taken : ℕ) (raw : 
   stays_legal open_ agrees =
       subst (λ (c : Configuration). IsLegal c (entries ++ e ∷ [])) (sym config_)
       (legal_more (first_state s.config) 0 entries e h.legal open_
-      (subst (λ (n : ℕ). Agrees (replay s.config entries) n e) (h.shots ∙ sum_)
+      (subst (λ (n : ℕ). Agrees (replay s.config entries) n e) (h.shots ∙ sym (zero-add (shots entries)))
       (subst (λ (t : State). Agrees t taken e) h.replayed agrees)))
-    where
-      sum_ : shots entries ≡ 0 + shots entries
-      sum_ = omega arith
 
   -- what the law on raw words says
   abbrev pub StaysRaw : Type 0
@@ -111,54 +123,42 @@ module _ (s s' : ServerModel) (entries : List Entry) (spare taken : ℕ) (raw : 
       (subst (λ (t : State). Painted (state_of s) e t glasses glasses' raw raw') state_ painted)
       (subst (λ (t : State). AreInked t glasses raw) (sym h.replayed) inks)))
 
-  pub played : (raw' : List ℕ) (taken' : ℕ) → IsOpen entries → Agrees (state_of s) taken e → 1 ≤ spare
+  pub played : (raw' : List ℕ) {taken' : ℕ} → IsOpen entries → Agrees (state_of s) taken e → 1 ≤ spare
       → AreRaw (state_of s') raw' → taken' ≡ taken + shots (e ∷ [])
       → IsScene s' (entries ++ e ∷ []) (spare - 1) raw' taken'
-  played raw' taken' open_ agrees room_ raws count_ =
+  played raw' open_ agrees room_ raws count_ =
       let long : length (entries ++ e ∷ []) ≡ length entries + 1 = length-append entries (e ∷ []) in
-      let r = h.room in
       record {
         replayed = replays;
         legal = stays_legal open_ agrees;
         raw_words = raws;
         handles = λ t.
-            let more = subst (λ (u : State). (session_in u.sessions t).next ≤ (session_in s.sessions t).next + 1)
-            (sym state_) (entry_adds (state_of s) e t) in
-            let old = h.handles t in
-            omega (arith, long, more, old);
+            let more = rw (← state_) at (entry_adds (state_of s) e t) in omega (arith, long, more, h.handles t);
         lost = λ t.
-            let more = subst (λ (u : State). (session_in u.sessions t).lost ≤ (session_in s.sessions t).lost + 3)
-            (sym state_) (entry_loses (state_of s) e t) in
-            let old = h.lost t in
-            omega (arith, long, more, old);
-        room = omega (arith, long, r, room_);
+            let more = rw (← state_) at (entry_loses (state_of s) e t) in omega (arith, long, more, h.lost t);
+        room = omega (arith, long, h.room, room_);
         shots = count_ ∙ ap (λ (n : ℕ). n + shots (e ∷ [])) h.shots ∙ sym (shots_more entries e);
       }
 
 -- there are no more shots than entries
 pub shots_fit : (journal : List Entry) → shots journal ≤ length journal
 shots_fit [] = omega arith
-shots_fit (entry.Call sid call r ∷ rest) = let h = shots_fit rest in omega arith
-shots_fit (entry.Input dev routed ∷ rest) = let h = shots_fit rest in omega arith
-shots_fit (entry.Shot n ∷ rest) = let h = shots_fit rest in omega arith
-shots_fit (entry.Final ∷ rest) = let h = shots_fit rest in omega arith
+shots_fit (entry.Shot n ∷ rest) = omega (arith, shots_fit rest)
+shots_fit (other ∷ rest) = omega (arith, shots_fit rest)
 
 -- a journal that goes on
 pub open_more : (journal : List Entry) (e : Entry) → IsOpen journal → IsOpen (e ∷ []) → IsOpen (journal ++ e ∷ [])
 open_more [] e h k = k
-open_more (entry.Call sid call r ∷ rest) e h k = open_more rest e h k
-open_more (entry.Input dev routed ∷ rest) e h k = open_more rest e h k
-open_more (entry.Shot n ∷ rest) e h k = open_more rest e h k
 open_more (entry.Final ∷ rest) e h k = absurd h
+open_more (other ∷ rest) e h k = open_more rest e h k
 
 -- ---- labels
 
 -- what is shown at a scene that is in such a state
-pub shows : (s : ServerModel) (entries : List Entry) (spare taken : ℕ) (raw words : List ℕ)
-    → IsScene s entries spare raw taken
-    → words ≡ frame (scenery_of (state_of s)) raw → All IsWord words
+pub shows : {s : ServerModel} {entries : List Entry} {spare taken : ℕ} {raw words : List ℕ}
+    → IsScene s entries spare raw taken → words ≡ frame (scenery_of (state_of s)) raw → All IsWord words
     → IsFrameShown (scenery_of (replay s.config entries)) raw words
-shows s entries spare taken raw words i is are =
+shows {s} {entries} {raw = raw} i is are =
     let now = is ∙ ap (λ (t : State). frame (scenery_of t) raw) i.replayed in
     record {
       frame = now;
@@ -166,3 +166,33 @@ shows s entries spare taken raw words i is are =
           (labels_stand s.config entries raw i.legal);
       words = are;
     }
+
+-- ---- a scene before its first entry
+
+pub raw_begun : (config : Configuration)
+    → AreRaw (first_state config) (replicate (config.width * config.height) bare_word)
+raw_begun config k l =
+    subst (λ (x : PixelSource). IsRawOf x (slice_index_or (replicate (config.width * config.height) bare_word) k 0))
+    (sym (bare_everywhere config (pixel config.width k)))
+    (get_or-replicate (config.width * config.height) k bare_word 0 l)
+
+pub played_begun : (s : ServerModel) (config : Configuration) (room : ℕ) (raw : List ℕ)
+    → state_of s ≡ first_state config → raw ≡ replicate (config.width * config.height) bare_word → room ≤ 1114113
+    → IsScene s [] room raw 0
+played_begun s config room raw begun words fits = record {
+  replayed = begun ∙ ap first_state (sym (ap (λ (t : State). t.config) begun));
+  legal = tt;
+  raw_words = subst (λ (t : State). AreRaw t raw) (sym begun)
+      (subst (AreRaw (first_state config)) (sym words) (raw_begun config));
+  handles = λ t. omega (arith, ap (λ (u : Session). u.next) (opened t));
+  lost = λ t. omega (arith, ap (λ (u : Session). u.lost) (opened t));
+  room = omega (arith, fits);
+  shots = refl;
+}
+  where
+    none : Member
+    none = record { label = []; donation = 0; script = []; layer = 0; clicks = false }
+
+    opened : (t : ℕ) → session_in s.sessions t ≡ first_session (get_or config.clients t none).donation
+    opened t = ap (λ (u : State). session_in u.sessions t) begun
+        ∙ get_or-map (λ (m : Member). first_session m.donation) config.clients t none

@@ -1,33 +1,32 @@
 -- A call was served, the pixels that it makes dirty were loaded again, and all is shown.
-use Rattle.nit_screen.proofs.Basics.{ArePixels, Bool, Call, CanRepaint, CanServe, CanShowBy, Close}
-use Rattle.nit_screen.proofs.Basics.{Flat, HoldBuffers, IsCallShown, IsFrameOf, IsGlassOf}
-use Rattle.nit_screen.proofs.Basics.{IsNamedBy, IsOn, IsPartOf, IsPartShown, IsRepaint, IsScreen}
-use Rattle.nit_screen.proofs.Basics.{IsServed, IsServer, IsShown, IsTrue, IsViewChange}
-use Rattle.nit_screen.proofs.Basics.{KeepsPainter, Option, Painted, Painter, PixelSource, Pixels}
+use Rattle.std.proofs.lemmas.Bool.Decides.{nat_tests}
+use Rattle.nit_screen.proofs.Basics.{ArePixels, Call, CanAccept, CanRepaint, CanServe, CanShowBy}
+use Rattle.nit_screen.proofs.Basics.{Close, Flat, HoldBuffers, IsCallShown, IsClean, IsFrameOf}
+use Rattle.nit_screen.proofs.Basics.{IsGlassOf, IsNamedBy, IsOn, IsPartOf, IsPartShown, IsQuiet}
+use Rattle.nit_screen.proofs.Basics.{IsRepaint, IsScreen, IsServed, IsServer, IsShown, IsViewChange}
+use Rattle.nit_screen.proofs.Basics.{KeepsPainter, Painted, Painter, PixelSource, Pixels, Point}
 use Rattle.nit_screen.proofs.Basics.{Rectangle, Repainted, Reply, Scenery, ScreenModel, ServerModel}
-use Rattle.nit_screen.proofs.Basics.{Sight, SlotView, Some, StackModel, ap, arith, closed, dirty}
-use Rattle.nit_screen.proofs.Basics.{draws_labels, false, false_from_ne_true, frame}
-use Rattle.nit_screen.proofs.Basics.{glasses_of_call, is_of_session, layer, length, length-frame}
-use Rattle.nit_screen.proofs.Basics.{length-map, nat_lt, owner_passes, pixel, place_of, raw_of}
-use Rattle.nit_screen.proofs.Basics.{renewed, repainted_same, repainted_words, scenery_of, shown}
-use Rattle.nit_screen.proofs.Basics.{slice_index, slot_owns_either, slot_view_in, state_of}
-use Rattle.nit_screen.proofs.Basics.{unbarred, wanted, with_ended, without_session, without_views}
-use Rattle.std.proofs.Common.{◌*◌, map, refl, subst, sym, true, ℕ, ◌<◌, ◌∙◌, ◌≡◌}
+use Rattle.nit_screen.proofs.Basics.{Sight, SlotView, StackModel, closed, dirty, draws_labels}
+use Rattle.nit_screen.proofs.Basics.{false_from_ne_true, frame, glasses_of_call, is_of_session}
+use Rattle.nit_screen.proofs.Basics.{kept_frame, layer, length-frame, length-map, no_sight}
+use Rattle.nit_screen.proofs.Basics.{nothing_set, owner_passes, pixel, place_of, raw_of, renewed}
+use Rattle.nit_screen.proofs.Basics.{repainted_same, repainted_words, scenery_of, shown}
+use Rattle.nit_screen.proofs.Basics.{slot_owns_either, slot_view_in, state_of, unbarred, wanted}
+use Rattle.nit_screen.proofs.Basics.{with_ended, without_session, without_views}
+use Rattle.std.proofs.Common.{Bool, IsTrue, Option, Some, ap, arith, false, length, map, nat_lt}
+use Rattle.std.proofs.Common.{refl, slice_index, subst, sym, true, ℕ, ◌*◌, ◌<◌, ◌∙◌, ◌≡◌}
+use Rattle.nit_screen.proofs.KeptFrames.{as_many_as, bar_clean, can_stay, can_still, clean_call}
+use Rattle.nit_screen.proofs.KeptFrames.{kept_served, part_stays, quiet_stays, same_scenery}
+use Rattle.nit_screen.proofs.OneViewChanges.{change_of_call, dirty_by_change, dirty_by_views}
+use Rattle.nit_screen.proofs.OneViewChanges.{ended_painted, ended_server, source_of_number}
+use Rattle.nit_screen.proofs.OneList.{bar_first, entry_painted_in, mode_stays, one_copied, raw_long}
+use Rattle.nit_screen.proofs.OneList.{unbarred_long}
+use Rattle.nit_screen.proofs.ScreenLemmas.{few_views, held_by_glasses, same_config, same_most}
+use Rattle.nit_screen.proofs.ScreenLemmas.{unpainted}
 use Rattle.nit_events.specs.declared.call.Reply.TheVariants as reply
 use Rattle.nit_events.specs.declared.entry.Entry.TheVariants as entry
 use Rattle.nit_events.specs.declared.event.Status.TheVariants as status
 use Rattle.nit_paint.specs.Pieces as pieces
-use Rattle.nit_screen.proofs.KeptFrames.{bar_clean, can_still, kept_served, part_stays}
-use Rattle.nit_screen.proofs.KeptFrames.{same_scenery}
-use Rattle.nit_screen.proofs.StackPixels.{source_of_number}
-use Rattle.nit_screen.proofs.OneList.{by_mode, entry_painted_in, mode_stays, one_copied}
-use Rattle.nit_screen.proofs.OneViewChanges.{change_of_call, dirty_by_change}
-use Rattle.nit_screen.proofs.RawWithBar.{bar_first, unbarred_long}
-use Rattle.nit_screen.proofs.Repaints.{as_many_as}
-use Rattle.nit_screen.proofs.ScreenLemmas.{held_by_glasses, same_config, tables_kept}
-use Rattle.nit_screen.proofs.SessionEnds.{ended_painted, ended_server}
-use Rattle.nit_screen.proofs.SessionViews.{dirty_by_views}
-use Rattle.nit_screen.proofs.StackRoom.{few_views, same_most}
 
 -- what contracts see of a screen
 abbrev pub screen_of : {G : Type 0} → ServerModel → Pixels G → ScreenModel G
@@ -42,11 +41,7 @@ still_shown s p h = record { pixels = h; raw = refl; glasses = refl }
 pub can_paint_by : {G : Type 0} (s s' : ServerModel) (p : Pixels G) (glasses : ℕ → Sight) → IsServer s'
     → s'.config ≡ s.config → s'.stack.most ≡ s.stack.most → CanShowBy s p
     → HoldBuffers s'.stack (length p.painter.glasses.items) glasses → CanRepaint glasses s'.stack p.painter
-can_paint_by s s' p glasses ha config most can held = record {
-  room = let few = few_views s'.stack ha.standing in let cut = can.cuts in omega (arith, few, most, cut);
-  pixels = rw (ha.screen.0, ha.screen.1, config) can.pixels;
-  held = held;
-}
+can_paint_by s s' p glasses ha config most can held = grind (arith, nat_tests, few_views)
 
 -- so it is in a call, through the caller's own glass
 pub can_paint_call : {G : Type 0} (sight : G → Sight) (s s' : ServerModel) (sid : ℕ) (own : Sight) (p one : Pixels G)
@@ -72,9 +67,7 @@ pub can_show_loaded : {G C R S : Type 0} {sight : G → Sight} {rest : G → R} 
     (p : Pixels G) (painter : Painter G) → s'.config ≡ s.config → s'.stack.most ≡ s.stack.most
     → IsRepaint sight rest own_sight own_rest source chosen sid own own' p.painter painter → CanShowBy s p
     → CanShowBy s' (record p { painter = painter })
-can_show_loaded s s' p painter config most loads can =
-    can_still s s' p painter config most loads.count
-    (repainted_words _ _ _ _ _ p.painter.raw.items painter.raw.items loads.count loads.painted can.words) loads.room can
+can_show_loaded s s' p painter config most loads can = grind (arith, nat_tests, can_still, repainted_words)
 
 -- ---- what is left
 
@@ -90,8 +83,7 @@ module _ {G C R S : Type 0} {sight : G → Sight} {rest : G → R} {own_sight : 
     (shown : IsShown s' (record one { painter = painter }) now) where
   call_shown : IsCallShown sight rest own_sight own_rest sid call reply own own' (screen_of s p) (screen_of s' now)
   call_shown =
-      let there = entry_painted_in one.is_apart one.bar (state_of s) (entry.Call sid call reply) (state_of s') _ _
-      one.painter.raw.items painter.raw.items
+      let there = entry_painted_in one.is_apart one.bar (state_of s) (entry.Call sid call reply) (state_of s')
       (rw (same_config served) made.pixels.0.bar) painted in
       record {
         served = served;
@@ -101,23 +93,9 @@ module _ {G C R S : Type 0} {sight : G → Sight} {rest : G → R} {own_sight : 
         rests = rw (shown.glasses, ← made.glasses) loads.rests;
       }
 
-  screen_shown : IsScreen s' (map sight now.painter.glasses.items) now
-  screen_shown =
-      let gs = p.painter.glasses.items in
-      let gs' = now.painter.glasses.items in
-      let e = call_shown in
-      let same_ = same_config served in
-      record {
-        shown = shown.pixels;
-        glasses = rw same_ (length-map gs' sight ∙ as_many_as rest gs gs' e.rests ∙ sym (length-map gs sight)
-            ∙ screen.glasses);
-        tables = tables_kept s s' (map sight gs) (map sight gs') sid (own_sight own) (own_sight own') e.painted.loads
-            same_ e.painted.sights e.idle screen.tables;
-      }
-
   pub all_shown : IsScreen s' (map sight now.painter.glasses.items) now
       × IsCallShown sight rest own_sight own_rest sid call reply own own' (screen_of s p) (screen_of s' now)
-  all_shown = (screen_shown, call_shown)
+  all_shown = grind (arith, nat_tests, call_shown, same_config, length-map, as_many_as, loads)
 
 -- ---- what is shown
 
@@ -125,10 +103,7 @@ module _ {G C R S : Type 0} {sight : G → Sight} {rest : G → R} {own_sight : 
 pub shown_by_mode : {G : Type 0} (s : ServerModel) (before now : Pixels G) → CanShowBy s before
     → (s.input.mode ≡ Flat → IsFrameOf s before) → (s.input.mode ≡ Flat → now ≡ before)
     → (IsTrue (draws_labels s.input.mode) → IsShown s before now) → IsShown s before now
-shown_by_mode s before now can flat same labelled =
-    by_mode s.input.mode
-    (λ m. subst (IsShown s before) (sym (same m))
-    (still_shown s before (can, flat m, λ d. cc (ap draws_labels m)))) labelled
+shown_by_mode s before now can flat same labelled = grind (arith, nat_tests, still_shown)
 
 -- ---- a call on views
 
@@ -166,8 +141,7 @@ module _ {G C R S : Type 0} {sight : G → Sight} {rest : G → R} (own_sight : 
 
     dirty_painted : Painted (state_of s) (entry.Call sid call reply) (state_of s') own_glasses own_glasses'
         one.painter.raw.items painter.raw.items
-    dirty_painted = rw (← made.pixels.0.pixels) (repainted_same _ _ _ _ _ own_glasses own_glasses own_glasses'
-        own_glasses' one.painter.raw.items painter.raw.items (λ k l. is_dirty k)
+    dirty_painted = rw (← made.pixels.0.pixels) (repainted_same _ _ _ _ _ _ _ _ _ _ _ (λ k l. is_dirty k)
         (λ k l m. source_of_number s' ha k) (λ t. refl) (λ t. refl) painted)
 
     can_show_call : CanShowBy s' loaded
@@ -184,8 +158,8 @@ module _ {G C R S : Type 0} {sight : G → Sight} {rest : G → R} (own_sight : 
         let long = unbarred_long one.bar raw' (omega (arith, before.fits, kept.count)) ∙ kept.count ∙ before.pixels in
         rw one_ (kept_served s s' sid call reply own_glasses own_glasses' (unbarred one.bar raw)
         (unbarred one.bar raw') raw raw' chosen other served
-        (entry_painted_in false one.bar (state_of s) (entry.Call sid call reply) (state_of s') own_glasses own_glasses'
-        raw raw' (rw config before.bar) dirty_painted) long is_dirty flat
+        (entry_painted_in false one.bar (state_of s) (entry.Call sid call reply) (state_of s')
+        (rw config before.bar) dirty_painted) long is_dirty flat
         (one_copied chosen _ one.bar raw raw'
         (λ k l d. false_from_ne_true (nat_lt k one.bar) (λ e.
         let there = bar_first (state_of s) one.bar k (omega (arith, l, long)) before.bar ∙ e in
@@ -203,8 +177,7 @@ module _ {G C R S : Type 0} {sight : G → Sight} {rest : G → R} (own_sight : 
     frame_before m = rw (labelled_before m) at made.pixels.1
 
     apart_before : IsTrue (draws_labels s'.input.mode) → length one.frame.items ≡ length painter.raw.items
-    apart_before m = ap length (frame_before m) ∙ length-frame (scenery_of (state_of s)) one.painter.raw.items
-        ∙ sym (kept.count ∙ made.pixels.0.pixels)
+    apart_before m = grind (arith, nat_tests, frame_before, length-frame)
 
     -- the chosen pixels of a frame apart were shown again
     part_is_shown : (now : Pixels G) (part : Option Rectangle) → IsPartOf part call
@@ -309,3 +282,34 @@ screen_unloaded sight config screen shown = record {
   glasses = rw (shown.glasses, config) screen.glasses;
   tables = rw (shown.glasses, config) screen.tables;
 }
+
+-- ==== A call was served that makes no pixel dirty, and all is shown.
+
+module _ {G : Type 0} {s s' : ServerModel} (p : Pixels G) {sid : ℕ} {call : Call} {r : Reply} (hb : IsServer s)
+    (ha : IsServer s') (can : CanAccept s sid call) (served : IsServed sid call r s s') (h : ArePixels s p) where
+  can_be_shown : CanShowBy s' p
+  can_be_shown = can_stay s s' p (same_config served) (same_most hb ha served) h.0
+
+  pub quiet_shown : IsQuiet call → IsShown s' p p
+  quiet_shown quiet =
+      let same = same_scenery s s' sid call r can.accepted served (λ q. subst IsQuiet q quiet)
+      (λ stack. quiet_stays (layer s.config) sid call r stack quiet) in
+      still_shown s' p (
+        can_be_shown,
+        h.1 ∙ ap (λ (sc : Scenery). frame sc (raw_of p)) (sym same),
+        λ d. h.2 (rw (← ap (λ (sc : Scenery). sc.mode) same) d),
+      )
+
+  -- the titles or the number of the views may be others, which mode Flat does not show
+  pub clean_shown : (now : Pixels G) → IsClean call → (s'.input.mode ≡ Flat → now ≡ p)
+      → (IsTrue (draws_labels s'.input.mode) → IsShown s' p now) → IsShown s' p now
+  clean_shown now clean =
+      let none : ℕ → Sight = λ t. no_sight in
+      let no_pixel = λ (p : Point). clean_call (state_of s) (state_of s') sid call r p clean in
+      shown_by_mode s' p now can_be_shown
+      (λ m. kept_served s s' sid call r none none (raw_of p) (raw_of p) (kept_frame p) (kept_frame p) (λ k. false)
+      (λ q. subst IsClean q clean) served
+      (unpainted (state_of s) (entry.Call sid call r) (state_of s') no_pixel)
+      (raw_long p.is_apart p.bar p.painter.raw.items h.0.fits ∙ h.0.pixels)
+      (λ k. sym (no_pixel (pixel s.config.width k))) m
+      (nothing_set (λ k. false) (length (raw_of p)) (slice_index (raw_of p)) (kept_frame p) (λ k l. refl)) h.1)

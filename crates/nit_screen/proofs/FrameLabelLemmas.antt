@@ -1,18 +1,103 @@
--- Labels in a frame: each stands in pixels of its own view, so nothing covers it.
-use Rattle.nit_screen.proofs.Basics.{AreLabelsApart, Bool, Configuration, Entry, Flat, HaveOwnNames}
-use Rattle.nit_screen.proofs.Basics.{IfSome, IsLabelShown, IsLegal, IsTrue, List, Mode, None}
-use Rattle.nit_screen.proofs.Basics.{Option, Point, Scenery, ShowsLabels, Some, [], any_found, ap}
-use Rattle.nit_screen.proofs.Basics.{apart, arith, cond, covering, covers, dot, draws_labels, false}
-use Rattle.nit_screen.proofs.Basics.{false_from_ne_true, find, fits, fits_within, found_passes}
-use Rattle.nit_screen.proofs.Basics.{frame, get_or-frame, has_dot, in_bar, ink_of, is_in_picture}
-use Rattle.nit_screen.proofs.Basics.{is_owner, is_view, label_place_of, label_width, length}
-use Rattle.nit_screen.proofs.Basics.{list_any, list_any_at, name_both, nat_tests, owner, owner_word}
-use Rattle.nit_screen.proofs.Basics.{picture_height, picture_width, pixel, pixel_owned, point, refl}
-use Rattle.nit_screen.proofs.Basics.{replay, rows, scenery_of, shown, slice_index, slice_index_or}
-use Rattle.nit_screen.proofs.Basics.{suc, true, view_text, view_word}
-use Rattle.std.proofs.Common.{zero, ℕ, ◌%◌, ◌*◌, ◌+◌, ◌-◌, ◌/◌, ◌<◌, ◌∙◌, ◌∷◌, ◌≡◌}
+-- Places of labels that are written one after the other, each at the slot of its view.
+use Rattle.nit_screen.proofs.Basics.{AreLabelsApart, Configuration, Entry, Flat, HaveOwnNames}
+use Rattle.nit_screen.proofs.Basics.{IsLabelShown, IsLabelled, IsLegal, IsSlotView, IsStack, Mode}
+use Rattle.nit_screen.proofs.Basics.{NoPair, Point, Scenery, ShowsLabels, SlotView, StackModel}
+use Rattle.nit_screen.proofs.Basics.{ViewRef, any_found, apart, cases_lt, covering, covers, dot}
+use Rattle.nit_screen.proofs.Basics.{draws_labels, false_from_ne_true, fits, fits_within}
+use Rattle.nit_screen.proofs.Basics.{found_passes, frame, get_or-frame, get_or_from_slice_get}
+use Rattle.nit_screen.proofs.Basics.{has_dot, in_bar, ink_of, is_in_picture, is_owner, is_view}
+use Rattle.nit_screen.proofs.Basics.{label_place_of, label_scenery, label_width, list_any}
+use Rattle.nit_screen.proofs.Basics.{list_any_at, name_both, nat_tests, owner, owner_word}
+use Rattle.nit_screen.proofs.Basics.{picture_height, picture_width, pixel, pixel_at, pixel_owned}
+use Rattle.nit_screen.proofs.Basics.{point, replay, rows, same_Some, same_slot, scenery_of, shown}
+use Rattle.nit_screen.proofs.Basics.{slice_get-get_or, slice_get_within, slot_at, view_ref}
+use Rattle.nit_screen.proofs.Basics.{view_text, view_word}
+use Rattle.std.proofs.Common.{All, Bool, IfSome, IsTrue, List, None, Option, Some, [], ap, arith}
+use Rattle.std.proofs.Common.{false, find, get_or-set_same, inl, inr, length, length-set, map}
+use Rattle.std.proofs.Common.{option_map, refl, set, slice_get, slice_index, slice_index_or, subst}
+use Rattle.std.proofs.Common.{suc, sym, true, zero, ℕ, ◌*◌, ◌+◌, ◌-◌, ◌<◌, ◌∙◌, ◌∷◌, ◌≡◌, ◌≢◌, ◌≤◌}
 use Rattle.nit_stack.specs.declared.view.View.{View}
 use Rattle.nit_screen.proofs.Handles.{named_throughout}
+
+-- ---- views by their places in the stack
+
+-- what holds of each view holds of the one at a place
+pub holds_at : (P : SlotView → Type 0) (views : List SlotView) (i : ℕ) (s : SlotView) → All P views
+    → slice_get views i ≡ Some s → P s
+holds_at P views i s all at = subst P (get_or_from_slice_get views i s s at) (all i s (slice_get_within views i s at))
+
+-- two views at different places have different slots
+pub slots_differ : (views : List SlotView) (k i : ℕ) (s t : SlotView) → NoPair same_slot views → k < i
+    → slice_get views k ≡ Some s → slice_get views i ≡ Some t → s.slot ≢ t.slot
+slots_differ [] k i s t apart lt at_k at_i same = cc
+slots_differ (a ∷ views) k zero s t apart lt at_k at_i same = absurd (omega arith)
+slots_differ (a ∷ views) zero (suc i) s t apart lt at_k at_i same =
+    let here = get_or_from_slice_get views i t t at_i in
+    let some = list_any_at (same_slot a) views i t (slice_get_within views i t at_i) in
+    grind (arith, nat_tests, at_k, here, some, apart.0, same)
+slots_differ (a ∷ views) (suc k) (suc i) s t apart lt at_k at_i same =
+    slots_differ views k i s t apart.1 (omega arith) at_k at_i same
+
+-- the slot of a view is one of the stack's
+pub slot_within : (stack : StackModel) (i : ℕ) (v : ViewRef) → IsStack stack → slice_get (map view_ref stack.views) i
+    ≡ Some v → v.0 < stack.most
+slot_within stack i v standing at =
+    let seat = slot_at stack.views i v at in
+    rw (← seat.2)
+    (holds_at (IsSlotView stack.most (length stack.sizes)) stack.views i seat.0 standing.seats seat.1).slot
+
+-- ---- a value written at a place
+
+written_there : {A : Type 0} (xs : List A) (i : ℕ) (a : A) → i < length xs → slice_get (set xs i a) i ≡ Some a
+written_there xs i a lt =
+    slice_get-get_or (set xs i a) i a (rw length-set lt) ∙ ap (λ x. Some x) (get_or-set_same xs i a a lt)
+
+written_elsewhere : {A : Type 0} (xs : List A) (i j : ℕ) (a : A) → j ≢ i → slice_get (set xs i a) j ≡ slice_get xs j
+written_elsewhere [] i j a other = refl
+written_elsewhere (x ∷ xs) zero zero a other = absurd (other refl)
+written_elsewhere (x ∷ xs) (suc i) (suc j) a other = written_elsewhere xs i j a (λ e. other (ap (λ n. suc n) e))
+written_elsewhere (x ∷ xs) i j a other = refl
+
+-- ---- one place after the other
+
+-- the first n views have their labels' places, of so many places
+pub record LabelledSoFar (stack : StackModel) (labels : List (List ℕ)) (n room : ℕ)
+    (places : List (Option Point)) : Type 0 where
+  pub count : length places ≡ room
+  pub done : (k : ℕ) (s : SlotView) → k < n → slice_get stack.views k ≡ Some s → IsLabelled stack labels places s
+
+pub labelled_more : (stack : StackModel) (labels : List (List ℕ)) (n room : ℕ) (places : List (Option Point))
+    (v : ViewRef) (o : Option Point) → IsStack stack → stack.most ≤ room
+    → slice_get (map view_ref stack.views) n ≡ Some v
+    → ((s : SlotView) → slice_get stack.views n ≡ Some s
+    → o ≡ option_map pixel_at (label_place_of (label_scenery stack labels) s.view))
+    → LabelledSoFar stack labels n room places → LabelledSoFar stack labels (n + 1) room (set places v.0 o)
+labelled_more stack labels n room places v o standing slots at placed far =
+    record {
+      count = length-set places v.0 o ∙ far.count;
+      done = λ k s lt at_k. elim (cases_lt k n) [
+        | inl less ↦ written_elsewhere places v.0 s.slot o (other k s less at_k) ∙ far.done k s less at_k
+        | inr le ↦ let same : n ≡ k = omega arith in here s (rw same at_k)
+      ];
+    }
+  where
+    seat : (s : SlotView) × (slice_get stack.views n ≡ Some s) × (s.slot ≡ v.0)
+    seat = slot_at stack.views n v at
+
+    within : v.0 < length places
+    within = let slot = slot_within stack n v standing at in let count = far.count in omega arith
+
+    other : (k : ℕ) (s : SlotView) → k < n → slice_get stack.views k ≡ Some s → s.slot ≢ v.0
+    other k s less at_k e = slots_differ stack.views k n s seat.0 standing.slots less at_k seat.1 (e ∙ sym seat.2)
+
+    here : (s : SlotView) → slice_get stack.views n ≡ Some s → slice_get (set places v.0 o) s.slot
+        ≡ Some (option_map pixel_at (label_place_of (label_scenery stack labels) s.view))
+    here s at_n =
+        let one : seat.0 ≡ s = same_Some _ _ (sym seat.1 ∙ at_n) in
+        let slot : s.slot ≡ v.0 = rw (← one) seat.2 in
+        rw slot (written_there places v.0 o within ∙ ap (λ (x : Option Point). Some x) (placed s at_n))
+
+-- ==== Labels in a frame: each stands in pixels of its own view, so nothing covers it.
 
 -- ---- views by their names
 
@@ -30,43 +115,26 @@ is_among v p xs h = go (find p xs) refl h
 found_itself : (p : View → Bool) (xs : List View) → HaveOwnNames xs → (i : ℕ) (d v : View) → i < length xs
     → slice_index_or xs i d ≡ v → is_owner v.sid v.handle (find p xs) ≡ true → find p xs ≡ Some v
 found_itself p [] own i d v within at found = absurd (omega arith)
-found_itself p (x ∷ xs) own zero d v within at found = go (p x) found
-  where
-    go : (b : Bool) → is_owner v.sid v.handle (cond b (Some x) (find p xs)) ≡ true
-        → cond b (Some x) (find p xs) ≡ Some v
-    go true h = ap (λ (u : View). Some u) at
-    go false h =
-        let some = is_among v p xs h in
-        let none = rw at at own.0 in
-        cc
+found_itself p (x ∷ xs) own zero d v within at found =
+    grind (arith, at, rw at at own.0, is_among v p xs, found)
 found_itself p (x ∷ xs) own (suc i) d v within at found =
-    go (p x) found (found_itself p xs own.1 i d v (omega arith) at)
-  where
-    go : (b : Bool) → is_owner v.sid v.handle (cond b (Some x) (find p xs)) ≡ true
-        → (is_owner v.sid v.handle (find p xs) ≡ true → find p xs ≡ Some v) → cond b (Some x) (find p xs) ≡ Some v
-    go true h later =
-        let named : is_view x.sid x.handle (slice_index_or xs i d) ≡ true = ap (is_view x.sid x.handle) at
-        ∙ name_both x v ∙ h in
-        let some = list_any_at (is_view x.sid x.handle) xs i d (omega arith) named in
-        let none = own.0 in
-        cc
-    go false h later = later h
+    let same = list_any_at (is_view x.sid x.handle) xs i d (omega arith) in
+    let later = found_itself p xs own.1 i d v (omega arith) at in
+    grind (arith, at, own.0, same, ap (is_view x.sid x.handle) at ∙ name_both x v, later, found)
 
 -- no view has the name of a later one
 differ : (xs : List View) → HaveOwnNames xs → (i j : ℕ) (d : View) → i < j → j < length xs
     → is_view (slice_index_or xs i d).sid (slice_index_or xs i d).handle (slice_index_or xs j d) ≡ false
 differ [] own i j d less within = absurd (omega arith)
 differ (x ∷ xs) own i zero d less within = absurd (omega arith)
-differ (x ∷ xs) own zero (suc j) d less within = false_from_ne_true (is_view x.sid x.handle (slice_index_or xs j d))
-    (λ e. let some = list_any_at (is_view x.sid x.handle) xs j d (omega arith) e in let none = own.0 in cc)
+differ (x ∷ xs) own zero (suc j) d less within = grind (arith, nat_tests, false_from_ne_true, list_any_at)
 differ (x ∷ xs) own (suc i) (suc j) d less within = differ xs own.1 i j d (omega arith) (omega arith)
 
 -- ---- the place of a label
 
 placed : (s : Scenery) (v : View) (q : ℕ × ℕ) → label_place_of s v ≡ Some q
     → fits s.width s.height s.bar s.stack v (label_width s v) picture_height q.0 q.1 ≡ true
-placed s v q at = found_passes (λ (q : ℕ × ℕ). fits s.width s.height s.bar s.stack v (label_width s v) picture_height
-    q.0 q.1) _ q at
+placed s v q at = grind (arith, nat_tests, found_passes)
 
 -- ---- a pixel of a label
 
@@ -92,20 +160,14 @@ number_fits : (width height x y : ℕ) → x < width → y < height → y * widt
 number_fits width height x y left above = grind (arith, rows)
 
 pixel_of : (width x y : ℕ) → x < width → pixel width (y * width + x) ≡ point x y
-pixel_of width x y left =
-    let column : (y * width + x) % width ≡ x = grind (arith, rows) in
-    let row : (y * width + x) / width ≡ y = grind (arith, rows) in
-    rw (column, row)
+pixel_of width x y left = grind (arith, nat_tests)
 
 in_its_picture : (text : List ℕ) (left top x y : ℕ) → x < picture_width (length text) → y < picture_height
     → is_in_picture text left top (point (left + x) (top + y)) ≡ true
 in_its_picture text left top x y wide high = grind (arith, nat_tests)
 
 dot_there : (text : List ℕ) (left top x y : ℕ) → has_dot text left top (point (left + x) (top + y)) ≡ dot text x y
-dot_there text left top x y =
-    let column : (left + x) - left ≡ x = omega arith in
-    let row : (top + y) - top ≡ y = omega arith in
-    rw (column, row)
+dot_there text left top x y = grind (arith, nat_tests)
 
 -- ---- the labels of a frame
 

@@ -1,21 +1,30 @@
 -- A kept frame stays the frame of the state and of the raw words.
-use Rattle.nit_screen.proofs.Basics.{All, AreSet, Bare, Bool, Buffer, Call, CanShowBy, Close, Entry}
-use Rattle.nit_screen.proofs.Basics.{Flat, InputState, IsCopied, IsPartOf, IsServed, IsWord, List}
-use Rattle.nit_screen.proofs.Basics.{None, Option, Painted, Painter, PixelSource, Pixels, Point}
-use Rattle.nit_screen.proofs.Basics.{Rectangle, Refresh, Repainted, Reply, Scenery, ServerModel}
-use Rattle.nit_screen.proofs.Basics.{Sight, Size, Some, StackModel, State, Take, Title, Upgrade}
-use Rattle.nit_screen.proofs.Basics.{View, after, after_accepted, and-false, ap, arith, bar_rows}
-use Rattle.nit_screen.proofs.Basics.{bar_word, bare_word, black_or_word, buffer_size, cond, dirty}
-use Rattle.nit_screen.proofs.Basics.{dirty_by_call, false, flat_same, flat_shown, frame, in_bar}
-use Rattle.nit_screen.proofs.Basics.{is_accepted, is_some, layer, length-frame, owner, pixel}
-use Rattle.nit_screen.proofs.Basics.{pixel_count, refusal, renewed, scenery_of, serve, session}
-use Rattle.nit_screen.proofs.Basics.{shown, shown_by, shown_index, slice_index, source_of}
-use Rattle.nit_screen.proofs.Basics.{source_under, state_of, wanted}
-use Rattle.std.proofs.Common.{◌≤◌, length, refl, subst, sym, true, ℕ, ◌&&◌, ◌<◌, ◌∙◌, ◌≡◌}
-use Rattle.nit_events.specs.declared.entry.Entry.TheVariants as entry
+use Rattle.std.proofs.lemmas.Bool.Decides.{nat_tests}
+use Rattle.nit_screen.proofs.Basics.{Agrees, AreInked, AreSet, Bare, Buffer, Call, CanRepaint}
+use Rattle.nit_screen.proofs.Basics.{CanShowBy, Close, Configuration, Device, Entry, Flat}
+use Rattle.nit_screen.proofs.Basics.{InputState, IsClean, IsCopied, IsInkedBy, IsPartOf, IsQuiet}
+use Rattle.nit_screen.proofs.Basics.{IsRawOf, IsRemovedFrom, IsRepaint, IsServed, IsWord}
+use Rattle.nit_screen.proofs.Basics.{IsWordOfSource, Painted, Painter, PixelSource, Pixels, Point}
+use Rattle.nit_screen.proofs.Basics.{Rectangle, Refresh, Repainted, Reply, Routed, Scenery}
+use Rattle.nit_screen.proofs.Basics.{ServerModel, Sight, Size, StackModel, State, Take, Title}
+use Rattle.nit_screen.proofs.Basics.{Upgrade, View, Word, after, after_accepted, and-false}
+use Rattle.nit_screen.proofs.Basics.{bar_rows, bar_word, bare_word, black_or_word, buffer_size}
+use Rattle.nit_screen.proofs.Basics.{deliveries_of, dirty, dirty_by_call, flat_same, flat_shown}
+use Rattle.nit_screen.proofs.Basics.{frame, glasses_of_call, gone_room, in_bar, is_accepted}
+use Rattle.nit_screen.proofs.Basics.{is_slot, layer, length-frame, length-map, other_count, owner}
+use Rattle.nit_screen.proofs.Basics.{painted_more, pixel, pixel_count, refusal, renewed}
+use Rattle.nit_screen.proofs.Basics.{repainted_none, route, scenery_of, serve, session, shown}
+use Rattle.nit_screen.proofs.Basics.{shown_by, shown_index, source_at, source_of, source_of_number}
+use Rattle.nit_screen.proofs.Basics.{source_under, state_of, taken_held, uncovered, wanted, without}
+use Rattle.nit_screen.proofs.Basics.{without_session}
+use Rattle.std.proofs.Common.{All, Bool, List, None, Option, Some, ap, arith, false, is_some}
+use Rattle.std.proofs.Common.{length, map, refl, slice_index, slice_index_or, subst, sym, true, ℕ}
+use Rattle.std.proofs.Common.{◌&&◌, ◌*◌, ◌+◌, ◌<◌, ◌∙◌, ◌≡◌}
 use Rattle.nit_stack.specs.declared.view.View.{View as ViewOf}
-use Rattle.nit_screen.proofs.CleanCalls.{call_is_clean}
-use Rattle.nit_screen.proofs.CallAnswers.{stack_called, unrefused_reply}
+use Rattle.nit_screen.proofs.CleanCalls.{call_is_clean, deliveries_are_clean, stack_called}
+use Rattle.nit_screen.proofs.CleanCalls.{unrefused_reply}
+use Rattle.nit_journal.proofs.ForCallers.{same_config}
+use Rattle.nit_events.specs.declared.entry.Entry.TheVariants as entry
 
 -- ---- owners and sources
 
@@ -25,11 +34,9 @@ has_owner other = true
 
 owned_source : (sizes : ℕ → Size) (p : Point) (o : Option ViewOf) → is_some o ≡ has_owner (source_under sizes p o)
 owned_source sizes p None = refl
-owned_source sizes p (Some v) = go (shown_index (sizes v.sid) v p)
-  where
-    go : (i : Option ℕ) → true ≡ has_owner (black_or_word v.sid i)
-    go None = refl
-    go (Some i) = refl
+owned_source sizes p (Some v) =
+    elim (shown_index (sizes v.sid) v p) as (λ i. true ≡ has_owner (black_or_word v.sid i))
+    [ None ↦ refl | Some i ↦ refl ]
 
 -- whether a pixel has an owner, by its source
 owned : (t : State) (p : Point) → is_some (owner (bar_rows t.config) t.stack p) ≡ has_owner (source_of t p)
@@ -38,13 +45,7 @@ owned t p = owned_source (buffer_size t.sessions) p (owner (bar_rows t.config) t
 -- in mode Flat, below the bar, a pixel's raw word is shown, where it is the bare one if no view has the pixel
 pub flat_word : (s : State) (p : Point) (w : ℕ) → s.input.mode ≡ Flat → in_bar (bar_rows s.config) p ≡ false
     → (source_of s p ≡ Bare → w ≡ bare_word) → shown (scenery_of s) p w ≡ w
-flat_word s p w flat below bare =
-    flat_shown (scenery_of s) p w flat below ∙ ap (λ (o : Bool). cond o w bare_word) (owned s p)
-    ∙ go (source_of s p) refl
-  where
-    go : (x : PixelSource) → source_of s p ≡ x → cond (has_owner x) w bare_word ≡ w
-    go Bare e = sym (bare e)
-    go other e = refl
+flat_word s p w flat below bare = grind (arith, nat_tests, flat_shown)
 
 -- a pixel that is bare and was loaded has the bare word
 pub painted_bare : (source : ℕ → PixelSource) (marked : ℕ → Bool) (n : ℕ) (a b : ℕ → Sight) (raw raw' : List ℕ) (k : ℕ)
@@ -106,8 +107,7 @@ kept_call s sid call r glasses glasses' raw raw' old new chosen other replied pa
         → (b : Bool) → in_bar (bar_rows s.config) (pixel s.config.width k) ≡ b
         → shown (scenery_of s') (pixel s.config.width k) (slice_index raw' k) ≡ slice_index raw' k
     dirty_shown k l d true b = let no = bar_clean s s' sid call r (pixel s.config.width k) refl b in cc
-    dirty_shown k l d false b = flat_word s' (pixel s.config.width k) (slice_index raw' k) flat b
-        (painted_bare _ _ _ _ _ raw raw' k painted l d)
+    dirty_shown k l d false b = grind (arith, nat_tests, flat_word, s', painted_bare)
 
     clean_shown : (k : ℕ) → dirty s (entry.Call sid call r) s' (pixel s.config.width k) ≡ false
         → (b : Bool) → in_bar (bar_rows s.config) (pixel s.config.width k) ≡ b
@@ -161,12 +161,7 @@ pub can_still : {G : Type 0} (s s' : ServerModel) (p : Pixels G) (painter : Pain
     → s'.stack.most ≡ s.stack.most → length painter.raw.items ≡ length p.painter.raw.items
     → All IsWord painter.raw.items → painter.cutter.room ≡ p.painter.cutter.room → CanShowBy s p
     → CanShowBy s' (record p { painter = painter })
-can_still s s' p painter config most long words room_ h =
-    let pixels = long ∙ h.pixels in
-    let cuts : s'.stack.most ≤ painter.cutter.room = omega (arith, h.cuts, most, room_) in
-    let placed : s'.stack.most ≤ length p.labels.places.items = omega (arith, h.placed, most) in
-    let fits : p.bar ≤ length painter.raw.items = omega (arith, h.fits, long) in
-    rw config (assumption (words, pixels, cuts, placed, fits, h))
+can_still s s' p painter config most long words room_ h = grind (arith, nat_tests)
 
 -- and where nothing was loaded
 pub can_stay : {G : Type 0} (s s' : ServerModel) (p : Pixels G) → s'.config ≡ s.config
@@ -181,3 +176,151 @@ pub part_shown : (s : ServerModel) (t : StackModel) (sc : Scenery) (sid : ℕ) (
     → AreSet (λ k. wanted sid part s.stack (pixel s.stack.width k)) (length raw) (shown_by (state_of s) raw) old new
 part_shown s t sc sid part raw old new e f told =
     rw (e, f) at told
+
+-- ==== A pixel that an entry does not make dirty keeps its source, and what its source allows of its raw word.
+
+-- an entry that agrees keeps every delivery of its device event
+abbrev pub DeliveriesFit : Type 0
+DeliveriesFit = (s : State) (taken : ℕ) (dev : Device) (routed : Routed) → Agrees s taken (entry.Input dev routed)
+    → deliveries_of routed ≡ (route s.config s.input s.stack dev).deliveries
+
+pub keeps_source : DeliveriesFit → (s : State) (taken : ℕ) (e : Entry) (p : Point) → Agrees s taken e
+    → dirty s e (after s e) p ≡ false → source_of (after s e) p ≡ source_of s p
+keeps_source fit s taken (entry.Call sid call r) p agrees clean = call_is_clean s sid call r p agrees.1 clean
+keeps_source fit s taken (entry.Input dev routed) p agrees clean =
+    let ds = (route s.config s.input s.stack dev).deliveries in
+    deliveries_are_clean ds s p (rw (fit s taken dev routed agrees) at clean)
+keeps_source fit s taken (entry.Shot number) p agrees clean = refl
+keeps_source fit s taken entry.Final p agrees clean = cc
+
+-- What holds of each pixel's source and raw word, and of every word that may be held by a source, holds again when
+-- the dirty pixels were loaded.
+pub keeps_each : DeliveriesFit
+    → (P : PixelSource → ℕ → Type 0) (s : State) (taken : ℕ) (e : Entry) (glasses glasses' : ℕ → Sight)
+    (raw raw' : List ℕ) → Agrees s taken e
+    → Painted s e (after s e) glasses glasses' raw raw'
+    → ((source : PixelSource) (w : ℕ) → IsWordOfSource glasses source w → P source w)
+    → ((k : ℕ) → k < pixel_count s → P (source_at s k) (slice_index_or raw k 0))
+    → (k : ℕ) → k < pixel_count (after s e) → P (source_at (after s e) k) (slice_index_or raw' k 0)
+keeps_each fit P s taken e glasses glasses' raw raw' agrees painted held before k on_screen =
+    go (dirty s e (after s e) (pixel s.config.width k)) refl
+  where
+    within : k < pixel_count s
+    within = rw (same_config s e) at on_screen
+
+    here : pixel (after s e).config.width k ≡ pixel s.config.width k
+    here = ap (λ (config : Configuration). pixel config.width k) (same_config s e)
+
+    go : (b : Bool) → dirty s e (after s e) (pixel s.config.width k) ≡ b
+        → P (source_at (after s e) k) (slice_index_or raw' k 0)
+    go true d = held (source_at (after s e) k) (slice_index_or raw' k 0) (painted.marked k within d).0
+    go false d =
+        let same : source_at (after s e) k ≡ source_at s k = ap (source_of (after s e)) here
+        ∙ keeps_source fit s taken e (pixel s.config.width k) agrees d in
+        let as_before : slice_index_or raw' k 0 ≡ slice_index_or raw k 0 = painted.others k (λ lt. d) in
+        rw (same, as_before) (before k within)
+
+-- ==== What a load gives, and that loads leave the inks as they are.
+
+pub held_is_raw : (glasses : ℕ → Sight) (source : PixelSource) (w : ℕ) → IsWordOfSource glasses source w
+    → IsRawOf source w
+held_is_raw glasses (Word t i) w h = h.fits
+held_is_raw glasses other w h = h
+
+-- by glasses of the same inks
+same_inks : (glasses glasses' : ℕ → Sight) → ((t : ℕ) → (glasses' t).ink ≡ (glasses t).ink)
+    → (source : PixelSource) (w : ℕ) → IsInkedBy glasses source w → IsInkedBy glasses' source w
+same_inks glasses glasses' same (Word t i) w h = rw (same t) h
+same_inks glasses glasses' same other w h = h
+
+held_is_inked : (glasses : ℕ → Sight) (source : PixelSource) (w : ℕ) → IsWordOfSource glasses source w
+    → IsInkedBy glasses source w
+held_is_inked glasses (Word t i) w h = h.inked
+held_is_inked glasses other w h = tt
+
+pub keeps_inked : DeliveriesFit → (s : State) (taken : ℕ) (e : Entry) (glasses glasses' : ℕ → Sight) (raw raw' : List ℕ)
+    → Agrees s taken e
+    → Painted s e (after s e) glasses glasses' raw raw' → AreInked s glasses raw → AreInked (after s e) glasses' raw'
+keeps_inked fit s taken e glasses glasses' raw raw' agrees painted before k on_screen =
+    let same : (t : ℕ) → (glasses' t).ink ≡ (glasses t).ink =
+    λ t. ap (λ (sight : Sight). sight.ink) (painted.sights t) in
+    same_inks glasses glasses' same (source_at (after s e) k) (slice_index_or raw' k 0)
+    (keeps_each fit (IsInkedBy glasses) s taken e glasses glasses' raw raw' agrees painted (held_is_inked glasses)
+    before k on_screen)
+
+-- ==== Calls that make nothing dirty paint nothing.
+
+pub clean_call : (before after' : State) (sid : ℕ) (call : Call) (r : Reply) (p : Point) → IsClean call
+    → dirty before (entry.Call sid call r) after' p ≡ false
+clean_call before after' sid View r p is = and-false (is_accepted r)
+clean_call before after' sid (Title v text) r p is = and-false (is_accepted r)
+clean_call before after' sid other r p is = absurd is
+
+pub quiet_call : (before after' : State) (sid : ℕ) (call : Call) (r : Reply) (p : Point) → IsQuiet call
+    → dirty before (entry.Call sid call r) after' p ≡ false
+quiet_call before after' sid Take r p is = and-false (is_accepted r)
+quiet_call before after' sid (Upgrade n) r p is = and-false (is_accepted r)
+quiet_call before after' sid other r p is = absurd is
+
+pub quiet_stays : (layers : ℕ → ℕ) (sid : ℕ) (call : Call) (r : Reply) (stack : List ViewOf) → IsQuiet call
+    → after_accepted layers sid call r stack ≡ stack
+quiet_stays layers sid Take r stack is = refl
+quiet_stays layers sid (Upgrade n) r stack is = refl
+quiet_stays layers sid other r stack is = absurd is
+
+-- ==== What a painter loads again, told by one record.
+
+-- lists that look alike are equally long
+pub as_many_as : {G R : Type 0} (rest : G → R) (gs gs' : List G) → map rest gs' ≡ map rest gs → length gs' ≡ length gs
+as_many_as rest gs gs' same = sym (length-map gs' rest) ∙ ap length same ∙ length-map gs rest
+
+-- a painter can still load where one more view is gone
+pub can_paint_gone : {G : Type 0} (glasses : ℕ → Sight) (s s' : StackModel) (k : ℕ) (p : Painter G)
+    → s' ≡ record s { views = without (is_slot k) s.views } → CanRepaint glasses s p → CanRepaint glasses s' p
+can_paint_gone glasses s s' k p now can =
+    rw now (record { room = rw now at (gone_room s s' k _ now can.room); pixels = can.pixels; held = can.held })
+
+module _ {G C R S : Type 0} {sight : G → Sight} {rest : G → R} {own_sight : C → Sight} {own_rest : C → S} where
+  -- nothing is loaded
+  pub no_repaint : {source : ℕ → PixelSource} {chosen : ℕ → Bool} {sid : ℕ} {own : C} {p : Painter G}
+      → ((k : ℕ) → chosen k ≡ false) → IsRepaint sight rest own_sight own_rest source chosen sid own own p p
+  no_repaint {source} {chosen} {p = p} none = record {
+    room = refl;
+    painted = repainted_none source chosen (length p.raw.items) _ p.raw.items (λ k l. none k);
+    count = refl;
+    idle = refl;
+    own_stays = refl;
+    rests = refl;
+  }
+
+  -- one more view of a session is taken away
+  pub repaint_more : {of i sid : ℕ} {before now next : StackModel} {a b c : C} {p q r : Painter G}
+      → IsRemovedFrom of (i + 1) before now → IsRemovedFrom of i now next
+      → IsRepaint sight rest own_sight own_rest (source_of_number (without_session of before))
+      (λ k. uncovered of before now (pixel before.width k)) sid a b p q
+      → IsRepaint sight rest own_sight own_rest (source_of_number (without_session of now))
+      (λ k. uncovered of now next (pixel now.width k)) sid b c q r
+      → IsRepaint sight rest own_sight own_rest (source_of_number (without_session of before))
+      (λ k. uncovered of before next (pixel before.width k)) sid a c p r
+  repaint_more {of} {i} {sid} {before} {now} {next} first then one two = record {
+    room = two.room ∙ one.room;
+    painted = painted_more of i _ before now next _ _ _ _ _ _ first then one.painted
+        (other_count _ _ _ _ _ _ _ _ one.count two.painted);
+    count = two.count ∙ one.count;
+    idle = two.idle ∙ one.idle;
+    own_stays = two.own_stays ∙ one.own_stays;
+    rests = two.rests ∙ one.rests;
+  }
+
+  -- a painter can still load where views were taken away
+  pub can_paint_rest : {of i sid : ℕ} {before now : StackModel} {source : ℕ → PixelSource} {chosen : ℕ → Bool}
+      {a b : C} {p q : Painter G} → IsRemovedFrom of i before now
+      → IsRepaint sight rest own_sight own_rest source chosen sid a b p q
+      → CanRepaint (glasses_of_call (map sight p.glasses.items) sid (own_sight a)) before p
+      → CanRepaint (glasses_of_call (map sight q.glasses.items) sid (own_sight b)) now q
+  can_paint_rest {of} {i} {before = before} {now = now} taken one can = record {
+    room = let m = one.room in let n = taken.fewer in let l = can.room in omega (arith, m, n, l);
+    pixels = one.count ∙ can.pixels ∙ ap (λ (t : StackModel). t.width * t.height) (sym taken.rest);
+    held = taken_held of i _ _ before now _ _ one.painted.loads taken (as_many_as rest _ _ one.rests) one.painted.sights
+        can.held;
+  }

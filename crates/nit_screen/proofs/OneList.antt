@@ -1,33 +1,84 @@
--- One list that is both the raw words and the frame: they differ in the first words, where the bar stands.
-use Rattle.nit_screen.proofs.Basics.{All, ArePixels, AreRaw, Bare, Bool, Call, CanShowBy, Close}
-use Rattle.nit_screen.proofs.Basics.{Entry, Flat, IsAmongLoads, IsCopied, IsServed, IsShown, IsTrue}
-use Rattle.nit_screen.proofs.Basics.{IsWord, IsWordOfSource, Kill, List, Mode, Option, Painted}
-use Rattle.nit_screen.proofs.Basics.{Painter, PixelSource, Pixels, Repainted, Reply, Scenery}
-use Rattle.nit_screen.proofs.Basics.{ServerModel, ShowsBelow, Sight, State, Xray, ap, arith}
-use Rattle.nit_screen.proofs.Basics.{bar_rows, bar_word, bare_word, cond, draws_labels}
-use Rattle.nit_screen.proofs.Basics.{drop-replicate, ext_get_or, false, flat_same, frame}
-use Rattle.nit_screen.proofs.Basics.{frame_fits, get_or-frame, length, length-frame, nat_lt}
-use Rattle.nit_screen.proofs.Basics.{nat_tests, pixel, pixel_count, raw_in, raw_of, refl, replicate}
-use Rattle.nit_screen.proofs.Basics.{replicate-append-replicate, scenery_of, shown, slice_index}
-use Rattle.nit_screen.proofs.Basics.{source_at, state_of, sym, true, unbarred}
-use Rattle.std.proofs.Common.{ℕ, ◌*◌, ◌<◌, ◌∙◌, ◌≡◌, ◌≤◌, ◌+◌, ◌-◌}
+-- The raw words of a list that has the bar in its first words.
+use Rattle.nit_screen.proofs.Basics.{All-append, All-drop, All-replicate, ArePixels, AreRaw, Bare}
+use Rattle.nit_screen.proofs.Basics.{Call, CanShowBy, Close, Entry, Flat, IsAmongLoads, IsCopied}
+use Rattle.nit_screen.proofs.Basics.{IsServed, IsShown, IsWord, IsWordOfSource, Kill, Mode, Painted}
+use Rattle.nit_screen.proofs.Basics.{Painter, PixelSource, Pixels, Repainted, Reply, ServerModel}
+use Rattle.nit_screen.proofs.Basics.{ShowsBelow, Sight, State, Xray, bar_rows, bar_word, bare_word}
+use Rattle.nit_screen.proofs.Basics.{cases_lt, draws_labels, drop-replicate, flat_same, frame}
+use Rattle.nit_screen.proofs.Basics.{frame_fits, get_or-append_right, get_or-frame}
+use Rattle.nit_screen.proofs.Basics.{get_or-replicate, get_or_append_left, in_bar, ints, le-div}
+use Rattle.nit_screen.proofs.Basics.{length-frame, length-replicate, nat_tests, pixel, pixel_count}
+use Rattle.nit_screen.proofs.Basics.{raw_in, raw_of, replicate-append-replicate, rows, scenery_of}
+use Rattle.nit_screen.proofs.Basics.{shown, source_at, state_of, unbarred}
+use Rattle.std.proofs.Common.{All, Bool, IsTrue, List, Option, ap, arith, cond, ext_get_or, false}
+use Rattle.std.proofs.Common.{get_or-drop, inl, inr, length, length-append, length-drop, nat_lt}
+use Rattle.std.proofs.Common.{refl, replicate, slice_index, suc, sym, true, zero, ℕ, ◌*◌, ◌-◌, ◌/◌}
+use Rattle.std.proofs.Common.{◌<◌, ◌∙◌, ◌≡◌, ◌≤◌}
 use Rattle.nit_screen.proofs.KeptFrames.{can_still, flat_word, still}
-use Rattle.nit_screen.proofs.RawWithBar.{bar_first, bar_is_bare, unbarred_at, unbarred_long}
-use Rattle.nit_screen.proofs.RawWithBar.{unbarred_same, unbarred_words}
+
+-- ---- the raw words of such a list
+
+pub unbarred_at : (n : ℕ) (xs : List ℕ) (k : ℕ)
+    → slice_index (unbarred n xs) k ≡ cond (nat_lt k n) bare_word (slice_index xs k)
+unbarred_at n xs k =
+    grind (arith, nat_tests, length-replicate, get_or_append_left, get_or-append_right, get_or-replicate, get_or-drop)
+
+pub unbarred_long : (n : ℕ) (xs : List ℕ) → n ≤ length xs → length (unbarred n xs) ≡ length xs
+unbarred_long n xs fits = simp (length-append, length-replicate, length-drop) (omega arith)
+
+-- lists that differ in the bar alone
+pub unbarred_same : (n : ℕ) (xs ys : List ℕ) → n ≤ length xs → length ys ≡ length xs
+    → ((k : ℕ) → nat_lt k n ≡ false → slice_index ys k ≡ slice_index xs k) → unbarred n ys ≡ unbarred n xs
+unbarred_same n xs ys fits long same =
+    ext_get_or 0 (unbarred n ys) (unbarred n xs)
+    (unbarred_long n ys (omega (arith, fits, long)) ∙ long ∙ sym (unbarred_long n xs fits))
+    (λ k l. grind (arith, unbarred_at n ys k, unbarred_at n xs k, same k))
+
+-- both kinds
+pub raw_long : (b : Bool) (n : ℕ) (xs : List ℕ) → n ≤ length xs → length (raw_in b n xs) ≡ length xs
+raw_long true n xs fits = refl
+raw_long false n xs fits = unbarred_long n xs fits
+
+-- ---- the pixels of the bar
+
+bar_at : (width bar k : ℕ) → k < width * bar → in_bar bar (pixel width k) ≡ true
+bar_at width bar k l = let row : k / width < bar = grind (arith, rows) in grind (arith, ints)
+
+some_columns : (width height k : ℕ) → k < width * height → 0 < width
+some_columns zero height k l = absurd (omega arith)
+some_columns (suc width) height k l = omega arith
+
+-- they are the first ones
+pub bar_first : (s : State) (bar k : ℕ) → k < pixel_count s → bar ≡ s.config.width * bar_rows s.config
+    → in_bar (bar_rows s.config) (pixel s.config.width k) ≡ nat_lt k bar
+bar_first s bar k l is =
+    let width = s.config.width in
+    let rows = bar_rows s.config in
+    elim (cases_lt k bar) [
+      | inl less ↦ let in_ = bar_at width rows k (omega (arith, less, is)) in grind (arith, nat_tests)
+      | inr ge ↦
+          let some = some_columns width s.config.height k l in
+          let row : rows ≤ k / width = le-div rows k width some (omega (arith, ge, is)) in
+          grind (arith, ints, nat_tests)
+    ]
+
+pub bar_is_bare : (s : State) (k : ℕ) → k < s.config.width * bar_rows s.config → source_at s k ≡ Bare
+bar_is_bare s k l = rw (bar_at s.config.width (bar_rows s.config) k l)
+
+-- ==== One list that is both the raw words and the frame: they differ in the first words, where the bar stands.
 
 -- ---- painting
 
 -- where the pixels of the bar are bare, what was loaded of such a list was loaded of its raw words
-pub painted_in : (c : Bool) (source : ℕ → PixelSource) (marked : ℕ → Bool) (n m : ℕ) (a b : ℕ → Sight)
-    (raw raw' : List ℕ) → ((k : ℕ) → k < m → source k ≡ Bare)
+pub painted_in : {source : ℕ → PixelSource} {marked : ℕ → Bool} {n : ℕ} {a b : ℕ → Sight} {raw raw' : List ℕ}
+    (c : Bool) (m : ℕ) → ((k : ℕ) → k < m → source k ≡ Bare)
     → Repainted source marked n a b raw raw' → Repainted source marked n a b (raw_in c m raw) (raw_in c m raw')
-painted_in true source marked n m a b raw raw' bare p = p
-painted_in false source marked n m a b raw raw' bare p = record {
+painted_in true m bare p = p
+painted_in {source} {marked} {n} {a} {b} {raw} {raw'} false m bare p = record {
   loads = p.loads;
   sights = p.sights;
   marked = λ k l d. go k l d (nat_lt k m) refl;
-  others = λ k out. unbarred_at m raw' k ∙ ap (λ (w : ℕ). cond (nat_lt k m) bare_word w) (p.others k out)
-      ∙ sym (unbarred_at m raw k);
+  others = λ k out. cc (unbarred_at m raw' k, unbarred_at m raw k, p.others k out);
   counts = p.counts;
 }
   where
@@ -38,23 +89,18 @@ painted_in false source marked n m a b raw raw' bare p = record {
     go k l d false e = rw (rw e at (unbarred_at m raw' k)) (p.marked k l d)
 
 -- the same of an entry
-pub entry_painted_in : (c : Bool) (bar : ℕ) (s : State) (e : Entry) (s' : State) (a b : ℕ → Sight) (raw raw' : List ℕ)
+pub entry_painted_in : (c : Bool) (bar : ℕ) (s : State) (e : Entry) (s' : State) {a b : ℕ → Sight} {raw raw' : List ℕ}
     → bar ≡ s'.config.width * bar_rows s'.config
     → Painted s e s' a b raw raw' → Painted s e s' a b (raw_in c bar raw) (raw_in c bar raw')
-entry_painted_in c bar s e s' a b raw raw' is p =
-    painted_in c _ _ _ bar a b raw raw' (λ k l. bar_is_bare s' k (rw is at l)) p
+entry_painted_in c bar s e s' is p = painted_in c bar (λ k l. bar_is_bare s' k (rw is at l)) p
 
 -- what was set of the list are its raw words then
 pub one_copied : (chosen : ℕ → Bool) (n m : ℕ) (raw raw' : List ℕ)
     → ((k : ℕ) → k < n → chosen k ≡ true → nat_lt k m ≡ false)
     → ((k : ℕ) → k < n → chosen k ≡ false → slice_index raw' k ≡ slice_index raw k) → length raw' ≡ length raw
     → IsCopied chosen n (unbarred m raw') raw raw'
-one_copied chosen n m raw raw' below others long = record { words = λ k l. go k l (chosen k) refl; count = long }
-  where
-    go : (k : ℕ) → k < n → (b : Bool) → chosen k ≡ b
-        → slice_index raw' k ≡ cond b (slice_index (unbarred m raw') k) (slice_index raw k)
-    go k l true e = sym (rw (below k l e) at (unbarred_at m raw' k))
-    go k l false e = others k l e
+one_copied chosen n m raw raw' below others long =
+    record { words = λ k l. grind (arith, unbarred_at m raw' k, below k l, others k l); count = long }
 
 -- ---- the frame
 
@@ -77,28 +123,25 @@ flat_raw s bar raw flat is fits many raws =
     go : (k : ℕ) → k < pixel_count s → (b : Bool) → nat_lt k bar ≡ b
         → cond b bare_word (slice_index (frame (scenery_of s) raw) k) ≡ slice_index raw k
     go k l true e = let m : k < bar = grind (arith, nat_tests) in sym (bare k l (bar_is_bare s k (rw is at m)))
-    go k l false e =
-        get_or-frame (scenery_of s) raw k l
-        ∙ flat_word s (pixel s.config.width k) (slice_index raw k) flat (bar_first s bar k l is ∙ e) (bare k l)
+    go k l false e = grind (arith, nat_tests, get_or-frame, flat_word, bar_first)
 
 -- the frame takes the place of the raw words, in mode Flat
 pub made_one : {G : Type 0} (s : ServerModel) (p : Pixels G) → p.is_apart ≡ true → s.input.mode ≡ Flat
     → ArePixels s p → AreRaw (state_of s) (raw_of p)
     → IsShown s p (record p { painter = record p.painter { raw = p.frame }; frame = p.painter.raw; is_apart = false })
 made_one s p is flat (h, was, apart) raws =
-    let area = h.pixels in
-    let spare = p.painter.raw.ok in record {
+    record {
       pixels = (
         record {
           words = rw e (frame_fits (scenery_of (state_of s)) raw h.pixels h.words);
           pixels = many;
-          few = omega (arith, area);
-          spare = omega (arith, area, spare);
+          few = omega (arith, h.pixels);
+          spare = omega (arith, h.pixels, p.painter.raw.ok);
           cuts = h.cuts;
           named = h.named;
           placed = h.placed;
           bar = h.bar;
-          fits = let a = h.fits in omega (arith, a, area, many);
+          fits = omega (arith, h.fits, h.pixels, many);
         },
         rw back e,
         λ m. cc (ap draws_labels flat),
@@ -124,26 +167,18 @@ made_one s p is flat (h, was, apart) raws =
 -- below the bar, in mode Flat, a word is shown where a view has the pixel, and the bare one where none has
 pub flat_below : (s : State) (words : List ℕ) → s.input.mode ≡ Flat
     → ((k : ℕ) → k < pixel_count s → source_at s k ≡ Bare → slice_index words k ≡ bare_word) → ShowsBelow s words
-flat_below s words flat bare k l below =
-    flat_word s (pixel s.config.width k) (slice_index words k) flat below (bare k l)
+flat_below s words flat bare k l below = grind (arith, nat_tests, flat_word)
 
 -- so the frame of another focus is shown below the bar
 pub other_focus : (s : State) (focus : Option ℕ) (bar : ℕ) (words : List ℕ) → s.input.mode ≡ Flat
     → bar ≡ s.config.width * bar_rows s.config
     → words ≡ frame (record (scenery_of s) { focus = focus }) (unbarred bar words)
     → ShowsBelow s words
-other_focus s focus bar words flat is was k l below =
-    let past : nat_lt k bar ≡ false = sym (bar_first s bar k l is) ∙ below in
-    let other : Scenery = record (scenery_of s) { focus = focus } in
-    flat_same other (scenery_of s) (pixel s.config.width k) (slice_index words k) flat flat refl below refl
-    ∙ ap (shown other (pixel s.config.width k)) (sym (rw past at (unbarred_at bar words k)))
-    ∙ sym (get_or-frame other (unbarred bar words) k l) ∙ sym (ap (λ (ws : List ℕ). slice_index ws k) was)
+other_focus s focus bar words flat is was k l below = grind (arith, nat_tests, bar_first, flat_same, get_or-frame)
 
 -- of bare words alone, too
 pub bare_unbarred : (m n : ℕ) → m ≤ n → unbarred m (replicate n bare_word) ≡ replicate n bare_word
-bare_unbarred m n fits =
-    let all : m + (n - m) ≡ n = omega arith in
-    rw (drop-replicate, replicate-append-replicate, all)
+bare_unbarred m n fits = grind (arith, nat_tests, drop-replicate, replicate-append-replicate)
 
 -- the list with the bar in it is the frame of its raw words, which stay
 module _ (s : State) (bar : ℕ) (raw now : List ℕ) (is : bar ≡ s.config.width * bar_rows s.config)
@@ -178,13 +213,13 @@ pub bar_again : {G : Type 0} (s : ServerModel) (p : Pixels G) (painter : Painter
 bar_again s p painter one flat h other long drawn below =
     let raw = p.painter.raw.items in
     let now = painter.raw.items in
-    let fits = h.fits in
     let drawn' = λ (k : ℕ). rw (← h.bar) at (drawn k) in
     let is = bar_drawn (state_of s) p.bar raw now h.bar h.fits h.pixels long drawn' below in
     let same = drawn_raw (state_of s) p.bar raw now h.bar h.fits h.pixels long drawn' in
     let words : All IsWord now = rw is (frame_fits (scenery_of (state_of s)) (unbarred p.bar now)
-    (unbarred_long p.bar now (omega (arith, fits, long)) ∙ long ∙ h.pixels)
-    (rw same (unbarred_words p.bar raw h.words))) in
+    (unbarred_long p.bar now (omega (arith, h.fits, long)) ∙ long ∙ h.pixels)
+    (rw same (All-append IsWord _ _ (All-replicate IsWord p.bar bare_word (omega arith))
+    (All-drop IsWord p.bar raw h.words)))) in
     record {
       pixels = (
         can_still s s p painter refl refl long words (ap (λ q. q.cutter.room) other) h,

@@ -1,9 +1,8 @@
 -- The handles of a session, and what is kept of it.
 use Rattle.nit_session.proofs.Basics.{AccountModel, AreRising, Bool, Destroy, IsMachine, List, None}
-use Rattle.nit_session.proofs.Basics.{Session, [], ap, arith, by_call, by_status, cases_eq, cond}
-use Rattle.nit_session.proofs.Basics.{either, eq-eqb, eqb-true, false, false≢true, filter, has_view}
-use Rattle.nit_session.proofs.Basics.{holds_of, length, list_any, ne_eqb, refusal, second_none}
-use Rattle.nit_session.proofs.Basics.{serve_accepted, serve_refused}
+use Rattle.nit_session.proofs.Basics.{Session, [], ap, arith, by_call, by_status, cases_eq, either}
+use Rattle.nit_session.proofs.Basics.{eq-eqb, filter, has_view, holds_of, length, list_any, ne_eqb}
+use Rattle.nit_session.proofs.Basics.{refusal, second_none, serve_accepted, serve_refused}
 use Rattle.std.proofs.Common.{inl, inr, length-append, not, refl, true, ℕ, ◌++◌, ◌+◌, ◌-◌, ◌<◌}
 use Rattle.std.proofs.Common.{◌==◌, ◌∷◌, ◌≡◌, ◌≤◌}
 use Rattle.nit_events.specs.declared.call.Reply.TheVariants as reply

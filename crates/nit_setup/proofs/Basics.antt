@@ -9,45 +9,43 @@ pub use Rattle.nit_script.proofs.ForCallers.{read_and_long, same_read}
 pub use Rattle.nit_setup.specs.Terms.{AllByRecursion, AllFiles, AllScripts, AllZip}
 pub use Rattle.nit_setup.specs.Terms.{AreAllOuterFiles, AreAllScripts, AreClipScripts, AreClipsRead}
 pub use Rattle.nit_setup.specs.Terms.{AreFirstClips, AreFirstFiles, AreLines, AreOuterFiles}
-pub use Rattle.nit_setup.specs.Terms.{AreRead, AreSetup, Audit, BothFiles, Capture, Clip, ClipLine}
-pub use Rattle.nit_setup.specs.Terms.{Command, ConfigRead, Configuration, End, Entry, Fault, File}
-pub use Rattle.nit_setup.specs.Terms.{FilesRead, FirstFiles, FitsClipLine, FitsInputLine, FitsLine}
-pub use Rattle.nit_setup.specs.Terms.{Gen, HasOneReading, HasRead, HasVerdict, HaveSamePhases}
-pub use Rattle.nit_setup.specs.Terms.{IfNone, IfSome, InnerFiles, InputLine, IsClientFault}
-pub use Rattle.nit_setup.specs.Terms.{IsClientScript, IsClipFault, IsClipScript, IsConfig}
-pub use Rattle.nit_setup.specs.Terms.{IsConfigFault, IsConfiguration, IsFaulty, IsFirstClipFault}
-pub use Rattle.nit_setup.specs.Terms.{IsFirstFault, IsFirstOuterFault, IsGood, IsInputFault}
-pub use Rattle.nit_setup.specs.Terms.{IsInputsFault, IsJournalFault, IsJournalText, IsLoaded}
-pub use Rattle.nit_setup.specs.Terms.{IsMember, IsNameOf, IsNoJournalText, IsNoScript, IsOuterFault}
-pub use Rattle.nit_setup.specs.Terms.{IsOuterInputFault, IsOuterLoaded, IsOuterScript}
-pub use Rattle.nit_setup.specs.Terms.{IsOuterSetupFault, IsPhasedFault, IsRunnable, IsScript}
-pub use Rattle.nit_setup.specs.Terms.{IsSetupFault, IsSetupOf, IsValid, IsVerdictOn, Judged, Line}
-pub use Rattle.nit_setup.specs.Terms.{Loaded, MayShowFrames, Member, Nested, NoCommand, NoFile}
-pub use Rattle.nit_setup.specs.Terms.{OuterFiles, OuterRunRead, OuterSoFar, OuterStopped, ReadsTo}
-pub use Rattle.nit_setup.specs.Terms.{Refused, Region, Run, RunFiles, RunRead, Setup, SetupRead}
-pub use Rattle.nit_setup.specs.Terms.{SoFar, SpellScripts, Still, Stop, StopName, StoppedAmong}
-pub use Rattle.nit_setup.specs.Terms.{StoppedAt, StoppedAtClip, StoppedBy, StoppedReading}
-pub use Rattle.nit_setup.specs.Terms.{StoreModel, asking_all, by_turns, bytes_eq, bytes_of}
-pub use Rattle.nit_setup.specs.Terms.{calls_to_make, client_script, clip_line_spelling, clip_name}
-pub use Rattle.nit_setup.specs.Terms.{clip_names, clip_phases, command, cond, count_by, decimal}
-pub use Rattle.nit_setup.specs.Terms.{false, fault_code, files_in, find, first_forbidden}
-pub use Rattle.nit_setup.specs.Terms.{first_names, first_other, frames_of, idle_user, input_phases}
+pub use Rattle.nit_setup.specs.Terms.{AreSetup, Audit, BothFiles, Capture, Clip, ClipLine, Command}
+pub use Rattle.nit_setup.specs.Terms.{ConfigRead, Configuration, End, Entry, Fault, File, FilesRead}
+pub use Rattle.nit_setup.specs.Terms.{FirstFiles, FitsClipLine, FitsInputLine, FitsLine, Gen}
+pub use Rattle.nit_setup.specs.Terms.{HasOneReading, HasRead, HasVerdict, HaveSamePhases, IfNone}
+pub use Rattle.nit_setup.specs.Terms.{IfSome, InnerFiles, InputLine, IsClientFault, IsClientScript}
+pub use Rattle.nit_setup.specs.Terms.{IsClipFault, IsClipScript, IsConfig, IsConfigFault}
+pub use Rattle.nit_setup.specs.Terms.{IsConfiguration, IsFaulty, IsFirstClipFault, IsFirstFault}
+pub use Rattle.nit_setup.specs.Terms.{IsFirstOuterFault, IsGood, IsInputFault, IsInputsFault}
+pub use Rattle.nit_setup.specs.Terms.{IsJournalFault, IsJournalText, IsLoaded, IsMember, IsNameOf}
+pub use Rattle.nit_setup.specs.Terms.{IsNoJournalText, IsOuterFault, IsOuterInputFault}
+pub use Rattle.nit_setup.specs.Terms.{IsOuterLoaded, IsOuterScript, IsOuterSetupFault}
+pub use Rattle.nit_setup.specs.Terms.{IsPhasedFault, IsRunnable, IsScript, IsSetupFault, IsSetupOf}
+pub use Rattle.nit_setup.specs.Terms.{IsValid, Judged, Line, Loaded, MayShowFrames, Member, Nested}
+pub use Rattle.nit_setup.specs.Terms.{NoCommand, NoFile, OuterFiles, OuterRunRead, OuterSoFar}
+pub use Rattle.nit_setup.specs.Terms.{OuterStopped, ReadsTo, Refused, Region, Run, RunFiles}
+pub use Rattle.nit_setup.specs.Terms.{RunRead, Setup, SetupRead, SoFar, SpellScripts, Still, Stop}
+pub use Rattle.nit_setup.specs.Terms.{StopName, StoppedAmong, StoppedAt, StoppedAtClip, StoppedBy}
+pub use Rattle.nit_setup.specs.Terms.{StoppedReading, StoreModel, asking_all, by_turns, bytes_eq}
+pub use Rattle.nit_setup.specs.Terms.{bytes_of, calls_to_make, client_script, clip_line_spelling}
+pub use Rattle.nit_setup.specs.Terms.{clip_name, clip_names, clip_phases, command, cond, count_by}
+pub use Rattle.nit_setup.specs.Terms.{decimal, false, fault_code, files_in, find, first_names}
+pub use Rattle.nit_setup.specs.Terms.{first_other, frames_of, idle_user, input_phases}
 pub use Rattle.nit_setup.specs.Terms.{input_spelling, is_clip_phase, is_file_name, is_input_phase}
 pub use Rattle.nit_setup.specs.Terms.{is_phase, is_some, is_too_long, line_spelling, misfit}
 pub use Rattle.nit_setup.specs.Terms.{name_text, names_in, names_read, nest_of, next_name}
-pub use Rattle.nit_setup.specs.Terms.{number_up_to, option_map, phase_counts, phases, phases_by}
-pub use Rattle.nit_setup.specs.Terms.{range_with_len, reads, script_names, setup_in, setup_of}
-pub use Rattle.nit_setup.specs.Terms.{slice_get, still_setup, texts, too_long_for}
-pub use Rattle.nit_setup.specs.Terms.{user_actions_to_do, wanted_by, with_asked, wrong_client}
-pub use Rattle.nit_setup.specs.Terms.{wrong_clip, wrong_input, wrong_outer, wrong_phases}
+pub use Rattle.nit_setup.specs.Terms.{option_map, phase_counts, phases, phases_by, range_with_len}
+pub use Rattle.nit_setup.specs.Terms.{reads, script_names, setup_in, setup_of, slice_get}
+pub use Rattle.nit_setup.specs.Terms.{still_setup, texts, too_long_for, user_actions_to_do}
+pub use Rattle.nit_setup.specs.Terms.{wanted_by, with_asked, wrong_client, wrong_clip, wrong_input}
+pub use Rattle.nit_setup.specs.Terms.{wrong_outer, wrong_phases}
 pub use Rattle.std.proofs.Common.{Some, [], ap, arith, inl, inr, map, refl, sym, take, true, ◌∙◌}
 pub use Rattle.std.proofs.Math.Seq.{take-append_seam}
-pub use Rattle.std.proofs.lemmas.Bool.{and_parts, cases_Bool, eq-eqb, leb-true, ltb-false, ltb-true}
-pub use Rattle.std.proofs.lemmas.Bool.{ne_eqb}
+pub use Rattle.std.proofs.lemmas.Bool.{and_parts, eq-eqb, leb-true, ne_eqb}
 pub use Rattle.std.proofs.lemmas.Bool.Decides.{nat_tests}
 pub use Rattle.std.proofs.lemmas.Fmt.{decimal_injective}
-pub use Rattle.std.proofs.lemmas.List.{append-nil, length-map, length-replicate, length-take-le}
-pub use Rattle.std.proofs.lemmas.List.{length_push, map-append, map_push, take_more}
+pub use Rattle.std.proofs.lemmas.List.{append-nil, length-map, length-replicate, length_push}
+pub use Rattle.std.proofs.lemmas.List.{map-append, map_push, take_more}
 pub use Rattle.std.proofs.lemmas.List.Elements.{All-get_or, All-head, All-tail}
 pub use Rattle.std.proofs.lemmas.List.Folds.{sum_by-replicate}
 pub use Rattle.std.proofs.lemmas.List.Sums.{count_by-le-length}

@@ -1,17 +1,61 @@
 -- Clip scripts, read behind the scripts of a configuration.
-use Rattle.nit_setup.proofs.ScriptsRead.{both_told, phases_are}
+use Rattle.std.proofs.Common.{Bool, List, None, Option, [], ap, arith, cond, inl, inr, length}
+use Rattle.std.proofs.Common.{length-append, map, refl, replicate, suc, sym, take, true, zero, ℕ}
+use Rattle.std.proofs.Common.{◌*◌, ◌++◌, ◌+◌, ◌∙◌, ◌∷◌, ◌≡◌, ◌≤◌}
 use Rattle.nit_setup.proofs.Basics.{AllByRecursion, AllFiles, AllScripts, AreAllScripts}
-use Rattle.nit_setup.proofs.Basics.{AreClipScripts, AreClipsRead, AreFirstClips, AreSetup, Clip}
-use Rattle.nit_setup.proofs.Basics.{ClipLine, Command, Configuration, IfSome, IfSome_then}
-use Rattle.nit_setup.proofs.Basics.{InputLine, IsClipFault, Line, ReadsTo, Setup, Stop}
+use Rattle.nit_setup.proofs.Basics.{AreClipScripts, AreClipsRead, AreFirstClips, AreLines, AreSetup}
+use Rattle.nit_setup.proofs.Basics.{Audit, Clip, ClipLine, Command, Configuration, End, Fault}
+use Rattle.nit_setup.proofs.Basics.{FitsInputLine, FitsLine, HaveSamePhases, IfSome, IfSome_then}
+use Rattle.nit_setup.proofs.Basics.{InputLine, IsClientFault, IsClientScript, IsClipFault}
+use Rattle.nit_setup.proofs.Basics.{IsConfiguration, IsJournalFault, IsNoJournalText, IsRunnable}
+use Rattle.nit_setup.proofs.Basics.{Line, NoFile, ReadsTo, Setup, Still, Stop, StoppedAt}
 use Rattle.nit_setup.proofs.Basics.{StoppedAtClip, StoppedReading, StoreModel, asking_all}
-use Rattle.nit_setup.proofs.Basics.{asking_both, clip_name, clip_names, clip_phases, input_phases}
-use Rattle.nit_setup.proofs.Basics.{length-map, map-append, names_in, phases, script_names}
-use Rattle.nit_setup.proofs.Basics.{setup_of, wanted_by, wrong_clip}
-use Rattle.std.proofs.Common.{◌≡◌, ℕ, ◌≤◌, true, List, [], ◌∷◌, ◌++◌, length, length-append, map}
-use Rattle.std.proofs.Common.{take, Option, None, refl, sym, ap, ◌∙◌, arith, inr}
-use Rattle.nit_setup.proofs.RunnableSetups.{all_so}
-use Rattle.nit_setup.proofs.Stopping.{get_behind, stopped_reading, take_front}
+use Rattle.nit_setup.proofs.Basics.{asking_both, asking_none, bytes_of, clip_name, clip_names}
+use Rattle.nit_setup.proofs.Basics.{clip_phases, count_by, count_by-le-length, idle_user}
+use Rattle.nit_setup.proofs.Basics.{input_phases, is_input_phase, is_phase, length-map}
+use Rattle.nit_setup.proofs.Basics.{length-replicate, map-append, name_text, names_in, phases}
+use Rattle.nit_setup.proofs.Basics.{script_names, setup_of, still_configured, still_setup}
+use Rattle.nit_setup.proofs.Basics.{sum_by-replicate, wanted_by, with_asked, wrong_clip}
+use Rattle.nit_setup.proofs.Basics.{wrong_input, wrong_phases}
+use Rattle.nit_setup.proofs.ScriptsRead.{both_told, get_behind, phases_are, stopped_reading}
+use Rattle.nit_setup.proofs.ScriptsRead.{take_front}
+use Rattle.nit_run.specs.Setup.{AreClipsOf}
+use Rattle.nit_script.specs.declared.line.InputLine.TheVariants as input
+use Rattle.nit_setup.specs.declared.stop.Fault.TheVariants as fault
+use Rattle.nit_setup.specs.declared.stop.StopName.TheVariants as file_name
+
+-- ---- a setup whose files were read can be run
+
+pub all_so : {A : Type 0} (P Q : A → Type 0) (xs : List A) → ((x : A) → P x → Q x) → AllByRecursion P xs
+    → AllByRecursion Q xs
+all_so P Q [] f all = tt
+all_so P Q (x ∷ xs) f all = (f x all.0, all_so P Q xs f all.1)
+
+-- each script has as many phases as the input script, where that has as many as the first
+all_phases : (scripts : List (List Line)) (lines : List InputLine) → 1 ≤ length scripts → HaveSamePhases scripts
+    → wrong_phases (wanted_by scripts) (input_phases lines) ≡ None
+    → AllByRecursion (λ ls. phases ls ≡ input_phases lines) scripts
+all_phases [] lines some same right = absurd (omega arith)
+all_phases (first ∷ rest) lines some same right =
+    let is = sym (phases_are (phases first) (input_phases lines) right) in
+    (is, all_so _ (λ ls. phases ls ≡ input_phases lines) rest (λ ls e. e ∙ is) same)
+
+-- the setup of a configuration
+pub run_runnable : (beside : Bool) (config : Configuration) (scripts : List (List Line)) (lines : List InputLine)
+    → IsConfiguration config → length scripts ≡ length (script_names config)
+    → AllByRecursion (AreLines FitsLine) scripts → HaveSamePhases scripts
+    → AreLines FitsInputLine lines → wrong_input (wanted_by scripts) lines ≡ None
+    → IsRunnable (setup_of config scripts lines true beside)
+run_runnable beside config scripts lines configured counted fit same input_fits right =
+    let count = rw length-map at counted in
+    record {
+      configured = configured;
+      scripts = count;
+      phases = all_phases scripts lines (omega (arith, configured.count.0)) same right;
+      lines = fit;
+      input_lines = input_fits;
+      clips_each = inl refl;
+    }
 
 -- where nothing is wrong with clip scripts, they have as many phases as the scripts
 clips_right : (scripts : List (List Line)) (wanted : ℕ) (clips : List (List ClipLine)) → 1 ≤ length scripts
@@ -87,19 +131,88 @@ module _ (name : List ℕ) (config : Configuration) (scripts : List (List Line))
   -- all clip scripts were read
   pub clips_read : (clips : List (List ClipLine)) (now : StoreModel)
       → AreClipsRead wanted mid (script_names config) clips now → ReadsTo clip old (AllFiles (with_clips clips)) now
-  clips_read clips now read = let r = all.runnable in record {
-    asked = names_behind (clip_names config) now read.asked;
+  clips_read clips now read =
+      let count = read.count ∙ names_long in
+      let each : AreClipsOf scripts (input_phases lines) clips = inr (count, phases_right clips read.right) in
+      record {
+        asked = names_behind (clip_names config) now read.asked;
+        valid = record {
+          runnable = assumption (each, all.runnable);
+          of_command = (refl, refl, refl, count);
+          valid = IfSome_then old.files (setup_with (clip_names config) clips read.valid)
+              (λ files v. (v.0, refl, refl, refl, v.1));
+        };
+      }
+
+-- ---- a journal, read behind the scripts of a configuration
+
+module _ (name journal : List ℕ) (old mid : StoreModel) (s : Setup)
+    (asked : mid ≡ asking_all old (name ∷ names_in s.config)) (all : AreAllScripts name old.files s) where
+  abbrev audit : Command
+  audit = Audit name journal
+
+  -- the journal has a fault, or was not read
+  pub journal_stopped : (Faulty : List ℕ → Fault → Type 0)
+      → ((bytes : List ℕ) (f : Fault) → Faulty bytes f → IsJournalFault s bytes f)
+      → (new : StoreModel) (stop : Stop)
+      → name_text audit stop.name ≡ journal → StoppedAt Faulty mid journal new stop.end
+      → StoppedReading audit old new stop
+  journal_stopped Faulty faulty new stop is h =
+      stopped_reading audit old (AllScripts s) all journal refl Faulty new
+      (λ f p. both_told old.files all.valid p
+      (λ files a q. inr (refl, (s, a, faulty (bytes_of journal files) f q)))) mid stop asked is h
+
+-- a fault of the text is one of the journal
+pub text_fault : (s : Setup) (bytes : List ℕ) (f : Fault) → IsNoJournalText bytes f → IsJournalFault s bytes f
+text_fault s bytes (fault.BadEntry n) r = r
+text_fault s bytes fault.LongJournal r = r
+text_fault s bytes other r = absurd r
+
+-- The script of a picture, and the user who does nothing.
+
+-- ---- a user who does nothing
+
+idle_fits : (n : ℕ) → AllByRecursion FitsInputLine (replicate n input.Phase)
+idle_fits zero = tt
+idle_fits (suc n) = (tt, idle_fits n)
+
+pub still_runnable : (width height : ℕ) (lines : List Line) → 1 ≤ width → width ≤ 1024 → 1 ≤ height → height ≤ 768
+    → AreLines FitsLine lines → IsRunnable (still_setup width height lines)
+still_runnable width height lines some few tall short fits = record {
+  configured = still_configured width height some few tall short;
+  scripts = refl;
+  phases = (ap (λ (n : ℕ). n + 1) (sym (count_all (count_by is_phase lines))), tt);
+  lines = (fits, tt);
+  input_lines = (idle_fits (count_by is_phase lines), omega (arith, long, count_by-le-length is_phase lines, fits.1));
+  clips_each = inl refl;
+}
+  where
+    long : length (idle_user lines) ≡ count_by is_phase lines
+    long = length-replicate (count_by is_phase lines) input.Phase
+
+    count_all : (n : ℕ) → count_by is_input_phase (replicate n input.Phase) ≡ n
+    count_all n = let one : n * 1 ≡ n = omega arith in
+        sum_by-replicate (λ x. cond (is_input_phase x) 1 0) n input.Phase ∙ one
+
+-- ---- the script
+
+module _ {width height : ℕ} {script : List ℕ} {old new : StoreModel} where
+  pub picture_stopped : {stop : Stop} {end : End} → (stop.end ≡ end) × (stop.name ≡ file_name.First)
+      → StoppedAt (IsClientFault None) old script new end → StoppedReading (Still width height script) old new stop
+  picture_stopped {stop = stop} is h =
+      stopped_reading (Still width height script) old NoFile tt script refl (IsClientFault None) new
+      (λ f p. IfSome_then old.files p (λ files q. (refl, q)))
+      old stop (asking_none old) (ap (name_text (Still width height script)) is.1) (rw is.0 h)
+
+  pub picture_read : {lines : List Line} → new ≡ with_asked old script
+      → IfSome old.files (λ files. IsClientScript None (bytes_of script files) lines)
+      → IsRunnable (still_setup width height lines)
+      → ReadsTo (Still width height script) old (AllFiles (still_setup width height lines)) new
+  picture_read {lines = lines} asked valid runnable = record {
+    asked = asked;
     valid = record {
-      runnable = record {
-        configured = r.configured;
-        scripts = r.scripts;
-        phases = r.phases;
-        lines = r.lines;
-        input_lines = r.input_lines;
-        clips_each = inr (read.count ∙ names_long, phases_right clips read.right);
-      };
-      of_command = (refl, refl, refl, read.count ∙ names_long);
-      valid = IfSome_then old.files (setup_with (clip_names config) clips read.valid)
-          (λ files v. (v.0, refl, refl, refl, v.1));
+      runnable = runnable;
+      of_command = (lines, refl);
+      valid = IfSome_then old.files valid (λ files q. (lines, q, refl));
     };
   }

@@ -1,21 +1,23 @@
 -- A configuration and its scripts, read for any command.
-use Rattle.nit_setup.proofs.ScriptsRead.{both_of, both_told}
+use Rattle.nit_setup.proofs.ScriptsRead.{both_of, both_told, get_behind, stopped_reading}
+use Rattle.nit_setup.proofs.ScriptsRead.{take_front}
 use Rattle.nit_setup.proofs.Basics.{AllByRecursion, AreAllOuterFiles, AreAllScripts, AreFirstFiles}
 use Rattle.nit_setup.proofs.Basics.{AreLines, AreSetup, Audit, BothFiles, Capture, Clip, Command}
 use Rattle.nit_setup.proofs.Basics.{ConfigRead, Configuration, Fault, File, FilesRead, FirstFiles}
 use Rattle.nit_setup.proofs.Basics.{FitsLine, HasRead, HaveSamePhases, IfSome, IfSome_then}
-use Rattle.nit_setup.proofs.Basics.{InnerFiles, IsClientFault, IsConfig, IsConfigFault}
-use Rattle.nit_setup.proofs.Basics.{IsConfiguration, IsInputFault, IsLoaded, IsSetupFault}
-use Rattle.nit_setup.proofs.Basics.{IsSetupOf, IsValid, Judged, Line, Loaded, Nested, NoFile}
-use Rattle.nit_setup.proofs.Basics.{OuterFiles, ReadsTo, Refused, Region, Run, RunFiles, RunRead}
-use Rattle.nit_setup.proofs.Basics.{Setup, SetupRead, SpellScripts, Stop, StopName, StoppedAt}
-use Rattle.nit_setup.proofs.Basics.{StoppedReading, StoreModel, append-nil, asking_all, asking_both}
-use Rattle.nit_setup.proofs.Basics.{asking_none, bytes_of, files_in, first_names, name_text}
-use Rattle.nit_setup.proofs.Basics.{names_in, names_read, next_name, phases, reads, script_names}
-use Rattle.nit_setup.proofs.Basics.{setup_in, slice_get, wanted_by, with_asked}
-use Rattle.std.proofs.Common.{◌≡◌, ℕ, Bool, true, false, List, [], ◌∷◌, ◌++◌, length, Some, Ok, Err}
-use Rattle.std.proofs.Common.{Result, refl, sym, ap, ◌∙◌, inl, inr, append_assoc}
-use Rattle.nit_setup.proofs.Stopping.{get_behind, stopped_reading, take_front}
+use Rattle.nit_setup.proofs.Basics.{InnerFiles, IsFirstFault, IsFirstOuterFault}
+use Rattle.nit_setup.proofs.Basics.{IsClientFault, IsConfig, IsConfigFault}
+use Rattle.nit_setup.proofs.Basics.{IsConfiguration, IsInputFault, IsLoaded, IsOuterFault}
+use Rattle.nit_setup.proofs.Basics.{IsOuterLoaded, IsOuterSetupFault, IsSetupFault, IsSetupOf}
+use Rattle.nit_setup.proofs.Basics.{IsValid, Judged, Line, Loaded, MayShowFrames, Nested, NoFile}
+use Rattle.nit_setup.proofs.Basics.{OuterFiles, OuterRunRead, ReadsTo, Refused, Region, Run}
+use Rattle.nit_setup.proofs.Basics.{RunFiles, RunRead, Setup, SetupRead, SpellScripts, Stop}
+use Rattle.nit_setup.proofs.Basics.{StopName, StoppedAt, StoppedReading, StoreModel, append-nil}
+use Rattle.nit_setup.proofs.Basics.{asking_all, asking_both, asking_none, bytes_of, files_in}
+use Rattle.nit_setup.proofs.Basics.{first_names, name_text, names_in, names_read, next_name, phases}
+use Rattle.nit_setup.proofs.Basics.{reads, script_names, setup_in, slice_get, wanted_by, with_asked}
+use Rattle.std.proofs.Common.{Bool, Err, List, None, Ok, Result, Some, [], ap, append_assoc, false}
+use Rattle.std.proofs.Common.{inl, inr, length, refl, sym, true, ℕ, ◌++◌, ◌∙◌, ◌∷◌, ◌≡◌}
 use Rattle.nit_setup.specs.declared.stop.StopName.TheVariants as file_name
 
 -- A command reads the configuration of this name behind these files, and then its scripts, which are to stand rightly
@@ -59,8 +61,8 @@ module _ {Right : List (List Line) → Type 0} {Refuses : List ℕ → List File
       → script_names config ≡ before ++ rest → rest ++ config.input ∷ [] ≡ n ∷ behind
       → length scripts ≡ length before → AllByRecursion (AreLines FitsLine) scripts → Right scripts
       → IfSome mid.files (λ files. SpellScripts files before scripts) → (Faulty : List ℕ → Fault → Type 0)
-      → ((files : List File) (f : Fault) → IsConfig (bytes_of name files) config → SpellScripts files before scripts
-      → Faulty (bytes_of n files) f → Refuses name files n f)
+      → ((files : List File) (f : Fault) → IsConfig (bytes_of name files) config
+      → SpellScripts files before scripts × Right scripts → Faulty (bytes_of n files) f → Refuses name files n f)
       → (now : StoreModel) → now ≡ asking_all mid before → name_text c stop.name ≡ n
       → StoppedAt Faulty now n new stop.end → StoppedReading c old new stop
   stopped_behind config mid is before rest n behind scripts parts next count lines right spelled Faulty refuses now
@@ -76,18 +78,18 @@ module _ {Right : List (List Line) → Type 0} {Refuses : List ℕ → List File
       ∙ rw (parts, append_assoc before rest (config.input ∷ []), next) (get_behind before n behind scripts count))
       Faulty new
       (λ f p. r.refused n f (both_told old.files (both_of old.files _ _ is.valid told) p
-      (λ files v q. refuses files f v.0 v.1 q)))
+      (λ files v q. refuses files f v.0 (v.1, right) q)))
       now stop (here ∙ ap (asking_all old) (rw names at (r.further_names config scripts))) named h
 
 -- ---- where all was read
 
 -- all names were asked for
-pub whole_asked : (old : StoreModel) (front : List (List ℕ)) (name : List ℕ) (config : Configuration)
-    {mid between now : StoreModel} → mid ≡ with_asked (asking_all old front) name
+whole_asked : (old : StoreModel) (front : List (List ℕ)) (name : List ℕ) (config : Configuration)
+    {start mid between now : StoreModel} → start ≡ asking_all old front → mid ≡ with_asked start name
     → between ≡ asking_all mid (script_names config) → now ≡ with_asked between config.input
     → now ≡ asking_all old (front ++ name ∷ names_in config)
-whole_asked old front name config at_config at_scripts at_input =
-    rw (at_input, at_scripts, at_config)
+whole_asked old front name config at_start at_config at_scripts at_input =
+    rw (at_input, at_scripts, at_config, at_start)
     (asking_both (with_asked (asking_all old front) name) (script_names config) (config.input ∷ [])
     ∙ asking_both (asking_all old front) (name ∷ []) (names_in config)
     ∙ asking_both old front (name ∷ names_in config))
@@ -101,50 +103,35 @@ ReadsOne = ReadsRun HaveSamePhases IsSetupFault
 run_stopped : {c : Command} {old new : StoreModel} {name : List ℕ} {front : List (List ℕ)} {stop : Stop}
     → ReadsOne c old name front → (said : StopName) → name_text c said ≡ name
     → IsLoaded name said (asking_all old front) new (Err stop) → StoppedReading c old new stop
-run_stopped {c = c} {old = old} {new = new} {name = name} {front = front} {stop = stop} r said is (inl (at, h)) =
-    config_stopped c old name front r new stop (λ files f q. inl (refl, q)) (ap (name_text c) at ∙ is) h
-run_stopped {c = c} {old = old} {new = new} {name = name} {front = front} {stop = stop} r said is
-    (inr (config, mid, read, inl a)) =
-    stopped_behind c old name front r new stop config mid read a.before (a.name ∷ a.behind) a.name
-    (a.behind ++ config.input ∷ []) a.scripts a.parts refl a.count a.lines a.phases
+run_stopped {c = c} r said is (inl (at, h)) =
+    config_stopped c _ _ _ r _ _ (λ files f q. inl (refl, q)) (ap (name_text c) at ∙ is) h
+run_stopped {c = c} r said is (inr (config, mid, read, inl a)) =
+    stopped_behind c _ _ _ r _ _ config mid read a.before _ a.name _ a.scripts a.parts refl a.count a.lines a.phases
     (IfSome_then mid.files a.valid (λ files v. v.0)) (IsClientFault (wanted_by a.scripts))
-    (λ files f v w q. inr (
-      config,
-      v,
-      inl (record {
-        before = a.before;
-        behind = a.behind;
-        parts = a.parts;
-        scripts = a.scripts;
-        valid = (w, a.phases);
-        fault = q;
-      }),
-    ))
+    (λ files f v w q.
+    let first : IsFirstFault files (script_names config) a.name f =
+    record { before = a.before; behind = a.behind; parts = a.parts; scripts = a.scripts; valid = w; fault = q } in
+    inr (config, v, inl first))
     (asking_all mid a.before) refl (a.named c) a.stopped
-run_stopped {c = c} {old = old} {new = new} {name = name} {front = front} {stop = stop} r said is
-    (inr (config, mid, read, inr s)) =
+run_stopped {c = c} r said is (inr (config, mid, read, inr s)) =
     let far = s.clients in
-    stopped_behind c old name front r new stop config mid read (script_names config) [] config.input [] s.scripts
+    stopped_behind c _ _ _ r _ _ config mid read (script_names config) [] config.input [] s.scripts
     (sym (append-nil (script_names config))) refl far.count far.lines far.phases far.valid
     (IsInputFault (wanted_by s.scripts))
-    (λ files f v w q. inr (
-      config,
-      v,
-      inr (record { scripts = s.scripts; valid = (w, far.phases); name_is = refl; fault = q }),
-    ))
+    (λ files f v w q. inr (config, v, inr (record { scripts = s.scripts; valid = w; name_is = refl; fault = q })))
     s.between far.asked (s.named c) s.stopped
 
-module _ (old : StoreModel) (name : List ℕ) (front : List (List ℕ)) (l : Loaded) (new : StoreModel)
-    (h : RunRead name (asking_all old front) l new) where
-  run_asked : new ≡ asking_all old (front ++ name ∷ names_in l.config)
-  run_asked = whole_asked old front name l.config h.config.asked h.scripts.clients.asked h.scripts.asked
+module _ (old : StoreModel) (front : List (List ℕ)) {mid new : StoreModel} {name : List ℕ} {l : Loaded}
+    (asked : mid ≡ asking_all old front) (h : RunRead name mid l new) where
+  pub run_asked : new ≡ asking_all old (front ++ name ∷ names_in l.config)
+  run_asked = whole_asked old front name l.config asked h.config.asked h.scripts.clients.asked h.scripts.asked
 
-  run_valid : (beside : Bool) → AreAllScripts name old.files (setup_in l beside)
+  pub run_valid : (beside : Bool) → AreAllScripts name old.files (setup_in l beside)
   run_valid beside = let far = h.scripts.clients in record {
     runnable = h.runnable beside;
     valid = both_told old.files
-        (both_of old.files _ _ h.config.valid (rw h.config.asked at far.valid))
-        (rw (far.asked, h.config.asked) at h.scripts.valid)
+        (both_of old.files _ _ (rw asked at h.config.valid) (rw (h.config.asked, asked) at far.valid))
+        (rw (far.asked, h.config.asked, asked) at h.scripts.valid)
         (λ files v q. (v.0, record { scripts = (v.1, far.phases); input = q }));
   }
 
@@ -185,16 +172,6 @@ pub stopped_first : {c : Command} {old new : StoreModel} {name : List ℕ} {stop
     → StoppedReading c old new stop
 stopped_first {old = old} r is h = run_stopped r file_name.First is (rw (asking_none old) at h)
 
-pub first_asked : {old new : StoreModel} {name : List ℕ} {l : Loaded} → RunRead name old l new
-    → new ≡ asking_all old (name ∷ names_in l.config)
-first_asked {old = old} {new = new} {name = name} {l = l} h =
-    run_asked old name [] l new (rw (asking_none old) at h)
-
-pub first_valid : {old new : StoreModel} {name : List ℕ} {l : Loaded} → RunRead name old l new
-    → (beside : Bool) → AreAllScripts name old.files (setup_in l beside)
-first_valid {old = old} {new = new} {name = name} {l = l} h =
-    run_valid old name [] l new (rw (asking_none old) at h)
-
 -- all files of a command were read that reads no others
 first_read : (c : Command) (old : StoreModel) (name : List ℕ) (beside : Bool) → ReadsOne c old name []
     → name_text c file_name.First ≡ name → ((s : Setup) → name ∷ names_in s.config ≡ reads c s)
@@ -204,14 +181,10 @@ first_read : (c : Command) (old : StoreModel) (name : List ℕ) (beside : Bool) 
     → (new : StoreModel) (r : Result Loaded Stop) → IsLoaded name file_name.First old new r
     → SetupRead c beside old new r
 first_read c old name beside reads_one is names of_command valid new (Ok l) h =
-    let all = first_valid h beside in
+    let all = run_valid old [] (asking_none old) h beside in
     record {
-      asked = first_asked h ∙ ap (asking_all old) (names (setup_in l beside));
-      valid = record {
-        runnable = all.runnable;
-        of_command = of_command l;
-        valid = IfSome_then old.files all.valid (valid l);
-      };
+      asked = run_asked old [] (asking_none old) h ∙ ap (asking_all old) (names (setup_in l beside));
+      valid = assumption (of_command l, IfSome_then old.files all.valid (valid l), all);
     }
 first_read c old name beside reads_one is names of_command valid new (Err stop) h = stopped_first reads_one is h
 
@@ -254,10 +227,65 @@ module _ (outer inner : List ℕ) (old : StoreModel) (o : RunFiles) (all : AreAl
 
   pub inner_whole : (i : Loaded) → RunRead inner mid i new
       → ReadsTo (Nested outer inner) old (BothFiles o (files_in i)) new
-  inner_whole i h =
-      let whole = rw asked at h in
-      let front = outer ∷ names_in o.config in
-      record {
-        asked = run_asked old inner front i new whole;
-        valid = (all, run_valid old inner front i new whole false);
-      }
+  inner_whole i h = record {
+    asked = run_asked old (outer ∷ names_in o.config) asked h;
+    valid = (all, run_valid old (outer ∷ names_in o.config) asked h false);
+  }
+
+-- ---- the outer files of two configurations, read one after the other
+
+reads_outer : (outer inner : List ℕ) (old : StoreModel)
+    → ReadsRun MayShowFrames IsOuterSetupFault (Nested outer inner) old outer []
+reads_outer outer inner old = record {
+  start = NoFile;
+  start_read = tt;
+  start_names = refl;
+  start_next = refl;
+  further = FirstFiles;
+  further_read = λ config scripts configured lines may valid.
+      record { configured = configured; lines = lines; may = may; valid = valid };
+  further_names = λ config scripts. refl;
+  further_next = λ config scripts. refl;
+  refused = λ n f p. IfSome_then old.files p (λ files q. inl q);
+}
+
+module _ (outer inner : List ℕ) (old new : StoreModel) (stop : Stop) where
+  abbrev nest : Command
+  nest = Nested outer inner
+
+  -- the outer configuration or one of its scripts was not read, or is refused
+  pub outer_stopped : IsOuterLoaded outer old new (Err stop) → StoppedReading nest old new stop
+  outer_stopped (inl (at, h)) =
+      config_stopped nest old outer [] (reads_outer outer inner old) new stop (λ files f q. inl (refl, q))
+      (ap (name_text nest) at) (rw (asking_none old) at h)
+  outer_stopped (inr (config, mid, read, inl a)) =
+      stopped_behind nest old outer [] (reads_outer outer inner old) new stop config mid
+      (rw (asking_none old) at read) a.before _ a.name _ a.scripts a.parts refl a.count a.lines a.may
+      (IfSome_then mid.files a.valid (λ files v. v.0)) (IsOuterFault a.scripts)
+      (λ files f v w q.
+      let first : IsFirstOuterFault files (script_names config) a.name f =
+      record { before = a.before; behind = a.behind; parts = a.parts; scripts = a.scripts; valid = w; fault = q } in
+      inr (config, v, inl first))
+      (asking_all mid a.before) refl (a.named nest) a.stopped
+  outer_stopped (inr (config, mid, read, inr s)) =
+      let far = s.clients in
+      stopped_behind nest old outer [] (reads_outer outer inner old) new stop config mid
+      (rw (asking_none old) at read) (script_names config) [] config.input [] s.scripts
+      (sym (append-nil (script_names config))) refl far.count far.lines far.may far.valid
+      (IsInputFault None)
+      (λ files f v w q. inr (config, v, inr (record { scripts = s.scripts; valid = w; name_is = refl; fault = q })))
+      s.between far.asked (s.named nest) s.stopped
+
+-- what was read, where all outer files are valid
+pub outer_whole : {outer : List ℕ} {old new : StoreModel} {l : Loaded} → OuterRunRead outer old l new
+    → (new ≡ asking_all old (outer ∷ names_in l.config)) × AreAllOuterFiles outer old.files (files_in l)
+outer_whole {outer = outer} {old = old} {l = l} h = let far = h.scripts.clients in (
+  whole_asked old [] outer l.config (asking_none old) h.config.asked far.asked h.scripts.asked,
+  record {
+    is_outer = h.is_outer;
+    valid = both_told old.files
+        (both_of old.files _ _ h.config.valid (rw h.config.asked at far.valid))
+        (rw (far.asked, h.config.asked) at h.scripts.valid)
+        (λ files v q. record { config = v.0; scripts = (v.1, far.may); input = q });
+  },
+)

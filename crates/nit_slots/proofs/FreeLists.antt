@@ -1,43 +1,35 @@
 -- The free slots of a list, and the taken ones beside them.
 use Rattle.std.proofs.Common.{List, Some, [], ap, arith, false, get_or, length, length-append, not}
-use Rattle.std.proofs.Common.{refl, suc, sym, true, zero, ℕ, ◌++◌, ◌+◌, ◌<◌, ◌==◌, ◌||◌, ◌∙◌, ◌∷◌}
-use Rattle.std.proofs.Common.{◌≡◌, ◌≢◌}
+use Rattle.std.proofs.Common.{refl, suc, sym, true, zero, ℕ, ◌++◌, ◌+◌, ◌<◌, ◌==◌, ◌∷◌, ◌≡◌, ◌≢◌}
 use Rattle.nit_slots.proofs.Basics.{All-filter, All-pop, All-push, AreSlots, Differ, IsFreeList}
-use Rattle.nit_slots.proofs.Basics.{IsStrictlyIncreasing-filter, both_ways, eq-eqb, eqb-false}
+use Rattle.nit_slots.proofs.Basics.{IsStrictlyIncreasing-filter, both_ways, eq-eqb}
 use Rattle.nit_slots.proofs.Basics.{false_from_ne_true, get_or-range_with_len, is_among}
-use Rattle.nit_slots.proofs.Basics.{length-range_with_len, list_any-append, list_any_at, ne_eqb}
-use Rattle.nit_slots.proofs.Basics.{not-true, or_from, or_parts, or_right, range_with_len}
-use Rattle.nit_slots.proofs.Basics.{taken_beside, with_slot, without_slot}
-use Rattle.nit_slots.proofs.Ranges.{filter_with, filter_without, length-with_slot, among_range}
+use Rattle.nit_slots.proofs.Basics.{length-range_with_len, list_any-append, list_any_at, nat_tests}
+use Rattle.nit_slots.proofs.Basics.{not-true, range_with_len, taken_beside, with_slot, without_slot}
+use Rattle.nit_slots.proofs.Ranges.{among_range, filter_with, filter_without, length-with_slot}
 use Rattle.nit_slots.proofs.Ranges.{none_passes, range_below, range_rises}
 
 -- a slot at the end of a list makes no difference for the others
 among_push : (free : List ℕ) (k j : ℕ) → j ≢ k → is_among (free ++ k ∷ []) j ≡ is_among free j
-among_push [] k j ne = rw (ne_eqb k j (λ e. ne (sym e))) refl
-among_push (x ∷ free) k j ne = ap (λ b. (x == j) || b) (among_push free k j ne)
+among_push free k j ne = grind (arith, nat_tests, list_any-append (λ s. s == j) free (k ∷ []))
 
 -- the last slot of a list is among them
 among_last : (free : List ℕ) (k : ℕ) → is_among (free ++ k ∷ []) k ≡ true
-among_last [] k = rw (eq-eqb k k refl) refl
-among_last (x ∷ free) k = or_right (x == k) (is_among (free ++ k ∷ []) k) (among_last free k)
+among_last free k = grind (arith, nat_tests, list_any-append (λ s. s == k) free (k ∷ []))
 
 -- one slot more, which was not among them
 Differ-push : (free : List ℕ) (k : ℕ) → Differ free → is_among free k ≡ false → Differ (free ++ k ∷ [])
 Differ-push [] k d h = (refl, tt)
 Differ-push (x ∷ free) k d h =
-    let parts = or_parts (x == k) (is_among free k) h in
-    let apart : x ≢ k = eqb-false x k parts.0 in
-    (among_push free k x apart ∙ d.0, Differ-push free k d.1 parts.1)
+    let rest = Differ-push free k d.1 in
+    grind (arith, nat_tests, list_any-append (λ s. s == x) free (k ∷ []))
 
 -- the last slot of a list stands nowhere before
 Differ-front : (free : List ℕ) (k : ℕ) → Differ (free ++ k ∷ []) → Differ free × (is_among free k ≡ false)
 Differ-front [] k d = (tt, refl)
 Differ-front (x ∷ free) k d =
-    let split = or_parts (is_among free x) ((k == x) || false) (sym (list_any-append (λ s. s == x) free (k ∷ []))
-    ∙ d.0) in
     let rest = Differ-front free k d.1 in
-    let apart : k ≢ x = eqb-false k x (or_parts (k == x) false split.1).0 in
-    ((split.0, rest.0), or_from (x == k) (is_among free k) (ne_eqb x k (λ e. apart (sym e))) rest.1)
+    grind (arith, nat_tests, list_any-append (λ s. s == x) free (k ∷ []))
 
 -- when a free slot is taken, it joins the taken ones
 pub taken_more : (free : List ℕ) (k total : ℕ) → k < total → is_among free k ≡ false
@@ -113,8 +105,7 @@ occupied free total = record {
 -- a slot below a range is not among it
 among_above : (k a n : ℕ) → k < a → is_among (range_with_len a n) k ≡ false
 among_above k a zero l = refl
-among_above k a (suc n) l = or_from (a == k) (is_among (range_with_len (a + 1) n) k) (ne_eqb a k (λ e. omega arith))
-    (among_above k (a + 1) n (omega arith))
+among_above k a (suc n) l = grind (arith, nat_tests, among_above k (a + 1) n)
 
 -- the slots of a range are different
 range_differs : (a n : ℕ) → Differ (range_with_len a n)
@@ -125,10 +116,9 @@ range_differs a (suc n) = (among_above a (a + 1) n (omega arith), range_differs 
 pub all_free : (total : ℕ) → taken_beside (range_with_len 0 total) total ≡ []
 all_free total =
     none_passes (λ j. not (is_among (range_with_len 0 total) j)) 0 total (λ j low high.
-    let within : j < length (range_with_len 0 total) = omega (arith, length-range_with_len 0 total) in
     let at : get_or (range_with_len 0 total) j 0 ≡ j = omega (arith, get_or-range_with_len 0 total j 0 (omega arith)) in
-    ap not (list_any_at (λ s. s == j) (range_with_len 0 total) j 0 within
-    (eq-eqb (get_or (range_with_len 0 total) j 0) j at)))
+    ap not (list_any_at (λ s. s == j) (range_with_len 0 total) j 0 (omega (arith, length-range_with_len 0 total))
+    (eq-eqb _ j at)))
 
 -- all slots together are a list of free ones
 pub free_at_first : (total : ℕ) → IsFreeList (range_with_len 0 total) total

@@ -1,11 +1,11 @@
 -- Lists of pairs of a handle and a slot, along which the handles rise.
 use Rattle.std.proofs.Common.{All, Bool, IfSome, IsNone, List, None, Option, Some, [], ap, arith}
-use Rattle.std.proofs.Common.{cond, false, filter, find, get_or, is_some, length, not, option_map}
-use Rattle.std.proofs.Common.{refl, rules, slice_get, suc, sym, true, zero, ℕ, ◌++◌, ◌+◌, ◌-◌, ◌<◌}
-use Rattle.std.proofs.Common.{◌==◌, ◌||◌, ◌∙◌, ◌∷◌, ◌≡◌, ◌≢◌, ◌≤◌}
-use Rattle.nit_slots.proofs.Basics.{IsTable, Rises, eq-eqb, eqb-true, false≢true, has_handle}
-use Rattle.nit_slots.proofs.Basics.{list_any, list_any_at, ne_eqb, or_from, same_Some}
-use Rattle.nit_slots.proofs.Basics.{slice_get-get_or, slot_of, without_handle}
+use Rattle.std.proofs.Common.{false, filter, get_or, is_some, length, not, option_map, refl, rules}
+use Rattle.std.proofs.Common.{slice_get, suc, sym, true, zero, ℕ, ◌++◌, ◌+◌, ◌-◌, ◌<◌, ◌==◌, ◌∙◌}
+use Rattle.std.proofs.Common.{◌∷◌, ◌≡◌, ◌≤◌}
+use Rattle.nit_slots.proofs.Basics.{IsTable, Rises, cond_both, eq-eqb, has_handle, list_any}
+use Rattle.nit_slots.proofs.Basics.{list_any_at, nat_tests, same_Some, slice_get-get_or, slot_of}
+use Rattle.nit_slots.proofs.Basics.{without_handle}
 
 -- a new pair with the next handle
 pub Rises-push : (low : ℕ) (pairs : List (ℕ × ℕ)) (next slot : ℕ) → Rises low pairs next
@@ -23,39 +23,21 @@ Rises-lower low from (p ∷ pairs) next l h = (omega (arith, h.0), h.1)
 Rises-filter : (test : ℕ × ℕ → Bool) (low : ℕ) (pairs : List (ℕ × ℕ)) (next : ℕ) → Rises low pairs next
     → Rises low (filter test pairs) next
 Rises-filter test low [] next h = h
-Rises-filter test low (p ∷ pairs) next h = go (test p) (Rises-filter test (p.0 + 1) pairs next h.1)
-  where
-    go : (b : Bool) → Rises (p.0 + 1) (filter test pairs) next
-        → Rises low (cond b (p ∷ filter test pairs) (filter test pairs)) next
-    go true r = (h.0, r)
-    go false r = Rises-lower low (p.0 + 1) (filter test pairs) next (omega (arith, h.0)) r
-
--- a search finds something exactly where there is something
-found_any : {A : Type 0} (test : A → Bool) (xs : List A) → is_some (find test xs) ≡ list_any test xs
-found_any test [] = refl
-found_any test (x ∷ xs) = go (test x) (found_any test xs)
-  where
-    go : (b : Bool) → is_some (find test xs) ≡ list_any test xs → is_some (cond b (Some x) (find test xs))
-        ≡ (b || list_any test xs)
-    go true r = refl
-    go false r = r
+Rises-filter test low (p ∷ pairs) next h =
+    let rest = Rises-filter test (p.0 + 1) pairs next h.1 in
+    cond_both (test p) (p ∷ filter test pairs) (filter test pairs) (λ l. Rises low l next) (λ _. (h.0, rest))
+    (λ _. Rises-lower low (p.0 + 1) (filter test pairs) next (omega (arith, h.0)) rest)
 
 -- a slot is found exactly where the handle is held
 slot_held : (pairs : List (ℕ × ℕ)) (h : ℕ) → is_some (slot_of pairs h) ≡ has_handle pairs h
-slot_held pairs h = go (find (λ p. p.0 == h) pairs) (found_any (λ p. p.0 == h) pairs)
-  where
-    go : (o : Option (ℕ × ℕ)) → is_some o ≡ has_handle pairs h → is_some (option_map (λ p. p.1) o) ≡ has_handle pairs h
-    go None e = e
-    go (Some p) e = e
+slot_held [] h = refl
+slot_held (p ∷ pairs) h = grind (arith, slot_held pairs h)
 
 -- no slot is found exactly where the handle is not held
 pub none_held : (pairs : List (ℕ × ℕ)) (h : ℕ) (found : Option ℕ) → found ≡ slot_of pairs h
     → (IsNone found → has_handle pairs h ≡ false) × (has_handle pairs h ≡ false → IsNone found)
-none_held pairs h found e = go found (has_handle pairs h) (ap is_some e ∙ slot_held pairs h)
-  where
-    go : (found : Option ℕ) (b : Bool) → is_some found ≡ b → (IsNone found → b ≡ false) × (b ≡ false → IsNone found)
-    go None b e = (λ _. sym e, λ _. search rules)
-    go (Some x) b e = (λ n. cc, λ h. cc)
+none_held pairs h None e = let not_held = rw (← e) at (slot_held pairs h) in (λ _. sym not_held, λ _. search rules)
+none_held pairs h (Some x) e = let held = rw (← e) at (slot_held pairs h) in (λ none. cc, λ not_held. cc)
 
 -- a handle whose slot is found is held
 pub held_found : (pairs : List (ℕ × ℕ)) (h slot : ℕ) → slot_of pairs h ≡ Some slot → has_handle pairs h ≡ true
@@ -65,27 +47,15 @@ held_found pairs h slot e = sym (slot_held pairs h) ∙ ap is_some e
 without_below : (low : ℕ) (pairs : List (ℕ × ℕ)) (next h : ℕ) → h < low → Rises low pairs next
     → without_handle pairs h ≡ pairs
 without_below low [] next h l r = refl
-without_below low (p ∷ pairs) next h l r =
-    let other : p.0 ≢ h = λ e. omega (arith, r.0) in
-    rw (ne_eqb p.0 h other, without_below (p.0 + 1) pairs next h (omega (arith, r.0)) r.1) refl
+without_below low (p ∷ pairs) next h l r = grind (arith, nat_tests, without_below (p.0 + 1) pairs next h)
 
 -- a handle that is held stands in one pair
 pub length-without_handle : (low : ℕ) (pairs : List (ℕ × ℕ)) (next h : ℕ) → Rises low pairs next
     → has_handle pairs h ≡ true → length (without_handle pairs h) + 1 ≡ length pairs
-length-without_handle low [] next h r held = absurd (false≢true held)
+length-without_handle low [] next h r held = cc
 length-without_handle low (p ∷ pairs) next h r held =
-    go (p.0 == h) refl held (length-without_handle (p.0 + 1) pairs next h r.1)
-  where
-    rest : List (ℕ × ℕ)
-    rest = without_handle pairs h
-
-    go : (b : Bool) → (p.0 == h) ≡ b → (b || has_handle pairs h) ≡ true
-        → (has_handle pairs h ≡ true → length rest + 1 ≡ length pairs)
-        → length (cond (not b) (p ∷ rest) rest) + 1 ≡ length (p ∷ pairs)
-    go true e held more =
-        let at = eqb-true p.0 h e in
-        omega (arith, ap length (without_below (p.0 + 1) pairs next h (omega arith) r.1))
-    go false e held more = omega (arith, more held)
+    let rest = length-without_handle (p.0 + 1) pairs next h r.1 in
+    grind (arith, nat_tests, without_below (p.0 + 1) pairs next h)
 
 -- the next handle is not below the first
 Rises-next : (low : ℕ) (pairs : List (ℕ × ℕ)) (next : ℕ) → Rises low pairs next → low ≤ next
@@ -97,8 +67,7 @@ pub next_not_held : (low : ℕ) (pairs : List (ℕ × ℕ)) (next : ℕ) → Ris
 next_not_held low [] next r = refl
 next_not_held low (p ∷ pairs) next r =
     let below = Rises-next (p.0 + 1) pairs next r.1 in
-    or_from (p.0 == next) (has_handle pairs next) (ne_eqb p.0 next (λ e. omega arith))
-    (next_not_held (p.0 + 1) pairs next r.1)
+    grind (arith, nat_tests, next_not_held (p.0 + 1) pairs next r.1)
 
 -- the table without one of its handles
 pub IsTable-without : (pairs : List (ℕ × ℕ)) (next most h : ℕ)

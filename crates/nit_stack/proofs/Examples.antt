@@ -6,15 +6,8 @@ use Rattle.std.proofs.Common.{negsuc, pos, ℕ, ◌∷◌, ◌≡◌}
 
 -- a view that shows a buffer of 4 by 2 from (-2, -1) on
 abbrev reaching : View
-reaching = record {
-  sid = 0;
-  handle = 1;
-  rect = rectangle (negsuc 1) (negsuc 0) 4 2;
-  ox = pos 0;
-  oy = pos 0;
-  title =
-      [];
-}
+reaching =
+    record { sid = 0; handle = 1; rect = rectangle (negsuc 1) (negsuc 0) 4 2; ox = pos 0; oy = pos 0; title = [] }
 
 abbrev four_by_two : ℕ → Size
 four_by_two s = record { w = 4; h = 2 }

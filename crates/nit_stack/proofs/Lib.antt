@@ -1,16 +1,8 @@
 pub mod Examples
 pub mod Lists
-pub mod Insertions
 pub mod SlotsAndViews
 pub mod StackLemmas
-pub mod StackFieldLemmas
-pub mod ViewPlaces
-pub mod Owners
-pub mod OwnersByName
-pub mod NewStacks
 pub mod SlotsAndNames
-pub mod SlotsAfter
-pub mod NamesAfter
 pub mod ForCallers
 pub mod Basics
 pub mod Lemmas

@@ -1,18 +1,19 @@
 -- What holds of every stack stays so at each change.
 use Rattle.nit_stack.proofs.Basics.{All, All-filter, All-map, All-set, IsBufferSize, IsSlotView}
 use Rattle.nit_stack.proofs.Basics.{IsStack, List, NoPair, Size, SlotView, Some, StackModel, View}
-use Rattle.nit_stack.proofs.Basics.{[], arith, changed, cond_both, falls, false, fresh, get_or}
-use Rattle.nit_stack.proofs.Basics.{get_or-set_other, has_slot, ints, is_named, is_of_session}
-use Rattle.nit_stack.proofs.Basics.{is_slot, layer_of, length, length-set, list_any, map, moved}
-use Rattle.nit_stack.proofs.Basics.{moved_above, nat_tests, on_view, put_above, put_front}
-use Rattle.nit_stack.proofs.Basics.{put_own_back, put_own_front, refl, same_name, same_slot, set}
-use Rattle.nit_stack.proofs.Basics.{slot_layer, slot_view_in, slot_view_layer, sym, true, without}
+use Rattle.nit_stack.proofs.Basics.{[], ap, arith, changed, cond_both, empty_stack, falls, false}
+use Rattle.nit_stack.proofs.Basics.{fresh, get_or, get_or-set_other, has_slot, ints, is_named}
+use Rattle.nit_stack.proofs.Basics.{is_of_session, is_slot, layer_of, length, length-set, list_any}
+use Rattle.nit_stack.proofs.Basics.{map, moved, moved_above, nat_tests, no_size, on_view, put_above}
+use Rattle.nit_stack.proofs.Basics.{put_front, put_own_back, put_own_front, refl, replicate}
+use Rattle.nit_stack.proofs.Basics.{same_name, same_slot, set, size, slot_layer, slot_view_in}
+use Rattle.nit_stack.proofs.Basics.{slot_view_layer, stack_model, suc, sym, true, without, zero}
 use Rattle.nit_stack.proofs.Basics.{◌∙◌}
 use Rattle.std.proofs.Common.{if◌then◌else◌, ℕ, ◌<◌, ◌==◌, ◌∷◌, ◌≡◌, ◌≤◌}
-use Rattle.nit_stack.proofs.Insertions.{NoPair-above, NoPair-back, NoPair-filter, NoPair-front}
-use Rattle.nit_stack.proofs.Insertions.{NoPair-map, NoPair-put, Put, Put-above, Put-back, Put-front}
-use Rattle.nit_stack.proofs.Insertions.{moved_found, others_apart}
-use Rattle.nit_stack.proofs.Lists.{All-insert, find-without, found_some, list_any-map}
+use Rattle.nit_stack.proofs.Lists.{All-insert, NoPair-above, NoPair-back, NoPair-filter}
+use Rattle.nit_stack.proofs.Lists.{NoPair-front, NoPair-map, NoPair-put, Put, Put-above, Put-back}
+use Rattle.nit_stack.proofs.Lists.{Put-front, find-without, found_some, list_any-map, moved_found}
+use Rattle.nit_stack.proofs.Lists.{others_apart}
 use Rattle.nit_stack.proofs.SlotsAndViews.{name_both, seat_sound, slot_both}
 
 kept : (s : StackModel) (views : List SlotView) → IsStack s → NoPair same_slot views → NoPair same_name views
@@ -28,11 +29,9 @@ kept_put : (s : StackModel) (a : SlotView) (others views : List SlotView) → Is
 kept_put s a others views h put slot name layered it =
     let sound = IsSlotView s.most (length s.sizes) in
     let seats : All sound views = rw put.is (All-insert sound others put.at a it h.seats) in
-    assumption (
-      NoPair-put same_slot slot_both a others views put slot h.slots,
-      NoPair-put same_name name_both a others views put name h.names,
-      h,
-    )
+    let slots = NoPair-put same_slot slot_both a others views put slot h.slots in
+    let names = NoPair-put same_name name_both a others views put name h.names in
+    assumption (slots, names, h)
 
 pub keeps_push : (s : StackModel) (k sid handle : ℕ) → IsStack s → k < s.most → has_slot k s.views ≡ false
     → sid < length s.sizes → list_any (is_named sid handle) s.views ≡ false
@@ -130,9 +129,15 @@ keeps_layer s sid layer h without_view low =
     let numbers : NoPair (falls (λ n. n)) (map now s.views) =
     rw (same_layers s.layers sid layer s.views without_view)
     (NoPair-map (falls before) (falls (λ n. n)) before (λ a b. refl) s.views h.layered) in
-    assumption (
-      from_numbers now s.views numbers,
-      All-set (λ l. l ≤ 7) s.layers sid layer low h.layers,
-      rw (← length-set s.layers sid layer) at h.sessions,
-      h,
-    )
+    let each = All-set (λ l. l ≤ 7) s.layers sid layer low h.layers in
+    assumption (from_numbers now s.views numbers, each, rw (← length-set s.layers sid layer) at h.sessions, h)
+
+sizes_are : (n : ℕ) → map size (replicate n (0, 0)) ≡ replicate n no_size
+sizes_are zero = refl
+sizes_are (suc n) = ap (λ l. no_size ∷ l) (sizes_are n)
+
+pub opened_as : (order : List ℕ) (slots : List View) (sizes : List (ℕ × ℕ)) (layers : List ℕ) (w h sessions most : ℕ)
+    → order ≡ [] → length slots ≡ most → sizes ≡ replicate sessions (0, 0) → layers ≡ replicate sessions 0
+    → stack_model order slots sizes layers w h 0 ≡ empty_stack w h sessions most
+opened_as order slots sizes layers w h sessions most none room no_sizes no_layers =
+    rw (none, room, no_sizes, no_layers, sizes_are sessions) refl

@@ -14,79 +14,74 @@ pub use Rattle.nit_run.proofs.ForCallers.{other_letter, shots_apart_all, shots_b
 pub use Rattle.nit_run.proofs.ForCallers.{texts_other}
 pub use Rattle.nit_setup.proofs.ForCallers.{all_so, all_wanted, by_length, codes_agree}
 pub use Rattle.nit_setup.proofs.ForCallers.{journal_stopped, one_wanted, other_phases, other_short}
-pub use Rattle.nit_setup.proofs.ForCallers.{told_so, told_so_both, valid_not_refused}
-pub use Rattle.nit_store.proofs.ForCallers.{puts_more, saying-nil, saying-saying}
+pub use Rattle.nit_setup.proofs.ForCallers.{told_so_both, valid_not_refused}
+pub use Rattle.nit_store.proofs.ForCallers.{puts_more, saying-saying}
 pub use Rattle.nit_top.specs.Terms.{ActorLine, AgreeInRegion, All, AllAgreeInRegion, AllByRecursion}
 pub use Rattle.nit_top.specs.Terms.{AllFiles, AllScripts, AllZip, Answer, AreAdded, AreAllFiles}
 pub use Rattle.nit_top.specs.Terms.{AreAllOuterFiles, AreAllScripts, AreAudited, AreLines}
-pub use Rattle.nit_top.specs.Terms.{AreOuterFiles, AreOutputs, AreSetup, AreShots, AreStored}
-pub use Rattle.nit_top.specs.Terms.{AreTexts, Asked, Audit, AuditOr, Bad, Bare, Begun, Black}
-pub use Rattle.nit_top.specs.Terms.{BothFiles, Buffer, ByClient, ByUser, Call, Calls, Came, CanPay}
-pub use Rattle.nit_top.specs.Terms.{Capture, Clip, ClipLine, Close, Command, Configuration}
-pub use Rattle.nit_top.specs.Terms.{Contains, Counts, Course, Drawing, End, Ended, Ends, Entry}
-pub use Rattle.nit_top.specs.Terms.{Event, Fault, File, FilesRead, Finished, FirstFiles, FirstShows}
-pub use Rattle.nit_top.specs.Terms.{FitsInputLine, FitsLine, Gen, Gets, HasDifferentNames}
-pub use Rattle.nit_top.specs.Terms.{HasFilmed, HasPixels, HasRead, HasRun, HasRunClips}
+pub use Rattle.nit_top.specs.Terms.{AreOutputs, AreShots, AreStored, AreTexts, Asked, Audit}
+pub use Rattle.nit_top.specs.Terms.{AuditOr, Bad, Begun, BothFiles, Buffer, ByClient, ByUser, Call}
+pub use Rattle.nit_top.specs.Terms.{Calls, Came, CanPay, Capture, Clip, Close, Command}
+pub use Rattle.nit_top.specs.Terms.{Configuration, Contains, Counts, Course, Drawing, End, Ended}
+pub use Rattle.nit_top.specs.Terms.{Ends, Entry, Event, Fault, File, FilesRead, Finished}
+pub use Rattle.nit_top.specs.Terms.{FirstShows, FitsInputLine, FitsLine, Gen, Gets}
+pub use Rattle.nit_top.specs.Terms.{HasDifferentNames, HasFilmed, HasPixels, HasRead, HasRun}
 pub use Rattle.nit_top.specs.Terms.{HasValidFiles, HaveOneScreen, HaveSameEvents, Headline}
-pub use Rattle.nit_top.specs.Terms.{HoldsAtEnd, IfNone, IfSome, InnerFiles, InputLine}
-pub use Rattle.nit_top.specs.Terms.{IsAfterNested, IsAfterRun, IsAudit, IsAuditEnd, IsAudited}
-pub use Rattle.nit_top.specs.Terms.{IsBothRead, IsCommandRun, IsConfiguration, IsCutShort, IsEarly}
-pub use Rattle.nit_top.specs.Terms.{IsInnerEnd, IsInnerJournal, IsJournal, IsJournalFault}
-pub use Rattle.nit_top.specs.Terms.{IsJournalText, IsLastRead, IsLegal, IsMadeBefore, IsMadeInPart}
-pub use Rattle.nit_top.specs.Terms.{IsMadeUpTo, IsNearPicture, IsNotBegun, IsOuter, IsOutside}
-pub use Rattle.nit_top.specs.Terms.{IsPicture, IsPutBefore, IsPutWhole, IsRefusedAt, IsRefusedWith}
-pub use Rattle.nit_top.specs.Terms.{IsRunnable, IsSameClient, IsSetupOf, IsSomeAnd, IsTrue, IsValid}
-pub use Rattle.nit_top.specs.Terms.{IsValidSo, Item, Judged, LiesIn, Line, LineTurn, Loaded}
-pub use Rattle.nit_top.specs.Terms.{MayCome, MayShowFrames, Member, NestError, NestModel, Nested}
-pub use Rattle.nit_top.specs.Terms.{NestsRun, NoCommand, NoFault, NoFile, NoMemory, NotBegun}
-pub use Rattle.nit_top.specs.Terms.{Observation, OuterFiles, Performed, PerformedClips}
-pub use Rattle.nit_top.specs.Terms.{PerformedFilmed, PerformedNested, Phases, PixelSource, Point}
-pub use Rattle.nit_top.specs.Terms.{PutEach, PutError, PutFault, PutFiles, PutState, PutsAll}
-pub use Rattle.nit_top.specs.Terms.{PutsNext, Ran, ReadsClient, Rectangle, Refused, Region, Reply}
-pub use Rattle.nit_top.specs.Terms.{Rose, Run, RunFiles, SayingRefused, Says, SaysLine, Session}
-pub use Rattle.nit_top.specs.Terms.{Setup, ShotFrame, Shows, ShowsFrames, ShowsNest, Size, Stand}
-pub use Rattle.nit_top.specs.Terms.{StandIn, State, Status, Still, Stop, StopName, StoppedAt}
-pub use Rattle.nit_top.specs.Terms.{StoppedBy, StoppedReading, StoreModel, Take, TooLong, Totals}
-pub use Rattle.nit_top.specs.Terms.{View, WithRun, WithoutRun, Word, Worked, accepted, after}
-pub use Rattle.nit_top.specs.Terms.{after_observations, after_turn, alone_machine, among}
-pub use Rattle.nit_top.specs.Terms.{asked_also, asking_all, asks_for, audited_line, begun_of}
-pub use Rattle.nit_top.specs.Terms.{black_or_word, buffer_place, buffer_size, by_call, by_life}
-pub use Rattle.nit_top.specs.Terms.{by_refusal, by_status, by_turns, bytes_of, calls_in, calls_of}
-pub use Rattle.nit_top.specs.Terms.{calls_to_make, client_script, client_text, clip_name}
-pub use Rattle.nit_top.specs.Terms.{clips_setup_of, code_of, codes, command, command_of, count_by}
+pub use Rattle.nit_top.specs.Terms.{HoldsAtEnd, IfNone, IfSome, InputLine, IsAfterNested}
+pub use Rattle.nit_top.specs.Terms.{IsAfterRun, IsAudit, IsAuditEnd, IsAudited, IsBothRead}
+pub use Rattle.nit_top.specs.Terms.{IsCommandRun, IsConfiguration, IsCutShort, IsEarly, IsInnerEnd}
+pub use Rattle.nit_top.specs.Terms.{IsInnerJournal, IsJournal, IsJournalFault, IsJournalText}
+pub use Rattle.nit_top.specs.Terms.{IsLastRead, IsLegal, IsMadeBefore, IsMadeInPart, IsMadeUpTo}
+pub use Rattle.nit_top.specs.Terms.{IsNearPicture, IsNotBegun, IsOuter, IsOutside, IsPicture}
+pub use Rattle.nit_top.specs.Terms.{IsPutBefore, IsPutWhole, IsRefusedAt, IsRefusedWith, IsRunnable}
+pub use Rattle.nit_top.specs.Terms.{IsSameClient, IsSetupOf, IsSomeAnd, IsTrue, IsValid, IsValidSo}
+pub use Rattle.nit_top.specs.Terms.{Item, Judged, LiesIn, Line, LineTurn, MayCome, MayShowFrames}
+pub use Rattle.nit_top.specs.Terms.{Member, NestError, NestModel, Nested, NestsRun, NoCommand}
+pub use Rattle.nit_top.specs.Terms.{NoFault, NoFile, NoMemory, NotBegun, Observation, Performed}
+pub use Rattle.nit_top.specs.Terms.{PerformedClips, PerformedFilmed, PerformedNested, Phases}
+pub use Rattle.nit_top.specs.Terms.{PixelSource, Point, PutEach, PutError, PutFault, PutFiles}
+pub use Rattle.nit_top.specs.Terms.{PutRefusal, PutState, PutsAll, PutsNext, Ran, ReadsClient}
+pub use Rattle.nit_top.specs.Terms.{Rectangle, Refused, Region, Reply, Rose, RunFiles}
+pub use Rattle.nit_top.specs.Terms.{SayingRefused, Says, SaysLine, Session, Setup, ShotFrame, Shows}
+pub use Rattle.nit_top.specs.Terms.{ShowsFrames, ShowsNest, Size, Stand, StandIn, State, Status}
+pub use Rattle.nit_top.specs.Terms.{Still, Stop, StopName, StoppedAt, StoppedBy, StoppedReading}
+pub use Rattle.nit_top.specs.Terms.{StoreModel, Take, TooLong, Totals, View, WithRun, WithoutRun}
+pub use Rattle.nit_top.specs.Terms.{Word, Worked, accepted, after, after_observations, after_turn}
+pub use Rattle.nit_top.specs.Terms.{alone_machine, among, asked_also, asking_all, asks_for}
+pub use Rattle.nit_top.specs.Terms.{audited_line, begun_of, black_or_word, buffer_place}
+pub use Rattle.nit_top.specs.Terms.{buffer_size, by_call, by_life, by_refusal, by_status, by_turns}
+pub use Rattle.nit_top.specs.Terms.{bytes_of, calls_in, calls_of, calls_to_make, client_script}
+pub use Rattle.nit_top.specs.Terms.{client_text, code_of, codes, command, command_of, count_by}
 pub use Rattle.nit_top.specs.Terms.{crop, crop_pixel, decimal, donation_of, done, drawn_shot}
 pub use Rattle.nit_top.specs.Terms.{end_of_nest, end_of_put, end_of_run, ending_of, ending_text}
 pub use Rattle.nit_top.specs.Terms.{event_spelling, events_among, events_file, events_files}
-pub use Rattle.nit_top.specs.Terms.{events_name, events_text, false, fault_code, file_at}
-pub use Rattle.nit_top.specs.Terms.{file_names, files_in, film_name, film_of, final_name}
-pub use Rattle.nit_top.specs.Terms.{final_picture, first_capture, first_forbidden, first_other}
-pub use Rattle.nit_top.specs.Terms.{first_session, first_state, flat_map, frame_of, frames_behind}
-pub use Rattle.nit_top.specs.Terms.{frames_of, generated_files, generated_line, generated_setup}
-pub use Rattle.nit_top.specs.Terms.{idle_user, index_at, inner_journal_name, input_phases}
-pub use Rattle.nit_top.specs.Terms.{is_accepted, is_off_screen, is_outside_of, is_shot_line}
-pub use Rattle.nit_top.specs.Terms.{is_some, is_too_long, journal_file, journal_text, label_text}
+pub use Rattle.nit_top.specs.Terms.{events_name, false, fault_code, file_at, file_names, files_in}
+pub use Rattle.nit_top.specs.Terms.{film_name, film_of, final_name, final_picture, first_capture}
+pub use Rattle.nit_top.specs.Terms.{first_forbidden, first_other, first_session, first_state}
+pub use Rattle.nit_top.specs.Terms.{flat_map, frame_of, frames_behind, frames_of, generated_files}
+pub use Rattle.nit_top.specs.Terms.{generated_line, generated_setup, idle_user, index_at}
+pub use Rattle.nit_top.specs.Terms.{inner_journal_name, input_phases, is_accepted, is_outside_of}
+pub use Rattle.nit_top.specs.Terms.{is_shot_line, is_some, is_too_long, journal_file, journal_text}
 pub use Rattle.nit_top.specs.Terms.{last_frame, line_of, line_on, lines_of_frames, list_any}
 pub use Rattle.nit_top.specs.Terms.{made_by, member, misfit, name_text, names_in, names_read}
 pub use Rattle.nit_top.specs.Terms.{nest_of, nest_script, nested_setup, next_frame, next_name}
-pub use Rattle.nit_top.specs.Terms.{opening_drawing, option_map, output_name, owner_of}
-pub use Rattle.nit_top.specs.Terms.{phase_counts, phases, picture, picture_header, picture_of}
-pub use Rattle.nit_top.specs.Terms.{pictures_in, piece_text, pixel, pos, projection}
-pub use Rattle.nit_top.specs.Terms.{put_state_of_run, range_with_len, raw_word, read_fault_line}
-pub use Rattle.nit_top.specs.Terms.{reads, receive, rectangle, rectangle_of, refusal, refusal_of}
-pub use Rattle.nit_top.specs.Terms.{replay, replies_to, rounds, run_files, said_also, screen}
-pub use Rattle.nit_top.specs.Terms.{script_in, script_name, script_names, serve, session, setup_in}
-pub use Rattle.nit_top.specs.Terms.{setup_of, setup_with_clips, shot_file, shot_frames_of}
-pub use Rattle.nit_top.specs.Terms.{shot_name, shots, shots_after, shots_of, shown_first}
-pub use Rattle.nit_top.specs.Terms.{shown_index, slice_index, source_at, source_under, spans}
-pub use Rattle.nit_top.specs.Terms.{spelled, static, status_of, still_configuration, still_setup}
-pub use Rattle.nit_top.specs.Terms.{stream, summary_line, tables_left, taken, taking, text_files}
-pub use Rattle.nit_top.specs.Terms.{texts, to_do, to_put, too_long_for, totals, true, unless_other}
-pub use Rattle.nit_top.specs.Terms.{unrefused, user_actions_from, user_actions_of}
-pub use Rattle.nit_top.specs.Terms.{user_actions_to_do, user_script, user_text, with_asked}
-pub use Rattle.nit_top.specs.Terms.{with_said, word_from, word_of_bytes, word_seen, words_left}
-pub use Rattle.nit_top.specs.Terms.{woven, write_fault_line}
-pub use Rattle.std.proofs.Common.{Err, List, Option, Some, [], ap, inl, length, map, refl, rules}
-pub use Rattle.std.proofs.Common.{subst, sym, ℕ, ◌∙◌}
+pub use Rattle.nit_top.specs.Terms.{opening_drawing, option_map, owner_of, phase_counts, phases}
+pub use Rattle.nit_top.specs.Terms.{picture, picture_header, picture_of, pictures_in, piece_text}
+pub use Rattle.nit_top.specs.Terms.{pixel, pos, projection, put_state_of_run, range_with_len}
+pub use Rattle.nit_top.specs.Terms.{raw_word, reads, receive, rectangle, rectangle_of, refusal}
+pub use Rattle.nit_top.specs.Terms.{refusal_of, replay, replies_to, rounds, run_files, said_also}
+pub use Rattle.nit_top.specs.Terms.{screen, script_in, script_name, script_names, session, setup_in}
+pub use Rattle.nit_top.specs.Terms.{setup_of, shot_file, shot_frames_of, shots, shots_after}
+pub use Rattle.nit_top.specs.Terms.{shots_of, shown_first, shown_index, slice_index, source_at}
+pub use Rattle.nit_top.specs.Terms.{source_under, spans, spelled, static, status_of}
+pub use Rattle.nit_top.specs.Terms.{still_configuration, still_setup, stream, summary_line}
+pub use Rattle.nit_top.specs.Terms.{tables_left, taken, taking, text_files, texts, to_put}
+pub use Rattle.nit_top.specs.Terms.{too_long_for, totals, true, unless_other, unrefused}
+pub use Rattle.nit_top.specs.Terms.{user_actions_from, user_actions_of, user_actions_to_do}
+pub use Rattle.nit_top.specs.Terms.{user_script, user_text, with_asked, with_said, word_from}
+pub use Rattle.nit_top.specs.Terms.{word_of_bytes, word_seen, words_left, woven}
+pub use Rattle.std.proofs.Common.{Err, List, Some, ap, inl, length, map, refl, rules, subst, sym, ℕ}
+pub use Rattle.std.proofs.Common.{◌∙◌}
 pub use Rattle.std.proofs.Math.Dec.{eqb-suc-zero}
 pub use Rattle.std.proofs.lemmas.Bool.{and_parts, cases_Bool, ltb-true}
 pub use Rattle.std.proofs.lemmas.Fmt.{decimal_digit, decimal_injective, decimal_step}
@@ -95,6 +90,5 @@ pub use Rattle.std.proofs.lemmas.List.{append-nil, append_cancel_left, append_ca
 pub use Rattle.std.proofs.lemmas.List.{get_or-take, length-map, map-append, take_all}
 pub use Rattle.std.proofs.lemmas.List.Elements.{All-from_recursion}
 pub use Rattle.std.proofs.lemmas.Nat.{div_below, mod_below, mul-add-lt}
-pub use Rattle.std.proofs.lemmas.Result.{err_from_is_err_and}
-pub use Rattle.nit_store.specs.Puts.{PutRefusal}
 pub use Rattle.std.proofs.lemmas.Option.{IfSome_then}
+pub use Rattle.std.proofs.lemmas.Result.{err_from_is_err_and}

@@ -1,12 +1,12 @@
 -- What the causes of answers stand on: judgements of files, codes and counts, courses, and what is said.
-use Rattle.nit_top.proofs.Basics.{Capture, Command, Fault, File, IfSome, IsRefusedWith}
-use Rattle.nit_top.proofs.Basics.{IsSomeAnd, IsValid, IsValidSo, Judged, NoCommand, Refused, Setup}
-use Rattle.nit_top.proofs.Basics.{bytes_of, codes_agree, fault_code, is_outside_of}
-use Rattle.nit_top.proofs.Basics.{one_configuration, valid_not_refused, Counts, End, IsTrue, Rose}
-use Rattle.nit_top.proofs.Basics.{StoreModel, code_of, list_any, not_both, Audit, AuditOr, Begun}
-use Rattle.nit_top.proofs.Basics.{Course, Entry, IsAudit, IsCommandRun, IsSetupOf, NotBegun}
-use Rattle.nit_top.proofs.Basics.{PutFiles, WithRun, WithoutRun, made_by, PutError, Says, SaysLine}
-use Rattle.nit_top.proofs.Basics.{append-nil, eqb-suc-zero, status_of, with_said}
+use Rattle.nit_top.proofs.Basics.{Audit, AuditOr, Begun, Capture, Command, Counts, Course, End}
+use Rattle.nit_top.proofs.Basics.{Entry, Fault, File, IfSome, IsAudit, IsCommandRun, IsRefusedWith}
+use Rattle.nit_top.proofs.Basics.{IsSetupOf, IsSomeAnd, IsTrue, IsValid, IsValidSo, Judged}
+use Rattle.nit_top.proofs.Basics.{NoCommand, NotBegun, PutError, PutFiles, Refused, Rose, Says}
+use Rattle.nit_top.proofs.Basics.{SaysLine, Setup, StoreModel, WithRun, WithoutRun, append-nil}
+use Rattle.nit_top.proofs.Basics.{bytes_of, code_of, codes_agree, eqb-suc-zero, fault_code}
+use Rattle.nit_top.proofs.Basics.{is_outside_of, list_any, made_by, not_both, one_configuration}
+use Rattle.nit_top.proofs.Basics.{status_of, valid_not_refused, with_said}
 use Rattle.std.proofs.Common.{◌≡◌, ℕ, Bool, List, Option, Some, None, refl, ◌∙◌, ◌≤◌, true, false}
 use Rattle.std.proofs.Common.{[], ◌∷◌, arith, inl, inr, ◌⊎◌, ◌==◌, ◌++◌, ap, zero, suc, cond}
 use Rattle.std.proofs.Common.{Result, Ok, Err, sym}

@@ -1,21 +1,21 @@
 -- How the work came to its end is why.
 use Rattle.std.proofs.Common.{◌≡◌, ℕ, true, List, Option, refl, sym, ap, subst, ◌∙◌, inl, inr, ◌⊎◌}
 use Rattle.std.proofs.Common.{Some, false, [], ◌∷◌, ◌++◌}
-use Rattle.nit_top.proofs.Basics.{Came, Command, Course, End, Entry, File, Gen, HasValidFiles}
-use Rattle.nit_top.proofs.Basics.{IfSome, IsAudit, IsAudited, IsCommandRun, IsEarly, IsMadeBefore}
-use Rattle.nit_top.proofs.Basics.{IsNotBegun, IsPutWhole, IsRefusedAt, IsRefusedWith, IsSomeAnd}
-use Rattle.nit_top.proofs.Basics.{IsValidSo, NoCommand, StoreModel, WithRun, audited_line, code_of}
-use Rattle.nit_top.proofs.Basics.{command, summary_line, totals, AllFiles, AllScripts, AreAllFiles}
-use Rattle.nit_top.proofs.Basics.{AreAudited, Audit, BothFiles, Capture, Fault, FilesRead, HasRead}
-use Rattle.nit_top.proofs.Basics.{IfSome_then, IsBothRead, IsLastRead, IsOutside, IsValid, Judged}
-use Rattle.nit_top.proofs.Basics.{Nested, NoFile, Refused, RunFiles, Setup, asked_also}
+use Rattle.nit_top.proofs.Basics.{AllFiles, AllScripts, AreAllFiles, AreAudited, Audit, BothFiles}
+use Rattle.nit_top.proofs.Basics.{Came, Capture, Command, Course, End, Entry, Fault, File}
+use Rattle.nit_top.proofs.Basics.{FilesRead, Gen, HasRead, HasValidFiles, IfSome, IfSome_then}
+use Rattle.nit_top.proofs.Basics.{IsAudit, IsAudited, IsBothRead, IsCommandRun, IsEarly, IsLastRead}
+use Rattle.nit_top.proofs.Basics.{IsMadeBefore, IsNotBegun, IsOutside, IsPutWhole, IsRefusedAt}
+use Rattle.nit_top.proofs.Basics.{IsRefusedWith, IsSetupOf, IsSomeAnd, IsValid, IsValidSo, Judged}
+use Rattle.nit_top.proofs.Basics.{Nested, NoCommand, NoFile, Refused, RunFiles, Setup, StoreModel}
+use Rattle.nit_top.proofs.Basics.{WithRun, asked_also, audited_line, code_of, command}
 use Rattle.nit_top.proofs.Basics.{is_outside_of, made_by, names_read, next_name, not_both, reads}
+use Rattle.nit_top.proofs.Basics.{summary_line, totals}
 use Rattle.nit_top.proofs.CauseLemmas.{audit_makes_none, front_none, is_fault_code}
 use Rattle.nit_top.proofs.CauseLemmas.{no_outside_audit, none_put, not_code, not_run, some_so}
 use Rattle.nit_top.proofs.CauseLemmas.{told_codes, told_refused, told_side, told_valid, with_run}
 use Rattle.nit_top.proofs.CauseLemmas.{with_run_not}
 use Rattle.nit_top.proofs.StoredFiles.{SoFar}
-use Rattle.nit_top.specs.Terms.{IsSetupOf}
 use Rattle.nit_setup.specs.declared.stop.End.TheVariants as ends
 
 -- ---- what came, by its code

@@ -1,23 +1,29 @@
 -- Generated runs: they can be run, and how their work comes to its end.
-use Rattle.nit_top.proofs.Basics.{AllByRecursion, AllZip, AreAllFiles, AreOutputs, Configuration}
-use Rattle.nit_top.proofs.Basics.{Course, Ends, Entry, File, FitsInputLine, FitsLine, Gen, HasRun}
-use Rattle.nit_top.proofs.Basics.{Headline, IfSome, InputLine, IsAfterRun, IsConfiguration}
-use Rattle.nit_top.proofs.Basics.{IsJournal, IsMadeUpTo, IsRunnable, Line, NoFile, NotBegun}
-use Rattle.nit_top.proofs.Basics.{Performed, PutAll, PutError, PutFault, PutFiles, PutRefusal}
-use Rattle.nit_top.proofs.Basics.{PutState, PutUntil, PutsAll, ReadsClient, Setup, StoreModel}
+use Rattle.nit_top.proofs.Basics.{AllByRecursion, AllZip, AreAllFiles, AreAllOuterFiles}
+use Rattle.nit_top.proofs.Basics.{AreAllScripts, AreOutputs, BothFiles, Command, Configuration}
+use Rattle.nit_top.proofs.Basics.{Course, End, Ends, Entry, Fault, File, FirstShows, FitsInputLine}
+use Rattle.nit_top.proofs.Basics.{FitsLine, Gen, HasRun, Headline, IfSome, InputLine, IsAfterRun}
+use Rattle.nit_top.proofs.Basics.{IsConfiguration, IsInnerEnd, IsJournal, IsMadeUpTo, IsRunnable}
+use Rattle.nit_top.proofs.Basics.{Line, Nested, NoFile, NotBegun, Performed, PerformedNested}
+use Rattle.nit_top.proofs.Basics.{PutAll, PutError, PutFault, PutFiles, PutRefusal, PutState}
+use Rattle.nit_top.proofs.Basics.{PutUntil, PutsAll, ReadsClient, RunFiles, Setup, StoreModel}
 use Rattle.nit_top.proofs.Basics.{Totals, Worked, after, all_put, append-nil, asked_also}
-use Rattle.nit_top.proofs.Basics.{asking_none, client_script, end_of_put, end_of_run, file_names}
-use Rattle.nit_top.proofs.Basics.{generated_files, generated_setup, input_phases, is_some, phases}
-use Rattle.nit_top.proofs.Basics.{put_state_of_run, range_with_len, refusal_of, setup_of}
-use Rattle.nit_top.proofs.Basics.{unrefused, user_script}
-use Rattle.nit_top.proofs.WorkLemmas.{LeftAt, left_at, no_memory, CameTo, ended_so}
-use Rattle.std.proofs.Common.{◌≡◌, ℕ, ◌≤◌, zero, suc, ◌+◌, true, List, [], ◌∷◌, ◌++◌, length, map}
-use Rattle.std.proofs.Common.{Option, Some, None, refl, sym, ap, ◌∙◌, arith, inl, inr}
+use Rattle.nit_top.proofs.Basics.{asking_all, asking_none, by_length, by_turns, client_script}
+use Rattle.nit_top.proofs.Basics.{end_of_put, end_of_run, file_names, first_other, frames_of}
+use Rattle.nit_top.proofs.Basics.{generated_files, generated_setup, inner_journal_name}
+use Rattle.nit_top.proofs.Basics.{input_phases, is_some, journal_text, misfit, name_text, names_in}
+use Rattle.nit_top.proofs.Basics.{nest_of, nested_setup, phase_counts, phases, put_state_of_run}
+use Rattle.nit_top.proofs.Basics.{range_with_len, refusal_of, setup_of, told_so_both, unrefused}
+use Rattle.nit_top.proofs.Basics.{user_script}
+use Rattle.nit_top.proofs.WorkLemmas.{CameTo, LeftAt, ended_so, left_at, no_memory, performed_ends}
+use Rattle.nit_top.proofs.WorkLemmas.{run_ends}
+use Rattle.std.proofs.Common.{Err, List, None, Option, Some, [], ap, arith, inl, inr, length, map}
+use Rattle.std.proofs.Common.{refl, suc, sym, true, zero, ℕ, ◌++◌, ◌+◌, ◌∙◌, ◌∷◌, ◌≡◌, ◌≤◌}
 use Rattle.nit_report.specs.Generator.{generated_configuration}
-use Rattle.nit_top.proofs.EndsAfterRun.{performed_ends}
-use Rattle.nit_store.specs.declared.store.PutError.TheVariants as put
 use Rattle.nit_setup.specs.declared.stop.End.TheVariants as ends
+use Rattle.nit_setup.specs.declared.stop.Fault.TheVariants as fault
 use Rattle.nit_setup.specs.declared.stop.StopName.TheVariants as file_name
+use Rattle.nit_store.specs.declared.store.PutError.TheVariants as put
 
 -- ---- it can be run
 
@@ -221,3 +227,61 @@ module _ (n : ℕ) (old : StoreModel) where
       performed_ends (λ s journal files are. refl, λ config. refl) (asking_none old) (files_are n old.files runnable)
       (inl (run_too runnable both headline mid new w made after'))
   generated_ends runnable both headline {w = w} made (inr (is, same, empty)) = rw same (made_whole made is empty)
+
+-- ---- how the work on two configurations comes to its end, where both were read: before the outer run, and after it
+
+module _ (outer inner : List ℕ) (o : RunFiles) (old : StoreModel) (all : AreAllOuterFiles outer old.files o)
+    (i : RunFiles) (both : AreAllScripts inner old.files (by_turns i)) (new : StoreModel)
+    (read : new ≡ asking_all old (outer ∷ names_in o.config ++ inner ∷ names_in i.config)) where
+  abbrev two : Command
+  two = Nested outer inner
+
+  -- they do not fit together
+  pub unfit_ends : {name : List ℕ} {f : Fault} {w : Worked} → misfit inner o i ≡ Some (name, f)
+      → name_text two w.stop.name ≡ name → w.stop.end ≡ ends.Unfit f → w.journal.items ≡ [] → Ends two old new w
+  unfit_ends {name = name} unfit is end none = ended_so none end (rw (is, read) (record {
+    course = NotBegun refl;
+    came = (
+      name,
+      record { none = tt; same = refl; o = o; i = i; valid = (all, both); asks = refl },
+      told_so_both _ _ _ old.files (λ files v p. inr (o, v, inr (i, p, unfit))) all.valid both.valid,
+      refl,
+    );
+    counts = (refl, refl);
+    said = refl;
+  }))
+
+  -- memory ran out before the outer run
+  no_memory_ends : {w : Worked} → w.stop.end ≡ ends.NoMemory → w.journal.items ≡ [] → Ends two old new w
+  no_memory_ends end none = ended_so none end (no_memory (BothFiles o i) (all, both) read)
+
+  pub nested_ends : {last : StoreModel} {journal : List Entry} {w : Worked} → misfit inner o i ≡ None
+      → IsRunnable (nested_setup o i) → FirstShows (nest_of i) (nested_setup o i).scripts
+      → IsJournal (by_turns i) journal → PerformedNested journal new (nested_setup o i) last w → Ends two old last w
+  nested_ends {journal = journal} fits runnable shows is_journal (inl after') =
+      let r = after'.has_run in
+      let files : AreAllFiles two old.files (nested_setup o i) = record {
+        runnable = runnable;
+        of_command = record {
+          o = o;
+          i = i;
+          is_outer = all.is_outer;
+          runnable = both.runnable;
+          fits = fits;
+          setup = refl;
+          shows = shows;
+        };
+        valid = told_so_both _ _ _ old.files (λ files v p. (o, i, v, p, fits, refl)) all.valid both.valid;
+      } in
+      run_ends ((inner_journal_name, journal_text journal) ∷ []) after'.fault read files r.are after'.headline refl
+      (journal, is_journal, refl) r.puts after'.end_is after'.name_is refl after'.clients_are after'.frames_are
+  nested_ends fits runnable shows is_journal (inr (end, same, none)) = rw same (no_memory_ends end none)
+
+  -- the inner run made no script
+  pub inner_stopped : {own : List Line} {rest : List (List Line)} (end : End) {w : Worked} → o.scripts ≡ own ∷ rest
+      → first_other (length (frames_of i)) (names_in o.config) (phase_counts o) ≡ None → IsInnerEnd i own (Err end)
+      → name_text two w.stop.name ≡ inner → w.stop.end ≡ end → w.journal.items ≡ [] → Ends two old new w
+  inner_stopped (ends.Unfit fault.FramesTooLong) parts none long name end empty =
+      unfit_ends (by_length inner o i true none (rw parts long)) name end empty
+  inner_stopped ends.NoMemory parts none h name end empty = no_memory_ends end empty
+  inner_stopped other parts none h name end empty = absurd h

@@ -1,17 +1,31 @@
 -- The run whose first client shows what another run has shown: that it can be run, and what it leaves.
-use Rattle.nit_top.proofs.Basics.{AllByRecursion, AreLines, AreOutputs, Entry, File, FirstShows}
-use Rattle.nit_top.proofs.Basics.{FitsLine, HasRun, Headline, IfSome, InputLine, IsAfterNested}
-use Rattle.nit_top.proofs.Basics.{IsJournal, IsOuter, IsRunnable, Line, NestModel}
-use Rattle.nit_top.proofs.Basics.{PutFault, PutsNext, Ran, RunFiles, Setup, ShowsNest, StoreModel}
-use Rattle.nit_top.proofs.Basics.{UserOnce, Worked, all_so, all_wanted, by_length, count_by}
-use Rattle.nit_top.proofs.Basics.{end_of_run, first_other, frames_counted}
-use Rattle.nit_top.proofs.Basics.{frames_of, inner_journal_name, input_phases, is_shot_line}
-use Rattle.nit_top.proofs.Basics.{is_too_long, journal_text, length-map, misfit, names_in, nest_of}
-use Rattle.nit_top.proofs.Basics.{nest_script, nested_setup, one_wanted, phase_counts, phases}
-use Rattle.nit_top.proofs.Basics.{put_state_of_run, puts_more, script_names, setup_of}
-use Rattle.nit_top.proofs.Basics.{too_long_for, unless_other, unrefused}
-use Rattle.std.proofs.Common.{◌≡◌, ◌∙◌, ℕ, ◌+◌, true, false, List, [], ◌∷◌, length, Option, Some}
-use Rattle.std.proofs.Common.{None, refl, sym, ap, inl, arith, get_or, ◌<◌, ◌≤◌}
+use Rattle.nit_top.proofs.Basics.{ActorLine, AllByRecursion, AreLines, AreOutputs, AreTexts}
+use Rattle.nit_top.proofs.Basics.{ByClient, ByUser, Configuration, Contains, Drawing, DrawnLaw}
+use Rattle.nit_top.proofs.Basics.{Entry, Event, File, FirstShows, FitsLine, FrontsLaw, HasRun}
+use Rattle.nit_top.proofs.Basics.{HaveSameEvents, Headline, IfSome, InputLine, IsAfterNested}
+use Rattle.nit_top.proofs.Basics.{IsJournal, IsLegal, IsOuter, IsRunnable, IsSameClient, Line}
+use Rattle.nit_top.proofs.Basics.{LineTurn, NestModel, PutFault, PutsNext, Ran, Reply, RunFiles}
+use Rattle.nit_top.proofs.Basics.{Session, Setup, ShotFrame, ShowsNest, State, StoreModel, UserOnce}
+use Rattle.nit_top.proofs.Basics.{Worked, after, after_turn, all_append, all_so, all_wanted}
+use Rattle.nit_top.proofs.Basics.{alone_machine, by_length, by_turns, count_by, donation_of}
+use Rattle.nit_top.proofs.Basics.{drawn_shot, end_of_run, ending_of, ending_text, event_spelling}
+use Rattle.nit_top.proofs.Basics.{events_among, events_file, events_name, events_taken}
+use Rattle.nit_top.proofs.Basics.{final_picture, first_other, first_state, flat_map, frame_of}
+use Rattle.nit_top.proofs.Basics.{frames_counted, frames_of, inner_journal_name, input_phases}
+use Rattle.nit_top.proofs.Basics.{is_shot_line, is_too_long, journal_text, last_frame, length-map}
+use Rattle.nit_top.proofs.Basics.{map-append, member, misfit, names_in, nest_of, nest_script}
+use Rattle.nit_top.proofs.Basics.{nested_setup, one_wanted, opening_drawing, phase_counts, phases}
+use Rattle.nit_top.proofs.Basics.{picture, picture_of, pictures_in, projection, put_state_of_run}
+use Rattle.nit_top.proofs.Basics.{puts_more, raw_word, replay, replies_to, rounds, script_names}
+use Rattle.nit_top.proofs.Basics.{session, setup_of, shot_file, shot_frames_of, shots_after}
+use Rattle.nit_top.proofs.Basics.{spelled, tables_left, taken, texts, too_long_for, unless_other}
+use Rattle.nit_top.proofs.Basics.{unrefused}
+use Rattle.std.proofs.Common.{List, None, Option, Some, [], ap, ap₂, arith, false, fold, get_or}
+use Rattle.std.proofs.Common.{inl, length, map, refl, sym, true, ℕ, ◌++◌, ◌+◌, ◌<◌, ◌∙◌, ◌∷◌, ◌≡◌}
+use Rattle.std.proofs.Common.{◌≤◌}
+use Rattle.nit_rounds.specs.Drawing.{drawn}
+use Rattle.nit_events.specs.declared.entry.Entry.TheVariants as entry
+use Rattle.nit_script.specs.declared.line.InputLine.TheVariants as input
 use Rattle.nit_setup.specs.declared.stop.StopName.TheVariants as file_name
 
 -- ---- the setup of the outer run
@@ -167,4 +181,113 @@ nested_leaves {inner = inner} s x {first = first} {mid = mid} {new = new} {ran =
       name_is = name;
       clients_are = clients;
       frames_are = rw (frames, journal) has.frames;
+    }
+
+-- The frames of an inner run are those of the pictures that a run by turns puts.
+
+-- ---- the frames of shots have the size of the screen
+
+abbrev HaveSize : ℕ → ℕ → List ShotFrame → Type 0
+HaveSize w h shots = AllByRecursion (λ f. (f.width ≡ w) × (f.height ≡ h)) shots
+
+sized_more : (config : Configuration) (doing : ActorLine) (d : Drawing) → HaveSize config.width config.height d.shots
+    → HaveSize config.width config.height (shots_after config doing d)
+sized_more config (ByClient sid l) d all = all
+sized_more config (ByUser input.Shot) d all =
+    all_append (λ (f : ShotFrame). (f.width ≡ config.width) × (f.height ≡ config.height)) d.shots
+    (drawn_shot config d ∷ []) all ((refl, refl), tt)
+sized_more config (ByUser (input.Device dev)) d all = all
+sized_more config (ByUser input.Phase) d all = all
+
+sized_from : (config : Configuration) (scripts : List (List Line)) (moves : List LineTurn) (d : Drawing)
+    → HaveSize config.width config.height d.shots
+    → HaveSize config.width config.height (fold (after_turn config scripts) d moves).shots
+sized_from config scripts [] d all = all
+sized_from config scripts (m ∷ moves) d all =
+    sized_from config scripts moves (after_turn config scripts d m) (sized_more config m.doing d all)
+
+sized : (config : Configuration) (scripts : List (List Line)) (lines : List InputLine)
+    → HaveSize config.width config.height (shot_frames_of config scripts lines)
+unfolding drawn
+sized config scripts lines = sized_from config scripts (rounds scripts lines) (opening_drawing config) tt
+
+pictures_are : (w h : ℕ) (shots : List ShotFrame) → HaveSize w h shots → map (λ (f : File). f.1) (map shot_file shots)
+    ≡ map (picture w h) (map (λ (f : ShotFrame). f.words) shots)
+pictures_are w h [] all = refl
+pictures_are w h (f ∷ shots) ((wide, tall), all) = let rest =
+    pictures_are w h shots all in λ k. picture (wide k) (tall k) f.words ∷ rest k
+
+-- ---- the last frame is that of the state at the end of the journal
+
+-- what the law of one more entry says
+abbrev pub MoreLaw : Type 0
+MoreLaw = (config : Configuration) (front : List Entry) (e : Entry)
+    → replay config (front ++ e ∷ []) ≡ after (replay config front) e
+
+module _ (law : DrawnLaw) (more : MoreLaw) (fronts : FrontsLaw) (i : RunFiles) (journal : List Entry)
+    (stays : (replay i.config journal).config ≡ i.config) (is_journal : IsJournal (by_turns i) journal) where
+  state_is : replay i.config journal ≡ (drawn i.config i.scripts (rounds i.scripts i.input)).state
+  state_is =
+      let of_rounds = is_journal.rounds refl in
+      let entries : List Entry = of_rounds.0 in
+      let legal : IsLegal i.config (entries ++ entry.Final ∷ []) = rw of_rounds.2 at is_journal.legal in
+      rw of_rounds.2 (more i.config entries entry.Final)
+      ∙ sym (law i.config i.scripts (rounds i.scripts i.input) entries
+      (fronts i.config entries (entry.Final ∷ []) legal) of_rounds.1)
+
+  pub last_pictured : final_picture (by_turns i) journal ≡ picture i.config.width i.config.height (last_frame i)
+  last_pictured =
+      ap (λ (c : Configuration). picture_of c (replay i.config journal)
+      (raw_word (replay i.config journal) (tables_left i.config i.scripts))) stays
+      ∙ ap (λ (t : State). picture i.config.width i.config.height
+      (frame_of t (raw_word t (tables_left i.config i.scripts)))) state_is
+
+  pub frames_pictured : (files : List File) (are : AreOutputs (by_turns i) journal files)
+      → pictures_in are ≡ map (picture i.config.width i.config.height) (frames_of i)
+  frames_pictured files are =
+      let shots : List ShotFrame = shot_frames_of i.config i.scripts i.input in
+      let pictured : List ℕ → List ℕ = picture i.config.width i.config.height in
+      rw (
+        are.1.by_rounds refl,
+        pictures_are i.config.width i.config.height shots (sized i.config i.scripts i.input),
+        last_pictured,
+      )
+      (sym (map-append pictured (map (λ (f : ShotFrame). f.words) shots) (last_frame i ∷ [])))
+
+-- ---- one client in two runs: its events and their text
+
+-- what the law of machines says
+abbrev pub StandAlone : Type 0
+StandAlone = (config : Configuration) (journal : List Entry) (s : ℕ) → IsLegal config journal
+    → s < length config.clients
+    → session (replay config journal) s ≡ alone_machine (donation_of config s) (projection s journal)
+
+-- a client's text among the files
+there : StandAlone → (config : Configuration) (journal : List Entry) (files : List File) (s : ℕ)
+    → IsLegal config journal → s < length config.clients
+    → AreTexts config journal files
+    → Contains files (events_name (member config s).label, (events_file config journal s).1)
+there law config journal files s legal inside texts =
+    rw (law config journal s legal inside) (texts.events s inside)
+
+module _ (c d : Configuration) (js ks : List Entry) (s t : ℕ) (legal : IsLegal c js) (other_legal : IsLegal d ks)
+    (replies : replies_to s js ≡ replies_to t ks) where
+  pub same_events : flat_map (taken s) js ≡ flat_map (taken t) ks
+  same_events = events_taken s (first_state c) 0 js legal ∙ ap (λ (rs : List Reply). events_among rs) replies
+      ∙ sym (events_taken t (first_state d) 0 ks other_legal)
+
+  module _ (law : StandAlone) (same : IsSameClient c d js ks s t) where
+    same_machine : session (replay c js) s ≡ session (replay d ks) t
+    same_machine = law c js s legal same.inside ∙ ap₂ (λ n seen. alone_machine n seen) same.donation same.seen
+        ∙ sym (law d ks t other_legal same.other_inside)
+
+    pub same_text : (events_file c js s).1 ≡ (events_file d ks t).1
+    same_text = ap₂ (λ (es : List Event) (m : Session). flat_map (spelled event_spelling) es
+        ++ ending_text (ending_of m)) same_events same_machine
+
+    pub both_there : (fs gs : List File) → AreTexts c js fs → AreTexts d ks gs → HaveSameEvents c d fs gs s t
+    both_there fs gs texts other_texts = record {
+      text = (events_file c js s).1;
+      one = there law c js fs s legal same.inside texts;
+      other = rw same_text (there law d ks gs t other_legal same.other_inside other_texts);
     }

@@ -1,91 +1,33 @@
 -- The names of the files that a run puts differ, and those of the files that are made before it.
-use Rattle.std.proofs.Common.{◌≡◌, ◌≢◌, ℕ, zero, suc, ◌+◌, ◌<◌, ◌≤◌, List, [], ◌∷◌, ◌++◌, map, refl}
-use Rattle.std.proofs.Common.{sym, ap, ◌∙◌, arith, Bool, true, false, cond, length, Option, Some}
-use Rattle.std.proofs.Common.{None, append_assoc, inl, inr, ◌⊎◌}
-use Rattle.nit_top.proofs.Basics.{Apart, Audit, Begin, Command, File, Gen, HasDifferentNames}
-use Rattle.nit_top.proofs.Basics.{IsSetupOf, Nested, NoCommand, OtherThan, Setup, Still, all_append}
-use Rattle.nit_top.proofs.Basics.{append_cancel_left, append_cancel_right, client_text, codes}
-use Rattle.nit_top.proofs.Basics.{decimal, decimal_digit, decimal_injective, differ}
-use Rattle.nit_top.proofs.Basics.{generated_files, made_by, other_both, range_with_len, script_name}
-use Rattle.nit_top.proofs.Basics.{slice_index, user_text, AreAdded, AreOutputs, BeginOther, Capture}
-use Rattle.nit_top.proofs.Basics.{Clip, Configuration, Entry, FrontsLaw, IsCommandRun}
-use Rattle.nit_top.proofs.Basics.{IsConfiguration, IsInnerJournal, IsJournal, IsNearPicture}
-use Rattle.nit_top.proofs.Basics.{IsRunnable, Member, Numbered, RunFiles, ShotsLaw, StoreModel}
-use Rattle.nit_top.proofs.Basics.{actions_few, apart_by, apart_front, begin_other, done}
-use Rattle.nit_top.proofs.Basics.{drawn_along, events_begin, events_file, events_files, events_name}
-use Rattle.nit_top.proofs.Basics.{film_name, final_name, final_picture, first_state}
-use Rattle.nit_top.proofs.Basics.{inner_journal_name, journal_file, member, numbered, other_letter}
-use Rattle.nit_top.proofs.Basics.{shots, shots_apart_all, shots_begin, text_files, texts_other}
-use Rattle.nit_top.proofs.Basics.{user_actions_from, user_actions_of}
-use Rattle.nit_events.specs.declared.entry.Entry.TheVariants as entry
+use Rattle.std.proofs.Common.{Bool, Err, List, None, Ok, Option, Result, Some, [], add-one, ap}
+use Rattle.std.proofs.Common.{append_assoc, arith, cond, drop, false, get_or, inl, inr, length, map}
+use Rattle.std.proofs.Common.{refl, subst, suc, sym, take, true, zero, ℕ, ◌++◌, ◌+◌, ◌<◌, ◌∙◌, ◌∷◌}
+use Rattle.std.proofs.Common.{◌≡◌, ◌≢◌, ◌≤◌, ◌⊎◌}
+use Rattle.nit_top.proofs.Basics.{Apart, AreAdded, AreOutputs, Audit, Begin, BeginOther, Capture}
+use Rattle.nit_top.proofs.Basics.{Clip, Command, Configuration, Entry, File, FrontsLaw, Gen}
+use Rattle.nit_top.proofs.Basics.{HasDifferentNames, IsCommandRun, IsConfiguration, IsInnerJournal}
+use Rattle.nit_top.proofs.Basics.{IsJournal, IsNearPicture, IsRunnable, IsSetupOf, Member, Nested}
+use Rattle.nit_top.proofs.Basics.{NoCommand, Numbered, OtherThan, PutError, RunFiles, SayingRefused}
+use Rattle.nit_top.proofs.Basics.{Says, Setup, ShotsLaw, Still, StoreModel, actions_few, all_append}
+use Rattle.nit_top.proofs.Basics.{apart_by, apart_front, append_cancel_left, append_cancel_right}
+use Rattle.nit_top.proofs.Basics.{begin_other, codes, differ, drawn_along, events_begin}
+use Rattle.nit_top.proofs.Basics.{events_file, events_files, events_name, film_name, final_name}
+use Rattle.nit_top.proofs.Basics.{final_picture, first_state, flat_map, generated_files}
+use Rattle.nit_top.proofs.Basics.{inner_journal_name, journal_file, made_by, member, numbered}
+use Rattle.nit_top.proofs.Basics.{other_letter, range_with_len, rules, saying-saying, shots}
+use Rattle.nit_top.proofs.Basics.{shots_apart_all, shots_begin, slice_index, text_files}
+use Rattle.nit_top.proofs.Basics.{texts_other, user_actions_of, with_said}
+use Rattle.std.specs.Fmt.{digits}
+use Rattle.nit_top.specs.Terms.{done, user_actions_from}
 
 -- ---- the files that are made before a run
 
-scripts_differ : (i j : ℕ) → i < j → j < 8 → script_name i ≢ script_name j
-scripts_differ i j before inside same =
-    let digits : decimal i ≡ decimal j =
-    append_cancel_left (codes "g") (decimal i) (decimal j)
-    (append_cancel_right (codes "g" ++ decimal i) (codes "g" ++ decimal j) (codes ".nit") same) in
-    let e : i ≡ j = decimal_injective i j (omega arith) (omega arith) digits in
-    omega arith
+generated_apart : (n : ℕ) → Apart (generated_files n)
+unfolding digits
+generated_apart n = search rules
 
--- the second letter of a script's name is a digit
-second : (c : ℕ) → c < 8 → slice_index (script_name c) 1 ≡ 48 + c
-second c inside = rw (decimal_digit c (omega arith)) refl
-
--- so it is no name with an e there
-no_script : (name : List ℕ) → slice_index name 1 ≡ 101 → (c : ℕ) → c < 8 → name ≢ script_name c
-no_script name is c inside same =
-    let e : 101 ≡ 48 + c = sym is ∙ ap (λ (n : List ℕ). slice_index n 1) same ∙ second c inside in
-    omega arith
-
--- ---- all files of a generated run
-
-module _ (n : ℕ) where
-  abbrev scripts_from : ℕ → ℕ → List File
-  scripts_from first count = map (λ c. (script_name c, client_text n c)) (range_with_len first count)
-
-  abbrev input : File
-  input = (codes "gen.in", user_text n)
-
-  later : (i first count : ℕ) → i < first → first + count ≤ 8 → OtherThan (script_name i) (scripts_from first count)
-  later i first zero before inside = tt
-  later i first (suc count) before inside =
-      (scripts_differ i first before (omega arith), later i (first + 1) count (omega arith) (omega arith))
-
-  scripts_apart : (first count : ℕ) → first + count ≤ 8 → Apart (scripts_from first count ++ input ∷ [])
-  scripts_apart first zero inside = (tt, tt)
-  scripts_apart first (suc count) inside = (
-    other_both (script_name first) (scripts_from (first + 1) count) (input ∷ [])
-        (later first (first + 1) count (omega arith) (omega arith))
-        ((λ same. no_script (codes "gen.in") refl first (omega arith) (sym same)), tt),
-    scripts_apart (first + 1) count (omega arith),
-  )
-
-  config_other : (first count : ℕ) → first + count ≤ 8 → OtherThan (codes "gen.toml") (scripts_from first count)
-  config_other first zero inside = tt
-  config_other first (suc count) inside =
-      (no_script (codes "gen.toml") refl first (omega arith), config_other (first + 1) count (omega arith))
-
-  config_input : codes "gen.toml" ≢ codes "gen.in"
-  config_input same = let e : ◌≡◌ {A = ℕ} 116 105 = ap (λ (name : List ℕ). slice_index name 4) same in omega arith
-
-  pub generated_apart : Apart (generated_files n)
-  generated_apart = (
-    other_both (codes "gen.toml") (scripts_from 0 8) (input ∷ []) (config_other 0 8 (omega arith)) (config_input, tt),
-    scripts_apart 0 8 (omega arith),
-  )
-
-  scripts_begin : (first count : ℕ) → Begin 103 (scripts_from first count)
-  scripts_begin first zero = tt
-  scripts_begin first (suc count) = (refl, scripts_begin (first + 1) count)
-
-  generated_begin : Begin 103 (generated_files n)
-  generated_begin = (
-    refl,
-    all_append (λ f. slice_index f.0 0 ≡ 103) (scripts_from 0 8) (input ∷ []) (scripts_begin 0 8)
-        (refl, tt),
-  )
+generated_begin : (n : ℕ) → Begin 103 (generated_files n)
+generated_begin n = search rules
 
 pub made_differ : (c : Command) → HasDifferentNames (made_by c)
 made_differ (Gen number) = differ (generated_files number) (generated_apart number)
@@ -171,10 +113,7 @@ module _ (config : Configuration) (is : IsConfiguration config) (journal : List 
 
 shots_few : (es : List Entry) → shots es ≤ length (user_actions_of es)
 shots_few [] = omega arith
-shots_few (entry.Call sid call r ∷ es) = shots_few es
-shots_few (entry.Input dev routed ∷ es) = let more = shots_few es in omega arith
-shots_few (entry.Shot number ∷ es) = let more = shots_few es in omega arith
-shots_few (entry.Final ∷ es) = shots_few es
+shots_few (e ∷ es) = grind (arith, shots_few es)
 
 -- ---- all files of a run
 
@@ -279,3 +218,47 @@ puts_differ law fronts old c journal run =
     let all : Apart (run.outputs ++ run.added) = outputs_apart s run.files_are.runnable journal run.headline.one_journal
     law fronts run.added more run.outputs run.are (made_apart c s run.files_are.of_command) in
     differ run.puts (rw run.puts_are all)
+
+-- ---- pieces of a text that are said one after the other
+
+-- a piece, and then the rest of the text
+pub says_then : {T : Type 0} (old : StoreModel) (a b : List ℕ) (mid new : StoreModel) (r : Result T PutError)
+    → mid ≡ with_said old a → Says mid b new r → Says old (a ++ b) new r
+says_then old a b mid new (Ok x) e h = h ∙ ap (λ (s : StoreModel). with_said s b) e ∙ saying-saying old a b
+says_then old a b mid new (Err x) e h =
+    let same : with_said mid h.0 ≡ with_said old (a ++ h.0) = ap (λ (s : StoreModel). with_said s h.0) e
+    ∙ saying-saying old a h.0 in (
+      a ++ h.0,
+      h.1,
+      ap (λ (t : List ℕ). a ++ t) h.2 ∙ sym (append_assoc a h.0 h.1),
+      subst (λ (s : StoreModel). SayingRefused s new x) same h.3,
+    )
+
+-- a piece that was refused
+pub says_stop : (T : Type 0) (old : StoreModel) (a b text : List ℕ) (mid new : StoreModel) (e : PutError)
+    → mid ≡ with_said old a → Says {T = T} mid b new (Err e) → (rest : List ℕ) → text ≡ a ++ (b ++ rest)
+    → Says {T = T} old text new (Err e)
+says_stop T old a b text mid new e is h rest whole =
+    let same : with_said mid h.0 ≡ with_said old (a ++ h.0) = ap (λ (s : StoreModel). with_said s h.0) is
+    ∙ saying-saying old a h.0 in (
+      a ++ h.0,
+      h.1 ++ rest,
+      whole ∙ ap (λ (t : List ℕ). a ++ (t ++ rest)) h.2
+          ∙ ap (λ (t : List ℕ). a ++ t) (append_assoc h.0 h.1 rest) ∙ sym (append_assoc a h.0 (h.1 ++ rest)),
+      subst (λ (s : StoreModel). SayingRefused s new e) same h.3,
+    )
+
+-- the first piece was refused
+pub says_none : (T : Type 0) (old : StoreModel) (b rest : List ℕ) (new : StoreModel) (e : PutError)
+    → Says {T = T} old b new (Err e) → Says {T = T} old (b ++ rest) new (Err e)
+says_none T old b rest new e h = (h.0, h.1 ++ rest, rw (h.2, append_assoc h.0 h.1 rest) refl, h.3)
+
+-- the texts before a place, at it and behind it
+pub flat_map_at : {A B : Type 0} (f : A → List B) (xs : List A) (i : ℕ) (d : A) → i < length xs
+    → flat_map f xs ≡ flat_map f (take i xs) ++ (f (get_or xs i d) ++ flat_map f (drop (i + 1) xs))
+flat_map_at f [] i d lt = absurd (omega arith)
+flat_map_at f (x ∷ xs) zero d lt = refl
+flat_map_at f (x ∷ xs) (suc i) d lt =
+    rw add-one (ap (λ t. f x ++ t) (flat_map_at f xs i d (omega arith)
+    ∙ ap (λ k. flat_map f (take i xs) ++ (f (get_or xs i d) ++ flat_map f (drop k xs))) (add-one i))
+    ∙ sym (append_assoc (f x) (flat_map f (take i xs)) (f (get_or xs i d) ++ flat_map f (drop (suc i) xs))))

@@ -1,25 +1,31 @@
 -- Where a pixel of the outer run's last picture shows the first session's buffer, it shows the last inner frame.
-use Rattle.std.proofs.Common.{◌≡◌, Bool, true, false, cond, ◌+◌, List, [], ◌∷◌, ◌++◌, length}
-use Rattle.std.proofs.Common.{nat_lt, Option, Some, None, refl, inl, inr, ◌⊎◌, ◌∙◌, ℕ, ◌*◌, ◌<◌, ℤ}
-use Rattle.std.proofs.Common.{pos, negsuc, ap, subst, get_or, suc, ◌≤◌, map, take, sym, arith}
-use Rattle.std.proofs.Common.{length-append}
-use Rattle.nit_top.proofs.Basics.{Call, Calls, Close, Event, Gets, Item, Observation, Reply}
-use Rattle.nit_top.proofs.Basics.{Session, Status, Take, accepted, after_observations, by_call}
-use Rattle.nit_top.proofs.Basics.{by_life, by_refusal, by_status, first_none, receive, refusal}
-use Rattle.nit_top.proofs.Basics.{taking, PixelSource, Point, Size, View, Word, among}
-use Rattle.nit_top.proofs.Basics.{black_or_word, buffer_place, index_at, ltb-true, mul-add-lt}
-use Rattle.nit_top.proofs.Basics.{shown_index, source_under, frames_behind, lines_of_frames}
-use Rattle.nit_top.proofs.Basics.{next_frame, woven, Buffer, CanPay, Configuration, Entry}
-use Rattle.nit_top.proofs.Basics.{HoldsAtEnd, IsJournal, Line, MachinesLaw, NestModel, RunFiles}
-use Rattle.nit_top.proofs.Basics.{Setup, ShotFrame, ShowsFrames, ShowsNest, State, buffer_size}
-use Rattle.nit_top.proofs.Basics.{calls_in, calls_of, calls_to_make, cases_Bool, donation_of, done}
-use Rattle.nit_top.proofs.Basics.{first_forbidden, first_session, frames_of, get_or-take}
-use Rattle.nit_top.proofs.Basics.{is_accepted, last_frame, nest_of, nest_script, owner_of, phases}
-use Rattle.nit_top.proofs.Basics.{pixel, projection, replay, script_in, session, shot_frames_of}
-use Rattle.nit_top.proofs.Basics.{slice_index, source_at, static, tables_left, take_all, word_from}
-use Rattle.nit_top.proofs.Basics.{words_left}
+use Rattle.std.proofs.Common.{Bool, List, None, Option, Some, [], ap, ap₂, arith, cond, false}
+use Rattle.std.proofs.Common.{get_or, inl, inr, length, length-append, map, mul_comm, nat_lt}
+use Rattle.std.proofs.Common.{negsuc, refl, subst, suc, sym, take, true, zero, ℕ, ℤ, ◌%◌, ◌*◌, ◌++◌}
+use Rattle.std.proofs.Common.{◌+◌, ◌-◌, ◌/◌, ◌<◌, ◌∙◌, ◌∷◌, ◌≡◌, ◌≤◌, ◌⊎◌}
+use Rattle.nit_top.proofs.Basics.{AgreeInRegion, AllAgreeInRegion, Buffer, Call, Calls, CanPay}
+use Rattle.nit_top.proofs.Basics.{Close, Configuration, Entry, Event, Gets, HasPixels}
+use Rattle.nit_top.proofs.Basics.{HaveOneScreen, HoldsAtEnd, IsJournal, IsPicture, Item, LiesIn}
+use Rattle.nit_top.proofs.Basics.{Line, MachinesLaw, NestModel, Observation, PixelSource, Point}
+use Rattle.nit_top.proofs.Basics.{Rectangle, Region, Reply, RunFiles, Session, Setup, ShotFrame}
+use Rattle.nit_top.proofs.Basics.{Shows, ShowsFrames, ShowsNest, Size, State, Status, Take, View}
+use Rattle.nit_top.proofs.Basics.{Word, accepted, after_observations, among, and_parts, and_true}
+use Rattle.nit_top.proofs.Basics.{black_or_word, buffer_place, buffer_size, by_call, by_life}
+use Rattle.nit_top.proofs.Basics.{by_refusal, by_status, calls_in, calls_of, calls_to_make}
+use Rattle.nit_top.proofs.Basics.{cases_Bool, crop, crop_pixel, div_below, donation_of, done}
+use Rattle.nit_top.proofs.Basics.{film_of, first_forbidden, first_none, first_session}
+use Rattle.nit_top.proofs.Basics.{frames_behind, frames_of, get_or-take, index_at, ints}
+use Rattle.nit_top.proofs.Basics.{is_accepted, last_frame, lines_of_frames, ltb-true, mod_below}
+use Rattle.nit_top.proofs.Basics.{mul-add-lt, nest_of, nest_script, next_frame, owner_of, phases}
+use Rattle.nit_top.proofs.Basics.{picture, picture_header, pixel, pos, projection, range_with_len}
+use Rattle.nit_top.proofs.Basics.{receive, rectangle, rectangle_of, refusal, replay, screen}
+use Rattle.nit_top.proofs.Basics.{script_in, session, shot_frames_of, shown_index, slice_index}
+use Rattle.nit_top.proofs.Basics.{source_at, source_under, spans, spans_holds, spans_tells, static}
+use Rattle.nit_top.proofs.Basics.{stream, tables_left, take_all, taking, word_from, word_of_bytes}
+use Rattle.nit_top.proofs.Basics.{word_seen, words_left, woven}
 use Rattle.nit_journal.specs.Session.{serve}
 use Rattle.nit_top.proofs.NestedRuns.{PhasesStay}
+use Rattle.nit_capture.specs.Crop.{crop_bytes, crop_place}
 use Rattle.nit_events.specs.declared.event.Item.TheVariants as item
 use Rattle.nit_events.specs.declared.event.Status.TheVariants as status
 
@@ -239,3 +245,94 @@ module _ (laws : SeenLaws) (s : Setup) (journal : List Entry) (j : IsJournal s j
             ∙ ap (λ (ss : List (List Line)). slice_index (words_left (script_in ss 0) donation) place) scripts
             ∙ word_at (paid k place at) place inside,
       )
+
+-- A film of a region tells of nothing else.
+
+-- ---- films of pictures that agree
+
+same_words : (f g : ℕ → ℕ) (first count : ℕ) → ((k : ℕ) → k < first + count → f k ≡ g k)
+    → map f (range_with_len first count) ≡ map g (range_with_len first count)
+same_words f g first zero same = refl
+same_words f g first (suc count) same =
+    ap₂ (λ (x : ℕ) (xs : List ℕ). x ∷ xs) (same first (omega arith))
+    (same_words f g (first + 1) count (λ k lt. same k (omega arith)))
+
+some_columns : (w h k : ℕ) → k < w * h → 0 < w
+some_columns zero h k lt = absurd (omega arith)
+some_columns (suc w) h k lt = omega arith
+
+same_crop : (region : Region) (config : Configuration) (a b : List ℕ) → AgreeInRegion region config a b
+    → crop_bytes config.width config.height (rectangle_of region) a
+    ≡ crop_bytes config.width config.height (rectangle_of region) b
+unfolding crop_bytes crop_place
+same_crop region config a b agree =
+    let r = rectangle_of region in
+    same_words (crop_pixel config.width config.height r a) (crop_pixel config.width config.height r b) 0
+    (region.w * region.h) (λ k lt.
+    let turned : region.w * region.h ≡ region.h * region.w = mul_comm region.w region.h in
+    let inside : k < region.h * region.w = omega (arith, turned) in
+    let wide : 0 < region.w = some_columns region.w region.h k (omega arith) in
+    let across : k % region.w < region.w = mod_below k region.w wide in
+    let down : k / region.w < region.h = div_below k region.w region.h wide inside in
+    agree (region.x + k % region.w) (region.y + k / region.w) (
+      omega arith,
+      omega (arith, across),
+      omega arith,
+      omega (arith, down),
+    ))
+
+same_crops : (region : Region) (config : Configuration) (a b : List (List ℕ)) → AllAgreeInRegion region config a b
+    → map (crop_bytes config.width config.height (rectangle_of region)) a
+    ≡ map (crop_bytes config.width config.height (rectangle_of region)) b
+same_crops region config [] [] all = refl
+same_crops region config [] (y ∷ b) all = absurd all
+same_crops region config (x ∷ a) [] all = absurd all
+same_crops region config (x ∷ a) (y ∷ b) all =
+    ap₂ (λ (z : List ℕ) (zs : List (List ℕ)). z ∷ zs) (same_crop region config x y all.0)
+    (same_crops region config a b all.1)
+
+pub same_film : (region : Region) (config other : Configuration) (a b : List (List ℕ)) → HaveOneScreen config other
+    → AllAgreeInRegion region config a b → film_of region config a ≡ film_of region other b
+same_film region config other a b screen all =
+    ap (stream region.w region.h) (same_crops region config a b all)
+    ∙ ap₂ (λ (w h : ℕ). stream region.w region.h (map (crop_bytes w h (rectangle_of region)) b)) screen.0 screen.1
+
+-- ---- the word at a pixel
+
+-- one pixel as a rectangle
+abbrev one_pixel : ℕ → ℕ → Rectangle
+one_pixel x y = rectangle (pos x) (pos y) 1 1
+
+on_screen : (width height x y : ℕ) → x < width → y < height → LiesIn (one_pixel x y) (screen width height)
+on_screen width height x y across down p is =
+    let parts = and_parts (spans (pos x) 1 p.x) (spans (pos y) 1 p.y) is in
+    let a = spans_tells (pos x) 1 p.x parts.0 in
+    let d = spans_tells (pos y) 1 p.y parts.1 in
+    and_true (spans_holds (pos 0) width p.x
+    (record { low = omega (arith, ints, a.low); high = omega (arith, ints, a.high, across) }))
+    (spans_holds (pos 0) height p.y
+    (record { low = omega (arith, ints, d.low); high = omega (arith, ints, d.high, down) }))
+
+-- what the law of cut pictures says
+abbrev pub CutLaw : Type 0
+CutLaw = (width height : ℕ) (r : Rectangle) (bytes frame : List ℕ) → LiesIn r (screen width height) → HasPixels r
+    → Shows width height bytes frame → crop_bytes width height r bytes ≡ crop width r frame
+
+seen_by : (config : Configuration) (bytes frame : List ℕ) (x y : ℕ)
+    → crop_bytes config.width config.height (one_pixel x y) bytes ≡ crop config.width (one_pixel x y) frame
+    → word_seen config bytes x y ≡ slice_index frame (y * config.width + x)
+unfolding crop_bytes crop_place
+seen_by config bytes frame x y cut =
+    let here : (y + 0 / 1) * config.width + (x + 0 % 1) ≡ y * config.width + x = omega arith in
+    ap (λ (k : ℕ). word_of_bytes bytes (length bytes - 3 * (config.width * config.height) + 3 * k)) (sym here)
+    ∙ ap (λ (words : List ℕ). slice_index words 0) cut ∙ ap (slice_index frame) here
+
+pub picture_seen : CutLaw → (config : Configuration) (frame : List ℕ) (x y : ℕ)
+    → IsPicture config.width config.height frame → x < config.width → y < config.height
+    → word_seen config (picture config.width config.height frame) x y ≡ slice_index frame (y * config.width + x)
+picture_seen law config frame x y p across down =
+    let shows : Shows config.width config.height (picture config.width config.height frame) frame =
+    record { front = picture_header config.width config.height; bytes_are = refl; picture = p } in
+    seen_by config (picture config.width config.height frame) frame x y
+    (law config.width config.height (one_pixel x y) (picture config.width config.height frame) frame
+    (on_screen config.width config.height x y across down) (omega arith, omega arith) shows)

@@ -1,14 +1,13 @@
 -- The files that a command has put stand in the store at the end.
 
-use Rattle.std.proofs.Common.{◌≡◌, ◌≢◌, ℕ, List, [], ◌∷◌, Option, Some, None, sym, ◌∙◌, suc}
-use Rattle.std.proofs.Common.{arith, ◌++◌, refl, inl, inr, ◌⊎◌}
+use Rattle.std.proofs.Common.{◌≡◌, ◌≢◌, ℕ, List, [], ◌∷◌, Option, Some, None, sym, ◌∙◌, suc, arith}
+use Rattle.std.proofs.Common.{◌++◌, refl, inl, inr, ◌⊎◌}
 use Rattle.nit_top.proofs.Basics.{All, All-from_recursion, AllByRecursion, Apart, AreStored, Begun}
 use Rattle.nit_top.proofs.Basics.{Came, Command, Course, End, Entry, File, HasDifferentNames}
-use Rattle.nit_top.proofs.Basics.{IsCommandRun, IsCutShort, IsMadeInPart, IsMadeUpTo}
-use Rattle.nit_top.proofs.Basics.{IsNotBegun, IsPutBefore, IsPutWhole, NotBegun, OtherThan, PutEach}
-use Rattle.nit_top.proofs.Basics.{PutFiles, Stand, StandIn, StoreModel, WithRun, WithoutRun}
-use Rattle.nit_top.proofs.Basics.{apart_front, apart_of, append-nil, code_of, file_at, made_by}
-use Rattle.nit_top.proofs.Basics.{stays, to_put}
+use Rattle.nit_top.proofs.Basics.{IsCommandRun, IsCutShort, IsMadeInPart, IsMadeUpTo, IsNotBegun}
+use Rattle.nit_top.proofs.Basics.{IsPutBefore, IsPutWhole, NotBegun, OtherThan, PutEach, PutFiles}
+use Rattle.nit_top.proofs.Basics.{Stand, StandIn, StoreModel, WithRun, WithoutRun, apart_front}
+use Rattle.nit_top.proofs.Basics.{apart_of, append-nil, code_of, file_at, made_by, stays, to_put}
 use Rattle.nit_top.proofs.CauseLemmas.{audit_makes_none, not_code, with_run}
 use Rattle.nit_setup.specs.declared.stop.End.TheVariants as ends
 

@@ -7,7 +7,6 @@ pub use Rattle.nit_capture.specs.Film.{stream}
 pub use Rattle.nit_capture.specs.Tiles.{IsPicture}
 pub use Rattle.nit_clip.specs.ClipSpelling.{clip_text}
 pub use Rattle.nit_clip.specs.declared.call.ClipEntry.{ClipEntry}
-pub use Rattle.nit_clip.specs.declared.line.ClipLine.{ClipLine}
 pub use Rattle.nit_config.specs.Configuration.{Configuration, donation_of, member}
 pub use Rattle.nit_config.specs.Configuration.{still_configuration}
 pub use Rattle.nit_config.specs.ConfigurationRanges.{IsConfiguration}
@@ -24,10 +23,10 @@ pub use Rattle.nit_journal.specs.Projection.{Calls, Gets, Observation, after_obs
 pub use Rattle.nit_journal.specs.Projection.{alone_machine, projection, replies_to}
 pub use Rattle.nit_journal.specs.Replay.{IsLegal, replay, shots}
 pub use Rattle.nit_journal.specs.Session.{Session, accepted, by_call, by_life, by_refusal}
-pub use Rattle.nit_journal.specs.Session.{by_status, first_session, receive, refusal, serve, taking}
+pub use Rattle.nit_journal.specs.Session.{by_status, first_session, receive, refusal, taking}
 pub use Rattle.nit_journal.specs.StackAfter.{is_accepted}
 pub use Rattle.nit_journal.specs.State.{State, after, buffer_size, first_state, owner_of, session}
-pub use Rattle.nit_journal.specs.WholeJournals.{IsWhole, calls_of, done, to_do, user_actions_of}
+pub use Rattle.nit_journal.specs.WholeJournals.{IsWhole, calls_of, done, user_actions_of}
 pub use Rattle.nit_nested.specs.FrameScript.{first_forbidden, frames_behind, next_frame, woven}
 pub use Rattle.nit_nested.specs.Nest.{NestModel, lines_of_frames, nest_script}
 pub use Rattle.nit_nested.specs.ShownFrames.{CanPay, ShowsFrames}
@@ -49,7 +48,7 @@ pub use Rattle.nit_rect.specs.Limits.{most_height, most_width}
 pub use Rattle.nit_rect.specs.Rectangle.{Rectangle, rectangle, spans}
 pub use Rattle.nit_rect.specs.declared.point.Point.{Point}
 pub use Rattle.nit_report.specs.EntrySpelling.{event_spelling}
-pub use Rattle.nit_report.specs.EventsText.{ending_text, events_text, taken}
+pub use Rattle.nit_report.specs.EventsText.{ending_text, taken}
 pub use Rattle.nit_report.specs.Generator.{client_script, client_text, generated, is_shot_line}
 pub use Rattle.nit_report.specs.Generator.{script_name, user_script, user_text}
 pub use Rattle.nit_report.specs.JournalText.{ReadsJournal, journal_text}
@@ -91,29 +90,27 @@ pub use Rattle.nit_setup.specs.Asked.{IsAskedInRange, asks_for, command_of}
 pub use Rattle.nit_setup.specs.Command.{Audit, Capture, Clip, Command, Gen, Nested, NoCommand, Run}
 pub use Rattle.nit_setup.specs.Command.{Still, command, starts_threads, texts}
 pub use Rattle.nit_setup.specs.FilesRead.{AllFiles, AllScripts, AreAllFiles, AreAllOuterFiles}
-pub use Rattle.nit_setup.specs.FilesRead.{AreAllScripts, BothFiles, FilesRead, FirstFiles, HasRead}
-pub use Rattle.nit_setup.specs.FilesRead.{InnerFiles, IsOuter, IsSetupOf, NoFile, OuterFiles}
-pub use Rattle.nit_setup.specs.FilesRead.{names_read, next_name}
+pub use Rattle.nit_setup.specs.FilesRead.{AreAllScripts, BothFiles, FilesRead, HasRead, IsOuter}
+pub use Rattle.nit_setup.specs.FilesRead.{IsSetupOf, NoFile, names_read, next_name}
 pub use Rattle.nit_setup.specs.JournalFiles.{IsJournalFault, IsJournalText, IsVerdictOn}
 pub use Rattle.nit_setup.specs.JournalFiles.{most_journal_bytes}
-pub use Rattle.nit_setup.specs.Judgement.{AreOuterFiles, AreSetup, IsConfig, IsRefusedWith, IsValid}
-pub use Rattle.nit_setup.specs.Judgement.{Judged, MayShowFrames, Refused, clip_name, fault_code}
-pub use Rattle.nit_setup.specs.Judgement.{first_other, misfit, names_in, phase_counts, reads}
-pub use Rattle.nit_setup.specs.Judgement.{script_names, too_long_for, unless_other}
+pub use Rattle.nit_setup.specs.Judgement.{AreSetup, IsRefusedWith, IsValid, Judged, MayShowFrames}
+pub use Rattle.nit_setup.specs.Judgement.{Refused, clip_name, fault_code, first_other, misfit}
+pub use Rattle.nit_setup.specs.Judgement.{names_in, phase_counts, reads, script_names, too_long_for}
+pub use Rattle.nit_setup.specs.Judgement.{unless_other}
 pub use Rattle.nit_setup.specs.Reading.{StoppedAt, StoppedBy}
-pub use Rattle.nit_setup.specs.SetupRead.{StoppedReading, files_in, setup_in, setup_with_clips}
+pub use Rattle.nit_setup.specs.SetupRead.{StoppedReading, files_in, setup_in}
 pub use Rattle.nit_setup.specs.StopNames.{first_name, name_text, second_name}
-pub use Rattle.nit_setup.specs.declared.read.Loaded.{Loaded}
 pub use Rattle.nit_setup.specs.declared.stop.End.{End}
 pub use Rattle.nit_setup.specs.declared.stop.Fault.{Fault}
 pub use Rattle.nit_setup.specs.declared.stop.Stop.{Stop}
 pub use Rattle.nit_setup.specs.declared.stop.StopName.{StopName}
 pub use Rattle.nit_setup.specs.declared.words.Asked.{Asked}
-pub use Rattle.nit_stack.specs.Sources.{Bare, Black, PixelSource, Size, Word, among, black_or_word}
-pub use Rattle.nit_stack.specs.Sources.{buffer_place, index_at, pixel, shown_index, source_under}
+pub use Rattle.nit_stack.specs.Sources.{PixelSource, Size, Word, among, black_or_word, buffer_place}
+pub use Rattle.nit_stack.specs.Sources.{index_at, pixel, shown_index, source_under}
 pub use Rattle.nit_stack.specs.declared.view.View.{View}
 pub use Rattle.nit_store.specs.Files.{HasDifferentNames}
-pub use Rattle.nit_store.specs.Puts.{PutState, PutsAll, PutsNext, unrefused}
+pub use Rattle.nit_store.specs.Puts.{PutRefusal, PutState, PutsAll, PutsNext, unrefused}
 pub use Rattle.nit_store.specs.Store.{File, Rose, StoreModel, WriteFaulted, bytes_of, file_at}
 pub use Rattle.nit_store.specs.Store.{with_asked, with_said}
 pub use Rattle.nit_store.specs.declared.store.PutError.{PutError}

@@ -1,7 +1,6 @@
 -- A row of which the words below a place are changed by a function, and the others are as they were.
-use Rattle.std.proofs.Common.{All, List, ap, append-nil, append_assoc, ap₂, arith, drop, get_or}
-use Rattle.std.proofs.Common.{length, map, slice_set, sym, take, take-add, ℕ, ◌++◌, ◌+◌, ◌<◌, ◌∙◌}
-use Rattle.std.proofs.Common.{◌≡◌, ◌≤◌}
+use Rattle.std.proofs.Common.{All, List, ap, append-nil, append_assoc, arith, drop, get_or, length}
+use Rattle.std.proofs.Common.{map, slice_set, take, take-add, ℕ, ◌++◌, ◌+◌, ◌<◌, ◌∙◌, ◌≡◌, ◌≤◌}
 use Rattle.nit_word.proofs.Basics.{All-drop, drop-drop, drop_all, drop_at, get_or_default}
 use Rattle.nit_word.proofs.Basics.{length-chunk, length-map, length-take-le, map-append}
 use Rattle.nit_word.proofs.Basics.{map_over_more, put_chunk_is, take_all, take_at}
@@ -11,17 +10,16 @@ pub record MappedTo (f : ℕ → ℕ) (old : List ℕ) (at : ℕ) (now : List �
   pub inside : at ≤ length old
   pub words : now ≡ map f (take at old) ++ drop at old
 
--- what is done, and what is left
-done_long : (f : ℕ → ℕ) (old now : List ℕ) (at : ℕ) → MappedTo f old at now → length (map f (take at old)) ≡ at
-done_long f old now at far = length-map (take at old) f ∙ length-take-le at old far.inside
+module _ (f : ℕ → ℕ) (old now : List ℕ) (at : ℕ) (far : MappedTo f old at now) where
+  -- what is done, and what is left
+  done_long : length (map f (take at old)) ≡ at
+  done_long = length-map (take at old) f ∙ length-take-le at old far.inside
 
-done_is : (f : ℕ → ℕ) (old now : List ℕ) (at : ℕ) → MappedTo f old at now → take at now ≡ map f (take at old)
-done_is f old now at far = ap (take at) far.words
-    ∙ take_at (map f (take at old)) (drop at old) at (done_long f old now at far)
+  done_is : take at now ≡ map f (take at old)
+  done_is = rw far.words (take_at (map f (take at old)) (drop at old) at done_long)
 
-rest_is : (f : ℕ → ℕ) (old now : List ℕ) (at : ℕ) → MappedTo f old at now → drop at now ≡ drop at old
-rest_is f old now at far = ap (drop at) far.words
-    ∙ drop_at (map f (take at old)) (drop at old) at (done_long f old now at far)
+  rest_is : drop at now ≡ drop at old
+  rest_is = rw far.words (drop_at (map f (take at old)) (drop at old) at done_long)
 
 -- what holds of every word holds of those that are left
 pub rest_all : (P : ℕ → Type 0) (f : ℕ → ℕ) (old now : List ℕ) (at : ℕ) → MappedTo f old at now → All P old
@@ -34,13 +32,8 @@ pub more_mapped : (f : ℕ → ℕ) (old now part : List ℕ) (at n : ℕ) → M
     → MappedTo f old (at + n) (take at now ++ (part ++ drop n (drop at now)))
 more_mapped f old now part at n far room is = record {
   inside = room;
-  words =
-      ap₂ (λ xs ys. xs ++ (part ++ drop n ys)) (done_is f old now at far) (rest_is f old now at far)
-      ∙ ap (λ xs. map f (take at old) ++ (xs ++ drop n (drop at old)))
-      (is ∙ ap (λ xs. map f (take n xs)) (rest_is f old now at far))
-      ∙ sym (append_assoc (map f (take at old)) (map f (take n (drop at old))) (drop n (drop at old)))
-      ∙ ap₂ (λ xs ys. xs ++ ys) (sym (map-append f (take at old) (take n (drop at old)))
-      ∙ ap (map f) (sym (take-add at n old))) (drop-drop n at old);
+  words = rw (is, done_is f old now at far, rest_is f old now at far)
+      (rw (take-add at n old, map-append, append_assoc, drop-drop n at old));
 }
 
 -- the next word too
@@ -59,13 +52,9 @@ pub block_mapped : (f : ℕ → ℕ) (old now block : List ℕ) (at n : ℕ) →
     → at + n ≤ length old
     → block ≡ map f (chunk at n now) → MappedTo f old (at + n) (put_chunk at now block)
 block_mapped f old now block at n far long room is =
-    let block_long : length block ≡ n = ap length is ∙ length-map (chunk at n now) f
-    ∙ length-chunk at n now (omega arith) in
-    let put = put_chunk_is at now block (omega arith)
-    ∙ ap (λ k. take at now ++ (block ++ drop k (drop at now))) block_long in
-    rw put (more_mapped f old now block at n far room is)
+    let block_long : length block ≡ n = rw is (length-map (chunk at n now) f ∙ length-chunk at n now (omega arith)) in
+    rw (put_chunk_is at now block (omega arith), block_long) (more_mapped f old now block at n far room is)
 
 -- no word is left
 pub all_mapped : (f : ℕ → ℕ) (old now : List ℕ) (at : ℕ) → MappedTo f old at now → length old ≤ at → now ≡ map f old
-all_mapped f old now at far done =
-    far.words ∙ ap₂ (λ xs ys. map f xs ++ ys) (take_all at old done) (drop_all at old done) ∙ append-nil (map f old)
+all_mapped f old now at far done = rw (far.words, take_all at old done, drop_all at old done, append-nil)

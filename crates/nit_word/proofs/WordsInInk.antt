@@ -1,30 +1,23 @@
 -- Words that are 0 or of some colours.
-use Rattle.std.proofs.Common.{All, Bool, List, [], arith, false, get_or, length, refl, true, ℕ, ◌+◌}
-use Rattle.std.proofs.Common.{◌<◌, ◌==◌, ◌||◌, ◌≡◌, ◌≤◌}
-use Rattle.nit_word.proofs.Basics.{Any-from_list_any, Colours, IsInked, IsOfColours, IsLoaded, IsLoadedRow, IsWord}
-use Rattle.nit_word.proofs.Basics.{inked_sight, list_any, nat_tests, slice_index}
-
-among_fits : (ink : List ℕ) (w : ℕ) → All IsWord ink → list_any (λ y. y == w) ink ≡ true → IsWord w
-among_fits ink w fit found =
-    let some = Any-from_list_any (λ y. y == w) ink found in
-    let here : IsWord (get_or ink some.0 some.1) = fit some.0 some.1 some.2 in
-    grind (arith, nat_tests, here, some.3, some.4)
+use Rattle.std.proofs.Common.{All, List, [], arith, get_or, inl, inr, length, ℕ, ◌+◌, ◌<◌, ◌==◌}
+use Rattle.std.proofs.Common.{◌≡◌, ◌≤◌}
+use Rattle.nit_word.proofs.Basics.{Any-from_list_any, Colours, IsInked, IsLoaded, IsLoadedRow}
+use Rattle.nit_word.proofs.Basics.{IsOfColours, IsWord, cases_Bool, inked_sight, nat_tests}
+use Rattle.nit_word.proofs.Basics.{slice_index}
 
 -- 0 is a word, and so is each of the colours
 pub inked_fits : (ink : List ℕ) (w : ℕ) → All IsWord ink → IsOfColours ink w → IsWord w
-inked_fits ink w fit inked = by_zero (w == 0) refl
-  where
-    by_zero : (b : Bool) → (w == 0) ≡ b → IsWord w
-    by_zero true is = grind (arith, nat_tests)
-    by_zero false is = among_fits ink w fit (rw is at inked)
+inked_fits ink w fit inked = elim (cases_Bool (w == 0)) [
+  | inl is ↦ grind (arith, nat_tests)
+  | inr is ↦
+      let some = Any-from_list_any (λ y. y == w) ink (rw is at inked) in
+      let here = fit some.0 some.1 some.2 in
+      grind (arith, nat_tests, some.3, some.4)
+]
 
 -- nothing but 0 is of no colours
 pub no_ink : (i w : ℕ) → IsInked (Colours []) i w → w ≡ 0
-no_ink i w inked = by_zero (w == 0) refl inked
-  where
-    by_zero : (b : Bool) → (w == 0) ≡ b → (b || false) ≡ true → w ≡ 0
-    by_zero true is some = grind (arith, nat_tests)
-    by_zero false is some = cc
+no_ink i w inked = grind (arith, nat_tests)
 
 pub all_fit : (ink words : List ℕ) → All IsWord ink → All (IsOfColours ink) words → All IsWord words
 all_fit ink words fit inked i d lt = inked_fits ink (get_or words i d) fit (inked i d lt)

@@ -9,9 +9,6 @@ returns-clause-count c = λ config scripts input journal words (raw, near, is). 
 pub returns-clause-each : goal.returns-clause-each
 returns-clause-each c = λ config scripts input journal words k (raw, near, is) inside.
     let s = scenery_of (replay config journal) in
-    let w = slice_index_or raw k 0 in (
-      w,
-      near k inside,
-      ap (λ (ws : List ℕ). slice_index ws k) is ∙ c.frame_pixels.ensures.each s raw k inside
-          ∙ ap (λ (config : Configuration). shown s (pixel config.width k) w) (same_throughout config journal),
-    )
+    let w = slice_index_or raw k 0 in
+    let same = ap (λ (config : Configuration). shown s (pixel config.width k) w) (same_throughout config journal) in
+    (w, near k inside, ap (λ (ws : List ℕ). slice_index ws k) is ∙ c.frame_pixels.ensures.each s raw k inside ∙ same)

@@ -8,14 +8,12 @@ returns-in-Call c =
     let e = c.serve.ensures in
     let passed = e.served.pass in
     record {
-      on = step_on c.args.room.now c.serve.new.self c.args.pass.now c.serve.new.pass c.args.user.now _ _ _ _
-          c.requires.alone.step (at_line _ _ _ c.requires.next c.in-Call.is) refl
+      on = step_on c.requires.alone.step (at_line _ _ _ c.requires.next c.in-Call.is) refl
           (ap (λ (r : RoomModel). r.parts) e.room) (ap (λ (r : RoomModel). r.phase) e.room)
           (ap (λ (r : RoomModel). r.arrived) e.room) passed;
       unended = search rules;
-      recorded = call_recorded c.args.room.now.scene.entries c.serve.new.self.scene.entries c.args.pass.now
-          c.serve.new.pass _ _ _ _ _ (at_call _ _ _ c.requires.next c.in-Call.is)
-          (ap (λ (r : RoomModel). r.scene.entries) e.room) passed;
+      recorded = call_recorded c.args.room.now.scene.entries c.args.pass.now _
+          (at_call _ _ _ c.requires.next c.in-Call.is) (ap (λ (r : RoomModel). r.scene.entries) e.room) passed;
     }
 
 pub returns-in-Stroke : goal.returns-in-Stroke
@@ -24,8 +22,7 @@ returns-in-Stroke c =
     let e = c.stroke.ensures in
     let entries = ap (λ (r : RoomModel). r.scene.entries) e.room in
     record {
-      on = step_on c.args.room.now c.stroke.new.room c.args.pass.now c.stroke.new.pass c.args.user.now _ _ _ _
-          c.requires.alone.step at refl (ap (λ (r : RoomModel). r.parts) e.room)
+      on = step_on c.requires.alone.step at refl (ap (λ (r : RoomModel). r.parts) e.room)
           (ap (λ (r : RoomModel). r.phase) e.room) (ap (λ (r : RoomModel). r.arrived) e.room) e.pass;
       unended = search rules;
       recorded = nothing_recorded c.args.room.now.scene.entries c.stroke.new.room.scene.entries c.args.pass.now

@@ -10,7 +10,5 @@ arrive_user-requires c = record {
 
 pub returns-clause-on : goal.returns-clause-on
 returns-clause-on c =
-    phase_ended c.args.room.now c.arrive.new.self c.arrive_user.new.self c.args.pass.now c.arrive.new.pass
-    c.args.user.now c.arrive_user.new.user _ _ _ _ _
-    c.requires.step c.requires.next c.arrive.ensures.room c.arrive_user.ensures.room c.arrive.ensures.pass
-    c.arrive_user.ensures.user
+    phase_ended _ _ c.requires.step c.requires.next c.arrive.ensures.room c.arrive_user.ensures.room
+    c.arrive.ensures.pass c.arrive_user.ensures.user

@@ -5,12 +5,7 @@ pub returns : goal.returns
 returns g c =
     let u = c.args.user.now in
     let is = c.arrive_user.ensures.user in
+    let next = ap (λ (v : UserPassModel). v.next) is in
     quiet_phase u c.arrive_user.new.user c.arrive_user.ensures.raws_grow
-    (record {
-      same = ap user_role_of is;
-      next = ap (λ (v : UserPassModel). v.next) is;
-      line_is = c.requires.next;
-      before_is = c.next-known.ensures.known;
-      after_is = c.next-known-2.ensures.known;
-    })
+    (assumption (ap user_role_of is, next, c.requires.next, c.next-known.ensures.known, c.next-known-2.ensures.known))
     c.arrive_user.ensures.grows

@@ -15,18 +15,8 @@ returns g c =
         raws = grown_raws t.ensures.told;
         put = puts_shot g.N.Name.parts c.args.user.now t.new.user t.result c.size-width.result.0
             c.size-width.result.1 t.new.frame.items _ _
-            (record {
-              same = same;
-              next = next;
-              line_is = c.requires.next;
-              before_is = c.next-known.ensures.known;
-              after_is = c.next-known-2.ensures.known;
-            })
+            (assumption (same, next, c.requires.next, c.next-known.ensures.known, c.next-known-2.ensures.known))
             t.ensures.told c.size-width.ensures.size c.put_copied.ensures.put;
-        desk = record {
-          frame = ap length kept.frame ∙ t.ensures.frame;
-          text = kept.text;
-          same_store = kept.same_store;
-        };
+        desk = assumption (ap length kept.frame ∙ t.ensures.frame, kept);
       };
     }

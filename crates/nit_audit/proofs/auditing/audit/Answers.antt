@@ -1,6 +1,5 @@
-use Rattle.nit_audit.proofs.Lemmas.{IsGood, IsLegal, IsVerdict, IsWhole, answered_yes}
-use Rattle.nit_audit.proofs.Lemmas.{calls_to_make, if_ok, if_ok_yes, map, only_one}
-use Rattle.nit_audit.proofs.Lemmas.{user_actions_to_do}
+use Rattle.nit_audit.proofs.Lemmas.{IsGood, IsLegal, IsVerdict, IsWhole, calls_to_make, if_ok}
+use Rattle.nit_audit.proofs.Lemmas.{if_ok_yes, map, only_one, user_actions_to_do}
 use Rattle.nit_audit.proofs.auditing.audit.Goals as goal
 
 pub returns-clause-only : goal.returns-clause-only
@@ -23,5 +22,4 @@ pub returns-clause-alone : goal.returns-clause-alone
 returns-clause-alone c is s inside =
     c.yes_is_served_alone.ensures c.args.config.now (map calls_to_make c.args.scripts.now)
     (user_actions_to_do c.args.input.now) c.args.entries.now s
-    (answered_yes (IsVerdict (IsGood c.args.config.now c.args.scripts.now c.args.input.now) c.args.entries.now)
-    c.judged.result c.judged.ensures is) inside
+    (rw is at c.judged.ensures) inside

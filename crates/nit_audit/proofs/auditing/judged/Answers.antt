@@ -1,5 +1,5 @@
-use Rattle.std.proofs.Common.{arith, length}
-use Rattle.nit_audit.proofs.Lemmas.{ahead_on, many_still, verdict_bad, verdict_ended}
+use Rattle.std.proofs.Common.{arith}
+use Rattle.nit_audit.proofs.Lemmas.{Audited, ahead_on, ap, keep_many, verdict_bad, verdict_ended}
 use Rattle.nit_audit.proofs.Lemmas.{verdict_unended}
 use Rattle.nit_audit.proofs.auditing.judged.Goals as goal
 
@@ -20,7 +20,8 @@ entries-preserved c =
     record {
       kept = f.kept;
       count = omega (arith, f.count, c.entries.invariant.count);
-      many = many_still _ _ _ _ (length c.args.config.now.clients) f c.entries.invariant.many;
+      many = rw (ap (λ (a : Audited). a.clients) f.audit, keep_many _ c.index-entries-i.result)
+          c.entries.invariant.many;
       ahead = ahead_on _ _ _ _ _ c.entries.i c.index-entries-i.result c.entries-test.true c.index-entries-i.is
           c.in_default.not-Final c.entries.invariant.ahead f;
     }

@@ -3,14 +3,10 @@ use Rattle.nit_capture.specs.Film.{tile_bytes}
 use Rattle.nit_capture.proofs.writing.append_tile.Goals as goal
 
 pub overflow_cast-tile-2 : goal.overflow_cast-tile-2
-overflow_cast-tile-2 c = let few =
-    tiles_few c.args.tile.grid.width c.args.tile.grid.height c.args.tile.grid.size in omega
-    (arith, few, c.args.tile.in_picture)
+overflow_cast-tile-2 c = grind (arith, tiles_few)
 
 pub write_runs-end-requires-clause-words : goal.write_runs-end-requires-clause-words
-write_runs-end-requires-clause-words c =
-    rw (c.area.ensures.value, c.tile_words-words.ensures)
-    (tile_fits c.args.tile.grid.width c.args.tile.grid.height c.args.tile.number c.args.picture.now c.requires)
+write_runs-end-requires-clause-words c = grind (arith, tile_fits)
 
 pub returns : goal.returns
 unfolding tile_bytes

@@ -1,4 +1,4 @@
-use Rattle.std.proofs.Common.{length, ◌+◌, ◌<◌, ◌∙◌, ◌≡◌, ◌≤◌}
+use Rattle.std.proofs.Common.{length, ◌+◌, ◌<◌, ◌∙◌, ◌≤◌}
 use Rattle.nit_capture.proofs.Lemmas.{ap, arith, high, part_is, part_long, place, place_in_row}
 use Rattle.nit_capture.proofs.Lemmas.{put_long, row_place, row_put, row_room, row_within}
 use Rattle.nit_capture.proofs.Lemmas.{slice_index, span_is, wide}
@@ -31,8 +31,4 @@ loop-row-preserved c =
 
 pub returns : goal.returns
 unfolding area
-returns c =
-    let test = c.loop-row-test.false in
-    let all : c.loop-row.row ≡ high c.args.which.grid.width c.args.which.grid.height c.args.which.number =
-    omega (arith, c.loop-row.auto.row-end, c.high-row-end.ensures.value) in
-    rw (← all) c.loop-row.invariant.value
+returns c = grind arith

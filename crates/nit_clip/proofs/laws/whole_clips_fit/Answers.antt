@@ -2,5 +2,4 @@ use Rattle.nit_clip.proofs.Lemmas.{whole_fit}
 use Rattle.nit_clip.proofs.laws.whole_clips_fit.Goals as goal
 
 pub returns : goal.returns
-returns c = λ config clients user journal scripts clips fit same few short legal whole. whole_fit config clients user
-    journal scripts clips fit same few short legal whole
+returns c = whole_fit

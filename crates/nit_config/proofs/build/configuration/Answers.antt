@@ -1,4 +1,4 @@
-use Rattle.nit_config.proofs.Lemmas.{accepted, arith, built_of, codes, has_bad_label, has_bad_value}
+use Rattle.nit_config.proofs.Lemmas.{accepted, arith, codes, has_bad_label, has_bad_value}
 use Rattle.nit_config.proofs.Lemmas.{integer_at, members_of_values, on_clients, pos, screen_table}
 use Rattle.nit_config.proofs.Lemmas.{table_view, wider, ◌∙◌}
 use Rattle.nit_config.proofs.build.configuration.Goals as goal
@@ -17,11 +17,11 @@ pub script_of-requires : goal.script_of-requires
 script_of-requires c = rw c.table_at.ensures (accepted _ c.requires.accepted).script
 
 pub members-requires-clause-values : goal.members-requires-clause-values
-members-requires-clause-values c = on_clients has_bad_value _ _ c.elements_of.ensures
+members-requires-clause-values c = on_clients _ _ c.elements_of.ensures has_bad_value
     ∙ (accepted _ c.requires.accepted).values
 
 pub members-requires-clause-labels : goal.members-requires-clause-labels
-members-requires-clause-labels c = on_clients has_bad_label _ _ c.elements_of.ensures
+members-requires-clause-labels c = on_clients _ _ c.elements_of.ensures has_bad_label
     ∙ (accepted _ c.requires.accepted).labels
 
 pub returns : goal.returns
@@ -30,5 +30,5 @@ returns c = record {
   height = rw (← c.table_at-screen.ensures) c.required_at-height.ensures;
   bar = rw (← c.table_at-screen.ensures) c.boolean_at-bar.ensures;
   input = rw (← c.table_at.ensures) c.in_ok-input.ensures;
-  clients = built_of _ _ _ (members_of_values _ _ c.elements_of.ensures) c.in_ok-clients.ensures;
+  clients = rw (members_of_values _ _ c.elements_of.ensures) at c.in_ok-clients.ensures;
 }

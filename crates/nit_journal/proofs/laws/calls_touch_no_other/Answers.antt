@@ -1,8 +1,14 @@
-use Rattle.nit_journal.proofs.Lemmas.{call_of_another, only_taken}
+use Rattle.std.proofs.Common.{get_or-set_other}
+use Rattle.nit_journal.proofs.Lemmas.{IsTaken, Session, [], after_set, first_session, refl, serve}
+use Rattle.nit_journal.proofs.Lemmas.{session, taken_served}
 use Rattle.nit_journal.proofs.laws.calls_touch_no_other.Goals as goal
 
-pub returns-clause-others : goal.returns-clause-others
-returns-clause-others c = call_of_another
-
-pub returns-clause-queues : goal.returns-clause-queues
-returns-clause-queues c = only_taken
+pub returns : goal.returns
+returns c =
+    record {
+      others = λ s sid call r x other.
+          get_or-set_other s.sessions sid x (serve (session s sid) call).session (first_session 0) other;
+      queues = λ s sid call r x.
+          after_set (λ (t : Session). IsTaken (session s x).queue t.queue) s.sessions sid x _ (first_session 0)
+          (λ own. rw (← own) (taken_served (session s sid) call)) ([], refl);
+    }

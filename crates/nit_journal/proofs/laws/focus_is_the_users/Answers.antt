@@ -1,11 +1,17 @@
-use Rattle.nit_journal.proofs.Lemmas.{calls_keep, closed, only_by_clicks}
+use Rattle.std.proofs.Common.{inl, inr}
+use Rattle.nit_journal.proofs.Lemmas.{by_way, calls_keep, eq-eqb, refl, routed}
 use Rattle.nit_journal.proofs.laws.focus_is_the_users.Goals as goal
 
-pub returns-clause-calls : goal.returns-clause-calls
-returns-clause-calls c = calls_keep
-
-pub returns-clause-closed : goal.returns-clause-closed
-returns-clause-closed c = closed
-
-pub returns-clause-clicks : goal.returns-clause-clicks
-returns-clause-clicks c = only_by_clicks
+pub returns : goal.returns
+returns c =
+    record {
+      calls = calls_keep;
+      closed = λ s sid r yes_ focused. rw (yes_, focused, eq-eqb sid sid refl) refl;
+      clicks = λ s dev into x e.
+          let w = routed s.config s.input s.stack dev in
+          elim (by_way _ _ _ dev x w.way e) [
+            | inl before ↦ inl before
+            | inr (k, is, button, plain, on, takes) ↦ (let at = w.stays k is in
+                inr (k, is, button, plain, rw (at.0, at.1) at on, rw on at takes))
+          ];
+    }

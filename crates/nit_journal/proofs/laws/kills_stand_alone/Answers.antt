@@ -1,5 +1,10 @@
-use Rattle.nit_journal.proofs.Lemmas.{kills_alone}
+use Rattle.std.proofs.Common.{ap, inl, inr, length}
+use Rattle.nit_journal.proofs.Lemmas.{Any, any_of, none_kills, route_step}
 use Rattle.nit_journal.proofs.laws.kills_stand_alone.Goals as goal
 
 pub returns : goal.returns
-returns c = kills_alone
+returns c config i stack dev some =
+    elim (route_step Any config i stack dev (any_of i.receiver, any_of i.hover, any_of i.focus) (λ k d lt. tt)) [
+      | inl h ↦ (let none = none_kills Any _ h.1 in cc)
+      | inr h ↦ ap length h.alone
+    ]

@@ -1,21 +1,17 @@
-use Rattle.nit_journal.proofs.Lemmas.{live_after, live_along, live_first, live_opened, live_vacant}
-use Rattle.nit_journal.proofs.Lemmas.{told_next}
+use Rattle.std.proofs.Common.{ℕ}
+use Rattle.nit_journal.proofs.Lemmas.{AreLive, [], along, begun, live_after, live_first}
+use Rattle.nit_journal.proofs.Lemmas.{live_opened, refl, told_next}
 use Rattle.nit_journal.proofs.laws.live_sessions_stay.Goals as goal
 
-pub returns-clause-first : goal.returns-clause-first
-returns-clause-first c = live_first
-
-pub returns-clause-vacant : goal.returns-clause-vacant
-returns-clause-vacant c = live_vacant
-
-pub returns-clause-entry : goal.returns-clause-entry
-returns-clause-entry c = live_after
-
-pub returns-clause-opened : goal.returns-clause-opened
-returns-clause-opened c = live_opened
-
-pub returns-clause-steps : goal.returns-clause-steps
-returns-clause-steps c = live_along
-
-pub returns-clause-told : goal.returns-clause-told
-returns-clause-told c = told_next
+pub returns : goal.returns
+returns c =
+    record {
+      first = live_first;
+      vacant = λ config. begun _ refl refl;
+      entry = live_after;
+      opened = live_opened;
+      steps = λ s steps h are. along 0 (λ (a : ℕ) t done. AreLive t) 0
+          (λ a t taken e done agrees live. live_after t taken e live agrees)
+          (λ a t sid label done is live. live_opened t sid label live) 0 s steps [] are h;
+      told = told_next;
+    }

@@ -10,5 +10,5 @@ returns-in_default-found c = λ width a b is span. first_found width c.args.row 
     (rw c.in_default-found.is at is) (rw c.in-Some.is at span)
 
 pub returns : goal.returns
-returns c = λ width a b is span. more_found width c.args.row c.min.result c.max.result a b c.in-Some-found.edges
+returns c = λ width a b is span. more_found width c.args.row a b c.min.result c.max.result c.in-Some-found.edges
     c.in-Some.span c.min.ensures c.max.ensures (rw c.in-Some-found.is at is) (rw c.in-Some.is at span)

@@ -6,14 +6,12 @@ returns-in_err-span-clause-copied c =
     row_merged c.args.now.now c.args.out.now c.copy_row.new.out c.args.columns.0 c.args.columns.1 _ refl
     c.requires.order c.requires.fits c.requires.long c.copy_row.ensures.copied
 
-pub returns-clause-copied : goal.returns-clause-copied
-returns-clause-copied c =
-    row_merged c.args.now.now c.args.out.now c.copy_row.new.out c.args.columns.0 c.args.columns.1 _ refl
-    c.requires.order c.requires.fits c.requires.long c.copy_row.ensures.copied
-
-pub returns-clause-span : goal.returns-clause-span
-returns-clause-span c =
-    span_shifted c.args.now.now c.args.out.now _ c.args.columns.0 c.args.columns.1 _ refl c.requires.order
-    (row_merged c.args.now.now c.args.out.now c.copy_row.new.out c.args.columns.0 c.args.columns.1 _ refl
-    c.requires.order c.requires.fits c.requires.long c.copy_row.ensures.copied)
-    c.in_ok-span.span c.in_ok-span.ensures.span
+pub returns : goal.returns
+returns c =
+    let merged = row_merged c.args.now.now c.args.out.now c.copy_row.new.out c.args.columns.0 c.args.columns.1 _ refl
+    c.requires.order c.requires.fits c.requires.long c.copy_row.ensures.copied in
+    record {
+      copied = merged;
+      span = span_shifted _ _ _ _ c.args.columns.1 _ refl c.requires.order merged c.in_ok-span.span
+          c.in_ok-span.ensures.span;
+    }

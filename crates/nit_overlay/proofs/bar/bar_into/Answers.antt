@@ -9,14 +9,9 @@ rows-preserved c =
     let wide : width ≡ stack.width = ap (λ size. size.0) c.size-width.ensures.size in
     let high : c.size-width.result.1 ≡ stack.height = ap (λ size. size.1) c.size-width.ensures.size in
     let below : c.rows.y < stack.bar = omega (arith, c.rows-test.true, c.bar-y-end.ensures.rows) in
-    let row : (c.rows.y + 1) * width ≤ stack.height * width =
-    mul-le-mul_right width (omega (
-      arith,
-      high,
-      c.rows-test.true,
-      c.bar-y-end.ensures.range,
-      c.size-width.ensures.range,
-    )) in
+    let far : c.rows.y + 1 ≤ stack.height =
+    omega (arith, high, c.rows-test.true, c.bar-y-end.ensures.range, c.size-width.ensures.range) in
+    let row : (c.rows.y + 1) * width ≤ stack.height * width = mul-le-mul_right width far in
     let count : width * stack.height ≡ stack.width * stack.height = ap (λ n. n * stack.height) wide in
     next_of (λ x y w. bar_word (scenery c.args.look.now) (point x y)) c.rows.invariant (c.overlay_bar.ensures _)
     (omega arith) (omega arith) below (omega (arith, row, count, c.requires.out, c.rows.auto.out)) (omega arith)

@@ -4,7 +4,7 @@ use Rattle.nit_overlay.proofs.overlay.frame_into.Goals as goal
 
 pub returns-clause-frame : goal.returns-clause-frame
 returns-clause-frame c =
-    is_frame _ c.args.look.now c.args.raw.now c.args.out.now c.overlay_area.new.out c.overlay_area.ensures
+    is_frame _ c.args.look.now c.overlay_area.ensures
     (λ x y lt less. is_whole c.args.look.now.stack.now.width c.args.look.now.stack.now.height c.size-width.result.0
     c.size-width.result.1 x y
     (ap (λ size. size.0) c.size-width.ensures.size) (ap (λ size. size.1) c.size-width.ensures.size) lt less)

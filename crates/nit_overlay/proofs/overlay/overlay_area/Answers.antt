@@ -1,6 +1,5 @@
-use Rattle.std.proofs.Common.{ap, arith, ℕ, ◌*◌, ◌+◌, ◌≡◌, ◌≤◌}
-use Rattle.nit_overlay.proofs.Lemmas.{last_row, mul-le-mul_right, next_of, pixel, point, scenery}
-use Rattle.nit_overlay.proofs.Lemmas.{shown}
+use Rattle.std.proofs.Common.{ap, arith, ◌*◌, ◌+◌, ◌≡◌, ◌≤◌}
+use Rattle.nit_overlay.proofs.Lemmas.{last_row, mul-le-mul_right, next_of, point, scenery, shown}
 use Rattle.nit_overlay.proofs.overlay.overlay_area.Goals as goal
 
 pub rows-preserved : goal.rows-preserved
@@ -21,6 +20,5 @@ returns c =
     let wide : width ≡ stack.width = ap (λ size. size.0) c.size-width.ensures.size in
     let row : c.args.area.now.bottom * width ≤ stack.height * width = mul-le-mul_right width c.requires.area.bottom in
     let count : width * stack.height ≡ stack.width * stack.height = ap (λ n. n * stack.height) wide in
-    let f = λ (k w : ℕ). shown (scenery c.args.look.now) (pixel width k) w in
     let done : c.rows.y ≡ c.args.area.now.bottom = omega (arith, c.rows.invariant.inside) in
-    rw wide at (last_row f (stack.width * stack.height) (rw done at c.rows.invariant) (omega arith) (omega arith))
+    rw wide at (last_row {count = stack.width * stack.height} (rw done at c.rows.invariant) (omega arith) (omega arith))

@@ -5,21 +5,14 @@ pub returns-then-covered-clause-owner : goal.returns-then-covered-clause-owner
 returns-then-covered-clause-owner c = record {
   after = c.reach-covered.ensures.after;
   within = omega arith;
-  all =
-      λ z from less.
-      owned_run c.args.look.now.stack.now.views c.args.look.now.stack.now.bar c.views.i c.args.x c.args.y c.args.to
-      c.views.end c.reach-covered.result.1 _
-      c.views.invariant c.view_at-view.ensures.place c.reach-covered.ensures.within
-      (λ u from_u less_u. c.reach-covered.ensures.all u from_u less_u ∙ c.if-covered.true) c.requires.below z from
-      less;
+  all = owned_run c.args.look.now.stack.now.bar c.reach-covered.result.1 c.views.invariant c.view_at-view.ensures.place
+      c.reach-covered.ensures.within
+      (λ u from less. c.reach-covered.ensures.all u from less ∙ c.if-covered.true) c.requires.below;
 }
 
 pub returns-clause-owner : goal.returns-clause-owner
 returns-clause-owner c = record {
   after = omega arith;
   within = omega arith;
-  all =
-      bare_run c.args.look.now.stack.now.views c.args.look.now.stack.now.bar c.views.i c.args.x c.args.y c.args.to
-      c.views.end c.views.invariant
-      (omega arith) c.requires.below;
+  all = bare_run c.args.look.now.stack.now.bar c.views.invariant (omega arith) c.requires.below;
 }

@@ -1,4 +1,4 @@
-use Rattle.std.proofs.Common.{arith, length, ℕ, ◌%◌, ◌*◌, ◌+◌, ◌/◌, ◌≡◌, ◌≤◌}
+use Rattle.std.proofs.Common.{arith, ◌*◌, ◌+◌, ◌≡◌, ◌≤◌}
 use Rattle.nit_overlay.proofs.Lemmas.{last_row, mul-le-mul_right, next_of, word_by}
 use Rattle.nit_overlay.proofs.piece.overlay_block.Goals as goal
 
@@ -12,6 +12,5 @@ rows-preserved c =
 pub returns : goal.returns
 returns c =
     let width = c.args.width in
-    let f = λ (k w : ℕ). word_by c.args.rule.now (k % width) (k / width) w in
     let done : c.rows.y ≡ c.args.area.now.bottom = omega (arith, c.rows.invariant.inside) in
-    last_row f (length c.args.raw.now) (rw done at c.rows.invariant) (omega arith) c.requires.area.within
+    last_row (rw done at c.rows.invariant) (omega arith) c.requires.area.within

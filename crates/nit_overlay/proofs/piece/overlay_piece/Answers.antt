@@ -1,4 +1,4 @@
-use Rattle.std.proofs.Common.{Some, ap, arith, length, rules, sym, true, ℕ, ◌<◌, ◌∙◌, ◌≡◌}
+use Rattle.std.proofs.Common.{Some, ap, arith, rules, sym, true, ℕ, ◌<◌, ◌∙◌, ◌≡◌}
 use Rattle.nit_overlay.proofs.Lemmas.{area_as, in_area, in_columns, in_rows, option_map, point}
 use Rattle.nit_overlay.proofs.Lemmas.{rect_shown, scenery, seat_owner, shown, shown_owned, view_ref}
 use Rattle.nit_overlay.proofs.Lemmas.{view_word}
@@ -11,7 +11,6 @@ returns-in-Some c =
     let s = scenery look in
     let area = c.area_of-area.result in
     let view = c.owner_of-owner.result.view in
-    let now = c.overlay_view.new.out in
     let wide : c.size-width.result.0 ≡ stack.width = ap (λ size. size.0) c.size-width.ensures.size in
     let high : c.size-width.result.1 ≡ stack.height = ap (λ size. size.1) c.size-width.ensures.size in
     let owned : (x y : ℕ) → in_area area x y ≡ true
@@ -23,10 +22,9 @@ returns-in-Some c =
     let above : y < c.size-width.result.1 = omega (arith, down, c.area_of-area.ensures.area.bottom) in
     sym c.in-Some.is ∙ c.requires.owner (point x y) (sym (c.area_of-area.ensures.same x y left above) ∙ on) in
     record {
-      pixels = rect_shown area look c.args.piece.now.rect c.args.raw.now c.args.out.now now
+      pixels = rect_shown area look c.args.piece.now.rect
           (rw c.requires.words.raw at
           (area_as (λ x y w. view_word look.mode s view (point x y) w) (λ x y w. shown s (point x y) w) area stack.width
-          c.args.raw.now c.args.out.now now (length c.args.raw.now)
           (λ x y w on. sym (shown_owned look (point x y) w c.in-Some.v view c.owner_of-owner.ensures.standing.slots
           (owned x y on) c.owner_of-owner.ensures.view))
           c.overlay_view.ensures))
@@ -39,8 +37,7 @@ returns-in-None c =
     let wide = ap (λ (size : ℕ × ℕ). size.0) c.size-width.ensures.size in
     let high = ap (λ (size : ℕ × ℕ). size.1) c.size-width.ensures.size in
     record {
-      pixels = rect_shown c.area_of-area.result c.args.look.now c.args.piece.now.rect c.args.raw.now c.args.out.now
-          c.overlay_unowned.new.out c.overlay_unowned.ensures
+      pixels = rect_shown c.area_of-area.result c.args.look.now c.args.piece.now.rect c.overlay_unowned.ensures
           (λ x y lt less. c.area_of-area.ensures.same x y (omega arith) (omega arith));
       count = search rules;
     }

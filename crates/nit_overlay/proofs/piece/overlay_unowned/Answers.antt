@@ -1,4 +1,4 @@
-use Rattle.std.proofs.Common.{ap, arith, sym, ℕ, ◌%◌, ◌*◌, ◌+◌, ◌/◌, ◌≡◌, ◌≤◌}
+use Rattle.std.proofs.Common.{ap, arith, sym, ◌*◌, ◌+◌, ◌≡◌, ◌≤◌}
 use Rattle.nit_overlay.proofs.Lemmas.{area_as, last_row, mul-le-mul_right, next_of, point, scenery}
 use Rattle.nit_overlay.proofs.Lemmas.{shown, shown_unowned, unowned_word}
 use Rattle.nit_overlay.proofs.piece.overlay_unowned.Goals as goal
@@ -23,10 +23,8 @@ returns c =
     let row : c.args.area.now.bottom * width ≤ stack.height * width =
     mul-le-mul_right width c.requires.area.area.bottom in
     let count : width * stack.height ≡ stack.width * stack.height = ap (λ n. n * stack.height) wide in
-    let f = λ (k w : ℕ). unowned_word s (point (k % width) (k / width)) in
     let done : c.rows.y ≡ c.args.area.now.bottom = omega (arith, c.rows.invariant.inside) in
     rw wide at
-    (area_as (λ x y w. unowned_word s (point x y)) (λ x y w. shown s (point x y) w) c.args.area.now width c.args.raw.now
-    c.args.out.now c.rows.out _
+    (area_as (λ x y w. unowned_word s (point x y)) (λ x y w. shown s (point x y) w) c.args.area.now width
     (λ x y w on. sym (shown_unowned c.args.look.now (point x y) w (c.requires.owner x y on)))
-    (last_row f (stack.width * stack.height) (rw done at c.rows.invariant) (omega arith) (omega arith)))
+    (last_row {count = stack.width * stack.height} (rw done at c.rows.invariant) (omega arith) (omega arith)))

@@ -1,12 +1,11 @@
 use Rattle.std.proofs.Common.{◌≤◌}
 use Rattle.nit_overlay.proofs.Lemmas.{ap, arith, bar_shown, bar_word, below_bar, further, owner}
-use Rattle.nit_overlay.proofs.Lemmas.{owner_word, painted_by, point, scenery, shown, sym, ◌∙◌}
+use Rattle.nit_overlay.proofs.Lemmas.{owner_word, painted_by, point, scenery, sym, ◌∙◌}
 use Rattle.nit_overlay.proofs.row.overlay_row.Goals as goal
 
 pub returns-then-part-bar : goal.returns-then-part-bar
 returns-then-part-bar c =
-    bar_shown (scenery c.args.look.now) c.args.part.y c.args.part.from c.args.part.to c.args.raw.now c.args.out.now
-    c.overlay_bar.new.out (omega (arith, c.if-part-bar.true, c.bar.ensures.rows))
+    bar_shown (scenery c.args.look.now) c.args.part.y (omega (arith, c.if-part-bar.true, c.bar.ensures.rows))
     (c.overlay_bar.ensures c.args.raw.now)
 
 pub pieces-preserved : goal.pieces-preserved
@@ -14,10 +13,7 @@ pieces-preserved c =
     let s = scenery c.args.look.now in
     let y = c.args.part.y in
     let below : s.bar ≤ y = omega (arith, c.if-part-bar.false, c.bar.ensures.rows) in
-    further (λ x w. shown s (point x y) w) c.args.raw.now c.args.out.now c.pieces.out c.overlay_owned.new.out
-    c.args.part.from c.args.part.to c.pieces.x c.piece_at-piece.result.end
-    c.pieces.invariant (omega arith) (omega arith)
-    (painted_by _ _ c.args.raw.now c.pieces.out c.overlay_owned.new.out c.pieces.x c.piece_at-piece.result.end
-    (λ k w le lt. ap (λ o. owner_word s (point k y) w o) (sym (c.piece_at-piece.ensures.owner.all k le lt))
+    further c.pieces.invariant (omega arith) (omega arith) (painted_by c.overlay_owned.ensures (λ k w le lt.
+    ap (λ o. owner_word s (point k y) w o) (sym (c.piece_at-piece.ensures.owner.all k le lt))
     ∙ sym (below_bar s.bar y k (bar_word s (point k y)) (owner_word s (point k y) w (owner s.bar s.stack (point k y)))
-    below)) c.overlay_owned.ensures)
+    below)))

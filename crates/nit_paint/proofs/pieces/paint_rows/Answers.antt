@@ -1,6 +1,6 @@
-use Rattle.std.proofs.Common.{ap, arith, pos, refl, sym, ◌*◌, ◌∙◌, ◌≡◌, ◌+ℤ◌}
-use Rattle.nit_paint.proofs.Lemmas.{among, black_or_word, index_at, ints, option_map, reached}
-use Rattle.nit_paint.proofs.Lemmas.{row_told, rows_end, rows_more, rows_none, to_z-of_z}
+use Rattle.std.proofs.Common.{ap, arith, refl, sym, ◌*◌, ◌∙◌, ◌≡◌}
+use Rattle.nit_paint.proofs.Lemmas.{among, ints, option_map, row_told, rows_more, rows_none}
+use Rattle.nit_paint.proofs.Lemmas.{to_z-of_z}
 use mir.Syntax.{w32}
 use mir.Val.{of_z, to_z}
 use Rattle.nit_paint.proofs.pieces.paint_rows.Goals as goal
@@ -31,8 +31,5 @@ rows-preserved g c =
 pub returns-clause-painted : goal.returns-clause-painted
 returns-clause-painted g c source sid others told =
     let same : c.args.row ≡ to_z w32 (of_z w32 c.args.row) = sym (to_z-of_z w32 c.args.row c.ranges.row) in
-    rows_end source c.args.block.now _ _ _ _ _ _ _ (omega arith)
-    (c.rows.invariant.painted source sid others
-    (λ j i l m. told j i l m ∙ ap
-    (λ z. black_or_word sid (index_at c.args.size.0 (reached c.args.reach.now i)
-    (among (z +ℤ pos j) c.args.size.1))) same))
+    let done : c.rows.j ≡ c.args.block.now.tall = omega arith in
+    rw done at (c.rows.invariant.painted source sid others (λ j i l m. rw same at (told j i l m)))

@@ -1,4 +1,4 @@
-use Rattle.std.proofs.Common.{◌++◌, ◌∷◌, []}
+use Rattle.std.proofs.Common.{[], ◌++◌, ◌∷◌}
 use Rattle.nit_perform.proofs.added.put_film.Goals as goal
 
 pub returns-then-whole-clause-whole : goal.returns-then-whole-clause-whole

@@ -1,17 +1,13 @@
-use Rattle.nit_perform.proofs.Lemmas.{HasRun, StoreModel, all_done, beside_leaves, ended_as, rules}
-use Rattle.nit_perform.proofs.Lemmas.{setup_in, subst, user_done}
+use Rattle.nit_perform.proofs.Lemmas.{HasRun, StoreModel, all_done, are_all_done, beside_leaves}
+use Rattle.nit_perform.proofs.Lemmas.{ended_as, rules, setup_in, subst}
 use Rattle.nit_perform.proofs.beside.run_named.Goals as goal
 
 pub last_picture-scene-requires-clause-done : goal.last_picture-scene-requires-clause-done
 last_picture-scene-requires-clause-done g c =
     let mine = c.run_beside-mine in
-    record {
-      clients_done = rw c.into_room-room.ensures.parts (all_done mine.new.passes.items c.requires.ready
-          mine.ensures.actors.same mine.ensures.actors.done);
-      user_done = rw c.into_room-room.ensures.parts (user_done c.requires.ready.user_belongs
-          mine.ensures.user.shots.same mine.ensures.user.done);
-      unended = c.into_room-room.ensures.«open»;
-    }
+    let room = c.into_room-room.ensures in
+    are_all_done room.parts room.«open» (all_done mine.new.passes.items c.requires.ready mine.ensures.actors.same
+    mine.ensures.actors.done) c.requires.ready.user_belongs mine.ensures.user.shots.same mine.ensures.user.done
 
 pub returns : goal.returns
 returns g c =

@@ -1,4 +1,4 @@
-use Rattle.std.proofs.Common.{rules, ◌≡◌, true, refl, subst}
+use Rattle.std.proofs.Common.{refl, rules, subst, true, ◌≡◌}
 use Rattle.nit_perform.proofs.Lemmas.{HasFilmed, IsFilmEnd, StoreModel, film_leaves, setup_of}
 use Rattle.nit_perform.proofs.capture.run_filmed.Goals as goal
 
@@ -14,21 +14,11 @@ returns g c = λ region same.
     let s = setup_of c.args.config.now c.args.scripts.now.clients.items c.args.scripts.now.input true true in
     let ran = c.in-Ok.ran in
     let end = c.end_film in
-    let all = c.has_all-whole.ensures in
     let has = rw c.in-Ok.is at c.film_named-reel.ensures.ran in
     let ends : IsFilmEnd region s c.args.film.capture reel.film.capture reel.count reel.ended reel.whole
     c.has_all-whole.result reel.film.bytes.items (shown reel.store.now) (shown end.new.store) ran.frames ran.fault
     end.result.fault =
-    record {
-      begun_is = same;
-      film = c.film_named-reel.ensures.film;
-      whole_is = all.whole;
-      ended_is = all.ended;
-      all_shots = all.pictures;
-      few = all.few;
-      put = end.ensures.whole;
-      not_put = end.ensures.not_whole;
-    } in
+    assumption (same, c.film_named-reel.ensures.film, c.has_all-whole.ensures, end.ensures) in
     subst (λ (new : StoreModel). HasFilmed region (shown c.args.store.now) s new end.result.journal.items
     end.result.frames end.result.fault) {x = shown end.new.store} (search rules)
     (rw (end.ensures.same.journal, end.ensures.same.frames) (film_leaves has ends refl refl refl))

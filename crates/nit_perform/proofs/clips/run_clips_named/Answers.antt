@@ -1,45 +1,29 @@
 use Rattle.nit_perform.proofs.Lemmas.{ClipPassModel, HasRun, HasRunClips, IsClipListText, List}
-use Rattle.nit_perform.proofs.Lemmas.{PassModel, StoreModel, ap, arith, back_long, beside_leaves}
-use Rattle.nit_perform.proofs.Lemmas.{clips_done, clips_leave, clips_setup_in, ended_as, length}
-use Rattle.nit_perform.proofs.Lemmas.{passes_done, rules, setup_in, subst, user_done}
+use Rattle.nit_perform.proofs.Lemmas.{PassModel, StoreModel, ap, are_all_done, arith, back_long}
+use Rattle.nit_perform.proofs.Lemmas.{beside_leaves, clips_done, clips_leave, clips_setup_in}
+use Rattle.nit_perform.proofs.Lemmas.{ended_as, length, passes_done, rules, setup_in, subst}
 use Rattle.nit_perform.proofs.clips.run_clips_named.Goals as goal
 
-pub take_apart-requires-clause-room : goal.take_apart-requires-clause-room
-take_apart-requires-clause-room g c =
-    let back = c.run_beside_clips-mine.new.pairs in
+pub take_apart-requires : goal.take_apart-requires
+take_apart-requires g c =
+    let mine = c.run_beside_clips-mine.new.pairs in
     let actors = c.run_beside_clips-mine.ensures.actors in
-    omega (
-      arith,
-      back_long back.items c.requires.ready actors.same actors.done,
-      back.ok.0,
-      c.args.actors.passes.ok.0,
-      ap (λ (ps : List PassModel). length ps) c.requires.back.passes,
-      c.requires.back.passes_room,
-    )
-
-pub take_apart-requires-clause-clips_room : goal.take_apart-requires-clause-clips_room
-take_apart-requires-clause-clips_room g c =
-    let back = c.run_beside_clips-mine.new.pairs in
-    let actors = c.run_beside_clips-mine.ensures.actors in
-    omega (
-      arith,
-      back_long back.items c.requires.ready actors.same actors.done,
-      back.ok.0,
-      c.args.actors.clips.ok.0,
-      ap (λ (qs : List ClipPassModel). length qs) c.requires.back.clips,
-      c.requires.back.clips_room,
-    )
+    let back = c.requires.back in
+    let long = back_long mine.items c.requires.ready actors.same actors.done in
+    let passes = ap (λ (ps : List PassModel). length ps) back.passes in
+    let clips = ap (λ (qs : List ClipPassModel). length qs) back.clips in
+    record {
+      room = omega (arith, mine.ok.0, c.args.actors.passes.ok.0, back.passes_room);
+      clips_room = omega (arith, mine.ok.0, c.args.actors.clips.ok.0, back.clips_room);
+    }
 
 pub last_with_clips-scene-requires-clause-done : goal.last_with_clips-scene-requires-clause-done
 last_with_clips-scene-requires-clause-done g c =
     let mine = c.run_beside_clips-mine in
-    record {
-      clients_done = rw (c.into_room-room.ensures.parts, c.take_apart.ensures.passes, c.requires.back.passes)
-          (passes_done mine.new.pairs.items c.requires.ready mine.ensures.actors.same mine.ensures.actors.done);
-      user_done = rw c.into_room-room.ensures.parts (user_done c.requires.ready.ready.user_belongs
-          mine.ensures.user.shots.same mine.ensures.user.done);
-      unended = c.into_room-room.ensures.«open»;
-    }
+    let room = c.into_room-room.ensures in
+    are_all_done room.parts room.«open» (rw (c.take_apart.ensures.passes, c.requires.back.passes)
+    (passes_done mine.new.pairs.items c.requires.ready mine.ensures.actors.same mine.ensures.actors.done))
+    c.requires.ready.ready.user_belongs mine.ensures.user.shots.same mine.ensures.user.done
 
 pub last_with_clips-scene-requires-clause-clips : goal.last_with_clips-scene-requires-clause-clips
 last_with_clips-scene-requires-clause-clips g c =

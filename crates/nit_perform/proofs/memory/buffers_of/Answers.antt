@@ -1,4 +1,4 @@
-use Rattle.std.proofs.Common.{◌≡◌, ◌∙◌, []}
+use Rattle.std.proofs.Common.{[], ◌∙◌, ◌≡◌}
 use Rattle.nit_perform.proofs.Lemmas.{Configuration, End, all_push, ap, at_member, blank}
 use Rattle.nit_perform.proofs.Lemmas.{donation_of, get_or_default, length_push, map_push, new_sight}
 use Rattle.nit_perform.proofs.Lemmas.{script_in}
@@ -13,9 +13,8 @@ loop-sid-preserved c =
     let keys = c.loop-sid.keys.items in
     let key = c.in_ok-buffer.key in
     let more = c.in_ok-push-2.ensures.items in
-    let client = at_member config c.as_slice-clients.result.now k c.index-clients-sid.result
-    (c.as_slice-clients.ensures.value ∙ ap (λ (k : Configuration). k.clients) c.config.view_is)
-    (rw (← c.requires.each) c.loop-sid-test.true) in
+    let client = at_member config k c.index-clients-sid.result (c.as_slice-clients.ensures.value
+    ∙ ap (λ (k : Configuration). k.clients) c.config.view_is) (rw (← c.requires.each) c.loop-sid-test.true) in
     let script = c.index-scripts-sid.is
     ∙ get_or_default scripts k c.index-scripts-sid.result [] c.loop-sid-test.true in
     record {

@@ -1,4 +1,4 @@
-use Rattle.std.proofs.Common.{◌≡◌, length, map}
+use Rattle.std.proofs.Common.{length, map, ◌≡◌}
 use Rattle.nit_perform.proofs.Lemmas.{AreKeysBlank, End}
 use Rattle.nit_perform.proofs.memory.buffers_of.Given as goal
 

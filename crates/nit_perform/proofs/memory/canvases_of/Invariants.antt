@@ -1,4 +1,4 @@
-use Rattle.std.proofs.Common.{◌≡◌, ◌++◌, length}
+use Rattle.std.proofs.Common.{length, ◌++◌, ◌≡◌}
 use Rattle.nit_perform.proofs.Lemmas.{into_iter_items}
 use Rattle.nit_perform.proofs.memory.canvases_of.Given as goal
 

@@ -1,4 +1,4 @@
-use Rattle.std.proofs.Common.{◌≡◌, map}
+use Rattle.std.proofs.Common.{map, ◌≡◌}
 use Rattle.nit_perform.proofs.Lemmas.{donation_of, glass_after, range_with_len, script_in}
 use Rattle.nit_perform.proofs.opening.glasses_of.Given as goal
 

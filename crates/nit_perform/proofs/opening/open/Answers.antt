@@ -1,4 +1,4 @@
-use Rattle.std.proofs.Common.{◌≡◌, ◌+◌, ◌∙◌, length, sym, arith}
+use Rattle.std.proofs.Common.{arith, length, sym, ◌+◌, ◌∙◌, ◌≡◌}
 use Rattle.nit_perform.proofs.Lemmas.{blank_glass, inked, length-map-range_with_len, rounds, set_up}
 use Rattle.nit_perform.proofs.Lemmas.{setting}
 use Rattle.nit_perform.proofs.opening.open.Goals as goal

@@ -8,9 +8,8 @@ loop-sid-preserved c =
     let config = c.args.config.now in
     let scripts = c.args.scripts.now in
     let k = c.loop-sid.sid in
-    let client = at_member config c.as_slice-clients.result.now k c.index-clients-sid.result
-    (c.as_slice-clients.ensures.value ∙ ap (λ (k : Configuration). k.clients) c.config.view_is)
-    (rw (← c.requires.each) c.loop-sid-test.true) in
+    let client = at_member config k c.index-clients-sid.result (c.as_slice-clients.ensures.value
+    ∙ ap (λ (k : Configuration). k.clients) c.config.view_is) (rw (← c.requires.each) c.loop-sid-test.true) in
     let script = c.index-scripts-sid.is
     ∙ get_or_default scripts k c.index-scripts-sid.result [] c.loop-sid-test.true in
     record {

@@ -1,4 +1,4 @@
-use Rattle.std.proofs.Common.{◌≡◌, map}
+use Rattle.std.proofs.Common.{map, ◌≡◌}
 use Rattle.nit_perform.proofs.Lemmas.{All, IsWord, PlanModel, donation_of, plan_of_script}
 use Rattle.nit_perform.proofs.Lemmas.{range_with_len, script_in}
 use Rattle.nit_perform.proofs.opening.plans_of.Given as goal

@@ -17,9 +17,4 @@ returns-in-Err g c =
     let fault : PutFault = record { file = c.args.file; error = c.in-Err.error } in
     next_goes (c.args.name.now, c.args.bytes.now) (g.S.Store.shown c.args.store.now) c.args.fault
     (put_state_of_run (g.S.Store.shown c.put.new.self) (Some fault)) (sym c.if-is_some.ensures)
-    (record {
-      answer = Err c.in-Err.error;
-      put = c.in-Err.ensures.answer;
-      kept =
-          rw c.requires;
-    })
+    (record { answer = Err c.in-Err.error; put = c.in-Err.ensures.answer; kept = rw c.requires })

@@ -1,4 +1,4 @@
-use Rattle.std.proofs.Common.{rules, ◌≡◌, ◌∙◌, subst}
+use Rattle.std.proofs.Common.{rules, subst, ◌∙◌, ◌≡◌}
 use Rattle.nit_perform.proofs.Lemmas.{HasRun, PutsAll, PutsLast, StoreModel, can_take_last, false}
 use Rattle.nit_perform.proofs.Lemmas.{put_state_of_desk, put_state_of_run, refl, run_leaves}
 use Rattle.nit_perform.proofs.Lemmas.{setup_of, state_now, text_files, true, with_texts}
@@ -7,17 +7,13 @@ use Rattle.nit_perform.proofs.turns.run_turns.Goals as goal
 
 pub put_last-requires-clause-can : goal.put_last-requires-clause-can
 put_last-requires-clause-can g c =
-    let opened = c.in_ok-opened.opened in
-    rw (
-      c.deref_mut-2.ensures.value,
-      written_whole opened.owns.len c.run_rounds.new.owns opened.owns.items
-          (c.run_rounds.auto.owns ∙ c.deref_mut.ensures.len),
-    )
+    let long = c.run_rounds.auto.owns ∙ c.deref_mut.ensures.len in
+    rw (c.deref_mut-2.ensures.value, written_whole)
     (can_take_last c.buffer_within_table.ensures.words c.in_ok-opened.ensures c.run_rounds.ensures.run)
 
 pub returns : goal.returns
 returns g c =
-    let opened = c.in_ok-opened.opened in
+    let long = c.run_rounds.auto.owns ∙ c.deref_mut.ensures.len in
     let shown = g.S.Store.shown in
     let ended = c.put_last.new.scene in
     let desk = c.run_rounds.new.desk in
@@ -29,11 +25,7 @@ returns g c =
     let config : ended.config ≡ c.args.config.now =
     rw (c.put_last.ensures.taken.config, run.config, c.in_ok-opened.ensures.configuration) in
     let puts : PutsLast (state_now c.run_rounds.new.scene) c.run_rounds.new.owns at final =
-    λ tables have. c.put_last.ensures.put tables (rw (
-      c.deref_mut-2.ensures.value,
-      written_whole opened.owns.len
-          c.run_rounds.new.owns opened.owns.items (c.run_rounds.auto.owns ∙ c.deref_mut.ensures.len),
-    ) have) in
+    λ tables have. c.put_last.ensures.put tables (rw (c.deref_mut-2.ensures.value, written_whole) have) in
     let texts : PutsAll (text_files s ended.entries) final
     (put_state_of_run (shown c.leave_texts.new.store) c.leave_texts.result.fault) =
     rw (with_texts s ended.entries refl)

@@ -1,5 +1,4 @@
-use Rattle.nit_pixels.proofs.Lemmas.{IsPixelRule, Joins, PixelView, ends_keep, subst, sym, unagreed}
-use Rattle.nit_pixels.proofs.Lemmas.{◌∙◌}
+use Rattle.nit_pixels.proofs.Lemmas.{ends_keep, ◌∙◌}
 use Rattle.nit_pixels.proofs.watching.end_watch.Goals as goal
 
 pub join_seat-requires : goal.join_seat-requires
@@ -10,6 +9,5 @@ join_seat-requires g c =
       c.requires.table.1 ∙ c.requires.table.0.0,
       c.requires.watches.1,
       c.requires.table.0.1,
-      subst (λ (v : PixelView). Joins (IsPixelRule c.args.words.now.key) s.id s.me.0 p.id p.me.0 (unagreed s.me.0) v)
-          (sym c.requires.remains) (ends_keep _ _ _ _ _ c.requires.owner c.requires.watches.0),
+      rw c.requires.remains (ends_keep _ _ _ _ _ c.requires.owner c.requires.watches.0),
     )

@@ -1,4 +1,3 @@
-use Rattle.nit_pixels.proofs.Lemmas.{IsPixelRule, Joins, PixelView, agreeing_as, subst, sym}
 use Rattle.nit_pixels.proofs.Lemmas.{takes_up_keep, ◌∙◌}
 use Rattle.nit_pixels.proofs.watching.take_up.Goals as goal
 
@@ -10,7 +9,5 @@ join_seat-requires g c =
       c.requires.table.1 ∙ c.requires.table.0.0,
       c.requires.watches.1,
       c.requires.table.0.1,
-      subst (λ (v : PixelView).
-          Joins (IsPixelRule c.args.words.now.key) s.id s.me.0 p.id p.me.0 (agreeing_as p.me.0 s.me.0) v)
-          (sym c.requires.remains) (takes_up_keep _ _ _ _ _ c.requires.reader c.requires.watches.0),
+      rw c.requires.remains (takes_up_keep _ _ _ _ _ c.requires.reader c.requires.watches.0),
     )

@@ -1,12 +1,12 @@
-use Rattle.nit_repaint.proofs.Lemmas.{ap, once, same_Some, seat_session, seat_set}
-use Rattle.nit_repaint.proofs.Lemmas.{seat_unset, sym, wanted_here, ◌∙◌}
+use Rattle.nit_repaint.proofs.Lemmas.{ap, arith, ne_eqb, once, same_Some, seat_session, seat_set}
+use Rattle.nit_repaint.proofs.Lemmas.{sym, wanted_here, ◌∙◌}
 use Rattle.nit_repaint.proofs.buffers.begin_seat.Goals as goal
 
 pub returns-then-session-of-clause-none : goal.returns-then-session-of-clause-none
 returns-then-session-of-clause-none c is s at p =
-    seat_unset c.args.stack.now s c.args.of c.args.part.now p
-    (λ same. c.if-session-of.true
-    (sym (seat_session _ s c.session.result at (c.session.ensures c.args.i c.at-v.ensures.place)) ∙ same))
+    let other = ne_eqb s.view.sid c.args.of (λ same. c.if-session-of.true
+    (sym (seat_session _ s c.session.result at (c.session.ensures c.args.i c.at-v.ensures.place)) ∙ same)) in
+    grind (arith, other)
 
 pub returns-clause-to_come : goal.returns-clause-to_come
 returns-clause-to_come c is s at p on =

@@ -1,5 +1,6 @@
-use Rattle.nit_repaint.proofs.Lemmas.{changes, eqb-true, found_passes, gone_change, is_slot}
-use Rattle.nit_repaint.proofs.Lemmas.{moves_above, moves_back, moves_front, place_of, with_offset}
+use Rattle.nit_repaint.proofs.Lemmas.{Put-back, Put-front, changes, eqb-true, found_passes}
+use Rattle.nit_repaint.proofs.Lemmas.{gone_change, is_slot, moves, moves_above, place_of}
+use Rattle.nit_repaint.proofs.Lemmas.{put_own_back, put_own_front, slot_view_layer, with_offset}
 use Rattle.nit_repaint.proofs.Lemmas.{with_rect, without}
 use Rattle.std.proofs.Common.{Some, ap, refl, ℕ, ◌∙◌, ◌≡◌}
 use Rattle.nit_repaint.proofs.laws.one_view_changes.Goals as goal
@@ -11,10 +12,14 @@ pub returns-clause-offset : goal.returns-clause-offset
 returns-clause-offset c s k seat ox oy standing there = changes s k seat standing there (with_offset ox oy)
 
 pub returns-clause-front : goal.returns-clause-front
-returns-clause-front c = moves_front
+returns-clause-front c s k seat standing there =
+    let own = slot_view_layer s.layers in
+    moves s k seat standing there (put_own_front own) (λ v. Put-front own (own v) v)
 
 pub returns-clause-back : goal.returns-clause-back
-returns-clause-back c = moves_back
+returns-clause-back c s k seat standing there =
+    let own = slot_view_layer s.layers in
+    moves s k seat standing there (put_own_back own) (λ v. Put-back own (own v) v)
 
 pub returns-clause-above : goal.returns-clause-above
 returns-clause-above c s k n seat standing there = moves_above s k seat standing there n

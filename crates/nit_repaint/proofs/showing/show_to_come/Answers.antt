@@ -1,5 +1,5 @@
-use Rattle.nit_repaint.proofs.Lemmas.{all_shown, arith, length, none_shown, one_shown, piece_shown}
-use Rattle.nit_repaint.proofs.Lemmas.{refl, shown_at, ◌∙◌}
+use Rattle.nit_repaint.proofs.Lemmas.{arith, length, nat_tests, nothing_set, one_shown, pixel, refl}
+use Rattle.nit_repaint.proofs.Lemmas.{set_same, shown_at, ◌∙◌}
 use Rattle.nit_repaint.proofs.showing.show_to_come.Goals as goal
 
 pub pieces-init : goal.pieces-init
@@ -7,19 +7,12 @@ pieces-init c = record {
   fits = c.requires.fits;
   room = refl;
   less = λ p. omega arith;
-  shown = none_shown c.args.look.now.stack.now (length c.args.raw.now) c.args.cutter.now
-      (shown_at c.args.look.now c.args.raw.now) c.args.frame.now;
+  shown = nothing_set _ _ _ _ (λ k l. grind (arith, nat_tests));
 }
 
 pub overlay_piece-requires-clause-words : goal.overlay_piece-requires-clause-words
 overlay_piece-requires-clause-words c =
-    let l = c.requires.look in
-    record {
-      look = l.look;
-      raw = l.pixels;
-      out = c.pieces.invariant.shown.count ∙ l.frame ∙ l.pixels;
-      words = l.words;
-    }
+    assumption (c.pieces.invariant.shown.count ∙ c.requires.look.frame ∙ c.requires.look.pixels, c.requires.look)
 
 pub pieces-preserved : goal.pieces-preserved
 pieces-preserved c =
@@ -35,12 +28,13 @@ pieces-preserved c =
           (shown_at c.args.look.now c.args.raw.now) (shown_at c.args.look.now c.args.raw.now) c.args.frame.now
           c.pieces.frame c.overlay_piece.new.out
           i.less e.count e.came (λ k out. refl) i.shown
-          (piece_shown s n c.in-Some.piece.rect (shown_at c.args.look.now c.args.raw.now) c.pieces.frame
-          c.overlay_piece.new.out c.requires.look.pixels c.overlay_piece.ensures.pixels c.overlay_piece.ensures.count);
+          (record {
+            words = λ k l. c.overlay_piece.ensures.pixels k (rw c.requires.look.pixels at l);
+            count = c.overlay_piece.ensures.count;
+          });
     }
 
 pub returns-clause-shown : goal.returns-clause-shown
 returns-clause-shown c =
-    all_shown c.args.look.now.stack.now (length c.args.raw.now) c.args.cutter.now c.pieces.cutter
-    (shown_at c.args.look.now c.args.raw.now) c.args.frame.now c.pieces.frame c.in_default.ensures.came
+    set_same _ _ _ _ _ _ (λ k l. rw (c.in_default.ensures.came (pixel c.args.look.now.stack.now.width k)))
     c.pieces.invariant.shown

@@ -1,4 +1,4 @@
-use Rattle.std.proofs.Common.{[], arith, refl, ◌-◌, ◌∷◌}
+use Rattle.std.proofs.Common.{arith, refl, ◌-◌}
 use Rattle.nit_report.proofs.Lemmas.{appends_one, each_done, each_more, each_none, just}
 use Rattle.nit_events.specs.declared.call.Call.TheVariants as call
 use Rattle.nit_script.specs.declared.line.Line.TheVariants as line
@@ -8,12 +8,9 @@ pub loop-view-init : goal.loop-view-init
 loop-view-init c = λ s. each_none 1 _ s _
 
 pub loop-view-preserved : goal.loop-view-preserved
-loop-view-preserved c =
-    let v = c.loop-view._view in
-    λ s.
-    each_more 1 (v - 1) _ v (λ k. just (line.Call call.View) ∷ []) (c.loop-view.invariant s)
+loop-view-preserved c = λ s.
+    each_more _ _ _ c.loop-view._view _ (c.loop-view.invariant s)
     (appends_one (just (line.Call call.View)) (refl, refl) c.in_ok-push.ensures) (omega arith) (omega arith)
 
 pub returns : goal.returns
-returns c = λ s. each_done 1 (c.loop-view._view - 1) 16 (λ v. just (line.Call call.View) ∷ []) (c.loop-view.invariant s)
-    (omega arith)
+returns c = λ s. each_done _ _ _ _ (c.loop-view.invariant s) (omega arith)

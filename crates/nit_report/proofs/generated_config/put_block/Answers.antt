@@ -1,5 +1,5 @@
 use Rattle.std.proofs.Common.{List, append_assoc, ℕ, ◌++◌, ◌≡◌}
-use Rattle.nit_report.proofs.Lemmas.{client_label, codes, script_name}
+use Rattle.nit_report.proofs.Lemmas.{script_name}
 use Rattle.nit_report.proofs.generated_config.put_block.Goals as goal
 
 five_pieces : (before a b c d e one two three four five : List ℕ) → one ≡ before ++ a → two ≡ one ++ b
@@ -7,9 +7,6 @@ five_pieces : (before a b c d e one two three four five : List ℕ) → one ≡ 
 five_pieces before a b c d e one two three four five p q r s t = rw (t, s, r, q, p) (simp append_assoc)
 
 pub returns : goal.returns
-returns c =
-    five_pieces c.args.out.now.items
-    (codes "\n[[client]]\nlabel = \"") (client_label c.args.client) (codes "\"\ndonation = 262144\nscript = \"")
-    (script_name c.args.client) (codes "\"\n") _ _ _ _ _ c.in_ok-put_text.ensures
+returns c = five_pieces _ _ _ _ _ _ _ _ _ _ _ c.in_ok-put_text.ensures
     (rw c.label_text.ensures.text at c.in_ok-put_text-2.ensures) c.in_ok-put_text-3.ensures
     (rw c.script_name.ensures at c.in_ok-put_text-4.ensures) c.in_ok-put_text-5.ensures

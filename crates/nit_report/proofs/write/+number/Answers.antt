@@ -1,10 +1,9 @@
-use Rattle.std.proofs.Common.{List, append_assoc, arith, drop, rules, ℕ, ◌+◌, ◌∙◌, ◌≡◌}
-use Rattle.nit_report.proofs.Lemmas.{decimal_digit, decimal_step, drop-drop, one_digit}
-use Rattle.nit_report.proofs.Lemmas.{one_digit_more}
+use Rattle.nit_report.proofs.Lemmas.{append_assoc, arith, decimal_digit, decimal_step, drop-drop}
+use Rattle.nit_report.proofs.Lemmas.{one_digit, one_digit_more, rules}
 use Rattle.nit_report.proofs.write.+number.Goals as goal
 
 pub text-requires : goal.text-requires
-text-requires t c = omega (arith, one_digit c.args.n c.if-n-lt10.true)
+text-requires t c = omega (arith, one_digit c.args.n)
 
 pub returns-then-n-lt10-clause-end : goal.returns-then-n-lt10-clause-end
 returns-then-n-lt10-clause-end t c = omega (arith, one_digit c.args.n c.if-n-lt10.true, c.text.ensures.end)
@@ -32,10 +31,7 @@ returns-clause-written t c =
       append_assoc,
     )
 
--- lists that are the same behind m elements are so behind one more
-behind_one_more : (m n : ℕ) (xs ys : List ℕ) → n ≡ m + 1 → drop m xs ≡ drop m ys → drop n xs ≡ drop n ys
-behind_one_more m n xs ys more same = rw (more, ← drop-drop 1 m xs, ← drop-drop 1 m ys, same)
-
 pub returns-clause-behind : goal.returns-clause-behind
 returns-clause-behind t c =
-    c.text-2.ensures.behind ∙ behind_one_more c.number-end.result _ _ _ c.text-2.ensures.end c.number-end.ensures.behind
+    let at = c.number-end.result in
+    rw (c.text-2.ensures.behind, c.text-2.ensures.end, ← drop-drop 1 at, ← drop-drop 1 at, c.number-end.ensures.behind)

@@ -1,18 +1,14 @@
-use Rattle.nit_rounds.proofs.Lemmas.{Some, ap, as_found, call_done, can_call, glasses_still}
-use Rattle.nit_rounds.proofs.Lemmas.{line_here, none_done, one_taken, same_glasses, same_own}
-use Rattle.nit_rounds.proofs.Lemmas.{served_moved, ◌∙◌}
+use Rattle.std.proofs.Common.{arith}
+use Rattle.std.proofs.lemmas.Bool.Decides.{nat_tests}
+use Rattle.nit_rounds.proofs.Lemmas.{Some, ap, as_found, call_done, call_served, can_call}
+use Rattle.nit_rounds.proofs.Lemmas.{glasses_still, line_here, same_glasses, same_own, ◌∙◌}
 use Rattle.nit_rounds.proofs.running.client_line.Goals as goal
 
 pub call-requires : goal.call-requires
 call-requires c =
     let here = line_here _ _ _ _ c.lines.ensures.value c.requires.draw.line c.index-lines-line.is in
-    let can = can_call c.buffer_within_table.ensures.words _ c.requires.draw c.draw_line.ensures.drawn
-    c.draw_line.ensures.scene c.requires.quiet (c.requires.spare _ (here ∙ ap Some c.in-Call.is)) c.requires.«open» in
-    record {
-      session = can.there.session;
-      journal = record { spare = can.spare; «open» = can.unended };
-      own = can.own;
-    }
+    assumption (can_call c.buffer_within_table.ensures.words _ c.requires.draw c.draw_line.ensures.drawn
+    c.draw_line.ensures.scene c.requires.quiet (c.requires.spare _ (here ∙ ap Some c.in-Call.is)) c.requires.«open»)
 
 pub returns-in-Call : goal.returns-in-Call
 returns-in-Call c =
@@ -37,27 +33,9 @@ returns-in-Call c =
       };
       glasses = glasses_still sid c.args.scene.now mid new glasses drawn.scene;
       done = as_found c.args.part.script.now c.args.line sid _ c.args.scene.now new c.call.new.own found
-          (call_done sid _ c.args.scene.now mid new _ _ drawn.scene (record {
-            config = served.added.config;
-            unended = served.«open»;
-            spare = one_taken mid.entries _ _ _ _ served.added.recorded served.added.spare can.spare;
-            recorded = (c.call.result, served.added.recorded);
-            moved = served_moved mid new sid c.in-Call.call c.call.result _
-                c.draw_line.new.own c.call.new.own served.added.config served.added.recorded glasses own
-                served.reply
-                can.there.glasses served.painted;
-          }));
+          (call_done sid _ c.args.scene.now mid new _ _ drawn.scene
+          (call_served served.added can served.«open» glasses own (rw served.reply) served.painted));
     }
 
 pub returns-in_default : goal.returns-in_default
-returns-in_default c =
-    let here = line_here _ _ _ _ c.lines.ensures.value c.requires.draw.line c.index-lines-line.is in
-    let is = c.draw_line.ensures.scene in
-    record {
-      drawn = c.draw_line.ensures.drawn;
-      glasses = cc is;
-      done = as_found c.args.part.script.now c.args.line c.args.part.sid c.index-lines-line.result c.args.scene.now
-          c.draw_line.new.scene c.draw_line.new.own here
-          (none_done c.args.part.sid c.index-lines-line.result c.args.scene.now c.draw_line.new.scene _
-          c.draw_line.new.own (λ call e. c.in_default.not-Call _ e) is c.requires.«open»);
-    }
+returns-in_default c = grind (arith, nat_tests, line_here)

@@ -1,8 +1,8 @@
-use Rattle.nit_rounds.proofs.Lemmas.{ByUser, FitsInputLine, List, SceneModel, Sight}
-use Rattle.nit_rounds.proofs.Lemmas.{[], after_client, after_user, all_own, ap, arith, as_many}
+use Rattle.nit_rounds.proofs.Lemmas.{ByUser, FitsInputLine, List, SceneModel, Sight, []}
+use Rattle.nit_rounds.proofs.Lemmas.{after_client, after_user, all_own, ap, arith, as_many}
 use Rattle.nit_rounds.proofs.Lemmas.{behind_again, clients_move, each_at, found_here}
-use Rattle.nit_rounds.proofs.Lemmas.{get_or_default, may_do, no_sight, read_same}
-use Rattle.nit_rounds.proofs.Lemmas.{refl, set, settled, users_move, users_turn, ◌∙◌}
+use Rattle.nit_rounds.proofs.Lemmas.{get_or_default, may_do, no_sight, read_same, refl, set}
+use Rattle.nit_rounds.proofs.Lemmas.{settled, users_move, users_turn, ◌∙◌}
 use Rattle.nit_rounds.proofs.running.do_turn.Goals as goal
 
 -- ---- a client's turn

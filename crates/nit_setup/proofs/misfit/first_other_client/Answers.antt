@@ -1,5 +1,6 @@
-use Rattle.nit_setup.proofs.Lemmas.{Some, [], ap, false, found_other, one_more_wanted, phases, sym}
+use Rattle.nit_setup.proofs.Lemmas.{Some, ap, found_other, one_more_wanted, phases, sym}
 use Rattle.nit_setup.proofs.Lemmas.{◌∙◌}
+use Rattle.std.proofs.Common.{add-one}
 use Rattle.nit_setup.proofs.misfit.first_other_client.Goals as goal
 
 pub returns-then-phases-wanted-clause-some : goal.returns-then-phases-wanted-clause-some
@@ -11,7 +12,6 @@ returns-then-phases-wanted-clause-some c =
 
 pub loop-k-preserved : goal.loop-k-preserved
 loop-k-preserved c =
-    one_more_wanted c.args.wanted c.args.clients.now c.args.scripts.now c.loop-k.k
-    (record { label = []; donation = 0; script = []; layer = 0; clicks = false }) c.index-scripts-k.result
-    c.requires c.loop-k-test.true c.index-scripts-k.is c.loop-k.invariant
-    (rw (← c.lines.ensures.value, ← c.phases.ensures) c.if-phases-wanted.false)
+    rw add-one (one_more_wanted c.args.wanted c.args.clients.now c.args.scripts.now c.loop-k.k
+    c.index-scripts-k.result c.requires c.loop-k-test.true c.index-scripts-k.is c.loop-k.invariant
+    (rw (← c.lines.ensures.value, ← c.phases.ensures) c.if-phases-wanted.false))

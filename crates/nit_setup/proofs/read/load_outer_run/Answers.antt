@@ -6,20 +6,17 @@ returns-in-Err g c = inl (c.at_first.ensures.1, rw c.at_first.ensures.0 c.in-Err
 
 pub returns-in-Err-read_outer : goal.returns-in-Err-read_outer
 returns-in-Err-read_outer g c =
-    let loaded = c.in-Ok.ensures.loaded in
     inr (
       c.in-Ok.config,
       g.S.Store.shown c.load_config.new.store,
-      record { asked = loaded.0; configured = c.in-Ok.ensures.configured; valid = loaded.1 },
+      assumption (c.in-Ok.ensures.configured, c.in-Ok.ensures.loaded),
       c.in-Err-read_outer.ensures.read,
     )
 
 pub returns-in-Ok-read_outer : goal.returns-in-Ok-read_outer
-returns-in-Ok-read_outer g c =
-    let loaded = c.in-Ok.ensures.loaded in
-    record {
-      between = g.S.Store.shown c.load_config.new.store;
-      config = record { asked = loaded.0; configured = c.in-Ok.ensures.configured; valid = loaded.1 };
-      scripts = c.in-Ok-read_outer.ensures.read;
-      is_outer = c.in-Ok-read_outer.ensures.outer;
-    }
+returns-in-Ok-read_outer g c = record {
+  between = g.S.Store.shown c.load_config.new.store;
+  config = assumption (c.in-Ok.ensures.configured, c.in-Ok.ensures.loaded);
+  scripts = c.in-Ok-read_outer.ensures.read;
+  is_outer = c.in-Ok-read_outer.ensures.outer;
+}

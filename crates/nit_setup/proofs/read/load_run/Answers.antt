@@ -6,20 +6,17 @@ returns-in-Err g c = inl (refl, c.in-Err.ensures.loaded)
 
 pub returns-in-Err-read_scripts : goal.returns-in-Err-read_scripts
 returns-in-Err-read_scripts g c =
-    let loaded = c.in-Ok.ensures.loaded in
     inr (
       c.in-Ok.config,
       g.S.Store.shown c.load_config.new.store,
-      record { asked = loaded.0; configured = c.in-Ok.ensures.configured; valid = loaded.1 },
+      assumption (c.in-Ok.ensures.configured, c.in-Ok.ensures.loaded),
       c.in-Err-read_scripts.ensures.read,
     )
 
 pub returns-in-Ok-read_scripts : goal.returns-in-Ok-read_scripts
-returns-in-Ok-read_scripts g c =
-    let loaded = c.in-Ok.ensures.loaded in
-    record {
-      between = g.S.Store.shown c.load_config.new.store;
-      config = record { asked = loaded.0; configured = c.in-Ok.ensures.configured; valid = loaded.1 };
-      scripts = c.in-Ok-read_scripts.ensures.read;
-      runnable = c.in-Ok-read_scripts.ensures.runnable;
-    }
+returns-in-Ok-read_scripts g c = record {
+  between = g.S.Store.shown c.load_config.new.store;
+  config = assumption (c.in-Ok.ensures.configured, c.in-Ok.ensures.loaded);
+  scripts = c.in-Ok-read_scripts.ensures.read;
+  runnable = c.in-Ok-read_scripts.ensures.runnable;
+}

@@ -1,7 +1,8 @@
-use Rattle.nit_setup.proofs.Lemmas.{Audit, IsNoJournalText, ap, asking_more, false, first_asked}
-use Rattle.nit_setup.proofs.Lemmas.{first_valid, journal_stopped, name_text, names_in, reads_audit}
+use Rattle.nit_setup.proofs.Lemmas.{Audit, IsNoJournalText, ap, asking_more, false, run_asked}
+use Rattle.nit_setup.proofs.Lemmas.{run_valid, journal_stopped, name_text, names_in, reads_audit}
 use Rattle.nit_setup.proofs.Lemmas.{refl, setup_in, stopped_first, text_fault}
 use Rattle.std.proofs.Common.{◌∷◌}
+use Rattle.nit_setup.proofs.Basics.{[], asking_none}
 use Rattle.nit_setup.proofs.read.read_audit.Goals as goal
 
 pub returns-in-Err : goal.returns-in-Err
@@ -9,21 +10,20 @@ returns-in-Err g c = stopped_first (reads_audit _ _ c.args.journal.now) refl c.i
 
 pub returns-in-Err-load_journal : goal.returns-in-Err-load_journal
 returns-in-Err-load_journal g c =
-    let name = c.args.name.now in
-    let journal = c.args.journal.now in
+    let old = g.S.Store.shown c.args.store.now in
     let s = setup_in c.in-Ok.run' false in
-    journal_stopped name journal (g.S.Store.shown c.args.store.now) (g.S.Store.shown c.load_run.new.store) s
-    (first_asked c.in-Ok.ensures) (first_valid c.in-Ok.ensures false) IsNoJournalText (text_fault s)
-    (g.S.Store.shown c.load_journal.new.store) c.at_second.result (ap (name_text (Audit name journal))
-    c.at_second.ensures.1) (rw c.at_second.ensures.0 c.in-Err-load_journal.ensures.loaded)
+    journal_stopped _ _ _ _ s (run_asked old [] (asking_none old) c.in-Ok.ensures)
+    (run_valid old [] (asking_none old) c.in-Ok.ensures false) IsNoJournalText (text_fault s) _ c.at_second.result
+    (ap (name_text (Audit c.args.name.now c.args.journal.now)) c.at_second.ensures.1)
+    (rw c.at_second.ensures.0 c.in-Err-load_journal.ensures.loaded)
 
 pub returns-in-Ok-load_journal : goal.returns-in-Ok-load_journal
 returns-in-Ok-load_journal g c =
     let old = g.S.Store.shown c.args.store.now in
-    let asked = first_asked c.in-Ok.ensures in
+    let asked = run_asked old [] (asking_none old) c.in-Ok.ensures in
     let loaded = c.in-Ok-load_journal.ensures.loaded in
     record {
-      scripts = first_valid c.in-Ok.ensures false;
+      scripts = run_valid old [] (asking_none old) c.in-Ok.ensures false;
       asked = rw (loaded.0, asked)
           (asking_more old (c.args.name.now ∷ names_in c.in-Ok.run'.config) c.args.journal.now);
       text = rw asked at loaded.1;

@@ -1,5 +1,6 @@
-use Rattle.nit_setup.proofs.Lemmas.{Loaded, ap, clip_stopped, clips_read, first_asked, first_valid}
+use Rattle.nit_setup.proofs.Lemmas.{Loaded, ap, clip_stopped, clips_read, run_asked, run_valid}
 use Rattle.nit_setup.proofs.Lemmas.{reads_clips, refl, script_names, stopped_first, true, wanted_by}
+use Rattle.nit_setup.proofs.Basics.{[], asking_none}
 use Rattle.nit_setup.proofs.read.read_clips.Goals as goal
 
 pub returns-in-Err : goal.returns-in-Err
@@ -7,10 +8,9 @@ returns-in-Err g c = stopped_first (reads_clips _ _) refl c.in-Err.ensures
 
 pub returns-in-Err-load_clips : goal.returns-in-Err-load_clips
 returns-in-Err-load_clips g c =
-    let l = c.in-Ok.run' in
-    clip_stopped c.args.name.now l.config l.scripts.clients.items l.scripts.input (g.S.Store.shown c.args.store.now)
-    (g.S.Store.shown c.load_run.new.store) (first_asked c.in-Ok.ensures) (first_valid c.in-Ok.ensures true)
-    (g.S.Store.shown c.load_clips.new.store) c.in-Err-load_clips.stop
+    let old = g.S.Store.shown c.args.store.now in
+    clip_stopped _ _ _ _ _ _ (run_asked old [] (asking_none old) c.in-Ok.ensures)
+    (run_valid old [] (asking_none old) c.in-Ok.ensures true) _ _
     (rw (
       c.wanted_by-wanted.ensures,
       c.deref.ensures.value,
@@ -22,10 +22,9 @@ returns-in-Err-load_clips g c =
 
 pub returns-in-Ok-load_clips : goal.returns-in-Ok-load_clips
 returns-in-Ok-load_clips g c =
-    let l = c.in-Ok.run' in
-    clips_read c.args.name.now l.config l.scripts.clients.items l.scripts.input (g.S.Store.shown c.args.store.now)
-    (g.S.Store.shown c.load_run.new.store) (first_asked c.in-Ok.ensures) (first_valid c.in-Ok.ensures true)
-    c.in-Ok-load_clips.clips.items (g.S.Store.shown c.load_clips.new.store)
+    let old = g.S.Store.shown c.args.store.now in
+    clips_read _ _ _ _ _ _ (run_asked old [] (asking_none old) c.in-Ok.ensures)
+    (run_valid old [] (asking_none old) c.in-Ok.ensures true) _ _
     (rw (
       c.wanted_by-wanted.ensures,
       c.deref.ensures.value,

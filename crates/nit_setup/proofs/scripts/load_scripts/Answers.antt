@@ -4,31 +4,26 @@ use Rattle.nit_setup.proofs.scripts.load_scripts.Goals as goal
 
 pub at-requires : goal.at-requires
 at-requires g c =
-    short_script c.args.clients.now c.loop-client.client-index c.requires c.loop-client-test.true c.client-item.is
-    c.as_str-name.ensures
+    short_script _ _ c.requires c.loop-client-test.true c.client-item.is c.as_str-name.ensures
 
 pub at-requires-then-is_err : goal.at-requires-then-is_err
 at-requires-then-is_err g c =
-    short_script c.args.clients.now c.loop-client.client-index c.requires c.loop-client-test.true c.client-item.is
-    c.as_str-name.ensures
+    short_script _ _ c.requires c.loop-client-test.true c.client-item.is c.as_str-name.ensures
 
 pub returns-in-Err : goal.returns-in-Err
 returns-in-Err g c =
-    stopped_here c.args.clients.now c.loop-client.client-index c.loop-client-test.true c.client-item.is
-    c.as_str-name.ensures c.loop-client.invariant (c.wanted_by.ensures ∙ ap wanted_by c.deref.ensures.value)
-    c.at.ensures c.in-Err.ensures.loaded
+    stopped_here _ _ c.loop-client-test.true c.client-item.is c.as_str-name.ensures c.loop-client.invariant
+    (c.wanted_by.ensures ∙ ap wanted_by c.deref.ensures.value) c.at.ensures c.in-Err.ensures.loaded
 
 pub returns-then-is_err : goal.returns-then-is_err
 returns-then-is_err g c =
-    stopped_here c.args.clients.now c.loop-client.client-index c.loop-client-test.true c.client-item.is
-    c.as_str-name.ensures c.loop-client.invariant (c.wanted_by.ensures ∙ ap wanted_by c.deref.ensures.value)
-    c.at-then-is_err.ensures (inl c.in-Ok.ensures.loaded.0)
+    stopped_here _ _ c.loop-client-test.true c.client-item.is c.as_str-name.ensures c.loop-client.invariant
+    (c.wanted_by.ensures ∙ ap wanted_by c.deref.ensures.value) c.at-then-is_err.ensures (inl c.in-Ok.ensures.loaded.0)
 
 pub loop-client-preserved : goal.loop-client-preserved
 loop-client-preserved g c =
     let loaded = c.in-Ok.ensures.loaded in
-    let names = names_more c.args.clients.now c.loop-client.client-index c.loop-client-test.true c.client-item.is
-    c.as_str-name.ensures in
+    let names = names_more _ _ c.loop-client-test.true c.client-item.is c.as_str-name.ensures in
     rw (names, c.push_reserved.ensures.items, c.reserve.ensures.items)
     (one_more_read _ _ c.loop-client.invariant (c.wanted_by.ensures ∙ ap wanted_by c.deref.ensures.value)
     loaded.0 loaded.1 c.in-Ok.ensures.lines c.in-Ok.ensures.right)

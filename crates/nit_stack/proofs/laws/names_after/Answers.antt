@@ -1,6 +1,5 @@
-use Rattle.nit_stack.proofs.Lemmas.{has-name, name-above, name-back, name-changed}
-use Rattle.nit_stack.proofs.Lemmas.{name-front, name-put_front, name-without, name_has_slot}
-use Rattle.nit_stack.proofs.Lemmas.{name_is_there}
+use Rattle.nit_stack.proofs.Lemmas.{has-name, name-above, name-back, name-changed, name-front}
+use Rattle.nit_stack.proofs.Lemmas.{name-put_front, name-without, name_has_slot, name_is_there}
 use Rattle.nit_stack.proofs.laws.names_after.Goals as goal
 
 pub returns : goal.returns

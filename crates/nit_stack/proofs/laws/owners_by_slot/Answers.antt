@@ -2,10 +2,4 @@ use Rattle.nit_stack.proofs.Lemmas.{agree_by, owner_is, owner_named, owner_of_se
 use Rattle.nit_stack.proofs.laws.owners_by_slot.Goals as goal
 
 pub returns : goal.returns
-returns c =
-    record {
-      seated = owner_is;
-      mean_same = agree_by;
-      named = owner_named;
-      session = owner_of_session;
-    }
+returns c = assumption (owner_is, agree_by, owner_named, owner_of_session)

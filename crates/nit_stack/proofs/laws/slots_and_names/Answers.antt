@@ -1,5 +1,5 @@
-use Rattle.nit_stack.proofs.Lemmas.{is_slot, moved_to, views_above, views_backed}
-use Rattle.nit_stack.proofs.Lemmas.{views_changed, views_fronted, views_without, without}
+use Rattle.nit_stack.proofs.Lemmas.{is_slot, moved_to, views_above, views_backed, views_changed}
+use Rattle.nit_stack.proofs.Lemmas.{views_fronted, views_without, without}
 use Rattle.nit_stack.proofs.laws.slots_and_names.Goals as goal
 
 pub returns : goal.returns

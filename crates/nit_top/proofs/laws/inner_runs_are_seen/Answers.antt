@@ -1,9 +1,8 @@
 use Rattle.std.proofs.Common.{◌∙◌, List, ◌∷◌, ◌++◌, refl, ap, Some, subst}
-use Rattle.nit_top.proofs.Basics.{MayShowFrames}
-use Rattle.nit_top.proofs.Lemmas.{AreOutputs, AreShots, Entry, File, IsInnerJournal, RunFiles}
-use Rattle.nit_top.proofs.Lemmas.{SeenLaws, Setup, begun_first, by_turns, final_name, final_picture}
-use Rattle.nit_top.proofs.Lemmas.{first_counts, first_state, fits_first, frames_pictured}
-use Rattle.nit_top.proofs.Lemmas.{nest_of, seen, shots_of, shown_first, text_files}
+use Rattle.nit_top.proofs.Lemmas.{AreOutputs, AreShots, Entry, File, IsInnerJournal, MayShowFrames}
+use Rattle.nit_top.proofs.Lemmas.{RunFiles, SeenLaws, Setup, begun_first, by_turns, final_name}
+use Rattle.nit_top.proofs.Lemmas.{final_picture, first_counts, first_state, fits_first}
+use Rattle.nit_top.proofs.Lemmas.{frames_pictured, nest_of, seen, shots_of, shown_first, text_files}
 use Rattle.nit_top.proofs.laws.inner_runs_are_seen.Goals as goal
 
 -- what a run by turns with this journal would put

@@ -1,6 +1,5 @@
-use Rattle.std.proofs.Common.{ℕ, List}
-use Rattle.nit_top.proofs.Basics.{Configuration, Entry, IsLegal, IsSameClient}
-use Rattle.nit_top.proofs.Lemmas.{both_there, same_events, same_text}
+use Rattle.nit_top.proofs.Lemmas.{Configuration, Entry, IsLegal, IsSameClient, List, both_there}
+use Rattle.nit_top.proofs.Lemmas.{same_events, same_text, ℕ}
 use Rattle.nit_top.proofs.laws.one_client_in_two_runs.Goals as goal
 
 pub returns : goal.returns

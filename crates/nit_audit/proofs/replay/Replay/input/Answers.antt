@@ -1,5 +1,5 @@
-use Rattle.nit_audit.proofs.Lemmas.{ReplayModel, ap, input_played, room_left, rules}
-use Rattle.nit_audit.proofs.Lemmas.{sym, ◌∙◌}
+use Rattle.nit_audit.proofs.Lemmas.{arith, delivered, delivery, heard_one, input_played, rules, sym}
+use Rattle.nit_audit.proofs.Lemmas.{◌∙◌}
 use Rattle.nit_audit.proofs.replay.Replay.input.Goals as goal
 
 pub returns-then-not-is_same : goal.returns-then-not-is_same
@@ -7,11 +7,13 @@ returns-then-not-is_same c = λ agrees. let same =
     c.is_same.ensures.1 (c.route-told.ensures.routed ∙ sym agrees) in search rules
 
 pub deliver-requires-3 : goal.deliver-requires-3
-deliver-requires-3 c =
-    room_left c.args.config.now c.args.self.now c.route-told.new.self c.deliver.new.self c.deliver-2.new.self
-    c.route-told.result c.requires.going.kept c.requires.going.few
-    (ap (λ (r : ReplayModel). r.sessions) c.route-told.ensures.input)
-    (ap (λ (r : ReplayModel). r.sessions) c.deliver.ensures) (ap (λ (r : ReplayModel). r.sessions) c.deliver-2.ensures)
+deliver-requires-3 c t =
+    let told = c.route-told.result in
+    let all = c.args.self.now.sessions in
+    let a = heard_one told.a all t in
+    let b = heard_one told.b (delivered (delivery told.a) all) t in
+    rw (c.deliver-2.ensures, c.deliver.ensures, c.route-told.ensures.input)
+    (omega (arith, a.lost, b.lost, c.requires.going.kept.lost t, c.requires.going.few))
 
 pub returns : goal.returns
 returns c =

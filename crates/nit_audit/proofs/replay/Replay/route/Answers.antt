@@ -1,26 +1,14 @@
 use Rattle.nit_audit.proofs.Lemmas.{refl, same_route}
 use Rattle.nit_audit.proofs.replay.Replay.route.Goals as goal
 
-pub returns-clause-routed : goal.returns-clause-routed
-returns-clause-routed c =
+pub returns : goal.returns
+returns c =
     let kept = rw (← c.self.view_is) at c.requires.kept in
     let at = rw (c.rows_of.ensures.rows, c.clamp.ensures.place) at c.owner-pointed.ensures.owner in
     let same = same_route _ c.self.inside.views c.self.inside.focus c.args.dev _ kept.screen kept.clicks at
     c.owner-pointed.ensures.known in
-    rw (← c.self.view_is) (rw same at c.input.ensures.routed)
-
-pub returns-clause-all : goal.returns-clause-all
-returns-clause-all c =
-    let kept = rw (← c.self.view_is) at c.requires.kept in
-    let at = rw (c.rows_of.ensures.rows, c.clamp.ensures.place) at c.owner-pointed.ensures.owner in
-    let same = same_route _ c.self.inside.views c.self.inside.focus c.args.dev _ kept.screen kept.clicks at
-    c.owner-pointed.ensures.known in
-    rw (← c.self.view_is) (rw same at c.input.ensures.all)
-
-pub returns-clause-input : goal.returns-clause-input
-returns-clause-input c =
-    let kept = rw (← c.self.view_is) at c.requires.kept in
-    let at = rw (c.rows_of.ensures.rows, c.clamp.ensures.place) at c.owner-pointed.ensures.owner in
-    let same = same_route _ c.self.inside.views c.self.inside.focus c.args.dev _ kept.screen kept.clicks at
-    c.owner-pointed.ensures.known in
-    rw (← c.self.view_is, c.input.ensures.state, same) refl
+    record {
+      routed = rw (← c.self.view_is) (rw same at c.input.ensures.routed);
+      all = rw (← c.self.view_is) (rw same at c.input.ensures.all);
+      input = rw (← c.self.view_is, c.input.ensures.state, same) refl;
+    }

@@ -1,5 +1,5 @@
-use Rattle.nit_audit.proofs.Lemmas.{HasView, all_filter, ap, found_all, is_view, on_ok, put_above}
-use Rattle.nit_audit.proofs.Lemmas.{moves, raised, stays, sym, views_at, ◌∙◌}
+use Rattle.nit_audit.proofs.Lemmas.{HasView, all_filter, ap, found_all, is_view, moves, on_ok}
+use Rattle.nit_audit.proofs.Lemmas.{put_above, raised, stays, sym, views_at, ◌∙◌}
 use Rattle.nit_audit.proofs.views.Views.above.Goals as goal
 
 pub returns-in_default : goal.returns-in_default

@@ -1,5 +1,5 @@
-use Rattle.nit_audit.proofs.Lemmas.{HasView, all_filter, ap, backed, moves, found_all, is_view}
-use Rattle.nit_audit.proofs.Lemmas.{layer, on_ok, put_back, stays, sym, views_at, ◌∙◌}
+use Rattle.nit_audit.proofs.Lemmas.{HasView, all_filter, ap, backed, found_all, is_view, layer}
+use Rattle.nit_audit.proofs.Lemmas.{moves, on_ok, put_back, stays, sym, views_at, ◌∙◌}
 use Rattle.nit_audit.proofs.views.Views.back.Goals as goal
 
 pub returns-in_default : goal.returns-in_default

@@ -1,5 +1,5 @@
-use Rattle.nit_audit.proofs.Lemmas.{HasView, all_filter, ap, found_all, fronted, moves, is_view}
-use Rattle.nit_audit.proofs.Lemmas.{layer, on_ok, put_front, stays, sym, views_at, ◌∙◌}
+use Rattle.nit_audit.proofs.Lemmas.{HasView, all_filter, ap, found_all, fronted, is_view, layer}
+use Rattle.nit_audit.proofs.Lemmas.{moves, on_ok, put_front, stays, sym, views_at, ◌∙◌}
 use Rattle.nit_audit.proofs.views.Views.front.Goals as goal
 
 pub returns-in_default : goal.returns-in_default

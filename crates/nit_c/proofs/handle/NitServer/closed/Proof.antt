@@ -1,18 +1,10 @@
 -- `closed` makes a handle that owns nothing.
 use Rattle.std.proofs.Common.{[], ◌∷◌, refl}
 use Rattle.nit_c.proofs.Lemmas.{NitServer, nothing_kept, owner_in, proved, the_type}
-use lib.Dec.{lit<}
-use mir.Syntax.{w64}
-use mir.Val.{vint}
-use types.Kit.{‵, raw, ◌$◌, ◌∵◌, !, qed, drop, suffices, done}
-use types.Run.{no_more, and_then, lit, returns, enter}
-use types.Part.{agg}
-use types.ByLocal.{alloc_all, pass_all, free_all, look_at, sets}
-use base.Fml.{ftrue}
-use denote.RawPtr.{null_ptr}
-use denote.Steps.{nothing}
-use denote.Triple.Entry.{on_entry}
-use denote.Triple.Walked.{says, ends_at}
+use Rattle.nit_c.proofs.Machine.{agg, !, alloc_all, and_then, done, drop, ends_at, enter, free_all}
+use Rattle.nit_c.proofs.Machine.{ftrue, lit, lit<, look_at, no_more, nothing, null_ptr, on_entry}
+use Rattle.nit_c.proofs.Machine.{pass_all, qed, raw, returns, says, sets, suffices, vint, w64, ‵}
+use Rattle.nit_c.proofs.Machine.{◌$◌, ◌∵◌}
 use Rattle.nit_c.specs.contracts.handle.NitServer.closed as f
 use Rattle.nit_c.proofs.handle.NitServer.TheLaws.{lowered}
 use Rattle.nit_c.proofs.handle.NitServer.closed.Statement.{statement}

@@ -1,23 +1,13 @@
 -- `into_raw` hands on what a live handle owns.
 use Rattle.std.proofs.Common.{◌≡◌, [], ◌∷◌, refl}
 use Rattle.nit_c.proofs.Lemmas.{held_owns, kept_row, live_mark, owner_in, owner_typed, proved}
-use base.Fml.{ftrue, fsep}
-use mir.Val.{Val, vstruct, vcons, vnil}
-use contract.Monad.{fact}
-use types.Kit.{‵, raw, ◌⊛◌, ◌$◌, ◌∵◌, !, qed, move, keep, drop, split, join, fsplit, rewrite}
-use types.Kit.{suffices, done}
-use types.Part.{whole, sub, agg}
-use types.Run.{enter, of_opd, stop, fld, no_more, and_then, returns}
-use types.ByLocal.{alloc_all, pass_all, free_all, look_at, get, get_in, sets}
-use denote.Exit.{yes}
-use denote.RawPtr.{ptr_val, rawptr_Lawful}
-use denote.Laws.{Is}
-use denote.Struct.Laws.{RawPtr-laws}
-use denote.Struct.Owning.{shape, to}
-use denote.Struct.Struct.{Struct}
-use denote.Signature.{plain}
-use denote.Steps.{nothing, heard}
-use denote.Triple.Walked.{Stays, says, stay_dropped, Goes-dropped, ends_at}
+use Rattle.nit_c.proofs.Machine.{Goes-dropped, !, Is, RawPtr-laws, Stays, Struct, Val, agg}
+use Rattle.nit_c.proofs.Machine.{alloc_all, and_then, done, drop, ends_at, enter, fact, fld}
+use Rattle.nit_c.proofs.Machine.{free_all, fsep, fsplit, ftrue, get, get_in, heard, join, keep}
+use Rattle.nit_c.proofs.Machine.{look_at, move, no_more, nothing, of_opd, pass_all, plain, ptr_val}
+use Rattle.nit_c.proofs.Machine.{qed, raw, rawptr_Lawful, returns, rewrite, says, sets, shape}
+use Rattle.nit_c.proofs.Machine.{split, stay_dropped, stop, sub, suffices, to, vcons, vnil, vstruct}
+use Rattle.nit_c.proofs.Machine.{whole, yes, ‵, ◌$◌, ◌∵◌, ◌⊛◌}
 use Rattle.nit_c.specs.contracts.raw_box.RawBox as RawBox
 use Rattle.nit_c.specs.contracts.handle.NitServer as NitServer
 use Rattle.nit_c.proofs.handle.NitServer.TheLaws as laws

@@ -1,23 +1,13 @@
 -- `mark` reads a field behind the reference.
 use Rattle.std.proofs.Common.{List, [], ◌∷◌, refl, sym}
 use Rattle.nit_c.proofs.Lemmas.{proved, says_two}
-use base.Fml.{ftrue, flft}
-use base.Fraction.{full_share}
-use mir.Syntax.{named, w64}
-use mir.Val.{Val, vint}
-use types.Kit.{‵, ◌⊛◌, ◌$◌, ◌∵◌, !, qed, done, move, keep, split, join, fsplit3, rewrite, suffices}
-use types.Kit.{frame, group}
-use types.Run.{enter, of_opd, load, stop, fld, returns}
-use types.Part.{whole, sub, look_in}
-use types.ByLocal.{alloc_all, pass_all, free_all, look_at, through, sets}
-use denote.Builtin.{u64}
-use denote.Laws.{shows}
-use denote.Memory.{cell_at}
-use denote.Plain.{uint_Makes}
-use denote.Ref.{MutRef, mut_vals, mut_Tells}
-use denote.Signature.{plain}
-use denote.Steps.{nothing, owned, opens, closes, peeks}
-use denote.Triple.Walked.{Stays, walk_of, stay_ref, Goes-ref, ends_at}
+use Rattle.nit_c.proofs.Machine.{Goes-ref, !, MutRef, Stays, Val, alloc_all, cell_at, closes, done}
+use Rattle.nit_c.proofs.Machine.{ends_at, enter, fld, flft, frame, free_all, fsplit3, ftrue}
+use Rattle.nit_c.proofs.Machine.{full_share, group, join, keep, load, look_at, look_in, move}
+use Rattle.nit_c.proofs.Machine.{mut_Tells, mut_vals, named, nothing, of_opd, opens, owned}
+use Rattle.nit_c.proofs.Machine.{pass_all, peeks, plain, qed, returns, rewrite, sets, shows, split}
+use Rattle.nit_c.proofs.Machine.{stay_ref, stop, sub, suffices, through, u64, uint_Makes, vint, w64}
+use Rattle.nit_c.proofs.Machine.{walk_of, whole, ‵, ◌$◌, ◌∵◌, ◌⊛◌}
 use Rattle.nit_c.specs.contracts.handle.NitServer.{the_row as R}
 use Rattle.nit_c.specs.contracts.handle.NitServer.mark as f
 use Rattle.nit_c.proofs.handle.NitServer.TheLaws.{lowers}

@@ -2,27 +2,14 @@
 use Rattle.std.proofs.Common.{◌≡◌, List, [], ◌∷◌, refl, sym}
 use Rattle.nit_c.proofs.Lemmas.{held_owns, kept_row, live_mark, owner_in, owner_typed, proved}
 use Rattle.nit_c.proofs.Lemmas.{says_two}
-use base.Fml.{ftrue, fsep}
-use mir.Syntax.{w64}
-use mir.Val.{Val, vint, vstruct, vcons, vnil}
-use contract.Monad.{fact}
-use types.Kit.{‵, raw, ◌⊛◌, ◌$◌, ◌∵◌, !, qed, move, keep, drop, split, join, fsplit, rewrite}
-use types.Kit.{suffices, done}
-use types.Part.{whole, sub, agg}
-use types.Run.{enter, of_opd, stop, fld, no_more, and_then, returns}
-use types.ByLocal.{alloc_all, pass_all, free_all, look_at, get, get_in, sets}
-use denote.Exit.{yes}
-use denote.RawPtr.{ptr_val, rawptr_Lawful}
-use denote.Laws.{Is}
-use denote.Struct.Laws.{RawPtr-laws}
-use denote.Builtin.{u64}
-use denote.Plain.{uint_vals, uint_Tells}
-use denote.Struct.Owning.{Owning, row, shape, to}
-use denote.Struct.OwningLaws.{Tells-lowered}
-use denote.Struct.Struct.{Struct}
-use denote.Signature.{plain}
-use denote.Steps.{nothing, heard}
-use denote.Triple.Walked.{Stays, stay_dropped, Goes-dropped, ends_at}
+use Rattle.nit_c.proofs.Machine.{Goes-dropped, !, Is, Owning, RawPtr-laws, Stays, Struct}
+use Rattle.nit_c.proofs.Machine.{Tells-lowered, Val, agg, alloc_all, and_then, done, drop, ends_at}
+use Rattle.nit_c.proofs.Machine.{enter, fact, fld, free_all, fsep, fsplit, ftrue, get, get_in}
+use Rattle.nit_c.proofs.Machine.{heard, join, keep, look_at, move, no_more, nothing, of_opd}
+use Rattle.nit_c.proofs.Machine.{pass_all, plain, ptr_val, qed, raw, rawptr_Lawful, returns}
+use Rattle.nit_c.proofs.Machine.{rewrite, row, sets, shape, split, stay_dropped, stop, sub}
+use Rattle.nit_c.proofs.Machine.{suffices, to, u64, uint_Tells, uint_vals, vcons, vint, vnil}
+use Rattle.nit_c.proofs.Machine.{vstruct, w64, whole, yes, ‵, ◌$◌, ◌∵◌, ◌⊛◌}
 use Rattle.nit_c.specs.contracts.raw_box.RawBox as RawBox
 use Rattle.nit_c.specs.contracts.handle.NitServer as NitServer
 use Rattle.nit_c.proofs.handle.NitServer.TheLaws as laws

@@ -1,40 +1,20 @@
 -- `into_box` hands what the raw box owns to `from_raw`.
 use Rattle.std.proofs.Common.{◌≡◌, List, [], ◌∷◌, refl}
 use Rattle.nit_c.proofs.Lemmas.{after, dict, ghosts, owner_typed, proved}
-use base.Fml.{ftrue, fsep, flft}
-use base.Fraction.{full_share}
-use base.Logic.{emp, id⊢}
-use contract.BorrowLft.{◌⊑◌, ⊑_static}
-use contract.Lifetimes.{Lfts}
-use contract.Monad.{fact, fact_i}
-use contract.Running.{tables}
-use denote.Exit.{yes, no}
-use denote.Laws.{shows}
-use denote.Param.{arg, layout, layouts, param}
-use denote.Param.Laws.{arg_laws, param_laws}
-use denote.Param.NoDrop.{glues}
-use denote.RattleType.{RattleType}
-use denote.RawPtr.{Ptr, ptr_val, rawptr_Lawful}
-use denote.Signature.{plain}
-use denote.Steps.{nothing, heard, peeks}
-use denote.Struct.Laws.{RawPtr-laws, vals, tells}
-use denote.Struct.Owning.{Owning, row}
-use denote.Struct.OwningLaws.{Tells-lowered}
-use denote.Triple.Call.{calls_at_last}
-use denote.Triple.Clauses.{Lasts, lasts}
-use denote.Triple.Spec.{triple_of}
-use denote.Triple.Table.{framed}
-use denote.Triple.Walked.{Stays, walk_of, says, stay_dropped, Goes-dropped, ends_at}
-use mir.MapTy.{inst_fn}
+use Rattle.nit_c.proofs.Machine.{Dict, !, Goes-dropped, Item, Lasts, Lfts, Owning, Ptr, RattleType}
+use Rattle.nit_c.proofs.Machine.{RawPtr-laws, Stays, Tells-lowered, Ty, Val, a_type, alloc_all}
+use Rattle.nit_c.proofs.Machine.{and_then, arg, arg_laws, at_ret, await, blocks, calls_at_last}
+use Rattle.nit_c.proofs.Machine.{dnil, done, drop, emp, ends_at, enter, env, exec, fact, fact_i}
+use Rattle.nit_c.proofs.Machine.{feq_i, first, fjoin, fld, flft, framed, free_all, fsep, fsplit}
+use Rattle.nit_c.proofs.Machine.{ftrue, full_share, get, get_in, glues, heard, id⊢, impl, inst_fn}
+use Rattle.nit_c.proofs.Machine.{join, keep, lands_last, lasts, later, layout, layouts, lft_new}
+use Rattle.nit_c.proofs.Machine.{look_at, move, no, no_more, nothing, of_opd, param, param_laws}
+use Rattle.nit_c.proofs.Machine.{pass_all, peeks, pick, plain, ptr_val, qed, raw, rawptr_Lawful}
+use Rattle.nit_c.proofs.Machine.{returns, row, says, sets, shows, some, split, split3, stay_dropped}
+use Rattle.nit_c.proofs.Machine.{stop, sub, suffices, tables, tcons, tells, tnil, triple_of, use0}
+use Rattle.nit_c.proofs.Machine.{use1, vals, vcons, vnil, vstruct, walk_of, whole, yes, ‵, ⊑_static}
+use Rattle.nit_c.proofs.Machine.{◌$◌, ◌∵◌, ◌⊑◌, ◌⊛◌}
 use mir.Raw.{raw as bare}
-use mir.Syntax.{Dict, Ty, a_type, impl, tcons, tnil, dnil}
-use mir.Val.{Val, vstruct, vcons, vnil}
-use types.ByLocal.{alloc_all, pass_all, free_all, look_at, get, get_in, sets, lands_last, env}
-use types.Kit.{Item, ‵, raw, ◌⊛◌, some, later, at_ret, ◌$◌, ◌∵◌, !, qed, move, keep, drop, use0}
-use types.Kit.{use1, split, split3, join, fsplit, fjoin, feq_i, pick, await, suffices, done}
-use types.Part.{whole, sub}
-use types.Run.{enter, of_opd, stop, fld, no_more, and_then, first, blocks, exec, returns}
-use types.Tokens.{lft_new}
 use Rattle.std_heap.specs.contracts.Global as Heap
 use Rattle.std_heap.proofs.Global.TheLaws as heap
 use Rattle.std_heap.proofs.GlobalAllocator.TheImpl.Met as heap_met

@@ -2,40 +2,19 @@
 use Rattle.std.proofs.Common.{List, [], ◌∷◌, ◌++◌, ◌∙◌, ap, refl}
 use Rattle.nit_c.proofs.Lemmas.{Goes-blank, dict, ghosts, heap_token, met, owner_in, owner_typed}
 use Rattle.nit_c.proofs.Lemmas.{proved}
-use base.Fml.{ftrue, fsep, flft}
-use base.Fraction.{full_share}
-use base.Logic.{emp, id⊢}
-use contract.BorrowLft.{◌⊑◌, ⊑_static}
-use contract.Lifetimes.{Lfts}
-use contract.Monad.{fact, fact_i}
-use contract.Running.{tables}
-use denote.Exit.{no}
-use denote.Laws.{Is, Tells}
-use denote.Param.{arg, bounded, layout, param}
-use denote.Param.Laws.{arg_laws, param_laws}
-use denote.Param.NoDrop.{glues}
-use denote.RattleType.{RattleType}
-use denote.RawPtr.{Ptr, RawPtr, ptr_val, rawptr_Lawful}
-use denote.Signature.{plain}
-use denote.Steps.{nothing, heard, only}
-use denote.Struct.Laws.{RawPtr-laws, val, tells}
-use denote.Struct.Owning.{Owning, shape, to}
-use denote.Struct.Struct.{Struct}
-use denote.Triple.Call.{calls_at}
-use denote.Triple.Clauses.{Lasts, lasts}
-use denote.Triple.Spec.{triple_of}
-use denote.Triple.Table.{framed}
-use denote.Triple.Walked.{Stays, walk_of, says, stay_dropped, ends_at}
-use mir.MapTy.{inst_fn}
+use Rattle.nit_c.proofs.Machine.{Dict, !, Is, Item, Lasts, Lfts, Owning, Ptr, RattleType, RawPtr}
+use Rattle.nit_c.proofs.Machine.{RawPtr-laws, Stays, Struct, Tells, Ty, Val, a_type, agg, alloc_all}
+use Rattle.nit_c.proofs.Machine.{and_then, arg, arg_laws, await, bounded, calls_at, dcons, dnil}
+use Rattle.nit_c.proofs.Machine.{done, drop, emp, ends_at, enter, fact, fact_i, feq_l, flft, framed}
+use Rattle.nit_c.proofs.Machine.{free_all, fsep, ftrue, full_share, get, glues, heard, id⊢, impl}
+use Rattle.nit_c.proofs.Machine.{inst_fn, join, keep, lands_as, lasts, later, layout, lft_new}
+use Rattle.nit_c.proofs.Machine.{look_at, move, no, no_more, nothing, of_list, of_opd, only, param}
+use Rattle.nit_c.proofs.Machine.{param_laws, pass_all, pick, plain, ptr_val, qed, raw}
+use Rattle.nit_c.proofs.Machine.{rawptr_Lawful, returns, says, sets, shape, some, split, split3}
+use Rattle.nit_c.proofs.Machine.{stay_dropped, suffices, tables, tcons, tells, tnil, to, triple_of}
+use Rattle.nit_c.proofs.Machine.{use0, use1, val, vcons, vnil, vstruct, walk_of, ‵, ⊑_static, ◌$◌}
+use Rattle.nit_c.proofs.Machine.{◌∵◌, ◌⊑◌, ◌⊛◌}
 use mir.Raw.{raw as bare}
-use mir.Syntax.{Dict, Ty, dcons, a_type, impl, tcons, tnil, dnil}
-use mir.Val.{Val, of_list, vstruct, vcons, vnil}
-use types.ByLocal.{alloc_all, pass_all, free_all, look_at, get, sets, lands_as}
-use types.Kit.{Item, ‵, feq_l, raw, ◌⊛◌, some, later, ◌$◌, ◌∵◌, !, qed, move, keep, drop, use0}
-use types.Kit.{use1, split, split3, join, pick, await, suffices, done}
-use types.Part.{agg}
-use types.Run.{enter, of_opd, no_more, and_then, returns}
-use types.Tokens.{lft_new}
 use Rattle.std_alloc.specs.Box.Ownership.{box_owns}
 use Rattle.std_heap.specs.contracts.Global as Heap
 use Rattle.std_heap.proofs.Global.TheLaws as heap

@@ -3,12 +3,7 @@ use Rattle.nit_capture.specs.Tiles.{place}
 use Rattle.nit_capture.proofs.grid.Tile.place.Goals as goal
 
 pub overflow_add-down : goal.overflow_add-down
-overflow_add-down c =
-    let s = c.args.self.grid.size in
-    let down = place_down c.args.self.grid.width c.args.self.grid.height c.args.self.number c.args.pixel s.some_columns
-    c.args.self.in_picture
-    c.requires.pixel in
-    rw (c.wide-wide.ensures.value, c.top.ensures.value) (omega (arith, s.rows))
+overflow_add-down c = grind (arith, place_down)
 
 pub overflow_mul-result : goal.overflow_mul-result
 unfolding place
@@ -28,5 +23,4 @@ overflow_add-result c =
 
 pub returns-clause-within : goal.returns-clause-within
 unfolding place
-returns-clause-within c = rw (c.wide-wide.ensures.value, c.top.ensures.value, c.left.ensures.value)
-    (place_within _ _ _ _ c.args.self.grid.size.some_columns c.args.self.in_picture c.requires.pixel)
+returns-clause-within c = grind (arith, place_within)

@@ -3,11 +3,7 @@ use Rattle.nit_capture.specs.Tiles.{row_place}
 use Rattle.nit_capture.proofs.grid.Tile.row.Goals as goal
 
 pub overflow_add-result : goal.overflow_add-result
-overflow_add-result c =
-    let s = c.args.self.grid.size in
-    let high = high_some c.args.self.grid.width c.args.self.grid.height c.args.self.number s.some_columns
-    c.args.self.in_picture in
-    rw c.top.ensures.value (omega (arith, high.within, s.rows))
+overflow_add-result c = grind (arith, high_some)
 
 pub overflow_mul-result : goal.overflow_mul-result
 unfolding row_place
@@ -25,5 +21,4 @@ overflow_add-result-2 c =
 
 pub returns-clause-within : goal.returns-clause-within
 unfolding row_place
-returns-clause-within c = rw (c.top.ensures.value, c.left.ensures.value)
-    (row_within _ _ _ _ c.args.self.grid.size.some_columns c.args.self.in_picture c.requires.row)
+returns-clause-within c = grind (arith, row_within)

@@ -1,4 +1,5 @@
-use Rattle.nit_capture.proofs.Lemmas.{ap, no_record, none_read, record_take, slice_index, sym, ◌∙◌}
+use Rattle.nit_capture.proofs.Lemmas.{ap, arith, no_record, none_read, record_take, slice_index}
+use Rattle.nit_capture.proofs.Lemmas.{sym, ◌∙◌}
 use Rattle.nit_capture.proofs.player.Player.next.Goals as goal
 
 pub returns-then-is_end-clause-is_frame : goal.returns-then-is_end-clause-is_frame
@@ -7,16 +8,7 @@ returns-then-is_end-clause-is_frame c = λ now rest r.
     absurd (no_record _ _ _ _ now rest r (ap (λ l. slice_index l 0) e))
 
 pub returns-in-Some-clause-frame : goal.returns-in-Some-clause-frame
-returns-in-Some-clause-frame c = λ _.
-    let size = rw (← c.self.view_is) at c.requires in
-    rw (← c.self.view_is) (record {
-      bytes_are = record_take c.self.inside.width c.self.inside.height _ _ _ _ c.self.invariant.some_columns size.size
-          c.in-Some.ensures.bytes c.in-Some.ensures.read;
-      picture = c.in-Some.ensures.picture;
-    })
+returns-in-Some-clause-frame c = grind (arith, record_take)
 
 pub returns-in-None-clause-is_frame : goal.returns-in-None-clause-is_frame
-returns-in-None-clause-is_frame c = λ now rest r.
-    let size = rw (← c.self.view_is) at c.requires in
-    absurd (none_read _ _ _ _ now rest c.self.invariant.some_columns size.size c.in-None.ensures.read
-    (rw (← c.self.view_is) at r))
+returns-in-None-clause-is_frame c = grind (arith, none_read)

@@ -23,7 +23,7 @@ returns c =
     let room = ap (λ (d : CutterModel). d.room) first in
     rw (from, bar, room) (record {
       room = refl;
-      fits = moved_fits (place_of c.args.v.0 c.args.stack.now.views) _ c.requires.room both;
-      to_come = moved_comes c.args.v c.args.self.now.room c.rect-rect.ensures.rect both;
-      off_screen = moved_off (place_of c.args.v.0 c.args.stack.now.views) c.args.self.now.room both;
+      fits = moved_fits both (place_of c.args.v.0 c.args.stack.now.views) _ c.requires.room;
+      to_come = moved_comes both c.args.v c.args.self.now.room c.rect-rect.ensures.rect;
+      off_screen = moved_off both (place_of c.args.v.0 c.args.stack.now.views) c.args.self.now.room;
     })

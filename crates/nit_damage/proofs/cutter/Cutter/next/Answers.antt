@@ -7,17 +7,8 @@ pub returns-then-self : goal.returns-then-self
 returns-then-self c =
     let is = rw (← c.bar_part.ensures.value) at (bar_next (rw (← c.self.view_is) at c.requires) c.if-self.true
     c.bar_part.ensures.fits c.bar_part.ensures.screen) in
-    rw (← c.self.view_is) (record {
-      room = is.room;
-      fits = next_fits is;
-      count = is.count;
-      came = next_came (Some record { rect = c.bar_part.result; owner = None }) is;
-      pixels = is.piece.pixels;
-      on_screen = is.piece.on_screen;
-      owner = is.piece.owner;
-      stands = is.piece.stands;
-      fewer = is.fewer;
-    })
+    rw (← c.self.view_is)
+    (assumption (next_fits is, next_came (Some record { rect = c.bar_part.result; owner = None }) is, is, is.piece))
 
 pub next_cut-requires-clause-fits : goal.next_cut-requires-clause-fits
 next_cut-requires-clause-fits c = (rw (← c.self.view_is) at c.requires).jobs

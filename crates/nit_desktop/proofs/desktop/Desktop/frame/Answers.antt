@@ -1,4 +1,4 @@
-use Rattle.nit_desktop.proofs.Lemmas.{List, ShowsLabels, scenery_of, state_of, subst, sym, ℕ}
+use Rattle.nit_desktop.proofs.Lemmas.{scenery_of, state_of}
 use Rattle.nit_desktop.proofs.desktop.Desktop.frame.Goals as goal
 
 pub returns-clause-shown : goal.returns-clause-shown
@@ -6,7 +6,7 @@ returns-clause-shown g c =
     let s = state_of c.self.inside.screen.serving in
     rw (← c.self.view_is) (record {
       frame = c.frame.ensures.frame;
-      labels = subst (λ (words : List ℕ). ShowsLabels (scenery_of s) words) (sym c.frame.ensures.frame)
-          (c.own_names_show_labels.ensures (scenery_of s) c.self.inside.screen.raw c.self.invariant.named.0);
+      labels = rw c.frame.ensures.frame (c.own_names_show_labels.ensures (scenery_of s) c.self.inside.screen.raw
+          c.self.invariant.named.0);
       words = c.frame.ensures.words;
     })

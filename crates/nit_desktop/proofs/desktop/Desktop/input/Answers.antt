@@ -1,6 +1,6 @@
-use Rattle.std.proofs.Common.{All, List, refl, subst, sym, ◌-◌, ◌^◌, ◌<◌}
-use Rattle.nit_desktop.proofs.Lemmas.{Agrees, Delivery, IsLive, State, goes_on, inks_again}
-use Rattle.nit_desktop.proofs.Lemmas.{input_keeps_handles, raw_again, session, state_of}
+use Rattle.std.proofs.Common.{All, List, refl, subst, sym, ◌-◌}
+use Rattle.nit_desktop.proofs.Lemmas.{Agrees, Delivery, IsLive, goes_on, inks_again}
+use Rattle.nit_desktop.proofs.Lemmas.{input_keeps_handles, raw_again, state_of}
 use Rattle.nit_events.specs.declared.entry.Entry.TheVariants as entry
 use Rattle.nit_desktop.proofs.desktop.Desktop.input.Goals as goal
 
@@ -9,17 +9,10 @@ invariant_of-self g c =
     let s = state_of c.self.inside.screen.serving in
     let e = entry.Input c.args.dev c.input.result in
     let agrees : Agrees s 0 e = c.input.ensures.routed in
-    goes_on s (state_of c.input.new.self.serving) e c.self.inside.left c.self.inside.screen.raw c.input.new.self.raw
-    c.self.invariant c.input.ensures.state agrees _ _ c.input.ensures.painted
+    goes_on e c.input.new.self.raw c.self.invariant c.input.ensures.state agrees _ _ c.input.ensures.painted
     c.live_sessions_stay.ensures.entry c.raw_stays_raw.ensures
-    (record {
-      own = c.names_stay_own.ensures.own;
-      new = c.names_stay_own.ensures.new;
-      below =
-          c.names_stay_own.ensures.below;
-    })
-    (λ t. subst (λ (u : State). (session u t).next < 2 ^ 32 - 1) (sym c.input.ensures.state)
-    (input_keeps_handles s c.args.dev c.input.result t c.self.invariant.handles))
+    (assumption c.names_stay_own.ensures)
+    (λ t. input_keeps_handles s c.args.dev c.input.result t c.self.invariant.handles)
     (rw (← c.self.view_is) at c.requires.left)
 
 pub returns-clause-served : goal.returns-clause-served
@@ -30,8 +23,7 @@ returns-clause-served g c =
     rw (← c.self.view_is) (record {
       state = c.input.ensures.state;
       left = refl;
-      raw = raw_again s (state_of c.input.new.self.serving) e c.self.inside.left c.self.inside.screen.raw
-          c.input.new.self.raw c.self.invariant c.input.ensures.state agrees _ _ c.input.ensures.painted
+      raw = raw_again e c.input.new.self.raw c.self.invariant c.input.ensures.state agrees _ _ c.input.ensures.painted
           c.raw_stays_raw.ensures;
       rests = c.input.ensures.rests;
     })
@@ -51,6 +43,5 @@ returns-clause-inked g c = λ inks.
     let s = state_of c.self.inside.screen.serving in
     let e = entry.Input c.args.dev c.input.result in
     let agrees : Agrees s 0 e = c.input.ensures.routed in
-    inks_again s (state_of c.input.new.self.serving) e c.self.inside.left c.self.inside.screen.raw c.input.new.self.raw
-    c.self.invariant c.input.ensures.state agrees _ _ c.input.ensures.painted
+    inks_again e c.input.new.self.raw c.self.invariant c.input.ensures.state agrees _ _ c.input.ensures.painted
     c.ink_stays.ensures (rw (← c.self.view_is) at inks)

@@ -16,6 +16,17 @@ same g c =
     c.reopen.new.self.glasses c.reopen.ensures.rests)
     (λ t l. clean_seen _ _ _ _ _ _ _ clean c.reopen.ensures.painted t)
 
+-- and no raw word changes
+words : (g : Rattle.nit_desktop.proofs.desktop.Desktop.reopen.Given.Over) (c : goal.After-exchange g)
+    → c.reopen.new.self.raw ≡ c.self.inside.screen.raw
+words g c =
+    let s = state_of c.self.inside.screen.serving in
+    let over = rw (← c.self.view_is) at c.requires.over in
+    let area = ap (λ (z : ServerModel). z.config.width * z.config.height) c.reopen.ensures.serving in
+    clean_words _ _ _ _ _ c.self.inside.screen.raw c.reopen.new.self.raw
+    (λ k. owns_none s c.args.sid over c.self.invariant.live (pixel s.config.width k))
+    (c.facts-2.ensures.pixels ∙ area ∙ sym c.facts.ensures.pixels) c.reopen.ensures.painted
+
 pub invariant_of-self : goal.invariant_of-self
 invariant_of-self g c =
     let s = state_of c.self.inside.screen.serving in
@@ -24,15 +35,9 @@ invariant_of-self g c =
     let over = rw (← c.self.view_is) at c.requires.over in
     let state_ = only_opens c.self.inside.screen.serving c.reopen.new.self.serving c.args.sid c.args.label
     c.reopen.ensures.serving over live in
-    let area = ap (λ (z : ServerModel). z.config.width * z.config.height) c.reopen.ensures.serving in
-    let long = c.facts-2.ensures.pixels ∙ area ∙ sym c.facts.ensures.pixels in
-    let clean = λ (k : ℕ). owns_none s c.args.sid over live (pixel s.config.width k) in
-    let raw_ = clean_words _ _ _ _ _ c.self.inside.screen.raw c.reopen.new.self.raw clean long
-    c.reopen.ensures.painted in
     rw c.exchange.ensures.screen
     (subst (λ (z : State). IsDesktop z c.reopen.new.self.raw c.self.inside.left) (sym state_)
-    (subst (λ (r : List ℕ). IsDesktop (opened c.args.sid c.args.label s) r c.self.inside.left) (sym raw_)
-    (opens_on s c.args.sid c.args.label c.self.inside.screen.raw c.self.inside.left lt
+    (rw (words g c) (opens_on s c.args.sid c.args.label c.self.inside.screen.raw c.self.inside.left lt
     (c.live_sessions_stay.ensures.opened s c.args.sid c.args.label live)
     (c.openings_keep_all.ensures.raw s c.args.sid c.args.label c.self.inside.screen.raw live over
     c.self.invariant.raw_words)
@@ -47,13 +52,7 @@ returns-clause-state g c =
 
 pub returns-clause-raw : goal.returns-clause-raw
 returns-clause-raw g c =
-    let s = state_of c.self.inside.screen.serving in
-    let over = rw (← c.self.view_is) at c.requires.over in
-    let area = ap (λ (z : ServerModel). z.config.width * z.config.height) c.reopen.ensures.serving in
-    let long = c.facts-2.ensures.pixels ∙ area ∙ sym c.facts.ensures.pixels in
-    rw (← c.self.view_is, c.exchange.ensures.screen)
-    (clean_words _ _ _ _ _ c.self.inside.screen.raw c.reopen.new.self.raw
-    (λ k. owns_none s c.args.sid over c.self.invariant.live (pixel s.config.width k)) long c.reopen.ensures.painted)
+    rw (← c.self.view_is, c.exchange.ensures.screen) (words g c)
 
 pub returns-clause-sights : goal.returns-clause-sights
 returns-clause-sights g c =

@@ -9,10 +9,6 @@ invariant_of-desktop g c =
       live = c.desktop.invariant.live;
       raw_words = c.desktop.invariant.raw_words;
       named = c.desktop.invariant.named;
-      lost = λ t.
-          let none = ap (λ (s : State). (session s t).lost) state_ ∙ none_lost c.args.config.now t in
-          omega (arith, none);
-      handles = λ t.
-          let first = ap (λ (s : State). (session s t).next) state_ ∙ none_made c.args.config.now t in
-          omega (arith, first);
+      lost = λ t. omega (arith, ap (λ (s : State). (session s t).lost) state_, none_lost c.args.config.now t);
+      handles = λ t. omega (arith, ap (λ (s : State). (session s t).next) state_, none_made c.args.config.now t);
     }

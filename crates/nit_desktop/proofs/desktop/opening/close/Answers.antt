@@ -17,12 +17,11 @@ returns-clause-words g c =
     let rests_ = c.call.ensures.served.rests in
     record {
       raw = closes_clean s c.args.sid c.args.donation c.call.result c.requires.first c.requires.bare c.requires.idle
-          c.call.ensures.reply c.call.new.self.state _ _ c.args.desktop.now.raw c.call.new.self.raw
-          c.call.ensures.painted (c.facts-2.ensures.pixels ∙ area ∙ sym c.facts.ensures.pixels);
+          c.call.ensures.reply c.call.new.self.state c.call.ensures.painted
+          (c.facts-2.ensures.pixels ∙ area ∙ sym c.facts.ensures.pixels);
       sights = same_sights (map g.G.Glass.sight old) (map g.G.Glass.sight new) c.args.sid _ _
           (as_many_sights g.G.Glass.sight g.G.Glass.rest old new rests_) c.call.ensures.idle
           (closes_unseen s c.args.sid c.args.donation c.call.result c.requires.first c.requires.bare c.requires.idle
-          c.call.ensures.reply c.call.new.self.state _ _ c.args.desktop.now.raw c.call.new.self.raw
-          c.call.ensures.painted);
+          c.call.ensures.reply c.call.new.self.state c.call.ensures.painted);
       rests = rests_;
     }

@@ -4,6 +4,5 @@ use Rattle.nit_desktop.proofs.desktop.opening.close_all.Goals as goal
 pub returns-clause-state : goal.returns-clause-state
 returns-clause-state g c = all_closed c.args.config.now c.sessions.sid c.sessions.desktop.state
     c.sessions.invariant.closed
-    (let far = c.sessions-test.false in let many = c.len-sid-end.ensures in let kept =
-    c.config.inside.clients.ok.0 in let seen =
-    ap (λ (k : Configuration). length k.clients) c.config.view_is in omega (arith, far, many, kept, seen))
+    (let seen = ap (λ (k : Configuration). length k.clients) c.config.view_is in
+    omega (arith, c.sessions-test.false, c.len-sid-end.ensures, c.config.inside.clients.ok.0, seen))

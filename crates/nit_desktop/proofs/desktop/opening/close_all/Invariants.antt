@@ -1,4 +1,4 @@
-use Rattle.std.proofs.Common.{◌≡◌, ◌+◌}
+use Rattle.std.proofs.Common.{◌+◌, ◌≡◌}
 use Rattle.nit_desktop.proofs.Lemmas.{AreClosedTo, KeepsWords}
 use Rattle.nit_desktop.proofs.desktop.opening.close_all.Given as goal
 

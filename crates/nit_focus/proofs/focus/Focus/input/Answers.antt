@@ -5,13 +5,8 @@ use Rattle.nit_focus.proofs.focus.Focus.input.Goals as goal
 
 -- the value before, as its fields show it
 abbrev before : goal.After-routed → FocusModel
-before c = record {
-  input = c.self.inside.state;
-  width = c.self.inside.width;
-  height = c.self.inside.height;
-  clicks =
-      c.self.inside.clicks;
-}
+before c =
+    let s = c.self.inside in record { input = s.state; width = s.width; height = s.height; clicks = s.clicks }
 
 whole : (c : goal.After-routed) → IsRouted (before c) c.args.pointed (outcome c.route.new.self c.route.result)
 whole c =

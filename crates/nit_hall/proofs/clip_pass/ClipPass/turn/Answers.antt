@@ -1,6 +1,5 @@
-use Rattle.std.proofs.Common.{refl, ap, ℕ, ◌+◌, ◌<◌, ◌∙◌}
-use Rattle.nit_hall.proofs.Lemmas.{arith, counted_more, is_clip_phase, length, slice_get_within}
-use Rattle.nit_hall.proofs.Lemmas.{sym}
+use Rattle.std.proofs.Common.{ap, arith, length, refl, sym, ◌∙◌}
+use Rattle.nit_hall.proofs.Lemmas.{counted_more, is_clip_phase, slice_get_within}
 use Rattle.nit_hall.proofs.clip_pass.ClipPass.turn.Goals as goal
 
 pub invariant_of-self : goal.invariant_of-self
@@ -13,6 +12,6 @@ invariant_of-self c =
     record {
       number = is.number;
       counted = is.counted ∙ ap length (sym (c.calls_of_a_clip_script.ensures.end script k at));
-      within = let w : k < length script = slice_get_within _ _ _ at in omega (arith, w);
-      phase = ahead ∙ ap (λ (n : ℕ). n + 1) is.phase ∙ sym (counted_more is_clip_phase script k _ at refl);
+      within = omega (arith, slice_get_within script k _ at);
+      phase = rw (ahead, is.phase, counted_more is_clip_phase script k _ at refl);
     }

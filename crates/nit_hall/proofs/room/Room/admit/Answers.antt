@@ -1,20 +1,24 @@
-use Rattle.nit_hall.proofs.Lemmas.{CanAgree, End, IsMet, IsRoom, PassModel, RoomModel, SceneModel}
-use Rattle.nit_hall.proofs.Lemmas.{buffers_of, can_agree, end_with, left_of, room_admitted}
-use Rattle.nit_hall.proofs.Lemmas.{room_and_pass_met, rules, same_buffers, same_stands}
-use Rattle.nit_hall.proofs.Lemmas.{slice_get_within, stretch, with_room_stages, with_stages}
-use Rattle.nit_hall.proofs.Lemmas.{without_final}
-use Rattle.std.proofs.Common.{List, ap, refl, subst, sym, ℕ, ◌∙◌, ◌≡◌}
+use Rattle.std.proofs.Common.{arith}
+use Rattle.std.proofs.lemmas.Bool.Decides.{nat_tests}
+use Rattle.nit_hall.proofs.Lemmas.{CanAgree, IsMet, PassModel, RoomModel, buffers_of, can_agree}
+use Rattle.nit_hall.proofs.Lemmas.{end_with, left_of, room_admitted, room_and_pass_met}
+use Rattle.nit_hall.proofs.Lemmas.{same_buffers, same_stands, slice_get_within, stretch}
+use Rattle.nit_hall.proofs.Lemmas.{with_room_stages, with_stages}
+use Rattle.std.proofs.Common.{List, ap, refl, rules, sym, ℕ, ◌∙◌, ◌≡◌}
 use Rattle.nit_hall.proofs.room.Room.admit.Goals as goal
 use Rattle.nit_hall.proofs.room.Room.admit.Goals.{After-agree_on_stretch}
+use Rattle.nit_hall.proofs.room.Room.admit.Goals.{After-agree_on_stretch-arg-3-1}
+
+met_at : (c : After-agree_on_stretch-arg-3-1) → IsMet (left_of c.self.view_is) (left_of c.pass.view_is)
+met_at c = room_and_pass_met c.self.view_is c.pass.view_is c.meet.ensures c.requires.belongs c.requires.ready
+
+-- the two ends can agree
+can_at : (c : After-agree_on_stretch-arg-3-1) → CanAgree c.self.inside.scene c.pass.inside.sid c.pass.inside.canvas
+    c.pass.inside.spare
+can_at c = can_agree c.pass.inside.spare c.self.invariant.0 (met_at c).belongs c.pass.invariant refl
 
 pub agree_on_stretch-requires-clause-can : goal.agree_on_stretch-requires-clause-can
-agree_on_stretch-requires-clause-can c =
-    let met = room_and_pass_met c.self.view_is c.pass.view_is c.meet.ensures c.requires.belongs c.requires.ready in
-    rw (c.at_line-at.ensures.client, ← c.pass.view_is)
-    (can_agree c.pass.inside.spare c.self.invariant.0 met.belongs c.pass.invariant refl)
-
-met_at : (c : After-agree_on_stretch) → IsMet (left_of c.self.view_is) (left_of c.pass.view_is)
-met_at c = room_and_pass_met c.self.view_is c.pass.view_is c.meet.ensures c.requires.belongs c.requires.ready
+agree_on_stretch-requires-clause-can c = rw (c.at_line-at.ensures.client, ← c.pass.view_is) (can_at c)
 
 -- what the two ends agree on, by the pass
 abbrev stages_at : (c : After-agree_on_stretch) → List (List ℕ)
@@ -23,15 +27,11 @@ stages_at c = stretch c.pass.inside.script.now c.pass.inside.donation c.pass.ins
 -- the scene behind it
 scene_at : (c : After-agree_on_stretch) → c.agree_on_stretch.new.scene
     ≡ (with_room_stages (left_of c.self.view_is) c.pass.inside.sid (stages_at c)).scene
-scene_at c =
-    let at = c.at_line-at.ensures in
-    rw (c.agree_on_stretch.ensures.scene, at.client, at.script, at.donation, at.line, ← c.pass.view_is) refl
+scene_at c = grind (arith, nat_tests)
 
 -- and the pass's end
 canvas_at : (c : After-agree_on_stretch) → c.agree_on_stretch.new.canvas ≡ end_with (stages_at c) c.pass.inside.canvas
-canvas_at c =
-    let at = c.at_line-at.ensures in
-    rw (c.agree_on_stretch.ensures.canvas, at.script, at.donation, at.line, ← c.pass.view_is) refl
+canvas_at c = grind (arith, nat_tests)
 
 -- and the room, part by part
 room_at : (c : After-agree_on_stretch) → ◌≡◌ {A = RoomModel} (record (left_of c.self.view_is) {
@@ -42,25 +42,15 @@ room_at : (c : After-agree_on_stretch) → ◌≡◌ {A = RoomModel} (record (le
   scene = c.agree_on_stretch.new.scene;
 }) (with_room_stages (left_of c.self.view_is) c.pass.inside.sid (stages_at c))
 room_at c =
-    let r : RoomModel = left_of c.self.view_is in
-    let buffers : buffers_of c.agree_on_stretch.new.scene.glasses ≡ r.parts.buffers = rw (scene_at c)
-    (same_buffers _ _ (same_stands c.pass.inside.sid (stages_at c) r.scene.glasses)) in
-    λ i. record r {
-      parts = record r.parts {
-        config = ap (λ (s : SceneModel End). s.config) (scene_at c) i;
-        buffers = buffers i;
-      };
-      scene = scene_at c i;
-    }
+    rw (scene_at c, same_buffers _ _ (same_stands c.pass.inside.sid (stages_at c) c.self.inside.scene.glasses))
 
 pub invariant_of-self : goal.invariant_of-self
 invariant_of-self c =
     let d = (goal.at.invariant_of-self c).After-agree_on_stretch in
-    let met = met_at d in
-    let can = can_agree d.pass.inside.spare d.self.invariant.0 met.belongs d.pass.invariant refl in (
+    let met = met_at d.before in (
       rw (room_at d, met.belongs.donation)
           (room_admitted d.pass.inside.next d.self.invariant.0 met.belongs.script met.counted
-          (sym d.pass.invariant.phase ∙ met.phase) (slice_get_within _ _ _ can.there)),
+          (sym d.pass.invariant.phase ∙ met.phase) (slice_get_within _ _ _ (can_at d.before).there)),
       rw (scene_at d) d.self.invariant.1,
     )
 
@@ -69,17 +59,10 @@ returns c =
     let d = (goal.at.returns c).After-agree_on_stretch in
     let er = d.self.view_is ∙ d.meet.ensures.room in
     let ep = d.pass.view_is ∙ d.meet.ensures.pass in
-    let met = c.served-pass-inside.ensures in
     record {
-      room = room_at d ∙ (λ i. with_room_stages (er i) (ap (λ (p : PassModel). p.sid) ep i)
-          (stretch (ap (λ (p : PassModel). p.script) ep i) (ap (λ (p : PassModel). p.donation) ep i)
-          (ap (λ (p : PassModel). p.next) ep i)));
-      pass = (λ i. record (left_of d.pass.view_is) {
-        met = met i;
-        sight = ap (λ (e : End). e.sight) (canvas_at d) i;
-        stand = ap (λ (e : End). e.stand) (canvas_at d) i;
-      })
-          ∙ (λ i. let p : PassModel = ep i in
+      room = grind (arith, nat_tests, room_at);
+      pass = rw (canvas_at d, c.served-pass-inside.ensures)
+          (λ i. let p : PassModel = ep i in
           record p {
             met = (ap (λ (r : RoomModel). r.phase) er ∙ sym c.requires.ready) i;
             sight = with_stages (stretch p.script p.donation p.next) p.sight;

@@ -1,13 +1,12 @@
-use Rattle.std.proofs.Common.{◌<◌, ℕ, ap, drop, length, refl, subst, sym, take, ◌+◌, ◌∙◌, ◌≡◌, ◌≤◌}
-use Rattle.nit_hall.proofs.Lemmas.{BookModel, ClipPassModel, Entry, FoundClip, IsLegalClips, IsRoom}
-use Rattle.nit_hall.proofs.Lemmas.{JournalModel, List, PassModel, RoomModel, ShareModel, arith}
+use Rattle.std.proofs.lemmas.Bool.Decides.{nat_tests}
+use Rattle.std.proofs.Common.{ap, arith, length, length-append, refl, slice_index, subst, sym, ◌+◌}
+use Rattle.std.proofs.Common.{◌∙◌, ◌≡◌, ◌≤◌}
+use Rattle.nit_hall.proofs.Lemmas.{FoundClip, IsLegalClips, IsRoom, PassModel, RoomModel}
 use Rattle.nit_hall.proofs.Lemmas.{back_raised, clip_answer, clip_counted, clip_entry, clipboard_of}
 use Rattle.nit_hall.proofs.Lemmas.{counted_same, entries_in, follows_then, front_of_each}
-use Rattle.nit_hall.proofs.Lemmas.{is_clip_phase, left_of, length-append, next_clip, number_is}
-use Rattle.nit_hall.proofs.Lemmas.{open_whole, raws_in, room_clip, room_left, slice_get_within}
-use Rattle.nit_hall.proofs.Lemmas.{slice_index, state_now, stretch_from, take-set-le, with_clip}
-use Rattle.nit_hall.proofs.Lemmas.{with_room_stages, with_stages, without_final}
-use mathlib.Core.List.{IsPrefix}
+use Rattle.nit_hall.proofs.Lemmas.{is_clip_phase, left_of, next_clip, number_is, open_whole}
+use Rattle.nit_hall.proofs.Lemmas.{room_clip, room_left, slice_get_within, state_now, stretch_from}
+use Rattle.nit_hall.proofs.Lemmas.{take-set-le, with_clip, with_room_stages}
 use Rattle.nit_hall.proofs.room.Room.clip.Goals as goal
 use Rattle.nit_hall.proofs.room.Room.clip.Goals.{After-entries, After-serve-reply}
 
@@ -49,47 +48,24 @@ room_at c = subst IsRoom (c.self.view_is ∙ c.admit.ensures.room) c.self.invari
 
 answered_at : (c : After-serve-reply) → c.serve-reply.result ≡ clip_answer (clipboard_of c.args.self.now.clips.entries)
     (state_now c.args.self.now.scene).input.focus c.args.clip.now.sid (next_clip c.args.clip.now)
-answered_at c =
-    let er = c.self.view_is ∙ c.admit.ensures.room in
-    c.serve-reply.ensures.reply ∙ (λ i. clip_answer (clipboard_of (er i).clips.entries)
-    ((c.focus.ensures ∙ ap (λ (r : RoomModel). (state_now r.scene).input.focus) er) i)
-    (ap (λ (q : ClipPassModel). q.sid) c.clip.view_is i) (c.next_clip-call.ensures.call i))
+answered_at c = grind (arith, nat_tests)
 
 booked_at : (c : After-serve-reply) → entries_in c.self.inside.book.entries ≡ c.args.self.now.scene.entries
-booked_at c = c.self.invariant.1
-    ∙ ap (λ (r : RoomModel). without_final r.scene.entries) (c.self.view_is ∙ c.admit.ensures.room)
-    ∙ open_whole _ c.requires.«open»
+booked_at c = grind (arith, nat_tests, open_whole)
 
 pub returns-clause-room : goal.returns-clause-room
 unfolding admitted
 returns-clause-room c =
-    let r : RoomModel = left_of c.self.view_is in
     let er = c.self.view_is ∙ c.admit.ensures.room in
     let n = length c.self.inside.parts.scripts.now + 1 in
     let old = c.self.inside.book.counts in
     let share = c.clip.inside.share.number in
     let number = number_is er c.clip.view_is c.clip.invariant c.requires.clip.clip_belongs in
     let call = c.next_clip-call.ensures.call ∙ ap next_clip (sym c.clip.view_is) in
-    let at = ap length (c.entries.ensures ∙ ap (λ (j : JournalModel). j.entries) c.journal.ensures.entries) in
-    let book = c.count.ensures.book in
-    let front = ap (λ (b : BookModel). take n b.counts) book
-    ∙ take-set-le n old share (slice_index old share + 1) (omega (arith, number)) in
-    let back = ap (λ (b : BookModel). drop n b.counts) book ∙ back_raised n c.clip.inside.sid share old number in
-    (λ i. record r {
-      parts = record r.parts { name = ap (λ (b : BookModel). b.name) book i };
-      counts = front i;
-      clips = c.serve-reply.ensures.recorded i;
-      clip_counts = back i;
-      raws = ap (λ (b : BookModel). raws_in b.entries) book i;
-    })
-    ∙ (λ i. with_clip r (record {
-      at = at i;
-      sid = c.clip.inside.sid;
-      focus = c.focus.ensures i;
-      call = call i;
-      reply = c.serve-reply.result;
-    }))
-    ∙ (λ i. with_clip (er i) (clip_entry (er i) (c.clip.view_is i) c.serve-reply.result))
+    let front = take-set-le n old share (slice_index old share + 1) (omega (arith, number)) in
+    rw (c.count.ensures.book, c.serve-reply.ensures.recorded, front, back_raised n c.clip.inside.sid share old number)
+    (rw (c.entries.ensures, c.journal.ensures.entries, c.focus.ensures, call)
+    (λ i. with_clip (er i) (clip_entry (er i) (c.clip.view_is i) c.serve-reply.result)))
 
 pub invariant_of-self : goal.invariant_of-self
 unfolding admitted
@@ -98,7 +74,7 @@ invariant_of-self c =
       subst IsRoom (sym (returns-clause-room c))
           (room_clip c.one_more_call.ensures (room_at d) (found_at (goal.at.invariant_of-self c).After-entries)
           c.serve-reply.result (answered_at d)),
-      ap (λ (b : BookModel). entries_in b.entries) c.count.ensures.book ∙ c.self.invariant.1,
+      rw c.count.ensures.book c.self.invariant.1,
     )
 
 pub invariant_of-clip : goal.invariant_of-clip
@@ -110,28 +86,16 @@ invariant_of-clip c =
     let call = c.one_more_call.ensures.call script k (next_clip (left_of c.clip.view_is)) next in
     record {
       number = refl;
-      counted = rw (c.count.ensures.share, call, length-append) (ap (λ (n : ℕ). n + 1) is.counted);
-      within = let w : k < length script = slice_get_within _ _ _ next in omega (arith, w);
+      counted = rw (c.count.ensures.share, call, length-append, is.counted);
+      within = omega (arith, slice_get_within script k _ next);
       phase = is.phase ∙ sym (counted_same is_clip_phase script k _ next refl);
     }
 
 pub returns-clause-pass : goal.returns-clause-pass
-returns-clause-pass c =
-    c.admit.ensures.pass ∙ ap (λ (js : List Entry). record c.args.pass.now {
-      met = c.args.pass.now.phase;
-      seen = js;
-      sight = with_stages (stretch_from c.args.pass.now c.args.pass.now.next) c.args.pass.now.sight;
-    }) (open_whole _ c.requires.«open»)
+returns-clause-pass c = rw (c.admit.ensures.pass, open_whole _ c.requires.«open»)
 
 pub returns-clause-clip : goal.returns-clause-clip
-returns-clause-clip c =
-    let share = c.count.ensures.share in
-    let number = ap (λ (s : ShareModel). s.number) share ∙ ap (λ (q : ClipPassModel). q.number) c.clip.view_is in
-    let name = ap (λ (s : ShareModel). s.name) share ∙ ap (λ (q : ClipPassModel). q.name) c.clip.view_is in
-    let known = ap (λ (s : ShareModel). entries_in s.seen) share
-    ∙ booked_at (goal.at.returns-clause-clip c).After-serve-reply in
-    λ i. let q : ClipPassModel = c.clip.view_is i in
-    record q { next = q.next + 1; number = number i; name = name i; seen = known i }
+returns-clause-clip c = grind (arith, nat_tests, booked_at)
 
 pub returns-clause-before : goal.returns-clause-before
 returns-clause-before c = rw (open_whole _ c.requires.«open») at c.admit.ensures.before

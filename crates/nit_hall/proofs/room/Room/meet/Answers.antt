@@ -1,7 +1,6 @@
-use Rattle.nit_hall.proofs.Lemmas.{arith, calls_in, calls_made, calls_of, entries_in, front_of_each}
-use Rattle.nit_hall.proofs.Lemmas.{get_or-take, left_of, length, pass_counted, slice_get_within}
-use Rattle.nit_hall.proofs.Lemmas.{take}
-use Rattle.std.proofs.Common.{◌≡◌, rules, ◌+◌, ◌<◌, ◌∙◌}
+use Rattle.std.proofs.Common.{rules, take, ◌≡◌}
+use Rattle.nit_hall.proofs.Lemmas.{calls_in, calls_made, calls_of, entries_in, front_of_each}
+use Rattle.nit_hall.proofs.Lemmas.{left_of, pass_counted}
 use Rattle.nit_hall.proofs.room.Room.meet.Goals as goal
 
 pub invariant_of-pass : goal.invariant_of-pass

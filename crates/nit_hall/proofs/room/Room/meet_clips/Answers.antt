@@ -1,7 +1,6 @@
-use Rattle.std.proofs.Common.{Some, arith, length, slice_get, ℕ, ◌<◌, ◌∙◌, ◌≡◌}
-use Rattle.nit_hall.proofs.Lemmas.{ClipPassModel, IsKnownClip, clip_met, clips_whole, common_steps}
-use Rattle.nit_hall.proofs.Lemmas.{holds_below, knowing_clip, long_same, slice_get_within, step_far}
-use Rattle.nit_hall.proofs.Lemmas.{still_there, without_final}
+use Rattle.std.proofs.Common.{arith, ◌∙◌}
+use Rattle.nit_hall.proofs.Lemmas.{IsKnownClip, clip_met, clips_whole, common_steps, holds_all}
+use Rattle.nit_hall.proofs.Lemmas.{holds_below, knowing_clip, step_far, still_there, without_final}
 use Rattle.nit_hall.proofs.room.Room.meet_clips.Goals as goal
 
 pub meet_clip-requires : goal.meet_clip-requires
@@ -29,22 +28,12 @@ returns-clause-legal c = c.scene-kept.ensures.kept.clips_follow.legal
 
 pub returns-clause-met : goal.returns-clause-met
 returns-clause-met c =
-    let long : length c.clips.clips ≡ length c.args.clips.now =
-    long_same (knowing_clip (without_final c.args.self.now.scene.entries)) c.args.clips.now c.clips.clips
-    c.clips.clip-index c.clips.invariant.so_far in
-    record {
-      clips = grind (arith, common_steps);
-      before = λ k q at. let inside : k < length c.args.clips.now = slice_get_within _ k q at in
-          (c.clips.invariant.met k q (omega (arith, long, inside)) at).front;
-    }
+    let known = holds_all (IsKnownClip c.args.self.now) (knowing_clip (without_final c.args.self.now.scene.entries))
+    _ _ _ c.clips.invariant.so_far (omega arith) c.clips.invariant.met in
+    record { clips = grind (arith, common_steps); before = λ k q at. (known k q at).front }
 
 pub returns-clause-whole : goal.returns-clause-whole
 returns-clause-whole c =
-    let long : length c.clips.clips ≡ length c.args.clips.now =
-    long_same (knowing_clip (without_final c.args.self.now.scene.entries)) c.args.clips.now c.clips.clips
-    c.clips.clip-index c.clips.invariant.so_far in
-    let met : (k : ℕ) (q : ClipPassModel) → slice_get c.args.clips.now k ≡ Some q → IsKnownClip c.args.self.now k q =
-    λ k q at. let inside : k < length c.args.clips.now =
-    slice_get_within _ k q at in c.clips.invariant.met k q (omega (arith, long, inside)) at in
     clips_whole c.calls_of_a_clip_script.ensures.all c.args.self.now c.args.clips.now c.scene-kept.ensures.kept
-    c.requires met
+    c.requires (holds_all (IsKnownClip c.args.self.now) (knowing_clip (without_final c.args.self.now.scene.entries))
+    _ _ _ c.clips.invariant.so_far (omega arith) c.clips.invariant.met)

@@ -1,5 +1,4 @@
-use Rattle.std.proofs.Common.{length, map, take, ◌*◌, ◌≡◌, ◌≤◌}
-use Rattle.nit_hall.proofs.Lemmas.{sum}
+use Rattle.std.proofs.Common.{length, map, sum, take, ◌*◌, ◌≡◌, ◌≤◌}
 use Rattle.nit_hall.proofs.room.clip_opening.line_count.Given as goal
 
 abbrev pub invariant-loop-script : goal.invariant-loop-script

@@ -1,8 +1,8 @@
 use Rattle.std.proofs.Common.{Ok, ap, arith, length, set, sym, ◌<◌, ◌∙◌}
 use Rattle.nit_host.proofs.Lemmas.{DesktopModel, HostModel, SheetModel, WasCalled, after, called}
 use Rattle.nit_host.proofs.Lemmas.{frame_at, is_seat, only_called, option_map, own_plain}
-use Rattle.nit_host.proofs.Lemmas.{seen_called, serve, sheets_of, when_served, words_stay, Serves}
-use Rattle.nit_host.proofs.Lemmas.{blank_tells, hollow_blank}
+use Rattle.nit_host.proofs.Lemmas.{seen_called, serve, sheets_of, when_served, words_stay}
+use Rattle.nit_host.proofs.Lemmas.{WasServed, blank_tells, hollow_blank}
 use Rattle.nit_events.specs.declared.entry.Entry.TheVariants as entry
 use Rattle.nit_host.specs.Below.{session as session_}
 use Rattle.nit_host.proofs.host.Host.call.Goals as goal
@@ -27,7 +27,7 @@ done : (c : goal.After-self-4-1) → WasCalled c.args.seat c.args.call.now c.ser
     (option_map (λ s. frame_at s.value) c.self.inside.seen) c.serve-reply.new.desktop
     (set c.self.inside.hollows.items c.args.seat c.serve-reply.new.own)
 done c =
-    let served : Serves c.args.seat c.args.call.now c.exchange.new.glass c.serve-reply.new.own c.exchange.new.self
+    let served : WasServed c.args.seat c.args.call.now c.exchange.new.glass c.serve-reply.new.own c.exchange.new.self
     c.serve-reply.new.desktop c.serve-reply.result = assumption c.serve-reply.ensures in
     only_called c.self.invariant.0 served c.exchange.ensures.desktop c.index_mut-own.ensures.value
     c.exchange.ensures.out (known c) c.facts.ensures.sessions c.clean_pixels_keep_their_source.ensures c.self.view_is

@@ -1,4 +1,4 @@
-use Rattle.nit_host.proofs.Lemmas.{ap, arith, first_seat, is_taken, no_seat, not, sym}
+use Rattle.nit_host.proofs.Lemmas.{ap, arith, first_seat, is_taken, nat_tests, no_seat, not, sym}
 use Rattle.nit_host.proofs.host.Host.first_free.Goals as goal
 
 pub returns-then-not-is_taken : goal.returns-then-not-is_taken
@@ -8,6 +8,4 @@ returns-then-not-is_taken c =
     (ap not (sym c.if-not-is_taken.ensures)))
 
 pub returns : goal.returns
-returns c =
-    sym (no_seat (λ seat. not (is_taken c.args.self.now.state seat)) _ c.seats.seat
-    (omega (arith, c.seats-test.false, c.seats.auto.seat-end, c.seats-seat-end.ensures)) c.seats.invariant)
+returns c = grind (arith, nat_tests, no_seat)

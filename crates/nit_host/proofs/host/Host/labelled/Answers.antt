@@ -1,4 +1,4 @@
-use Rattle.nit_host.proofs.Lemmas.{arith, first_seat, has_label, no_seat, sym}
+use Rattle.nit_host.proofs.Lemmas.{arith, first_seat, has_label, nat_tests, no_seat, sym}
 use Rattle.nit_host.proofs.host.Host.labelled.Goals as goal
 
 pub returns-then-has_label-clause-found : goal.returns-then-has_label-clause-found
@@ -7,6 +7,4 @@ returns-then-has_label-clause-found c =
     (omega (arith, c.seats-test.true, c.seats-seat-end.ensures)) c.seats.invariant (sym c.if-has_label.ensures))
 
 pub returns-clause-found : goal.returns-clause-found
-returns-clause-found c =
-    sym (no_seat (has_label c.args.self.now.state c.args.label.now) _ c.seats.seat
-    (omega (arith, c.seats-test.false, c.seats.auto.seat-end, c.seats-seat-end.ensures)) c.seats.invariant)
+returns-clause-found c = grind (arith, nat_tests, no_seat)

@@ -6,7 +6,7 @@ use Rattle.nit_host.proofs.Lemmas.{seen_called, serve, session, sheets_of, told_
 use Rattle.nit_host.proofs.Lemmas.{was_refreshed, when_served, Sight, blank_tells, hollow_blank}
 use Rattle.nit_events.specs.declared.call.Call.TheVariants as call
 use Rattle.nit_events.specs.declared.entry.Entry.TheVariants as entry
-use Rattle.nit_host.proofs.Steps.{Serves}
+use Rattle.nit_host.proofs.Steps.{WasServed}
 use Rattle.nit_host.proofs.host.Host.refresh.Goals as goal
 
 pub exchange-requires-clause-glass : goal.exchange-requires-clause-glass
@@ -71,7 +71,7 @@ done c =
     c.args.words.now (told_words c.exchange.new.glass.sight.words)) =
     rw c.buffer-buffer.ensures.size at c.hand_in.ensures.sight in
     was_refreshed c.args.words.now c.self.invariant.0
-    (subst (λ (k : Call). Serves c.args.seat k c.hand_in.new.sheet c.serve-reply.new.own c.exchange.new.self
+    (subst (λ (k : Call). WasServed c.args.seat k c.hand_in.new.sheet c.serve-reply.new.own c.exchange.new.self
     c.serve-reply.new.desktop c.serve-reply.result) c.refresh_of-call.ensures (assumption c.serve-reply.ensures))
     c.exchange.ensures.desktop c.index_mut-own.ensures.value c.exchange.ensures.out (known c)
     c.facts.ensures.sessions handed c.hand_in.ensures.room (rw (← c.self.view_is) at c.part-part.ensures.accepted)

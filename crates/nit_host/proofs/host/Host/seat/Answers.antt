@@ -1,7 +1,7 @@
-use Rattle.nit_host.proofs.Lemmas.{DesktopModel, SheetModel, WasSeated, ap, arith, frame_at}
-use Rattle.nit_host.proofs.Lemmas.{free_of, may_sit, opened, option_map, refl, seen_seated, set}
-use Rattle.nit_host.proofs.Lemmas.{sheets_of, was_seated, when_served, ◌∙◌, Opens, blank_again_of}
-use Rattle.nit_host.proofs.Lemmas.{blank_tells, hollow_blank}
+use Rattle.nit_host.proofs.Lemmas.{DesktopModel, Opens, SheetModel, WasSeated, ap, arith}
+use Rattle.nit_host.proofs.Lemmas.{blank_again_of, blank_tells, frame_at, free_of, hollow_blank}
+use Rattle.nit_host.proofs.Lemmas.{may_sit, nat_tests, opened, option_map, refl, seen_seated, set}
+use Rattle.nit_host.proofs.Lemmas.{sheets_of, was_seated, when_served, ◌∙◌}
 use Rattle.nit_host.proofs.host.Host.seat.Goals as goal
 
 pub exchange-requires-clause-glass : goal.exchange-requires-clause-glass
@@ -11,10 +11,7 @@ exchange-requires-clause-glass c =
     (omega (arith, may.inside, c.facts.ensures.sessions)))
 
 pub reopen-requires-clause-free : goal.reopen-requires-clause-free
-reopen-requires-clause-free c =
-    let may = may_sit c.self.view_is c.in_default.ensures in
-    rw c.exchange.ensures.desktop
-    (free_of c.self.inside.desktop.state c.args.seat c.args.label c.facts.ensures.sessions may.free)
+reopen-requires-clause-free c = grind (arith, nat_tests, may_sit, free_of)
 
 pub reopen-requires-clause-glass : goal.reopen-requires-clause-glass
 reopen-requires-clause-glass c =

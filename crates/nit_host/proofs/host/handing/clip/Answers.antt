@@ -1,4 +1,4 @@
-use Rattle.nit_host.proofs.Lemmas.{arith, clip_order, clipped, ints}
+use Rattle.nit_host.proofs.Lemmas.{arith, clip_order, clipped, ints, nat_tests}
 use Rattle.nit_host.proofs.host.handing.clip.Goals as goal
 
 pub returns-clause-order : goal.returns-clause-order
@@ -6,6 +6,4 @@ returns-clause-order c = clip_order _ _ c.args.most _ _ (omega (arith, ints)) c.
     c.first_from.ensures.place c.first_from-2.ensures.place
 
 pub returns-clause-same : goal.returns-clause-same
-returns-clause-same c = λ n inside.
-    clipped _ _ c.args.from c.args.long n _ _ (omega (arith, ints)) (omega (arith, ints))
-    (c.first_from.ensures.place n inside) (c.first_from-2.ensures.place n inside)
+returns-clause-same c = grind (arith, nat_tests, clipped)

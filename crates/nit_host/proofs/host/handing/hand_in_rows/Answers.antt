@@ -1,3 +1,4 @@
+use Rattle.nit_host.proofs.Lemmas.{nat_tests}
 use Rattle.std.proofs.Common.{ap, arith, sym, ◌∙◌, ◌≡◌}
 use Rattle.nit_host.proofs.Lemmas.{Sight, row_fits, row_more, rows_begun, rows_sized, told_words}
 use Rattle.nit_host.proofs.host.handing.hand_in_rows.Goals as goal
@@ -33,6 +34,4 @@ rows-preserved c = record {
 }
 
 pub returns : goal.returns
-returns c =
-    let last : c.rows.row ≡ c.args.rows.1 = omega (arith, c.rows-test.false, c.rows.auto.row-end c.requires.rows) in
-    rw last at c.rows.invariant
+returns c = grind (arith, nat_tests)

@@ -1,5 +1,6 @@
-use Rattle.std.proofs.Common.{ap, arith, length, ◌∙◌}
-use Rattle.nit_host.proofs.Lemmas.{Configuration, IsHollow, all_hollow, one_sheet, sized_at}
+use Rattle.nit_host.proofs.Lemmas.{nat_tests, Configuration, IsHollow, all_hollow, one_sheet}
+use Rattle.nit_host.proofs.Lemmas.{sized_at}
+use Rattle.std.proofs.Common.{ap, arith, ◌∙◌}
 use Rattle.nit_host.proofs.host.opening.hollows.Goals as goal
 
 pub seats-preserved : goal.seats-preserved
@@ -11,6 +12,4 @@ seats-preserved c =
     (rw (← sized) (c.hollow.ensures.sight, c.hollow.ensures.room)))
 
 pub returns : goal.returns
-returns c =
-    let same = c.as_slice-clients.ensures.value ∙ ap (λ (k : Configuration). k.clients) c.config.view_is in
-    all_hollow (omega (arith, c.seats-test.false, c.seats.auto.seat-end, ap length same)) c.seats.invariant
+returns c = grind (arith, nat_tests, all_hollow)

@@ -1,6 +1,6 @@
-use Rattle.std.proofs.Common.{◌≡◌, ap, arith, length, ◌∙◌}
-use Rattle.nit_host.proofs.Lemmas.{Configuration, HasRoom, all_blank, all_sheets, one_sheet}
-use Rattle.nit_host.proofs.Lemmas.{sized_at}
+use Rattle.nit_host.proofs.Lemmas.{nat_tests, Configuration, HasRoom, all_blank, all_sheets}
+use Rattle.nit_host.proofs.Lemmas.{one_sheet, sized_at}
+use Rattle.std.proofs.Common.{ap, arith, ◌∙◌}
 use Rattle.nit_host.proofs.host.opening.sheets.Goals as goal
 
 pub seats-preserved : goal.seats-preserved
@@ -12,8 +12,4 @@ seats-preserved c =
     (rw (← sized) (c.in_ok-new.ensures.sight, c.in_ok-new.ensures.room)))
 
 pub returns : goal.returns
-returns c =
-    let same = c.as_slice-clients.ensures.value ∙ ap (λ (k : Configuration). k.clients) c.config.view_is in
-    let far : c.seats.seat ≡ length c.args.config.now.clients =
-    omega (arith, c.seats-test.false, c.seats.auto.seat-end, ap length same) in
-    record { blank = all_blank far c.seats.invariant; room = all_sheets far c.seats.invariant }
+returns c = grind (arith, nat_tests, all_blank, all_sheets)

@@ -1,5 +1,5 @@
-use Rattle.std.proofs.Common.{arith, inl, inr, ◌≡◌}
-use Rattle.nit_host.proofs.Lemmas.{cases_lt, same_view, slice_get_within}
+use Rattle.nit_host.proofs.Lemmas.{arith, cases_lt, nat_tests, same_view, slice_get_within}
+use Rattle.std.proofs.Common.{inl, inr, ◌≡◌}
 use Rattle.nit_host.proofs.host.touch.views_touched.Goals as goal
 
 pub views-preserved : goal.views-preserved
@@ -22,7 +22,4 @@ views-preserved c =
     }
 
 pub returns-clause-views : goal.returns-clause-views
-returns-clause-views c = λ i x y v there wide high is.
-    let within = slice_get_within c.args.desktop.now.state.stack i v there in
-    c.views.invariant.views i x y v
-    (omega (arith, within, c.views-test.false, c.views.auto.i-end, c.views-i-end.ensures)) there wide high is
+returns-clause-views c = grind (arith, nat_tests, slice_get_within)

@@ -7,6 +7,5 @@ returns-clause-book c =
     c.turn.ensures.book ∙ (λ i. record {
       name = book.name;
       entries = append-nil book.entries i;
-      counts =
-          raised_by-zero book.counts c.args.share.now.number i;
+      counts = raised_by-zero book.counts c.args.share.now.number i;
     })

@@ -1,19 +1,16 @@
 use Rattle.nit_perform.proofs.Lemmas.{before_last, false, film_grows, last_more, picture_names}
-use Rattle.nit_perform.proofs.Lemmas.{true}
 use Rattle.nit_perform.proofs.film_store.FilmStore.put_final.Goals as goal
 
 pub invariant_of-self-2 : goal.invariant_of-self-2
 invariant_of-self-2 g c =
     let self = c.args.self.now in
-    let now = c.put_filmed.new.film in
     let done = c.in_ok-put_filmed.ensures in
+    let can = c.requires.can in
     record {
       same = self.same;
       screen = rw (done.screen, self.screen);
-      tie = film_grows g.F.Filming.begun self.film.capture now.capture (picture_names self.count false)
-          (picture_names self.count true) self.film.bytes.items now.bytes.items (g.S.Store.shown self.store.now)
-          (g.S.Store.shown c.put_filmed.new.store) c.args.name.now c.args.bytes.now c.in_ok-put_filmed.field-0
-          (rw c.requires.name (before_last self.count)) done.put self.screen done.capture done.film
-          (rw (c.requires.can.is_whole, c.requires.can.going) at self.tie)
-          (rw (c.requires.name, last_more self.count));
+      tie = film_grows g.F.Filming.begun (picture_names self.count false) self.film.bytes.items
+          (g.S.Store.shown self.store.now).files (g.S.Store.shown c.put_filmed.new.store).files c.args.name.now
+          c.args.bytes.now (rw c.requires.name (before_last self.count)) done.put.1 self.screen done.capture done.film
+          (rw (can.is_whole, can.going) at self.tie) (rw (c.requires.name, last_more self.count));
     }

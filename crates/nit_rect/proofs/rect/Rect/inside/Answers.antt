@@ -1,6 +1,6 @@
-use Rattle.std.proofs.Common.{eq-eqb, false, sym, true, ◌∙◌, ◌≡◌}
-use Rattle.nit_rect.proofs.Lemmas.{HasPixels, is_run_within, lies_across, lies_down, no_pixels}
-use Rattle.nit_rect.proofs.Lemmas.{none_lie, pixels_of, tests_lie}
+use Rattle.std.proofs.Common.{eq-eqb, sym, ◌∙◌}
+use Rattle.nit_rect.proofs.Lemmas.{lies_across, lies_down, no_pixels, none_lie, pixels_of}
+use Rattle.nit_rect.proofs.Lemmas.{tests_lie}
 use Rattle.nit_rect.proofs.rect.Rect.inside.Goals as goal
 
 pub returns-then-area-eq0 : goal.returns-then-area-eq0
@@ -13,24 +13,16 @@ pub returns-then-across : goal.returns-then-across
 returns-then-across c =
     let self = c.args.self.now in
     let r = c.args.r.now in
-    let some : HasPixels self = pixels_of self (λ none. c.if-area-eq0.false (c.area.ensures ∙ none)) in
-    let across : c.is_within-across.result ≡ is_run_within self.x self.w r.x r.w
-    = rw (c.columns.ensures.from, c.columns.ensures.long, c.columns-2.ensures.from, c.columns-2.ensures.long) at
-    c.is_within-across.ensures in
-    let down : c.is_within-down.result ≡ is_run_within self.y self.h r.y r.h
-    = rw (c.rows.ensures.from, c.rows.ensures.long, c.rows-2.ensures.from, c.rows-2.ensures.long) at
-    c.is_within-down.ensures in
+    let some = pixels_of self (λ none. c.if-area-eq0.false (c.area.ensures ∙ none)) in
+    let across = rw (c.columns.ensures.from, c.columns.ensures.long, c.columns-2.ensures.from, c.columns-2.ensures.long)
+    at c.is_within-across.ensures in
+    let down = rw (c.rows.ensures.from, c.rows.ensures.long, c.rows-2.ensures.from, c.rows-2.ensures.long)
+    at c.is_within-down.ensures in
     (λ is. tests_lie self r (sym across ∙ c.if-across.true) (sym down ∙ is), λ lie. down ∙ lies_down self r some lie)
 
 pub returns-else-across : goal.returns-else-across
 returns-else-across c =
-    let self = c.args.self.now in
-    let r = c.args.r.now in
-    let some : HasPixels self = pixels_of self (λ none. c.if-area-eq0.false (c.area.ensures ∙ none)) in
-    let across : c.is_within-across.result ≡ is_run_within self.x self.w r.x r.w
-    = rw (c.columns.ensures.from, c.columns.ensures.long, c.columns-2.ensures.from, c.columns-2.ensures.long) at
-    c.is_within-across.ensures in (
-      λ is. absurd (let e : true ≡ false = sym is ∙ c.if-across.false in cc),
-      λ lie. across
-          ∙ lies_across self r some lie,
-    )
+    let some = pixels_of c.args.self.now (λ none. c.if-area-eq0.false (c.area.ensures ∙ none)) in
+    let across = rw (c.columns.ensures.from, c.columns.ensures.long, c.columns-2.ensures.from, c.columns-2.ensures.long)
+    at c.is_within-across.ensures in
+    (λ is. absurd (let e = sym is ∙ c.if-across.false in cc), λ lie. across ∙ lies_across _ c.args.r.now some lie)

@@ -3,8 +3,8 @@ use Rattle.nit_repaint.proofs.painter.Painter.paint_changed.Goals as goal
 
 pub returns-clause-painted : goal.returns-clause-painted
 returns-clause-painted g c before change =
-    comes_as _ c.args.stack.now c.begin_changed.new.cutter
-    (λ (p : Point). slot_owns_either c.args.was.now.view.0 before c.args.stack.now p) _ _ _ _ _ c.requires.pixels
+    comes_as c.args.stack.now c.begin_changed.new.cutter
+    (λ (p : Point). slot_owns_either c.args.was.now.view.0 before c.args.stack.now p) c.requires.pixels
     (c.begin_changed.ensures.to_come before change) c.paint_to_come.ensures.painted
 
 pub returns-clause-kept : goal.returns-clause-kept

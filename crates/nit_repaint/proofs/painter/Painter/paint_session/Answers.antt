@@ -1,14 +1,12 @@
 use Rattle.std.proofs.Common.{◌&&◌}
-use Rattle.nit_repaint.proofs.Lemmas.{Point, all_wanted, arith, as_many, comes_as, cutter_painted}
-use Rattle.nit_repaint.proofs.Lemmas.{is_slot, is_wanted, more_painted, none_wanted}
-use Rattle.nit_repaint.proofs.Lemmas.{nothing_painted, one_wanted, other_count, owner_passes, pixel}
-use Rattle.nit_repaint.proofs.Lemmas.{repainted_none, seat_there, source_of_number}
+use Rattle.nit_repaint.proofs.Lemmas.{Point, all_wanted, arith, as_many, comes_as, is_slot}
+use Rattle.nit_repaint.proofs.Lemmas.{is_wanted, more_painted, nothing_painted, one_wanted}
+use Rattle.nit_repaint.proofs.Lemmas.{other_count, owner_passes, pixel, repainted_none, seat_there}
 use Rattle.nit_repaint.proofs.Lemmas.{still_held, ◌∙◌}
 use Rattle.nit_repaint.proofs.painter.Painter.paint_session.Goals as goal
 
 pub views-init : goal.views-init
-views-init g c = nothing_painted (none_wanted (source_of_number c.args.stack.now) c.args.stack.now _
-    c.args.of c.args.part.now _ c.args.self.now.raw.items)
+views-init g c = nothing_painted (repainted_none _ _ _ _ _ (λ k l. grind arith))
 
 pub paint_to_come-requires-clause-painter : goal.paint_to_come-requires-clause-painter
 paint_to_come-requires-clause-painter g c =
@@ -27,12 +25,11 @@ views-preserved g c =
     let e = c.paint_to_come.ensures in
     let x = seat_there s.views c.views.i (omega (arith, c.views-test.true, c.len-views.ensures.count)) in
     more_painted v c.begin_seat-is_of_session.ensures.room e
-    (one_wanted (source_of_number s) s _ c.args.of c.args.part.now c.views.i x.0 _ _ _ _ _ _
-    c.len-views.ensures.standing.slots x.1 v.painted
+    (one_wanted s c.args.of c.args.part.now c.views.i x.0 c.len-views.ensures.standing.slots x.1 v.painted
     (other_count _ _ _ _ _ _ _ _ v.kept.count
-    (comes_as _ s c.begin_seat-is_of_session.new.cutter
-    (λ (p : Point). owner_passes (is_slot x.0.slot) s p && is_wanted c.args.of c.args.part.now s p x.0) _ _ _
-    _ _ (v.kept.count ∙ c.requires.pixels)
+    (comes_as s c.begin_seat-is_of_session.new.cutter
+    (λ (p : Point). owner_passes (is_slot x.0.slot) s p && is_wanted c.args.of c.args.part.now s p x.0)
+    (v.kept.count ∙ c.requires.pixels)
     (c.begin_seat-is_of_session.ensures.to_come c.if-not-is_of_session.false x.0 x.1) e.painted)))
 
 pub views-preserved-then-not-is_of_session : goal.views-preserved-then-not-is_of_session
@@ -40,16 +37,16 @@ views-preserved-then-not-is_of_session g c =
     let s = c.args.stack.now in
     let v = c.views.invariant in
     let x = seat_there s.views c.views.i (omega (arith, c.views-test.true, c.len-views.ensures.count)) in
-    cutter_painted v c.begin_seat-is_of_session.ensures.room
-    (one_wanted (source_of_number s) s _ c.args.of c.args.part.now c.views.i x.0 _ _ _ _ _ _
-    c.len-views.ensures.standing.slots x.1 v.painted
-    (repainted_none _ _ _ _ _ (λ k l. c.begin_seat-is_of_session.ensures.none c.if-not-is_of_session.true x.0 x.1
-    (pixel s.width k))))
+    record {
+      painted = one_wanted s c.args.of c.args.part.now c.views.i x.0
+          c.len-views.ensures.standing.slots x.1 v.painted (repainted_none _ _ _ _ _ (λ k l.
+          c.begin_seat-is_of_session.ensures.none c.if-not-is_of_session.true x.0 x.1 (pixel s.width k)));
+      kept = assumption (c.begin_seat-is_of_session.ensures.room ∙ v.kept.room, v.kept);
+    }
 
 pub returns : goal.returns
 returns g c = record {
-  painted = all_wanted
-      (source_of_number c.args.stack.now) c.args.stack.now _ c.args.of c.args.part.now c.views.i _ _ _ _
+  painted = all_wanted c.args.stack.now c.args.of c.args.part.now c.views.i
       (omega (arith, c.views-test.false, c.len-views.ensures.count)) c.views.invariant.painted;
   kept = c.views.invariant.kept;
 }

@@ -1,14 +1,12 @@
 use Rattle.nit_repaint.proofs.Lemmas.{all_came, arith, as_many, more_painted, none_came}
-use Rattle.nit_repaint.proofs.Lemmas.{nothing_painted, one_came, other_count, screen_of}
-use Rattle.nit_repaint.proofs.Lemmas.{source_of_number, still_held, ◌∙◌}
+use Rattle.nit_repaint.proofs.Lemmas.{nothing_painted, one_came, other_count, still_held, ◌∙◌}
 use Rattle.nit_repaint.proofs.painter.Painter.paint_to_come.Goals as goal
 
 pub pieces-init : goal.pieces-init
 pieces-init g c = record {
   fits = c.requires.fits;
   less = λ p. omega arith;
-  marked = nothing_painted (none_came (source_of_number c.args.stack.now) c.args.stack.now _
-      c.args.self.now.cutter _ c.args.self.now.raw.items);
+  marked = nothing_painted (none_came c.args.stack.now c.args.self.now.cutter);
 }
 
 pub paint_piece-requires-clause-painter : goal.paint_piece-requires-clause-painter
@@ -24,12 +22,8 @@ paint_piece-requires-clause-painter g c =
 pub paint_piece-requires-clause-piece : goal.paint_piece-requires-clause-piece
 paint_piece-requires-clause-piece g c =
     let e = c.in-Some.ensures in
-    record {
-      piece = c.pieces_of_owners.ensures c.args.stack.now c.in-Some.piece
-          (screen_of c.size-screen.result c.args.stack.now c.size-screen.ensures.size c.size-screen.ensures.range)
-          e.pixels e.on_screen e.owner;
-      stands = e.stands;
-    }
+    let size = rw c.size-screen.ensures.size at c.size-screen.ensures.range in
+    assumption (c.pieces_of_owners.ensures c.args.stack.now c.in-Some.piece size e.pixels e.on_screen e.owner, e)
 
 pub pieces-preserved : goal.pieces-preserved
 pieces-preserved g c =
@@ -40,9 +34,8 @@ pieces-preserved g c =
       fits = rw p'.cutter e.fits;
       less = rw p'.cutter (λ p. let was = i.less p in let now = e.count p in omega arith);
       marked = more_painted i.marked e.room p'.marked
-          (rw p'.cutter (one_came (source_of_number c.args.stack.now) c.args.stack.now _ c.args.self.now.cutter
-          c.pieces.self.cutter c.next.new.self c.in-Some.piece.rect _ _ _ _ _ _
-          c.requires.fits.once i.less e.count e.came i.marked.painted
+          (rw p'.cutter (one_came c.args.stack.now c.args.self.now.cutter c.pieces.self.cutter c.next.new.self
+          c.in-Some.piece.rect c.requires.fits.once i.less e.count e.came i.marked.painted
           (other_count _ _ _ _ _ _ _ _ i.marked.kept.count p'.marked.painted)));
     }
 
@@ -50,7 +43,7 @@ pub returns : goal.returns
 returns g c =
     let i = c.pieces.invariant.marked in
     record {
-      painted = all_came (source_of_number c.args.stack.now) c.args.stack.now _ c.args.self.now.cutter
-          c.pieces.self.cutter _ _ _ _ c.in_default.ensures.came i.painted;
+      painted = all_came c.args.stack.now c.args.self.now.cutter c.pieces.self.cutter c.in_default.ensures.came
+          i.painted;
       kept = assumption (c.in_default.ensures.room ∙ i.kept.room, i.kept);
     }

@@ -1,7 +1,5 @@
-use Rattle.nit_repaint.proofs.Lemmas.{true}
-use Rattle.nit_repaint.proofs.Lemmas.{all_came, arith, comes_as, none_came, one_came}
-use Rattle.nit_repaint.proofs.Lemmas.{other_count, refl, screen_of, source_of_number, still_held}
-use Rattle.nit_repaint.proofs.Lemmas.{◌∙◌}
+use Rattle.nit_repaint.proofs.Lemmas.{all_came, arith, comes_as, none_came, one_came, other_count}
+use Rattle.nit_repaint.proofs.Lemmas.{refl, still_held, true, ◌∙◌}
 use Rattle.nit_repaint.proofs.painter.Painter.paint_whole.Goals as goal
 
 pub pieces-init : goal.pieces-init
@@ -11,8 +9,7 @@ pieces-init g c = record {
   less = λ p. omega arith;
   glasses = refl;
   marked = record {
-    painted = none_came (source_of_number c.args.stack.now) c.args.stack.now _ c.begin_all.new.self _
-        c.args.self.now.raw.items;
+    painted = none_came c.args.stack.now c.begin_all.new.self;
     count = refl;
     rests = refl;
   };
@@ -30,12 +27,8 @@ paint_piece_by-requires-clause-glasses g c =
 pub paint_piece_by-requires-clause-piece : goal.paint_piece_by-requires-clause-piece
 paint_piece_by-requires-clause-piece g c =
     let e = c.in-Some.ensures in
-    record {
-      piece = c.pieces_of_owners.ensures c.args.stack.now c.in-Some.piece
-          (screen_of c.size-screen.result c.args.stack.now c.size-screen.ensures.size c.size-screen.ensures.range)
-          e.pixels e.on_screen e.owner;
-      stands = e.stands;
-    }
+    let size = rw c.size-screen.ensures.size at c.size-screen.ensures.range in
+    assumption (c.pieces_of_owners.ensures c.args.stack.now c.in-Some.piece size e.pixels e.on_screen e.owner, e)
 
 pub pieces-preserved : goal.pieces-preserved
 pieces-preserved g c =
@@ -48,9 +41,8 @@ pieces-preserved g c =
       less = λ p. let was = i.less p in let now = e.count p in omega arith;
       glasses = i.glasses;
       marked = record {
-        painted = one_came (source_of_number c.args.stack.now) c.args.stack.now _ c.begin_all.new.self
-            c.pieces.self.cutter c.next.new.self c.in-Some.piece.rect _ _ _ _ _ _
-            c.begin_all.ensures.fits.once i.less e.count e.came i.marked.painted
+        painted = one_came c.args.stack.now c.begin_all.new.self c.pieces.self.cutter c.next.new.self
+            c.in-Some.piece.rect c.begin_all.ensures.fits.once i.less e.count e.came i.marked.painted
             (other_count _ _ _ _ _ _ _ _ i.marked.count p'.painted);
         count = p'.count ∙ i.marked.count;
         rests = p'.rests ∙ i.marked.rests;
@@ -61,10 +53,9 @@ pub returns-clause-painted : goal.returns-clause-painted
 returns-clause-painted g c =
     let i = c.pieces.invariant.marked in
     record {
-      painted = comes_as (source_of_number c.args.stack.now) c.args.stack.now c.begin_all.new.self (λ p. true) _ _ _ _ _
-          c.requires.owns.pixels c.begin_all.ensures.to_come
-          (all_came (source_of_number c.args.stack.now) c.args.stack.now _ c.begin_all.new.self c.pieces.self.cutter
-          _ _ _ _ c.in_default.ensures.came i.painted);
+      painted = comes_as c.args.stack.now c.begin_all.new.self (λ p. true) c.requires.owns.pixels
+          c.begin_all.ensures.to_come (all_came c.args.stack.now c.begin_all.new.self c.pieces.self.cutter
+          c.in_default.ensures.came i.painted);
       count = i.count;
       rests = i.rests;
     }

@@ -1,7 +1,7 @@
 use Rattle.std.proofs.Common.{◌&&◌}
-use Rattle.nit_repaint.proofs.Lemmas.{Point, arith, first_shown, is_slot, is_wanted, last_shown}
-use Rattle.nit_repaint.proofs.Lemmas.{length, next_shown, nothing_set, owner_passes, pixel, refl}
-use Rattle.nit_repaint.proofs.Lemmas.{seat_there, shown_as, shown_at, ◌∙◌}
+use Rattle.nit_repaint.proofs.Lemmas.{Point, arith, is_slot, is_wanted, last_shown, next_shown}
+use Rattle.nit_repaint.proofs.Lemmas.{nothing_set, owner_passes, pixel, refl, seat_there, shown_as}
+use Rattle.nit_repaint.proofs.Lemmas.{shown_at, ◌∙◌}
 use Rattle.nit_repaint.proofs.painter.Painter.show_session.Goals as goal
 
 pub views-init : goal.views-init
@@ -9,8 +9,7 @@ views-init g c = record {
   room = refl;
   raw = refl;
   glasses = refl;
-  shown = first_shown c.args.look.now.stack.now (length c.args.self.now.raw.items) c.args.of c.args.part.now
-      (shown_at c.args.look.now c.args.self.now.raw.items) c.args.frame.now;
+  shown = nothing_set _ _ _ _ (λ k l. grind arith);
 }
 
 pub views-preserved : goal.views-preserved
@@ -24,11 +23,11 @@ views-preserved g c =
       room = e.room ∙ c.begin_seat-is_of_session.ensures.room ∙ v.room;
       raw = v.raw;
       glasses = v.glasses;
-      shown = next_shown s _ c.args.of c.args.part.now c.views.i x.0 word word _ _ _
+      shown = next_shown s c.args.of c.args.part.now c.views.i x.0 word word _ _ _
           c.len-views.ensures.standing.slots x.1 (λ k out. refl) v.shown
           (shown_as s c.begin_seat-is_of_session.new.cutter
-          (λ (p : Point). owner_passes (is_slot x.0.slot) s p && is_wanted c.args.of c.args.part.now s p x.0) _ _ _
-          _ c.requires.look.pixels (c.begin_seat-is_of_session.ensures.to_come c.if-not-is_of_session.false x.0 x.1)
+          (λ (p : Point). owner_passes (is_slot x.0.slot) s p && is_wanted c.args.of c.args.part.now s p x.0)
+          c.requires.look.pixels (c.begin_seat-is_of_session.ensures.to_come c.if-not-is_of_session.false x.0 x.1)
           (rw v.raw at (rw c.as_slice.ensures.value at e.shown)));
     }
 
@@ -42,7 +41,7 @@ views-preserved-then-not-is_of_session g c =
       room = c.begin_seat-is_of_session.ensures.room ∙ v.room;
       raw = v.raw;
       glasses = v.glasses;
-      shown = next_shown s _ c.args.of c.args.part.now c.views.i x.0 word word _ _ _
+      shown = next_shown s c.args.of c.args.part.now c.views.i x.0 word word _ _ _
           c.len-views.ensures.standing.slots x.1 (λ k out. refl) v.shown
           (nothing_set _ _ _ _ (λ k l. c.begin_seat-is_of_session.ensures.none c.if-not-is_of_session.true x.0 x.1
           (pixel s.width k)));
@@ -50,6 +49,5 @@ views-preserved-then-not-is_of_session g c =
 
 pub returns-clause-shown : goal.returns-clause-shown
 returns-clause-shown g c =
-    last_shown c.args.look.now.stack.now (length c.args.self.now.raw.items) c.args.of c.args.part.now c.views.i
-    (shown_at c.args.look.now c.args.self.now.raw.items) c.args.frame.now c.views.frame
+    last_shown c.args.look.now.stack.now c.args.of c.args.part.now c.views.i
     (omega (arith, c.views-test.false, c.len-views.ensures.count)) c.views.invariant.shown

@@ -1,5 +1,7 @@
-use Rattle.nit_screen.proofs.Lemmas.{IsGlass, exchanged, length-map, length-set, refl}
-use Rattle.nit_screen.proofs.Lemmas.{slice_get_read, sym, ◌∙◌}
+use Rattle.std.proofs.Common.{arith}
+use Rattle.std.proofs.lemmas.Bool.Decides.{nat_tests}
+use Rattle.nit_screen.proofs.Lemmas.{IsGlass, exchanged, length-map, length-set, slice_get_read}
+use Rattle.nit_screen.proofs.Lemmas.{sym, ◌∙◌}
 use Rattle.nit_screen.proofs.screen.Screen.exchange.Goals as goal
 
 pub invariant_of-self : goal.invariant_of-self
@@ -19,9 +21,4 @@ invariant_of-self g c =
     }
 
 pub returns-clause-out : goal.returns-clause-out
-returns-clause-out g c =
-    let gs = c.self.inside.pixels.painter.glasses.items in
-    let many = sym c.self.invariant.glasses ∙ length-map gs g.G.Glass.sight in
-    let inside = rw many at (rw (← c.self.view_is) at c.requires.session) in
-    rw (← c.self.view_is) (slice_get_read gs _ c.args.sid c.swap.new.y refl inside
-    (rw c.swap.ensures.y_after c.index_mut.ensures.value))
+returns-clause-out g c = grind (arith, nat_tests, length-map, slice_get_read)

@@ -1,3 +1,5 @@
+use Rattle.std.proofs.Common.{arith}
+use Rattle.std.proofs.lemmas.Bool.Decides.{nat_tests}
 use Rattle.nit_screen.proofs.Lemmas.{ap, can_stay, deliveries_of, kill_alone, kill_is_live}
 use Rattle.nit_screen.proofs.Lemmas.{killed_painted, killed_state, kills, no_kill, none_dirty}
 use Rattle.nit_screen.proofs.Lemmas.{raw_of, state_of, unpainted, ◌∙◌}
@@ -5,51 +7,29 @@ use Rattle.nit_events.specs.declared.entry.Entry.TheVariants as entry
 use Rattle.nit_screen.proofs.screen.Screen.input.Goals as goal
 
 pub kill_session-requires-clause-session : goal.kill_session-requires-clause-session
-kill_session-requires-clause-session g c =
-    let s = c.self.inside.server in
-    let r = c.route-routed.ensures in
-    let alone = kill_alone c.kills_stand_alone.ensures s c.args.dev c.route-routed.result r.routed c.killed.result
-    c.killed.ensures c.in-Some.sid c.in-Some.is in
-    let live = kill_is_live s c.in-Some.sid _ alone (rw (← c.self.view_is) at c.requires.live) in
-    rw r.server live.0
+kill_session-requires-clause-session g c = grind (arith, nat_tests, kill_alone, kill_is_live)
 
 pub kill_session-requires-clause-can : goal.kill_session-requires-clause-can
-kill_session-requires-clause-can g c =
-    let r = c.route-routed.ensures.server in
-    can_stay c.self.inside.server c.route-routed.new.self c.self.inside.pixels (rw r) (rw r) c.self.invariant.shown.0
+kill_session-requires-clause-can g c = grind (arith, nat_tests, can_stay)
 
 pub show_input-requires-clause-can : goal.show_input-requires-clause-can
-show_input-requires-clause-can g c =
-    let r = c.route-routed.ensures.server in
-    let e = c.tell_all.ensures in
-    can_stay c.self.inside.server c.tell_all.new.self c.self.inside.pixels (rw (e, r)) (rw (e, r))
-    c.self.invariant.shown.0
+show_input-requires-clause-can g c = grind (arith, nat_tests, can_stay)
 
 -- what is routed to live sessions changes the input and queues alone
 pub show_input-requires-clause-before : goal.show_input-requires-clause-before
-show_input-requires-clause-before g c =
-    rw (c.tell_all.ensures, c.route-routed.ensures.server, c.mode-mode.ensures, c.focus-focus.ensures.focus)
-    c.self.invariant.shown.1
+show_input-requires-clause-before g c = grind (arith, nat_tests)
 
 pub show_input-requires-clause-apart : goal.show_input-requires-clause-apart
 show_input-requires-clause-apart g c = λ d. c.self.invariant.shown.2 (rw c.mode-mode.ensures at d)
 
 pub returns-in-Some-clause-state : goal.returns-in-Some-clause-state
-returns-in-Some-clause-state g c =
-    let s = c.self.inside.server in
-    let r = c.route-routed.ensures in
-    let alone = kill_alone c.kills_stand_alone.ensures s c.args.dev c.route-routed.result r.routed c.killed.result
-    c.killed.ensures c.in-Some.sid c.in-Some.is in
-    rw (← c.self.view_is) (killed_state s c.route-routed.new.self c.kill_session.new.server c.args.dev
-    c.route-routed.result c.in-Some.sid r.server c.kill_session.ensures.server r.all alone
-    (rw (← c.self.view_is) at c.requires.live) r.forgotten)
+returns-in-Some-clause-state g c = grind (arith, nat_tests, kill_alone, killed_state)
 
 pub returns-in-Some-clause-painted : goal.returns-in-Some-clause-painted
 returns-in-Some-clause-painted g c =
     let s = c.self.inside.server in
     let r = c.route-routed.ensures in
-    let alone = kill_alone c.kills_stand_alone.ensures s c.args.dev c.route-routed.result r.routed c.killed.result
-    c.killed.ensures c.in-Some.sid c.in-Some.is in
+    let alone = kill_alone c.kills_stand_alone.ensures s c.args.dev r.routed c.killed.ensures c.in-Some.is in
     rw (← c.self.view_is) (killed_painted s c.route-routed.new.self c.kill_session.new.server c.args.dev
     c.route-routed.result c.in-Some.sid _ _ (raw_of c.self.inside.pixels) (raw_of c.kill_session.new.pixels)
     r.server (r.all ∙ alone) c.kill_session.ensures.painted)
@@ -58,9 +38,8 @@ pub returns-clause-painted : goal.returns-clause-painted
 returns-clause-painted g c =
     let s = c.self.inside.server in
     let r = c.route-routed.ensures in
-    let none = no_kill c.kills_stand_alone.ensures s c.args.dev c.route-routed.result r.routed c.killed.result
-    c.killed.ensures c.in_default.is in
+    let none = no_kill c.kills_stand_alone.ensures s c.args.dev r.routed c.killed.ensures c.in_default.is in
     rw (← c.self.view_is, c.show_input.ensures.glasses, c.show_input.ensures.raw)
-    (unpainted (state_of s) (entry.Input c.args.dev c.route-routed.result) (state_of c.tell_all.new.self) _
-    (raw_of c.self.inside.pixels) (λ p. none_dirty (state_of s) p (deliveries_of c.route-routed.result)
+    (unpainted (state_of s) (entry.Input c.args.dev c.route-routed.result) (state_of c.tell_all.new.self)
+    (λ p. none_dirty (state_of s) p (deliveries_of c.route-routed.result)
     (ap kills r.all ∙ none)))

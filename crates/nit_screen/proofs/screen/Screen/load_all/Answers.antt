@@ -1,15 +1,12 @@
+use Rattle.std.proofs.lemmas.Bool.Decides.{nat_tests}
 use Rattle.nit_screen.proofs.Lemmas.{can_still, entry_painted_in, few_views, flat_below, glass_in}
-use Rattle.nit_screen.proofs.Lemmas.{holds, painted_bare, painted_whole, refl, repainted_words}
-use Rattle.nit_screen.proofs.Lemmas.{state_of}
+use Rattle.nit_screen.proofs.Lemmas.{holds, painted_bare, painted_whole, repainted_words, state_of}
 use Rattle.std.proofs.Common.{arith, length, map, sym, ◌*◌, ◌∙◌}
 use Rattle.nit_events.specs.declared.entry.Entry.TheVariants as entry
 use Rattle.nit_screen.proofs.screen.Screen.load_all.Goals as goal
 
 pub paint_whole-requires-clause-room : goal.paint_whole-requires-clause-room
-paint_whole-requires-clause-room g c =
-    let few = few_views c.self.inside.server.stack c.facts.ensures.standing in
-    let cut = c.self.invariant.shown.0.cuts in
-    rw c.stack.ensures.stack (omega (arith, few, cut))
+paint_whole-requires-clause-room g c = grind (arith, nat_tests, few_views)
 
 pub paint_whole-requires-clause-owns : goal.paint_whole-requires-clause-owns
 paint_whole-requires-clause-owns g c =
@@ -22,24 +19,11 @@ paint_whole-requires-clause-owns g c =
     })
 
 pub show_again-requires-clause-can : goal.show_again-requires-clause-can
-show_again-requires-clause-can g c =
-    let s = c.self.inside.server in
-    let p = c.self.inside.pixels in
-    let painter = c.paint_whole.new.self in
-    let e = c.paint_whole.ensures.painted in
-    can_still s s p painter refl refl e.count (repainted_words _ _ _ _ _ p.painter.raw.items painter.raw.items e.count
-    e.painted c.self.invariant.shown.0.words) c.paint_whole.ensures.room c.self.invariant.shown.0
+show_again-requires-clause-can g c = grind (arith, nat_tests, can_still, repainted_words)
 
 -- each pixel was loaded, so a bare one has the bare word
 pub show_again-requires-clause-below : goal.show_again-requires-clause-below
-show_again-requires-clause-below g c = λ flat one.
-    let s = c.self.inside.server in
-    let p = c.self.inside.pixels in
-    let raw' = c.paint_whole.new.self.raw.items in
-    let all = painted_whole s (length p.painter.raw.items) _ _ p.painter.raw.items raw' c.facts.ensures
-    c.self.invariant.shown.0.pixels (rw c.stack.ensures.stack at c.paint_whole.ensures.painted.painted) in
-    flat_below (state_of s) raw' flat
-    (λ k l bare. painted_bare _ _ _ _ _ p.painter.raw.items raw' k all l refl bare)
+show_again-requires-clause-below g c = grind (arith, nat_tests, painted_whole, flat_below, painted_bare)
 
 pub returns-clause-painted : goal.returns-clause-painted
 returns-clause-painted g c =
@@ -47,7 +31,6 @@ returns-clause-painted g c =
     let p = c.self.inside.pixels in
     let raw' = c.paint_whole.new.self.raw.items in
     rw (← c.self.view_is) (rw c.show_again.ensures.raw
-    (entry_painted_in p.is_apart p.bar (state_of s) entry.Final (state_of s) _ _ p.painter.raw.items raw'
-    c.self.invariant.shown.0.bar
+    (entry_painted_in p.is_apart p.bar (state_of s) entry.Final (state_of s) c.self.invariant.shown.0.bar
     (painted_whole s (length p.painter.raw.items) _ _ p.painter.raw.items raw' c.facts.ensures
     c.self.invariant.shown.0.pixels (rw c.stack.ensures.stack at c.paint_whole.ensures.painted.painted))))

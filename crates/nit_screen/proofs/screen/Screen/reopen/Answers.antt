@@ -1,14 +1,10 @@
-use Rattle.nit_screen.proofs.Lemmas.{arith, as_many, as_many_as, can_relabel, label_there}
-use Rattle.nit_screen.proofs.Lemmas.{length-map, map, same_source, sym, tables_stay, ◌∙◌}
+use Rattle.std.proofs.lemmas.Bool.Decides.{nat_tests}
+use Rattle.nit_screen.proofs.Lemmas.{arith, as_many_as, can_relabel, length-map, length-set, map}
+use Rattle.nit_screen.proofs.Lemmas.{same_source, sym, tables_stay, ◌∙◌}
 use Rattle.nit_screen.proofs.screen.Screen.reopen.Goals as goal
 
 pub index_mut-requires : goal.index_mut-requires
-index_mut-requires g c =
-    let below = label_there c.self.inside.server c.kill_session.new.server c.args.sid
-    c.kill_session.new.pixels.labels.texts.items c.facts.ensures c.kill_session.ensures.server
-    c.kill_session.ensures.pixels.0.named
-    (rw (← c.self.view_is) at c.requires.session) in
-    omega (arith, below, c.kill_session.new.pixels.labels.texts.ok.0)
+index_mut-requires g c = grind (arith, nat_tests, length-map)
 
 pub redraw-requires : goal.redraw-requires
 redraw-requires g c =
@@ -26,9 +22,8 @@ invariant_of-self g c =
     let lt = rw (← c.self.view_is) at c.requires.session in
     rw c.redraw.ensures.glasses (record {
       shown = c.redraw.ensures.pixels;
-      glasses = length-map gs' g.G.Glass.sight ∙ as_many_as g.G.Glass.rest gs gs' e.rests
-          ∙ sym (length-map gs g.G.Glass.sight) ∙ c.self.invariant.glasses
-          ∙ as_many s mid s' c.args.sid c.args.label e.server c.open.ensures;
+      glasses = rw (c.open.ensures, length-set, e.server) (length-map gs' g.G.Glass.sight
+          ∙ as_many_as g.G.Glass.rest gs gs' e.rests ∙ sym (length-map gs g.G.Glass.sight) ∙ c.self.invariant.glasses);
       tables = tables_stay s mid s' c.args.sid c.args.label (map g.G.Glass.sight gs) (map g.G.Glass.sight gs')
           e.painted.loads c.facts.ensures e.server c.open.ensures lt e.painted.sights c.self.invariant.tables;
     })

@@ -1,33 +1,25 @@
+use Rattle.std.proofs.Common.{arith}
+use Rattle.std.proofs.lemmas.Bool.Decides.{nat_tests}
 use Rattle.nit_screen.proofs.Lemmas.{clean_call, clean_shown, refl, same_config, screen_unloaded}
 use Rattle.nit_screen.proofs.Lemmas.{state_of, unpainted}
 use Rattle.nit_events.specs.declared.entry.Entry.TheVariants as entry
 use Rattle.nit_screen.proofs.screen.Screen.serve_clean.Goals as goal
 
 pub invariant_of-self : goal.invariant_of-self
-invariant_of-self g c =
-    let s = c.self.inside.server in
-    let s' = c.accept-reply.new.self in
-    let p = c.self.inside.pixels in
-    let can = rw (← c.self.view_is) at c.requires.can in
-    screen_unloaded g.G.Glass.sight (same_config c.accept-reply.ensures) c.self.invariant
-    (clean_shown s s' p c.args.sid c.args.call.now c.accept-reply.result c.facts.ensures c.facts-2.ensures can
-    c.accept-reply.ensures c.self.invariant.shown c.show_views.new.self c.requires.clean c.show_views.ensures.flat
-    c.show_views.ensures.labelled)
+invariant_of-self g c = grind (arith, nat_tests, screen_unloaded, same_config, clean_shown)
 
 pub returns : goal.returns
 returns g c =
-    let s = c.self.inside.server in
-    let s' = c.accept-reply.new.self in
-    let p = c.self.inside.pixels in
+    let s = state_of c.self.inside.server in
+    let s' = state_of c.accept-reply.new.self in
     let can = rw (← c.self.view_is) at c.requires.can in
-    let shown = clean_shown s s' p c.args.sid c.args.call.now c.accept-reply.result c.facts.ensures c.facts-2.ensures
-    can c.accept-reply.ensures c.self.invariant.shown c.show_views.new.self c.requires.clean c.show_views.ensures.flat
+    let shown = clean_shown c.self.inside.pixels c.facts.ensures c.facts-2.ensures can c.accept-reply.ensures
+    c.self.invariant.shown c.show_views.new.self c.requires.clean c.show_views.ensures.flat
     c.show_views.ensures.labelled in
     rw (← c.self.view_is) (record {
       served = c.accept-reply.ensures;
       raw = shown.raw;
       glasses = rw shown.glasses refl;
-      painted = λ glasses raw. unpainted (state_of s)
-          (entry.Call c.args.sid c.args.call.now c.accept-reply.result) (state_of s') glasses raw
-          (λ p. clean_call (state_of s) (state_of s') _ _ _ p c.requires.clean);
+      painted = λ glasses raw. unpainted s (entry.Call c.args.sid c.args.call.now c.accept-reply.result) s'
+          (λ p. clean_call s s' _ _ _ p c.requires.clean);
     })

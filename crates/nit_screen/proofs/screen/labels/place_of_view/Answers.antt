@@ -1,5 +1,6 @@
+use Rattle.std.proofs.Common.{◌≡◌}
 use Rattle.nit_screen.proofs.Lemmas.{IsSlotView, SlotView, [], ap, arith, get_or_read, holds_at}
-use Rattle.nit_screen.proofs.Lemmas.{length, own_label, sym, ◌∙◌}
+use Rattle.nit_screen.proofs.Lemmas.{length, sym, ◌∙◌}
 use Rattle.nit_screen.proofs.screen.labels.place_of_view.Goals as goal
 
 pub returns : goal.returns
@@ -13,7 +14,7 @@ returns c =
     let session = (holds_at (IsSlotView S.most (length S.sizes)) S.views c.args.i a e.standing.seats seat).session in
     let label = get_or_read labels c.view-view.result.sid c.index-labels-view.result (omega arith)
     c.index-labels-view.is [] in
-    own_label S labels a s c.index-labels-view.result c.label_text-text.result (length c.as_bytes.result.now)
-    c.label_size-width.result c.place_label.result
-    (sym seat ∙ at) label c.label_text-text.ensures (ap length c.as_bytes.ensures.bytes) c.label_size-width.ensures
-    (c.place_label.ensures.place a e.value)
+    let one : a ≡ s = cc (sym seat ∙ at) in
+    let many = ap length c.as_bytes.ensures.bytes in
+    let text = c.label_text-text.ensures in
+    rw (← one, c.place_label.ensures.place a e.value, c.label_size-width.ensures, many, text, label)

@@ -1,6 +1,7 @@
 use Rattle.nit_screen.proofs.Lemmas.{ServerModel, as_many_as, bar_is_bare, can_paint_by}
 use Rattle.nit_screen.proofs.Lemmas.{can_show_loaded, ended_painted, ended_server, glass_in}
-use Rattle.nit_screen.proofs.Lemmas.{held_by_all, holds, nobody_ends, painted_in, state_of}
+use Rattle.nit_screen.proofs.Lemmas.{held_by_all, holds, nobody_calls, painted_in, repainted_same}
+use Rattle.nit_screen.proofs.Lemmas.{state_of}
 use Rattle.std.proofs.Common.{ap, arith, length, map, refl, ◌≤◌}
 use Rattle.nit_events.specs.declared.event.Status.TheVariants as status
 use Rattle.nit_screen.proofs.screen.sessions.kill_session.Goals as goal
@@ -43,9 +44,9 @@ returns-clause-painted g c =
     let now = ended_server c.args.of status.Killed s c.take_views_away.new.server s' c.requires.session e.session e.left
     c.end_session.ensures in
     rw (c.redraw.ensures.glasses, c.redraw.ensures.raw)
-    (painted_in p.is_apart _ _ _ p.bar _ _ p.painter.raw.items c.take_views_away.new.painter.raw.items
-    (λ k l. bar_is_bare (state_of s') k (rw (now, ← c.requires.can.bar) l))
-    (nobody_ends g.G.Glass.sight _ _ _ c.len-nobody.result gs gs' p.painter.raw.items
-    c.take_views_away.new.painter.raw.items many (omega (arith, many, same_))
+    (painted_in p.is_apart p.bar (λ k l. bar_is_bare (state_of s') k (rw (now, ← c.requires.can.bar) l))
+    (repainted_same _ _ _ _ _ _ _ _ _ _ _ (λ k le. refl) (λ k le d. refl)
+    (nobody_calls g.G.Glass.sight gs c.len-nobody.result many)
+    (nobody_calls g.G.Glass.sight gs' c.len-nobody.result (omega (arith, many, same_)))
     (ended_painted s s' c.args.of status.Killed _ _ _ p.painter.raw.items c.take_views_away.new.painter.raw.items
     c.facts.ensures c.facts-2.ensures now c.requires.can.pixels e.painted.painted)))

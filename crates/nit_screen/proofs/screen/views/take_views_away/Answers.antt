@@ -1,16 +1,17 @@
-use Rattle.nit_screen.proofs.Lemmas.{IsRemovedFrom, IsViewChange, all_painted, all_taken}
-use Rattle.nit_screen.proofs.Lemmas.{can_paint_gone, can_paint_rest, goes, goes_painted}
-use Rattle.nit_screen.proofs.Lemmas.{gone_by_slot, gone_change, gone_painted, no_repaint, one_less}
-use Rattle.nit_screen.proofs.Lemmas.{pixel, place_is, repaint_more, seat_here, stays, stays_clean}
-use Rattle.nit_screen.proofs.Lemmas.{still_there, taken_more, taken_none, without_views}
-use Rattle.std.proofs.Common.{ap, arith, refl, subst, sym, ℕ, ◌+◌, ◌-◌, ◌<◌, ◌∙◌, ◌≡◌, ◌≤◌}
+use Rattle.std.proofs.lemmas.Bool.Decides.{nat_tests}
+use Rattle.nit_screen.proofs.Lemmas.{IsViewChange, all_painted, all_taken, can_paint_gone}
+use Rattle.nit_screen.proofs.Lemmas.{can_paint_rest, goes, goes_painted, gone_by_slot, gone_change}
+use Rattle.nit_screen.proofs.Lemmas.{gone_painted, length-set, no_repaint, one_less, pixel}
+use Rattle.nit_screen.proofs.Lemmas.{place_is, repaint_more, seat_here, stays, stays_clean}
+use Rattle.nit_screen.proofs.Lemmas.{taken_more, taken_none, without_views}
+use Rattle.std.proofs.Common.{ap, arith, refl, sym, ℕ, ◌+◌, ◌-◌, ◌<◌, ◌∙◌, ◌≡◌, ◌≤◌}
 use Rattle.nit_screen.proofs.screen.views.take_views_away.Goals as goal
 
 pub views-init : goal.views-init
 views-init g c =
     let s = c.args.server.now.stack in
     record {
-      taken = subst (λ (n : ℕ). IsRemovedFrom c.args.of n s s) (sym c.view_count-i.ensures) (taken_none c.args.of s);
+      taken = rw c.view_count-i.ensures (taken_none c.args.of s);
       left = refl;
       session = c.requires.session;
       painted = no_repaint (λ k. stays_clean c.args.of s (pixel s.width k));
@@ -20,23 +21,9 @@ views-init g c =
 down : (c : ℕ) → 0 < c → c ≡ (c - 1) + 1
 down c l = omega arith
 
-within : (c n : ℕ) → 0 < c → c ≤ n → c - 1 < n
-within c n l w = omega arith
-
 -- the view at the place is of another session
 pub views-preserved-then-view-of : goal.views-preserved-then-view-of
-views-preserved-then-view-of g c =
-    let i = c.views.invariant in
-    let mid = c.views.server.stack in
-    let first = rw (down c.views.i c.views-test.true) at i.taken in
-    record {
-      taken = taken_more c.args.of (c.views.i - 1) c.args.server.now.stack mid mid first
-          (stays c.args.of (c.views.i - 1) mid _ c.seated-view.ensures.place c.if-view-of.true
-          (within _ _ c.views-test.true i.taken.within) first.behind);
-      left = i.left;
-      session = i.session;
-      painted = i.painted;
-    }
+views-preserved-then-view-of g c = grind (arith, nat_tests, taken_more, stays)
 
 pub paint_changed-requires : goal.paint_changed-requires
 paint_changed-requires g c =
@@ -47,8 +34,7 @@ paint_changed-requires g c =
     let can = can_paint_rest i.taken i.painted c.requires.can in
     let gone = can_paint_gone _ mid.stack next.stack c.seated-view.result.0.0 _
     (gone_by_slot mid next c.args.of _ _ by c.remove_view.ensures) can in
-    let is = c.stack.ensures.stack in
-    rw is gone
+    rw c.stack.ensures.stack gone
 
 -- the view at the place goes
 pub views-preserved : goal.views-preserved
@@ -64,7 +50,7 @@ views-preserved g c =
     let now = gone_by_slot mid next c.args.of view.handle k by c.remove_view.ensures in
     let first = rw (down c.views.i c.views-test.true) at i.taken in
     let gone = goes c.args.of (c.views.i - 1) k mid.stack next.stack _ by.slots at refl c.if-view-of.false first.behind
-    now (within _ _ c.views-test.true i.taken.within) in
+    now (omega (arith, c.views-test.true, i.taken.within)) in
     let change : IsViewChange k (c.views.i - 1) view.rect mid.stack next.stack =
     gone_change mid.stack next.stack k (c.views.i - 1) view by.slots
     (seat_here mid.stack.views (c.views.i - 1) _ by.slots at)
@@ -75,7 +61,7 @@ views-preserved g c =
     record {
       taken = taken_more c.args.of (c.views.i - 1) c.args.server.now.stack mid.stack next.stack first gone;
       left = ap (without_views c.args.of) c.remove_view.ensures ∙ one_less c.args.of view.handle mid i.session ∙ i.left;
-      session = still_there mid next c.args.of view.handle c.remove_view.ensures i.session;
+      session = rw (c.remove_view.ensures, length-set) i.session;
       painted = repaint_more first gone i.painted (assumption (painted, e.kept));
     }
 
@@ -84,8 +70,7 @@ none_left : (c : ℕ) → c ≤ 0 → c ≡ 0
 none_left c l = omega arith
 
 pub returns-clause-stack : goal.returns-clause-stack
-returns-clause-stack g c = all_taken c.args.of c.args.server.now.stack c.views.server.stack
-    (rw (none_left c.views.i c.views-test.false) at c.views.invariant.taken)
+returns-clause-stack g c = grind (arith, nat_tests, all_taken, none_left)
 
 pub returns-clause-painted : goal.returns-clause-painted
 returns-clause-painted g c =

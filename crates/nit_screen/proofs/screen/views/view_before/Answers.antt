@@ -1,13 +1,10 @@
-use Rattle.nit_screen.proofs.Lemmas.{named_stands, refl}
+use Rattle.std.proofs.Common.{arith}
+use Rattle.std.proofs.lemmas.Bool.Decides.{nat_tests}
+use Rattle.nit_screen.proofs.Lemmas.{has-name}
 use Rattle.nit_screen.proofs.screen.views.view_before.Goals as goal
 
 pub view-requires : goal.view-requires
-view-requires c = rw c.stack-stack.ensures.stack
-    (named_stands c.slot-view.result.0 c.args.sid c.args.handle c.args.server.now.stack.views c.slot-view.ensures)
+view-requires c = grind (arith, nat_tests, has-name)
 
 pub returns-clause-seat : goal.returns-clause-seat
-returns-clause-seat c = (
-  record { slot = c.slot-view.result.0; view = c.view.result },
-  rw c.stack-stack.ensures.stack at c.view.ensures.value,
-  refl,
-)
+returns-clause-seat c = grind (arith, nat_tests)

@@ -9,13 +9,9 @@ above-requires c = record {
 }
 
 pub invariant_of-self : goal.invariant_of-self
-invariant_of-self c =
-    let done =
-    put_above_next c.self.invariant.0 c.self.view_is c.slot-v.ensures c.slot-n.ensures c.requires.accepted
-    c.above.ensures in
-    (done.server, c.self.invariant.1)
+invariant_of-self c = assumption (put_above_next c.self.invariant.0 c.self.view_is c.slot-v.ensures c.slot-n.ensures
+    c.requires.accepted c.above.ensures)
 
 pub returns : goal.returns
-returns c =
-    (put_above_next c.self.invariant.0 c.self.view_is c.slot-v.ensures c.slot-n.ensures c.requires.accepted
+returns c = (put_above_next c.self.invariant.0 c.self.view_is c.slot-v.ensures c.slot-n.ensures c.requires.accepted
     c.above.ensures).served

@@ -13,25 +13,15 @@ create-handle-requires-clause-free c =
 pub push_front-requires-clause-named : goal.push_front-requires-clause-named
 push_front-requires-clause-named c =
     let own = own_member c.self.invariant.0 c.self.view_is c.requires.session c.index_mut-member.ensures.value in
-    new_name c.args.sid c.create-handle.result.0 c.self.invariant.0 (rw own at c.create-handle.ensures.was_not_held)
+    new_name c.self.invariant.0 c.args.sid c.create-handle.result.0 (rw own at c.create-handle.ensures.was_not_held)
 
 new_view : (c : goal.After-push_front)
     → IsNewView c.self.inside.slots (kept_session_at c.self.inside.members.items c.args.sid) c.create-handle.new.self
     c.create-handle.result.0 c.create-handle.result.1
 new_view c =
     let own = own_member c.self.invariant.0 c.self.view_is c.requires.session c.index_mut-member.ensures.value in
-    rw (← own) (record {
-      session = c.create-handle.ensures.session;
-      pairs = c.create-handle.ensures.pairs;
-      most = c.create-handle.ensures.most;
-      few = c.facts-2.ensures.table.counted;
-      paid = c.facts-2.ensures.paid;
-      next = c.create-handle.ensures.handle;
-      unheld = c.create-handle.ensures.was_not_held;
-      below = c.create-handle.ensures.below;
-      free = c.create-handle.ensures.was_free;
-      counted = rw c.create-handle.ensures.slots at c.create-handle.ensures.more_taken;
-    })
+    let more = rw c.create-handle.ensures.slots at c.create-handle.ensures.more_taken in
+    rw (← own) (assumption (more, c.create-handle.ensures, c.facts-2.ensures, c.facts-2.ensures.table))
 
 pub invariant_of-self : goal.invariant_of-self
 invariant_of-self c = (

@@ -1,7 +1,7 @@
 use Rattle.std.proofs.Common.{get_or-set_same, length, ℕ, ◌<◌, ◌∙◌, ◌≡◌}
-use Rattle.nit_server.proofs.Lemmas.{ServerModel, attends_less, ended, first_session, has_member}
-use Rattle.nit_server.proofs.Lemmas.{kept_session_at, length-set, none_of, own_machine, own_member}
-use Rattle.nit_server.proofs.Lemmas.{session_ends, session_over, without_views}
+use Rattle.nit_server.proofs.Lemmas.{ServerModel, attends_less, ended, has_member, kept_session_at}
+use Rattle.nit_server.proofs.Lemmas.{length-set, none_of, own_machine, own_member, session_ends}
+use Rattle.nit_server.proofs.Lemmas.{session_over, without_views}
 use Rattle.nit_server.proofs.server.Server.end_session.Goals as goal
 
 still_there : (sid : ℕ) (s : ServerModel) {t : ServerModel} → t ≡ without_views sid s → sid < length s.sessions
@@ -13,12 +13,7 @@ end-requires c =
     let lt = still_there c.args.sid c.args.self.now c.clear_views.ensures c.requires in
     let machine = own_machine c.self.invariant.0 c.self.view_is lt c.index_mut-member.ensures.value in
     none_of c.index_mut-member.result.now.pairs
-    (rw (
-      ← c.facts.ensures.handles,
-      machine,
-      c.clear_views.ensures,
-      get_or-set_same c.args.self.now.sessions c.args.sid _ (first_session 0) c.requires,
-    ))
+    (rw (← c.facts.ensures.handles, machine, c.clear_views.ensures, get_or-set_same, c.requires))
 
 there : (c : goal.After-forget) → c.args.sid < length c.self.inside.members.items
 there c =

@@ -5,9 +5,8 @@ pub front-requires : goal.front-requires
 front-requires c = there c.self.invariant.0 c.self.view_is c.slot-v.ensures
 
 pub invariant_of-self : goal.invariant_of-self
-invariant_of-self c =
-    let done = fronted c.self.invariant.0 c.self.view_is c.slot-v.ensures c.requires.accepted c.front.ensures in
-    (done.server, c.self.invariant.1)
+invariant_of-self c = assumption (fronted c.self.invariant.0 c.self.view_is c.slot-v.ensures c.requires.accepted
+    c.front.ensures)
 
 pub returns : goal.returns
 returns c = (fronted c.self.invariant.0 c.self.view_is c.slot-v.ensures c.requires.accepted c.front.ensures).served

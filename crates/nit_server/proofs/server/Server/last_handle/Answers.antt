@@ -16,4 +16,4 @@ returns-clause-no_view c = go c.last.result c.last.ensures.none.0
     go (Some h) none = tt
     go None none =
         let own = own_member c.self.invariant.0 c.self.view_is c.requires c.index-member.ensures in
-        rw (← c.self.view_is) (no_view_left c.args.sid c.self.invariant.0 (rw own at (none refl)))
+        rw (← c.self.view_is) (no_view_left c.self.invariant.0 c.args.sid (rw own at (none refl)))

@@ -1,4 +1,5 @@
-use Rattle.nit_server.proofs.Lemmas.{Configuration, ap, opened_server, opened_state, ◌∙◌}
+use Rattle.nit_server.proofs.Lemmas.{Configuration, KeptSessionModel, ap, first_kept_session}
+use Rattle.nit_server.proofs.Lemmas.{map-map, opened_server, ◌∙◌}
 use Rattle.nit_server.proofs.server.Server.new.Goals as goal
 
 pub invariant_of-result : goal.invariant_of-result
@@ -11,5 +12,7 @@ invariant_of-result c = (
 
 pub returns : goal.returns
 returns c =
-    opened_state (c.as_slice-clients.ensures.value ∙ ap (λ (z : Configuration). z.clients) c.config.view_is)
-    c.in_ok-config.ensures c.in_ok-stack.ensures c.in_ok-members.ensures c.opened_focus-focus.ensures.input
+    let given = c.as_slice-clients.ensures.value ∙ ap (λ (z : Configuration). z.clients) c.config.view_is in
+    let same = map-map (λ (m : KeptSessionModel). m.session) first_kept_session c.args.config.now.clients in
+    let parts = c.in_ok-stack.ensures in
+    rw (c.in_ok-config.ensures, parts, c.in_ok-members.ensures, given, c.opened_focus-focus.ensures.input, same)

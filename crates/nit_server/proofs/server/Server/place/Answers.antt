@@ -5,14 +5,9 @@ pub place-requires : goal.place-requires
 place-requires c = there c.self.invariant.0 c.self.view_is c.slot-v.ensures
 
 pub invariant_of-self : goal.invariant_of-self
-invariant_of-self c =
-    let done =
-    placed c.self.invariant.0 c.self.view_is c.slot-v.ensures c.args.x c.args.y c.args.w c.args.h
-    c.requires.accepted (to_z-of_z _ _ c.ranges.x) (to_z-of_z _ _ c.ranges.y) c.in-Some.ensures.value
-    c.place.ensures in
-    (done.server, c.self.invariant.1)
+invariant_of-self c = assumption (placed c.self.invariant.0 c.self.view_is c.slot-v.ensures c.requires.accepted
+    (to_z-of_z _ _ c.ranges.x) (to_z-of_z _ _ c.ranges.y) c.in-Some.ensures.value c.place.ensures)
 
 pub returns : goal.returns
-returns c =
-    (placed c.self.invariant.0 c.self.view_is c.slot-v.ensures c.args.x c.args.y c.args.w c.args.h c.requires.accepted
-    (to_z-of_z _ _ c.ranges.x) (to_z-of_z _ _ c.ranges.y) c.in-Some.ensures.value c.place.ensures).served
+returns c = (placed c.self.invariant.0 c.self.view_is c.slot-v.ensures c.requires.accepted (to_z-of_z _ _ c.ranges.x)
+    (to_z-of_z _ _ c.ranges.y) c.in-Some.ensures.value c.place.ensures).served

@@ -1,6 +1,6 @@
-use Rattle.std.proofs.Common.{sym, ◌≡◌}
-use Rattle.nit_server.proofs.Lemmas.{IsGoneView, has_member, is_its, kept_session_at, own_member}
-use Rattle.nit_server.proofs.Lemmas.{stands, view_goes, view_gone, without_slot}
+use Rattle.std.proofs.Common.{sym, ◌∙◌, ◌≡◌}
+use Rattle.nit_server.proofs.Lemmas.{IsGoneView, has_member, kept_session_at, own_member, stands}
+use Rattle.nit_server.proofs.Lemmas.{view_goes, view_gone, without_slot}
 use Rattle.nit_server.proofs.server.Server.remove_view.Goals as goal
 
 pub destroy-requires : goal.destroy-requires
@@ -8,13 +8,14 @@ destroy-requires c =
     let there = has_member c.self.invariant.0 c.self.view_is c.requires.session in
     let own = own_member c.self.invariant.0 c.self.view_is c.requires.session c.index_mut-member.ensures.value in
     let found = c.in-Some.ensures.slot in
-    rw (← found) (is_its c.args.handle c.self.invariant.0 there (rw own at (sym found)))
+    let seat = stands c.self.invariant.0 c.args.handle there (rw own at (sym found)) in
+    rw (← found) (c.self.invariant.0.seated.taken _ ∙ seat)
 
 pub remove-requires : goal.remove-requires
 remove-requires c =
     let there = has_member c.self.invariant.0 c.self.view_is c.requires.session in
     let own = own_member c.self.invariant.0 c.self.view_is c.requires.session c.index_mut-member.ensures.value in
-    stands c.args.handle c.self.invariant.0 there (rw own at (sym c.in-Some.ensures.slot))
+    stands c.self.invariant.0 c.args.handle there (rw own at (sym c.in-Some.ensures.slot))
 
 slots_are : (c : goal.After-remove)
     → c.destroy.new.slots ≡ record c.self.inside.slots { taken = without_slot c.self.inside.slots.taken c.in-Some.slot }
@@ -24,16 +25,9 @@ gone : (c : goal.After-remove) → IsGoneView c.self.inside.slots (kept_session_
     c.destroy.new.self c.args.handle c.in-Some.slot
 gone c =
     let own = own_member c.self.invariant.0 c.self.view_is c.requires.session c.index_mut-member.ensures.value in
-    rw (← own) (record {
-      session = c.destroy.ensures.session;
-      held = sym c.in-Some.ensures.slot;
-      pairs = c.destroy.ensures.pairs;
-      most = c.destroy.ensures.most;
-      few = c.facts.ensures.table.counted;
-      paid = c.facts.ensures.paid;
-      fewer = c.destroy.ensures.fewer_held;
-      counted = rw (slots_are c) at c.destroy.ensures.fewer_taken;
-    })
+    let fewer = rw (slots_are c) at c.destroy.ensures.fewer_taken in
+    let held = sym c.in-Some.ensures.slot in
+    rw (← own) (assumption (fewer, held, c.destroy.ensures, c.facts.ensures, c.facts.ensures.table))
 
 pub invariant_of-self : goal.invariant_of-self
 invariant_of-self c = (

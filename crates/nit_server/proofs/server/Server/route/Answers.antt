@@ -1,4 +1,6 @@
-use Rattle.std.proofs.Common.{◌≡◌, ap, ◌∙◌}
+use Rattle.std.proofs.Common.{arith}
+use Rattle.std.proofs.lemmas.Bool.Decides.{nat_tests}
+use Rattle.std.proofs.Common.{ap, ◌∙◌, ◌≡◌}
 use Rattle.nit_server.proofs.Lemmas.{Routing, routed_as, routed_is, routing_of}
 use Rattle.nit_focus.specs.Focus as focusing
 use Rattle.nit_server.proofs.server.Server.route.Goals as goal
@@ -6,8 +8,7 @@ use Rattle.nit_server.proofs.server.Server.route.Goals as goal
 -- the step of the focus is the one of the state
 step : (c : goal.After-input) → focusing.routing_at c.self.inside.focus c.pointed-pointed.result c.args.dev
     ≡ routing_of c.args.self.now c.args.dev
-step c = routed_is c.self.invariant.0 c.self.invariant.1 c.args.dev c.self.view_is c.pointed-pointed.ensures.session
-    c.pointed-pointed.ensures.known
+step c = grind (arith, nat_tests, routed_is)
 
 pub returns-clause-server : goal.returns-clause-server
 returns-clause-server c = rw (c.input.ensures.state, step c, ← c.self.view_is)

@@ -19,11 +19,8 @@ pub returns-clause-held : goal.returns-clause-held
 returns-clause-held c =
     let its = c.self.invariant.0.seated.kept _ _ c.at-v.result.0 (ap (option_map name_of) c.view-view.ensures.value) in
     let there = has_session c.self.invariant.0 c.self.view_is its.0 in
-    rw (
-      ← own_machine c.self.invariant.0 c.self.view_is there c.index-member.ensures,
-      c.facts.ensures.handles,
-      has_as_held c.index-member.result.now.pairs c.view-view.result.handle,
-      own_member c.self.invariant.0 c.self.view_is there c.index-member.ensures,
-    )
-    (held_is (pairs_of c.self.inside.members.items c.view-view.result.sid) c.view-view.result.handle c.at-v.result.0
-    its.1)
+    let mine = own_member c.self.invariant.0 c.self.view_is there c.index-member.ensures in
+    let machine = own_machine c.self.invariant.0 c.self.view_is there c.index-member.ensures in
+    let held = has_as_held c.index-member.result.now.pairs c.view-view.result.handle in
+    rw (← machine, c.facts.ensures.handles, held, mine) (held_is
+    (pairs_of c.self.inside.members.items c.view-view.result.sid) c.view-view.result.handle _ its.1)

@@ -2,13 +2,9 @@ use Rattle.nit_server.proofs.Lemmas.{taken}
 use Rattle.nit_server.proofs.server.Server.take.Goals as goal
 
 pub invariant_of-self : goal.invariant_of-self
-invariant_of-self c =
-    let done =
-    taken c.self.invariant.0 c.self.view_is c.requires.session c.index_mut.ensures.value c.requires.accepted
-    c.take.ensures.session c.take.ensures.reply in
-    (done.server, c.self.invariant.1)
+invariant_of-self c = assumption (taken c.self.invariant.0 c.self.view_is c.requires.session c.index_mut.ensures.value
+    c.requires.accepted c.take.ensures.session c.take.ensures.reply)
 
 pub returns : goal.returns
-returns c =
-    (taken c.self.invariant.0 c.self.view_is c.requires.session c.index_mut.ensures.value c.requires.accepted
+returns c = (taken c.self.invariant.0 c.self.view_is c.requires.session c.index_mut.ensures.value c.requires.accepted
     c.take.ensures.session c.take.ensures.reply).served

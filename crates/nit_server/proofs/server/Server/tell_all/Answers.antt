@@ -1,17 +1,13 @@
-use Rattle.std.proofs.Common.{length, ◌<◌}
-use Rattle.nit_server.proofs.Lemmas.{Delivery, delivered_length, delivery, each_one, may_lose}
+use Rattle.std.proofs.Common.{arith}
+use Rattle.std.proofs.lemmas.Bool.Decides.{nat_tests}
+use Rattle.nit_server.proofs.Lemmas.{delivered_length, each_one, may_lose}
 use Rattle.nit_server.proofs.server.Server.tell_all.Goals as goal
 
 pub tell-requires-clause-session : goal.tell-requires-clause-session
-tell-requires-clause-session c =
-    let r = c.args.routed.now in
-    (each_one (λ (d : Delivery). d.sid < length c.args.self.now.sessions) r.a r.b r.c c.requires.sessions).0
+tell-requires-clause-session c = grind (arith, nat_tests, each_one)
 
 pub tell-requires-3-clause-session : goal.tell-requires-3-clause-session
-tell-requires-3-clause-session c =
-    let r = c.args.routed.now in
-    rw (c.tell-2.ensures, delivered_length (delivery r.b), c.tell.ensures, delivered_length (delivery r.a))
-    (each_one (λ (d : Delivery). d.sid < length c.args.self.now.sessions) r.a r.b r.c c.requires.sessions).2
+tell-requires-3-clause-session c = grind (arith, nat_tests, delivered_length, each_one)
 
 pub tell-requires-3-clause-lost : goal.tell-requires-3-clause-lost
 tell-requires-3-clause-lost c =

@@ -1,17 +1,7 @@
-use Rattle.nit_server.proofs.Lemmas.{Member, ap, bytes_eq-Decides, get_or_default, no_client}
-use Rattle.nit_server.proofs.Lemmas.{not_from_Decides, one_more, sym, ◌∙◌}
+use Rattle.std.proofs.Common.{arith}
+use Rattle.std.proofs.lemmas.Bool.Decides.{nat_tests}
+use Rattle.nit_server.proofs.Lemmas.{bytes_eq-Decides, get_or_default, not_from_Decides}
 use Rattle.nit_server.proofs.server.seats.is_free.Goals as goal
-use Rattle.nit_server.proofs.server.seats.is_free.Goals.{else-i-sid-via-then-i-sid+else-eq}
-use Rattle.nit_server.proofs.server.seats.is_free.Goals.{else-i-sid-via-else-i-sid}
 
 pub clients-preserved : goal.clients-preserved
-clients-preserved c =
-    one_more c.args.clients.now c.args.sid c.clients.i c.args.label.now c.clients.invariant (λ apart same.
-    elim c.else-i-sid.branch [
-      | else-i-sid-via-then-i-sid+else-eq w ↦
-          not_from_Decides _ (bytes_eq-Decides _ _) (sym w.eq.ensures ∙ w.if-eq.false)
-          (ap (λ (m : Member). m.label)
-          (get_or_default c.args.clients.now c.clients.i w.index-clients-i.result no_client c.clients-test.true)
-          ∙ same)
-      | else-i-sid-via-else-i-sid w ↦ apart w.if-i-sid.false
-    ])
+clients-preserved c = grind (arith, nat_tests, not_from_Decides, bytes_eq-Decides, get_or_default)

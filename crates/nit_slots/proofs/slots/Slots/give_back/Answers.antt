@@ -11,16 +11,14 @@ invariant_of-self c =
       space = rw c.push_reserved.ensures.capacity c.self.invariant.space;
     }
 
-pub returns-clause-taken : goal.returns-clause-taken
-returns-clause-taken c =
-    rw (← c.self.view_is, c.push_reserved.ensures.items) (λ i. record {
-      total = c.self.inside.total;
-      taken = taken_less c.self.inside.free.items c.args.slot c.self.inside.total i;
-    })
-
-pub returns-clause-fewer : goal.returns-clause-fewer
-returns-clause-fewer c =
+pub returns : goal.returns
+returns c =
     let apart = taken_apart c.self.inside.free.items c.args.slot c.self.inside.total
     (rw (← c.self.view_is) at c.requires) in
-    rw (← c.self.view_is, c.push_reserved.ensures.items)
-    (length_taken_less c.self.inside.free.items c.args.slot c.self.inside.total apart.0 apart.1)
+    rw (← c.self.view_is, c.push_reserved.ensures.items) (record {
+      taken = λ i. record {
+        total = c.self.inside.total;
+        taken = taken_less c.self.inside.free.items c.args.slot c.self.inside.total i;
+      };
+      fewer = length_taken_less c.self.inside.free.items c.args.slot c.self.inside.total apart.0 apart.1;
+    })

@@ -3,9 +3,8 @@ use Rattle.nit_stack.proofs.stack.Stack.above.Goals as goal
 
 pub put_in_above-requires : goal.put_in_above-requires
 put_in_above-requires c =
-    let there = rw (← c.self.view_is) at c.requires.moved in
-    let room = room_again c.self.inside c.args.v.0 c.self.invariant.standing there in
-    omega (arith, rw (← c.take_out.ensures.items) at room, c.take_out.new.order.ok.0)
+    let room = room_again c.self.inside c.args.v.0 c.self.invariant.standing in
+    grind (arith, room, c.take_out.ensures.items, c.take_out.new.order.ok.0)
 
 pub invariant_of-self : goal.invariant_of-self
 invariant_of-self c =

@@ -14,8 +14,8 @@ put_in_back-requires-clause-slot c =
 
 pub put_in_back-requires-clause-room : goal.put_in_back-requires-clause-room
 put_in_back-requires-clause-room c =
-    let room = room_again c.self.inside c.args.v.0 c.self.invariant.standing (rw (← c.self.view_is) at c.requires) in
-    omega (arith, rw (← c.take_out.ensures.items) at room, c.take_out.new.order.ok.0)
+    let room = room_again c.self.inside c.args.v.0 c.self.invariant.standing in
+    grind (arith, room, c.take_out.ensures.items, c.take_out.new.order.ok.0)
 
 pub invariant_of-self : goal.invariant_of-self
 invariant_of-self c =

@@ -4,9 +4,7 @@ use Rattle.nit_stack.proofs.stack.Stack.offset.Goals as goal
 
 pub index_mut-view-requires : goal.index_mut-view-requires
 index_mut-view-requires c =
-    let there = rw (← c.self.view_is) at c.requires.view in
-    let kept = slot_kept c.self.inside c.args.v.0 c.self.invariant.standing there in
-    omega (arith, kept.0, c.self.inside.slots.ok.0)
+    grind (arith, slot_kept c.self.inside c.args.v.0 c.self.invariant.standing, c.self.inside.slots.ok.0)
 
 pub invariant_of-self : goal.invariant_of-self
 invariant_of-self c =

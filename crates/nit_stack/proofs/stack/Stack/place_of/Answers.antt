@@ -8,18 +8,14 @@ overflow_cast-result c =
     omega (arith, few c.self.inside c.self.invariant.standing, m, within)
 
 pub returns-clause-place : goal.returns-clause-place
-returns-clause-place c =
-    rw (← c.self.view_is, c.place_of.ensures.place, c.as_slice.ensures.value)
-    (place_in_order c.self.inside.slots.items c.self.inside.order.items c.args.v.0)
+returns-clause-place c = grind (arith, place_in_order c.self.inside.slots.items c.self.inside.order.items c.args.v.0)
 
 pub returns-clause-stands : goal.returns-clause-stands
 returns-clause-stands c =
     let place = place_in_order c.self.inside.slots.items c.self.inside.order.items c.args.v.0 in
-    rw (← c.self.view_is, c.place_of.ensures.place, c.as_slice.ensures.value, place)
-    (place_within c.args.v.0 (model c.self.inside).views)
+    grind (arith, place, place_within c.args.v.0 (model c.self.inside).views)
 
 pub returns-clause-view : goal.returns-clause-view
 returns-clause-view c =
     let place = place_in_order c.self.inside.slots.items c.self.inside.order.items c.args.v.0 in
-    rw (← c.self.view_is, c.place_of.ensures.place, c.as_slice.ensures.value, place)
-    (place_found (model c.self.inside).views c.args.v)
+    grind (arith, place, place_found (model c.self.inside).views c.args.v)

@@ -1,5 +1,6 @@
-use Rattle.nit_stack.proofs.Lemmas.{arith, fresh, keeps_push, length-set, pushed, refl, room_for}
-use Rattle.nit_stack.proofs.Lemmas.{written_kept, written_slot}
+use Rattle.std.proofs.Common.{◌<◌}
+use Rattle.nit_stack.proofs.Lemmas.{arith, fresh, get_or-set_same, keeps_push, length, length-set}
+use Rattle.nit_stack.proofs.Lemmas.{pushed, refl, room_for, written_kept}
 use Rattle.nit_stack.proofs.stack.Stack.push_front.Goals as goal
 
 pub put_in_front-requires-clause-kept : goal.put_in_front-requires-clause-kept
@@ -10,16 +11,14 @@ put_in_front-requires-clause-kept c =
 
 pub put_in_front-requires-clause-slot : goal.put_in_front-requires-clause-slot
 put_in_front-requires-clause-slot c =
+    let below : c.args.v.0 < length c.self.inside.slots.items = rw (← c.self.view_is) at c.requires.slot in
     let session = rw (← c.self.view_is) at c.requires.session in
-    rw (c.as_slice.ensures.value, c.as_slice-2.ensures.value, c.fresh.ensures)
-    (written_slot c.self.inside c.args.v.0 (fresh c.args.sid c.args.handle) c.self.invariant.standing
-    (rw (← c.self.view_is) at c.requires.slot) session)
+    rw (c.as_slice.ensures.value, c.as_slice-2.ensures.value, c.fresh.ensures, length-set, get_or-set_same)
+    (below, omega (arith, session, c.self.invariant.standing.sessions.2))
 
 pub put_in_front-requires-clause-room : goal.put_in_front-requires-clause-room
 put_in_front-requires-clause-room c =
-    let room = room_for c.self.inside c.args.v.0 c.self.invariant.standing (rw (← c.self.view_is) at c.requires.slot)
-    (rw (← c.self.view_is) at c.requires.free) in
-    omega (arith, room, c.self.inside.order.ok.0)
+    grind (arith, room_for c.self.inside c.args.v.0 c.self.invariant.standing, c.self.inside.order.ok.0)
 
 pub invariant_of-self : goal.invariant_of-self
 invariant_of-self c =

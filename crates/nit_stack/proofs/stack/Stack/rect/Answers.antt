@@ -1,19 +1,11 @@
-use Rattle.nit_stack.proofs.Lemmas.{ap, arith, option_map, slot_kept, view_at, view_in}
+use Rattle.nit_stack.proofs.Lemmas.{arith, slot_kept, view_at, view_in}
 use Rattle.nit_stack.proofs.stack.Stack.rect.Goals as goal
 
 pub index-requires : goal.index-requires
-index-requires c =
-    let kept = slot_kept c.self.inside c.args.v.0 c.self.invariant.standing (rw (← c.self.view_is) at c.requires) in
-    omega (arith, kept.0, c.self.inside.slots.ok.0)
+index-requires c = grind (arith, slot_kept c.self.inside c.args.v.0 c.self.invariant.standing, c.self.inside.slots.ok.0)
 
 pub returns-clause-rect : goal.returns-clause-rect
-returns-clause-rect c =
-    let view = view_in c.self.inside c.args.v.0 c.index.result.now c.self.invariant.standing
-    (rw (← c.self.view_is) at c.requires) c.index.ensures in
-    rw (← c.self.view_is) (ap (option_map (λ s. s.view.rect)) view)
+returns-clause-rect c = grind (arith, view_in c.self.inside c.args.v.0 c.index.result.now c.self.invariant.standing)
 
 pub returns-clause-place : goal.returns-clause-place
-returns-clause-place c i =
-    let view = view_at c.self.inside i c.args.v c.index.result.now c.self.invariant.standing
-    (rw (← c.self.view_is) at c.requires) c.index.ensures in
-    rw (← c.self.view_is) (λ at. ap (option_map (λ s. s.view.rect)) (view at))
+returns-clause-place c i = grind (arith, view_at c.self.inside i c.args.v c.index.result.now c.self.invariant.standing)

@@ -19,13 +19,8 @@ returns-in-Some-shown_index-clause-source c =
     let is = source_is (size_of c.args.self.now.sizes) c.args.self.now.bar c.args.self.now.views c.args.p c.in-Some.v
     c.view-view.result c.view-view.ensures.standing.slots (rw c.in-Some.is at c.owner.ensures.owner)
     c.view-view.ensures.value in
-    rw (
-      is,
-      c.view-view.ensures.value,
-      ← c.buffer-w.ensures.size,
-      ← c.shown_index.ensures.index,
-      c.in-Some-shown_index.is,
-    ) refl
+    let view = c.view-view.ensures.value in
+    rw (is, view, ← c.buffer-w.ensures.size, ← c.shown_index.ensures.index, c.in-Some-shown_index.is) refl
 
 pub returns-in-None-clause-source : goal.returns-in-None-clause-source
 returns-in-None-clause-source c =

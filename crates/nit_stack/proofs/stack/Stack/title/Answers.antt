@@ -4,8 +4,7 @@ use Rattle.nit_stack.proofs.stack.Stack.title.Goals as goal
 
 pub index_mut-requires : goal.index_mut-requires
 index_mut-requires c =
-    let kept = slot_kept c.self.inside c.args.v.0 c.self.invariant.standing (rw (← c.self.view_is) at c.requires) in
-    omega (arith, kept.0, c.self.inside.slots.ok.0)
+    grind (arith, slot_kept c.self.inside c.args.v.0 c.self.invariant.standing, c.self.inside.slots.ok.0)
 
 pub invariant_of-self : goal.invariant_of-self
 invariant_of-self c =

@@ -1,10 +1,9 @@
-use Rattle.nit_top.specs.Terms.{IsInnerEnd, Line, run_files}
-use Rattle.std.proofs.Common.{Err, List, subst}
-use Rattle.nit_top.proofs.Lemmas.{AreLines, FitsLine, Nested, Some, Stop, ap, files_in, first_shows}
-use Rattle.nit_top.proofs.Lemmas.{fitting, frames_counted, inner_stopped, length, name_text}
-use Rattle.nit_top.proofs.Lemmas.{nested_ends, other_phases, other_short, outer_runnable}
-use Rattle.nit_top.proofs.Lemmas.{own_counts, phase_counts, runnable_of, setup_is, stopped_ends}
-use Rattle.nit_top.proofs.Lemmas.{they_fit, unfit_ends, ◌∙◌}
+use Rattle.nit_top.proofs.Lemmas.{AreLines, Err, FitsLine, IsInnerEnd, Line, List, Nested, Some}
+use Rattle.nit_top.proofs.Lemmas.{Stop, ap, files_in, first_shows, fitting, frames_counted}
+use Rattle.nit_top.proofs.Lemmas.{inner_stopped, length, name_text, nested_ends, other_phases}
+use Rattle.nit_top.proofs.Lemmas.{other_short, outer_runnable, own_counts, phase_counts, run_files}
+use Rattle.nit_top.proofs.Lemmas.{runnable_of, setup_is, stopped_ends, subst, they_fit, unfit_ends}
+use Rattle.nit_top.proofs.Lemmas.{◌∙◌}
 use Rattle.nit_top.proofs.run.nested.nested.Goals as goal
 
 pub run_inner-requires-clause-runnable : goal.run_inner-requires-clause-runnable

@@ -1,5 +1,4 @@
-use Rattle.nit_word.proofs.Lemmas.{ap, between_inked, in_turn, is_between, length, set_long}
-use Rattle.nit_word.proofs.Lemmas.{set_where, sight_changed, ◌∙◌}
+use Rattle.nit_word.proofs.Lemmas.{between_inked, in_turn, is_between, sight_set}
 use Rattle.nit_word.proofs.inked.Inked.alternate.Goals as goal
 
 pub invariant_of-self : goal.invariant_of-self
@@ -10,8 +9,5 @@ invariant_of-self c = (
 )
 
 pub returns : goal.returns
-returns c =
-    sight_changed (set_where (is_between c.args.from c.args.to) (in_turn c.args.from c.args.c c.args.d)) _ _ _ _ _
+returns c = sight_set (is_between c.args.from c.args.to) (in_turn c.args.from c.args.c c.args.d) _ _ _ _ _
     c.self.view_is c.alternate.ensures
-    (ap length c.alternate.ensures ∙ set_long (is_between c.args.from c.args.to) (in_turn c.args.from c.args.c c.args.d)
-    _)

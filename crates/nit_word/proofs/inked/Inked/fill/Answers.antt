@@ -1,5 +1,4 @@
-use Rattle.nit_word.proofs.Lemmas.{ap, between_inked, is_between, length, set_long, set_where}
-use Rattle.nit_word.proofs.Lemmas.{sight_changed, ◌∙◌}
+use Rattle.nit_word.proofs.Lemmas.{between_inked, is_between, sight_set}
 use Rattle.nit_word.proofs.inked.Inked.fill.Goals as goal
 
 pub invariant_of-self : goal.invariant_of-self
@@ -11,5 +10,4 @@ invariant_of-self c = (
 
 pub returns : goal.returns
 returns c =
-    sight_changed (set_where (is_between c.args.from c.args.to) (λ n. c.args.w)) _ _ _ _ _ c.self.view_is c.fill.ensures
-    (ap length c.fill.ensures ∙ set_long (is_between c.args.from c.args.to) (λ n. c.args.w) _)
+    sight_set (is_between c.args.from c.args.to) (λ n. c.args.w) _ _ _ _ _ c.self.view_is c.fill.ensures

@@ -1,7 +1,7 @@
 use Rattle.std.proofs.Common.{List, ap, arith, length, min, sym, ℕ, ◌∙◌, ◌≡◌}
-use Rattle.nit_word.proofs.Lemmas.{IsSetIn, copied_in, filled_at, filled_up, is_between}
-use Rattle.nit_word.proofs.Lemmas.{none_copied, reached_long, same_colours, set_where, slice_index}
-use Rattle.nit_word.proofs.Lemmas.{whole_long, wiped_in}
+use Rattle.nit_word.proofs.Lemmas.{copied_in, filled_at, filled_up, is_between, none_copied}
+use Rattle.nit_word.proofs.Lemmas.{reached_long, same_colours, set_where, slice_index, whole_long}
+use Rattle.nit_word.proofs.Lemmas.{wiped_in}
 use Rattle.nit_word.proofs.words.Words.copy.Goals as goal
 
 -- the words of others are those that are kept
@@ -9,7 +9,7 @@ shown : (from to : ℕ) (words others : List ℕ) (size : ℕ) (known : List ℕ
     → set_where (is_between from to) (slice_index known) words
     ≡ set_where (is_between from to) (slice_index others) words
 shown from to words others size known is = same_colours (is_between from to) (slice_index known) (slice_index others)
-    words (λ k inside. sym (filled_at size known k) ∙ ap (λ (ws : List ℕ). slice_index ws k) is)
+    words (λ k inside. rw (← is) (sym (filled_at size known k)))
 
 pub invariant_of-self : goal.invariant_of-self
 invariant_of-self c =
@@ -27,14 +27,9 @@ returns-then-known-from c =
     c.others.inside.reached.items c.others.view_is
 
 pub reach-requires : goal.reach-requires
-reach-requires c = let long =
-    whole_long _ _ _ c.self.view_is c.self.invariant.0 in omega (
-      arith,
-      long,
-      c.requires.room,
-      c.self.invariant.1,
-      c.min-end.ensures,
-    )
+reach-requires c =
+    let long = whole_long _ _ _ c.self.view_is c.self.invariant.0 in
+    omega (arith, long, c.requires.room, c.self.invariant.1, c.min-end.ensures)
 
 pub copy_words-requires-clause-room : goal.copy_words-requires-clause-room
 copy_words-requires-clause-room c =
@@ -42,33 +37,23 @@ copy_words-requires-clause-room c =
 
 pub invariant_of-self-2 : goal.invariant_of-self-2
 invariant_of-self-2 c =
-    let long = whole_long _ _ _ c.self.view_is c.self.invariant.0 in
     let known = c.others.inside.reached in
-    let after : IsSetIn c.self.inside.size (is_between c.args.from c.args.to) (slice_index known.items) c.args.self.now
-    _ =
-    copied_in c.args.from c.args.to c.min-end.result _ c.self.inside.size known.items c.args.self.now _
+    let after = copied_in c.args.from c.args.to c.min-end.result _ c.self.inside.size known.items c.args.self.now _
     c.deref_mut.result.now c.copy_words.new.words _ c.wipe-2.new.words.items c.self.view_is c.self.invariant.0
-    c.requires.order
-    (omega (arith, long, c.requires.room)) (omega (arith, c.if-known-from.false, c.len-known.ensures, known.ok.0))
+    c.requires.order c.requires.room (omega (arith, c.if-known-from.false, c.len-known.ensures, known.ok.0))
     (c.min-end.ensures ∙ ap (min c.args.to) (c.len-known.ensures ∙ known.ok.0))
-    (c.deref_mut.ensures.value ∙ c.reach.ensures.items) (c.copy_words.ensures
-    ∙ ap (λ (ws : List ℕ). set_where (is_between c.args.from c.min-end.result) (slice_index ws)
-    c.deref_mut.result.now) c.deref.ensures.value) (sym c.deref_mut.ensures.len) c.wipe-2.ensures.items in
+    (c.deref_mut.ensures.value ∙ c.reach.ensures.items) (rw c.deref.ensures.value at c.copy_words.ensures)
+    (sym c.deref_mut.ensures.len) c.wipe-2.ensures.items in
     (after.few, omega (arith, c.self.invariant.1, c.reach.ensures.capacity, c.wipe-2.ensures.capacity))
 
 pub returns : goal.returns
 returns c =
-    let long = whole_long _ _ _ c.self.view_is c.self.invariant.0 in
     let known = c.others.inside.reached in
-    let after : IsSetIn c.self.inside.size (is_between c.args.from c.args.to) (slice_index known.items) c.args.self.now
-    _ =
-    copied_in c.args.from c.args.to c.min-end.result _ c.self.inside.size known.items c.args.self.now _
+    let after = copied_in c.args.from c.args.to c.min-end.result _ c.self.inside.size known.items c.args.self.now _
     c.deref_mut.result.now c.copy_words.new.words _ c.wipe-2.new.words.items c.self.view_is c.self.invariant.0
-    c.requires.order
-    (omega (arith, long, c.requires.room)) (omega (arith, c.if-known-from.false, c.len-known.ensures, known.ok.0))
+    c.requires.order c.requires.room (omega (arith, c.if-known-from.false, c.len-known.ensures, known.ok.0))
     (c.min-end.ensures ∙ ap (min c.args.to) (c.len-known.ensures ∙ known.ok.0))
-    (c.deref_mut.ensures.value ∙ c.reach.ensures.items) (c.copy_words.ensures
-    ∙ ap (λ (ws : List ℕ). set_where (is_between c.args.from c.min-end.result) (slice_index ws)
-    c.deref_mut.result.now) c.deref.ensures.value) (sym c.deref_mut.ensures.len) c.wipe-2.ensures.items in
+    (c.deref_mut.ensures.value ∙ c.reach.ensures.items) (rw c.deref.ensures.value at c.copy_words.ensures)
+    (sym c.deref_mut.ensures.len) c.wipe-2.ensures.items in
     after.all ∙ shown c.args.from c.args.to c.args.self.now c.args.others.now c.others.inside.size known.items
     c.others.view_is

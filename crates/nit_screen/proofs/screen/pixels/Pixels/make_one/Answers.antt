@@ -1,5 +1,5 @@
-use Rattle.nit_screen.proofs.Lemmas.{Flat, made_one, rules}
 use Rattle.std.proofs.Common.{◌≡◌}
+use Rattle.nit_screen.proofs.Lemmas.{Flat, made_one, rules}
 use Rattle.nit_screen.proofs.screen.pixels.Pixels.make_one.Goals as goal
 
 pub returns-clause-shown : goal.returns-clause-shown

@@ -1,12 +1,11 @@
+use Rattle.std.proofs.lemmas.Bool.Decides.{nat_tests}
 use Rattle.std.proofs.Common.{List, ap, arith, drop, length, refl, take, ℕ, ◌++◌, ◌∙◌, ◌≡◌}
 use Rattle.nit_screen.proofs.Lemmas.{StackModel, few_views, part_shown, rules, take-append_seam}
 use Rattle.nit_screen.proofs.Lemmas.{views_of}
 use Rattle.nit_screen.proofs.screen.pixels.Pixels.overlay_part.Goals as goal
 
 pub show_session-requires-clause-room : goal.show_session-requires-clause-room
-show_session-requires-clause-room g c =
-    let few = few_views c.args.server.now.stack c.facts.ensures.standing in
-    rw c.stack-2.ensures.stack (omega (arith, few, c.requires.can.cuts))
+show_session-requires-clause-room g c = grind (arith, nat_tests, few_views)
 
 -- what was written into a list is all of it
 written : (n : ℕ) (new old : List ℕ) → length new ≡ n → take n (new ++ drop (length new) old) ≡ new

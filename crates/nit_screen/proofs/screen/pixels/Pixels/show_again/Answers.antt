@@ -1,5 +1,5 @@
-use Rattle.nit_screen.proofs.Lemmas.{Flat, bar_again}
 use Rattle.std.proofs.Common.{refl, sym, ◌∙◌, ◌≡◌}
+use Rattle.nit_screen.proofs.Lemmas.{Flat, bar_again}
 use Rattle.nit_screen.proofs.screen.pixels.Pixels.show_again.Goals as goal
 
 pub returns-in-Flat : goal.returns-in-Flat

@@ -1,5 +1,5 @@
-use Rattle.nit_screen.proofs.Lemmas.{other_focus, rules, state_of}
 use Rattle.std.proofs.Common.{◌≡◌}
+use Rattle.nit_screen.proofs.Lemmas.{other_focus, rules, state_of}
 use Rattle.nit_screen.proofs.screen.pixels.Pixels.show_input.Goals as goal
 
 pub show_again-requires-clause-below : goal.show_again-requires-clause-below
