@@ -90,8 +90,9 @@ def program_at(path):
     crate = program.parent.parent / "crates" / "nitpicker"
     if program.parent.name == "bin" and crate.is_dir():
         subprocess.run([program], stdout=subprocess.DEVNULL, check=False)
-        pages = (program.parent / "pages.txt").read_text(encoding="utf8").strip()
-        os.environ.setdefault("GLIBC_TUNABLES", pages)
+        pages = program.parent / "pages.txt"
+        if pages.is_file():
+            os.environ.setdefault("GLIBC_TUNABLES", pages.read_text(encoding="utf8").strip())
         program = crate / "out" / "nitpicker"
     if not (program.is_file() and os.access(program, os.X_OK)):
         raise WrongWords(f"{path}: not a program")
