@@ -1,4 +1,4 @@
--- The roles of actors, one of which did a line.
+-- The roles of actors: of one that did a line, of a pass and its clip pass; and the least phase of those not done.
 use Rattle.nit_actor.proofs.Basics.{All, All-cons, All-push, Belongs, Bool, ClipPassModel}
 use Rattle.nit_actor.proofs.Basics.{Contains-append_left, Contains-push, DidClips, GoTogether}
 use Rattle.nit_actor.proofs.Basics.{IfSome, IsAtClipPhase, IsAtPhase, IsLeastOf, IsOneOn, IsPairIn}

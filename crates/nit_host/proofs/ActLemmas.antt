@@ -1,4 +1,4 @@
--- What a host serves are steps.
+-- What a host serves are steps: calls, device events and refreshes; and who gets the focus.
 use Rattle.std.proofs.Common.{List, None, Option, Some, [], ap, false, get_or, inl, inr, length}
 use Rattle.std.proofs.Common.{refl, set, slice_get, sym, true, ℕ, ℤ, ◌++◌, ◌-◌, ◌<◌, ◌∙◌, ◌∷◌, ◌≡◌}
 use Rattle.std.proofs.Common.{◌≢◌, ◌≤◌, ◌⊎◌}

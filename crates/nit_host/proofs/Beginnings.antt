@@ -1,4 +1,4 @@
--- The sheets of a host before its first step.
+-- A host before its first step: its sheets, its first seats, and the configuration of its plan.
 use Rattle.std.proofs.Common.{Bool, IsTrue, List, None, Option, Some, [], ap, arith, false, find}
 use Rattle.std.proofs.Common.{get_or, if◌then◌else◌, length, map, nat_le, nat_lt, not, refl}
 use Rattle.std.proofs.Common.{replicate, rules, slice_get, sym, take, true, ℕ, ◌&&◌, ◌*◌, ◌++◌, ◌+◌}

@@ -1,4 +1,4 @@
--- What of the frame a call changes.
+-- What of the frame a call, the user or a client that comes changes.
 use Rattle.std.proofs.Common.{Bool, List, None, Option, Some, [], ap, false, inl, inr, length, refl}
 use Rattle.std.proofs.Common.{sym, true, ℕ, ◌%◌, ◌/◌, ◌<◌, ◌∙◌, ◌∷◌, ◌≡◌}
 use Rattle.nit_host.proofs.Basics.{Area, Call, Delivery, Device, HoldsBar, HoldsBarIn, HoldsBoth}

@@ -1,4 +1,4 @@
--- What of a frame stays, pixel by pixel.
+-- What of a frame stays, pixel by pixel: what a call makes dirty, which word a pixel shows, what a look finds.
 use Rattle.nit_host.proofs.Basics.{AgreeOutside, Area, Bare, Call, HoldsTouched, HostModel}
 use Rattle.nit_host.proofs.Basics.{IsAreaOf, IsOneOf, IsSeenBut, PixelSource, Point, Rectangle}
 use Rattle.nit_host.proofs.Basics.{Size, State, StaysOutside, Touch, View, among, and_from}

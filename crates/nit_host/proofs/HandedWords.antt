@@ -1,4 +1,4 @@
--- Words that a client hands in, by their columns and rows.
+-- Words that a client hands in, by columns and rows, whole or a part, and how far a sheet keeps them.
 use Rattle.nit_host.proofs.Basics.{Call, Calls, Comes, Device, Does, HostModel, IsInPart, IsLoaded}
 use Rattle.nit_host.proofs.Basics.{IsWord, Rectangle, Refreshes, Session, SheetModel, Sight}
 use Rattle.nit_host.proofs.Basics.{after_act, after_handing, are_set, arith, before_row, both_set}

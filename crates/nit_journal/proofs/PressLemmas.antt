@@ -36,11 +36,6 @@ calm_both = All-append (λ d. is_stroke d.item ≡ false)
 pub none_calm : IsCalm []
 none_calm = All-nil (λ d. is_stroke d.item ≡ false)
 
--- a click tells of the focus alone, and leaves who holds what
-pub focusing_aside : (clicks : Bool) (pointed : Option ℕ) (i : InputState)
-    → let r = Input.focusing clicks pointed i in IsCalm r.deliveries × (r.state.held ≡ i.held)
-focusing_aside clicks pointed i = grind (arith, nat_tests, either, calm_both, calm_to)
-
 -- what is left of the held codes
 pub left_held : (k j : ℕ) (held : List ℕ) → list_any (λ y. y == k) (filter (λ y. not (y == j)) held) ≡ true
     → ((j == k) ≡ false) × (list_any (λ y. y == k) held ≡ true)

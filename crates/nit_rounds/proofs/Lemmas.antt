@@ -12,7 +12,7 @@ pub use Rattle.nit_rounds.proofs.LinesDone.{client_lines, few_acts, user_done, u
 pub use Rattle.nit_rounds.proofs.ShotFiles.{as_replayed, drawn_counted, drawn_each, shots_drawn}
 pub use Rattle.nit_rounds.proofs.LineRecords.{after_stroke, as_found, call_done, call_served}
 pub use Rattle.nit_rounds.proofs.LineRecords.{can_call, drawn_but, fits, glasses_still, input_done}
-pub use Rattle.nit_rounds.proofs.LineRecords.{no_stages, none_done, nothing_drawn, painted_to}
+pub use Rattle.nit_rounds.proofs.LineRecords.{no_stages, nothing_drawn, painted_to}
 pub use Rattle.nit_rounds.proofs.LineRecords.{same_glasses, same_own, same_seen, shot_done}
 pub use Rattle.nit_rounds.proofs.LineRecords.{step_there, still_fits}
 pub use Rattle.nit_rounds.proofs.NextActor.{all_done, client_turn, kept_first, left_first_of}

@@ -305,13 +305,6 @@ pub call_done : (sid : ℕ) (call : Call) (old mid new : SceneModel Sight) (ther
     → DoesClientLine sid (line.Call call) old new own'
 call_done sid call old mid new there own' is does = grind (arith, nat_tests)
 
--- any other line leaves what was drawn
-pub none_done : (sid : ℕ) (l : Line) (old mid : SceneModel Sight) (there own' : Sight)
-    → ((call : Call) → l ≡ line.Call call → ⊥) → mid ≡ with_glass_of old sid there → IsOpen old.entries
-    → DoesClientLine sid l old mid own'
-none_done sid (line.Call call) old mid there own' other is unended = absurd (other call refl)
-none_done sid rest old mid there own' other is unended = rw is assumption
-
 -- what the line at a place of a script does, any line found there does
 pub as_found : (script : List Line) (k sid : ℕ) (l : Line) (s s' : SceneModel Sight) (own' : Sight)
     → slice_get script k ≡ Some l → DoesClientLine sid l s s' own'

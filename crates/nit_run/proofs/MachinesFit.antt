@@ -1,4 +1,4 @@
--- What the machine of a session answers is within the format of texts.
+-- What the machine of a session answers, and what the user's input delivers, is within the format of texts.
 use Rattle.std.proofs.Common.{Bool, List, None, Option, Some, [], add-zero, add_assoc, arith, cond}
 use Rattle.std.proofs.Common.{false, length, nat_le, nat_lt, refl, rules, true, ℕ, ◌&&◌, ◌++◌, ◌+◌}
 use Rattle.std.proofs.Common.{◌-◌, ◌<◌, ◌^◌, ◌∷◌, ◌≡◌, ◌≤◌}
@@ -7,12 +7,11 @@ use Rattle.nit_run.proofs.Basics.{Event, FitsCall, FitsDevice, FitsEvent, FitsIt
 use Rattle.nit_run.proofs.Basics.{Gets, InputState, IsCode, Item, Kill, Mode, Observation, Reply}
 use Rattle.nit_run.proofs.Basics.{Routing, Session, Status, Take, Upgrade, View, Xray, accepted}
 use Rattle.nit_run.proofs.Basics.{after_observations, all_append, buffer_left, buffer_need, by_call}
-use Rattle.nit_run.proofs.Basics.{by_life, by_quota, by_refusal, by_reserve, by_status, either}
-use Rattle.nit_run.proofs.Basics.{first_press, first_session, focusing, hovering, ignored, is_side}
-use Rattle.nit_run.proofs.Basics.{killing, leaving, letting_go, moving, mul-le, nat_tests}
-use Rattle.nit_run.proofs.Basics.{pointer_after, press, pressing, receive, received, refusal}
-use Rattle.nit_run.proofs.Basics.{release, routing, second_none, switching, taking, to, unless}
-use Rattle.nit_run.proofs.Basics.{with_held, ◌orelse◌}
+use Rattle.nit_run.proofs.Basics.{by_life, by_quota, by_refusal, by_status, either, first_press}
+use Rattle.nit_run.proofs.Basics.{first_session, focusing, hovering, ignored, is_side, killing}
+use Rattle.nit_run.proofs.Basics.{leaving, letting_go, moving, mul-le, nat_tests, pointer_after}
+use Rattle.nit_run.proofs.Basics.{press, pressing, receive, received, refusal, release, routing}
+use Rattle.nit_run.proofs.Basics.{second_none, switching, taking, to, unless, with_held, ◌orelse◌}
 use Rattle.nit_journal.specs.Session.{serve}
 use Rattle.nit_events.specs.declared.call.Reply.TheVariants as reply
 use Rattle.nit_events.specs.declared.device.Device.TheVariants as device
@@ -79,10 +78,6 @@ taking_fits : (queue : List Event) (t : Session) (n : ℕ) → IsFine t n → Al
     → AnswerFits (taking queue t) n
 taking_fits [] t n f q = record { reply_fits = tt; fine = later t n f }
 taking_fits (e ∷ es) t n f q = grind (arith, nat_tests)
-
--- an upgrade that is not refused is within the reserve
-within : (t : Session) (m : ℕ) → by_reserve m t.reserve ≡ None → m ≤ t.reserve
-within t m none = grind (arith, nat_tests)
 
 accepted_fits : (t : Session) (n : ℕ) (call : Call) → IsFine t n → n ≤ 2000000 → by_call t call ≡ None
     → AnswerFits (accepted t call) n

@@ -1,4 +1,4 @@
--- A scene after one entry more.
+-- A scene before its first entry, and after one entry more.
 use Rattle.std.proofs.Common.{All, List, None, Option, Some, [], ap, arith, false, get_or, length}
 use Rattle.std.proofs.Common.{refl}
 use Rattle.std.proofs.Common.{replicate, slice_index_or, subst, sym, zero-add, ℕ, ◌*◌, ◌++◌, ◌+◌}

@@ -1,16 +1,16 @@
 -- The raw words of a list that has the bar in its first words.
 use Rattle.nit_screen.proofs.Basics.{All-append, All-drop, All-replicate, ArePixels, AreRaw, Bare}
 use Rattle.nit_screen.proofs.Basics.{Call, CanShowBy, Close, Entry, Flat, IsAmongLoads, IsCopied}
-use Rattle.nit_screen.proofs.Basics.{IsServed, IsShown, IsWord, IsWordOfSource, Kill, Mode, Painted}
-use Rattle.nit_screen.proofs.Basics.{Painter, PixelSource, Pixels, Repainted, Reply, ServerModel}
-use Rattle.nit_screen.proofs.Basics.{ShowsBelow, Sight, State, Xray, bar_rows, bar_word, bare_word}
-use Rattle.nit_screen.proofs.Basics.{cases_lt, draws_labels, drop-replicate, flat_same, frame}
-use Rattle.nit_screen.proofs.Basics.{frame_fits, get_or-append_right, get_or-frame}
-use Rattle.nit_screen.proofs.Basics.{get_or-replicate, get_or_append_left, in_bar, ints, le-div}
-use Rattle.nit_screen.proofs.Basics.{length-frame, length-replicate, nat_tests, pixel, pixel_count}
-use Rattle.nit_screen.proofs.Basics.{raw_in, raw_of, replicate-append-replicate, rows, scenery_of}
-use Rattle.nit_screen.proofs.Basics.{shown, source_at, state_of, unbarred}
-use Rattle.std.proofs.Common.{All, Bool, IsTrue, List, Option, ap, arith, cond, ext_get_or, false}
+use Rattle.nit_screen.proofs.Basics.{IsServed, IsShown, IsWord, IsWordOfSource, Painted, Painter}
+use Rattle.nit_screen.proofs.Basics.{PixelSource, Pixels, Repainted, Reply, ServerModel, ShowsBelow}
+use Rattle.nit_screen.proofs.Basics.{Sight, State, bar_rows, bar_word, bare_word, cases_lt}
+use Rattle.nit_screen.proofs.Basics.{draws_labels, drop-replicate, flat_same, frame, frame_fits}
+use Rattle.nit_screen.proofs.Basics.{get_or-append_right, get_or-frame, get_or-replicate}
+use Rattle.nit_screen.proofs.Basics.{get_or_append_left, in_bar, ints, le-div, length-frame}
+use Rattle.nit_screen.proofs.Basics.{length-replicate, nat_tests, pixel, pixel_count, raw_in}
+use Rattle.nit_screen.proofs.Basics.{raw_of, replicate-append-replicate, rows, scenery_of, shown}
+use Rattle.nit_screen.proofs.Basics.{source_at, state_of, unbarred}
+use Rattle.std.proofs.Common.{All, Bool, List, Option, ap, arith, cond, ext_get_or, false}
 use Rattle.std.proofs.Common.{get_or-drop, inl, inr, length, length-append, length-drop, nat_lt}
 use Rattle.std.proofs.Common.{refl, replicate, slice_index, suc, sym, true, zero, ℕ, ◌*◌, ◌-◌, ◌/◌}
 use Rattle.std.proofs.Common.{◌<◌, ◌∙◌, ◌≡◌, ◌≤◌}
@@ -231,11 +231,6 @@ bar_again s p painter one flat h other long drawn below =
     }
 
 -- ---- a call
-
-pub by_mode : {P : Type 0} (m : Mode) → (m ≡ Flat → P) → (IsTrue (draws_labels m) → P) → P
-by_mode Flat flat labelled = flat refl
-by_mode Xray flat labelled = labelled refl
-by_mode Kill flat labelled = labelled refl
 
 -- no call but `Close` changes the mode
 pub mode_stays : {before after' : ServerModel} {sid : ℕ} {call : Call} {r : Reply} → (call ≡ Close → ⊥)

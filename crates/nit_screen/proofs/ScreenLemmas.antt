@@ -102,15 +102,6 @@ painted_whole s n glasses glasses' raw raw' h count painted =
     rw (← count) (repainted_same _ _ _ _ n glasses glasses glasses' glasses' raw raw' (λ k l. refl)
     (λ k l m. source_of_number s h k) (λ t. refl) (λ t. refl) painted)
 
--- loads leave the owners and sizes of the glasses
-pub tables_kept : (before after' : ServerModel) (sights sights' : List Sight) (sid : ℕ) (own own' : Sight) (loads : ℕ
-    → List (ℕ × ℕ)) → after'.config ≡ before.config
-    → ((t : ℕ) → glasses_of_call sights' sid own' t ≡ seen (glasses_of_call sights sid own t) (loads t))
-    → glass_in sights' sid ≡ glass_in sights sid
-    → ((t : ℕ) → t < length before.config.clients → IsGlassOf before t (glass_in sights t)) → (t : ℕ)
-    → t < length after'.config.clients → IsGlassOf after' t (glass_in sights' t)
-tables_kept before after' sights sights' sid own own' loads config_ seen_ idle_ tables t l = grind (arith, nat_tests)
-
 -- ==== What a device event does to a screen.
 
 -- ---- which session is killed

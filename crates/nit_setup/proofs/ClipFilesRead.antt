@@ -1,4 +1,4 @@
--- Clip scripts, read behind the scripts of a configuration.
+-- What is read behind the scripts of a configuration: clip scripts, or a journal; and the one script of a picture.
 use Rattle.std.proofs.Common.{Bool, List, None, Option, [], ap, arith, cond, inl, inr, length}
 use Rattle.std.proofs.Common.{length-append, map, refl, replicate, suc, sym, take, true, zero, ℕ}
 use Rattle.std.proofs.Common.{◌*◌, ◌++◌, ◌+◌, ◌∙◌, ◌∷◌, ◌≡◌, ◌≤◌}

@@ -1,4 +1,4 @@
--- The scripts of the clients, read and judged one after the other.
+-- Scripts read and judged one after the other, the clients', their clip scripts and outer ones; where reading stops.
 use Rattle.nit_setup.proofs.Basics.{AllByRecursion, AllZip, AreClipsRead, AreLines, ClipLine}
 use Rattle.nit_setup.proofs.Basics.{Configuration, script_names, Command, End, Fault, File}
 use Rattle.nit_setup.proofs.Basics.{FilesRead, FitsLine, HasRead, HaveSamePhases, IfNone, IfSome}

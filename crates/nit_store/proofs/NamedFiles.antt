@@ -1,4 +1,4 @@
--- Files with these bytes put under a name.
+-- Files as the code keeps them, put under names one after the other; and what was said.
 use Rattle.std.proofs.Common.{Bool, IsTrue, List, None, Option, Some, [], ap, append_assoc, arith}
 use Rattle.std.proofs.Common.{cond, false, get_or, length, not, refl, set, subst, suc, sym, true}
 use Rattle.std.proofs.Common.{zero, ℕ, ◌&&◌, ◌++◌, ◌<◌, ◌∙◌, ◌∷◌, ◌≡◌, ◌≢◌}

@@ -1,4 +1,4 @@
--- The run whose first client shows what another run has shown: that it can be run, and what it leaves.
+-- The run whose first client shows what another run has shown: its setup, what it leaves, its frames, a client in both.
 use Rattle.nit_top.proofs.Basics.{ActorLine, AllByRecursion, AreLines, AreOutputs, AreTexts}
 use Rattle.nit_top.proofs.Basics.{ByClient, ByUser, Configuration, Contains, Drawing, DrawnLaw}
 use Rattle.nit_top.proofs.Basics.{Entry, Event, File, FirstShows, FitsLine, FrontsLaw, HasRun}

@@ -1,4 +1,4 @@
--- Where a pixel of the outer run's last picture shows the first session's buffer, it shows the last inner frame.
+-- What the outer run's last picture shows of the inner one; and that a film of a region tells of nothing else.
 use Rattle.std.proofs.Common.{Bool, List, None, Option, Some, [], ap, ap₂, arith, cond, false}
 use Rattle.std.proofs.Common.{get_or, inl, inr, length, length-append, map, mul_comm, nat_lt}
 use Rattle.std.proofs.Common.{negsuc, refl, subst, suc, sym, take, true, zero, ℕ, ℤ, ◌%◌, ◌*◌, ◌++◌}
