@@ -2,18 +2,19 @@
 pub use Rattle.nit_paint.specs.Terms.{AreSet, Bare, Black, Block, HasPixels, IsAmongLoads, IsLoaded}
 pub use Rattle.nit_paint.specs.Terms.{IsLoadedRow, IsOnScreen, IsPiece, IsScreenSize, IsSlotView}
 pub use Rattle.nit_paint.specs.Terms.{IsStack, IsTrue, IsWord, IsWordOfSource, Piece, PixelSource}
-pub use Rattle.nit_paint.specs.Terms.{Point, Reach, Rectangle, Repainted, Sight, StackModel, View}
-pub use Rattle.nit_paint.specs.Terms.{ViewRef, Word, among, black_or_word, buffer_place, covers}
-pub use Rattle.nit_paint.specs.Terms.{enumerate_from, has_pixel, in_rows, in_run, index_at}
-pub use Rattle.nit_paint.specs.Terms.{index_from, is_slot, is_word_of, loads_at, loads_of, long}
-pub use Rattle.nit_paint.specs.Terms.{no_sight, option_map, own_word, owner_in, pixel, point}
-pub use Rattle.nit_paint.specs.Terms.{reached, rectangle, row_at, row_source, seen, session_shown}
-pub use Rattle.nit_paint.specs.Terms.{shown_index, size_of, slice_index, slot_view_in}
-pub use Rattle.nit_paint.specs.Terms.{source_of_number, times_shown, view_ref, with_glass, ℤ}
+pub use Rattle.nit_paint.specs.Terms.{Point, Reach, Rectangle, Repainted, Sight, SlotView}
+pub use Rattle.nit_paint.specs.Terms.{StackModel, View, ViewRef, Word, among, black_or_word}
+pub use Rattle.nit_paint.specs.Terms.{buffer_place, covers, enumerate_from, has_pixel, in_rows}
+pub use Rattle.nit_paint.specs.Terms.{in_run, index_at, index_from, is_slot, is_word_of, loads_at}
+pub use Rattle.nit_paint.specs.Terms.{loads_of, long, no_sight, option_map, own_word, owner_in}
+pub use Rattle.nit_paint.specs.Terms.{pixel, point, reached, rectangle, row_at, row_source, seen}
+pub use Rattle.nit_paint.specs.Terms.{session_shown, shown_index, size_of, slice_index}
+pub use Rattle.nit_paint.specs.Terms.{slot_view_in, source_of_number, times_shown, view_ref}
+pub use Rattle.nit_paint.specs.Terms.{with_glass, ℤ}
 pub use Rattle.nit_stack.proofs.ForCallers.{All_found, source_bare, source_is}
 pub use Rattle.nit_word.proofs.ForCallers.{at_place, loaded_after, more_taken, seen_none}
 pub use Rattle.nit_word.proofs.ForCallers.{seen_twice}
-pub use Rattle.std.proofs.Common.{ap, arith, refl}
+pub use Rattle.std.proofs.Common.{ap, arith, refl, rules}
 pub use Rattle.std.proofs.Math.Nat.{mul-le-mul_left, mul-le-mul_right}
 pub use Rattle.std.proofs.lemmas.Bool.{cases_Bool, cases_lt, cases_order, eq-eqb, eqb-true}
 pub use Rattle.std.proofs.lemmas.Bool.{or_parts}

@@ -1,8 +1,7 @@
 -- Worked rows of painting, computed from the definitions.
 use Rattle.std.proofs.Common.{[], false, pos, refl, true, ℕ, ◌∷◌, ◌≡◌}
-use Rattle.nit_stack.specs.Stack.{SlotView}
-use Rattle.nit_paint.proofs.Basics.{Bare, Black, Rectangle, StackModel, Word, has_pixel, loads_at}
-use Rattle.nit_paint.proofs.Basics.{rectangle, source_of_number, times_shown}
+use Rattle.nit_paint.proofs.Basics.{Bare, Black, Rectangle, SlotView, StackModel, Word, has_pixel}
+use Rattle.nit_paint.proofs.Basics.{loads_at, rectangle, source_of_number, times_shown}
 
 -- a view of session 0 in its slot
 abbrev seat : ℕ → ℕ → Rectangle → ℕ → SlotView

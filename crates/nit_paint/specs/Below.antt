@@ -8,15 +8,15 @@ pub use Rattle.nit_stack.specs.SourceAnswers.{session_of, word_count}
 pub use Rattle.nit_stack.specs.Sources.{Bare, Black, PixelSource, Word, among, black_or_word}
 pub use Rattle.nit_stack.specs.Sources.{buffer_place, index_at, owner_in, pixel, point, shown_index}
 pub use Rattle.nit_stack.specs.Sources.{source}
-pub use Rattle.nit_stack.specs.Stack.{IsOnScreen, IsScreenSize, IsSlotView, IsStack, StackModel}
-pub use Rattle.nit_stack.specs.Stack.{has_slot, is_slot, size_of, slot_view_in, view_ref}
+pub use Rattle.nit_stack.specs.Stack.{IsOnScreen, IsScreenSize, IsSlotView, IsStack, SlotView}
+pub use Rattle.nit_stack.specs.Stack.{StackModel, has_slot, is_slot, size_of, slot_view_in}
+pub use Rattle.nit_stack.specs.Stack.{view_ref}
 pub use Rattle.nit_stack.specs.ViewNames.{views_of}
 pub use Rattle.nit_stack.specs.declared.view.Piece.{Piece}
 pub use Rattle.nit_stack.specs.declared.view.View.{View}
 pub use Rattle.nit_stack.specs.declared.view.ViewRef.{ViewRef}
 pub use Rattle.nit_word.specs.Channels.{bare_word}
-pub use Rattle.nit_word.specs.Inks.{IsWord}
-pub use Rattle.nit_word.specs.Inks.{Colours}
+pub use Rattle.nit_word.specs.Inks.{Colours, IsWord}
 pub use Rattle.nit_word.specs.Sight.{IsLoaded, IsLoadedRow, Sight, seen}
 pub use Rattle.std.specs.List.{enumerate_from}
 pub use Rattle.std.specs.Option.{option_map, option_map_or}

@@ -20,21 +20,6 @@ pub(crate) fn fill_run(raw: &mut [u32], at: usize, count: u32, word: u32)
     raw[at..at + count as usize].fill(word);
 }
 
-/// Loads each of `count` pixels from `at` on once, from the word `from` on.
-fn load_run<G: Glass>(raw: &mut [u32], at: usize, count: u32, glass: &mut G, from: u32)
-    requires pixels { at + count ≤ length raw.old }
-    requires words { from + count ≤ (G.sight glass.old).size }
-    ensures painted { (source : ℕ → PixelSource) (sid : ℕ) (others : ℕ → Sight)
-        → ((j : ℕ) → j < count → source (at + j) ≡ Word sid (from + j))
-        → Repainted source (in_run at count) (length raw.old)
-        (with_glass others sid (G.sight glass.old))
-        (with_glass others sid (G.sight glass.new)) raw.old raw.new }
-    ensures size { (G.sight glass.new).size ≡ (G.sight glass.old).size }
-    ensures rest { G.rest glass.new ≡ G.rest glass.old }
-{
-    glass.load_row(from as usize, &mut raw[at..at + count as usize]);
-}
-
 /// Paints the pixels of a row from `at` on. The words of the buffer's row begin at `start`; where
 /// the buffer has no such row all pixels are black.
 pub(crate) fn paint_row<G: Glass>(
@@ -63,6 +48,6 @@ pub(crate) fn paint_row<G: Glass>(
     let words = at + reach.before as usize;
     let after = words + reach.words as usize;
     fill_run(raw, at, reach.before, BLACK);
-    load_run(raw, words, reach.words, glass, start + reach.from);
+    glass.load_row((start + reach.from) as usize, &mut raw[words..after]);
     fill_run(raw, after, reach.after, BLACK);
 }

@@ -7,29 +7,29 @@ pub use Rattle.nit_journal.proofs.ForCallers.{same_throughout}
 pub use Rattle.nit_overlay.proofs.ForCallers.{same_frame}
 pub use Rattle.nit_perform.specs.Terms.{ActorLine, AfterPut, All, AllByRecursion, AreAllDone}
 pub use Rattle.nit_perform.specs.Terms.{AreDone, AreDoneClips, AreFirstClipPasses, AreInkedPlans}
-pub use Rattle.nit_perform.specs.Terms.{AreKeysBlank, AreRoundsOf, AreScriptsOf, AskedAtMost, Bad}
-pub use Rattle.nit_perform.specs.Terms.{Bare, Belongs, ByUser, CanTakeLast, CaptureModel, ClipLine}
-pub use Rattle.nit_perform.specs.Terms.{ClipPassModel, ClipRole, Configuration, Desk, Drawing, End}
-pub use Rattle.nit_perform.specs.Terms.{Entry, File, Global, HasEnded, HasFilmed, HasRun}
-pub use Rattle.nit_perform.specs.Terms.{HasRunClips, HaveTables, IfOk, InputLine, IsAlone}
-pub use Rattle.nit_perform.specs.Terms.{IsClipListText, IsDoneClip, IsFilmOf, IsGlass, IsJournal}
-pub use Rattle.nit_perform.specs.Terms.{IsKnownWhole, IsLegal, IsNearPicture, IsOpen, IsOpening}
-pub use Rattle.nit_perform.specs.Terms.{IsPairIn, IsPictureAmong, IsPut, IsReady, IsReadyAlone}
-pub use Rattle.nit_perform.specs.Terms.{IsReadyWithClips, IsRoundsOpening, IsRoundsRun, IsRunOf}
-pub use Rattle.nit_perform.specs.Terms.{IsRunnable, IsSetUp, IsSetting, IsUtf8, IsWhole, IsWord}
-pub use Rattle.nit_perform.specs.Terms.{IsWordOfSource, Line, LineTurn, Member, NestError}
-pub use Rattle.nit_perform.specs.Terms.{NestModel, NestState, NestsRun, NoMemory, OpenedRounds}
-pub use Rattle.nit_perform.specs.Terms.{OpeningParts, Painted, Pair, PairRole, PassModel, Phases}
-pub use Rattle.nit_perform.specs.Terms.{PixelSource, PlanModel, Point, PutEach, PutError, PutFault}
-pub use Rattle.nit_perform.specs.Terms.{PutFiles, PutIn, PutRefusal, PutState, PutsAll, PutsFile}
-pub use Rattle.nit_perform.specs.Terms.{PutsNext, PutsShots, PutsShotsBehind, Ran, Region, Role}
-pub use Rattle.nit_perform.specs.Terms.{RoomModel, RunFiles, SceneModel, Session, Setup, ShotFrame}
-pub use Rattle.nit_perform.specs.Terms.{ShotsBehind, ShowsEach, Sight, Size, State, StoreModel}
-pub use Rattle.nit_perform.specs.Terms.{TakesAll, TakesLast, TakesNext, TooLong, UnlessMemory}
-pub use Rattle.nit_perform.specs.Terms.{UserBelongs, UserPassModel, UserRole, Vec, View, Word}
-pub use Rattle.nit_perform.specs.Terms.{WriteFaulted, action_of, actions_of_turns, after}
-pub use Rattle.nit_perform.specs.Terms.{after_turn, among, asking_all, bar_rows, begun_of}
-pub use Rattle.nit_perform.specs.Terms.{black_or_word, blank, buffer_place, buffer_size, by_turns}
+pub use Rattle.nit_perform.specs.Terms.{AreKeysBlank, AreRoundsOf, AreScriptsOf, AreShots}
+pub use Rattle.nit_perform.specs.Terms.{AskedAtMost, Bad, Bare, Belongs, ByUser, CanTakeLast}
+pub use Rattle.nit_perform.specs.Terms.{CaptureModel, ClipLine, ClipPassModel, ClipRole}
+pub use Rattle.nit_perform.specs.Terms.{Configuration, Desk, Drawing, End, Entry, File, Global}
+pub use Rattle.nit_perform.specs.Terms.{HasEnded, HasFilmed, HasRun, HasRunClips, HaveTables, IfOk}
+pub use Rattle.nit_perform.specs.Terms.{InputLine, IsAlone, IsClipListText, IsDoneClip, IsFilmOf}
+pub use Rattle.nit_perform.specs.Terms.{IsGlass, IsJournal, IsKnownWhole, IsLegal, IsNearPicture}
+pub use Rattle.nit_perform.specs.Terms.{IsOpen, IsOpening, IsPairIn, IsPictureAmong, IsPut, IsReady}
+pub use Rattle.nit_perform.specs.Terms.{IsReadyAlone, IsReadyWithClips, IsRoundsOpening}
+pub use Rattle.nit_perform.specs.Terms.{IsRoundsRun, IsRunOf, IsRunnable, IsSetUp, IsSetting}
+pub use Rattle.nit_perform.specs.Terms.{IsUtf8, IsWhole, IsWord, IsWordOfSource, Line, LineTurn}
+pub use Rattle.nit_perform.specs.Terms.{Member, NestError, NestModel, NestState, NestsRun, NoMemory}
+pub use Rattle.nit_perform.specs.Terms.{OpenedRounds, OpeningParts, Painted, Pair, PairRole}
+pub use Rattle.nit_perform.specs.Terms.{PassModel, Phases, PixelSource, PlanModel, Point, PutEach}
+pub use Rattle.nit_perform.specs.Terms.{PutError, PutFault, PutFiles, PutIn, PutRefusal, PutState}
+pub use Rattle.nit_perform.specs.Terms.{PutsAll, PutsFile, PutsNext, PutsShotsBehind, Ran, Region}
+pub use Rattle.nit_perform.specs.Terms.{Role, RoomModel, RunFiles, SceneModel, Session, Setup}
+pub use Rattle.nit_perform.specs.Terms.{ShotFrame, ShotsBehind, ShowsEach, Sight, Size, State}
+pub use Rattle.nit_perform.specs.Terms.{StoreModel, TakesAll, TakesLast, TakesNext, TooLong}
+pub use Rattle.nit_perform.specs.Terms.{UnlessMemory, UserBelongs, UserPassModel, UserRole, Vec}
+pub use Rattle.nit_perform.specs.Terms.{View, Word, WriteFaulted, action_of, actions_of_turns}
+pub use Rattle.nit_perform.specs.Terms.{after, after_turn, among, asking_all, bar_rows, begun_of}
+pub use Rattle.nit_perform.specs.Terms.{black_or_word, buffer_place, buffer_size, by_turns}
 pub use Rattle.nit_perform.specs.Terms.{bytes_of, bytes_under, calls_to_make, client_text}
 pub use Rattle.nit_perform.specs.Terms.{clip_number, clip_phases, clip_role_of, clip_text}
 pub use Rattle.nit_perform.specs.Terms.{clips_name, clips_setup, clips_setup_in, codes, count_by}
@@ -41,16 +41,16 @@ pub use Rattle.nit_perform.specs.Terms.{first_clip_pass, first_forbidden, first_
 pub use Rattle.nit_perform.specs.Terms.{first_state, frame, frame_answer, frame_lines, frames_of}
 pub use Rattle.nit_perform.specs.Terms.{glass_after, glass_in, glasses_of, idle_user, input_by_user}
 pub use Rattle.nit_perform.specs.Terms.{input_lines_of, input_phases, into_iter_items, is_label}
-pub use Rattle.nit_perform.specs.Terms.{is_label_byte, is_phase, is_shot_line, is_some, is_too_long}
-pub use Rattle.nit_perform.specs.Terms.{journal_file, journal_text, last_frame, last_of, left_word}
-pub use Rattle.nit_perform.specs.Terms.{lines_of_frames, list_all, member, most_lines, negsuc}
-pub use Rattle.nit_perform.specs.Terms.{nest_of, nest_script, new_sight, next_record, no_sight}
-pub use Rattle.nit_perform.specs.Terms.{output_name, owner, pair_role_of, phases, picture}
-pub use Rattle.nit_perform.specs.Terms.{picture_by, picture_names, pictures_in, pixel, pixel_count}
-pub use Rattle.nit_perform.specs.Terms.{plan_of_script, plans_of, pos, put_state_at}
-pub use Rattle.nit_perform.specs.Terms.{put_state_of_desk, put_state_of_run, range_with_len}
-pub use Rattle.nit_perform.specs.Terms.{raw_words, record_of, records, refusal_by, replay}
-pub use Rattle.nit_perform.specs.Terms.{replay_from, role_of, rounds, run_files, scenery_of}
+pub use Rattle.nit_perform.specs.Terms.{is_label_byte, is_phase, is_shot_entry, is_shot_line}
+pub use Rattle.nit_perform.specs.Terms.{is_some, is_too_long, journal_file, journal_text}
+pub use Rattle.nit_perform.specs.Terms.{last_frame, last_of, left_word, lines_of_frames, list_all}
+pub use Rattle.nit_perform.specs.Terms.{member, most_lines, negsuc, nest_of, nest_script, new_sight}
+pub use Rattle.nit_perform.specs.Terms.{next_record, no_sight, output_name, owner, pair_role_of}
+pub use Rattle.nit_perform.specs.Terms.{phases, picture, picture_by, picture_names, pictures_in}
+pub use Rattle.nit_perform.specs.Terms.{pixel, pixel_count, plan_of_script, plans_of, pos}
+pub use Rattle.nit_perform.specs.Terms.{put_state_at, put_state_of_desk, put_state_of_run}
+pub use Rattle.nit_perform.specs.Terms.{range_with_len, raw_words, record_of, records, refusal_by}
+pub use Rattle.nit_perform.specs.Terms.{replay, replay_from, role_of, rounds, run_files, scenery_of}
 pub use Rattle.nit_perform.specs.Terms.{script_answer, script_files, script_in, script_name}
 pub use Rattle.nit_perform.specs.Terms.{session, setup_of, shot_frames_of, shot_name, shots}
 pub use Rattle.nit_perform.specs.Terms.{shots_after, shots_of, shown_index, slice_get, slice_index}
@@ -60,8 +60,8 @@ pub use Rattle.nit_perform.specs.Terms.{user_actions_in, user_actions_of, user_a
 pub use Rattle.nit_perform.specs.Terms.{user_role_of, with_asked, with_clip_scripts, with_last}
 pub use Rattle.nit_perform.specs.Terms.{word_from, words_after, words_left_in, ℤ}
 pub use Rattle.nit_rect.proofs.ForCallers.{all_append}
-pub use Rattle.nit_report.proofs.ForCallers.{few_digits}
-pub use Rattle.nit_rounds.proofs.ForCallers.{files_both, no_files, shots_along}
+pub use Rattle.nit_rounds.proofs.ForCallers.{files_both, no_files, put_as_pictures, shots_along}
+pub use Rattle.nit_rounds.proofs.ForCallers.{stays_throughout}
 pub use Rattle.nit_run.proofs.ForCallers.{Numbered, OtherThan, UserOnce, also_more, asking_none}
 pub use Rattle.nit_run.proofs.ForCallers.{later_shots, no_picture, no_shots, numbered, other_both}
 pub use Rattle.nit_run.proofs.ForCallers.{other_letter, shots_apart, stays, text_at, texts_other}

@@ -2,30 +2,27 @@
 use Rattle.std.proofs.Common.{List, None, Option, Some, [], ap, arith, drop, false, get_or, inl}
 use Rattle.std.proofs.Common.{inr, length, map, refl, take, take_all, zero-add, ℕ, ◌++◌, ◌+◌, ◌<◌}
 use Rattle.std.proofs.Common.{◌∙◌, ◌∷◌, ◌≡◌, ◌≤◌}
-use Rattle.nit_perform.proofs.Basics.{All, AreInkedPlans, AreRoundsOf, AreScriptsOf, CanTakeLast}
-use Rattle.nit_perform.proofs.Basics.{Configuration, Entry, File, HasRun, HaveTables, InputLine}
-use Rattle.nit_perform.proofs.Basics.{IsGlass, IsJournal, IsRoundsOpening, IsRoundsRun, IsSetUp}
-use Rattle.nit_perform.proofs.Basics.{IsSetting, IsWhole, IsWord, IsWordOfSource, Line, Member}
-use Rattle.nit_perform.proofs.Basics.{OpenedRounds, Painted, PixelSource, PlanModel, Point}
-use Rattle.nit_perform.proofs.Basics.{PutState, PutsAll, PutsNext, PutsShots, Ran, SceneModel}
-use Rattle.nit_perform.proofs.Basics.{Session, Setup, Sight, Size, State, StoreModel, TakesLast}
-use Rattle.nit_perform.proofs.Basics.{View, Word, after, among, as_many_as_clients, bar_rows}
-use Rattle.nit_perform.proofs.Basics.{black_or_word, blank, buffer_place, buffer_size}
-use Rattle.nit_perform.proofs.Basics.{calls_to_make, cases_lt, count_by, donation_of, final_name}
-use Rattle.nit_perform.proofs.Basics.{final_picture, first_session, first_state, frame}
-use Rattle.nit_perform.proofs.Basics.{get_or-map-range_with_len, get_or_default, get_or_past}
-use Rattle.nit_perform.proofs.Basics.{glass_after, glass_in, glasses_of, kept_config, length-map}
-use Rattle.nit_perform.proofs.Basics.{length-map-range_with_len, map-id, map-range_with_len_more}
-use Rattle.nit_perform.proofs.Basics.{member, nat_tests, negsuc, no_sight, owner, picture}
-use Rattle.nit_perform.proofs.Basics.{picture_by, pixel, pixel_count, plans_of, pos}
+use Rattle.nit_perform.proofs.Basics.{All, AreInkedPlans, AreRoundsOf, AreScriptsOf, AreShots}
+use Rattle.nit_perform.proofs.Basics.{CanTakeLast, Configuration, Entry, File, HasRun, HaveTables}
+use Rattle.nit_perform.proofs.Basics.{InputLine, IsGlass, IsJournal, IsRoundsOpening, IsRoundsRun}
+use Rattle.nit_perform.proofs.Basics.{IsSetUp, IsSetting, IsWhole, IsWord, IsWordOfSource, Line}
+use Rattle.nit_perform.proofs.Basics.{Member, OpenedRounds, Painted, PixelSource, PlanModel, Point}
+use Rattle.nit_perform.proofs.Basics.{PutState, PutsAll, PutsNext, Ran, SceneModel, Session, Setup}
+use Rattle.nit_perform.proofs.Basics.{Sight, Size, State, StoreModel, TakesLast, View, Word, after}
+use Rattle.nit_perform.proofs.Basics.{among, as_many_as_clients, bar_rows, black_or_word}
+use Rattle.nit_perform.proofs.Basics.{buffer_place, buffer_size, calls_to_make, cases_lt, count_by}
+use Rattle.nit_perform.proofs.Basics.{donation_of, final_name, final_picture, first_session}
+use Rattle.nit_perform.proofs.Basics.{first_state, frame, get_or-map-range_with_len, get_or_default}
+use Rattle.nit_perform.proofs.Basics.{get_or_past, glass_after, glass_in, glasses_of, is_shot_entry}
+use Rattle.nit_perform.proofs.Basics.{kept_config, length-map, length-map-range_with_len, map-id}
+use Rattle.nit_perform.proofs.Basics.{map-range_with_len_more, member, nat_tests, negsuc, no_sight}
+use Rattle.nit_perform.proofs.Basics.{owner, picture, picture_by, pixel, pixel_count, plans_of, pos}
 use Rattle.nit_perform.proofs.Basics.{put_state_of_run, puts_both, range_with_len, raw_words}
-use Rattle.nit_perform.proofs.Basics.{replay_from, rounds, same_frame, scenery_of, script_in, shots}
+use Rattle.nit_perform.proofs.Basics.{replay_from, same_frame, scenery_of, script_in, shots}
 use Rattle.nit_perform.proofs.Basics.{shots_of, shown_index, slice_index, source_at, source_under}
 use Rattle.nit_perform.proofs.Basics.{state_now, sum_by-cons, table_size, tables_left}
 use Rattle.nit_perform.proofs.Basics.{take-append_seam, text_files, told_word, unrefused}
 use Rattle.nit_perform.proofs.Basics.{user_actions_to_do, word_from, words_after, ℤ}
-use Rattle.nit_perform.specs.Terms.{is_shot_entry}
-use Rattle.nit_run.specs.Outputs.{AreShots}
 use Rattle.nit_events.specs.declared.entry.Entry.TheVariants as entry
 
 -- What is made for each client, in order, of its session, its script and its donation.
@@ -239,7 +236,7 @@ pub run_leaves : {s : Setup} {start mid last : SceneModel Sight} {owns : List Si
     (at final : PutState) {ran : Ran}
     → WholeLaw → OneMore → s.beside ≡ false → s.made ≡ [] → start.config ≡ s.config
     → IsRoundsRun s.scripts s.input start mid owns → TakesLast mid last
-    → PutsShots start.config s.scripts (rounds s.scripts s.input) (unrefused first) at
+    → PutsAll (shots_of start.config s.scripts s.input) (unrefused first) at
     → PutsLast (state_now mid) owns at final
     → PutsAll (text_files s last.entries) final (put_state_of_run new ran.fault)
     → ran.journal.items ≡ last.entries → ran.frames ≡ shots last.entries + 1 → HasRun first s new ran

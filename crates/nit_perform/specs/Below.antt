@@ -1,8 +1,7 @@
 -- The words of the library and of the crates below that are used here, and the crate's plain types.
 pub use Rattle.nit_actor.specs.ClipRole.{ClipRole, IsPairIn, PairRole, clip_role_of, pair_role_of}
 pub use Rattle.nit_actor.specs.IdleUser.{StepTogether, idle_user}
-pub use Rattle.nit_actor.specs.Pictures.{AreNearShots, IsNearPicture, IsPictureAmong}
-pub use Rattle.nit_actor.specs.Pictures.{PutsShotsBehind}
+pub use Rattle.nit_actor.specs.Pictures.{IsNearPicture, IsPictureAmong, PutsShotsBehind}
 pub use Rattle.nit_actor.specs.Role.{Role, UserRole, role_of, user_role_of}
 pub use Rattle.nit_actor.specs.declared.pair.Pair.{Pair}
 pub use Rattle.nit_capture.specs.Capture.{CaptureModel, cropped_bytes, first_capture, next_record}
@@ -20,22 +19,19 @@ pub use Rattle.nit_config.specs.declared.config.Member.{Member}
 pub use Rattle.nit_events.specs.declared.entry.Entry.{Entry}
 pub use Rattle.nit_glyph.specs.Texts.{is_label, is_label_byte}
 pub use Rattle.nit_hall.specs.ClipOpening.{AreFirstClipPasses, first_clip_pass, with_clip_scripts}
-pub use Rattle.nit_hall.specs.ClipPass.{AreDoneClips, ClipBelongs, ClipPassModel, IsDoneClip}
-pub use Rattle.nit_hall.specs.ClipPass.{clip_number}
+pub use Rattle.nit_hall.specs.ClipPass.{AreDoneClips, ClipPassModel, IsDoneClip, clip_number}
 pub use Rattle.nit_hall.specs.History.{IsHistory}
-pub use Rattle.nit_hall.specs.Opening.{AreBlank, IsOpening, IsSetting, buffers_of, first_pass}
-pub use Rattle.nit_hall.specs.Opening.{parts_of}
+pub use Rattle.nit_hall.specs.Opening.{AreBlank, IsOpening, IsSetting}
 pub use Rattle.nit_hall.specs.OpeningParts.{OpeningParts}
 pub use Rattle.nit_hall.specs.Pass.{AreDone, Belongs, IsDoneUser, PassModel, UserBelongs}
 pub use Rattle.nit_hall.specs.Pass.{UserPassModel}
 pub use Rattle.nit_hall.specs.Room.{RoomModel}
 pub use Rattle.nit_hall.specs.RoomEnd.{left_word, words_left_in}
 pub use Rattle.nit_hall.specs.ServedLines.{user_actions_in}
-pub use Rattle.nit_journal.specs.Journal.{JournalModel}
 pub use Rattle.nit_journal.specs.Replay.{IsLegal, IsOpen, replay, replay_from, shots}
 pub use Rattle.nit_journal.specs.Session.{Session, first_session}
-pub use Rattle.nit_journal.specs.State.{State, after, buffer_size, first_state, session, session_in}
-pub use Rattle.nit_journal.specs.WholeJournals.{IsWhole, UserAction, action_of, user_actions_of}
+pub use Rattle.nit_journal.specs.State.{State, after, buffer_size, first_state, session}
+pub use Rattle.nit_journal.specs.WholeJournals.{IsWhole, action_of, user_actions_of}
 pub use Rattle.nit_nested.specs.FrameLines.{frame_lines}
 pub use Rattle.nit_nested.specs.FrameScript.{count_lines, first_forbidden}
 pub use Rattle.nit_nested.specs.Nest.{NestModel, UnlessMemory, frame_answer, lines_of_frames}
@@ -53,9 +49,8 @@ pub use Rattle.nit_perform.specs.declared.ran.Ran.{Ran}
 pub use Rattle.nit_pixels.specs.End.{BufferName, End, new_sight}
 pub use Rattle.nit_plan.specs.Calls.{calls_to_make, user_actions_to_do}
 pub use Rattle.nit_plan.specs.Plan.{IsPlanOf, PlanModel, plan_of_script}
-pub use Rattle.nit_plan.specs.ScriptWords.{Painting, blank, ink, painted_from, table_size}
-pub use Rattle.nit_plan.specs.ScriptWords.{words_after, words_left}
-pub use Rattle.nit_plan.specs.SessionLists.{plan_in, script_in}
+pub use Rattle.nit_plan.specs.ScriptWords.{table_size, words_after}
+pub use Rattle.nit_plan.specs.SessionLists.{script_in}
 pub use Rattle.nit_rect.specs.Intersection.{HasPixels, LiesIn}
 pub use Rattle.nit_rect.specs.declared.memory.NoMemory.{NoMemory}
 pub use Rattle.nit_rect.specs.declared.point.Point.{Point}
@@ -63,30 +58,29 @@ pub use Rattle.nit_report.specs.EventsText.{events_text}
 pub use Rattle.nit_report.specs.Generator.{client_text, generated, is_shot_line, script_name}
 pub use Rattle.nit_report.specs.JournalText.{journal_text}
 pub use Rattle.nit_report.specs.Picture.{picture, picture_length}
-pub use Rattle.nit_rounds.specs.Drawing.{Drawing, PutsShots, after_turn, drawn, drawn_shot}
-pub use Rattle.nit_rounds.specs.Drawing.{opening_drawing, picture_of, shot_frames_of, shots_after}
-pub use Rattle.nit_rounds.specs.Drawing.{shots_of, word_from, words_of}
+pub use Rattle.nit_rounds.specs.Drawing.{Drawing, after_turn, drawn_shot, shot_frames_of}
+pub use Rattle.nit_rounds.specs.Drawing.{shots_after, shots_of, word_from}
 pub use Rattle.nit_rounds.specs.Rounds.{rounds}
 pub use Rattle.nit_rounds.specs.RoundsRun.{IsRoundsRun, IsSetUp, final_name, glass_after}
 pub use Rattle.nit_rounds.specs.RoundsRun.{put_state_of_desk, shot_name}
-pub use Rattle.nit_rounds.specs.ShotFrames.{ShotFrame, ShowsEach, shot_file}
+pub use Rattle.nit_rounds.specs.ShotFrames.{ShotFrame, ShowsEach}
 pub use Rattle.nit_rounds.specs.Shots.{ShotsBehind}
-pub use Rattle.nit_rounds.specs.Turn.{ActorLine, ByClient, ByUser, LineTurn}
+pub use Rattle.nit_rounds.specs.Turn.{ActorLine, ByUser, LineTurn}
 pub use Rattle.nit_rounds.specs.TurnActions.{AreRoundsOf, actions_of_turns, input_by_user}
 pub use Rattle.nit_rounds.specs.TurnActions.{input_lines_of}
 pub use Rattle.nit_rounds.specs.declared.desk.Desk.{Desk}
 pub use Rattle.nit_run.specs.InnerFrames.{ShowsNest, frames_of, is_too_long, last_frame, nest_of}
 pub use Rattle.nit_run.specs.OutputNames.{output_name}
-pub use Rattle.nit_run.specs.Outputs.{AreOutputs, HaveTables, IsJournal, ending_of, events_file}
-pub use Rattle.nit_run.specs.Outputs.{events_files, events_name, final_picture, journal_file}
-pub use Rattle.nit_run.specs.Outputs.{picture_by, raw_word, raw_words, tables_left, text_files}
+pub use Rattle.nit_run.specs.Outputs.{AreOutputs, AreShots, HaveTables, IsJournal, ending_of}
+pub use Rattle.nit_run.specs.Outputs.{events_file, events_files, events_name, final_picture}
+pub use Rattle.nit_run.specs.Outputs.{journal_file, picture_by, raw_words, tables_left, text_files}
 pub use Rattle.nit_run.specs.PutFiles.{PutEach, PutFiles, asking_all}
 pub use Rattle.nit_run.specs.Region.{rectangle_of}
 pub use Rattle.nit_run.specs.RunClips.{IsClipFile, IsClipList, clips_name}
 pub use Rattle.nit_run.specs.RunFilm.{film_name, film_of, pictures_in}
 pub use Rattle.nit_run.specs.RunInner.{inner_journal_name}
-pub use Rattle.nit_run.specs.Setup.{AreClipsOf, IsRunnable, RunFiles, Setup, by_turns}
-pub use Rattle.nit_run.specs.Setup.{generated_files, run_files, script_files, setup_of}
+pub use Rattle.nit_run.specs.Setup.{IsRunnable, RunFiles, Setup, by_turns, generated_files}
+pub use Rattle.nit_run.specs.Setup.{run_files, script_files, setup_of}
 pub use Rattle.nit_run.specs.declared.region.Region.{Region}
 pub use Rattle.nit_run.specs.declared.scripts.Scripts.{Scripts}
 pub use Rattle.nit_scene.specs.RawWords.{Painted, glass_in, pixel_count, source_at}
@@ -98,25 +92,22 @@ pub use Rattle.nit_script.specs.Phases.{input_phases, is_phase, phases}
 pub use Rattle.nit_script.specs.declared.line.InputLine.{InputLine}
 pub use Rattle.nit_script.specs.declared.line.Line.{Line}
 pub use Rattle.nit_slots.specs.Account.{IsDonation}
-pub use Rattle.nit_stack.specs.Sources.{Bare, Black, PixelSource, Size, Word, among, black_or_word}
-pub use Rattle.nit_stack.specs.Sources.{buffer_place, index_at, owner, pixel, shown_index}
-pub use Rattle.nit_stack.specs.Sources.{source_under}
+pub use Rattle.nit_stack.specs.Sources.{Bare, PixelSource, Size, Word, among, black_or_word}
+pub use Rattle.nit_stack.specs.Sources.{buffer_place, owner, pixel, shown_index, source_under}
 pub use Rattle.nit_stack.specs.declared.view.View.{View}
-pub use Rattle.nit_store.specs.Puts.{PutRefusal, PutState, PutsAll, PutsFile, PutsNext, PutsUnless}
-pub use Rattle.nit_store.specs.Puts.{refusal_by, unrefused}
+pub use Rattle.nit_store.specs.Puts.{PutRefusal, PutState, PutsAll, PutsFile, PutsNext, refusal_by}
+pub use Rattle.nit_store.specs.Puts.{unrefused}
 pub use Rattle.nit_store.specs.Store.{File, IsPut, PutIn, StoreModel, WriteFaulted, bytes_of}
 pub use Rattle.nit_store.specs.Store.{file_at, with_asked}
 pub use Rattle.nit_store.specs.StoreAnswers.{AfterPut, AskedAtMost}
 pub use Rattle.nit_store.specs.declared.store.PutError.{PutError}
 pub use Rattle.nit_word.specs.Inks.{IsWord}
-pub use Rattle.nit_word.specs.Sight.{Sight, inked_sight}
-pub use Rattle.nit_word.specs.Zeros.{zeros}
+pub use Rattle.nit_word.specs.Sight.{Sight}
 pub use Rattle.std.specs.Fmt.{decimal}
 pub use Rattle.std.specs.Global.{Global}
 pub use Rattle.std.specs.List.{AllByRecursion, list_all, range_with_len}
 pub use Rattle.std.specs.Option.{is_some}
-pub use Rattle.std.specs.Prelude.{All, IfOk, Vec, codes, count_by, drop, false, nat_lt, negsuc}
-pub use Rattle.std.specs.Prelude.{option_map, pos, slice_get, slice_index, slice_index_or, true}
-pub use Rattle.std.specs.Prelude.{vec_len, ℤ}
-pub use Rattle.std.specs.Str.{IsAscii, IsUtf8}
+pub use Rattle.std.specs.Prelude.{All, IfOk, Vec, codes, count_by, false, negsuc, pos, slice_get}
+pub use Rattle.std.specs.Prelude.{slice_index, slice_index_or, true, ℤ}
+pub use Rattle.std.specs.Str.{IsUtf8}
 pub use Rattle.std.specs.Vec.Iter.{into_iter_items}

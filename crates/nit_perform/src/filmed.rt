@@ -1,15 +1,12 @@
 //! A put of a picture that is filmed.
 
-ghost use Rattle.std.specs.Prelude.{◌≡◌, ◌≢◌, ◌≤◌, ◌*◌, ◌++◌, OnOk, false, length, true, ℕ, take};
+ghost use Rattle.std.specs.Prelude.{◌≡◌, ◌≢◌, ◌≤◌, ◌*◌, ◌++◌, OnOk, false, length, true, ℕ};
 ghost use Rattle.nit_perform.specs.Terms.{AfterPut, cropped_bytes, final_name, next_record};
 ghost use Rattle.nit_perform.specs.Terms.{shot_name, with_last};
 
 use crate::film::Film;
-use nit_report::write::{number, text};
+use nit_rounds::{SHOT_NAME_BYTES, shot_name_into};
 use nit_store::{PutError, Store};
-
-/// The most bytes that the name of a shot's picture has.
-const NAME_BYTES: usize = 19;
 
 /// Adds a picture to the film, and then puts it. Where memory runs out for the film, it is not put.
 pub fn put_filmed<S: Store>(
@@ -46,18 +43,7 @@ pub fn is_shot_name(name: &str, shot: u32) -> bool
     ensures named { result ≡ true → name.now ≡ shot_name shot }
     ensures other { result ≡ false → name.now ≢ shot_name shot }
 {
-    let mut wanted = [0; NAME_BYTES];
-    let end = write_name(&mut wanted, shot);
+    let mut wanted = [0; SHOT_NAME_BYTES];
+    let end = shot_name_into(&mut wanted, shot);
     name.as_bytes() == &wanted[..end]
-}
-
-/// Writes the name of the picture of a shot to the front of `out`, and answers where it ends.
-fn write_name(out: &mut [u8], shot: u32) -> usize
-    requires { length out.old ≡ 19 }
-    ensures end { result ≤ length out.new }
-    ensures name { take result out.new ≡ shot_name shot }
-{
-    let at = text(out, 0, b"shot-");
-    let at = number(out, at, shot);
-    text(out, at, b".ppm")
 }

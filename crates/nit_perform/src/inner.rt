@@ -15,7 +15,7 @@ use nit_nested::laws::lines_are_counted;
 use nit_nested::{Nest, NestError};
 use nit_plan::laws::{buffer_within_table, one_more_line};
 use nit_rounds::laws::{drawn_as_replayed, rounds_are_whole};
-use nit_rounds::{Viewer, run_viewed};
+use nit_rounds::{Viewer, run_rounds};
 use nit_scene::Scene;
 use nit_script::{Client, Input};
 use nit_word::Inked;
@@ -148,7 +148,7 @@ fn play(
         plans: &plans,
         input,
     };
-    run_viewed(&mut scene, &mut owns, parts, &mut nesting);
+    run_rounds(&mut scene, &mut owns, parts, &mut nesting);
     take_last(&mut scene, &mut owns);
     nesting.take(scene.frame());
     AfterRounds {

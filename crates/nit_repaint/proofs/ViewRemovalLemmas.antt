@@ -1,21 +1,22 @@
 -- What the painting of one piece does to the glasses of a call.
-use Rattle.nit_repaint.proofs.Basics.{CutterModel, HoldBuffers, IsRemovedFrom, NoPair, PaintsMarked}
-use Rattle.nit_repaint.proofs.Basics.{PixelSource, Point, Repainted, Sight, SlotView, StackModel}
-use Rattle.nit_repaint.proofs.Basics.{and_parts, drop_all, drop_at, get_or-map, get_or-set_at}
-use Rattle.nit_repaint.proofs.Basics.{get_or_past, glass_in, glasses_of_call, is_of_session}
-use Rattle.nit_repaint.proofs.Basics.{is_slot, length-map, list_any, map-set, map-set_same}
-use Rattle.nit_repaint.proofs.Basics.{nat_tests, no_sight, option_map_or, owner_in, owner_of_views}
-use Rattle.nit_repaint.proofs.Basics.{owner_passes, pixel, repainted_same, repainted_union}
-use Rattle.nit_repaint.proofs.Basics.{same_slot, seen, size_of, slot_view_covers, source_in}
-use Rattle.nit_repaint.proofs.Basics.{source_of_number, source_under, uncovered, with_glass}
-use Rattle.nit_repaint.proofs.Basics.{without, without_session}
-use Rattle.std.proofs.Common.{Bool, List, Some, [], add-one, ap, arith, cond, drop, eq-eqb, false}
-use Rattle.std.proofs.Common.{find, get_or-set_other, length, map, ne_eqb, not, option_map, refl}
-use Rattle.std.proofs.Common.{set, slice_get, slice_index_or, suc, sym, true, zero, ℕ, ◌&&◌, ◌+◌}
-use Rattle.std.proofs.Common.{◌<◌, ◌==◌, ◌∙◌, ◌∷◌, ◌≡◌, ◌≤◌}
-use Rattle.nit_repaint.specs.declared.painter.Painter.{Painter}
+use Rattle.nit_repaint.proofs.Basics.{CutterModel, HoldBuffers, IsRemovedFrom, NoPair, Painter}
+use Rattle.nit_repaint.proofs.Basics.{PaintsMarked, PixelSource, Point, Rectangle, Repainted, Sight}
+use Rattle.nit_repaint.proofs.Basics.{SlotView, StackModel, and_parts, covers, drop_all, drop_at}
+use Rattle.nit_repaint.proofs.Basics.{get_or-map, get_or-set_at, get_or_past, glass_in}
+use Rattle.nit_repaint.proofs.Basics.{glasses_of_call, has_come, has_pixel, is_of_session, is_slot}
+use Rattle.nit_repaint.proofs.Basics.{length-map, list_any, map-set, map-set_same, nat_tests}
+use Rattle.nit_repaint.proofs.Basics.{no_sight, option_map_or, other_count, owner_in}
+use Rattle.nit_repaint.proofs.Basics.{owner_of_views, owner_passes, pixel, repainted_same}
+use Rattle.nit_repaint.proofs.Basics.{repainted_union, same_slot, seen, size_of, slot_view_covers}
+use Rattle.nit_repaint.proofs.Basics.{source_in, source_of_number, source_under, times, to_come}
+use Rattle.nit_repaint.proofs.Basics.{uncovered, with_glass, without, without_session}
+use Rattle.std.proofs.Common.{Bool, IsTrue, List, Some, [], add-one, ap, arith, cond, drop, eq-eqb}
+use Rattle.std.proofs.Common.{false, find, get_or-set_other, length, map, ne_eqb, not, option_map}
+use Rattle.std.proofs.Common.{refl, set, slice_get, slice_index_or, suc, sym, true, zero, ℕ, ◌&&◌}
+use Rattle.std.proofs.Common.{◌+◌, ◌<◌, ◌==◌, ◌∙◌, ◌∷◌, ◌≡◌, ◌≤◌}
 use Rattle.nit_repaint.proofs.ViewChangeLemmas.{found_not, marked_same, other_slot, owned_not}
 use Rattle.nit_repaint.proofs.ViewChangeLemmas.{without_none}
+use Rattle.nit_repaint.proofs.WantedLemmas.{one_came}
 
 -- a glass of a list, which a piece leaves as another one
 module _ {G : Type 0} (f : G → Sight) (gs : List G) (g g' : G) (t : ℕ) (is : g ≡ slice_index_or gs t g)
@@ -99,9 +100,9 @@ IsBy sight own_sight s sid is_marked before after' own own' =
     before.raw.items after'.raw.items
 
 module _ {G C R Q : Type 0} {sight : G → Sight} {own_sight : C → Sight} {rest : G → R} {own_rest : C → Q}
-    {s : StackModel} {sid : ℕ} {all : ℕ → Bool} where
+    {s : StackModel} {sid : ℕ} where
   -- nothing yet
-  pub nothing_painted : {p : Painter G} {own : C} → IsBy sight own_sight s sid all p p own own
+  pub nothing_painted : {all : ℕ → Bool} {p : Painter G} {own : C} → IsBy sight own_sight s sid all p p own own
       → PaintsMarked sight own_sight rest own_rest s sid all p p own own
   nothing_painted painted = record {
     painted = painted;
@@ -109,7 +110,7 @@ module _ {G C R Q : Type 0} {sight : G → Sight} {own_sight : C → Sight} {res
   }
 
   -- and more is painted
-  pub more_painted : {first second : ℕ → Bool} {a b c : Painter G} {k : CutterModel} {own own' own'' : C}
+  pub more_painted : {first second all : ℕ → Bool} {a b c : Painter G} {k : CutterModel} {own own' own'' : C}
       → PaintsMarked sight own_sight rest own_rest s sid first a b own own' → k.room ≡ b.cutter.room
       → PaintsMarked sight own_sight rest own_rest s sid second (record b { cutter = k }) c own' own''
       → IsBy sight own_sight s sid all a c own own''
@@ -124,6 +125,19 @@ module _ {G C R Q : Type 0} {sight : G → Sight} {own_sight : C → Sight} {res
       rests = new.kept.rests ∙ was.kept.rests;
     };
   }
+
+  -- a piece that the cutter handed out is painted
+  pub piece_painted : {a b c : Painter G} {own own' own'' : C} (next : CutterModel) (r : Rectangle)
+      → next.room ≡ b.cutter.room
+      → ((p : Point) → to_come a.cutter s p ≤ 1) → ((p : Point) → to_come b.cutter s p ≤ to_come a.cutter s p)
+      → ((p : Point) → to_come b.cutter s p ≡ to_come next s p + times r p)
+      → ((p : Point) → IsTrue (covers r p) → to_come b.cutter s p ≡ 1)
+      → PaintsMarked sight own_sight rest own_rest s sid (has_come a.cutter b.cutter s) a b own own'
+      → PaintsMarked sight own_sight rest own_rest s sid (has_pixel s.width r) (record b { cutter = next }) c own' own''
+      → PaintsMarked sight own_sight rest own_rest s sid (has_come a.cutter next s) a c own own''
+  piece_painted {a = a} {b = b} next r room once less count came was new =
+      more_painted was room new (one_came s a.cutter b.cutter next r once less count came was.painted
+      (other_count _ _ _ _ _ _ _ _ was.kept.count new.painted))
 
 -- ==== What views uncover when they are taken away.
 

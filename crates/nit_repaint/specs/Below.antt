@@ -7,13 +7,13 @@ pub use Rattle.nit_overlay.specs.Look.{IsLook, scenery}
 pub use Rattle.nit_overlay.specs.declared.look.Look.{Look}
 pub use Rattle.nit_paint.specs.FrameCopy.{AreSet}
 pub use Rattle.nit_paint.specs.Pieces.{IsPiece, has_pixel, session_shown, source_of_number}
-pub use Rattle.nit_paint.specs.Pieces.{words_shown}
 pub use Rattle.nit_paint.specs.Repaint.{Repainted, no_sight, with_glass}
 pub use Rattle.nit_rect.specs.Intersection.{CoversBoth}
 pub use Rattle.nit_rect.specs.Limits.{most_length, most_side}
 pub use Rattle.nit_rect.specs.Rectangle.{IsPlace, Rectangle, covers, rectangle, spans}
 pub use Rattle.nit_rect.specs.Strips.{times}
 pub use Rattle.nit_rect.specs.declared.point.Point.{Point}
+pub use Rattle.nit_repaint.specs.declared.painter.Painter.{Painter}
 pub use Rattle.nit_stack.specs.Orders.{changed, moved, put_above, put_again, without}
 pub use Rattle.nit_stack.specs.SourceAnswers.{session_of, word_count}
 pub use Rattle.nit_stack.specs.Sources.{PixelSource, Size, Word, among, black_or_word, buffer_place}
@@ -30,7 +30,6 @@ pub use Rattle.nit_stack.specs.declared.view.View.{View}
 pub use Rattle.nit_stack.specs.declared.view.ViewRef.{ViewRef}
 pub use Rattle.nit_word.specs.Inks.{IsWord}
 pub use Rattle.nit_word.specs.Sight.{Sight, seen}
-pub use Rattle.std.specs.List.{insert, list_any, position_or_len}
-pub use Rattle.std.specs.Option.{option_map, option_map_or}
-pub use Rattle.std.specs.Prelude.{Bool, IsTrue, List, int_le, nat_lt, negsuc, pos, slice_get}
-pub use Rattle.std.specs.Prelude.{slice_index, ℕ, ℤ}
+pub use Rattle.std.specs.List.{list_any, position_or_len}
+pub use Rattle.std.specs.Option.{option_map_or}
+pub use Rattle.std.specs.Prelude.{Bool, List, nat_lt, slice_index, ℕ}

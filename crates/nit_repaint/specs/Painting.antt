@@ -1,9 +1,7 @@
 -- What painting pixels needs, and what it leaves.
 use Rattle.std.specs.Prelude.{◌≡◌, ◌≤◌, ◌*◌, ℕ, Bool, true, List, length, map, All, IfSome}
-use Rattle.std.specs.Prelude.{IsSomeAnd}
-use Rattle.nit_repaint.specs.declared.painter.Painter.{Painter}
-use Rattle.nit_repaint.specs.Below.{IsLook, IsPiece, IsWord, Look, Piece, Repainted, Sight}
-use Rattle.nit_repaint.specs.Below.{StackModel, has_pixel, has_slot, source_of_number}
+use Rattle.nit_repaint.specs.Below.{IsLook, IsPiece, IsWord, Look, Painter, Piece, Repainted, Sight}
+use Rattle.nit_repaint.specs.Below.{StackModel, has_slot, source_of_number}
 use Rattle.nit_repaint.specs.Glasses.{HoldBuffers, glass_in, glasses_of_call}
 
 -- ---- pieces
@@ -12,12 +10,6 @@ use Rattle.nit_repaint.specs.Glasses.{HoldBuffers, glass_in, glasses_of_call}
 pub record IsPieceOfStack (s : StackModel) (p : Piece) : Type 0 where
   pub piece : IsPiece s p
   pub stands : IfSome p.owner (λ v. has_slot v.0 s.views ≡ true)
-
--- a piece that a view of the stack owns, of a screen with a raw word for each pixel
-pub record IsViewPiece (s : StackModel) (raw : List ℕ) (p : Piece) : Type 0 where
-  pub pixels : length raw ≡ s.width * s.height
-  pub piece : IsPiece s p
-  pub owner : IsSomeAnd p.owner (λ v. has_slot v.0 s.views ≡ true)
 
 -- ---- by the glasses of a call
 
@@ -58,14 +50,6 @@ pub record PaintsMarked {G C R Q : Type 0} (sight : G → Sight) (own_sight : C 
       (glasses_of_call (map sight after'.glasses.items) sid (own_sight own'))
       before.raw.items after'.raw.items
   pub kept : KeepsPainter sight rest own_rest sid before after' own own'
-
--- exactly the pixels of a piece were loaded again, and the cutter is as before
-pub record PaintsPiece {G C R Q : Type 0} (sight : G → Sight) (own_sight : C → Sight) (rest : G → R)
-    (own_rest : C → Q) (s : StackModel) (sid : ℕ) (piece : Piece) (before after' : Painter G)
-    (own own' : C) : Type 0 where
-  pub marked : PaintsMarked sight own_sight rest own_rest s sid (has_pixel s.width piece.rect)
-      before after' own own'
-  pub cutter : after'.cutter ≡ before.cutter
 
 -- ---- by one list of glasses
 

@@ -1,7 +1,6 @@
 //! Loading again what views of one session show.
 
-ghost use Rattle.std.specs.Prelude.{false, ◌≡◌, ◌<◌, ◌≤◌, ◌&&◌, Some, length, map, slice_get};
-ghost use Rattle.std.specs.Prelude.{true};
+ghost use Rattle.std.specs.Prelude.{false, ◌≡◌, ◌<◌, ◌≤◌, ◌&&◌, Some, length, map, slice_get, true};
 ghost use Rattle.nit_repaint.specs.Terms.{CanRepaint, FitsStack, IsOnScreen, IsPlace, PaintsMarked};
 ghost use Rattle.nit_repaint.specs.Terms.{Point, SlotView, covers, glasses_of_call, is_slot};
 ghost use Rattle.nit_repaint.specs.Terms.{is_wanted, once, owner_passes, pixel, size_of, to_come};

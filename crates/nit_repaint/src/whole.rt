@@ -4,8 +4,9 @@ ghost use Rattle.std.specs.Prelude.{◌≡◌, ◌≤◌, length, true};
 ghost use Rattle.nit_repaint.specs.Terms.{CanPaintByList, IsPieceOfStack, PaintsByList, has_pixel};
 
 use crate::painter::Painter;
-use crate::pieces::{load_bare, load_view, session_of};
+use crate::pieces::session_of;
 use nit_paint::laws::pieces_of_owners;
+use nit_paint::{paint_bare, paint_view};
 use nit_stack::{Piece, Stack};
 use nit_word::Glass;
 use std::marker::Model;
@@ -59,8 +60,13 @@ fn paint_piece_by<C: Glass>(stack: &Stack, piece: &Piece, raw: &mut Vec<u32>, ow
     match piece.owner {
         Some(v) => {
             let session = session_of(stack, v);
-            load_view(stack, raw, piece, &mut owns[session as usize]);
+            paint_view(
+                stack,
+                raw.as_mut_slice(),
+                piece,
+                &mut owns[session as usize],
+            );
         }
-        None => load_bare(stack, raw, piece),
+        None => paint_bare(stack, raw.as_mut_slice(), piece),
     }
 }

@@ -7,44 +7,45 @@ pub use Rattle.nit_plan.proofs.ForCallers.{row_added, rows_done, unchanged, word
 pub use Rattle.nit_report.proofs.ForCallers.{all_append, few_digits}
 pub use Rattle.nit_rounds.specs.Terms.{Action, ActorLine, Acts, AllByRecursion, AreBehind}
 pub use Rattle.nit_rounds.specs.Terms.{AreLoaded, ArePlaces, AreQuiet, AreQuietBut, AreRaw}
-pub use Rattle.nit_rounds.specs.Terms.{AreRoundsOf, AreShotsOf, Bare, Buffer, BufferArea, ByClient}
-pub use Rattle.nit_rounds.specs.Terms.{ByUser, Call, Calls, CanDoUserLine, Client, Configuration}
-pub use Rattle.nit_rounds.specs.Terms.{Device, Does, DoesClientLine, DoesUserLine, Drawing, Entry}
-pub use Rattle.nit_rounds.specs.Terms.{File, Fill, FitsInputLine, FitsInto, HasSession, HasStage}
-pub use Rattle.nit_rounds.specs.Terms.{HasTurn, InputLine, IsAtTurn, IsBehind, IsBehindBy, IsButFor}
-pub use Rattle.nit_rounds.specs.Terms.{IsDonation, IsDrawn, IsDrawnPicture, IsGlass, IsLegal}
-pub use Rattle.nit_rounds.specs.Terms.{IsLoaded, IsMember, IsMoved, IsNonDecreasing, IsOpen}
-pub use Rattle.nit_rounds.specs.Terms.{IsPaintedTo, IsPlanOf, IsPlanned, IsRecorded, IsSetUp}
-pub use Rattle.nit_rounds.specs.Terms.{IsShowing, IsUnderWay, IsUserRecorded, IsUtf8, IsWhole}
-pub use Rattle.nit_rounds.specs.Terms.{IsWordOfSource, LegalFrom, Line, LinePlace, LineTurn, Motion}
-pub use Rattle.nit_rounds.specs.Terms.{None, NoneHas, Option, Painted, PixelSource, Place, Places}
-pub use Rattle.nit_rounds.specs.Terms.{PlanModel, Point, PutState, PutsAll, PutsNext, Refresh}
-pub use Rattle.nit_rounds.specs.Terms.{Reply, Routed, SceneModel, Shoots, ShotFrame, ShotsBehind}
-pub use Rattle.nit_rounds.specs.Terms.{ShowsEach, ShowsLine, Sight, Size, Some, Stale, StandsAt}
-pub use Rattle.nit_rounds.specs.Terms.{State, Step, Stroke, Turn, User, UserAction, View, Word}
-pub use Rattle.nit_rounds.specs.Terms.{action_of, actions_of_line, actions_of_turns, actors, after}
-pub use Rattle.nit_rounds.specs.Terms.{after_turn, all_rounds, bar_rows, bare_word, buffer_size}
-pub use Rattle.nit_rounds.specs.Terms.{calls_from, calls_of, calls_to_make, clients_from, decimal}
-pub use Rattle.nit_rounds.specs.Terms.{dirty, donation_of, done, done_after, drawn, drawn_by_shot}
-pub use Rattle.nit_rounds.specs.Terms.{drawn_shot, ends_phase, entry_of, first_state, flat_map}
-pub use Rattle.nit_rounds.specs.Terms.{frame, frame_of, glass_after, glass_in, glasses_of_call}
-pub use Rattle.nit_rounds.specs.Terms.{greatest, in_bar, in_phase, input_by_user, input_lines_of}
-pub use Rattle.nit_rounds.specs.Terms.{is_active, is_between, is_in_area, is_input_phase}
-pub use Rattle.nit_rounds.specs.Terms.{is_number_in, is_phase, is_set_by, is_stale, left, left_at}
-pub use Rattle.nit_rounds.specs.Terms.{lefts, length, line_by, lines_of, next_phase, next_shot}
-pub use Rattle.nit_rounds.specs.Terms.{no_sight, opening_drawing, option_map, phase_count}
-pub use Rattle.nit_rounds.specs.Terms.{phase_rounds, phases, phases_along, picture_of, pixel}
-pub use Rattle.nit_rounds.specs.Terms.{pixel_count, plan_in, plan_of_script, put_state_of_desk}
+pub use Rattle.nit_rounds.specs.Terms.{AreRoundsOf, AreShotsOf, Bare, BeginsRounds, Buffer}
+pub use Rattle.nit_rounds.specs.Terms.{BufferArea, ByClient, ByUser, Call, Calls, CanDoUserLine}
+pub use Rattle.nit_rounds.specs.Terms.{CanDraw, Client, ClientPart, Configuration, Device, Does}
+pub use Rattle.nit_rounds.specs.Terms.{DoesClientLine, DoesUserLine, Drawing, Entry, File, Fill}
+pub use Rattle.nit_rounds.specs.Terms.{FitsInputLine, FitsInto, HasDrawn, HasSession, HasStage}
+pub use Rattle.nit_rounds.specs.Terms.{HasTurn, InputLine, IsAdded, IsAtTurn, IsBehind, IsBehindBy}
+pub use Rattle.nit_rounds.specs.Terms.{IsButFor, IsConfiguration, IsDonation, IsDrawn}
+pub use Rattle.nit_rounds.specs.Terms.{IsDrawnPicture, IsGlass, IsLegal, IsLoaded, IsMember}
+pub use Rattle.nit_rounds.specs.Terms.{IsMoved, IsNonDecreasing, IsOpen, IsPaintedTo, IsPlanOf}
+pub use Rattle.nit_rounds.specs.Terms.{IsPlanned, IsRecorded, IsSetUp, IsShowing, IsUnderWay}
+pub use Rattle.nit_rounds.specs.Terms.{IsUserRecorded, IsUtf8, IsWhole, IsWordOfSource, LegalFrom}
+pub use Rattle.nit_rounds.specs.Terms.{Line, LinePlace, LineTurn, Motion, None, NoneHas, Option}
+pub use Rattle.nit_rounds.specs.Terms.{Painted, PixelSource, Place, Places, PlanModel, Point}
+pub use Rattle.nit_rounds.specs.Terms.{PutState, PutsAll, PutsNext, Refresh, Reply, Routed}
+pub use Rattle.nit_rounds.specs.Terms.{SceneModel, Shoots, ShotFrame, ShotsBehind, ShowsEach}
+pub use Rattle.nit_rounds.specs.Terms.{ShowsLine, Sight, Size, Some, Stale, StandsAt, State, Step}
+pub use Rattle.nit_rounds.specs.Terms.{Stroke, Turn, User, UserAction, View, Word, action_of}
+pub use Rattle.nit_rounds.specs.Terms.{actions_of_line, actions_of_turns, actors, after, after_turn}
+pub use Rattle.nit_rounds.specs.Terms.{all_rounds, bar_rows, bare_word, buffer_size, calls_from}
+pub use Rattle.nit_rounds.specs.Terms.{calls_of, calls_to_make, clients_from, decimal, donation_of}
+pub use Rattle.nit_rounds.specs.Terms.{done, done_after, drawn, drawn_by_shot, drawn_shot}
+pub use Rattle.nit_rounds.specs.Terms.{ends_phase, entry_of, first_state, flat_map, glass_after}
+pub use Rattle.nit_rounds.specs.Terms.{glass_in, glasses_of_call, greatest, in_bar, in_phase}
+pub use Rattle.nit_rounds.specs.Terms.{input_by_user, input_lines_of, is_active, is_between}
+pub use Rattle.nit_rounds.specs.Terms.{is_in_area, is_input_phase, is_number_in, is_phase}
+pub use Rattle.nit_rounds.specs.Terms.{is_set_by, is_stale, left, left_at, lefts, length, line_by}
+pub use Rattle.nit_rounds.specs.Terms.{lines_of, next_phase, next_shot, no_sight, opening_drawing}
+pub use Rattle.nit_rounds.specs.Terms.{option_map, phase_count, phase_rounds, phases, phases_along}
+pub use Rattle.nit_rounds.specs.Terms.{picture_of, pixel, pixel_count, plan_in, plan_of_script}
 pub use Rattle.nit_rounds.specs.Terms.{range_with_len, replay, replay_from, rest_of_phase, round}
-pub use Rattle.nit_rounds.specs.Terms.{rounds, route, routed_as, scenery_of, script_in, script_of}
-pub use Rattle.nit_rounds.specs.Terms.{seen, serve, session, set_where, settled, shoots, shot_file}
-pub use Rattle.nit_rounds.specs.Terms.{shot_name, shots, shots_after, shots_of, slice_get}
-pub use Rattle.nit_rounds.specs.Terms.{slice_index_or, source_at, source_under, state_after}
-pub use Rattle.nit_rounds.specs.Terms.{state_now, static, step_of, stepped, table_size}
-pub use Rattle.nit_rounds.specs.Terms.{tables_after, take, takes_place, to_do, told_at, turn_by}
-pub use Rattle.nit_rounds.specs.Terms.{turn_of, turns_before, turns_from, turns_left, turns_of}
-pub use Rattle.nit_rounds.specs.Terms.{user_actions_from, user_actions_of, user_actions_to_do}
-pub use Rattle.nit_rounds.specs.Terms.{with_words, word_after_entry, word_from, words_after, zeros}
+pub use Rattle.nit_rounds.specs.Terms.{rounds, route, routed_as, script_in, script_of, seen, serve}
+pub use Rattle.nit_rounds.specs.Terms.{session, set_where, settled, shoots, shot_file, shot_name}
+pub use Rattle.nit_rounds.specs.Terms.{shots, shots_after, shots_of, slice_get, slice_index_or}
+pub use Rattle.nit_rounds.specs.Terms.{source_under, state_after, state_now, static, step_of}
+pub use Rattle.nit_rounds.specs.Terms.{stepped, table_size, tables_after, take, takes_place, to_do}
+pub use Rattle.nit_rounds.specs.Terms.{told_at, turn_by, turn_of, turns_before, turns_from}
+pub use Rattle.nit_rounds.specs.Terms.{turns_left, turns_of, user_actions_from, user_actions_of}
+pub use Rattle.nit_rounds.specs.Terms.{user_actions_to_do, with_words, word_after_entry, word_from}
+pub use Rattle.nit_rounds.specs.Terms.{words_after, zeros}
 pub use Rattle.nit_word.proofs.ForCallers.{before_row, no_ink, same_set, set_long, word_at, zero_at}
 pub use Rattle.std.proofs.Common.{Bool, List, [], add-one, add-zero, ap, append-nil, append_assoc}
 pub use Rattle.std.proofs.Common.{ap₂, arith, codes, cond, count_by, drop, drop-drop, drop-set-lt}
@@ -53,7 +54,7 @@ pub use Rattle.std.proofs.Common.{le_of_eq, le_trans, length-append, length-drop
 pub use Rattle.std.proofs.Common.{refl, replicate, set, slice_index, subst, suc, sym, take_at, true}
 pub use Rattle.std.proofs.Common.{zero, zero-add, ℕ, ◌∙◌}
 pub use Rattle.std.proofs.Math.Nat.{mul-le-mul_right}
-pub use Rattle.std.proofs.lemmas.Bool.{cases_Bool, cases_eq, cases_lt, eq-eqb, eqb-true, ne_eqb}
+pub use Rattle.std.proofs.lemmas.Bool.{cases_eq, cases_lt, cond_both, eq-eqb, eqb-true, ne_eqb}
 pub use Rattle.std.proofs.lemmas.Bool.{or_parts}
 pub use Rattle.std.proofs.lemmas.Bool.Decides.{nat_tests}
 pub use Rattle.std.proofs.lemmas.Fmt.{IsAscii-decimal}
@@ -63,7 +64,7 @@ pub use Rattle.std.proofs.lemmas.List.{length-map, length-take-le, length_push, 
 pub use Rattle.std.proofs.lemmas.List.{nil_from_length, set-get_or, set-set, take_more}
 pub use Rattle.std.proofs.lemmas.List.{take_more_set}
 pub use Rattle.std.proofs.lemmas.List.Concat.{flat_map-append}
-pub use Rattle.std.proofs.lemmas.List.Elements.{All-get_or}
+pub use Rattle.std.proofs.lemmas.List.Elements.{All-from_recursion, All-get_or}
 pub use Rattle.std.proofs.lemmas.List.Folds.{flat_map-map}
 pub use Rattle.std.proofs.lemmas.List.FromFn.{get_or-map-range_with_len, get_or-range_with_len}
 pub use Rattle.std.proofs.lemmas.List.FromFn.{length-range_with_len}

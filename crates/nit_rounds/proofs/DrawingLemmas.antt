@@ -5,7 +5,7 @@ use Rattle.nit_rounds.proofs.Basics.{IsBehind, IsBehindBy, IsButFor, IsDrawn, Is
 use Rattle.nit_rounds.proofs.Basics.{IsWordOfSource, Line, LineTurn, List, None, Option}
 use Rattle.nit_rounds.proofs.Basics.{PixelSource, PutState, PutsAll, PutsNext, SceneModel}
 use Rattle.nit_rounds.proofs.Basics.{ShotFrame, ShowsEach, ShowsLine, Sight, Some, Stale, State}
-use Rattle.nit_rounds.proofs.Basics.{Stroke, Word, [], above, add-zero, after, after_turn, alike}
+use Rattle.nit_rounds.proofs.Basics.{Stroke, Word, [], above, add-zero, after_turn, alike}
 use Rattle.nit_rounds.proofs.Basics.{before_row, changed, donation_of, done_after, drawn_shot}
 use Rattle.nit_rounds.proofs.Basics.{entry_of, ext_get_or, false, fold-append, for_any}
 use Rattle.nit_rounds.proofs.Basics.{get_or-map-range_with_len, get_or-set_same, get_or_past}

@@ -1,23 +1,20 @@
 -- A line, done: what stays of the scene, and what is recorded.
 use Rattle.nit_rounds.proofs.Basics.{AreQuiet, AreQuietBut, BufferArea, ByClient, ByUser, Call}
-use Rattle.nit_rounds.proofs.Basics.{CanDoUserLine, Device, DoesClientLine, DoesUserLine, Entry}
-use Rattle.nit_rounds.proofs.Basics.{FitsInto, HasSession, HasStage, IsBehind, IsButFor, IsGlass}
-use Rattle.nit_rounds.proofs.Basics.{IsMoved, IsOpen, IsPaintedTo, IsUserRecorded, Line, List, None}
-use Rattle.nit_rounds.proofs.Basics.{Option, Painted, Reply, Routed, SceneModel, Sight, Some, Stale}
-use Rattle.nit_rounds.proofs.Basics.{Step, WereSeen, [], after, ap₂, arith, cases_eq, donation_of}
-use Rattle.nit_rounds.proofs.Basics.{entry_of, eq-eqb, ext_get_or, false, fold-append, get_or}
-use Rattle.nit_rounds.proofs.Basics.{get_or-set_other, get_or-set_same, get_or_from_slice_get}
-use Rattle.nit_rounds.proofs.Basics.{glass_after, glass_in, glasses_of_call, inl, inr, is_in_area}
-use Rattle.nit_rounds.proofs.Basics.{is_number_in, is_set_by, is_stale, length, length-map}
-use Rattle.nit_rounds.proofs.Basics.{mul-le-mul_right, nat_tests, ne_eqb, no_sight, or_parts}
-use Rattle.nit_rounds.proofs.Basics.{plan_of_script, refl, same_Some, seen, shots, slice_index}
-use Rattle.nit_rounds.proofs.Basics.{state_now, static, step_of, subst, sym, table_size, with_words}
-use Rattle.nit_rounds.proofs.Basics.{word_inked, words_after}
+use Rattle.nit_rounds.proofs.Basics.{CanDoUserLine, CanDraw, ClientPart, Device, DoesClientLine}
+use Rattle.nit_rounds.proofs.Basics.{DoesUserLine, Entry, FitsInto, HasDrawn, HasSession, HasStage}
+use Rattle.nit_rounds.proofs.Basics.{IsAdded, IsBehind, IsButFor, IsGlass, IsMoved, IsOpen}
+use Rattle.nit_rounds.proofs.Basics.{IsPaintedTo, IsUserRecorded, Line, List, None, Option, Painted}
+use Rattle.nit_rounds.proofs.Basics.{Reply, Routed, SceneModel, Sight, Some, Stale, Step, WereSeen}
+use Rattle.nit_rounds.proofs.Basics.{[], after, ap₂, arith, cases_eq, donation_of, entry_of, eq-eqb}
+use Rattle.nit_rounds.proofs.Basics.{ext_get_or, false, fold-append, get_or, get_or-set_other}
+use Rattle.nit_rounds.proofs.Basics.{get_or-set_same, get_or_from_slice_get, glass_after, glass_in}
+use Rattle.nit_rounds.proofs.Basics.{glasses_of_call, inl, inr, is_in_area, is_number_in, is_set_by}
+use Rattle.nit_rounds.proofs.Basics.{is_stale, length, length-map, mul-le-mul_right, nat_tests}
+use Rattle.nit_rounds.proofs.Basics.{ne_eqb, no_sight, or_parts, plan_of_script, refl, same_Some}
+use Rattle.nit_rounds.proofs.Basics.{seen, shots, slice_index, state_now, static, step_of, subst}
+use Rattle.nit_rounds.proofs.Basics.{sym, table_size, with_words, word_inked, words_after}
 use Rattle.std.proofs.Common.{IfSome, length-append, length-set, map, map-id, set, slice_get, ℕ}
 use Rattle.std.proofs.Common.{◌%◌, ◌*◌, ◌++◌, ◌+◌, ◌-◌, ◌/◌, ◌<◌, ◌||◌, ◌∙◌, ◌∷◌, ◌≡◌, ◌≢◌, ◌≤◌}
-use Rattle.nit_rounds.specs.declared.part.ClientPart.{ClientPart}
-use Rattle.nit_scene.specs.Scene.{IsAdded}
-use Rattle.nit_rounds.specs.LineDrawing.{CanDraw, HasDrawn}
 use Rattle.nit_rounds.proofs.DrawingLemmas.{but_none, with_glass_of}
 use Rattle.nit_events.specs.declared.entry.Entry.TheVariants as entry
 use Rattle.nit_script.specs.declared.line.InputLine.TheVariants as input

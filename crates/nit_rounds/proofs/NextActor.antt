@@ -1,17 +1,16 @@
 -- How the actors begin, all at their first lines, and how they go on: to the next one with a line to do, into a new
 -- round, into a new phase.
-use Rattle.std.proofs.lemmas.Bool.Decides.{nat_tests}
 use Rattle.nit_rounds.proofs.Basics.{ActorLine, ArePlaces, Bool, ByClient, ByUser, HasTurn}
 use Rattle.nit_rounds.proofs.Basics.{InputLine, IsAtTurn, Line, LinePlace, LineTurn, List, NoneHas}
 use Rattle.nit_rounds.proofs.Basics.{Places, Some, [], actors, add-one, ap, arith, cases_eq}
 use Rattle.nit_rounds.proofs.Basics.{cases_lt, ends_phase, flat_map, get_or, get_or-map}
 use Rattle.nit_rounds.proofs.Basics.{get_or-replicate, get_or-set_other, get_or-set_same, in_phase}
 use Rattle.nit_rounds.proofs.Basics.{inl, inr, left_at, lefts, length, length-map, length-set, map}
-use Rattle.nit_rounds.proofs.Basics.{phase_count, phase_rounds, range_with_len, refl, replicate}
-use Rattle.nit_rounds.proofs.Basics.{rounds, script_of, slice_get-get_or, stepped, suc, turn_by}
-use Rattle.nit_rounds.proofs.Basics.{turns_left, turns_of}
+use Rattle.nit_rounds.proofs.Basics.{nat_tests, phase_count, phase_rounds, range_with_len, refl}
+use Rattle.nit_rounds.proofs.Basics.{replicate, rounds, script_of, slice_get-get_or, stepped, suc}
+use Rattle.nit_rounds.proofs.Basics.{turn_by, turns_left, turns_of}
 use Rattle.nit_rounds.specs.Places.{left_from}
-use Rattle.std.proofs.Common.{set, slice_get, zero, ℕ, ◌+◌, ◌-◌, ◌<◌, ◌∙◌, ◌∷◌, ◌≡◌, ◌≤◌}
+use Rattle.std.proofs.Common.{set, slice_get, zero, ℕ, ◌+◌, ◌<◌, ◌∙◌, ◌∷◌, ◌≡◌, ◌≤◌}
 use Rattle.nit_rounds.proofs.PlaceLemmas.{active_parts, actors_long, below, get_lefts, idle}
 use Rattle.nit_rounds.proofs.PlaceLemmas.{left_first, lefts_long, not_in_phase, nothing_more}
 use Rattle.nit_rounds.proofs.PlaceLemmas.{phase_stands, script_client, script_user, set_lefts}

@@ -1,18 +1,16 @@
 -- Rounds one after the other: each takes the first move of each actor. What of them is one actor's: its moves in order,
 -- each once.
-use Rattle.std.proofs.lemmas.Bool.Decides.{nat_tests}
 use Rattle.nit_rounds.proofs.Basics.{ActorLine, AllByRecursion, LineTurn, List, [], add-one}
 use Rattle.nit_rounds.proofs.Basics.{all_rounds, ap, append-nil, append_assoc, arith, cases_eq}
-use Rattle.nit_rounds.proofs.Basics.{cond, drop, drop-drop, drop-set-lt, drop_all, drop_more}
-use Rattle.nit_rounds.proofs.Basics.{ends_phase, eq-eqb, flat_map, flat_map-append, flat_map-map}
-use Rattle.nit_rounds.proofs.Basics.{get_or, get_or_past, greatest, in_phase, inl, inr, length}
-use Rattle.nit_rounds.proofs.Basics.{length-drop, length-map, map, map-set, ne_eqb, nil_from_length}
-use Rattle.nit_rounds.proofs.Basics.{phase_rounds, range_with_len, refl, rest_of_phase, round, set}
-use Rattle.nit_rounds.proofs.Basics.{set-get_or, subst, suc, sym, take, take_more, take_more_set}
-use Rattle.nit_rounds.proofs.Basics.{turns_from, zero, ℕ, ◌∙◌}
+use Rattle.nit_rounds.proofs.Basics.{cond, cond_both, drop, drop-drop, drop-set-lt, drop_all}
+use Rattle.nit_rounds.proofs.Basics.{drop_more, ends_phase, eq-eqb, flat_map, flat_map-append}
+use Rattle.nit_rounds.proofs.Basics.{flat_map-map, get_or, get_or_past, greatest, in_phase, inl}
+use Rattle.nit_rounds.proofs.Basics.{inr, length, length-drop, length-map, map, map-set, nat_tests}
+use Rattle.nit_rounds.proofs.Basics.{ne_eqb, nil_from_length, phase_rounds, range_with_len, refl}
+use Rattle.nit_rounds.proofs.Basics.{rest_of_phase, round, set, set-get_or, subst, suc, sym, take}
+use Rattle.nit_rounds.proofs.Basics.{take_more, take_more_set, turns_from, zero, ℕ, ◌∙◌}
 use Rattle.std.proofs.Common.{map-id, take-append-drop, take_all, ◌++◌, ◌+◌, ◌-◌, ◌<◌, ◌∷◌, ◌≡◌}
 use Rattle.std.proofs.Common.{◌≢◌, ◌≤◌}
-use Rattle.std.proofs.lemmas.Bool.{cond_both}
 use Rattle.nit_rounds.specs.Places.{left_from}
 
 -- lists of at most n moves

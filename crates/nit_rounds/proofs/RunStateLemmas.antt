@@ -1,32 +1,31 @@
 -- A run that is under way: how it begins, and what one turn does.
-use Rattle.std.proofs.lemmas.Bool.Decides.{nat_tests}
-use Rattle.nit_rounds.proofs.Basics.{Action, ActorLine, Acts, All-get_or, AllByRecursion, AreQuiet}
-use Rattle.nit_rounds.proofs.Basics.{AreRaw, Bare, Bool, ByClient, ByUser, Call, Calls}
+use Rattle.nit_rounds.proofs.Basics.{Action, ActorLine, Acts, All-from_recursion, All-get_or}
+use Rattle.nit_rounds.proofs.Basics.{AllByRecursion, AreQuiet, AreQuietBut, AreRaw, Bare}
+use Rattle.nit_rounds.proofs.Basics.{BeginsRounds, Bool, ByClient, ByUser, Call, Calls}
 use Rattle.nit_rounds.proofs.Basics.{CanDoUserLine, Configuration, Does, DoesClientLine}
 use Rattle.nit_rounds.proofs.Basics.{DoesUserLine, Drawing, Entry, FitsInputLine, InputLine}
-use Rattle.nit_rounds.proofs.Basics.{IsDonation, IsMember, IsMoved, IsOpen, IsPlanOf, IsPlanned}
-use Rattle.nit_rounds.proofs.Basics.{IsRecorded, IsSetUp, IsShowing, IsUnderWay, IsUserRecorded}
-use Rattle.nit_rounds.proofs.Basics.{Line, LineTurn, List, None, Option, PlanModel, Point}
-use Rattle.nit_rounds.proofs.Basics.{SceneModel, Shoots, ShotFrame, ShowsEach, ShowsLine, Sight}
-use Rattle.nit_rounds.proofs.Basics.{Size, Some, Turn, View, [], action_of, actions_of_line}
-use Rattle.nit_rounds.proofs.Basics.{actions_of_turns, add-zero, after_turn, ap, append-nil}
-use Rattle.nit_rounds.proofs.Basics.{append_assoc, arith, bar_rows, buffer_size, cases_eq, cond}
-use Rattle.nit_rounds.proofs.Basics.{donation_of, done_after, drawn, drawn_shot, drop, entry_of}
-use Rattle.nit_rounds.proofs.Basics.{false, first_state, flat_map-append, get_or, get_or-set_other}
-use Rattle.nit_rounds.proofs.Basics.{get_or-set_same, get_or_default, get_or_from_slice_get}
-use Rattle.nit_rounds.proofs.Basics.{get_or_past, glass_after, glass_in, in_bar, inl, inr, length}
-use Rattle.nit_rounds.proofs.Basics.{length-append, length-map, length-set, length-take-le, line_by}
-use Rattle.nit_rounds.proofs.Basics.{lines_of, map, map-append, no_sight, option_map, pixel}
-use Rattle.nit_rounds.proofs.Basics.{plan_in, refl, rounds, same_Some, script_in, set, settled}
-use Rattle.nit_rounds.proofs.Basics.{shots, shots_after, slice_get, slice_get_within, source_under}
-use Rattle.nit_rounds.proofs.Basics.{state_now, takes_place, turn_by, turn_of}
-use Rattle.std.proofs.lemmas.List.Elements.{All-from_recursion}
+use Rattle.nit_rounds.proofs.Basics.{IsConfiguration, IsDonation, IsMember, IsMoved, IsOpen}
+use Rattle.nit_rounds.proofs.Basics.{IsPlanOf, IsPlanned, IsRecorded, IsSetUp, IsShowing}
+use Rattle.nit_rounds.proofs.Basics.{IsUnderWay, IsUserRecorded, Line, LineTurn, List, None, Option}
+use Rattle.nit_rounds.proofs.Basics.{PlanModel, Point, SceneModel, Shoots, ShotFrame, ShowsEach}
+use Rattle.nit_rounds.proofs.Basics.{ShowsLine, Sight, Size, Some, Turn, View, [], action_of}
+use Rattle.nit_rounds.proofs.Basics.{actions_of_line, actions_of_turns, add-zero, after_turn, ap}
+use Rattle.nit_rounds.proofs.Basics.{append-nil, append_assoc, arith, bar_rows, buffer_size}
+use Rattle.nit_rounds.proofs.Basics.{cases_eq, cond, donation_of, done_after, drawn, drawn_shot}
+use Rattle.nit_rounds.proofs.Basics.{drop, entry_of, false, first_state, flat_map-append, get_or}
+use Rattle.nit_rounds.proofs.Basics.{get_or-set_other, get_or-set_same, get_or_default}
+use Rattle.nit_rounds.proofs.Basics.{get_or_from_slice_get, get_or_past, glass_after, glass_in}
+use Rattle.nit_rounds.proofs.Basics.{in_bar, inl, inr, length, length-append, length-map}
+use Rattle.nit_rounds.proofs.Basics.{length-set, length-take-le, line_by, lines_of, map, map-append}
+use Rattle.nit_rounds.proofs.Basics.{nat_tests, no_sight, option_map, pixel, plan_in, refl, rounds}
+use Rattle.nit_rounds.proofs.Basics.{same_Some, script_in, set, settled, shots, shots_after}
+use Rattle.nit_rounds.proofs.Basics.{slice_get, slice_get_within, source_under, state_now}
+use Rattle.nit_rounds.proofs.Basics.{takes_place, turn_by, turn_of}
 use Rattle.std.proofs.Common.{sym, true, zero-add, ℕ, ◌++◌, ◌+◌, ◌<◌, ◌∙◌, ◌∷◌, ◌≡◌, ◌≤◌}
 use Rattle.nit_rounds.proofs.DrawingLemmas.{TellDone, done_more, drawn_more, moved_on, none_drawn}
 use Rattle.nit_rounds.proofs.DrawingLemmas.{shows_drawn, tables_told}
 use Rattle.nit_rounds.proofs.ShotFiles.{device_shots, line_shots, shot_counted}
 use Rattle.nit_rounds.proofs.LinesDone.{client_done, other_line, own_line, user_done}
-use Rattle.nit_events.specs.declared.entry.Entry.TheVariants as entry
 use Rattle.nit_rounds.specs.declared.turn.Turn.TheVariants as turn
 use Rattle.nit_script.specs.declared.line.InputLine.TheVariants as input
 use Rattle.nit_script.specs.declared.line.Line.TheVariants as line
@@ -281,7 +280,7 @@ ComesNext {V = V} Fits Shows scripts lines s owns last t = (before : SceneModel 
 
 -- all that a client's line asks for, once what is stale of others was copied: the scene's glasses are the own ones,
 -- but for that of the session
-pub may_do : {V : Type 0} {Fits : ℕ → ℕ → V → Type 0} {Shows : ShotFrame → V → V → Type 0} {scripts : List (List Line)}
+may_do : {V : Type 0} {Fits : ℕ → ℕ → V → Type 0} {Shows : ShotFrame → V → V → Type 0} {scripts : List (List Line)}
     {lines : List InputLine} {plans : List PlanModel} {owns : List Sight} {last : V} {t : Turn} {sid number : ℕ}
     {s' : SceneModel Sight} (s : SceneModel Sight) → IsPlanned s.config scripts plans
     → ComesNext Fits Shows scripts lines s owns last t → s' ≡ record s { glasses = s'.glasses }
@@ -332,11 +331,11 @@ one_act (input.Device dev) takes = (Acts (Does dev), refl)
 one_act input.Shot takes = (Acts Shoots, refl)
 one_act input.Phase takes = absurd (cc)
 
-pub users_turn : {V : Type 0} {Fits : ℕ → ℕ → V → Type 0} {Shows : ShotFrame → V → V → Type 0}
+may_do_user : {V : Type 0} {Fits : ℕ → ℕ → V → Type 0} {Shows : ShotFrame → V → V → Type 0}
     {scripts : List (List Line)} {lines : List InputLine} {owns : List Sight} {last : V} {t : Turn} {number : ℕ}
     (s s' : SceneModel Sight) → ComesNext Fits Shows scripts lines s owns last t → s' ≡ settled s owns
     → t ≡ turn.User number → MayDoUserLine lines s' number
-users_turn {lines = lines} {number = number} s s' (before, m, left, first, p, of, room) same is =
+may_do_user {lines = lines} {number = number} s s' (before, m, left, first, p, of, room) same is =
     let w = rw (← same) at p.way in
     let move = users_move w _ (of ∙ is) in
     record {
@@ -359,3 +358,34 @@ pub front_move : (moves rest : List LineTurn) (result : Option Turn) (t : Turn)
     → (m : LineTurn) × (moves ≡ m ∷ rest) × (turn_of m ≡ t)
 front_move [] rest result t next left some = absurd (let e : None ≡ Some t = sym next ∙ some in cc)
 front_move (m ∷ moves) rest result t next left some = grind (arith, nat_tests)
+
+module _ {V : Type 0} {Fits : ℕ → ℕ → V → Type 0} {Shows : ShotFrame → V → V → Type 0} {scripts : List (List Line)}
+    {lines : List InputLine} {plans : List PlanModel} {before : SceneModel Sight} {owns opened : List Sight}
+    {moves rest : List LineTurn} {first last : V} {result : Option Turn} {t : Turn} (s : SceneModel Sight)
+    (next : result ≡ option_map turn_of (slice_get moves 0)) (left : rest ≡ drop 1 moves) (is : result ≡ Some t)
+    (p : IsShowing Fits Shows scripts lines before (settled s owns) owns moves first last)
+    (begins : BeginsRounds scripts plans lines before opened) (s' : SceneModel Sight) where
+  -- the next turn of a run that began so
+  comes_next : ComesNext Fits Shows scripts lines s owns last t
+  comes_next =
+      let (m, front, of) = front_move moves rest result t next left is in
+      (before, m, rest, first, rw front at p, of, begins.spare)
+
+  -- a client's
+  pub clients_turn : {sid number : ℕ} → IsConfiguration before.config → s' ≡ record s { glasses = s'.glasses }
+      → t ≡ turn.Client sid number → MayDoLine scripts plans (settled s' owns) owns sid number
+  clients_turn configured same of = may_do s (rw p.way.config (record {
+    configured = configured;
+    sessions = begins.set_up.sessions;
+    plans_each = begins.set_up.plans_each;
+    planned = begins.set_up.planned;
+  })) comes_next same of
+
+  pub others_quiet : (sid : ℕ) → set s'.glasses sid (glass_in owns sid) ≡ owns → AreQuietBut sid s'.glasses
+  others_quiet sid same u other =
+      let (b, m, l, f, p', of, room) = comes_next in
+      rw (← get_or-set_other s'.glasses sid u (glass_in owns sid) no_sight other, same) (quiet_now p'.way u)
+
+  -- the user's
+  pub users_turn : {number : ℕ} → s' ≡ settled s owns → t ≡ turn.User number → MayDoUserLine lines s' number
+  users_turn same of = may_do_user s s' comes_next same of

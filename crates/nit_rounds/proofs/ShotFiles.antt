@@ -1,6 +1,5 @@
 -- What is drawn is in the state that the journal of the same moves leads to, and the files of a run's shots, shot by
 -- shot along its journal.
-use Rattle.std.proofs.lemmas.Bool.Decides.{nat_tests}
 use Rattle.nit_rounds.proofs.Basics.{Action, ActorLine, AreRoundsOf, AreShotsOf, ByClient, ByUser}
 use Rattle.nit_rounds.proofs.Basics.{Configuration, Device, Drawing, Entry, File, InputLine}
 use Rattle.nit_rounds.proofs.Basics.{IsDrawnPicture, IsLegal, IsRecorded, IsUserRecorded, LegalFrom}
@@ -8,9 +7,9 @@ use Rattle.nit_rounds.proofs.Basics.{Line, LineTurn, ShotFrame, ShotsBehind, Som
 use Rattle.nit_rounds.proofs.Basics.{actions_of_line, actions_of_turns, after, after_turn}
 use Rattle.nit_rounds.proofs.Basics.{append-nil, append_assoc, cond, drawn_by_shot, drawn_shot}
 use Rattle.nit_rounds.proofs.Basics.{entry_of, first_state, fold-append, length, length_push}
-use Rattle.nit_rounds.proofs.Basics.{map-append, opening_drawing, picture_of, replay, replay_from}
-use Rattle.nit_rounds.proofs.Basics.{rounds, route, routed_as, serve, session, shoots, shot_file}
-use Rattle.nit_rounds.proofs.Basics.{shot_name, shots, shots_after, shots_of, slice_get}
+use Rattle.nit_rounds.proofs.Basics.{map-append, nat_tests, opening_drawing, picture_of, replay}
+use Rattle.nit_rounds.proofs.Basics.{replay_from, rounds, route, routed_as, serve, session, shoots}
+use Rattle.nit_rounds.proofs.Basics.{shot_file, shot_name, shots, shots_after, shots_of, slice_get}
 use Rattle.nit_rounds.proofs.Basics.{state_after, suc, true, turns_before, zero}
 use Rattle.std.proofs.Common.{List, [], add-zero, ap, arith, fold, map, refl, sym, zero-add, ℕ}
 use Rattle.std.proofs.Common.{◌++◌, ◌+◌, ◌∙◌, ◌∷◌, ◌≡◌}

@@ -3,17 +3,16 @@ use Rattle.nit_rounds.proofs.Basics.{Action, ActorLine, AllByRecursion, AreRound
 use Rattle.nit_rounds.proofs.Basics.{ByUser, Call, Does, Entry, InputLine, IsNonDecreasing, IsWhole}
 use Rattle.nit_rounds.proofs.Basics.{Line, LineTurn, List, Shoots, UserAction, [], action_of}
 use Rattle.nit_rounds.proofs.Basics.{actions_of_line, actions_of_turns, actors, all_append, ap}
-use Rattle.nit_rounds.proofs.Basics.{arith, calls_from, calls_of, calls_to_make, done, drop, eq-eqb}
-use Rattle.nit_rounds.proofs.Basics.{eqb-true, false, flat_map, flat_map-append, get_or}
-use Rattle.nit_rounds.proofs.Basics.{get_or-set_other, get_or-set_same, get_or_past, in_phase}
-use Rattle.nit_rounds.proofs.Basics.{le_of_eq, le_trans, left, length, map, nat_tests, ne_eqb}
-use Rattle.nit_rounds.proofs.Basics.{next_phase, phase_count, phase_rounds, phases_along}
+use Rattle.nit_rounds.proofs.Basics.{arith, calls_from, calls_of, calls_to_make, cond_both, done}
+use Rattle.nit_rounds.proofs.Basics.{drop, eq-eqb, eqb-true, false, flat_map, flat_map-append}
+use Rattle.nit_rounds.proofs.Basics.{get_or, get_or-set_other, get_or-set_same, get_or_past}
+use Rattle.nit_rounds.proofs.Basics.{in_phase, le_of_eq, le_trans, left, length, map, nat_tests}
+use Rattle.nit_rounds.proofs.Basics.{ne_eqb, next_phase, phase_count, phase_rounds, phases_along}
 use Rattle.nit_rounds.proofs.Basics.{range_with_len, refl, round, rounds, set, subst, suc, sym}
 use Rattle.nit_rounds.proofs.Basics.{to_do, turns_from, turns_of, user_actions_from}
 use Rattle.nit_rounds.proofs.Basics.{user_actions_of, user_actions_to_do}
 use Rattle.std.proofs.Common.{if◌then◌else◌, take, true, zero, ℕ, ◌++◌, ◌+◌, ◌<◌, ◌==◌, ◌∙◌, ◌∷◌}
 use Rattle.std.proofs.Common.{◌≡◌, ◌≤◌}
-use Rattle.std.proofs.lemmas.Bool.{cond_both}
 use Rattle.nit_rounds.proofs.PlaceLemmas.{client_part, user_part}
 use Rattle.nit_events.specs.declared.entry.Entry.TheVariants as entry
 use Rattle.nit_script.specs.declared.line.Line.TheVariants as line

@@ -20,8 +20,7 @@ pub use Rattle.nit_paint.specs.Repaint.{IsWordOfSource, no_sight}
 pub use Rattle.nit_plan.specs.Calls.{calls_from, calls_to_make, user_actions_from}
 pub use Rattle.nit_plan.specs.Calls.{user_actions_to_do}
 pub use Rattle.nit_plan.specs.Plan.{IsPlanOf, PlanModel, is_set_by, plan_of_script, step_of}
-pub use Rattle.nit_plan.specs.ScriptWords.{Painting, blank, ink, painted_from, static, table_size}
-pub use Rattle.nit_plan.specs.ScriptWords.{words_after, words_left}
+pub use Rattle.nit_plan.specs.ScriptWords.{ink, static, table_size, words_after, words_left}
 pub use Rattle.nit_plan.specs.SessionLists.{plan_in, script_in}
 pub use Rattle.nit_plan.specs.Strokes.{is_in_area}
 pub use Rattle.nit_plan.specs.Surface.{IsPaintedTo}
@@ -39,9 +38,9 @@ pub use Rattle.nit_rounds.specs.declared.stale.Stale.{Stale}
 pub use Rattle.nit_rounds.specs.declared.turn.Turn.{Turn}
 pub use Rattle.nit_rounds.specs.declared.turn.Turn.TheVariants.{Client, User}
 pub use Rattle.nit_scene.specs.DirtyPixels.{dirty}
-pub use Rattle.nit_scene.specs.RawWords.{AreRaw, IsRawOf, Painted, glass_in, glasses_of_call}
-pub use Rattle.nit_scene.specs.RawWords.{pixel_count, source_at}
-pub use Rattle.nit_scene.specs.Scene.{SceneModel, state_now}
+pub use Rattle.nit_scene.specs.RawWords.{AreRaw, Painted, glass_in, glasses_of_call, pixel_count}
+pub use Rattle.nit_scene.specs.RawWords.{source_at}
+pub use Rattle.nit_scene.specs.Scene.{IsAdded, SceneModel, state_now}
 pub use Rattle.nit_scene.specs.Screen.{IsGlass}
 pub use Rattle.nit_scene.specs.StateScenery.{scenery_of}
 pub use Rattle.nit_script.specs.Grammar.{most_lines}
@@ -52,8 +51,7 @@ pub use Rattle.nit_script.specs.declared.line.Line.{Line}
 pub use Rattle.nit_script.specs.declared.line.Stroke.{Stroke}
 pub use Rattle.nit_script.specs.declared.line.Stroke.TheVariants.{Fill}
 pub use Rattle.nit_slots.specs.Account.{IsDonation}
-pub use Rattle.nit_stack.specs.Sources.{Bare, Black, PixelSource, Size, Word, in_bar, pixel}
-pub use Rattle.nit_stack.specs.Sources.{source_under}
+pub use Rattle.nit_stack.specs.Sources.{Bare, PixelSource, Size, Word, in_bar, pixel, source_under}
 pub use Rattle.nit_stack.specs.declared.view.View.{View}
 pub use Rattle.nit_store.specs.Puts.{PutRefusal, PutState, PutsAll, PutsFile, PutsNext, unrefused}
 pub use Rattle.nit_store.specs.Store.{File, StoreModel}

@@ -2,10 +2,10 @@
 -- of the shots with their pictures. It comes from the configuration and the scripts alone.
 use Rattle.std.specs.Prelude.{ℕ, ◌+◌, ◌==◌, List, [], ◌∷◌, ◌++◌, length, map, fold, Option, Some}
 use Rattle.std.specs.Prelude.{None, if◌then◌else◌}
-use Rattle.nit_rounds.specs.Below.{Configuration, Entry, File, InputLine, Line, PutState, PutsAll}
-use Rattle.nit_rounds.specs.Below.{State, after, bare_word, dirty, donation_of, first_state, frame}
-use Rattle.nit_rounds.specs.Below.{picture, pixel, route, routed_as, scenery_of, script_in, serve}
-use Rattle.nit_rounds.specs.Below.{session, source_at, words_after}
+use Rattle.nit_rounds.specs.Below.{Configuration, Entry, File, InputLine, Line, State, after}
+use Rattle.nit_rounds.specs.Below.{bare_word, dirty, donation_of, first_state, frame, picture}
+use Rattle.nit_rounds.specs.Below.{pixel, route, routed_as, scenery_of, script_in, serve, session}
+use Rattle.nit_rounds.specs.Below.{source_at, words_after}
 use Rattle.nit_events.specs.declared.entry.Entry.TheVariants as entry
 use Rattle.nit_script.specs.declared.line.Line.TheVariants as line
 use Rattle.nit_script.specs.declared.line.InputLine.TheVariants as input
@@ -110,9 +110,3 @@ shot_frames_of config scripts lines = (drawn config scripts (rounds scripts line
 -- their pictures: shot-1.ppm and so on
 abbrev pub shots_of : Configuration → List (List Line) → List InputLine → List File
 shots_of config scripts lines = map shot_file (shot_frames_of config scripts lines)
-
--- the pictures of the shots among these moves were put
-abbrev pub PutsShots : Configuration → List (List Line) → List LineTurn → PutState → PutState
-    → Type 0
-PutsShots config scripts moves old new =
-    PutsAll (map shot_file (drawn config scripts moves).shots) old new

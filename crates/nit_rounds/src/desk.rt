@@ -14,7 +14,7 @@ use nit_store::{PutError, Store};
 use nit_word::Inked;
 
 /// The most bytes that the name of a shot's picture has.
-const NAME_BYTES: usize = 19;
+pub const SHOT_NAME_BYTES: usize = 19;
 
 /// The name of a picture of a run.
 #[derive(Clone, Copy, Debug)]
@@ -122,16 +122,17 @@ fn put_shot<S: Store>(store: &mut S, number: u32, bytes: &[u8]) -> Option<PutErr
     ensures { PutsFile (shot_name number, bytes.now) (unrefused (S.shown store.old))
         (put_state_of_desk (S.shown store.new) result (name.Shot number)) }
 {
-    let mut name = [0; NAME_BYTES];
-    let end = write_name(&mut name, number);
+    let mut name = [0; SHOT_NAME_BYTES];
+    let end = shot_name_into(&mut name, number);
     let Ok(name) = str::from_utf8(&name[..end]) else {
         unreachable!()
     };
     store.put(name, bytes).err()
 }
 
-/// Writes the name of the picture of a shot to the front of `out`, and answers where it ends.
-fn write_name(out: &mut [u8], shot: u32) -> usize
+/// Writes the name of the picture of the shot of this number to the front of `out`, which has 19
+/// bytes, and answers where it ends.
+pub fn shot_name_into(out: &mut [u8], shot: u32) -> usize
     requires { length out.old ≡ 19 }
     ensures end { result ≤ length out.new }
     ensures name { take result out.new ≡ shot_name shot }

@@ -10,9 +10,9 @@
 //! each line of every script stands in them once, an actor that does a line has done exactly those
 //! before it, and a journal with the entries of the rounds is whole.
 //!
-//! [`run_viewed`] does all of them on a scene, and shows the frames of the shots to a [`Viewer`].
-//! [`run_rounds`] does the same with a [`Desk`], which puts the pictures of these frames. What a
-//! shot shows is drawn from the configuration and the scripts alone, line by line.
+//! [`run_rounds`] does all of them on a scene, and shows the frames of the shots to a [`Viewer`]. A
+//! [`Desk`] is one, which puts the pictures of these frames. What a shot shows is drawn from the
+//! configuration and the scripts alone, line by line.
 //!
 //! Nothing here waits. What actors do on threads of their own is in `nit_actor`, whose user puts
 //! its shots by a desk too.
@@ -32,8 +32,8 @@ mod turn;
 mod turns;
 mod viewer;
 
-pub use desk::{Desk, PictureName};
-pub use running::{run_rounds, run_viewed};
+pub use desk::{Desk, PictureName, SHOT_NAME_BYTES, shot_name_into};
+pub use running::run_rounds;
 pub use turn::Turn;
 pub use turns::Turns;
 pub use viewer::Viewer;

@@ -1,17 +1,13 @@
 //! A run by rounds, on one thread.
 
-ghost use Rattle.std.specs.Prelude.{◌≡◌, ◌≤◌, ◌∷◌, [], List};
-ghost use Rattle.nit_rounds.specs.Terms.{AreBehind, AreQuietBut, BeginsRounds, CanDoUserLine};
-ghost use Rattle.nit_rounds.specs.Terms.{CanDraw, DoesClientLine, DoesUserLine, HasDrawn, IsOpen};
-ghost use Rattle.nit_rounds.specs.Terms.{IsPlanned, IsRoundsRun, IsSameDesk, IsShowing, Line};
-ghost use Rattle.nit_rounds.specs.Terms.{LineTurn, PutsShots, SceneModel, ShowsEach, ShowsLine};
-ghost use Rattle.nit_rounds.specs.Terms.{Sight, Some, actions_of_turns, glass_in, length};
-ghost use Rattle.nit_rounds.specs.Terms.{picture_length, put_state_of_desk, rounds, settled};
-ghost use Rattle.nit_rounds.specs.Terms.{shot_frames_of, slice_get, slice_set, turn_of};
+ghost use Rattle.std.specs.Prelude.{◌≡◌, ◌≤◌};
+ghost use Rattle.nit_rounds.specs.Terms.{AreQuietBut, BeginsRounds, CanDoUserLine, CanDraw};
+ghost use Rattle.nit_rounds.specs.Terms.{DoesClientLine, DoesUserLine, HasDrawn, IsOpen};
+ghost use Rattle.nit_rounds.specs.Terms.{IsRoundsRun, Line, ShowsEach, ShowsLine, Some, glass_in};
+ghost use Rattle.nit_rounds.specs.Terms.{shot_frames_of, slice_get, slice_set};
 ghost use Rattle.nit_events.specs.declared.call.Call.{Call as CallOf};
 ghost use Rattle.nit_script.specs.declared.line.Line.TheVariants as lines;
 
-use crate::desk::Desk;
 use crate::drawing::draw_line;
 use crate::laws::{each_line_once, lines_done, turns_tell};
 use crate::part::ClientPart;
@@ -24,7 +20,6 @@ use nit_journal::laws::one_more_entry;
 use nit_plan::laws::{buffer_within_table, one_more_line};
 use nit_scene::Scene;
 use nit_script::{InputLine, Line};
-use nit_store::Store;
 use nit_word::Inked;
 
 /// Does the line of this number of a client's script. Nothing is stale but of its session. What it
@@ -75,71 +70,17 @@ fn user_line<V: Viewer>(scene: &mut Scene<Inked>, line: &InputLine, viewer: &mut
     }
 }
 
-/// A turn of the rounds of these scripts.
-#[derive(Clone, Copy)]
-struct PartsTurn<'a> {
-    parts: &'a Parts<'a>,
-    turn: Turn,
-}
-
-/// Does the line of a turn.
-fn do_turn<V: Viewer>(
-    scene: &mut Scene<Inked>,
-    owns: &mut [Inked],
-    viewer: &mut V,
-    stale: &mut Option<Stale>,
-    next: PartsTurn<'_>,
-)
-    requires planned { IsPlanned scene.old.config next.parts.now.scripts.now
-        next.parts.now.plans.now }
-    requires behind { AreBehind stale.old scene.old.glasses owns.old }
-    requires next { (before : SceneModel Sight) × (m : LineTurn) × (left : List LineTurn)
-        × (first : V)
-        × IsShowing V.fits V.shows next.parts.now.scripts.now next.parts.now.input.now before
-        (settled scene.old owns.old) owns.old (m ∷ left) first viewer.old
-        × (turn_of m ≡ next.turn)
-        × (length (actions_of_turns (rounds next.parts.now.scripts.now next.parts.now.input.now))
-        ≤ before.spare) }
-    ensures behind { AreBehind stale.new scene.new.glasses owns.new }
-    ensures way { (before : SceneModel Sight) (m : LineTurn) (left : List LineTurn) (first : V)
-        → IsShowing V.fits V.shows next.entry.parts.now.scripts.now
-        next.entry.parts.now.input.now before
-        (settled scene.old owns.old) owns.old (m ∷ left) first viewer.old
-        → turn_of m ≡ next.entry.turn
-        → IsShowing V.fits V.shows next.entry.parts.now.scripts.now
-        next.entry.parts.now.input.now before
-        (settled scene.new owns.new) owns.new left first viewer.new }
-{
-    lines_done();
-    turns_tell();
-    one_more_entry();
-    let PartsTurn { parts, turn } = next;
-    match turn {
-        Turn::Client { sid, line } => {
-            settle_others(scene, owns, stale, sid);
-            let own = &mut owns[sid as usize];
-            let script = &parts.scripts[sid as usize];
-            let plan = &parts.plans[sid as usize];
-            let part = ClientPart { sid, script, plan };
-            client_line(scene, own, part, line, stale);
-        }
-        Turn::User { line } => {
-            settle(scene, owns, *stale);
-            user_line(scene, &parts.input.lines()[line], viewer);
-            *stale = None;
-        }
-    }
-}
-
 /// Does all lines of the scripts by rounds, on the calling thread. The scene has no entry, and room
 /// for one for each call, device event and shot. For each session, in order, there are its script,
 /// its plan, and its own glass, which is equal to the scene's and on which no line is done.
 ///
 /// Each stroke, and each clearing of an accepted `buffer` line, is made on the own glass, and
-/// stands on the scene's too at the end. The frame of each shot is shown to the viewer. It is what
-/// the scripts have drawn by then, so it depends on the configuration and the scripts alone. The
-/// last picture is not taken.
-pub fn run_viewed<V: Viewer>(
+/// stands on the scene's too at the end. The frame of each shot is shown to the viewer, which takes
+/// frames of the screen's size. It is what the scripts have drawn by then, so it depends on the
+/// configuration and the scripts alone. A [`Desk`](crate::Desk) takes them if its text has a byte
+/// for each of a picture, and puts each as a picture until a put is refused. The last picture is
+/// not taken.
+pub fn run_rounds<V: Viewer>(
     scene: &mut Scene<Inked>,
     owns: &mut [Inked],
     parts: Parts<'_>,
@@ -156,41 +97,31 @@ pub fn run_viewed<V: Viewer>(
     ensures viewer { V.fits scene.old.config.width scene.old.config.height viewer.new }
 {
     each_line_once();
+    lines_done();
+    turns_tell();
     one_more_line();
+    one_more_entry();
     let _ = scene.size();
     let _ = scene.journal();
     let mut turns = Turns::new(parts.scripts, parts.input);
     let mut stale = None;
-    'lines: while let Some(turn) = turns.next() {
-        let next = PartsTurn {
-            parts: &parts,
-            turn,
-        };
-        do_turn(scene, owns, viewer, &mut stale, next);
+    'rounds: while let Some(turn) = turns.next() {
+        match turn {
+            Turn::Client { sid, line } => {
+                settle_others(scene, owns, &mut stale, sid);
+                let own = &mut owns[sid as usize];
+                let script = &parts.scripts[sid as usize];
+                let plan = &parts.plans[sid as usize];
+                let part = ClientPart { sid, script, plan };
+                client_line(scene, own, part, line, &mut stale);
+            }
+            Turn::User { line } => {
+                settle(scene, owns, stale);
+                user_line(scene, &parts.input.lines()[line], viewer);
+                stale = None;
+            }
+        }
     }
     settle(scene, owns, stale);
     let _ = scene.journal();
-}
-
-/// Does all lines so with a desk, which puts the picture of each shot until a put is refused. The
-/// desk's text has a byte for each of a picture. Its frame is not used.
-pub fn run_rounds<S: Store>(
-    scene: &mut Scene<Inked>,
-    owns: &mut [Inked],
-    parts: Parts<'_>,
-    desk: &mut Desk<S>,
-)
-    requires begins { BeginsRounds parts.scripts.now parts.plans.now parts.input.now scene.old
-        owns.old }
-    requires text { length desk.old.text.items
-        ≡ picture_length scene.old.config.width scene.old.config.height }
-    ensures run { IsRoundsRun parts.entry.scripts.now parts.entry.input.now scene.old scene.new
-        owns.new }
-    ensures shots { PutsShots scene.old.config parts.entry.scripts.now
-        (rounds parts.entry.scripts.now parts.entry.input.now)
-        (put_state_of_desk (S.shown desk.old.store.now) desk.old.fault desk.old.tried)
-        (put_state_of_desk (S.shown desk.new.store.now) desk.new.fault desk.new.tried) }
-    ensures desk { IsSameDesk desk.old desk.new }
-{
-    run_viewed(scene, owns, parts, desk);
 }

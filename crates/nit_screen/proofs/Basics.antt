@@ -25,36 +25,35 @@ pub use Rattle.nit_screen.specs.Terms.{IsLive, IsNamedBy, IsNewlyNamed, IsOn, Is
 pub use Rattle.nit_screen.specs.Terms.{IsQuiet, IsRawOf, IsRemovedFrom, IsRepaint, IsScreen}
 pub use Rattle.nit_screen.specs.Terms.{IsServed, IsServer, IsShown, IsSlotView, IsStack}
 pub use Rattle.nit_screen.specs.Terms.{IsViewChange, IsWord, IsWordOfSource, Item, KeepsPainter}
-pub use Rattle.nit_screen.specs.Terms.{Kill, LegalFrom, MeanSame, Member, Mode, NoPair, Offset}
-pub use Rattle.nit_screen.specs.Terms.{Painted, Painter, PixelSource, Pixels, Place, Point}
-pub use Rattle.nit_screen.specs.Terms.{Rectangle, Refresh, Repainted, Reply, Routed, Routing}
-pub use Rattle.nit_screen.specs.Terms.{Scenery, ScreenModel, ServerModel, Session, ShowsBelow}
-pub use Rattle.nit_screen.specs.Terms.{ShowsLabels, Sight, Size, SlotView, StackModel, State}
-pub use Rattle.nit_screen.specs.Terms.{Status, Take, Title, Upgrade, View, ViewRef, Word, Xray}
-pub use Rattle.nit_screen.specs.Terms.{accepted, after, after_accepted, after_deliveries}
-pub use Rattle.nit_screen.specs.Terms.{after_delivery, bar_rows, bar_word, bare_word, black_or_word}
-pub use Rattle.nit_screen.specs.Terms.{buffer_size, by_life, by_refusal, changed, covering, covers}
-pub use Rattle.nit_screen.specs.Terms.{delivered, deliveries_of, dirty, dirty_by_call, dot}
-pub use Rattle.nit_screen.specs.Terms.{draws_labels, ended, first_session, first_state, fits}
-pub use Rattle.nit_screen.specs.Terms.{forget, frame, glass_in, glasses_of_call, has_dot, in_bar}
-pub use Rattle.nit_screen.specs.Terms.{ink_of, input_after_call, is_accepted, is_in_picture}
-pub use Rattle.nit_screen.specs.Terms.{is_kill, is_killed, is_named, is_of_session, is_owner}
-pub use Rattle.nit_screen.specs.Terms.{is_session, is_slot, is_view, is_word_in, kept_frame}
-pub use Rattle.nit_screen.specs.Terms.{killed_by, killed_in, kills, label_place_of, label_scenery}
-pub use Rattle.nit_screen.specs.Terms.{label_width, layer, list_any, loads_at, member, moved}
-pub use Rattle.nit_screen.specs.Terms.{new_view, no_sight, no_size, opened, option_map_or, owner}
-pub use Rattle.nit_screen.specs.Terms.{owner_of, owner_passes, owner_word, owns_either}
-pub use Rattle.nit_screen.specs.Terms.{picture_height, picture_width, pixel, pixel_at, pixel_count}
-pub use Rattle.nit_screen.specs.Terms.{place_of, point, position_or_len, put_above, put_again}
-pub use Rattle.nit_screen.specs.Terms.{put_front, raw_in, raw_of, receive, rectangle, refusal}
-pub use Rattle.nit_screen.specs.Terms.{relabelled, replay, replay_from, route, routed_as}
-pub use Rattle.nit_screen.specs.Terms.{routing_of, same_slot, scenery_of, seen, serve, session}
-pub use Rattle.nit_screen.specs.Terms.{session_in, session_owns, shown, shown_by, shown_index}
-pub use Rattle.nit_screen.specs.Terms.{size_of, size_of_buffer, slot_owns_either, slot_view_in}
-pub use Rattle.nit_screen.specs.Terms.{source, source_at, source_in, source_of, source_of_number}
-pub use Rattle.nit_screen.specs.Terms.{source_under, spans, state_of, table_size, taking}
-pub use Rattle.nit_screen.specs.Terms.{times_shown, unbarred, uncovered, unless_it_is, view_owns}
-pub use Rattle.nit_screen.specs.Terms.{view_ref, view_slots, view_text, view_word, views_of, wanted}
+pub use Rattle.nit_screen.specs.Terms.{LegalFrom, MeanSame, Mode, NoPair, Offset, Painted, Painter}
+pub use Rattle.nit_screen.specs.Terms.{PixelSource, Pixels, Place, Point, Rectangle, Refresh}
+pub use Rattle.nit_screen.specs.Terms.{Repainted, Reply, Routed, Routing, Scenery, ScreenModel}
+pub use Rattle.nit_screen.specs.Terms.{ServerModel, Session, ShowsBelow, ShowsLabels, Sight, Size}
+pub use Rattle.nit_screen.specs.Terms.{SlotView, StackModel, State, Status, Take, Title, Upgrade}
+pub use Rattle.nit_screen.specs.Terms.{View, ViewRef, Word, accepted, after, after_accepted}
+pub use Rattle.nit_screen.specs.Terms.{after_deliveries, after_delivery, bar_rows, bar_word}
+pub use Rattle.nit_screen.specs.Terms.{bare_word, black_or_word, buffer_size, by_life, by_refusal}
+pub use Rattle.nit_screen.specs.Terms.{changed, covering, covers, delivered, deliveries_of, dirty}
+pub use Rattle.nit_screen.specs.Terms.{dirty_by_call, dot, draws_labels, ended, first_session}
+pub use Rattle.nit_screen.specs.Terms.{first_state, fits, forget, frame, glass_in, glasses_of_call}
+pub use Rattle.nit_screen.specs.Terms.{has_dot, in_bar, ink_of, input_after_call, is_accepted}
+pub use Rattle.nit_screen.specs.Terms.{is_in_picture, is_kill, is_killed, is_named, is_of_session}
+pub use Rattle.nit_screen.specs.Terms.{is_owner, is_session, is_slot, is_view, is_word_in}
+pub use Rattle.nit_screen.specs.Terms.{kept_frame, killed_by, killed_in, kills, label_place_of}
+pub use Rattle.nit_screen.specs.Terms.{label_scenery, label_width, layer, length, list_any}
+pub use Rattle.nit_screen.specs.Terms.{loads_at, map, member, moved, new_view, no_sight, no_size}
+pub use Rattle.nit_screen.specs.Terms.{opened, option_map_or, owner, owner_of, owner_passes}
+pub use Rattle.nit_screen.specs.Terms.{owner_word, owns_either, picture_height, picture_width}
+pub use Rattle.nit_screen.specs.Terms.{pixel, pixel_at, pixel_count, place_of, point}
+pub use Rattle.nit_screen.specs.Terms.{position_or_len, put_above, put_again, put_front, raw_in}
+pub use Rattle.nit_screen.specs.Terms.{raw_of, receive, rectangle, refusal, replay, replay_from}
+pub use Rattle.nit_screen.specs.Terms.{route, routed_as, routing_of, same_slot, scenery_of, seen}
+pub use Rattle.nit_screen.specs.Terms.{serve, session, session_in, session_owns, shown, shown_by}
+pub use Rattle.nit_screen.specs.Terms.{shown_index, size_of, size_of_buffer, slot_owns_either}
+pub use Rattle.nit_screen.specs.Terms.{slot_view_in, source, source_at, source_in, source_of}
+pub use Rattle.nit_screen.specs.Terms.{source_of_number, source_under, spans, state_of, table_size}
+pub use Rattle.nit_screen.specs.Terms.{taking, times_shown, unbarred, uncovered, unless_it_is}
+pub use Rattle.nit_screen.specs.Terms.{view_owns, view_ref, view_text, view_word, views_of, wanted}
 pub use Rattle.nit_screen.specs.Terms.{with_ended, with_new, with_opened, with_reopened}
 pub use Rattle.nit_screen.specs.Terms.{with_routed, without, without_session, without_view}
 pub use Rattle.nit_screen.specs.Terms.{without_views, word_count}
@@ -62,14 +61,15 @@ pub use Rattle.nit_server.proofs.ForCallers.{All-changed, All-put, IsPutIn, IsSp
 pub use Rattle.nit_server.proofs.ForCallers.{NoPair-put, NoPair-without, client_kept, closed}
 pub use Rattle.nit_server.proofs.ForCallers.{find-alike, find-changed, find-moved, find-put_failing}
 pub use Rattle.nit_server.proofs.ForCallers.{find-spared, forgotten_again, one_less, puts_above}
-pub use Rattle.nit_server.proofs.ForCallers.{puts_back, puts_front, renamed, without_same}
+pub use Rattle.nit_server.proofs.ForCallers.{puts_back, puts_front, without_same}
 pub use Rattle.nit_stack.proofs.ForCallers.{All_found, Put, Put-above, Put-back, Put-front}
 pub use Rattle.nit_stack.proofs.ForCallers.{agree_by, any_found, find-map, flip, found_fails}
 pub use Rattle.nit_stack.proofs.ForCallers.{found_passes, found_some, has-name, list_any-map}
 pub use Rattle.nit_stack.proofs.ForCallers.{map-without, owner_named, owner_of_session, place_is}
 pub use Rattle.nit_stack.proofs.ForCallers.{slot_at, views_closed}
 pub use Rattle.nit_word.proofs.ForCallers.{seen_none}
-pub use Rattle.std.proofs.Math.Bool.{and-false, or-false}
+pub use Rattle.std.proofs.Common.{[], ap, arith, length-set, refl, rules, sym, ◌∙◌}
+pub use Rattle.std.proofs.Math.Bool.{and-false}
 pub use Rattle.std.proofs.Math.ListN.{get_or-map}
 pub use Rattle.std.proofs.Math.Seq.{map-set_same, take-append_seam}
 pub use Rattle.std.proofs.lemmas.Bool.{and_parts, cases_eq, cases_lt, eqb-false, false_from_ne_true}

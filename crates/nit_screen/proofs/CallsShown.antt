@@ -1,5 +1,4 @@
 -- A call was served, the pixels that it makes dirty were loaded again, and all is shown.
-use Rattle.std.proofs.lemmas.Bool.Decides.{nat_tests}
 use Rattle.nit_screen.proofs.Basics.{ArePixels, Call, CanAccept, CanRepaint, CanServe, CanShowBy}
 use Rattle.nit_screen.proofs.Basics.{Close, Flat, HoldBuffers, IsCallShown, IsClean, IsFrameOf}
 use Rattle.nit_screen.proofs.Basics.{IsGlassOf, IsNamedBy, IsOn, IsPartOf, IsPartShown, IsQuiet}
@@ -8,9 +7,9 @@ use Rattle.nit_screen.proofs.Basics.{KeepsPainter, Painted, Painter, PixelSource
 use Rattle.nit_screen.proofs.Basics.{Rectangle, Repainted, Reply, Scenery, ScreenModel, ServerModel}
 use Rattle.nit_screen.proofs.Basics.{Sight, SlotView, StackModel, closed, dirty, draws_labels}
 use Rattle.nit_screen.proofs.Basics.{false_from_ne_true, frame, glasses_of_call, is_of_session}
-use Rattle.nit_screen.proofs.Basics.{kept_frame, layer, length-frame, length-map, no_sight}
-use Rattle.nit_screen.proofs.Basics.{nothing_set, owner_passes, pixel, place_of, raw_of, renewed}
-use Rattle.nit_screen.proofs.Basics.{repainted_same, repainted_words, scenery_of, shown}
+use Rattle.nit_screen.proofs.Basics.{kept_frame, layer, length-frame, length-map, nat_tests}
+use Rattle.nit_screen.proofs.Basics.{no_sight, nothing_set, owner_passes, pixel, place_of, raw_of}
+use Rattle.nit_screen.proofs.Basics.{renewed, repainted_same, repainted_words, scenery_of, shown}
 use Rattle.nit_screen.proofs.Basics.{slot_owns_either, slot_view_in, state_of, unbarred, wanted}
 use Rattle.nit_screen.proofs.Basics.{with_ended, without_session, without_views}
 use Rattle.std.proofs.Common.{Bool, IsTrue, Option, Some, ap, arith, false, length, map, nat_lt}

@@ -1,20 +1,20 @@
 -- The sizes of the sessions' buffers after a call or an item, and the sources of pixels by them.
-use Rattle.std.proofs.lemmas.Bool.Decides.{nat_tests}
 use Rattle.nit_screen.proofs.Basics.{Above, Back, Buffer, Call, Close, Delivery, Destroy, Event}
 use Rattle.nit_screen.proofs.Basics.{Front, InputState, IsPutIn, IsSpared, Item, Offset, Place}
-use Rattle.nit_screen.proofs.Basics.{Point, Reply, Session, Size, State, Status, Take, Title, View}
+use Rattle.nit_screen.proofs.Basics.{Point, Reply, Session, Size, State, Status, Take, Title}
 use Rattle.nit_screen.proofs.Basics.{accepted, accepted_reply, after, after_accepted}
 use Rattle.nit_screen.proofs.Basics.{after_deliveries, after_delivery, bar_rows, buffer_size}
 use Rattle.nit_screen.proofs.Basics.{by_life, by_refusal, changed, covers, delivered, dirty_by_call}
 use Rattle.nit_screen.proofs.Basics.{eqb-false, find-alike, find-changed, find-moved}
 use Rattle.nit_screen.proofs.Basics.{find-put_failing, find-spared, first_session, get_or-map}
 use Rattle.nit_screen.proofs.Basics.{in_bar, input_after_call, is_accepted, is_killed, is_session}
-use Rattle.nit_screen.proofs.Basics.{is_view, layer, list_any, map-set_same, moved, new_view}
-use Rattle.nit_screen.proofs.Basics.{nothing_spanned, option_map_or, or_parts, owner, owner_of}
-use Rattle.nit_screen.proofs.Basics.{put_above, put_front, puts_above, puts_back, puts_front}
-use Rattle.nit_screen.proofs.Basics.{receive, refusal, refused_reply, serve_accepted, serve_refused}
-use Rattle.nit_screen.proofs.Basics.{session, session_in, set-get_or, source, source_of}
-use Rattle.nit_screen.proofs.Basics.{source_under, spans, with_new, without}
+use Rattle.nit_screen.proofs.Basics.{is_view, layer, list_any, map-set_same, moved, nat_tests}
+use Rattle.nit_screen.proofs.Basics.{new_view, nothing_spanned, option_map_or, or_parts, owner}
+use Rattle.nit_screen.proofs.Basics.{owner_of, put_above, put_front, puts_above, puts_back}
+use Rattle.nit_screen.proofs.Basics.{puts_front, receive, refusal, refused_reply, serve_accepted}
+use Rattle.nit_screen.proofs.Basics.{serve_refused, session, session_in, set-get_or, source}
+use Rattle.nit_screen.proofs.Basics.{source_of, source_under, spans, with_new, without}
+use Rattle.nit_events.specs.declared.call.Call.TheVariants.{View}
 use Rattle.std.proofs.Common.{Bool, List, None, Option, Some, [], ap, arith, cond, false, find}
 use Rattle.std.proofs.Common.{get_or, get_or-set_other, if◌then◌else◌, option_map, pos, refl, set}
 use Rattle.std.proofs.Common.{subst, sym, true, ℕ, ◌&&◌, ◌==◌, ◌||◌, ◌∙◌, ◌∷◌, ◌≡◌}

@@ -2,8 +2,8 @@
 use Rattle.nit_screen.proofs.Basics.{AreLabelsApart, Configuration, Entry, Flat, HaveOwnNames}
 use Rattle.nit_screen.proofs.Basics.{IsLabelShown, IsLabelled, IsLegal, IsSlotView, IsStack, Mode}
 use Rattle.nit_screen.proofs.Basics.{NoPair, Point, Scenery, ShowsLabels, SlotView, StackModel}
-use Rattle.nit_screen.proofs.Basics.{ViewRef, any_found, apart, cases_lt, covering, covers, dot}
-use Rattle.nit_screen.proofs.Basics.{draws_labels, false_from_ne_true, fits, fits_within}
+use Rattle.nit_screen.proofs.Basics.{View, ViewRef, any_found, apart, cases_lt, covering, covers}
+use Rattle.nit_screen.proofs.Basics.{dot, draws_labels, false_from_ne_true, fits, fits_within}
 use Rattle.nit_screen.proofs.Basics.{found_passes, frame, get_or-frame, get_or_from_slice_get}
 use Rattle.nit_screen.proofs.Basics.{has_dot, in_bar, ink_of, is_in_picture, is_owner, is_view}
 use Rattle.nit_screen.proofs.Basics.{label_place_of, label_scenery, label_width, list_any}
@@ -15,8 +15,7 @@ use Rattle.nit_screen.proofs.Basics.{view_text, view_word}
 use Rattle.std.proofs.Common.{All, Bool, IfSome, IsTrue, List, None, Option, Some, [], ap, arith}
 use Rattle.std.proofs.Common.{false, find, get_or-set_same, inl, inr, length, length-set, map}
 use Rattle.std.proofs.Common.{option_map, refl, set, slice_get, slice_index, slice_index_or, subst}
-use Rattle.std.proofs.Common.{suc, sym, true, zero, ℕ, ◌*◌, ◌+◌, ◌-◌, ◌<◌, ◌∙◌, ◌∷◌, ◌≡◌, ◌≢◌, ◌≤◌}
-use Rattle.nit_stack.specs.declared.view.View.{View}
+use Rattle.std.proofs.Common.{suc, sym, true, zero, ℕ, ◌*◌, ◌+◌, ◌<◌, ◌∙◌, ◌∷◌, ◌≡◌, ◌≢◌, ◌≤◌}
 use Rattle.nit_screen.proofs.Handles.{named_throughout}
 
 -- ---- views by their places in the stack

@@ -8,14 +8,14 @@ use Rattle.nit_screen.proofs.Basics.{All-put, All-tail, All-weaker, All_found, A
 use Rattle.nit_screen.proofs.Basics.{Call, Close, Configuration, Delivery, Destroy, Entry, Event}
 use Rattle.nit_screen.proofs.Basics.{Front, HaveOwnNames, IsLegal, IsNewlyNamed, IsPutIn, Item}
 use Rattle.nit_screen.proofs.Basics.{LegalFrom, NoPair-map, NoPair-put, NoPair-without, Offset}
-use Rattle.nit_screen.proofs.Basics.{Place, Reply, Session, State, Take, Title, View, accepted}
-use Rattle.nit_screen.proofs.Basics.{after, after_accepted, after_deliveries, after_delivery}
-use Rattle.nit_screen.proofs.Basics.{and_parts, by_refusal, changed, delivered, first_session}
-use Rattle.nit_screen.proofs.Basics.{first_state, flip, found_passes, is_session, is_view, layer}
-use Rattle.nit_screen.proofs.Basics.{list_any, moved, nat_tests, new_view, none_left, put_again}
-use Rattle.nit_screen.proofs.Basics.{puts_above, puts_back, puts_front, receive, refusal}
-use Rattle.nit_screen.proofs.Basics.{refused_reply, replay, replay_from, route, session, session_in}
-use Rattle.nit_screen.proofs.Basics.{taking, without}
+use Rattle.nit_screen.proofs.Basics.{Place, Reply, Session, State, Take, Title, accepted, after}
+use Rattle.nit_screen.proofs.Basics.{after_accepted, after_deliveries, after_delivery, and_parts}
+use Rattle.nit_screen.proofs.Basics.{by_refusal, changed, delivered, first_session, first_state}
+use Rattle.nit_screen.proofs.Basics.{flip, found_passes, is_session, is_view, layer, list_any}
+use Rattle.nit_screen.proofs.Basics.{moved, nat_tests, new_view, none_left, put_again, puts_above}
+use Rattle.nit_screen.proofs.Basics.{puts_back, puts_front, receive, refusal, refused_reply, replay}
+use Rattle.nit_screen.proofs.Basics.{replay_from, route, session, session_in, taking, without}
+use Rattle.nit_events.specs.declared.call.Call.TheVariants.{View}
 use Rattle.nit_journal.specs.StackAfter.{stack_after_call}
 use Rattle.nit_stack.specs.declared.view.View.{View as ViewOf}
 use Rattle.nit_journal.specs.Session.{serve}
@@ -23,7 +23,6 @@ use Rattle.nit_screen.proofs.CleanCalls.{alike_at, event_keeps}
 use Rattle.nit_events.specs.declared.event.Item.TheVariants as item
 use Rattle.nit_events.specs.declared.call.Reply.TheVariants as reply
 use Rattle.nit_events.specs.declared.entry.Entry.TheVariants as entry
-use Rattle.nit_events.specs.declared.event.Status.TheVariants as status
 
 -- a change that leaves the session and the handle
 abbrev pub KeepsName : (ViewOf → ViewOf) → Type 0

@@ -1,5 +1,4 @@
 -- A kept frame stays the frame of the state and of the raw words.
-use Rattle.std.proofs.lemmas.Bool.Decides.{nat_tests}
 use Rattle.nit_screen.proofs.Basics.{Agrees, AreInked, AreSet, Bare, Buffer, Call, CanRepaint}
 use Rattle.nit_screen.proofs.Basics.{CanShowBy, Close, Configuration, Device, Entry, Flat}
 use Rattle.nit_screen.proofs.Basics.{InputState, IsClean, IsCopied, IsInkedBy, IsPartOf, IsQuiet}
@@ -7,16 +6,17 @@ use Rattle.nit_screen.proofs.Basics.{IsRawOf, IsRemovedFrom, IsRepaint, IsServed
 use Rattle.nit_screen.proofs.Basics.{IsWordOfSource, Painted, Painter, PixelSource, Pixels, Point}
 use Rattle.nit_screen.proofs.Basics.{Rectangle, Refresh, Repainted, Reply, Routed, Scenery}
 use Rattle.nit_screen.proofs.Basics.{ServerModel, Sight, Size, StackModel, State, Take, Title}
-use Rattle.nit_screen.proofs.Basics.{Upgrade, View, Word, after, after_accepted, and-false}
-use Rattle.nit_screen.proofs.Basics.{bar_rows, bar_word, bare_word, black_or_word, buffer_size}
-use Rattle.nit_screen.proofs.Basics.{deliveries_of, dirty, dirty_by_call, flat_same, flat_shown}
-use Rattle.nit_screen.proofs.Basics.{frame, glasses_of_call, gone_room, in_bar, is_accepted}
-use Rattle.nit_screen.proofs.Basics.{is_slot, layer, length-frame, length-map, other_count, owner}
+use Rattle.nit_screen.proofs.Basics.{Upgrade, Word, after, after_accepted, and-false, bar_rows}
+use Rattle.nit_screen.proofs.Basics.{bar_word, bare_word, black_or_word, buffer_size, deliveries_of}
+use Rattle.nit_screen.proofs.Basics.{dirty, dirty_by_call, flat_same, flat_shown, frame}
+use Rattle.nit_screen.proofs.Basics.{glasses_of_call, gone_room, in_bar, is_accepted, is_slot}
+use Rattle.nit_screen.proofs.Basics.{layer, length-frame, length-map, nat_tests, other_count, owner}
 use Rattle.nit_screen.proofs.Basics.{painted_more, pixel, pixel_count, refusal, renewed}
 use Rattle.nit_screen.proofs.Basics.{repainted_none, route, scenery_of, serve, session, shown}
 use Rattle.nit_screen.proofs.Basics.{shown_by, shown_index, source_at, source_of, source_of_number}
 use Rattle.nit_screen.proofs.Basics.{source_under, state_of, taken_held, uncovered, wanted, without}
 use Rattle.nit_screen.proofs.Basics.{without_session}
+use Rattle.nit_events.specs.declared.call.Call.TheVariants.{View}
 use Rattle.std.proofs.Common.{All, Bool, List, None, Option, Some, ap, arith, false, is_some}
 use Rattle.std.proofs.Common.{length, map, refl, slice_index, slice_index_or, subst, sym, true, ℕ}
 use Rattle.std.proofs.Common.{◌&&◌, ◌*◌, ◌+◌, ◌<◌, ◌∙◌, ◌≡◌}

@@ -12,8 +12,8 @@ use Rattle.nit_screen.proofs.Basics.{raw_of, replicate-append-replicate, rows, s
 use Rattle.nit_screen.proofs.Basics.{source_at, state_of, unbarred}
 use Rattle.std.proofs.Common.{All, Bool, List, Option, ap, arith, cond, ext_get_or, false}
 use Rattle.std.proofs.Common.{get_or-drop, inl, inr, length, length-append, length-drop, nat_lt}
-use Rattle.std.proofs.Common.{refl, replicate, slice_index, suc, sym, true, zero, ℕ, ◌*◌, ◌-◌, ◌/◌}
-use Rattle.std.proofs.Common.{◌<◌, ◌∙◌, ◌≡◌, ◌≤◌}
+use Rattle.std.proofs.Common.{refl, replicate, slice_index, suc, sym, true, zero, ℕ, ◌*◌, ◌/◌, ◌<◌}
+use Rattle.std.proofs.Common.{◌∙◌, ◌≡◌, ◌≤◌}
 use Rattle.nit_screen.proofs.KeptFrames.{can_still, flat_word, still}
 
 -- ---- the raw words of such a list

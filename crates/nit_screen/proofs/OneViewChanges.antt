@@ -1,5 +1,4 @@
 -- What holds of a pixel of a server's stack, told of the state that the server is in.
-use Rattle.std.proofs.lemmas.Bool.Decides.{nat_tests}
 use Rattle.nit_screen.proofs.Basics.{Above, AllByRecursion, Back, Buffer, Call, Destroy, Front}
 use Rattle.nit_screen.proofs.Basics.{IsNamedBy, IsOn, IsPartOf, IsServed, IsServer, IsViewChange}
 use Rattle.nit_screen.proofs.Basics.{MeanSame, Offset, Place, Point, Put, Put-above, Put-back}
@@ -9,9 +8,9 @@ use Rattle.nit_screen.proofs.Basics.{agree_by, all_of_session, bar_rows, buffer_
 use Rattle.nit_screen.proofs.Basics.{covers, dirty, dirty_by_call, ended, find-map, find_moved}
 use Rattle.nit_screen.proofs.Basics.{first_session, forget, found_fails, get_or-map, is_accepted}
 use Rattle.nit_screen.proofs.Basics.{is_named, is_of_session, is_session, is_slot, is_view}
-use Rattle.nit_screen.proofs.Basics.{is_word_in, layer, list_any, map-without, moved, no_size}
-use Rattle.nit_screen.proofs.Basics.{none_left, owner, owner_named, owner_of_session, owner_passes}
-use Rattle.nit_screen.proofs.Basics.{owns_either, part_of_session, pixel, pixel_count}
+use Rattle.nit_screen.proofs.Basics.{is_word_in, layer, list_any, map-without, moved, nat_tests}
+use Rattle.nit_screen.proofs.Basics.{no_size, none_left, owner, owner_named, owner_of_session}
+use Rattle.nit_screen.proofs.Basics.{owner_passes, owns_either, part_of_session, pixel, pixel_count}
 use Rattle.nit_screen.proofs.Basics.{place_changed, place_of, position_or_len, put_above, rectangle}
 use Rattle.nit_screen.proofs.Basics.{refusal, repainted_same, same_Some, session, session_in}
 use Rattle.nit_screen.proofs.Basics.{session_owns, size_of, size_of_buffer, slot_owns_either}

@@ -6,7 +6,7 @@ use Rattle.nit_screen.proofs.Basics.{IsForgottenIfKilled, IsGlass, IsGlassOf, Is
 use Rattle.nit_screen.proofs.Basics.{IsServed, IsServer, IsSlotView, IsStack, Item, NoPair, Painted}
 use Rattle.nit_screen.proofs.Basics.{PixelSource, Pixels, Point, Repainted, Reply, Routed, Routing}
 use Rattle.nit_screen.proofs.Basics.{ServerModel, Session, Sight, SlotView, StackModel, State}
-use Rattle.nit_screen.proofs.Basics.{Status, after, bar_rows, buffer_size, by_life, cases_eq}
+use Rattle.nit_screen.proofs.Basics.{Status, View, after, bar_rows, buffer_size, by_life, cases_eq}
 use Rattle.nit_screen.proofs.Basics.{client_kept, covers, deliveries_of, dirty, false_from_ne_true}
 use Rattle.nit_screen.proofs.Basics.{first_session, forget, forgotten_again, found_passes}
 use Rattle.nit_screen.proofs.Basics.{found_some, glass_in, glasses_of_call, is_kill, is_killed}
@@ -26,7 +26,6 @@ use Rattle.std.proofs.Common.{inr, length, length-set, map, ne_eqb, refl, set, s
 use Rattle.std.proofs.Common.{true, vec_capacity, zero, ℕ, ◌<◌, ◌==◌, ◌||◌, ◌∙◌, ◌∷◌, ◌≡◌, ◌≢◌, ◌≤◌}
 use Rattle.std.specs.List.{IsDistinct}
 use Rattle.nit_screen.proofs.OneViewChanges.{size_at, source_of_number}
-use Rattle.nit_stack.specs.declared.view.View.{View}
 use Rattle.nit_screen.proofs.CleanCalls.{alike_at, by_other_sizes, others_stay, owner_spared}
 use Rattle.nit_screen.proofs.CleanCalls.{size_of}
 use Rattle.nit_events.specs.declared.entry.Entry.TheVariants as entry

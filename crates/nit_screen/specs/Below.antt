@@ -1,18 +1,17 @@
 -- The words of the library and of the crates below that are used here, and the crate's plain types.
 pub use Rattle.nit_config.specs.Configuration.{Configuration, bar_rows, member}
 pub use Rattle.nit_config.specs.ConfigurationRanges.{IsConfiguration}
-pub use Rattle.nit_config.specs.declared.config.Member.{Member}
 pub use Rattle.nit_events.specs.Input.{InputState, Routing, deliveries_of, forget, routed_as}
 pub use Rattle.nit_events.specs.Input.{unless_it_is}
 pub use Rattle.nit_events.specs.Ranges.{IsDevice}
 pub use Rattle.nit_events.specs.declared.call.Call.{Call}
 pub use Rattle.nit_events.specs.declared.call.Call.TheVariants.{Above, Back, Buffer, Close, Destroy}
 pub use Rattle.nit_events.specs.declared.call.Call.TheVariants.{Front, Offset, Place, Refresh, Take}
-pub use Rattle.nit_events.specs.declared.call.Call.TheVariants.{Title, Upgrade, View}
+pub use Rattle.nit_events.specs.declared.call.Call.TheVariants.{Title, Upgrade}
 pub use Rattle.nit_events.specs.declared.call.Reply.{Reply}
 pub use Rattle.nit_events.specs.declared.device.Device.{Device}
 pub use Rattle.nit_events.specs.declared.device.Mode.{Mode}
-pub use Rattle.nit_events.specs.declared.device.Mode.TheVariants.{Flat, Kill, Xray}
+pub use Rattle.nit_events.specs.declared.device.Mode.TheVariants.{Flat, Xray}
 pub use Rattle.nit_events.specs.declared.entry.Entry.{Entry}
 pub use Rattle.nit_events.specs.declared.event.Delivery.{Delivery}
 pub use Rattle.nit_events.specs.declared.event.Event.{Event}
@@ -21,7 +20,6 @@ pub use Rattle.nit_events.specs.declared.event.Routed.{Routed}
 pub use Rattle.nit_events.specs.declared.event.Status.{Status}
 pub use Rattle.nit_focus.specs.Reach.{IsForgottenIfKilled}
 pub use Rattle.nit_glyph.specs.Pictures.{dot, picture_height, picture_width}
-pub use Rattle.nit_glyph.specs.Texts.{label_text_of}
 pub use Rattle.nit_journal.specs.Deliveries.{IsKillAlone, IsLive, is_kill, kills}
 pub use Rattle.nit_journal.specs.Live.{AreLive}
 pub use Rattle.nit_journal.specs.Replay.{Agrees, IsLegal, LegalFrom, replay, replay_from}
@@ -32,7 +30,7 @@ pub use Rattle.nit_journal.specs.StackAfter.{is_accepted, new_view, with_new}
 pub use Rattle.nit_journal.specs.State.{State, after, buffer_size, delivered, first_state}
 pub use Rattle.nit_journal.specs.State.{input_after_call, layer, owner_of, route, session}
 pub use Rattle.nit_journal.specs.State.{session_in, source_of}
-pub use Rattle.nit_journal.specs.Steps.{IsFreeLabel, opened, relabelled}
+pub use Rattle.nit_journal.specs.Steps.{IsFreeLabel, opened}
 pub use Rattle.nit_overlay.specs.Frame.{Scenery, bar_word, frame, has_dot, ink_of, is_in_picture}
 pub use Rattle.nit_overlay.specs.Frame.{label_place_of, owner_word, shown, view_text, view_word}
 pub use Rattle.nit_overlay.specs.Look.{draws_labels, pixel_at}
@@ -56,24 +54,24 @@ pub use Rattle.nit_server.specs.Seats.{with_opened, with_reopened}
 pub use Rattle.nit_server.specs.Server.{IsServed, IsServer, ServerModel, size_of_buffer, state_of}
 pub use Rattle.nit_server.specs.ServerInput.{MayLose, killed_by, killed_in, routing_of, with_routed}
 pub use Rattle.nit_server.specs.ViewsTaken.{with_ended, without_view, without_views}
-pub use Rattle.nit_slots.specs.Account.{table_size, view_slots}
-pub use Rattle.nit_stack.specs.LabelPlaces.{fits, is_owner, is_view, label_place}
-pub use Rattle.nit_stack.specs.Orders.{changed, moved, put_above, put_again, put_back, put_front}
-pub use Rattle.nit_stack.specs.Orders.{without}
+pub use Rattle.nit_slots.specs.Account.{table_size}
+pub use Rattle.nit_stack.specs.LabelPlaces.{fits, is_owner, is_view}
+pub use Rattle.nit_stack.specs.Orders.{changed, moved, put_above, put_again, put_front, without}
 pub use Rattle.nit_stack.specs.SourceAnswers.{word_count}
 pub use Rattle.nit_stack.specs.Sources.{Bare, Black, PixelSource, Size, Word, black_or_word}
 pub use Rattle.nit_stack.specs.Sources.{covering, in_bar, no_size, owner, pixel, point, shown_index}
 pub use Rattle.nit_stack.specs.Sources.{source, source_under}
-pub use Rattle.nit_stack.specs.Stack.{IsSlotView, IsStack, NoPair, SlotView, StackModel, has_slot}
-pub use Rattle.nit_stack.specs.Stack.{is_named, is_of_session, is_slot, place_of, same_slot}
-pub use Rattle.nit_stack.specs.Stack.{size_of, slot_view_in, view_ref}
-pub use Rattle.nit_stack.specs.ViewNames.{IsNamedBy, MeanSame, is_session, name_of, views_of}
+pub use Rattle.nit_stack.specs.Stack.{IsSlotView, IsStack, NoPair, SlotView, StackModel, is_named}
+pub use Rattle.nit_stack.specs.Stack.{is_of_session, is_slot, place_of, same_slot, size_of}
+pub use Rattle.nit_stack.specs.Stack.{slot_view_in, view_ref}
+pub use Rattle.nit_stack.specs.ViewNames.{IsNamedBy, MeanSame, is_session, views_of}
+pub use Rattle.nit_stack.specs.declared.view.View.{View}
 pub use Rattle.nit_stack.specs.declared.view.ViewRef.{ViewRef}
 pub use Rattle.nit_word.specs.Channels.{bare_word}
 pub use Rattle.nit_word.specs.Inks.{IsInked, IsWord}
 pub use Rattle.nit_word.specs.Sight.{Sight, seen, stored, told_at}
 pub use Rattle.nit_word.specs.Updates.{is_between, set_where, with_words}
 pub use Rattle.std.specs.List.{AllByRecursion, list_any, position_or_len, range_with_len}
-pub use Rattle.std.specs.Option.{is_some, option_map_or}
-pub use Rattle.std.specs.Prelude.{AllPairs, IfSome, IsTrue, Some, [], drop, false, length, map}
-pub use Rattle.std.specs.Prelude.{option_map, pos, replicate, slice_get, slice_index, vec_capacity}
+pub use Rattle.std.specs.Option.{option_map_or}
+pub use Rattle.std.specs.Prelude.{AllPairs, IfSome, IsTrue, Some, drop, false, length, map}
+pub use Rattle.std.specs.Prelude.{option_map, replicate, slice_index, vec_capacity}

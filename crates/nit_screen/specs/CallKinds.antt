@@ -2,7 +2,8 @@
 -- none.
 use Rattle.std.specs.Prelude.{◌≡◌, ℕ, Option, Some, None}
 use Rattle.nit_screen.specs.Below.{Above, Back, Buffer, Call, Destroy, Front, Offset, Place}
-use Rattle.nit_screen.specs.Below.{Rectangle, Refresh, Take, Title, Upgrade, View, rectangle}
+use Rattle.nit_screen.specs.Below.{Rectangle, Refresh, Take, Title, Upgrade, rectangle}
+use Rattle.nit_events.specs.declared.call.Call.TheVariants.{View}
 
 -- a call on the session's view of this handle
 abbrev pub IsOn : ℕ → Call → Type 0

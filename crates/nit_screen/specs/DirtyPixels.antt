@@ -1,12 +1,11 @@
 -- Which pixels of the screen are loaded again for an entry of the journal.
 use Rattle.std.specs.Prelude.{ℕ, Bool, true, false, ◌&&◌, ◌||◌}
 use Rattle.nit_screen.specs.Below.{Above, Back, Buffer, Call, Close, Destroy, Entry, Front, Item}
-use Rattle.nit_screen.specs.Below.{Offset, Place, Point, Rectangle, Refresh, State, deliveries_of}
-use Rattle.nit_screen.specs.Below.{is_accepted, is_session, is_view, is_word_in, list_any}
-use Rattle.nit_screen.specs.Below.{option_map_or, owner_of, rectangle, session, source_of}
+use Rattle.nit_screen.specs.Below.{Offset, Place, Point, Rectangle, Refresh, State, View}
+use Rattle.nit_screen.specs.Below.{deliveries_of, is_accepted, is_session, is_view, is_word_in}
+use Rattle.nit_screen.specs.Below.{list_any, option_map_or, owner_of, rectangle, session, source_of}
 use Rattle.nit_events.specs.declared.event.Item.TheVariants as item
 use Rattle.nit_events.specs.declared.entry.Entry.TheVariants as entry
-use Rattle.nit_stack.specs.declared.view.View.{View}
 
 -- the view that owns the pixel passes this test
 abbrev pub is_owned_by : (View → Bool) → State → Point → Bool

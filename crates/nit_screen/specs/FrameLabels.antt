@@ -1,9 +1,8 @@
 -- What a frame shows of the labels of views.
 use Rattle.std.specs.Prelude.{◌≡◌, ℕ, ◌+◌, ◌*◌, ◌<◌, ◌≤◌, pos, List, length, slice_index, All}
-use Rattle.nit_screen.specs.Below.{AllPairs, IfSome, IsApart, IsTrue, Rectangle, Scenery, dot}
-use Rattle.nit_screen.specs.Below.{IsWord, draws_labels, frame, ink_of, label_place_of}
+use Rattle.nit_screen.specs.Below.{AllPairs, IfSome, IsApart, IsTrue, IsWord, Rectangle, Scenery}
+use Rattle.nit_screen.specs.Below.{View, dot, draws_labels, frame, ink_of, label_place_of}
 use Rattle.nit_screen.specs.Below.{picture_height, picture_width, rectangle, view_text}
-use Rattle.nit_stack.specs.declared.view.View.{View}
 
 -- how many columns the label of a view has
 abbrev pub label_width : Scenery → View → ℕ

@@ -1,10 +1,9 @@
 -- Views that are told apart by their sessions and handles.
 use Rattle.std.specs.Prelude.{◌≡◌, ◌<◌, false, List, All}
-use Rattle.nit_screen.specs.Below.{Entry, NoPair, State, is_view, list_any, session}
+use Rattle.nit_screen.specs.Below.{Entry, NoPair, State, View, is_view, list_any, session}
 use Rattle.nit_events.specs.declared.call.Call.TheVariants as call
 use Rattle.nit_events.specs.declared.call.Reply.TheVariants as reply
 use Rattle.nit_events.specs.declared.entry.Entry.TheVariants as entry
-use Rattle.nit_stack.specs.declared.view.View.{View}
 
 -- no two views of the list have the same session and handle
 abbrev pub HaveOwnNames : List View → Type 0

@@ -1,17 +1,17 @@
 -- What answers use: all that lemmas use, and this crate's lemmas.
 pub use Rattle.nit_top.proofs.Basics.{AreLines, AreOutputs, AreShots, Audit, Bad, Configuration}
-pub use Rattle.nit_top.proofs.Basics.{End, Entry, Err, File, FitsLine, HasFilmed, InputLine}
+pub use Rattle.nit_top.proofs.Basics.{End, Ends, Entry, Err, File, FitsLine, HasFilmed, InputLine}
 pub use Rattle.nit_top.proofs.Basics.{IsInnerEnd, IsInnerJournal, IsLegal, IsSameClient, Line, List}
 pub use Rattle.nit_top.proofs.Basics.{MayCome, MayShowFrames, NestError, Nested, NestsRun, NoMemory}
 pub use Rattle.nit_top.proofs.Basics.{Phases, Rectangle, RunFiles, Setup, Some, Stop, TooLong, ap}
-pub use Rattle.nit_top.proofs.Basics.{apart_of, begun_of, by_turns, calls_to_make, codes, decimal}
-pub use Rattle.nit_top.proofs.Basics.{decimal_digit, decimal_step, end_of_nest, err_from_is_err_and}
-pub use Rattle.nit_top.proofs.Basics.{events_name, false, files_in, film_of, final_name}
-pub use Rattle.nit_top.proofs.Basics.{final_picture, first_capture, first_state, flat_map}
-pub use Rattle.nit_top.proofs.Basics.{frames_counted, idle_user, inl, length, map, name_text}
+pub use Rattle.nit_top.proofs.Basics.{apart_of, begun_of, by_turns, calls_to_make, codes}
+pub use Rattle.nit_top.proofs.Basics.{command_of, decimal, decimal_digit, decimal_step, end_of_nest}
+pub use Rattle.nit_top.proofs.Basics.{err_from_is_err_and, events_name, false, files_in, film_of}
+pub use Rattle.nit_top.proofs.Basics.{final_name, final_picture, first_capture, first_state}
+pub use Rattle.nit_top.proofs.Basics.{flat_map, frames_counted, idle_user, inl, map, name_text}
 pub use Rattle.nit_top.proofs.Basics.{nest_of, none_is, other_phases, other_short, phase_counts}
 pub use Rattle.nit_top.proofs.Basics.{pictures_in, piece_text, rectangle_of, refl, rules, run_files}
-pub use Rattle.nit_top.proofs.Basics.{screen, setup_in, setup_of, shots_of, shown_first}
+pub use Rattle.nit_top.proofs.Basics.{setup_in, setup_of, shots_of, shown_first}
 pub use Rattle.nit_top.proofs.Basics.{still_configuration, still_setup, subst, sym, text_files}
 pub use Rattle.nit_top.proofs.Basics.{texts, true, user_actions_to_do, with_said, ℕ, ◌∙◌}
 pub use Rattle.nit_top.proofs.Causes.{causes, ended_as}

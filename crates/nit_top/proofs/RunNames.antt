@@ -10,15 +10,14 @@ use Rattle.nit_top.proofs.Basics.{IsJournal, IsNearPicture, IsRunnable, IsSetupO
 use Rattle.nit_top.proofs.Basics.{NoCommand, Numbered, OtherThan, PutError, RunFiles, SayingRefused}
 use Rattle.nit_top.proofs.Basics.{Says, Setup, ShotsLaw, Still, StoreModel, actions_few, all_append}
 use Rattle.nit_top.proofs.Basics.{apart_by, apart_front, append_cancel_left, append_cancel_right}
-use Rattle.nit_top.proofs.Basics.{begin_other, codes, differ, drawn_along, events_begin}
+use Rattle.nit_top.proofs.Basics.{begin_other, codes, differ, done, drawn_along, events_begin}
 use Rattle.nit_top.proofs.Basics.{events_file, events_files, events_name, film_name, final_name}
 use Rattle.nit_top.proofs.Basics.{final_picture, first_state, flat_map, generated_files}
 use Rattle.nit_top.proofs.Basics.{inner_journal_name, journal_file, made_by, member, numbered}
 use Rattle.nit_top.proofs.Basics.{other_letter, range_with_len, rules, saying-saying, shots}
 use Rattle.nit_top.proofs.Basics.{shots_apart_all, shots_begin, slice_index, text_files}
-use Rattle.nit_top.proofs.Basics.{texts_other, user_actions_of, with_said}
+use Rattle.nit_top.proofs.Basics.{texts_other, user_actions_from, user_actions_of, with_said}
 use Rattle.std.specs.Fmt.{digits}
-use Rattle.nit_top.specs.Terms.{done, user_actions_from}
 
 -- ---- the files that are made before a run
 

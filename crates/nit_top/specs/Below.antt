@@ -49,8 +49,8 @@ pub use Rattle.nit_rect.specs.Rectangle.{Rectangle, rectangle, spans}
 pub use Rattle.nit_rect.specs.declared.point.Point.{Point}
 pub use Rattle.nit_report.specs.EntrySpelling.{event_spelling}
 pub use Rattle.nit_report.specs.EventsText.{ending_text, taken}
-pub use Rattle.nit_report.specs.Generator.{client_script, client_text, generated, is_shot_line}
-pub use Rattle.nit_report.specs.Generator.{script_name, user_script, user_text}
+pub use Rattle.nit_report.specs.Generator.{client_script, generated, is_shot_line, script_name}
+pub use Rattle.nit_report.specs.Generator.{user_script}
 pub use Rattle.nit_report.specs.JournalText.{ReadsJournal, journal_text}
 pub use Rattle.nit_report.specs.Picture.{picture, picture_header}
 pub use Rattle.nit_rounds.specs.Drawing.{Drawing, after_turn, drawn_shot, frame_of, opening_drawing}

@@ -31,15 +31,15 @@ pub use Rattle.nit_top.specs.Below.{after_observations, after_turn, alone_machin
 pub use Rattle.nit_top.specs.Below.{asked_also, asking_all, asks_for, begun_of, black_or_word}
 pub use Rattle.nit_top.specs.Below.{buffer_place, buffer_size, by_call, by_life, by_refusal}
 pub use Rattle.nit_top.specs.Below.{by_status, by_turns, bytes_of, calls_in, calls_of}
-pub use Rattle.nit_top.specs.Below.{calls_to_make, client_script, client_text, clip_name, clip_text}
-pub use Rattle.nit_top.specs.Below.{clips_name, clips_setup_of, codes, command, command_of}
-pub use Rattle.nit_top.specs.Below.{count_by, crop, crop_pixel, decimal, donation_of, done}
-pub use Rattle.nit_top.specs.Below.{drawn_shot, ending_of, ending_text, event_spelling}
-pub use Rattle.nit_top.specs.Below.{events_among, events_file, events_files, events_name, false}
-pub use Rattle.nit_top.specs.Below.{fault_code, file_at, file_names, files_in, film_name, film_of}
-pub use Rattle.nit_top.specs.Below.{final_name, final_picture, first_capture, first_forbidden}
-pub use Rattle.nit_top.specs.Below.{first_name, first_other, first_session, first_state, flat_map}
-pub use Rattle.nit_top.specs.Below.{frame_of, frames_behind, frames_of, generated, generated_files}
+pub use Rattle.nit_top.specs.Below.{calls_to_make, client_script, clip_name, clip_text, clips_name}
+pub use Rattle.nit_top.specs.Below.{clips_setup_of, codes, command, command_of, count_by, crop}
+pub use Rattle.nit_top.specs.Below.{crop_pixel, decimal, donation_of, done, drawn_shot, ending_of}
+pub use Rattle.nit_top.specs.Below.{ending_text, event_spelling, events_among, events_file}
+pub use Rattle.nit_top.specs.Below.{events_files, events_name, false, fault_code, file_at}
+pub use Rattle.nit_top.specs.Below.{file_names, files_in, film_name, film_of, final_name}
+pub use Rattle.nit_top.specs.Below.{final_picture, first_capture, first_forbidden, first_name}
+pub use Rattle.nit_top.specs.Below.{first_other, first_session, first_state, flat_map, frame_of}
+pub use Rattle.nit_top.specs.Below.{frames_behind, frames_of, generated, generated_files}
 pub use Rattle.nit_top.specs.Below.{generated_setup, idle_user, index_at, inner_journal_name}
 pub use Rattle.nit_top.specs.Below.{input_phases, is_accepted, is_off_screen, is_shot_line, is_some}
 pub use Rattle.nit_top.specs.Below.{is_too_long, journal_file, journal_text, label_text, last_frame}
@@ -59,9 +59,8 @@ pub use Rattle.nit_top.specs.Below.{source_under, spans, spelled, starts_threads
 pub use Rattle.nit_top.specs.Below.{still_configuration, still_setup, stream, tables_left, taken}
 pub use Rattle.nit_top.specs.Below.{taking, text_files, texts, too_long_for, true, unless_other}
 pub use Rattle.nit_top.specs.Below.{unrefused, user_actions_from, user_actions_of}
-pub use Rattle.nit_top.specs.Below.{user_actions_to_do, user_script, user_text, with_asked}
-pub use Rattle.nit_top.specs.Below.{with_said, word_from, word_of_bytes, word_seen, words_left}
-pub use Rattle.nit_top.specs.Below.{woven}
+pub use Rattle.nit_top.specs.Below.{user_actions_to_do, user_script, with_asked, with_said}
+pub use Rattle.nit_top.specs.Below.{word_from, word_of_bytes, word_seen, words_left, woven}
 pub use Rattle.nit_top.specs.CaptureWork.{PerformedFilmed}
 pub use Rattle.nit_top.specs.ClipWork.{PerformedClips}
 pub use Rattle.nit_top.specs.CommandEnd.{Ended, Finished}

@@ -1,6 +1,6 @@
 //! The top call.
 
-ghost use Rattle.std.specs.Prelude.{false, ◌≡◌, IfSome};
+ghost use Rattle.std.specs.Prelude.{false, ◌≡◌, IfNone, IfSome};
 ghost use Rattle.nit_top.specs.Terms.{Answer, Ends, Finished, IsAskedInRange, command, command_of};
 ghost use Rattle.nit_top.specs.Terms.{starts_threads, texts};
 
@@ -37,7 +37,10 @@ pub fn nitpicker<R: Threads + Wait + Sync, S: Store, G: Gate>(
     generated_runs_count();
     names_differ();
     let asked = parse_words(words);
-    let worked = work(&ThreadHost { rt, alloc, gate }, store, asked);
+    let worked = match work_beside(&ThreadHost { rt, alloc, gate }, store, asked) {
+        Some(worked) => worked,
+        None => work_alone(alloc, store, asked),
+    };
     finish(store, asked, worked)
 }
 
@@ -72,24 +75,26 @@ pub fn starts_threads(words: &[String]) -> bool
     )
 }
 
-/// Does the work that the words ask for.
-fn work<R: Threads + Wait + Sync, S: Store, G: Gate>(
+/// Does the work, where the words start threads. None where they start no thread, and then nothing
+/// is done.
+fn work_beside<R: Threads + Wait + Sync, S: Store, G: Gate>(
     host: &ThreadHost<R, G>,
     store: &mut S,
     asked: Option<Asked>,
-) -> Worked
+) -> Option<Worked>
     requires { IfSome asked IsAskedInRange }
-    ensures { Ends (command_of asked.entry) (S.shown store.old) (S.shown store.new) result }
+    ensures done { IfSome result
+        (λ w. Ends (command_of asked.entry) (S.shown store.old) (S.shown store.new) w) }
+    ensures alone { IfNone result ((starts_threads (command_of asked.entry) ≡ false)
+        × (S.shown store.new ≡ S.shown store.old)) }
 {
-    match asked {
-        Some(Asked::Run { config }) => perform::run_command(host, store, config),
-        Some(Asked::Gen { number }) => perform::generated(host, store, number),
-        Some(Asked::Clip { config }) => clip(host, store, config),
-        Some(Asked::Capture { config, region }) => capture(host, store, config, region),
-        Some(Asked::Nested { outer, inner }) => nested(host, store, outer, inner),
-        Some(Asked::Still { .. } | Asked::Turns { .. } | Asked::Audit { .. }) | None => {
-            work_alone(host.alloc, store, asked)
-        }
+    match asked? {
+        Asked::Run { config } => Some(perform::run_command(host, store, config)),
+        Asked::Gen { number } => Some(perform::generated(host, store, number)),
+        Asked::Clip { config } => Some(clip(host, store, config)),
+        Asked::Capture { config, region } => Some(capture(host, store, config, region)),
+        Asked::Nested { outer, inner } => Some(nested(host, store, outer, inner)),
+        Asked::Still { .. } | Asked::Turns { .. } | Asked::Audit { .. } => None,
     }
 }
 

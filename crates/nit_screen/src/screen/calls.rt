@@ -42,15 +42,6 @@ impl<G: Glass + Drop> Screen<G> {
         if let Some(reply) = self.server.refused(sid, call) {
             return reply;
         }
-        self.serve(sid, call, own)
-    }
-
-    /// Serves an accepted call, and loads again exactly the pixels that it makes dirty.
-    fn serve<C: Glass>(&mut self, sid: u32, call: &Call, own: &mut C) -> Reply
-        requires { CanServe self.old sid call.now (C.sight own.old) }
-        ensures { IsCallShown G.sight G.rest C.sight C.rest sid call.now result own.old own.new
-            self.old self.new }
-    {
         match *call {
             Call::Place(handle, ..)
             | Call::Offset(handle, ..)

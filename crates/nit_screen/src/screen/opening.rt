@@ -2,8 +2,8 @@
 
 ghost use Rattle.std.specs.Prelude.{◌≡◌, ◌+◌, ◌-◌, ◌<◌, ◌≤◌, None, IfOk, length, ◌*◌, map};
 ghost use Rattle.nit_screen.specs.Terms.{AreGlasses, IsConfiguration, Point, bar_rows, bare_word};
-ghost use Rattle.nit_screen.specs.Terms.{false, first_state, most_slots, replicate};
-ghost use Rattle.nit_screen.specs.Terms.{state_of, vec_capacity};
+ghost use Rattle.nit_screen.specs.Terms.{false, first_state, most_slots, replicate, state_of};
+ghost use Rattle.nit_screen.specs.Terms.{vec_capacity};
 
 use crate::screen::Screen;
 use crate::screen::labels::Labels;

@@ -3,9 +3,9 @@
 ghost use Rattle.std.specs.Prelude.{◌≡◌, ℕ, ◌*◌, ◌<◌, ◌≤◌, All, IsTrue, Option, false, length, map};
 ghost use Rattle.std.specs.Prelude.{nat_lt, slice_index, true, if◌then◌else◌};
 ghost use Rattle.nit_screen.specs.Terms.{CanShowBy, Flat, IsOnlyCut, IsPartShown, IsServer};
-ghost use Rattle.nit_screen.specs.Terms.{IsShown, IsWord};
-ghost use Rattle.nit_screen.specs.Terms.{ShowsBelow, bar_rows, bar_word, draws_labels, frame};
-ghost use Rattle.nit_screen.specs.Terms.{kept_frame, pixel, raw_of, scenery_of, state_of, wanted};
+ghost use Rattle.nit_screen.specs.Terms.{IsShown, IsWord, ShowsBelow, bar_rows, bar_word};
+ghost use Rattle.nit_screen.specs.Terms.{draws_labels, frame, kept_frame, pixel, raw_of};
+ghost use Rattle.nit_screen.specs.Terms.{scenery_of, state_of, wanted};
 
 use crate::screen::labels::Labels;
 use crate::screen::lists::{reach, take_bar_off};

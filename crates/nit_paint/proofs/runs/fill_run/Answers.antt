@@ -1,5 +1,4 @@
-use Rattle.std.proofs.Common.{arith, rules}
-use Rattle.nit_paint.proofs.Lemmas.{filled, places}
+use Rattle.nit_paint.proofs.Lemmas.{arith, filled, places, rules}
 use Rattle.nit_paint.proofs.runs.fill_run.Goals as goal
 
 pub returns : goal.returns

@@ -1,7 +1,6 @@
 use Rattle.std.proofs.Common.{[], ◌∙◌, ◌≡◌}
-use Rattle.nit_perform.proofs.Lemmas.{Configuration, End, all_push, ap, at_member, blank}
-use Rattle.nit_perform.proofs.Lemmas.{donation_of, get_or_default, length_push, map_push, new_sight}
-use Rattle.nit_perform.proofs.Lemmas.{script_in}
+use Rattle.nit_perform.proofs.Lemmas.{Configuration, End, all_push, ap, at_member, donation_of}
+use Rattle.nit_perform.proofs.Lemmas.{get_or_default, length_push, map_push, new_sight, script_in}
 use Rattle.nit_perform.proofs.memory.buffers_of.Goals as goal
 
 pub loop-sid-preserved : goal.loop-sid-preserved

@@ -1,4 +1,4 @@
-use Rattle.nit_perform.proofs.PutLemmas.{events_name_is_text}
+use Rattle.nit_perform.proofs.Lemmas.{events_name_is_text}
 use Rattle.nit_perform.proofs.texts.put_named.Goals as goal
 
 pub unreachable-requires : goal.unreachable-requires

@@ -1,6 +1,5 @@
-use Rattle.std.proofs.lemmas.Bool.Decides.{nat_tests}
+use Rattle.nit_rounds.proofs.Lemmas.{all_drawn, arith, nat_tests, row_drawn, told_at}
 use Rattle.nit_rounds.proofs.DrawingLemmas.{begun}
-use Rattle.nit_rounds.proofs.Lemmas.{all_drawn, arith, row_drawn, told_at}
 use Rattle.nit_rounds.proofs.copying.copy_area.Goals as goal
 
 pub rows-init : goal.rows-init

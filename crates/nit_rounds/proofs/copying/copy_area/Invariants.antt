@@ -1,5 +1,4 @@
-use Rattle.nit_rounds.proofs.DrawingLemmas.{IsWithWords}
-use Rattle.nit_rounds.proofs.Lemmas.{rows_to, told_at}
+use Rattle.nit_rounds.proofs.Lemmas.{IsWithWords, rows_to, told_at}
 use Rattle.nit_rounds.proofs.copying.copy_area.Given as goal
 
 abbrev pub invariant-rows : goal.invariant-rows

@@ -1,7 +1,6 @@
 use Rattle.std.proofs.Common.{arith, rules, ℕ, ◌++◌, ◌<◌, ◌^◌}
-use Rattle.nit_rounds.proofs.Basics.{IsAscii-decimal, IsUtf8, IsUtf8-append, IsUtf8-from_ascii}
-use Rattle.nit_rounds.proofs.Basics.{codes, decimal, shot_name}
-use Rattle.nit_rounds.proofs.Lemmas.{subst, sym}
+use Rattle.nit_rounds.proofs.Lemmas.{IsAscii-decimal, IsUtf8, IsUtf8-append, IsUtf8-from_ascii}
+use Rattle.nit_rounds.proofs.Lemmas.{codes, decimal, shot_name, subst, sym}
 use Rattle.nit_rounds.proofs.desk.put_shot.Goals as goal
 
 name_is_text : (n : ℕ) → n < 2 ^ 32 → IsUtf8 (shot_name n)
@@ -12,4 +11,4 @@ name_is_text n small =
 
 pub unreachable-requires : goal.unreachable-requires
 unreachable-requires g c = c.in_default.ensures.cases.0
-    (subst IsUtf8 (sym c.write_name-end.ensures.name) (name_is_text c.args.number c.ranges.number.fits))
+    (subst IsUtf8 (sym c.shot_name_into-end.ensures.name) (name_is_text c.args.number c.ranges.number.fits))

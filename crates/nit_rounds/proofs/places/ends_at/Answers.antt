@@ -1,6 +1,5 @@
-use Rattle.std.proofs.lemmas.Bool.Decides.{nat_tests}
-use Rattle.std.proofs.Common.{arith}
-use Rattle.nit_rounds.proofs.Lemmas.{client_end, client_inside, user_end, user_inside}
+use Rattle.nit_rounds.proofs.Lemmas.{arith, client_end, client_inside, nat_tests, user_end}
+use Rattle.nit_rounds.proofs.Lemmas.{user_inside}
 use Rattle.nit_rounds.proofs.places.ends_at.Goals as goal
 
 pub bounds-lines-line : goal.bounds-lines-line

@@ -1,6 +1,4 @@
-use Rattle.std.proofs.Common.{arith}
-use Rattle.std.proofs.lemmas.Bool.Decides.{nat_tests}
-use Rattle.nit_rounds.proofs.Lemmas.{client_long, user_long}
+use Rattle.nit_rounds.proofs.Lemmas.{arith, client_long, nat_tests, user_long}
 use Rattle.nit_rounds.proofs.places.line_count.Goals as goal
 
 pub returns-then-actor-scripts-clause-count : goal.returns-then-actor-scripts-clause-count

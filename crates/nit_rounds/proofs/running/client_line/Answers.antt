@@ -1,7 +1,6 @@
-use Rattle.std.proofs.Common.{arith}
-use Rattle.std.proofs.lemmas.Bool.Decides.{nat_tests}
-use Rattle.nit_rounds.proofs.Lemmas.{Some, ap, as_found, call_done, call_served, can_call}
-use Rattle.nit_rounds.proofs.Lemmas.{glasses_still, line_here, same_glasses, same_own, ◌∙◌}
+use Rattle.nit_rounds.proofs.Lemmas.{Some, ap, arith, as_found, call_done, call_served, can_call}
+use Rattle.nit_rounds.proofs.Lemmas.{glasses_still, line_here, nat_tests, same_glasses, same_own}
+use Rattle.nit_rounds.proofs.Lemmas.{◌∙◌}
 use Rattle.nit_rounds.proofs.running.client_line.Goals as goal
 
 pub call-requires : goal.call-requires

@@ -1,6 +1,4 @@
-use Rattle.std.proofs.Common.{arith}
-use Rattle.std.proofs.lemmas.Bool.Decides.{nat_tests}
-use Rattle.nit_rounds.proofs.Lemmas.{copied_first, glass_there}
+use Rattle.nit_rounds.proofs.Lemmas.{arith, copied_first, glass_there, nat_tests}
 use Rattle.nit_rounds.proofs.stale.add.Goals as goal
 
 pub returns-clause-behind : goal.returns-clause-behind

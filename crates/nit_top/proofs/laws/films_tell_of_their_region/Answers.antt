@@ -1,4 +1,4 @@
-use Rattle.nit_top.proofs.Lemmas.{film_of, picture_seen, pictures_in, same_film, screen}
+use Rattle.nit_top.proofs.Lemmas.{film_of, picture_seen, pictures_in, same_film}
 use Rattle.nit_top.proofs.laws.films_tell_of_their_region.Goals as goal
 
 pub returns-clause-film : goal.returns-clause-film

@@ -1,5 +1,4 @@
-use Rattle.std.proofs.Common.{false}
-use Rattle.nit_perform.proofs.Lemmas.{before_shot, film_grows, one_shot_more, picture_names}
+use Rattle.nit_perform.proofs.Lemmas.{before_shot, false, film_grows, one_shot_more, picture_names}
 use Rattle.nit_perform.proofs.film_store.FilmStore.put_shot.Goals as goal
 
 pub invariant_of-self-2 : goal.invariant_of-self-2

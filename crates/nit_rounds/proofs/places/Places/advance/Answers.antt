@@ -1,6 +1,4 @@
-use Rattle.std.proofs.Common.{arith}
-use Rattle.std.proofs.lemmas.Bool.Decides.{nat_tests}
-use Rattle.nit_rounds.proofs.Lemmas.{all_done, to_actor, to_phase, to_round}
+use Rattle.nit_rounds.proofs.Lemmas.{all_done, arith, nat_tests, to_actor, to_phase, to_round}
 use Rattle.nit_rounds.proofs.places.Places.advance.Goals as goal
 
 pub returns-in-Some-clause-left : goal.returns-in-Some-clause-left

@@ -1,8 +1,6 @@
-use Rattle.std.proofs.Common.{arith}
-use Rattle.std.proofs.lemmas.Bool.Decides.{nat_tests}
-use Rattle.nit_screen.proofs.Lemmas.{ap, false≢true, refused_reply, refused_state, serve_refused}
-use Rattle.nit_screen.proofs.Lemmas.{session, session_in, state_of, sym, unpainted, unrefused_reply}
-use Rattle.nit_screen.proofs.Lemmas.{◌∙◌}
+use Rattle.nit_screen.proofs.Lemmas.{ap, arith, false≢true, nat_tests, refused_reply, refused_state}
+use Rattle.nit_screen.proofs.Lemmas.{serve_refused, session, session_in, state_of, sym, unpainted}
+use Rattle.nit_screen.proofs.Lemmas.{unrefused_reply, ◌∙◌}
 use Rattle.nit_events.specs.declared.entry.Entry.TheVariants as entry
 use Rattle.nit_screen.proofs.screen.Screen.call.Goals as goal
 
@@ -24,8 +22,14 @@ returns-in-Some-clause-painted g c =
     ∙ c.in-Some.is) in
     rw (← c.self.view_is) (unpainted s (entry.Call c.args.sid c.args.call.now c.in-Some.reply) s (λ p. rw no_))
 
-pub serve-requires : goal.serve-requires
-serve-requires g c = grind (arith, nat_tests)
+pub returns-in-Place-clause-refused : goal.returns-in-Place-clause-refused
+returns-in-Place-clause-refused g c = grind (arith, nat_tests, unrefused_reply, false≢true)
 
-pub returns-clause-refused : goal.returns-clause-refused
-returns-clause-refused g c = grind (arith, nat_tests, unrefused_reply, false≢true)
+pub returns-in-Buffer-clause-refused : goal.returns-in-Buffer-clause-refused
+returns-in-Buffer-clause-refused g c = grind (arith, nat_tests, unrefused_reply, false≢true)
+
+pub returns-in-Refresh-clause-refused : goal.returns-in-Refresh-clause-refused
+returns-in-Refresh-clause-refused g c = grind (arith, nat_tests, unrefused_reply, false≢true)
+
+pub returns-in-Close-clause-refused : goal.returns-in-Close-clause-refused
+returns-in-Close-clause-refused g c = grind (arith, nat_tests, unrefused_reply, false≢true)

@@ -1,7 +1,5 @@
-use Rattle.std.proofs.Common.{arith}
-use Rattle.std.proofs.lemmas.Bool.Decides.{nat_tests}
-use Rattle.nit_screen.proofs.Lemmas.{IsGlass, exchanged, length-map, length-set, slice_get_read}
-use Rattle.nit_screen.proofs.Lemmas.{sym, ◌∙◌}
+use Rattle.nit_screen.proofs.Lemmas.{IsGlass, arith, exchanged, length-map, length-set, nat_tests}
+use Rattle.nit_screen.proofs.Lemmas.{slice_get_read, sym, ◌∙◌}
 use Rattle.nit_screen.proofs.screen.Screen.exchange.Goals as goal
 
 pub invariant_of-self : goal.invariant_of-self

@@ -1,8 +1,6 @@
-use Rattle.std.proofs.Common.{arith}
-use Rattle.std.proofs.lemmas.Bool.Decides.{nat_tests}
-use Rattle.nit_screen.proofs.Lemmas.{ap, can_stay, deliveries_of, kill_alone, kill_is_live}
-use Rattle.nit_screen.proofs.Lemmas.{killed_painted, killed_state, kills, no_kill, none_dirty}
-use Rattle.nit_screen.proofs.Lemmas.{raw_of, state_of, unpainted, ◌∙◌}
+use Rattle.nit_screen.proofs.Lemmas.{ap, arith, can_stay, deliveries_of, kill_alone, kill_is_live}
+use Rattle.nit_screen.proofs.Lemmas.{killed_painted, killed_state, kills, nat_tests, no_kill}
+use Rattle.nit_screen.proofs.Lemmas.{none_dirty, raw_of, state_of, unpainted, ◌∙◌}
 use Rattle.nit_events.specs.declared.entry.Entry.TheVariants as entry
 use Rattle.nit_screen.proofs.screen.Screen.input.Goals as goal
 

@@ -1,6 +1,6 @@
-use Rattle.std.proofs.lemmas.Bool.Decides.{nat_tests}
 use Rattle.nit_screen.proofs.Lemmas.{can_still, entry_painted_in, few_views, flat_below, glass_in}
-use Rattle.nit_screen.proofs.Lemmas.{holds, painted_bare, painted_whole, repainted_words, state_of}
+use Rattle.nit_screen.proofs.Lemmas.{holds, nat_tests, painted_bare, painted_whole, repainted_words}
+use Rattle.nit_screen.proofs.Lemmas.{state_of}
 use Rattle.std.proofs.Common.{arith, length, map, sym, ◌*◌, ◌∙◌}
 use Rattle.nit_events.specs.declared.entry.Entry.TheVariants as entry
 use Rattle.nit_screen.proofs.screen.Screen.load_all.Goals as goal

@@ -1,7 +1,6 @@
-use Rattle.std.proofs.lemmas.Bool.Decides.{nat_tests}
 use Rattle.nit_screen.proofs.Lemmas.{All-replicate, Configuration, IsWord, State, bare_unbarred}
 use Rattle.nit_screen.proofs.Lemmas.{bare_word, flat_below, get_or-replicate, length-map}
-use Rattle.nit_screen.proofs.Lemmas.{length-replicate}
+use Rattle.nit_screen.proofs.Lemmas.{length-replicate, nat_tests}
 use Rattle.std.proofs.Common.{ap, arith, length, ◌*◌, ◌∙◌, ◌≡◌}
 use Rattle.nit_screen.proofs.screen.Screen.new.Goals as goal
 

@@ -1,6 +1,5 @@
-use Rattle.std.proofs.lemmas.Bool.Decides.{nat_tests}
 use Rattle.nit_screen.proofs.Lemmas.{arith, as_many_as, can_relabel, length-map, length-set, map}
-use Rattle.nit_screen.proofs.Lemmas.{same_source, sym, tables_stay, ◌∙◌}
+use Rattle.nit_screen.proofs.Lemmas.{nat_tests, same_source, sym, tables_stay, ◌∙◌}
 use Rattle.nit_screen.proofs.screen.Screen.reopen.Goals as goal
 
 pub index_mut-requires : goal.index_mut-requires

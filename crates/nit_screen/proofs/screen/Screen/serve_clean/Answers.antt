@@ -1,7 +1,5 @@
-use Rattle.std.proofs.Common.{arith}
-use Rattle.std.proofs.lemmas.Bool.Decides.{nat_tests}
-use Rattle.nit_screen.proofs.Lemmas.{clean_call, clean_shown, refl, same_config, screen_unloaded}
-use Rattle.nit_screen.proofs.Lemmas.{state_of, unpainted}
+use Rattle.nit_screen.proofs.Lemmas.{arith, clean_call, clean_shown, nat_tests, refl, same_config}
+use Rattle.nit_screen.proofs.Lemmas.{screen_unloaded, state_of, unpainted}
 use Rattle.nit_events.specs.declared.entry.Entry.TheVariants as entry
 use Rattle.nit_screen.proofs.screen.Screen.serve_clean.Goals as goal
 

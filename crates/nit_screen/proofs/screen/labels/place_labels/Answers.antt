@@ -1,5 +1,5 @@
-use Rattle.std.proofs.lemmas.Bool.Decides.{nat_tests}
-use Rattle.nit_screen.proofs.Lemmas.{arith, labelled_more, length, slice_get-get_or, slot_within}
+use Rattle.nit_screen.proofs.Lemmas.{arith, labelled_more, length, nat_tests, slice_get-get_or}
+use Rattle.nit_screen.proofs.Lemmas.{slot_within}
 use Rattle.nit_screen.proofs.screen.labels.place_labels.Goals as goal
 
 pub bounds-places-slot : goal.bounds-places-slot

@@ -1,5 +1,4 @@
-use Rattle.std.proofs.lemmas.Bool.Decides.{nat_tests}
-use Rattle.nit_screen.proofs.Lemmas.{arith, few_views}
+use Rattle.nit_screen.proofs.Lemmas.{arith, few_views, nat_tests}
 use Rattle.nit_screen.proofs.screen.pixels.frame_of.Goals as goal
 
 pub show_whole-requires-clause-room : goal.show_whole-requires-clause-room

@@ -1,8 +1,7 @@
-use Rattle.std.proofs.lemmas.Bool.Decides.{nat_tests}
 use Rattle.nit_screen.proofs.Lemmas.{IsViewChange, all_painted, all_taken, can_paint_gone}
 use Rattle.nit_screen.proofs.Lemmas.{can_paint_rest, goes, goes_painted, gone_by_slot, gone_change}
-use Rattle.nit_screen.proofs.Lemmas.{gone_painted, length-set, no_repaint, one_less, pixel}
-use Rattle.nit_screen.proofs.Lemmas.{place_is, repaint_more, seat_here, stays, stays_clean}
+use Rattle.nit_screen.proofs.Lemmas.{gone_painted, length-set, nat_tests, no_repaint, one_less}
+use Rattle.nit_screen.proofs.Lemmas.{pixel, place_is, repaint_more, seat_here, stays, stays_clean}
 use Rattle.nit_screen.proofs.Lemmas.{taken_more, taken_none, without_views}
 use Rattle.std.proofs.Common.{ap, arith, refl, sym, ℕ, ◌+◌, ◌-◌, ◌<◌, ◌∙◌, ◌≡◌, ◌≤◌}
 use Rattle.nit_screen.proofs.screen.views.take_views_away.Goals as goal

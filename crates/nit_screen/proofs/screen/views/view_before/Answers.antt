@@ -1,6 +1,4 @@
-use Rattle.std.proofs.Common.{arith}
-use Rattle.std.proofs.lemmas.Bool.Decides.{nat_tests}
-use Rattle.nit_screen.proofs.Lemmas.{has-name}
+use Rattle.nit_screen.proofs.Lemmas.{arith, has-name, nat_tests}
 use Rattle.nit_screen.proofs.screen.views.view_before.Goals as goal
 
 pub view-requires : goal.view-requires

@@ -1,4 +1,4 @@
-use Rattle.nit_top.proofs.Lemmas.{Stop, ap, film_ends, outside_ends, stopped_ends, true, ◌∙◌}
+use Rattle.nit_top.proofs.Lemmas.{Stop, ap, film_ends, outside_ends, stopped_ends, ◌∙◌}
 use Rattle.nit_top.proofs.run.capture.capture.Goals as goal
 
 pub returns-in-Err : goal.returns-in-Err

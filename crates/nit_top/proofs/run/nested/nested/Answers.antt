@@ -1,9 +1,8 @@
 use Rattle.nit_top.proofs.Lemmas.{AreLines, Err, FitsLine, IsInnerEnd, Line, List, Nested, Some}
 use Rattle.nit_top.proofs.Lemmas.{Stop, ap, files_in, first_shows, fitting, frames_counted}
-use Rattle.nit_top.proofs.Lemmas.{inner_stopped, length, name_text, nested_ends, other_phases}
-use Rattle.nit_top.proofs.Lemmas.{other_short, outer_runnable, own_counts, phase_counts, run_files}
-use Rattle.nit_top.proofs.Lemmas.{runnable_of, setup_is, stopped_ends, subst, they_fit, unfit_ends}
-use Rattle.nit_top.proofs.Lemmas.{◌∙◌}
+use Rattle.nit_top.proofs.Lemmas.{inner_stopped, name_text, nested_ends, other_phases, other_short}
+use Rattle.nit_top.proofs.Lemmas.{outer_runnable, own_counts, phase_counts, run_files, runnable_of}
+use Rattle.nit_top.proofs.Lemmas.{setup_is, stopped_ends, subst, they_fit, unfit_ends, ◌∙◌}
 use Rattle.nit_top.proofs.run.nested.nested.Goals as goal
 
 pub run_inner-requires-clause-runnable : goal.run_inner-requires-clause-runnable

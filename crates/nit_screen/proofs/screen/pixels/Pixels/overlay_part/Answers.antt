@@ -1,7 +1,6 @@
-use Rattle.std.proofs.lemmas.Bool.Decides.{nat_tests}
+use Rattle.nit_screen.proofs.Lemmas.{StackModel, few_views, nat_tests, part_shown, rules}
+use Rattle.nit_screen.proofs.Lemmas.{take-append_seam, views_of}
 use Rattle.std.proofs.Common.{List, ap, arith, drop, length, refl, take, ℕ, ◌++◌, ◌∙◌, ◌≡◌}
-use Rattle.nit_screen.proofs.Lemmas.{StackModel, few_views, part_shown, rules, take-append_seam}
-use Rattle.nit_screen.proofs.Lemmas.{views_of}
 use Rattle.nit_screen.proofs.screen.pixels.Pixels.overlay_part.Goals as goal
 
 pub show_session-requires-clause-room : goal.show_session-requires-clause-room

@@ -1,6 +1,5 @@
-use Rattle.std.proofs.lemmas.Bool.Decides.{nat_tests}
-use Rattle.nit_rounds.proofs.Lemmas.{arith, few_digits}
-use Rattle.nit_rounds.proofs.desk.write_name.Goals as goal
+use Rattle.nit_rounds.proofs.Lemmas.{arith, few_digits, nat_tests}
+use Rattle.nit_rounds.proofs.desk.shot_name_into.Goals as goal
 
 pub number-at-requires : goal.number-at-requires
 number-at-requires c = grind (arith, nat_tests, few_digits)
