@@ -259,9 +259,9 @@ module _ {d d1 d2 : DesktopModel SheetModel} {hollows : List SheetModel} {seat :
     shown = rw (glasses_now host served swapped at) (words_now (refusal s asked) refl);
   })
     where
-      by : (o : Option Reply) → refusal s asked ≡ o
+      unless_refused : (o : Option Reply) → refusal s asked ≡ o
           → called seat asked (host_with d seat own' kept seen) ≡ refreshed seat x y w h words (host_model d kept seen)
-      by None is = rw (ap (λ (a : Answered). is_accepted a.reply) (serve_accepted s asked is), part is) refl
-      by (Some why) is =
+      unless_refused None is = rw (ap (λ (a : Answered). is_accepted a.reply) (serve_accepted s asked is), part is) refl
+      unless_refused (Some why) is =
           let no_ = ap (λ (a : Answered). is_accepted a.reply) (serve_refused s asked why is) in
           rw (no_ ∙ refused_reply s asked why is, same_words old_words seat _ (same why is)) refl

@@ -102,15 +102,15 @@ module _ (s : State) (seat : ℕ) (r : Reply) (sheets sheets' : List (List ℕ))
       whole_stays _ _ a _ _ (λ x y wide high. holds.0.bare x y wide high refl)
 
   pub call_stays : (c : Call) → Keeps c → Holds (touch_of s seat c) c → Stays c
-  call_stays c kept holds = go (refusal (session s seat) c) s.input.mode refl refl holds
+  call_stays c kept holds = by_refusal_and_mode (refusal (session s seat) c) s.input.mode refl refl holds
     where
-      go : (o : Option Reply) (m : Mode) → refusal (session s seat) c ≡ o → s.input.mode ≡ m
+      by_refusal_and_mode : (o : Option Reply) (m : Mode) → refusal (session s seat) c ≡ o → s.input.mode ≡ m
           → Holds (touched_unless o m c) c → Stays c
-      go (Some why) m is mode_is holds = refused_stays c why is kept
-      go None mode.Flat is flat holds =
+      by_refusal_and_mode (Some why) m is mode_is holds = refused_stays c why is kept
+      by_refusal_and_mode None mode.Flat is flat holds =
           flat_stays s (behind c) sheets sheets' a refl refl refl flat (call_mode seat c r s ∙ flat)
           (λ k less off. clean_stays c kept k (clean_outside c holds k less off)) (bar_stays c holds)
-      go None other is mode_is holds = over_stays c kept holds
+      by_refusal_and_mode None other is mode_is holds = over_stays c kept holds
 
 -- what a call left of what was seen, and the area of what has changed since
 pub seen_called : {s s' : State} {seat : ℕ} (c : Call) {r : Reply} (sheets sheets' : List (List ℕ)) {t : Touch}
@@ -194,16 +194,16 @@ module _ (s s' : State) (dev : Device) (routed : Routed) (sheets sheets' : List 
       → IsSeenBut s' sheets' a1 seen × IsAreaOf s'.config.width s'.config.height a1
   seen_input is_same before now told old new none modes focuses joined on =
       rw is (
-        seen_after s after_it sheets sheets' a1 refl refl refl a0 seen known joined.own (go is_same refl),
+        seen_after s after_it sheets sheets' a1 refl refl refl a0 seen known joined.own (whether_same is_same refl),
         joined.area s.config.width s.config.height on old.area new_.area,
       )
     where
       new_ : IsToldArea after_it (deliveries_of routed) now
       new_ = rw is at new
 
-      go : (b : Bool) → is_same ≡ b
+      whether_same : (b : Bool) → is_same ≡ b
           → StaysOutside s.config.width (pixel_count s) a1 (frame_by s sheets) (frame_by after_it sheets')
-      go true known_ = λ k less off.
+      whether_same true known_ = λ k less off.
           let stays = kept_views (route s.config s.input s.stack dev).deliveries s.stack
           (sym (ap kills told) ∙ none known_) in
           same_pixel s after_it sheets sheets' a1 refl refl refl k less
@@ -213,7 +213,7 @@ module _ (s s' : State) (dev : Device) (routed : Routed) (sheets sheets' : List 
             focus = (focuses known_ ∙ ap (λ (x : State). x.input.focus) is) i;
           })
           (words_told (none known_) k)
-      go false other = elim (cases_Bool (kills (deliveries_of routed))) [
+      whether_same false other = elim (cases_Bool (kills (deliveries_of routed))) [
         | inl there ↦ whole_stays _ _ a1 _ _ (λ x y wide high. joined.new other x y (new_.screen there x y wide high))
         | inr none ↦ bar_changes s after_it sheets sheets' a1 refl refl refl (λ k less. words_told none k)
             (bar_more s before a1 old.bar (joined.old other)) (bar_more after_it now a1 new_.bar (joined.new other))

@@ -86,20 +86,20 @@ module _ (s s' : State) (sheets sheets' : List (List ℕ)) (a : Area) (width : s
 owned_inside : (test : View → Bool) (s : State) (p : Point) (inside : Bool)
     → ((i : ℕ) (v : View) → slice_get s.stack i ≡ Some v → test v ≡ true → covers v.rect p ≡ true → inside ≡ true)
     → is_owned_by test s p ≡ true → inside ≡ true
-owned_inside test s p inside holds owned = go (in_bar (bar_rows s.config) p) (find shows s.stack) refl owned
+owned_inside test s p inside holds owned = by_owner (in_bar (bar_rows s.config) p) (find shows s.stack) refl owned
   where
     shows : View → Bool
     shows v = covers v.rect p
 
-    go : (b : Bool) (o : Option View) → find shows s.stack ≡ o → option_map_or test (cond b None o) false ≡ true
+    by_owner : (b : Bool) (o : Option View) → find shows s.stack ≡ o → option_map_or test (cond b None o) false ≡ true
         → inside ≡ true
-    go false (Some v) is passes =
+    by_owner false (Some v) is passes =
         let at : ℕ = position_or_len shows s.stack in
         let there : slice_get s.stack at ≡ Some v = sym (find_at shows s.stack) ∙ is in
         holds at v there passes (ap shows (sym (get_or_from_slice_get s.stack at v v there))
         ∙ passes_at_first shows s.stack v (slice_get_within s.stack at v there))
-    go false None is none = absurd (false≢true none)
-    go true o is none = absurd (false≢true none)
+    by_owner false None is none = absurd (false≢true none)
+    by_owner true o is none = absurd (false≢true none)
 
 -- ---- a pixel that shows a part
 
@@ -128,7 +128,7 @@ part_inside : (seat : ℕ) (part : Rectangle) (s : State) (p : Point) (inside : 
 part_inside seat part s p inside holds shows =
     owned_inside (λ v. of_part (black_or_word v.sid (shown_index (buffer_size s.sessions v.sid) v p))) s p inside
     (λ i v there word covered. by_index i v there covered (shown_index (buffer_size s.sessions v.sid) v p) refl word)
-    (go (owner_of s p) shows)
+    (by_owner (owner_of s p) shows)
   where
     of_part : PixelSource → Bool
     of_part source = is_word_in seat (session s seat).bw part source
@@ -142,11 +142,11 @@ part_inside seat part s p inside holds shows =
         let shown = shown_part part (buffer_size s.sessions v.sid) v p n is (rw (eqb-true v.sid seat both.0) both.1) in
         holds i v there (λ k. both.0 k && (covered k && shown k))
 
-    go : (o : Option View) → of_part (source_under (buffer_size s.sessions) p o) ≡ true
+    by_owner : (o : Option View) → of_part (source_under (buffer_size s.sessions) p o) ≡ true
         → option_map_or (λ v. of_part (black_or_word v.sid (shown_index (buffer_size s.sessions v.sid) v p))) o false
         ≡ true
-    go None none = none
-    go (Some v) word = word
+    by_owner None none = none
+    by_owner (Some v) word = word
 
 -- ---- an accepted call
 

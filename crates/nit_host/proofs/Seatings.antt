@@ -70,18 +70,18 @@ hollow_with {config} {hollows} {seat} {sheet} are is none = record {
 word_stays : (s : State) {seat : ℕ} (p : Point) {tables tables' : ℕ → List ℕ}
     → ((t : ℕ) → t ≢ seat → tables t ≡ tables' t) → session_owns seat s p ≡ false
     → word_from tables (source_of s p) ≡ word_from tables' (source_of s p)
-word_stays s {seat} p {tables} {tables'} same none = go (owner_of s p) none
+word_stays s {seat} p {tables} {tables'} same none = by_owner (owner_of s p) none
   where
     shows : (v : View) (o : Option ℕ) → is_session seat v ≡ false
         → word_from tables (black_or_word v.sid o) ≡ word_from tables' (black_or_word v.sid o)
     shows v None off = refl
     shows v (Some i) off = grind (arith, nat_tests, false≢true, eq-eqb)
 
-    go : (o : Option View) → option_map_or (is_session seat) o false ≡ false
+    by_owner : (o : Option View) → option_map_or (is_session seat) o false ≡ false
         → word_from tables (source_under (buffer_size s.sessions) p o)
         ≡ word_from tables' (source_under (buffer_size s.sessions) p o)
-    go None off = refl
-    go (Some v) off = shows v (shown_index (buffer_size s.sessions v.sid) v p) off
+    by_owner None off = refl
+    by_owner (Some v) off = shows v (shown_index (buffer_size s.sessions v.sid) v p) off
 
 -- ---- the host
 

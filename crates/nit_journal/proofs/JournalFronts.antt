@@ -92,17 +92,18 @@ along x P fresh kept opens a s [] done are h = h
 along x P fresh kept opens a s (Serves e ∷ rest) done are h =
     along x P fresh kept opens a (after s e) rest (done ++ e ∷ []) are.1 (kept a s are.0.0 e done are.0.1 h)
 along x P fresh kept opens a s (Opens sid label ∷ rest) done are h =
-    go (sid == x) (list_any (is_opening x) rest)
+    whether_opened (sid == x) (list_any (is_opening x) rest)
     (along x P fresh kept opens (if sid == x then fresh else a) (opened sid label s) rest
     (if sid == x then [] else done) are.1 (opens a s sid label done (are.0, tt) h))
   where
-    go : (c d : Bool) → P (if d then fresh else if c then fresh else a) (after_steps (opened sid label s) rest)
+    whether_opened : (c d : Bool)
+        → P (if d then fresh else if c then fresh else a) (after_steps (opened sid label s) rest)
         (since x (if c then [] else done) rest)
         → P (if c || d then fresh else a) (after_steps (opened sid label s) rest)
         (if c then since x [] rest else since x done rest)
-    go false d h = h
-    go true true h = h
-    go true false h = h
+    whether_opened false d h = h
+    whether_opened true true h = h
+    whether_opened true false h = h
 
 -- one entry
 same_entry : (s : State) (taken : ℕ) (e f : Entry) → Agrees s taken e → Agrees s taken f → action_of e ≡ action_of f

@@ -71,11 +71,11 @@ module _ (P : ℕ → Type 0) where
   moved_has : (is : ViewOf → Bool) (put : ViewOf → List ViewOf → List ViewOf)
       → ((v : ViewOf) (xs : List ViewOf) → Put v xs (put v xs)) → (xs : List ViewOf) → HaveAll P xs
       → HaveAll P (moved is put xs)
-  moved_has is put puts xs all = go (find is xs) refl
+  moved_has is put puts xs all = where_found (find is xs) refl
     where
-      go : (o : Option ViewOf) → find is xs ≡ o → HaveAll P (put_again put (without is xs) xs o)
-      go None e = all
-      go (Some a) e =
+      where_found : (o : Option ViewOf) → find is xs ≡ o → HaveAll P (put_again put (without is xs) xs o)
+      where_found None e = all
+      where_found (Some a) e =
           let there = puts a (without is xs) in
           rw there.is (All-insert Has (without is xs) there.at a (All_found Has is xs a all e) (without_has is xs all))
 
@@ -128,7 +128,7 @@ module _ (P : ℕ → Type 0) where
 serve_status : (u : Session) (call : Call) → ((serve u call).session.status ≡ u.status)
     ⊎ ((call ≡ Close) × (is_accepted (serve u call).reply ≡ true))
 unfolding serve
-serve_status u call = go (refusal u call)
+serve_status u call = unless_refused (refusal u call)
   where
     taken : (queue : List Event) → (taking queue u).session.status ≡ u.status
     taken [] = refl
@@ -140,10 +140,10 @@ serve_status u call = go (refusal u call)
     let_in Close = inr (refl, refl)
     let_in other = inl refl
 
-    go : (o : Option Reply) → ((by_refusal u call o).session.status ≡ u.status)
+    unless_refused : (o : Option Reply) → ((by_refusal u call o).session.status ≡ u.status)
         ⊎ ((call ≡ Close) × (is_accepted (by_refusal u call o).reply ≡ true))
-    go (Some r) = inl refl
-    go None = let_in call
+    unless_refused (Some r) = inl refl
+    unless_refused None = let_in call
 
 -- a session of a list that is changed is live still, if it is not the one that changes or that one stays live
 still_live : (s now : State) (sid : ℕ) (u : Session) → now.sessions ≡ set s.sessions sid u → (t : ℕ)

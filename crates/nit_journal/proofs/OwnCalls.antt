@@ -50,11 +50,11 @@ quiet_refusal t other = refl
 
 alike : (t : Session) (call : Call) → AreAlike call (serve t call) (serve (quiet t) call)
 unfolding serve
-alike t call = rw (quiet_refusal t call) (go (refusal (quiet t) call))
+alike t call = rw (quiet_refusal t call) (unless_refused (refusal (quiet t) call))
   where
-    go : (o : Option Reply) → AreAlike call (by_refusal t call o) (by_refusal (quiet t) call o)
-    go (Some r) = (refl, λ other. refl)
-    go None = alike_accepted t call
+    unless_refused : (o : Option Reply) → AreAlike call (by_refusal t call o) (by_refusal (quiet t) call o)
+    unless_refused (Some r) = (refl, λ other. refl)
+    unless_refused None = alike_accepted t call
 
 matches_served : (t u : Session) (call : Call) → Matches t u → Matches (serve t call).session (serve u call).session
 matches_served t u call h live =
@@ -135,11 +135,11 @@ taken_accepted t other = ([], refl)
 
 pub taken_served : (t : Session) (call : Call) → IsTaken t.queue (serve t call).session.queue
 unfolding serve
-taken_served t call = go (refusal t call)
+taken_served t call = unless_refused (refusal t call)
   where
-    go : (refused : Option Reply) → IsTaken t.queue (by_refusal t call refused).session.queue
-    go (Some r) = ([], refl)
-    go None = taken_accepted t call
+    unless_refused : (refused : Option Reply) → IsTaken t.queue (by_refusal t call refused).session.queue
+    unless_refused (Some r) = ([], refl)
+    unless_refused None = taken_accepted t call
 
 -- the reply is a refusal for want of quota or reserve
 abbrev pub is_lack : Reply → Bool
@@ -150,14 +150,14 @@ is_lack other = false
 -- to take an event costs nothing
 no_take : (t : Session) (call : Call) → is_lack (serve t call).reply ≡ true → call ≢ Take
 unfolding serve
-no_take t call lack take = go t.status t.queue (rw take at lack)
+no_take t call lack take = by_status_and_queue t.status t.queue (rw take at lack)
   where
-    go : (was : Status) (queue : List Event)
+    by_status_and_queue : (was : Status) (queue : List Event)
         → is_lack (by_refusal (record t { queue = queue }) Take (by_status was orelse None)).reply ≡ true → ⊥
-    go status.Live [] lack = cc
-    go status.Live (e ∷ es) lack = cc
-    go status.Closed queue lack = cc
-    go status.Killed queue lack = cc
+    by_status_and_queue status.Live [] lack = cc
+    by_status_and_queue status.Live (e ∷ es) lack = cc
+    by_status_and_queue status.Closed queue lack = cc
+    by_status_and_queue status.Killed queue lack = cc
 
 -- ---- in a legal journal
 

@@ -121,13 +121,13 @@ pub live_if : (Q : Answered → Type 0) (t : Session) (call : Call)
     → (Q (answered reply.Closed t) → t.status ≡ status.Live) → (Q (answered reply.Killed t) → t.status ≡ status.Live)
     → Q (serve t call) → t.status ≡ status.Live
 unfolding serve
-live_if Q t call closed killed = go t.status refl
+live_if Q t call closed killed = in_status t.status refl
   where
-    go : (was : Status) → t.status ≡ was → Q (by_refusal t call (by_status was orelse by_call t call))
+    in_status : (was : Status) → t.status ≡ was → Q (by_refusal t call (by_status was orelse by_call t call))
         → t.status ≡ status.Live
-    go status.Live is q = is
-    go status.Closed is q = closed q
-    go status.Killed is q = killed q
+    in_status status.Live is q = is
+    in_status status.Closed is q = closed q
+    in_status status.Killed is q = killed q
 
 -- ---- no refusal is an acceptance, and where it says what is needed less is left
 
@@ -195,7 +195,7 @@ accepted_reply s other = refl
 
 pub short_answer : (t : Session) (call : Call) → IsShort (serve t call).reply
 unfolding serve IsRefusal
-short_answer t call = go (refusal t call) (of_both t call)
+short_answer t call = unless_refused (refusal t call) (of_both t call)
   where
     taken : (queue : List Event) → IsShort (taking queue t).reply
     taken [] = tt
@@ -205,6 +205,6 @@ short_answer t call = go (refusal t call) (of_both t call)
     let_in Take = taken t.queue
     let_in other = tt
 
-    go : (o : Option Reply) → IsRefusal o → IsShort (by_refusal t call o).reply
-    go (Some r) h = h.1
-    go None h = let_in call
+    unless_refused : (o : Option Reply) → IsRefusal o → IsShort (by_refusal t call o).reply
+    unless_refused (Some r) h = h.1
+    unless_refused None h = let_in call

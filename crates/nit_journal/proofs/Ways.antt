@@ -204,17 +204,18 @@ module _ (clicks : Bool) (pointed : Option ℕ) (i : Input.InputState) (dev : De
   by_focusing k is button plain = grind (arith, nat_tests, cond_both, and_parts)
 
   pub by_way : {r : Input.Routing} → Way clicks pointed i dev r → r.state.focus ≡ Some x → (i.focus ≡ Some x) ⊎ IsClick
-  by_way (Lifts k held) e = go (filter (λ j. not (j == k)) i.held) e
+  by_way (Lifts k held) e = by_left (filter (λ j. not (j == k)) i.held) e
     where
-      go : (left : List ℕ) → (Input.letting_go left i).focus ≡ Some x → (i.focus ≡ Some x) ⊎ IsClick
-      go [] e = inl e
-      go (j ∷ js) e = inl e
+      by_left : (left : List ℕ) → (Input.letting_go left i).focus ≡ Some x → (i.focus ≡ Some x) ⊎ IsClick
+      by_left [] e = inl e
+      by_left (j ∷ js) e = inl e
   by_way (Free none (Clicks k is button flat)) e = by_focusing k is button (inl flat) e
   by_way (Free none (Points k is button xray)) e = by_focusing k is button (inr xray) e
-  by_way (Free none (Kills k is kill)) e = go pointed e
+  by_way (Free none (Kills k is kill)) e = by_pointed pointed e
     where
-      go : (o : Option ℕ) → (Input.killing o (Input.with_held i k)).state.focus ≡ Some x → (i.focus ≡ Some x) ⊎ IsClick
-      go None e = inl e
-      go (Some s) e = inl (grind arith)
+      by_pointed : (o : Option ℕ) → (Input.killing o (Input.with_held i k)).state.focus ≡ Some x
+          → (i.focus ≡ Some x) ⊎ IsClick
+      by_pointed None e = inl e
+      by_pointed (Some s) e = inl (grind arith)
   by_way (Free none other) e = inl e
   by_way other e = inl e

@@ -251,14 +251,14 @@ owned_bright s p w v xray fits owns bright =
 
 pub xray_bright : (s : Scenery) (p : Point) (w : ℕ) → s.mode ≡ Xray → IsWord w → IsBright (shown s p w)
     → (in_bar s.bar p ≡ true) ⊎ IsOfNamed s p ⊎ IsMark s p (shown s p w)
-xray_bright s p w xray fits bright = go (in_bar s.bar p) (owner s.bar s.stack p) refl refl bright
+xray_bright s p w xray fits bright = by_owner (in_bar s.bar p) (owner s.bar s.stack p) refl refl bright
   where
-    go : (b : Bool) (o : Option View) → in_bar s.bar p ≡ b → owner s.bar s.stack p ≡ o
+    by_owner : (b : Bool) (o : Option View) → in_bar s.bar p ≡ b → owner s.bar s.stack p ≡ o
         → IsBright (cond b (bar_word s p) (owner_word s p w o))
         → (in_bar s.bar p ≡ true) ⊎ IsOfNamed s p ⊎ IsMark s p (cond b (bar_word s p) (owner_word s p w o))
-    go true o below owns bright = inl below
-    go false None below owns bright = absurd (grind arith)
-    go false (Some v) below owns bright =
+    by_owner true o below owns bright = inl below
+    by_owner false None below owns bright = absurd (grind arith)
+    by_owner false (Some v) below owns bright =
         let is = ap (λ (m : Mode). view_word m s v p w) xray in
         inr (rw is (owned_bright s p w v xray fits owns (rw is at bright)))
 
@@ -297,12 +297,12 @@ bare_not_plain plain = grind arith
 
 pub plain_is_label : (s : Scenery) (p : Point) (w : ℕ) → s.mode ≡ Kill → IsWord w → in_bar s.bar p ≡ false
     → IsPlain (shown s p w) → IsLabelled s p
-plain_is_label s p w kill fits below plain = go (owner s.bar s.stack p) refl
+plain_is_label s p w kill fits below plain = by_owner (owner s.bar s.stack p) refl
   where
-    go : (o : Option View) → owner s.bar s.stack p ≡ o → IsLabelled s p
-    go None none =
+    by_owner : (o : Option View) → owner s.bar s.stack p ≡ o → IsLabelled s p
+    by_owner None none =
         absurd (bare_not_plain (subst IsPlain (shown_below s p w below ∙ ap (owner_word s p w) none) plain))
-    go (Some v) owns = (
+    by_owner (Some v) owns = (
       v,
       owns,
       true_from_ne_false (in_label s v p)

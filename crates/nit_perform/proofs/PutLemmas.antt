@@ -74,18 +74,18 @@ rest_put : (files done : List File) (first : StoreModel) (old new : PutState) �
 rest_put [] done first old new calm puts same = rw (same, calm, append-nil done) puts
 rest_put (f ∷ files) done first old new calm puts (mid, next, rest) =
     let p = rw calm at next in
-    by p.answer p.put p.kept (λ still more. rest_put files (done ++ f ∷ []) first mid new still more rest)
+    by_outcome p.answer p.put p.kept (λ still more. rest_put files (done ++ f ∷ []) first mid new still more rest)
   where
-    by : (answer : Result (Unit {0}) PutError) → AfterPut old.shown f.0 f.1 mid.shown answer
+    by_outcome : (answer : Result (Unit {0}) PutError) → AfterPut old.shown f.0 f.1 mid.shown answer
         → mid.refused ≡ refusal_by f.0 answer
         → (mid.refused ≡ None → PutAll first (done ++ f ∷ []) mid.shown
         → PutSo first ((done ++ f ∷ []) ++ files) new.shown new.refused)
         → PutSo first (done ++ f ∷ files) new.shown new.refused
-    by (Ok x) put is more = rw (← append_assoc done (f ∷ []) files) (more is (record {
+    by_outcome (Ok x) put is more = rw (← append_assoc done (f ∷ []) files) (more is (record {
       rest = rw (map_push, put.0, puts.rest, also_more first.asked (map (λ (g : File). g.0) done) (f.0 ∷ []));
       put = files_more done f first.files old.shown.files mid.shown.files puts.put put.1;
     }))
-    by (Err e) put is more =
+    by_outcome (Err e) put is more =
         let r : PutRefusal = record { name = f.0; error = e } in
         rw (none_behind files mid new r is rest, is) (record {
           front = done;

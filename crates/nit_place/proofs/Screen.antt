@@ -57,11 +57,11 @@ module _ (width height rows : ℕ) (stack : List View) where
   pub apart : (v u : View) (w h x y w' h' x' y' : ℕ) → is_view v.sid v.handle u ≡ false
       → fits width height rows stack v w h x y ≡ true → fits width height rows stack u w' h' x' y' ≡ true
       → IsApart (rectangle (pos x) (pos y) w h) (rectangle (pos x') (pos y') w' h')
-  apart v u w h x y w' h' x' y' other first second p = go p.x p.y
+  apart v u w h x y w' h' x' y' other first second p = not_in_both p.x p.y
     where
-      go : (a b : ℤ) → (covers (rectangle (pos x) (pos y) w h) (record { x = a; y = b })
+      not_in_both : (a b : ℤ) → (covers (rectangle (pos x) (pos y) w h) (record { x = a; y = b })
           && covers (rectangle (pos x') (pos y') w' h') (record { x = a; y = b })) ≡ false
-      go (pos i) (pos j) = false_from_ne_true _ (λ both.
+      not_in_both (pos i) (pos j) = false_from_ne_true _ (λ both.
           let parts = and_parts (covers (rectangle (pos x) (pos y) w h) (point i j)) _ both in
           let one = label_pixel x y w h i j parts.0 in
           let two = label_pixel x' y' w' h' i j parts.1 in
@@ -69,5 +69,5 @@ module _ (width height rows : ℕ) (stack : List View) where
           let yours = pixel_owned u w' h' x' y' second i j two.left two.right two.top two.bottom in
           let same = one_name v u (owner rows stack (point i j)) mine.owner yours.owner in
           cc)
-      go (pos i) (negsuc j) = grind (arith, nat_tests)
-      go (negsuc i) b = grind (arith, nat_tests)
+      not_in_both (pos i) (negsuc j) = grind (arith, nat_tests)
+      not_in_both (negsuc i) b = grind (arith, nat_tests)

@@ -193,21 +193,21 @@ module _ {s : SceneModel Sight} {part : ClientPart} {k : ℕ} {stale : Option St
 
   -- a glass that is behind tells words, so it is the own one but for those that are stale
   pub as_but : IsButFor (is_stale stale) (glass_in s.glasses part.sid) own
-  as_but = go stale can.behind
+  as_but = whether_stale stale can.behind
     where
-      go : (some : Option Stale) → IsBehind some part.sid (glass_in s.glasses part.sid) own
+      whether_stale : (some : Option Stale) → IsBehind some part.sid (glass_in s.glasses part.sid) own
           → IsButFor (is_stale some) (glass_in s.glasses part.sid) own
-      go None behind = but_none _ own (words_after script donation k) behind (rw can.own)
-      go (Some a) behind = behind.but
+      whether_stale None behind = but_none _ own (words_after script donation k) behind (rw can.own)
+      whether_stale (Some a) behind = behind.but
 
   -- what is stale fits into a glass of the same size
   pub still_fits : (size : ℕ) → own.size ≡ size → IfSome stale (FitsInto size)
-  still_fits size same = go stale can.behind
+  still_fits size same = whether_stale stale can.behind
     where
-      go : (some : Option Stale) → IsBehind some part.sid (glass_in s.glasses part.sid) own
+      whether_stale : (some : Option Stale) → IsBehind some part.sid (glass_in s.glasses part.sid) own
           → IfSome some (FitsInto size)
-      go None behind = tt
-      go (Some a) behind = subst (λ (n : ℕ). FitsInto n a) same behind.fits
+      whether_stale None behind = tt
+      whether_stale (Some a) behind = subst (λ (n : ℕ). FitsInto n a) same behind.fits
 
   abbrev words_at : ℕ → List ℕ
   words_at n = words_after script donation n

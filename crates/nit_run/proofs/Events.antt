@@ -49,12 +49,12 @@ accepted_so t other = refl
 
 answered_so : (t : Session) (call : Call) → MayAnswer call (serve t call).reply
 unfolding serve
-answered_so t call = by (refusal t call)
+answered_so t call = unless_refused (refusal t call)
     (by_first (by_status t.status) (by_call t call) (status_refused t.status) (call_refused t call))
   where
-    by : (o : Option Reply) → no_event o ≡ true → MayAnswer call (by_refusal t call o).reply
-    by (Some r) is = refused_so call r is
-    by None is = accepted_so t call
+    unless_refused : (o : Option Reply) → no_event o ≡ true → MayAnswer call (by_refusal t call o).reply
+    unless_refused (Some r) is = refused_so call r is
+    unless_refused None is = accepted_so t call
 
 -- ---- along a journal
 

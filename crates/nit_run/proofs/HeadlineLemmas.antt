@@ -104,18 +104,18 @@ module _ (s : Setup) (journal : List Entry) (outputs : List File) (j : IsJournal
       → journal ≡ front ++ entry.Shot number ∷ rest → (s.beside ≡ true
       → HasPicture s.config outputs (shot_name number) (replay s.config front) (HoldsByWay true s front))
       → HasPicture s.config outputs (shot_name number) (replay s.config front) (HoldsAtShot s front)
-  shot_shows law fronts count each front rest number parts near = by s.beside refl
+  shot_shows law fronts count each front rest number parts near = by_way s.beside refl
     where
-      by : (b : Bool) → s.beside ≡ b
+      by_way : (b : Bool) → s.beside ≡ b
           → HasPicture s.config outputs (shot_name number) (replay s.config front) (HoldsByWay b s front)
-      by false alone =
+      by_way false alone =
           let (bytes, there, is) =
           file_of_a_shot IsDrawn [] front rest number shot_list
           (subst (λ (es : List Entry). AreShotsOf IsDrawn es shot_list) parts (drawn_along alone law fronts)) in
           has_picture count each s.config outputs (shot_name number) bytes (replay s.config front)
           (drawn_by_shot s.config s.scripts s.input (shots front)).word is
           (shot_at front (shot_name number, bytes) there)
-      by true together = near together
+      by_way true together = near together
 
   -- the shots of a run beside others show one history of raw words
   pub history_shows : FrameCount → FrameEach → s.beside ≡ true → ShowsOneHistory s journal outputs

@@ -89,11 +89,11 @@ accepted_fits t n other f few none = record { reply_fits = tt; fine = assumption
 pub served : (t : Session) (n : ℕ) (call : Call) → IsFine t n → n ≤ 2000000 → FitsCall call
     → AnswerFits (serve t call) n
 unfolding serve
-served t n call f few c = by (refusal t call) refl (refusal_fits t n call f c)
+served t n call f few c = unless_refused (refusal t call) refl (refusal_fits t n call f c)
   where
-    by : (o : Option Reply) → refusal t call ≡ o → RefusalFits o → AnswerFits (by_refusal t call o) n
-    by (Some r) is g = record { reply_fits = g; fine = later t n f }
-    by None is g = accepted_fits t n call f few (second_none (by_status t.status) (by_call t call) is)
+    unless_refused : (o : Option Reply) → refusal t call ≡ o → RefusalFits o → AnswerFits (by_refusal t call o) n
+    unless_refused (Some r) is g = record { reply_fits = g; fine = later t n f }
+    unless_refused None is g = accepted_fits t n call f few (second_none (by_status t.status) (by_call t call) is)
 
 -- ---- items, and moments
 

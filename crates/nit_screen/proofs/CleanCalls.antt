@@ -52,12 +52,12 @@ serve_keeps_size t call no_resize = grind (arith, nat_tests, accepted_keeps_size
 pub refused_is_unchanged : (t : Session) (call : Call) → is_accepted (serve t call).reply ≡ false
     → (serve t call).session ≡ t
 unfolding serve
-refused_is_unchanged t call h = go (refusal t call) h
+refused_is_unchanged t call h = unless_refused (refusal t call) h
   where
-    go : (refused : Option Reply) → is_accepted (by_refusal t call refused).reply ≡ false
+    unless_refused : (refused : Option Reply) → is_accepted (by_refusal t call refused).reply ≡ false
         → (by_refusal t call refused).session ≡ t
-    go (Some r) h = refl
-    go None h = let yes_ = accepted_reply t call in cc
+    unless_refused (Some r) h = refl
+    unless_refused None h = let yes_ = accepted_reply t call in cc
 
 -- a session but for its events
 abbrev pub eventless : Session → Session
@@ -100,12 +100,12 @@ by_other_sizes sid sizes sizes' p (Some v) same spared = rw (same v.sid (eqb-fal
 -- the owner of a pixel is spared where each view that is found there is
 pub owner_spared : (is : ViewOf → Bool) (rows : ℕ) (stack : List ViewOf) (p : Point)
     → ((v : ViewOf) → find (λ v. covers v.rect p) stack ≡ Some v → is v ≡ false) → IsSpared is (owner rows stack p)
-owner_spared is rows stack p each = go (in_bar rows p) (find (λ v. covers v.rect p) stack) refl
+owner_spared is rows stack p each = by_owner (in_bar rows p) (find (λ v. covers v.rect p) stack) refl
   where
-    go : (b : Bool) (o : Option ViewOf) → find (λ v. covers v.rect p) stack ≡ o → IsSpared is (cond b None o)
-    go true o e = refl
-    go false None e = refl
-    go false (Some v) e = each v e
+    by_owner : (b : Bool) (o : Option ViewOf) → find (λ v. covers v.rect p) stack ≡ o → IsSpared is (cond b None o)
+    by_owner true o e = refl
+    by_owner false None e = refl
+    by_owner false (Some v) e = each v e
 
 -- ==== A call that a refusal meets, and one that none meets.
 
@@ -188,16 +188,16 @@ titled_alike : (sizes : ℕ → Size) (rows : ℕ) (p : Point) (is : ViewOf → 
 titled_alike sizes rows p is text stack =
     ap (λ (o : Option ViewOf). source_under sizes p (cond (in_bar rows p) None o))
     (find-alike (over p) f (λ v. grind arith) stack)
-    ∙ go (in_bar rows p) (find (over p) stack)
+    ∙ by_owner (in_bar rows p) (find (over p) stack)
   where
     f : ViewOf → ViewOf
     f v = if is v then record v { title = text } else v
 
-    go : (b : Bool) (o : Option ViewOf)
+    by_owner : (b : Bool) (o : Option ViewOf)
         → source_under sizes p (cond b None (option_map f o)) ≡ source_under sizes p (cond b None o)
-    go true o = refl
-    go false None = refl
-    go false (Some v) = grind arith
+    by_owner true o = refl
+    by_owner false None = refl
+    by_owner false (Some v) = grind arith
 
 -- the state with the stack after an accepted call, these sessions and this input
 abbrev accepting : State → ℕ → Call → Reply → List Session → InputState → State
@@ -212,14 +212,14 @@ restacked s sid (Place v x y w h) r sessions input p clean = grind (arith, nat_t
 restacked s sid (Offset v ox oy) r sessions input p clean = grind (arith, nat_tests, owned_alike, find-changed)
 restacked s sid (Front v) r sessions input p clean = grind (arith, nat_tests, moved_spared, puts_front)
 restacked s sid (Back v) r sessions input p clean = grind (arith, nat_tests, moved_spared, puts_back)
-restacked s sid (Above v n) r sessions input p clean = go (v == n) clean
+restacked s sid (Above v n) r sessions input p clean = whether_itself (v == n) clean
   where
-    go : (same : Bool) → dirty_by_call sid (Front v) s (record s {
+    whether_itself : (same : Bool) → dirty_by_call sid (Front v) s (record s {
       stack = cond same s.stack (moved (is_view sid v) (put_above (is_view sid n)) s.stack);
     }) p ≡ false → source (buffer_size s.sessions) (bar_rows s.config)
         (cond same s.stack (moved (is_view sid v) (put_above (is_view sid n)) s.stack)) p ≡ source_of s p
-    go true h = refl
-    go false h = grind (arith, nat_tests, moved_spared, puts_above)
+    whether_itself true h = refl
+    whether_itself false h = grind (arith, nat_tests, moved_spared, puts_above)
 restacked s sid (Destroy v) r sessions input p clean = grind (arith, nat_tests, owner-without)
 restacked s sid Close r sessions input p clean = grind (arith, nat_tests, owner-without)
 restacked s sid View r sessions input p clean = grind (arith, nat_tests, owner-new)
@@ -260,11 +260,11 @@ accepted_is_clean s sid call r input p clean =
 pub call_is_clean : (s : State) (sid : ℕ) (call : Call) (r : Reply) (p : Point) → r ≡ (serve (session s sid) call).reply
     → (is_accepted r && dirty_by_call sid call s (after s (entry.Call sid call r)) p) ≡ false
     → source_of (after s (entry.Call sid call r)) p ≡ source_of s p
-call_is_clean s sid call r p replied clean = go (is_accepted r) refl
+call_is_clean s sid call r p replied clean = whether_accepted (is_accepted r) refl
   where
-    go : (b : Bool) → is_accepted r ≡ b → source_of (after s (entry.Call sid call r)) p ≡ source_of s p
-    go false no_ = ap (λ (t : State). source_of t p) (sym (unaccepted_state s sid call r replied no_))
-    go true yes_ =
+    whether_accepted : (b : Bool) → is_accepted r ≡ b → source_of (after s (entry.Call sid call r)) p ≡ source_of s p
+    whether_accepted false no_ = ap (λ (t : State). source_of t p) (sym (unaccepted_state s sid call r replied no_))
+    whether_accepted true yes_ =
         let sessions = served s sid call in
         let input = input_after_call sid call r s.input in
         subst

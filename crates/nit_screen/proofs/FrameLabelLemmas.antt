@@ -103,12 +103,12 @@ labelled_more stack labels n room places v o standing slots at placed far =
 -- what is found is one of the list
 is_among : (v : View) (p : View → Bool) (xs : List View) → is_owner v.sid v.handle (find p xs) ≡ true
     → list_any (is_view v.sid v.handle) xs ≡ true
-is_among v p xs h = go (find p xs) refl h
+is_among v p xs h = where_found (find p xs) refl h
   where
-    go : (o : Option View) → find p xs ≡ o → is_owner v.sid v.handle o ≡ true
+    where_found : (o : Option View) → find p xs ≡ o → is_owner v.sid v.handle o ≡ true
         → list_any (is_view v.sid v.handle) xs ≡ true
-    go None e h = cc
-    go (Some u) e h = any_found p (is_view v.sid v.handle) xs u e h
+    where_found None e h = cc
+    where_found (Some u) e h = any_found p (is_view v.sid v.handle) xs u e h
 
 -- a view that is found by its name is the one of that name
 found_itself : (p : View → Bool) (xs : List View) → HaveOwnNames xs → (i : ℕ) (d v : View) → i < length xs
@@ -148,11 +148,11 @@ shown_by : (s : Scenery) (p : Point) (w : ℕ) (v : View)
     → (is_owner v.sid v.handle (covering (λ (u : View). u) s.stack p) ≡ true → covering (λ (u : View). u) s.stack p
     ≡ Some v)
     → is_owner v.sid v.handle (owner s.bar s.stack p) ≡ true → shown s p w ≡ view_word s.mode s v p w
-shown_by s p w v found owned = go (in_bar s.bar p) refl
+shown_by s p w v found owned = whether_in_bar (in_bar s.bar p) refl
   where
-    go : (b : Bool) → in_bar s.bar p ≡ b → shown s p w ≡ view_word s.mode s v p w
-    go true e = let none = rw e at owned in cc
-    go false e = rw e (ap (owner_word s p w) (found (rw e at owned)))
+    whether_in_bar : (b : Bool) → in_bar s.bar p ≡ b → shown s p w ≡ view_word s.mode s v p w
+    whether_in_bar true e = let none = rw e at owned in cc
+    whether_in_bar false e = rw e (ap (owner_word s p w) (found (rw e at owned)))
 
 -- the pixel of a screen by its column and its row
 number_fits : (width height x y : ℕ) → x < width → y < height → y * width + x < width * height

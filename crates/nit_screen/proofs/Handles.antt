@@ -44,12 +44,12 @@ module _ (Q : List ViewOf → Type 0) (k : IsKept Q) where
   moved_keeps : (sid v : ℕ) (put : ViewOf → List ViewOf → List ViewOf)
       → ((x : ViewOf) (xs : List ViewOf) → IsPutIn x xs (put x xs)) → (stack : List ViewOf) → Q stack
       → Q (moved (is_view sid v) put stack)
-  moved_keeps sid v put puts stack q = go (find (is_view sid v) stack) refl
+  moved_keeps sid v put puts stack q = where_found (find (is_view sid v) stack) refl
     where
-      go : (o : Option ViewOf) → find (is_view sid v) stack ≡ o
+      where_found : (o : Option ViewOf) → find (is_view sid v) stack ≡ o
           → Q (put_again put (without (is_view sid v) stack) stack o)
-      go None found = q
-      go (Some a) found = k.again sid v a stack _ found (puts a (without (is_view sid v) stack)) q
+      where_found None found = q
+      where_found (Some a) found = k.again sid v a stack _ found (puts a (without (is_view sid v) stack)) q
 
   accepted_keeps : (layers : ℕ → ℕ) (sid : ℕ) (call : Call) (r : Reply) (stack : List ViewOf)
       → TakesNew Q (entry.Call sid call r) stack → Q stack → Q (after_accepted layers sid call r stack)
@@ -141,12 +141,13 @@ receive_keeps_next t item.Kill = grind arith
 new_handle : (t : Session) (h : ℕ) → (serve t View).reply ≡ reply.Handle h
     → (h ≡ t.next) × ((serve t View).session.next ≡ t.next + 1)
 unfolding serve
-new_handle t h e = go (refusal t View) refl e
+new_handle t h e = unless_refused (refusal t View) refl e
   where
-    go : (refused : Option Reply) → refusal t View ≡ refused → (by_refusal t View refused).reply ≡ reply.Handle h
+    unless_refused : (refused : Option Reply) → refusal t View ≡ refused
+        → (by_refusal t View refused).reply ≡ reply.Handle h
         → (h ≡ t.next) × ((by_refusal t View refused).session.next ≡ t.next + 1)
-    go None is e = (cc, refl)
-    go (Some r) is e = grind (arith, nat_tests, refused_reply)
+    unless_refused None is e = (cc, refl)
+    unless_refused (Some r) is e = grind (arith, nat_tests, refused_reply)
 
 -- ---- all sessions
 

@@ -57,15 +57,15 @@ painted_bare source marked n a b raw raw' k p l m bare = rw bare at (p.marked k 
 
 pub bar_clean : (s s' : State) (sid : ℕ) (call : Call) (r : Reply) (p : Point) → s'.config ≡ s.config
     → in_bar (bar_rows s.config) p ≡ true → dirty s (entry.Call sid call r) s' p ≡ false
-bar_clean s s' sid call r p same e = ap (λ (b : Bool). is_accepted r && b) (go call) ∙ and-false (is_accepted r)
+bar_clean s s' sid call r p same e = ap (λ (b : Bool). is_accepted r && b) (no_call call) ∙ and-false (is_accepted r)
   where
-    go : (c : Call) → dirty_by_call sid c s s' p ≡ false
-    go View = refl
-    go (Title v text) = refl
-    go Take = refl
-    go (Upgrade n) = refl
-    go Close = rw e
-    go other = simp (same, e)
+    no_call : (c : Call) → dirty_by_call sid c s s' p ≡ false
+    no_call View = refl
+    no_call (Title v text) = refl
+    no_call Take = refl
+    no_call (Upgrade n) = refl
+    no_call Close = rw e
+    no_call other = simp (same, e)
 
 -- ---- one call
 
@@ -203,7 +203,7 @@ pub keeps_each : DeliveriesFit
     → ((k : ℕ) → k < pixel_count s → P (source_at s k) (slice_index_or raw k 0))
     → (k : ℕ) → k < pixel_count (after s e) → P (source_at (after s e) k) (slice_index_or raw' k 0)
 keeps_each fit P s taken e glasses glasses' raw raw' agrees painted held before k on_screen =
-    go (dirty s e (after s e) (pixel s.config.width k)) refl
+    whether_dirty (dirty s e (after s e) (pixel s.config.width k)) refl
   where
     within : k < pixel_count s
     within = rw (same_config s e) at on_screen
@@ -211,10 +211,10 @@ keeps_each fit P s taken e glasses glasses' raw raw' agrees painted held before 
     here : pixel (after s e).config.width k ≡ pixel s.config.width k
     here = ap (λ (config : Configuration). pixel config.width k) (same_config s e)
 
-    go : (b : Bool) → dirty s e (after s e) (pixel s.config.width k) ≡ b
+    whether_dirty : (b : Bool) → dirty s e (after s e) (pixel s.config.width k) ≡ b
         → P (source_at (after s e) k) (slice_index_or raw' k 0)
-    go true d = held (source_at (after s e) k) (slice_index_or raw' k 0) (painted.marked k within d).0
-    go false d =
+    whether_dirty true d = held (source_at (after s e) k) (slice_index_or raw' k 0) (painted.marked k within d).0
+    whether_dirty false d =
         let same : source_at (after s e) k ≡ source_at s k = ap (source_of (after s e)) here
         ∙ keeps_source fit s taken e (pixel s.config.width k) agrees d in
         let as_before : slice_index_or raw' k 0 ≡ slice_index_or raw k 0 = painted.others k (λ lt. d) in

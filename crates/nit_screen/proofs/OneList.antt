@@ -82,11 +82,11 @@ painted_in {source} {marked} {n} {a} {b} {raw} {raw'} false m bare p = record {
   counts = p.counts;
 }
   where
-    go : (k : ℕ) → k < n → marked k ≡ true → (c : Bool) → nat_lt k m ≡ c
+    by_bar : (k : ℕ) → k < n → marked k ≡ true → (c : Bool) → nat_lt k m ≡ c
         → IsWordOfSource a (source k) (slice_index (unbarred m raw') k)
         × IsAmongLoads p.loads (source k) (slice_index (unbarred m raw') k)
-    go k l d true e = rw (bare k (grind (arith, nat_tests))) (rw e at (unbarred_at m raw' k), tt)
-    go k l d false e = rw (rw e at (unbarred_at m raw' k)) (p.marked k l d)
+    by_bar k l d true e = rw (bare k (grind (arith, nat_tests))) (rw e at (unbarred_at m raw' k), tt)
+    by_bar k l d false e = rw (rw e at (unbarred_at m raw' k)) (p.marked k l d)
 
 -- the same of an entry
 pub entry_painted_in : (c : Bool) (bar : ℕ) (s : State) (e : Entry) (s' : State) {a b : ℕ → Sight} {raw raw' : List ℕ}
@@ -109,7 +109,7 @@ pub flat_raw : (s : State) (bar : ℕ) (raw : List ℕ) → s.input.mode ≡ Fla
     → bar ≤ length raw → length raw ≡ pixel_count s → AreRaw s raw → unbarred bar (frame (scenery_of s) raw) ≡ raw
 flat_raw s bar raw flat is fits many raws =
     ext_get_or 0 (unbarred bar (frame (scenery_of s) raw)) raw same
-    (λ k l. unbarred_at bar (frame (scenery_of s) raw) k ∙ go k (omega (arith, l, same, many)) (nat_lt k bar) refl)
+    (λ k l. unbarred_at bar (frame (scenery_of s) raw) k ∙ by_bar k (omega (arith, l, same, many)) (nat_lt k bar) refl)
   where
     long : length (frame (scenery_of s) raw) ≡ length raw
     long = length-frame (scenery_of s) raw ∙ sym many
@@ -120,10 +120,10 @@ flat_raw s bar raw flat is fits many raws =
     bare : (k : ℕ) → k < pixel_count s → source_at s k ≡ Bare → slice_index raw k ≡ bare_word
     bare k l e = rw e at (raws k l)
 
-    go : (k : ℕ) → k < pixel_count s → (b : Bool) → nat_lt k bar ≡ b
+    by_bar : (k : ℕ) → k < pixel_count s → (b : Bool) → nat_lt k bar ≡ b
         → cond b bare_word (slice_index (frame (scenery_of s) raw) k) ≡ slice_index raw k
-    go k l true e = let m : k < bar = grind (arith, nat_tests) in sym (bare k l (bar_is_bare s k (rw is at m)))
-    go k l false e = grind (arith, nat_tests, get_or-frame, flat_word, bar_first)
+    by_bar k l true e = let m : k < bar = grind (arith, nat_tests) in sym (bare k l (bar_is_bare s k (rw is at m)))
+    by_bar k l false e = grind (arith, nat_tests, get_or-frame, flat_word, bar_first)
 
 -- the frame takes the place of the raw words, in mode Flat
 pub made_one : {G : Type 0} (s : ServerModel) (p : Pixels G) → p.is_apart ≡ true → s.input.mode ≡ Flat

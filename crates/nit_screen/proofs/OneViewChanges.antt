@@ -125,11 +125,12 @@ module _ (layers : ℕ → ℕ) (sid : ℕ) (stack : List ViewOf) (r : Reply) wh
   changes v (Offset u ox oy) on = rw (← on) (alters u (λ view. record view { ox = ox; oy = oy }) (λ a. refl))
   changes v (Front u) on = rw (← on) (moves u _ (Put-front (λ (view : ViewOf). layers view.sid) (layers sid)))
   changes v (Back u) on = rw (← on) (moves u _ (Put-back (λ (view : ViewOf). layers view.sid) (layers sid)))
-  changes v (Above u n) on = rw (← on) (go (u == n))
+  changes v (Above u n) on = rw (← on) (whether_itself (u == n))
     where
-      go : (b : Bool) → Changes sid u stack (cond b stack (moved (is_view sid u) (put_above (is_view sid n)) stack))
-      go true = record { left = refl; kept = inl refl }
-      go false = moves u _ (Put-above (is_view sid n))
+      whether_itself : (b : Bool)
+          → Changes sid u stack (cond b stack (moved (is_view sid u) (put_above (is_view sid n)) stack))
+      whether_itself true = record { left = refl; kept = inl refl }
+      whether_itself false = moves u _ (Put-above (is_view sid n))
   changes v (Destroy u) on = rw (← on)
       record {
         left = without_none (is_view sid u) (without (is_view sid u) stack) (none_left (is_view sid u) stack);
@@ -217,7 +218,7 @@ gone_by_slot s s' sid handle k by now = grind (arith, nat_tests, without_same, a
 pub ended_server : (sid : ℕ) (how : Status) (s mid s' : ServerModel) → sid < length s.sessions
     → sid < length mid.sessions → without_views sid mid ≡ without_views sid s → s' ≡ with_ended sid how mid
     → s' ≡ with_ended sid how s
-ended_server sid how s mid s' l m left now = now ∙ go mid m ∙ ap over left ∙ sym (go s l)
+ended_server sid how s mid s' l m left now = now ∙ ended_over mid m ∙ ap over left ∙ sym (ended_over s l)
   where
     over : ServerModel → ServerModel
     over z = record z {
@@ -226,8 +227,8 @@ ended_server sid how s mid s' l m left now = now ∙ go mid m ∙ ap over left �
       input = forget z.input sid;
     }
 
-    go : (z : ServerModel) → sid < length z.sessions → with_ended sid how z ≡ over (without_views sid z)
-    go z n = grind (arith, nat_tests, set-set, get_or-set_same)
+    ended_over : (z : ServerModel) → sid < length z.sessions → with_ended sid how z ≡ over (without_views sid z)
+    ended_over z n = grind (arith, nat_tests, set-set, get_or-set_same)
 
 -- what is uncovered is of other sessions, whose buffers stay
 ended_source : (sid : ℕ) (s : StackModel) (p : Point)

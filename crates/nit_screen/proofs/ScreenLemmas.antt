@@ -110,11 +110,11 @@ kill_of sid = record { sid = sid; item = item.Kill }
 
 -- the first delivery is the kill of this session
 first_kills : (d : Delivery) (sid : ℕ) → killed_by d.sid d.item ≡ Some sid → d ≡ kill_of sid
-first_kills d sid e = go d.item e
+first_kills d sid e = by_item d.item e
   where
-    go : (i : Item) → killed_by d.sid i ≡ Some sid → record { sid = d.sid; item = i } ≡ kill_of sid
-    go item.Kill e = let same : d.sid ≡ sid = cc in ap kill_of same
-    go (item.Event x) e = cc
+    by_item : (i : Item) → killed_by d.sid i ≡ Some sid → record { sid = d.sid; item = i } ≡ kill_of sid
+    by_item item.Kill e = let same : d.sid ≡ sid = cc in ap kill_of same
+    by_item (item.Event x) e = cc
 
 -- it is the only delivery
 pub killed_alone : (ds : List Delivery) (sid : ℕ) → IsKillAlone ds → killed_in (routed_as ds).a ≡ Some sid

@@ -109,11 +109,11 @@ module _ {L : Type 0} {Fits : L → Type 0} {spelling : L → List ℕ} (one : H
       → HasNoReading Fits spelling r → Begins Fits spelling bytes ys s → HasNoReading Fits spelling s
       → (xs ≡ ys) × (r ≡ s)
   same_lines bytes xs ys r s p stuck q stuck' =
-      let (zs, is, more) = most_lines bytes xs ys r s p stuck q in go zs is more
+      let (zs, is, more) = most_lines bytes xs ys r s p stuck q in by_rest zs is more
     where
-      go : (zs : List L) → xs ≡ ys ++ zs → Begins Fits spelling s zs r → (xs ≡ ys) × (r ≡ s)
-      go [] is more = (is ∙ append-nil ys, sym more.1)
-      go (z ∷ zs) is more = absurd (stuck' z _ more.0.0 (more.1 ∙ append_assoc (spelled spelling z) _ r))
+      by_rest : (zs : List L) → xs ≡ ys ++ zs → Begins Fits spelling s zs r → (xs ≡ ys) × (r ≡ s)
+      by_rest [] is more = (is ∙ append-nil ys, sym more.1)
+      by_rest (z ∷ zs) is more = absurd (stuck' z _ more.0.0 (more.1 ∙ append_assoc (spelled spelling z) _ r))
 
   ends_here : HasNoReading Fits spelling []
   ends_here l rest fits e = nothing_spelled spelling l rest e

@@ -168,12 +168,13 @@ rectangle_range x y w h e = grind (arith, nat_tests, and_parts, place_range, leb
 -- the layer of a slot's view, by its name
 layer_by_name : (s : StackModel) (k : ℕ) {sid handle : ℕ} → name_in k s.views ≡ Some (sid, handle)
     → slot_layer s k ≡ Some (layer_of s.layers sid)
-layer_by_name s k {sid} {handle} e = go (slot_view_in k s.views) e
+layer_by_name s k {sid} {handle} e = where_found (slot_view_in k s.views) e
   where
-    go : (o : Option SlotView) → option_map name_of o ≡ Some (sid, handle) → option_map (slot_view_layer s.layers) o
+    where_found : (o : Option SlotView) → option_map name_of o ≡ Some (sid, handle)
+        → option_map (slot_view_layer s.layers) o
         ≡ Some (layer_of s.layers sid)
-    go None e = cc
-    go (Some a) e = rw (some_pair_parts a.view.sid sid a.view.handle handle e).0
+    where_found None e = cc
+    where_found (Some a) e = rw (some_pair_parts a.view.sid sid a.view.handle handle e).0
 
 changed_by : {config : Configuration} {stack stack' : StackModel} {members : List KeptSessionModel}
     {slots : SlotsModel} {user : InputState} {now : ServerModel} {sid : ℕ} (c : Call) (views : List SlotView)

@@ -79,12 +79,12 @@ find-put_failing c v xs ys p fails = grind (arith, find-put c v xs ys p, found_p
 pub find-moved : {A : Type 0} (is c : A → Bool) (put : A → List A → List A)
     → ((v : A) (xs : List A) → IsPutIn v xs (put v xs)) → (xs : List A)
     → IsSpared is (find c xs) → IsSpared is (find c (moved is put xs)) → find c (moved is put xs) ≡ find c xs
-find-moved {A} is c put puts xs h k = go (find is xs) refl k
+find-moved {A} is c put puts xs h k = where_found (find is xs) refl k
   where
-    go : (o : Option A) → find is xs ≡ o → IsSpared is (find c (put_again put (without is xs) xs o))
+    where_found : (o : Option A) → find is xs ≡ o → IsSpared is (find c (put_again put (without is xs) xs o))
         → find c (put_again put (without is xs) xs o) ≡ find c xs
-    go None e k = refl
-    go (Some v) e k = grind (arith, nat_tests, find-put, find-spared, found_passes)
+    where_found None e k = refl
+    where_found (Some v) e k = grind (arith, nat_tests, find-put, find-spared, found_passes)
 
 -- ==== What holds of each element of a list, or of no pair of them, where elements are taken out, changed or put in.
 

@@ -125,12 +125,12 @@ Put-above is v xs = record { at = position_or_len is xs; is = above_is is v xs }
 
 pub Put-back : {A : Type 0} (layer : A → ℕ) (l : ℕ) (v : A) (xs : List A) → Put v xs (put_back layer l v xs)
 Put-back layer l v [] = record { at = 0; is = refl }
-Put-back {A} layer l v (x ∷ xs) = go (list_any (λ y. nat_le (layer y) l) (x ∷ xs)) (Put-back layer l v xs)
+Put-back {A} layer l v (x ∷ xs) = whether_any (list_any (λ y. nat_le (layer y) l) (x ∷ xs)) (Put-back layer l v xs)
   where
-    go : (b : Bool) → Put v xs (put_back layer l v xs)
+    whether_any : (b : Bool) → Put v xs (put_back layer l v xs)
         → Put v (x ∷ xs) (cond b (x ∷ put_back layer l v xs) (v ∷ (x ∷ xs)))
-    go true r = record { at = suc r.at; is = ap (λ z. x ∷ z) r.is }
-    go false r = record { at = 0; is = refl }
+    whether_any true r = record { at = suc r.at; is = ap (λ z. x ∷ z) r.is }
+    whether_any false r = record { at = 0; is = refl }
 
 -- what is put in is there beside the others
 pub any-put : {A : Type 0} (p : A → Bool) (v : A) (xs ys : List A) → Put v xs ys
@@ -248,11 +248,12 @@ map-without f is (x ∷ xs) = grind (arith, map-without f is xs)
 -- the view of a slot that is handed out for a place
 pub slot_at : (views : List SlotView) (i : ℕ) (v : ViewRef) → slice_get (map view_ref views) i ≡ Some v
     → (s : SlotView) × (slice_get views i ≡ Some s) × (s.slot ≡ v.0)
-slot_at views i v at = go (slice_get views i) (rw slice_get-map at at)
+slot_at views i v at = where_found (slice_get views i) (rw slice_get-map at at)
   where
-    go : (o : Option SlotView) → option_map view_ref o ≡ Some v → (s : SlotView) × (o ≡ Some s) × (s.slot ≡ v.0)
-    go None e = cc
-    go (Some s) e = (s, refl, grind arith)
+    where_found : (o : Option SlotView) → option_map view_ref o ≡ Some v
+        → (s : SlotView) × (o ≡ Some s) × (s.slot ≡ v.0)
+    where_found None e = cc
+    where_found (Some s) e = (s, refl, grind arith)
 
 -- the list from a place on
 pub drop_at : {A : Type 0} (xs : List A) (i : ℕ) (x : A) → slice_get xs i ≡ Some x → drop i xs ≡ x ∷ drop (i + 1) xs

@@ -38,22 +38,23 @@ begins_with (y ∷ ys) x some is = (ys, ap (λ z. z ∷ ys) (sym is))
 
 -- there is a first script
 pub begun_first : (o : RunFiles) → IsOuter o → (own : List Line) × (rest : List (List Line)) × (o.scripts ≡ own ∷ rest)
-begun_first o is_outer = go o.scripts (omega (arith, is_outer.configured.count.0, is_outer.count))
+begun_first o is_outer = by_scripts o.scripts (omega (arith, is_outer.configured.count.0, is_outer.count))
   where
-    go : (scripts : List (List Line)) → 1 ≤ length scripts → (own : List Line) × (rest : List (List Line))
+    by_scripts : (scripts : List (List Line)) → 1 ≤ length scripts → (own : List Line) × (rest : List (List Line))
         × (scripts ≡ own ∷ rest)
-    go [] some = absurd (omega (arith, some))
-    go (own ∷ rest) some = (own, rest, refl)
+    by_scripts [] some = absurd (omega (arith, some))
+    by_scripts (own ∷ rest) some = (own, rest, refl)
 
 -- where no file is to blame, none has another number of phases
 pub fits_first : (inner : List ℕ) (o i : RunFiles) → misfit inner o i ≡ None
     → first_other (length (frames_of i)) (names_in o.config) (phase_counts o) ≡ None
-fits_first inner o i fits = go (first_other (length (frames_of i)) (names_in o.config) (phase_counts o)) fits
+fits_first inner o i fits = by_other (first_other (length (frames_of i)) (names_in o.config) (phase_counts o)) fits
   where
-    go : (other : Option (List ℕ)) → unless_other other (too_long_for inner (is_too_long (nest_of i) o.scripts)) ≡ None
+    by_other : (other : Option (List ℕ))
+        → unless_other other (too_long_for inner (is_too_long (nest_of i) o.scripts)) ≡ None
         → other ≡ None
-    go None e = refl
-    go (Some name) e = absurd cc
+    by_other None e = refl
+    by_other (Some name) e = absurd cc
 
 -- the first script has as many phases as there are frames
 pub first_counts : (o i : RunFiles) (own : List Line) (rest : List (List Line)) → o.scripts ≡ own ∷ rest → IsOuter o

@@ -65,11 +65,11 @@ added_more : (c : Command) (s : Setup) (journal : List Entry) (files : List File
     (added : List File) → AreAdded c are added → IsMore added
 added_more (Clip configuration) s journal files are added (f, (clips, list, is), one) =
     rw one (one_more f 99 (inl refl) (rw is refl))
-added_more (Nested outer inner) s journal files are added is = by s.inner is
+added_more (Nested outer inner) s journal files are added is = by_inner s.inner is
   where
-    by : (inner : Option RunFiles) → IsInnerJournal inner added → IsMore added
-    by None is = absurd is
-    by (Some i) (journal, is_journal, one) = rw one (one_more (inner_journal_name, _) 105 (inr refl) refl)
+    by_inner : (inner : Option RunFiles) → IsInnerJournal inner added → IsMore added
+    by_inner None is = absurd is
+    by_inner (Some i) (journal, is_journal, one) = rw one (one_more (inner_journal_name, _) 105 (inr refl) refl)
 added_more (Capture configuration region) s journal files are added one =
     rw one (one_more (film_name, _) 99 (inl refl) refl)
 added_more other s journal files are added none = rw none none_more
@@ -128,22 +128,23 @@ module _ (s : Setup) (runnable : IsRunnable s) (journal : List Entry) (j : IsJou
       omega arith
 
   shots_are : (files : List File) (are : AreOutputs s journal files) → Numbered 1 are.0 × (length are.0 ≡ shots journal)
-  shots_are files are = by s.beside refl
+  shots_are files are = by_way s.beside refl
     where
-      by : (b : Bool) → s.beside ≡ b → Numbered 1 are.0 × (length are.0 ≡ shots journal)
-      by false alone = numbered _ (first_state s.config) 0 [] journal are.0 j.legal
+      by_way : (b : Bool) → s.beside ≡ b → Numbered 1 are.0 × (length are.0 ≡ shots journal)
+      by_way false alone = numbered _ (first_state s.config) 0 [] journal are.0 j.legal
           (drawn_along s journal files j are alone law fronts)
-      by true together = numbered (IsNearPicture s.config s.scripts s.input)
+      by_way true together = numbered (IsNearPicture s.config s.scripts s.input)
           (first_state s.config) 0 [] journal are.0 j.legal
           (are.1.beside together)
 
   module _ (added : List File) (more : IsMore added) where
     texts_apart : Apart (text_files s journal ++ added)
-    texts_apart = by s.texts
+    texts_apart = whether_texts s.texts
       where
-        by : (b : Bool) → Apart (cond b (events_files s.config journal ++ journal_file journal ∷ []) [] ++ added)
-        by false = more.apart
-        by true =
+        whether_texts : (b : Bool)
+            → Apart (cond b (events_files s.config journal ++ journal_file journal ∷ []) [] ++ added)
+        whether_texts false = more.apart
+        whether_texts true =
             let events = events_files s.config journal in
             let last = journal_file journal ∷ [] in
             rw (append_assoc events last added)
@@ -155,12 +156,13 @@ module _ (s : Setup) (runnable : IsRunnable s) (journal : List Entry) (j : IsJou
 
     behind_other : (letter : ℕ) → ◌≢◌ {A = ℕ} 101 letter → ◌≢◌ {A = ℕ} 106 letter → ◌≢◌ {A = ℕ} 99 letter
         → ◌≢◌ {A = ℕ} 105 letter → BeginOther letter (text_files s journal ++ added)
-    behind_other letter e j c i = all_append (λ f. slice_index f.0 0 ≢ letter) (text_files s journal) added (by s.texts)
-        (more_other added more letter c i)
+    behind_other letter e j c i = all_append (λ f. slice_index f.0 0 ≢ letter) (text_files s journal) added
+        (whether_texts s.texts) (more_other added more letter c i)
       where
-        by : (b : Bool) → BeginOther letter (cond b (events_files s.config journal ++ journal_file journal ∷ []) [])
-        by false = tt
-        by true = texts_other s.config journal letter e j
+        whether_texts : (b : Bool)
+            → BeginOther letter (cond b (events_files s.config journal ++ journal_file journal ∷ []) [])
+        whether_texts false = tt
+        whether_texts true = texts_other s.config journal letter e j
 
     abbrev last_on : List File
     last_on = (final_name, final_picture s journal) ∷ (text_files s journal ++ added)

@@ -87,11 +87,11 @@ number_in (Some n) = n
 
 among_within : (z : ℤ) (most n : ℕ) → among z most ≡ Some n → n < most
 among_within (negsuc m) most n e = absurd cc
-among_within (pos m) most n e = go (nat_lt m most) refl e
+among_within (pos m) most n e = whether_less (nat_lt m most) refl e
   where
-    go : (b : Bool) → nat_lt m most ≡ b → cond b (Some m) None ≡ Some n → n < most
-    go true is e = subst (λ (k : ℕ). k < most) (ap number_in e) (ltb-true m most is)
-    go false is e = absurd cc
+    whether_less : (b : Bool) → nat_lt m most ≡ b → cond b (Some m) None ≡ Some n → n < most
+    whether_less true is e = subst (λ (k : ℕ). k < most) (ap number_in e) (ltb-true m most is)
+    whether_less false is e = absurd cc
 
 index_within : (w h : ℕ) (x y : Option ℕ) (j : ℕ) → ((n : ℕ) → x ≡ Some n → n < w) → ((n : ℕ) → y ≡ Some n → n < h)
     → index_at w x y ≡ Some j → j < w * h
@@ -118,12 +118,12 @@ place_in other = 0
 pub word_within : (sizes : ℕ → Size) (p : Point) (o : Option View) (t j : ℕ) → source_under sizes p o ≡ Word t j
     → j < (sizes t).w * (sizes t).h
 word_within sizes p None t j e = absurd cc
-word_within sizes p (Some v) t j e = go (shown_index (sizes v.sid) v p) refl e
+word_within sizes p (Some v) t j e = by_index (shown_index (sizes v.sid) v p) refl e
   where
-    go : (o : Option ℕ) → shown_index (sizes v.sid) v p ≡ o → black_or_word v.sid o ≡ Word t j
+    by_index : (o : Option ℕ) → shown_index (sizes v.sid) v p ≡ o → black_or_word v.sid o ≡ Word t j
         → j < (sizes t).w * (sizes t).h
-    go None is e = absurd cc
-    go (Some n) is e =
+    by_index None is e = absurd cc
+    by_index (Some n) is e =
         subst (λ (k : ℕ). j < (sizes k).w * (sizes k).h) (ap session_in e)
         (shown_within (sizes v.sid) v p j (is ∙ ap Some (ap place_in e)))
 

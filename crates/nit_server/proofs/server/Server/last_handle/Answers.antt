@@ -9,11 +9,11 @@ returns-clause-held c =
     rw (← machine, c.facts.ensures.handles) (simp has_as_held c.last.ensures.held)
 
 pub returns-clause-no_view : goal.returns-clause-no_view
-returns-clause-no_view c = go c.last.result c.last.ensures.none.0
+returns-clause-no_view c = by_last c.last.result c.last.ensures.none.0
   where
-    go : (o : Option ℕ) → (IsNone o → c.index-member.result.now.pairs ≡ [])
+    by_last : (o : Option ℕ) → (IsNone o → c.index-member.result.now.pairs ≡ [])
         → IfNone o (list_any (is_of_session c.args.sid) c.args.self.now.stack.views ≡ false)
-    go (Some h) none = tt
-    go None none =
+    by_last (Some h) none = tt
+    by_last None none =
         let own = own_member c.self.invariant.0 c.self.view_is c.requires c.index-member.ensures in
         rw (← c.self.view_is) (no_view_left c.self.invariant.0 c.args.sid (rw own at (none refl)))
