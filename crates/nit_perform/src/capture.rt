@@ -36,31 +36,26 @@ pub fn run_filmed<R: Threads + Wait + Sync, S: Store, G: Gate>(
         (S.shown store.new) result }
 {
     let reel = Reel {
-        store,
         film,
         count: 0,
         ended: false,
         whole: true,
     };
-    let Reeled { reel, ran } = film_named::<Brand, R, S, G>(host, config, scripts, reel);
-    let Reel {
-        store,
-        film,
-        count,
-        ended,
-        whole,
-    } = reel;
+    let Reeled { store, reel, ran } = film_named::<Brand, R, S, G>(
+        host, config, scripts, store, reel,
+    );
     let Ok(ran) = ran else {
         return Err(NoMemory);
     };
-    let whole = has_all(whole, ended, count, ran.frames);
-    Ok(end_film(store, film, whole, ran))
+    let whole = has_all(&reel, ran.frames);
+    Ok(end_film(store, reel.film, whole, ran))
 }
 
 /// What a run through the store of a film leaves.
 #[derive(Drop)]
 struct Reeled<'s, S> {
-    reel: Reel<'s, S>,
+    store: &'s mut S,
+    reel: Reel,
     ran: Result<Ran, NoMemory>,
 }
 
@@ -69,62 +64,40 @@ fn film_named<'s, F: Filming, R: Threads + Wait + Sync, S: Store, G: Gate>(
     host: &ThreadHost<R, G>,
     config: &Config,
     scripts: &Scripts,
-    reel: Reel<'s, S>,
+    store: &'s mut S,
+    reel: Reel,
 ) -> Reeled<'s, S>
     requires runnable { IsRunnable
         (setup_of config.now scripts.now.clients.items scripts.now.input true true) }
     requires begun { reel.film.capture ≡ F.begun }
-    requires name { reel.store.ghost_name ≡ F.name }
+    requires name { store.ghost_name ≡ F.name }
     requires header { reel.film.bytes.items ≡ film_header F.begun.rect.w F.begun.rect.h }
     requires fresh { (reel.count ≡ 0) × (reel.ended ≡ false) }
-    ensures same_store { result.reel.store.ghost_name ≡ reel.entry.store.ghost_name }
-    ensures ran { Runs (S.shown reel.entry.store.now)
+    ensures same_store { result.store.ghost_name ≡ store.entry.ghost_name }
+    ensures ran { Runs (S.shown store.entry.now)
         (setup_of config.now scripts.now.clients.items scripts.now.input true true)
-        (S.shown result.reel.store.now) result.ran }
+        (S.shown result.store.now) result.ran }
     ensures film { let r = result.reel in IsFilmOf r.whole F.begun r.film.capture
-        (picture_names r.count r.ended) (S.shown r.store.now).files r.film.bytes.items }
+        (picture_names r.count r.ended) (S.shown result.store.now).files r.film.bytes.items }
 {
-    let Reel {
-        store,
-        film,
-        count,
-        ended,
-        whole,
-    } = reel;
     let mut front: FilmStore<'s, S, F> = FilmStore {
         store,
-        film,
-        count,
-        ended,
-        whole,
+        reel,
         of: PhantomData,
     };
     let clients = scripts.clients.as_slice();
     let ran = run_beside(host, config, clients, &scripts.input, &mut front);
-    let FilmStore {
-        store,
-        film,
-        count,
-        ended,
-        whole,
-        of: _,
-    } = front;
-    let reel = Reel {
-        store,
-        film,
-        count,
-        ended,
-        whole,
-    };
-    Reeled { reel, ran }
+    let FilmStore { store, reel, of: _ } = front;
+    Reeled { store, reel, ran }
 }
 
-/// Whether a film that is whole has so many pictures, the last one among them.
-fn has_all(whole: bool, ended: bool, shots: u32, pictures: usize) -> bool
-    ensures whole { result ≡ true → whole ≡ true }
-    ensures ended { result ≡ true → ended ≡ true }
-    ensures pictures { result ≡ true → shots + 1 ≡ pictures }
-    ensures few { shots ≤ 4294967295 }
+/// Whether a film is whole and has so many pictures, the last one among them.
+fn has_all(reel: &Reel, pictures: usize) -> bool
+    ensures whole { result ≡ true → reel.now.whole ≡ true }
+    ensures ended { result ≡ true → reel.now.ended ≡ true }
+    ensures pictures { result ≡ true → reel.now.count + 1 ≡ pictures }
+    ensures few { reel.now.count ≤ 4294967295 }
 {
-    whole && ended && shots as usize + 1 == pictures
+    let taken = reel.count as usize + 1;
+    reel.whole && reel.ended && taken == pictures
 }

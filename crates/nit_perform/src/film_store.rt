@@ -33,10 +33,9 @@ impl Filming for Brand {
     ghost name = { 0 };
 }
 
-/// A store, and the film of the pictures that were put into it.
+/// The film of the pictures that were put into a store.
 #[derive(Drop)]
-pub struct Reel<'s, S> {
-    pub store: &'s mut S,
+pub struct Reel {
     pub film: Film,
     /// How many shots are in the film.
     pub count: u32,
@@ -51,18 +50,12 @@ pub struct Reel<'s, S> {
 #[derive(Drop)]
 pub struct FilmStore<'s, S: Store, F: Filming> {
     pub store: &'s mut S,
-    pub film: Film,
-    /// How many shots are in the film.
-    pub count: u32,
-    /// Whether the last picture is in it.
-    pub ended: bool,
-    /// Whether all pictures came in their order, and none was refused.
-    pub whole: bool,
+    pub reel: Reel,
     pub of: PhantomData<F>,
     ghost same: { store.ghost_name ≡ F.name },
-    ghost screen: { film.capture ≡ with_last F.begun film.capture.before },
-    ghost tie: { IsFilmOf whole F.begun film.capture (picture_names count ended)
-        (S.shown store.now).files film.bytes.items },
+    ghost screen: { reel.film.capture ≡ with_last F.begun reel.film.capture.before },
+    ghost tie: { IsFilmOf reel.whole F.begun reel.film.capture
+        (picture_names reel.count reel.ended) (S.shown store.now).files reel.film.bytes.items },
 }
 
 impl<S: Store, F: Filming> FilmStore<'_, S, F> {
@@ -74,39 +67,42 @@ impl<S: Store, F: Filming> FilmStore<'_, S, F> {
     /// Whether these bytes can be the film's next picture: it is whole and not ended, and they have
     /// enough bytes.
     fn takes(&self, bytes: &[u8]) -> bool
-        ensures { result ≡ true → CanFilm self.now.whole self.now.ended self.now.count
-            self.now.film.capture bytes.now }
+        ensures { result ≡ true → CanFilm self.now.reel.whole self.now.reel.ended self.now.reel.count
+            self.now.reel.film.capture bytes.now }
     {
-        self.whole && !self.ended && self.count < MOST_SHOTS && self.film.fits(bytes)
+        self.reel.whole
+            && !self.reel.ended
+            && self.reel.count < MOST_SHOTS
+            && self.reel.film.fits(bytes)
     }
 
     /// Puts the picture of the next shot, and adds it to the film.
     fn put_shot(&mut self, name: &str, bytes: &[u8]) -> Result<(), PutError>
-        requires name { name.now ≡ shot_name (self.old.count + 1) }
-        requires can { CanFilm self.old.whole self.old.ended self.old.count
-            self.old.film.capture bytes.now }
+        requires name { name.now ≡ shot_name (self.old.reel.count + 1) }
+        requires can { CanFilm self.old.reel.whole self.old.reel.ended self.old.reel.count
+            self.old.reel.film.capture bytes.now }
         ensures { AfterPut (S.shown self.old.store.now) name.now bytes.now
             (S.shown self.new.store.now) result }
     {
-        self.whole = false;
-        put_filmed(self.store, &mut self.film, name, bytes)?;
-        self.count += 1;
-        self.whole = true;
+        self.reel.whole = false;
+        put_filmed(self.store, &mut self.reel.film, name, bytes)?;
+        self.reel.count += 1;
+        self.reel.whole = true;
         Ok(())
     }
 
     /// Puts the last picture, and adds it to the film.
     fn put_final(&mut self, name: &str, bytes: &[u8]) -> Result<(), PutError>
         requires name { name.now ≡ final_name }
-        requires can { CanFilm self.old.whole self.old.ended self.old.count
-            self.old.film.capture bytes.now }
+        requires can { CanFilm self.old.reel.whole self.old.reel.ended self.old.reel.count
+            self.old.reel.film.capture bytes.now }
         ensures { AfterPut (S.shown self.old.store.now) name.now bytes.now
             (S.shown self.new.store.now) result }
     {
-        self.whole = false;
-        put_filmed(self.store, &mut self.film, name, bytes)?;
-        self.ended = true;
-        self.whole = true;
+        self.reel.whole = false;
+        put_filmed(self.store, &mut self.reel.film, name, bytes)?;
+        self.reel.ended = true;
+        self.reel.whole = true;
         Ok(())
     }
 }
@@ -122,13 +118,13 @@ impl<S: Store, F: Filming> Store for FilmStore<'_, S, F> {
         if !is_picture_name(name) {
             return self.store.put(name, bytes);
         }
-        if self.takes(bytes) && is_shot_name(name, self.count + 1) {
+        if self.takes(bytes) && is_shot_name(name, self.reel.count + 1) {
             return self.put_shot(name, bytes);
         }
         if self.takes(bytes) && name == "final.ppm" {
             return self.put_final(name, bytes);
         }
-        self.whole = false;
+        self.reel.whole = false;
         self.store.put(name, bytes)
     }
 

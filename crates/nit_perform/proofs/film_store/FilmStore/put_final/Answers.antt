@@ -9,8 +9,8 @@ invariant_of-self-2 g c =
     record {
       same = self.same;
       screen = rw (done.screen, self.screen);
-      tie = film_grows g.F.Filming.begun (picture_names self.count false) self.film.bytes.items
+      tie = film_grows g.F.Filming.begun (picture_names self.reel.count false) self.reel.film.bytes.items
           (g.S.Store.shown self.store.now).files (g.S.Store.shown c.put_filmed.new.store).files c.args.name.now
-          c.args.bytes.now (rw c.requires.name (before_last self.count)) done.put.1 self.screen done.capture done.film
-          (rw (can.is_whole, can.going) at self.tie) (rw (c.requires.name, last_more self.count));
+          c.args.bytes.now (rw c.requires.name (before_last self.reel.count)) done.put.1 self.screen done.capture done.film
+          (rw (can.is_whole, can.going) at self.tie) (rw (c.requires.name, last_more self.reel.count));
     }

@@ -7,9 +7,9 @@ invariant_of-self g c =
     record {
       same = self.same;
       screen = self.screen;
-      tie = film_stays self.whole g.F.Filming.begun self.film.capture _ self.film.bytes.items
+      tie = film_stays self.reel.whole g.F.Filming.begun self.reel.film.capture _ self.reel.film.bytes.items
           (g.S.Store.shown self.store.now) (g.S.Store.shown c.put.new.self) c.args.name.now c.args.bytes.now
           c.put.result
-          (other_names c.args.name.now c.is_picture_name.result self.count self.ended c.if-not-is_picture_name.true
+          (other_names c.args.name.now c.is_picture_name.result self.reel.count self.reel.ended c.if-not-is_picture_name.true
           c.is_picture_name.ensures.shots c.is_picture_name.ensures.last) c.put.ensures.answer self.tie;
     }
