@@ -3,15 +3,15 @@ use Rattle.std.specs.Prelude.{◌≡◌, ℕ, ◌*◌, ◌<◌, ◌≤◌, Bool,
 use Rattle.std.specs.Prelude.{map, Option, Some, if◌then◌else◌}
 use Rattle.nit_perform.specs.Below.{CaptureModel, File, bytes_of, cropped_bytes, film_header}
 use Rattle.nit_perform.specs.Below.{final_name, most_lines, range_with_len, records, shot_name}
+use Rattle.nit_perform.specs.declared.film_store.Reel.{Reel}
 
--- these bytes can be the next picture of a film of so many shots: it is whole and not ended, and
--- they are as many as a picture has
-pub record CanFilm (whole ended : Bool) (count : ℕ) (now : CaptureModel) (bytes : List ℕ) : Type 0
-  where
-    pub is_whole : whole ≡ true
-    pub going : ended ≡ false
-    pub few : count < most_lines
-    pub long : 3 * (now.width * now.height) ≤ length bytes
+-- these bytes can be the next picture of a film: it is whole and not ended, and they are as many
+-- as a picture has
+pub record CanFilm (r : Reel) (bytes : List ℕ) : Type 0 where
+  pub is_whole : r.whole ≡ true
+  pub going : r.ended ≡ false
+  pub few : r.count < most_lines
+  pub long : 3 * (r.film.capture.width * r.film.capture.height) ≤ length bytes
 
 -- the names of the pictures of so many shots, and of the last picture, if that was taken
 abbrev pub picture_names : ℕ → Bool → List (List ℕ)

@@ -67,8 +67,7 @@ impl<S: Store, F: Filming> FilmStore<'_, S, F> {
     /// Whether these bytes can be the film's next picture: it is whole and not ended, and they have
     /// enough bytes.
     fn takes(&self, bytes: &[u8]) -> bool
-        ensures { result ≡ true → CanFilm self.now.reel.whole self.now.reel.ended self.now.reel.count
-            self.now.reel.film.capture bytes.now }
+        ensures { result ≡ true → CanFilm self.now.reel bytes.now }
     {
         self.reel.whole
             && !self.reel.ended
@@ -79,8 +78,7 @@ impl<S: Store, F: Filming> FilmStore<'_, S, F> {
     /// Puts the picture of the next shot, and adds it to the film.
     fn put_shot(&mut self, name: &str, bytes: &[u8]) -> Result<(), PutError>
         requires name { name.now ≡ shot_name (self.old.reel.count + 1) }
-        requires can { CanFilm self.old.reel.whole self.old.reel.ended self.old.reel.count
-            self.old.reel.film.capture bytes.now }
+        requires can { CanFilm self.old.reel bytes.now }
         ensures { AfterPut (S.shown self.old.store.now) name.now bytes.now
             (S.shown self.new.store.now) result }
     {
@@ -94,8 +92,7 @@ impl<S: Store, F: Filming> FilmStore<'_, S, F> {
     /// Puts the last picture, and adds it to the film.
     fn put_final(&mut self, name: &str, bytes: &[u8]) -> Result<(), PutError>
         requires name { name.now ≡ final_name }
-        requires can { CanFilm self.old.reel.whole self.old.reel.ended self.old.reel.count
-            self.old.reel.film.capture bytes.now }
+        requires can { CanFilm self.old.reel bytes.now }
         ensures { AfterPut (S.shown self.old.store.now) name.now bytes.now
             (S.shown self.new.store.now) result }
     {

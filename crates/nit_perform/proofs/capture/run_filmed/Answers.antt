@@ -16,8 +16,8 @@ returns g c = λ region same.
     let end = c.end_film in
     let has = rw c.in-Ok.is at c.film_named-store.ensures.ran in
     let ends : IsFilmEnd region s c.args.film.capture reel.film.capture reel.count reel.ended reel.whole
-    c.has_all-whole.result reel.film.bytes.items (shown c.film_named-store.result.store.now) (shown end.new.store) ran.frames ran.fault
-    end.result.fault =
+    c.has_all-whole.result reel.film.bytes.items (shown c.film_named-store.result.store.now)
+    (shown end.new.store) ran.frames ran.fault end.result.fault =
     assumption (same, c.film_named-store.ensures.film, c.has_all-whole.ensures, end.ensures) in
     subst (λ (new : StoreModel). HasFilmed region (shown c.args.store.now) s new end.result.journal.items
     end.result.frames end.result.fault) {x = shown end.new.store} (search rules)
