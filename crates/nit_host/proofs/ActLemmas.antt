@@ -255,7 +255,7 @@ module _ {d d1 d2 : DesktopModel SheetModel} {hollows : List SheetModel} {seat :
   was_refreshed {kept} {seen} view = rw (← view) (record {
     is_host = (done {kept = kept} {seen = seen}).host;
     replied = (done {kept = kept} {seen = seen}).reply;
-    now = (done {kept = kept} {seen = seen}).now ∙ by (refusal s asked) refl;
+    now = (done {kept = kept} {seen = seen}).now ∙ unless_refused (refusal s asked) refl;
     shown = rw (glasses_now host served swapped at) (words_now (refusal s asked) refl);
   })
     where

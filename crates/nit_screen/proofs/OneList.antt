@@ -77,7 +77,7 @@ painted_in true m bare p = p
 painted_in {source} {marked} {n} {a} {b} {raw} {raw'} false m bare p = record {
   loads = p.loads;
   sights = p.sights;
-  marked = λ k l d. go k l d (nat_lt k m) refl;
+  marked = λ k l d. by_bar k l d (nat_lt k m) refl;
   others = λ k out. cc (unbarred_at m raw' k, unbarred_at m raw k, p.others k out);
   counts = p.counts;
 }
