@@ -72,7 +72,7 @@ pub use Rattle.std.proofs.Common.{rules, subst, sym, ◌∙◌}
 pub use Rattle.std.proofs.Math.Seq.{take-append_seam}
 pub use Rattle.std.proofs.lemmas.Bool.{and_parts, cases_Bool, cases_lt, eq-eqb, lt-ltb}
 pub use Rattle.std.proofs.lemmas.Bool.Decides.{nat_tests}
-pub use Rattle.std.proofs.lemmas.Fmt.{IsAscii-decimal, decimal_digit}
+pub use Rattle.std.proofs.lemmas.Fmt.{IsAscii-decimal}
 pub use Rattle.std.proofs.lemmas.List.{append-nil, append_cancel_left, get_or_default, get_or_past}
 pub use Rattle.std.proofs.lemmas.List.{length-map, length_push, map-append, map-id, map_push}
 pub use Rattle.std.proofs.lemmas.List.{take_all}

@@ -20,9 +20,9 @@ pub use Rattle.nit_perform.proofs.InnerLemmas.{answered, frame_refused, no_frame
 pub use Rattle.nit_perform.proofs.InnerLemmas.{taken_all, takes_more, whole_nest}
 pub use Rattle.nit_perform.proofs.PutLemmas.{IsFilmEnd, before_last, before_shot}
 pub use Rattle.nit_perform.proofs.PutLemmas.{events_name_is_text, film_grows, film_leaves}
-pub use Rattle.nit_perform.proofs.PutLemmas.{film_stays, last_more, name_bytes, next_goes}
-pub use Rattle.nit_perform.proofs.PutLemmas.{next_stays, no_put, one_file_more, one_shot_more}
-pub use Rattle.nit_perform.proofs.PutLemmas.{other_names, script_name_is_text}
+pub use Rattle.nit_perform.proofs.PutLemmas.{film_stays, last_more, next_goes, next_stays, no_put}
+pub use Rattle.nit_perform.proofs.PutLemmas.{one_file_more, one_shot_more, other_names}
+pub use Rattle.nit_perform.proofs.PutLemmas.{script_name_is_text}
 pub use Rattle.nit_perform.proofs.RoomRunLemmas.{all_done, all_push, alone_leaves, are_all_done}
 pub use Rattle.nit_perform.proofs.RoomRunLemmas.{back_long, beside_leaves, clips_done, clips_leave}
 pub use Rattle.nit_perform.proofs.RoomRunLemmas.{ended_as, is_ready, is_ready_alone, known_whole}

@@ -10,17 +10,16 @@ use Rattle.nit_perform.proofs.Basics.{PutRefusal, PutState, PutsAll, PutsFile, P
 use Rattle.nit_perform.proofs.Basics.{Region, Setup, StoreModel, WriteFaulted, all_append}
 use Rattle.nit_perform.proofs.Basics.{also_more, and_parts, append-nil, asking_all, asking_none}
 use Rattle.nit_perform.proofs.Basics.{begun_of, bytes_of, bytes_under, cases_Bool, codes}
-use Rattle.nit_perform.proofs.Basics.{cropped_bytes, decimal, decimal_digit, events_files}
-use Rattle.nit_perform.proofs.Basics.{events_name, file_at, film_header, film_name, film_of}
-use Rattle.nit_perform.proofs.Basics.{final_name, final_picture, first_state, is_label}
-use Rattle.nit_perform.proofs.Basics.{is_label_byte, is_some, journal_file, last_of, later_shots}
-use Rattle.nit_perform.proofs.Basics.{list_all, map-range_with_len_more, map_push, nat_tests}
-use Rattle.nit_perform.proofs.Basics.{next_record, none_behind, numbered, other_both, other_letter}
-use Rattle.nit_perform.proofs.Basics.{output_name, picture_names, pictures_in, put_state_of_run}
-use Rattle.nit_perform.proofs.Basics.{puts_more, range_with_len, record_of, records, refusal_by}
-use Rattle.nit_perform.proofs.Basics.{same_Some, script_name, shot_name, shots, shots_apart}
-use Rattle.nit_perform.proofs.Basics.{slice_index, stays, texts_other, unrefused, with_asked}
-use Rattle.nit_perform.proofs.Basics.{with_last, with_texts}
+use Rattle.nit_perform.proofs.Basics.{cropped_bytes, decimal, events_files, events_name, file_at}
+use Rattle.nit_perform.proofs.Basics.{film_header, film_name, film_of, final_name, final_picture}
+use Rattle.nit_perform.proofs.Basics.{first_state, is_label, is_label_byte, is_some, journal_file}
+use Rattle.nit_perform.proofs.Basics.{last_of, later_shots, list_all, map-range_with_len_more}
+use Rattle.nit_perform.proofs.Basics.{map_push, nat_tests, next_record, none_behind, numbered}
+use Rattle.nit_perform.proofs.Basics.{other_both, other_letter, output_name, picture_names}
+use Rattle.nit_perform.proofs.Basics.{pictures_in, put_state_of_run, puts_more, range_with_len}
+use Rattle.nit_perform.proofs.Basics.{record_of, records, refusal_by, same_Some, script_name}
+use Rattle.nit_perform.proofs.Basics.{shot_name, shots, shots_apart, slice_index, stays}
+use Rattle.nit_perform.proofs.Basics.{texts_other, unrefused, with_asked, with_last, with_texts}
 use Rattle.nit_store.specs.declared.store.PutError.TheVariants as put
 
 -- these files were put
@@ -149,9 +148,6 @@ one_file_more make k old mid new is puts next = rw (map-range_with_len_more make
     (puts_more (map make (range_with_len 0 k)) (make k) old mid new puts (rw is at next))
 
 -- the name of a client's script is text
-pub name_bytes : (c : ℕ) → c < 8 → script_name c ≡ 103 ∷ (48 + c) ∷ 46 ∷ 110 ∷ 105 ∷ 116 ∷ []
-name_bytes c small = rw (decimal_digit c (omega arith))
-
 pub script_name_is_text : (c : ℕ) → c < 8 → IsUtf8 (script_name c)
 script_name_is_text c small = IsUtf8-from_ascii (script_name c) (IsAscii-append (codes "g" ++ decimal c) (codes ".nit")
     (IsAscii-append (codes "g") (decimal c) (search rules) (IsAscii-decimal c (omega arith))) (search rules))

@@ -7,7 +7,7 @@ ghost use Rattle.nit_perform.specs.Terms.{script_files, script_name, unrefused};
 
 use crate::puts::put_next;
 use crate::ran::PutFault;
-use nit_report::Files;
+use nit_report::{Files, script_name};
 use nit_run::Output;
 use nit_store::Store;
 use nit_store::laws::puts_go_on;
@@ -71,12 +71,4 @@ fn put_script<S: Store>(
         unreachable!()
     };
     put_next(store, fault, Output::GeneratedScript(client), name, bytes)
-}
-
-/// The name of the script of a client.
-fn script_name(client: u32) -> [u8; 6]
-    requires { client < 8 }
-    ensures { result ≡ script_name client }
-{
-    [b'g', b'0' + client as u8, b'.', b'n', b'i', b't']
 }

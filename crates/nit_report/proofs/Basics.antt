@@ -4,13 +4,14 @@ pub use Rattle.nit_rect.proofs.ForCallers.{all_append}
 pub use Rattle.nit_report.specs.Terms.{AllByRecursion, AllZip, AppendsDraws, Bad, Begins, Call}
 pub use Rattle.nit_report.specs.Terms.{Closed, Delivery, Device, Draw, Draws, Entry, Event}
 pub use Rattle.nit_report.specs.Terms.{FitsCall, FitsDelivery, FitsDevice, FitsEntry, FitsEvent}
-pub use Rattle.nit_report.specs.Terms.{FitsInputLine, FitsInt, FitsItem, FitsLine, FitsReply}
-pub use Rattle.nit_report.specs.Terms.{FitsRouted, FitsSession, FitsShot, HasOneReading, IfOk}
-pub use Rattle.nit_report.specs.Terms.{InputLine, IsConfiguration, IsFirstBadEntry, IsJournalAnswer}
-pub use Rattle.nit_report.specs.Terms.{IsMember, IsOkAnd, Item, JournalError, Killed, Line, Live}
-pub use Rattle.nit_report.specs.Terms.{Member, NoMemory, ReadsClient, ReadsJournal, Reply, Routed}
-pub use Rattle.nit_report.specs.Terms.{UnlessNoMemory, at_made, backdrop, buffer_lines, busy}
-pub use Rattle.nit_report.specs.Terms.{busy_lines, call_at, call_spelling, channels, click, clicks}
+pub use Rattle.nit_report.specs.Terms.{FitsInputLine, FitsInt, FitsItem, FitsLine, FitsNat}
+pub use Rattle.nit_report.specs.Terms.{FitsReply, FitsRouted, FitsSession, FitsShot, HasOneReading}
+pub use Rattle.nit_report.specs.Terms.{IfOk, InputLine, IsConfiguration, IsFirstBadEntry}
+pub use Rattle.nit_report.specs.Terms.{IsJournalAnswer, IsMember, IsOkAnd, Item, JournalError}
+pub use Rattle.nit_report.specs.Terms.{Killed, Line, Live, Member, NoMemory, ReadsClient}
+pub use Rattle.nit_report.specs.Terms.{ReadsJournal, Reply, Routed, UnlessNoMemory, at_both}
+pub use Rattle.nit_report.specs.Terms.{at_kind, at_made, backdrop, buffer_lines, busy, busy_lines}
+pub use Rattle.nit_report.specs.Terms.{call_at, call_spelling, channels, click, clicks}
 pub use Rattle.nit_report.specs.Terms.{client_block, client_text, codes, decimal, deliveries_at}
 pub use Rattle.nit_report.specs.Terms.{deliveries_of, delivery_spelling, device_spelling}
 pub use Rattle.nit_report.specs.Terms.{draws_in_turn, entry_spelling, event_spelling, events_text}
@@ -19,13 +20,12 @@ pub use Rattle.nit_report.specs.Terms.{focus_leave_at, for_each, generated_membe
 pub use Rattle.nit_report.specs.Terms.{input_spelling, is_call, is_device, is_input_phase, is_phase}
 pub use Rattle.nit_report.specs.Terms.{is_printable, is_session_number, is_shot_line}
 pub use Rattle.nit_report.specs.Terms.{is_shot_number, is_text, item_spelling, journal_text, just}
-pub use Rattle.nit_report.specs.Terms.{kinds, leave_at, line_spelling, nat, one_in_front, phase_end}
-pub use Rattle.nit_report.specs.Terms.{phases, placed, places, plain_at, range_with_len}
-pub use Rattle.nit_report.specs.Terms.{reply_spelling, routed_as, script_name, second_phase, seed}
-pub use Rattle.nit_report.specs.Terms.{session_field, shifted, shot_field, spelled, taken, titled}
-pub use Rattle.nit_report.specs.Terms.{titles, told, user_phase_end, user_phases, views, xray_shot}
-pub use Rattle.nit_report.specs.Below.{FitsNat, at_both, at_kind, nat_field, nothing_at}
-pub use Rattle.nit_report.specs.Draw.{◌>>=◌}
+pub use Rattle.nit_report.specs.Terms.{kinds, leave_at, line_spelling, nat, nat_field, nothing_at}
+pub use Rattle.nit_report.specs.Terms.{one_in_front, phase_end, phases, placed, places, plain_at}
+pub use Rattle.nit_report.specs.Terms.{range_with_len, reply_spelling, routed_as, script_name}
+pub use Rattle.nit_report.specs.Terms.{second_phase, seed, session_field, shifted, shot_field}
+pub use Rattle.nit_report.specs.Terms.{spelled, taken, titled, titles, told, user_phase_end}
+pub use Rattle.nit_report.specs.Terms.{user_phases, views, xray_shot, ◌>>=◌}
 pub use Rattle.nit_script.proofs.ForCallers.{Exact, IsKind, IsReader, Takes, begins_more, both}
 pub use Rattle.nit_script.proofs.ForCallers.{call_again, call_takes, device_again, device_takes}
 pub use Rattle.nit_script.proofs.ForCallers.{ended_again, ended_takes, first_takes, kind}

@@ -1,5 +1,5 @@
 -- The words of the library and of the crates below that are used here, and the crate's plain types.
-pub use Rattle.nit_config.specs.Configuration.{Configuration, is_file_name}
+pub use Rattle.nit_config.specs.Configuration.{Configuration}
 pub use Rattle.nit_config.specs.ConfigurationRanges.{IsConfiguration, IsMember}
 pub use Rattle.nit_config.specs.declared.config.Member.{Member}
 pub use Rattle.nit_events.specs.Input.{deliveries_of, delivery, routed_as}
@@ -15,7 +15,7 @@ pub use Rattle.nit_events.specs.declared.event.Item.{Item}
 pub use Rattle.nit_events.specs.declared.event.Routed.{Routed}
 pub use Rattle.nit_events.specs.declared.event.Status.{Status}
 pub use Rattle.nit_events.specs.declared.event.Status.TheVariants.{Closed, Killed, Live}
-pub use Rattle.nit_glyph.specs.Texts.{is_label, is_label_byte}
+pub use Rattle.nit_glyph.specs.Texts.{is_label}
 pub use Rattle.nit_rect.specs.Limits.{most_height, most_width}
 pub use Rattle.nit_rect.specs.Options.{Gives}
 pub use Rattle.nit_report.specs.declared.drawn_lines.BufferPart.{BufferPart}
@@ -34,10 +34,9 @@ pub use Rattle.nit_script.specs.Spelling.{FitsNat, FitsPointerPlace, call_spelli
 pub use Rattle.nit_script.specs.Spelling.{input_spelling, int, line_spelling, nat}
 pub use Rattle.nit_script.specs.declared.line.InputLine.{InputLine}
 pub use Rattle.nit_script.specs.declared.line.Line.{Line}
-pub use Rattle.nit_script.specs.declared.line.Stroke.{Stroke}
 pub use Rattle.nit_script.specs.declared.line.Stroke.TheVariants.{Check, Fill}
 pub use Rattle.nit_word.specs.Channels.{channels}
 pub use Rattle.nit_word.specs.Inks.{IsWord}
 pub use Rattle.std.specs.Fmt.{decimal}
-pub use Rattle.std.specs.List.{AllByRecursion, AllZip, flat_map, range_with_len, sum_by}
+pub use Rattle.std.specs.List.{AllByRecursion, AllZip, flat_map, range_with_len}
 pub use Rattle.std.specs.Prelude.{IfOk, IsOkAnd, List, codes, ℕ}

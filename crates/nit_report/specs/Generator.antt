@@ -2,7 +2,7 @@
 -- script. The lines of each script are drawn from a stream of its own.
 use Rattle.std.specs.Prelude.{ℕ, ◌+◌, ◌*◌, ◌%◌, ◌^◌, ℤ, pos, ◌-ℤ◌, Bool, true, false, List, [], ◌∷◌}
 use Rattle.std.specs.Prelude.{◌++◌, map, slice_index_or, codes}
-use Rattle.nit_report.specs.Below.{Check, Configuration, Fill, InputLine, Line, Member, BufferPart}
+use Rattle.nit_report.specs.Below.{BufferPart, Check, Configuration, Fill, InputLine, Line, Member}
 use Rattle.nit_report.specs.Below.{decimal, flat_map, input_spelling, line_spelling, range_with_len}
 use Rattle.nit_report.specs.Below.{spelled}
 use Rattle.nit_events.specs.declared.call.Call.TheVariants as call

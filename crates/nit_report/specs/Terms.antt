@@ -1,19 +1,18 @@
 -- The words that clauses use: those that come from outside, and those of this crate.
 pub use Rattle.nit_report.specs.Below.{AllByRecursion, AllZip, Bad, Begins, Call, Closed, Delivery}
 pub use Rattle.nit_report.specs.Below.{Device, Entry, Event, FitsCall, FitsDevice, FitsInputLine}
-pub use Rattle.nit_report.specs.Below.{FitsInt, FitsLine, Gives, HasOneReading, IfOk, InputLine}
-pub use Rattle.nit_report.specs.Below.{IsConfiguration, IsMember, IsOkAnd, IsWord, Item}
-pub use Rattle.nit_report.specs.Below.{JournalError, Killed, Line, List, Live, Member, NoMemory}
-pub use Rattle.nit_report.specs.Below.{ReadsClient, ReadsInput, Reply, Routed, Stroke, at_made}
-pub use Rattle.nit_report.specs.Below.{call_at, call_spelling, channels, codes, decimal}
-pub use Rattle.nit_report.specs.Below.{deliveries_of, delivery, device_at, device_spelling}
-pub use Rattle.nit_report.specs.Below.{first_of, flat_map, input_phases, input_spelling}
-pub use Rattle.nit_report.specs.Below.{is_file_name, is_input_phase, is_label, is_label_byte}
+pub use Rattle.nit_report.specs.Below.{FitsInt, FitsLine, FitsNat, Gives, HasOneReading, IfOk}
+pub use Rattle.nit_report.specs.Below.{InputLine, IsConfiguration, IsMember, IsOkAnd, IsWord, Item}
+pub use Rattle.nit_report.specs.Below.{JournalError, Killed, Line, Live, Member, NoMemory}
+pub use Rattle.nit_report.specs.Below.{ReadsClient, ReadsInput, Reply, Routed, at_both, at_kind}
+pub use Rattle.nit_report.specs.Below.{at_made, call_at, call_spelling, channels, codes, decimal}
+pub use Rattle.nit_report.specs.Below.{deliveries_of, delivery, device_spelling, first_of, flat_map}
+pub use Rattle.nit_report.specs.Below.{input_phases, input_spelling, is_input_phase, is_label}
 pub use Rattle.nit_report.specs.Below.{is_phase, is_printable, is_text, line_spelling, most_height}
-pub use Rattle.nit_report.specs.Below.{most_read, most_width, nat, phases, range_with_len}
-pub use Rattle.nit_report.specs.Below.{routed_as, spelled, sum_by, ℕ}
-pub use Rattle.nit_report.specs.Draw.{AppendsDraws, Draw, Draws, below, draws_in_turn, following}
-pub use Rattle.nit_report.specs.Draw.{for_each, just}
+pub use Rattle.nit_report.specs.Below.{most_read, most_width, nat, nat_field, nothing_at, phases}
+pub use Rattle.nit_report.specs.Below.{range_with_len, routed_as, spelled}
+pub use Rattle.nit_report.specs.Draw.{AppendsDraws, Draw, Draws, below, draws_in_turn, for_each}
+pub use Rattle.nit_report.specs.Draw.{just, ◌>>=◌}
 pub use Rattle.nit_report.specs.EntryReaders.{answered_at, bad_at, behind_reply_at, deliveries_at}
 pub use Rattle.nit_report.specs.EntryReaders.{delivery_at, done_at, entry_at, entry_front_at}
 pub use Rattle.nit_report.specs.EntryReaders.{event_at, event_reply_at, final_at, focus_enter_at}

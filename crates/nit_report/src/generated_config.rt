@@ -68,8 +68,8 @@ fn label_text(client: u32) -> [u8; 2]
     [b'g', digit(client)]
 }
 
-/// The name of a client's script.
-fn script_name(client: u32) -> [u8; 6]
+/// The name of the script of a client of a generated run, 0..=7: `g0.nit` and so on.
+pub fn script_name(client: u32) -> [u8; 6]
     requires { client ≤ 7 }
     ensures { result ≡ script_name client }
 {

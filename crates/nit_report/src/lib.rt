@@ -42,7 +42,7 @@ pub mod write;
 
 pub use error::JournalError;
 pub use events::{Ending, events_text};
-pub use generated_config::gen_config;
+pub use generated_config::{gen_config, script_name};
 pub use generator::{Files, generate};
 pub use journal::journal_text;
 pub use laws::{
