@@ -6,6 +6,7 @@ use Rattle.nit_actor.proofs.Basics.{ap₂, arith, arrived_one, call_of_line, cal
 use Rattle.nit_actor.proofs.Basics.{drop, drop_at, false, idle_user, is_phase, length, length-drop}
 use Rattle.nit_actor.proofs.Basics.{map, refl, replicate, role_of, suc, sum_by-cons}
 use Rattle.nit_actor.proofs.Basics.{user_actions_from, user_actions_to_do}
+use Rattle.nit_hall.specs.Room.{with_room_stages}
 use Rattle.std.proofs.Common.{slice_get, zero, zero-add, ℕ, ◌++◌, ◌+◌, ◌∙◌, ◌∷◌, ◌≡◌, ◌≤◌}
 use Rattle.std.proofs.lemmas.List.{drop_all}
 use Rattle.nit_events.specs.declared.entry.Entry.TheVariants as entry
@@ -83,15 +84,17 @@ both_arrived : (n phase arrived : ℕ) → n ≡ 1 → arrived ≡ 1 → after_a
 both_arrived n phase arrived one has = rw (one, has)
 
 pub phase_ended : {r r1 r2 : RoomModel} {p p' : PassModel} {u u' : UserPassModel} (n m : ℕ) {seen known : List Entry}
-    {raws : List (List ℕ)} → StepTogether r p u → slice_get p.script p.next ≡ Some line.Phase
-    → r1 ≡ arrived_one r n → r2 ≡ arrived_one r1 m
-    → p' ≡ record p { next = p.next + 1; phase = p.phase + 1; seen = seen }
+    {raws stages : List (List ℕ)} {sight : Sight} → StepTogether r p u
+    → slice_get p.script p.next ≡ Some line.Phase
+    → r1 ≡ arrived_one (with_room_stages r n stages) n → r2 ≡ arrived_one r1 m
+    → p' ≡ record p { next = p.next + 1; phase = p.phase + 1; seen = seen; sight = sight }
     → u' ≡ record u { next = u.next + 1; phase = u.phase + 1; seen = known; raws = raws } → StepOn r p u r2 p' u'
-phase_ended {r = r} {p = p} {u = u} n m s at is_first is_second passed user_passed =
+phase_ended {r = r} {p = p} {u = u} n m {stages = stages} s at is_first is_second passed user_passed =
     let first = one_arrived (length r.parts.scripts) r.phase r.arrived s.one s.arrived in
+    let agreed = with_room_stages r n stages in
     let then = both_arrived (length r.parts.scripts) (arrived_one r n).phase (arrived_one r n).arrived s.one
     (ap (λ x. x.1) first) in
-    let served : (arrived_one (arrived_one r n) m).phase ≡ r.phase + 1 = ap (λ x. x.0) then
+    let served : (arrived_one (arrived_one agreed n) m).phase ≡ r.phase + 1 = ap (λ x. x.0) then
     ∙ ap (λ (x : ℕ × ℕ). x.0 + 1) first in
     let idle = others_left u.next u.input input.Phase (idle_user (drop (p.next + 1) p.script))
     (s.idle ∙ ap idle_user (drop_at p.script p.next line.Phase at) ∙ idle_phase (drop (p.next + 1) p.script)) in

@@ -65,12 +65,14 @@ fn stroke<'a>(room: &mut Room<'a>, pass: &mut Pass<'a>)
     pass.stroke();
 }
 
-/// The client ends its phase, and the user with it.
+/// The client ends its phase, and the user with it. The client and the room agree on other stages
+/// then.
 fn end_phase<'a>(room: &mut Room<'a>, pass: &mut Pass<'a>, user: &mut UserPass<'a>)
     requires step { StepTogether room.old pass.old user.old }
     requires next { IsAtPhase pass.old }
     ensures on { StepOn room.old pass.old user.old room.new pass.new user.new }
-    ensures scene { room.new.scene ≡ room.old.scene }
+    ensures scene { room.new.scene
+        ≡ record room.old.scene { glasses = room.new.scene.glasses } }
 {
     room.arrive(pass);
     room.arrive_user(user);

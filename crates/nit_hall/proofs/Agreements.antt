@@ -1,18 +1,25 @@
 -- A room, and the ends of a client's words that agree.
-use Rattle.std.proofs.lemmas.Bool.Decides.{nat_tests}
 use Rattle.nit_hall.proofs.Basics.{AreWatching, Belongs, BufferName, CanAgree, End, HasMet}
-use Rattle.nit_hall.proofs.Basics.{HaveInks, IsPass, IsRoom, Line, PassModel, RoomModel, SceneModel}
-use Rattle.nit_hall.proofs.Basics.{ShareModel, buffers_of, cases_eq, donation_of}
-use Rattle.nit_hall.proofs.Basics.{get_or_from_slice_get, glass_in, knowing, length-map}
-use Rattle.nit_hall.proofs.Basics.{phases_before, same_Some, script_in, served, slice_get-map}
-use Rattle.nit_hall.proofs.Basics.{slice_get_within, stretch, with_end_stages, with_room_stages}
-use Rattle.nit_hall.proofs.Basics.{without_final}
+use Rattle.nit_hall.proofs.Basics.{HaveInks, IsPass, IsRoom, KnowsStretch, Line, Painting}
+use Rattle.nit_hall.proofs.Basics.{PassModel, RoomModel, SceneModel, ShareModel, Sight}
+use Rattle.nit_hall.proofs.Basics.{after_arrival, blank, buffers_of, calls_of, cases_eq}
+use Rattle.nit_hall.proofs.Basics.{common_steps, donation_of, get_or_from_slice_get, gets, glass_in}
+use Rattle.nit_hall.proofs.Basics.{is_phase, knowing, length-map, nat_tests, phases_before, raised}
+use Rattle.nit_hall.proofs.Basics.{same_Some, script_in, served, slice_get-map, slice_get_within}
+use Rattle.nit_hall.proofs.Basics.{stages_within, stretch, stretch_end, with_end_stages}
+use Rattle.nit_hall.proofs.Basics.{with_room_stages, without_final, words_after}
 use Rattle.std.proofs.Common.{IsSome, List, Some, [], arith, inl, inr, length, map, refl, slice_get}
-use Rattle.std.proofs.Common.{slice_index, sym, take, ℕ, ◌<◌, ◌∙◌, ◌≡◌}
+use Rattle.std.proofs.Common.{slice_index, sym, take, ℕ, ◌<◌, ◌∙◌, ◌≡◌, ap, drop, get_or-set_other}
+use Rattle.std.proofs.Common.{get_or-set_same, ◌+◌, ◌-◌, ◌∷◌, ◌≢◌}
 use Rattle.nit_hall.proofs.NearLemmas.{other_end, own_end, same_buffers, same_ink, same_stands}
 use Rattle.nit_hall.proofs.NearLemmas.{sight_at, sights_of}
-use Rattle.nit_hall.proofs.LineLemmas.{item_there}
-use Rattle.nit_hall.proofs.ServedCalls.{calls_made}
+use Rattle.nit_hall.proofs.LineLemmas.{counted_more, item_there, no_more_calls}
+use Rattle.nit_script.specs.declared.line.Line.TheVariants as line
+use Rattle.nit_hall.proofs.Phases.{Ends, NextLine, client_ends, client_set, phase_over}
+use Rattle.nit_hall.proofs.Phases.{phases_front}
+use Rattle.nit_hall.proofs.RoomSteps.{ended_by, room_then}
+use Rattle.nit_hall.proofs.ScriptsFollowed.{IsNext, follows_phase, script_there}
+use Rattle.nit_hall.proofs.ServedCalls.{calls_made, still_open}
 
 -- the reader's end of a client, which is of its buffer
 pub record HasEnd (ends : List End) (sid : ℕ) (buffer : BufferName) : Type 0 where
@@ -77,17 +84,93 @@ room_admitted {r = r} {sid = sid} {script = script} next room at counted ready m
     let ends = with_end_stages sid stages r.scene.glasses in
     let inks : HaveInks r.parts.config r.parts.scripts ends =
     λ t. same_ink sid stages r.scene.glasses t ∙ room.inks t in
-    let watching : AreWatching r.parts.scripts r.parts.config (without_final r.scene.entries) r.phase ends =
-    λ t inside. elim (cases_eq t sid) [
+    let knows : (phase_of : ℕ → ℕ) → phase_of sid ≡ r.phase
+    → AreWatching r.parts.scripts r.parts.config (without_final r.scene.entries) phase_of r.scene.glasses
+    → AreWatching r.parts.scripts r.parts.config (without_final r.scene.entries) phase_of ends =
+    λ phase_of here before t inside. elim (cases_eq t sid) [
       | inl e ↦ rw e (record {
         since = next;
+        until = stretch_end script next;
         stages_are = rw (there, own_end sid stages r.scene.glasses many);
-        behind = rw (there, calls_made r sid next script room at counted);
-        begun = rw there (omega (arith, ready));
+        strokes = rw there (omega arith);
+        made_before = rw (there, calls_made r sid next script room at counted);
+        in_phase = rw (there, here) ready;
       })
-      | inr ne ↦ rw (other_end sid stages r.scene.glasses t ne) (room.watching t inside)
+      | inr ne ↦ rw (other_end sid stages r.scene.glasses t ne) (before t inside)
     ] in
+    let inside = slice_get_within r.parts.scripts sid script at in
+    let mine = client_set r.parts.scripts r.parts.input r.counts sid 0 room.follows.each inside in
+    let own = mine.was ∙ rw (there, counted, phases_front script next) ready in
+    let watching = knows (λ t. r.phase) refl room.watching in
+    let waiting = knows (slice_index (ended_by r)) own room.waiting in
     assumption
+
+-- ---- a phase that is over
+
+-- where a line ends a phase, one stage is all that stands there before it and after it
+one_stage : (script : List Line) (donation n m : ℕ) → m ≡ n
+    → stages_within script donation n m ≡ words_after script donation n ∷ []
+one_stage script donation n m same =
+    let one : m + 1 - n ≡ 1 = omega (arith, same) in rw one
+
+pub phase_stages : NextLine → (script : List Line) (donation k : ℕ) → slice_get script k ≡ Some line.Phase
+    → stretch script donation k ≡ stages_within script donation (k + 1) (k + 1)
+phase_stages next script donation k at =
+    let cut : drop k script ≡ line.Phase ∷ drop (k + 1) script = grind (arith, common_steps, gets) in
+    let ends : stretch_end script k ≡ k = rw cut (omega arith) in
+    let same : words_after script donation (k + 1) ≡ words_after script donation k =
+    ap (λ (p : Painting). p.words) (next (blank donation) script k line.Phase at) in
+    rw (one_stage script donation k (stretch_end script k) ends, one_stage script donation (k + 1) (k + 1) refl, same)
+
+-- a client that ends its phase is in the next one, where its end knows what stands there before any stroke
+pub waiting_own : NextLine → {r : RoomModel} {sid next : ℕ} {script : List Line} {now : List ℕ} → IsRoom r
+    → IsNext r.parts.scripts r.counts sid next script line.Phase
+    → Ends (ended_by r) now sid (phases_before script next) (phases_before script (next + 1))
+    → (glass_in (sights_of r.scene.glasses) sid).stages
+    ≡ Some (stretch script (donation_of r.parts.config sid) next)
+    → KnowsStretch (script_in r.parts.scripts sid) (donation_of r.parts.config sid)
+    (length (calls_of sid (without_final r.scene.entries))) (slice_index now sid)
+    (glass_in (sights_of r.scene.glasses) sid)
+waiting_own law {r = r} {sid = sid} {next = next} {script = script} room at ends knows = record {
+  since = next + 1;
+  until = next + 1;
+  stages_are = rw (script_there at, knows, phase_stages law script (donation_of r.parts.config sid) next at.line_is);
+  strokes = omega arith;
+  made_before = rw (
+    script_there at,
+    no_more_calls script next line.Phase at.line_is refl,
+    calls_made r sid next script room at.script_is at.counted,
+  );
+  in_phase = rw (script_there at, ends.is) (sym (get_or-set_same _ sid _ 0 ends.inside));
+}
+
+-- the other clients are where they were
+pub waiting_others : {r : RoomModel} {actor before after' : ℕ} {now : List ℕ} → IsRoom r
+    → Ends (ended_by r) now actor before after' → (t : ℕ) → t < length r.parts.scripts → t ≢ actor
+    → KnowsStretch (script_in r.parts.scripts t) (donation_of r.parts.config t)
+    (length (calls_of t (without_final r.scene.entries))) (slice_index now t) (glass_in (sights_of r.scene.glasses) t)
+waiting_others {actor = actor} {after' = after'} room ends t inside ne =
+    rw (ends.is, get_or-set_other _ actor t after' 0 ne) (room.waiting t inside)
+
+-- the room when a client has ended its phase
+pub room_arrived : NextLine → {r : RoomModel} {sid next : ℕ} {script : List Line} → IsRoom r
+    → IsNext r.parts.scripts r.counts sid next script line.Phase → phases_before script next ≡ r.phase
+    → sid < length r.scene.glasses
+    → let then = after_arrival (length r.parts.scripts) r.phase r.arrived in
+    let agreed = with_room_stages r sid (stretch script (donation_of r.parts.config sid) next) in
+    IsRoom (room_then agreed agreed.scene r.raws (raised r.counts sid) then.0 then.1)
+room_arrived law {r = r} {sid = sid} {next = next} {script = script} room at ready many =
+    let stages = stretch script (donation_of r.parts.config sid) next in
+    let agreed = room_admitted next room at.script_is at.counted ready many in
+    let ends = client_ends r.parts.input room.follows.each at in
+    let knows = ap (λ (g : Sight). g.stages) (own_end sid stages r.scene.glasses many) in
+    phase_over (raised r.counts sid) agreed (still_open room at) ends ready
+    (counted_more is_phase script next line.Phase at.line_is refl)
+    (λ later. follows_phase room.follows at later refl)
+    (λ t inside. elim (cases_eq t sid) [
+      | inl e ↦ rw e (waiting_own law agreed at ends knows)
+      | inr ne ↦ waiting_others agreed ends t inside ne
+    ])
 
 -- ---- a pass that has met the room
 

@@ -1,13 +1,12 @@
 -- Journals entry by entry: the last picture, the last entry that makes a pixel dirty, and one history of raw words.
-use Rattle.std.proofs.lemmas.Bool.Decides.{nat_tests}
-use Rattle.std.proofs.Common.{Bool, List, [], ap, append-nil, append_assoc, arith, false, inl, inr}
-use Rattle.std.proofs.Common.{length, length-append, map, refl, slice_index_or, suc, sym, true}
-use Rattle.std.proofs.Common.{zero, ℕ, ◌++◌, ◌<◌, ◌∙◌, ◌∷◌, ◌≡◌, ◌≤◌, ◌⊎◌}
 use Rattle.nit_hall.proofs.Basics.{AreLast, Configuration, End, Entry, IsAdded, IsHistory}
 use Rattle.nit_hall.proofs.Basics.{IsLastDirtied, IsOpen, IsRoom, Painted, Recorded, RoomModel}
 use Rattle.nit_hall.proofs.Basics.{SceneModel, Sight, after, cases_Bool, entries_in}
 use Rattle.nit_hall.proofs.Basics.{get_or-append_seam, get_or_append_left, is_dirtied, map-append}
-use Rattle.nit_hall.proofs.Basics.{raw_behind, raws_in, state_now, without_final}
+use Rattle.nit_hall.proofs.Basics.{nat_tests, raw_behind, raws_in, state_now, without_final}
+use Rattle.std.proofs.Common.{Bool, List, [], ap, append-nil, append_assoc, arith, false, inl, inr}
+use Rattle.std.proofs.Common.{length, length-append, map, refl, slice_index_or, suc, sym, true}
+use Rattle.std.proofs.Common.{zero, ℕ, ◌++◌, ◌<◌, ◌∙◌, ◌∷◌, ◌≡◌, ◌≤◌, ◌⊎◌}
 use mathlib.Core.List.{IsPrefix}
 use Rattle.nit_events.specs.declared.entry.Entry.TheVariants as entry
 

@@ -1,18 +1,17 @@
 -- Scripts line by line: what the lines before the next one are, what the next one adds, and stretches of strokes.
-use Rattle.std.proofs.lemmas.Bool.Decides.{nat_tests}
-use Rattle.std.proofs.Common.{Bool, IfSome, List, Option, Some, [], ap, append-nil, arith, cond}
-use Rattle.std.proofs.Common.{count_by, drop, false, filter, get_or, length, length-append}
-use Rattle.std.proofs.Common.{length-take, refl, slice_get, slice_index, suc, take, take-add}
-use Rattle.std.proofs.Common.{take-append-drop, true, zero, ℕ, ◌++◌, ◌+◌, ◌-◌, ◌<◌, ◌∷◌, ◌≡◌, ◌≤◌}
 use Rattle.nit_hall.proofs.Basics.{Call, Device, FitsDevice, HasStretch, InputLine, IsAmong}
 use Rattle.nit_hall.proofs.Basics.{IsDevice, IsNonDecreasing, IsNonDecreasingBy-push, Line, Stroke}
 use Rattle.nit_hall.proofs.Basics.{calls_from, calls_in, common_steps, count_by_more_no}
 use Rattle.nit_hall.proofs.Basics.{count_by_more_yes, done, filter-append, get_or-append_seam, gets}
 use Rattle.nit_hall.proofs.Basics.{input_phases_before, is_input_phase, is_phase, is_served}
-use Rattle.nit_hall.proofs.Basics.{lines_to_call, next_phase, phases_before, served}
+use Rattle.nit_hall.proofs.Basics.{lines_to_call, nat_tests, next_phase, phases_before, served}
 use Rattle.nit_hall.proofs.Basics.{slice_get-get_or, stage_within, stretch, stretch_end}
 use Rattle.nit_hall.proofs.Basics.{strokes_in_front, sum_by-append, sum_by-cons, user_actions_from}
 use Rattle.nit_hall.proofs.Basics.{user_actions_in, words_after}
+use Rattle.std.proofs.Common.{Bool, IfSome, List, Option, Some, [], ap, append-nil, arith, cond}
+use Rattle.std.proofs.Common.{count_by, drop, false, filter, get_or, length, length-append}
+use Rattle.std.proofs.Common.{length-take, refl, slice_get, slice_index, suc, take, take-add}
+use Rattle.std.proofs.Common.{take-append-drop, true, zero, ℕ, ◌++◌, ◌+◌, ◌-◌, ◌<◌, ◌∷◌, ◌≡◌, ◌≤◌}
 use Rattle.nit_events.specs.declared.device.Device.TheVariants as device
 use Rattle.nit_script.specs.declared.line.Line.TheVariants as line
 use Rattle.nit_script.specs.declared.line.InputLine.TheVariants as inputs

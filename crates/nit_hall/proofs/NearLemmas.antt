@@ -1,18 +1,21 @@
 -- Readers' ends, and what each pixel may hold, after one more entry.
 use Rattle.nit_hall.proofs.Basics.{AreNear, Bare, Black, Call, Colours, Configuration, End, Entry}
 use Rattle.nit_hall.proofs.Basics.{EntryLaws, InputLine, IsLegal, IsLoaded, IsNearBy, IsOpen}
-use Rattle.nit_hall.proofs.Basics.{IsWordOfScripts, IsWordOfSource, KnowsStretch, LegalFrom, Line}
-use Rattle.nit_hall.proofs.Basics.{MayHaveDone, PixelSource, Reply, Sight, Standing, State, Word}
-use Rattle.nit_hall.proofs.Basics.{after, as_many, as_many_as_clients, buffers_of, calls_of}
-use Rattle.nit_hall.proofs.Basics.{calls_of-append, cases_Bool, cases_lt, common_steps, donation_of}
-use Rattle.nit_hall.proofs.Basics.{first_state, get_or_from_slice_get, get_or_past, gets, glass_in}
-use Rattle.nit_hall.proofs.Basics.{ink_in, is_dirtied, map-map, nat_tests, no_ink, no_sight}
-use Rattle.nit_hall.proofs.Basics.{phase_of_entry, pixel, pixel_count, replay, same_Some}
-use Rattle.nit_hall.proofs.Basics.{same_config, script_in, script_ink, shots, slice_get-map}
-use Rattle.nit_hall.proofs.Basics.{source_at, source_of, stretch_end, table_size, with_end_stages}
-use Rattle.nit_hall.proofs.Basics.{with_stages, within_only, words_after, words_at_call, zero_at}
+use Rattle.nit_hall.proofs.Basics.{IsWordOfScripts, IsWordOfSource, KnowsStretch, Line}
+use Rattle.nit_hall.proofs.Basics.{MayHaveDone, None, PixelSource, Point, Reply, Sight, Size}
+use Rattle.nit_hall.proofs.Basics.{Standing, State, View, Word, after, among}
+use Rattle.nit_hall.proofs.Basics.{black_or_word, buffer_place, buffer_size}
+use Rattle.nit_hall.proofs.Basics.{buffers_of, calls_of, calls_of-append, cases_Bool, cases_lt}
+use Rattle.nit_hall.proofs.Basics.{common_steps, donation_of, first_session, first_state}
+use Rattle.nit_hall.proofs.Basics.{get_or_from_slice_get, get_or_past, gets, glass_in, ink_in}
+use Rattle.nit_hall.proofs.Basics.{is_dirtied, map-map, nat_tests, negsuc, no_sight}
+use Rattle.nit_hall.proofs.Basics.{owner_of, phase_of_entry, pixel, pixel_count, pos, replay}
+use Rattle.nit_hall.proofs.Basics.{same_Some, same_config, script_in, script_ink, shots}
+use Rattle.nit_hall.proofs.Basics.{shown_index, slice_get-map, source_at, source_of, source_under}
+use Rattle.nit_hall.proofs.Basics.{with_end_stages, with_stages}
+use Rattle.nit_hall.proofs.Basics.{within_only, words_after, words_at_call, ℤ}
 use Rattle.std.proofs.Common.{IfSome, List, Option, Some, [], ap, append-nil, arith, false, inl}
-use Rattle.std.proofs.Common.{inr, length, map, ne_eqb, refl, set, slice_get, slice_index}
+use Rattle.std.proofs.Common.{inr, length, map, refl, set, slice_get, slice_index}
 use Rattle.std.proofs.Common.{slice_index_or, suc, sym, true, zero, ℕ, ◌++◌, ◌+◌, ◌<◌, ◌∙◌, ◌∷◌}
 use Rattle.std.proofs.Common.{◌≡◌, ◌≢◌, ◌≤◌}
 use Rattle.nit_events.specs.declared.entry.Entry.TheVariants as entry
@@ -107,8 +110,8 @@ WasLeft config scripts ended t entries i w = (n : ℕ) × MayHaveDone scripts en
 
 -- what is loaded through a session's glass behind the next entry was left by lines that it may have done
 abbrev pub ShowsThen : Configuration → List (List Line) → ℕ → List Entry → Entry → (ℕ → Sight) → Type 0
-ShowsThen config scripts ended journal e glasses =
-    (t i w : ℕ) → IsLoaded (glasses t) i w → WasLeft config scripts ended t (journal ++ e ∷ []) i w
+ShowsThen config scripts ended journal e glasses = (t : ℕ) → t < length scripts
+    → (i w : ℕ) → IsLoaded (glasses t) i w → WasLeft config scripts ended t (journal ++ e ∷ []) i w
 
 -- where the entry is a call, the caller's glass tells the words of its script
 abbrev pub TellsWords : Configuration → List (List Line) → List Entry → Entry → (ℕ → Sight) → Type 0
@@ -119,9 +122,9 @@ pub told_word : (o : Option (List ℕ)) (words : List ℕ) (i w : ℕ) → o ≡
     → IfSome o (λ ws. w ≡ slice_index ws i) → w ≡ slice_index words i
 told_word o words i w is told = rw is at told
 
--- the phase that is served is not behind that of the entry, as long as there is no last picture
+-- the phase that is served is that of the entry, as long as there is no last picture
 abbrev pub IsInPhase : List (List Line) → List InputLine → ℕ → List Entry → Entry → Type 0
-IsInPhase scripts input phase journal e = IsOpen (journal ++ e ∷ []) → phase ≤ phase_of_entry scripts input journal e
+IsInPhase scripts input phase journal e = IsOpen (journal ++ e ∷ []) → phase_of_entry scripts input journal e ≡ phase
 
 -- ---- one more entry
 
@@ -151,23 +154,24 @@ module _ (config : Configuration) (scripts : List (List Line)) (input : List Inp
   pub held_near : (phase : ℕ) (glasses : ℕ → Sight) (k : ℕ) (source : PixelSource) (w : ℕ)
       → is_dirtied config journal e k ≡ true → IsInPhase scripts input phase journal e
       → ShowsThen config scripts phase journal e glasses → TellsWords config scripts journal e glasses
+      → ((t i : ℕ) → source ≡ Word t i → t < length scripts)
       → IsWordOfSource glasses source w → IsNearBy config scripts input (journal ++ e ∷ []) k source w
-  held_near phase glasses k (Word t i) w is served_ shows tells held = record {
-    left = let n = shows t i w held in record {
+  held_near phase glasses k (Word t i) w is served_ shows tells there held = record {
+    left = let n = shows t (there t i refl) i w held in record {
       front = journal;
       last = e;
       rest = [];
       is_last = one_more_last config journal e k is;
       lines = n.0;
-      done = record { calls = n.1.calls; phases = λ still. omega (arith, n.1.phases still, served_ still) };
+      done = record { calls = n.1.calls; phases = λ still. n.1.phases still ∙ sym (served_ still) };
       word = n.2;
     };
     exact = λ front call r rest last.
         let at = last_is_last config journal e k front (entry.Call t call r) rest is last in
         told_word (glasses t).words _ i w (rw at.0 (tells t call r at.1)) held.told;
   }
-  held_near phase glasses k Bare w is served_ shows tells held = held
-  held_near phase glasses k Black w is served_ shows tells held = held
+  held_near phase glasses k Bare w is served_ shows tells there held = held
+  held_near phase glasses k Black w is served_ shows tells there held = held
 
   pub near_more : EntryLaws → (raw raw' : List ℕ) → IsLegal config (journal ++ e ∷ [])
       → AreNear config scripts input journal raw
@@ -198,54 +202,54 @@ near_word config scripts input journal k (Word t i) w near = (near.left.lines, n
 near_word config scripts input journal k Bare w near = near
 near_word config scripts input journal k Black w near = near
 
--- ---- a session that there is not makes no call
+-- ---- a session that there is not has no buffer
 
-no_calls_from : (s : State) (taken t : ℕ) (entries : List Entry) → length s.sessions ≤ t → LegalFrom s taken entries
-    → calls_of t entries ≡ []
-no_calls_from s taken t [] past legal = refl
-no_calls_from s taken t (entry.Call sid call r ∷ rest) past legal =
-    rw (ne_eqb sid t (λ e. omega (arith, e, legal.0.0, past)))
-    (no_calls_from (after s (entry.Call sid call r)) taken t rest
-    (omega (arith, as_many s (entry.Call sid call r), past)) legal.1)
-no_calls_from s taken t (entry.Input dev routed ∷ rest) past legal =
-    no_calls_from (after s (entry.Input dev routed)) taken t rest
-    (omega (arith, as_many s (entry.Input dev routed), past)) legal.1
-no_calls_from s taken t (entry.Shot number ∷ rest) past legal = no_calls_from s (taken + 1) t rest past legal.1
-no_calls_from s taken t (entry.Final ∷ rest) past legal = ap (calls_of t) legal
+among_none : (z : ℤ) → among z 0 ≡ None
+among_none (pos n) = grind (arith, nat_tests)
+among_none (negsuc n) = refl
+
+word_is : (session : ℕ) (o : Option ℕ) (t i : ℕ) → black_or_word session o ≡ Word t i → (session ≡ t) × (o ≡ Some i)
+word_is session None t i is = absurd cc
+word_is session (Some index) t i is = (cc, cc)
+
+no_word : (sizes : ℕ → Size) (p : Point) (o : Option View) (t i : ℕ) → (sizes t).w ≡ 0
+    → source_under sizes p o ≡ Word t i → ⊥
+no_word sizes p None t i none is = absurd cc
+no_word sizes p (Some v) t i none is =
+    let owned = word_is v.sid (shown_index (sizes v.sid) v p) t i is in
+    let nowhere : shown_index (sizes v.sid) v p ≡ None =
+    rw (owned.0, none, among_none (buffer_place p.x v.rect.x v.ox)) in
+    absurd (cc (nowhere, owned.1))
+
+-- where a word comes from a session, that session is there
+pub word_session : (s : State) (p : Point) (t i : ℕ) → source_of s p ≡ Word t i → t < length s.sessions
+word_session s p t i is = elim (cases_lt t (length s.sessions)) [
+  | inl inside ↦ inside
+  | inr past ↦
+      let none : (buffer_size s.sessions t).w ≡ 0 =
+      rw (get_or_past s.sessions t (first_session 0) past) in
+      absurd (no_word (buffer_size s.sessions) p (owner_of s p) t i none is)
+]
 
 -- ---- what is shown of a session behind the next entry
 
 -- through the reader's end of a session, behind an entry that is no call of it
 pub lens_shows : (config : Configuration) (scripts : List (List Line)) (ended : ℕ) (entries : List Entry) (e : Entry)
-    (t : ℕ) (g : Sight) → IsLegal config (entries ++ e ∷ []) → length scripts ≡ length config.clients
-    → g.ink ≡ ink_in config scripts t
-    → (t < length scripts
-    → KnowsStretch (script_in scripts t) (donation_of config t) (length (calls_of t entries)) ended g)
+    (t : ℕ) (g : Sight)
+    → KnowsStretch (script_in scripts t) (donation_of config t) (length (calls_of t entries)) ended g
     → calls_of t (e ∷ []) ≡ [] → (i w : ℕ) → IsLoaded g i w → WasLeft config scripts ended t (entries ++ e ∷ []) i w
-lens_shows config scripts ended entries e t g legal sessions inked watch none i w loaded =
-    elim (cases_lt t (length scripts)) [
-      | inl inside ↦
-          let known = watch inside in
-          let script = script_in scripts t in
-          let n = within_only script (donation_of config t) known.since (stretch_end script known.since) i w
-          (rw known.stages_are at loaded.stage) in
-          let same = stretch_same script known.since n.0 n.1 n.2 in (
-            n.0,
-            record {
-              calls = rw (calls_of-append t entries (e ∷ []), none, append-nil, same.0) known.behind;
-              phases = λ still_open. omega (arith, same.1, known.begun);
-            },
-            n.3,
-          )
-      | inr past ↦
-          let zero_ = no_ink i w (rw (inked, ← ink_behind config scripts t past) at loaded.inked) in
-          let silent = no_calls_from (first_state config) 0 t (entries ++ e ∷ [])
-          (omega (arith, as_many_as_clients config [], sessions, past)) legal in (
-            0,
-            record { calls = rw silent; phases = λ still_open. omega arith },
-            zero_ ∙ sym (zero_at (table_size (donation_of config t)) i),
-          )
-    ]
+lens_shows config scripts ended entries e t g known none i w loaded =
+    let script = script_in scripts t in
+    let n = within_only script (donation_of config t) known.since known.until i w
+    (rw known.stages_are at loaded.stage) in
+    let same = stretch_same script known.since n.0 n.1 (omega (arith, n.2, known.strokes)) in (
+      n.0,
+      record {
+        calls = rw (calls_of-append t entries (e ∷ []), none, append-nil, same.0) known.made_before;
+        phases = λ still_open. same.1 ∙ known.in_phase;
+      },
+      n.3,
+    )
 
 -- through a glass that tells what so many lines have left
 pub told_shows : (config : Configuration) (scripts : List (List Line)) (ended : ℕ) (entries : List Entry) (t n : ℕ)

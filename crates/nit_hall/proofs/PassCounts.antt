@@ -1,12 +1,11 @@
 -- The counts of a book in two parts, the clients' and the user's and those behind them, and the room by its book.
-use Rattle.std.proofs.lemmas.Bool.Decides.{nat_tests}
+use Rattle.nit_hall.proofs.Basics.{Belongs, BookModel, End, Entry, IsAdded, IsPass, IsUserPass}
+use Rattle.nit_hall.proofs.Basics.{Line, OpeningParts, PassModel, RoomModel, SceneModel, ShareModel}
+use Rattle.nit_hall.proofs.Basics.{UserPassModel, buffers_of, drop-set-add, nat_tests, raised}
+use Rattle.nit_hall.proofs.Basics.{raws_in, served, slice_get_within, take-set-lt, with_entry}
 use Rattle.std.proofs.Common.{List, [], arith, drop, drop-set-lt, get_or-drop, get_or-take, length}
 use Rattle.std.proofs.Common.{length-drop, length-take, slice_index, take, ℕ, ◌++◌, ◌+◌, ◌<◌, ◌∷◌}
 use Rattle.std.proofs.Common.{◌≡◌}
-use Rattle.nit_hall.proofs.Basics.{Belongs, BookModel, End, Entry, IsAdded, IsPass, IsUserPass}
-use Rattle.nit_hall.proofs.Basics.{Line, OpeningParts, PassModel, RoomModel, SceneModel, ShareModel}
-use Rattle.nit_hall.proofs.Basics.{UserPassModel, buffers_of, drop-set-add, raised, raws_in, served}
-use Rattle.nit_hall.proofs.Basics.{slice_get_within, take-set-lt, with_entry}
 use Rattle.nit_hall.proofs.ScriptsFollowed.{IsNext, client_is}
 use Rattle.nit_hall.proofs.EntryLemmas.{raws_more}
 

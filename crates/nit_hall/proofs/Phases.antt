@@ -3,28 +3,23 @@ use Rattle.std.proofs.Common.{Bool, IfSome, List, Some, [], ap, arith, cond, cou
 use Rattle.std.proofs.Common.{false, get_or-set_other, get_or-set_same, inl, inr, length}
 use Rattle.std.proofs.Common.{length-set, length-take, refl, replicate, set, slice_get, slice_index}
 use Rattle.std.proofs.Common.{suc, sym, take, true, zero, ℕ, ◌+◌, ◌<◌, ◌==◌, ◌∙◌, ◌∷◌, ◌≡◌, ◌≤◌}
-use Rattle.nit_hall.proofs.Basics.{End, Entry, Follows, InputLine, IsOpen, IsPass, IsRoom}
-use Rattle.nit_hall.proofs.Basics.{IsServedPhase, Line, Painting, PassModel, Recorded, RoomModel}
-use Rattle.nit_hall.proofs.Basics.{ShareModel, Stroke, after_arrival, after_line, blank, calls_in}
-use Rattle.nit_hall.proofs.Basics.{calls_of, cases_Bool, count_by-le-length, eqb-false}
+use Rattle.nit_hall.proofs.Basics.{AreWatching, End, Entry, Follows, InputLine, IsOpen, IsPass}
+use Rattle.nit_hall.proofs.Basics.{IsRoom, IsServedPhase, Line, Painting, PassModel, Recorded}
+use Rattle.nit_hall.proofs.Basics.{RoomModel, ShareModel, after_arrival, after_line, blank}
+use Rattle.nit_hall.proofs.Basics.{calls_in, calls_of, cases_Bool, count_by-le-length, eqb-false}
 use Rattle.nit_hall.proofs.Basics.{input_phases_before, is_phase, is_served, length-replicate}
 use Rattle.nit_hall.proofs.Basics.{nat_tests, painted_from, phases_before, phases_ended, raised}
 use Rattle.nit_hall.proofs.Basics.{script_in, served, set-get_or, slice_get_within, sum_by-set}
-use Rattle.nit_hall.proofs.Basics.{user_actions_in, user_actions_of, without_final, words_after}
+use Rattle.nit_hall.proofs.Basics.{user_actions_in, user_actions_of, with_stages, without_final}
+use Rattle.nit_hall.proofs.Basics.{words_after}
 use Rattle.nit_script.specs.declared.line.Line.TheVariants as line
 use Rattle.nit_hall.proofs.LineLemmas.{count_cons, counted_more, front_filter, no_more_calls}
 use Rattle.nit_hall.proofs.LineLemmas.{served_counted}
 use Rattle.nit_hall.proofs.ScriptsFollowed.{IsNext, IsUserNext, client_is, script_there}
 use Rattle.nit_hall.proofs.ScriptsFollowed.{served_then}
-use Rattle.nit_hall.proofs.RoomSteps.{room_then, room_turned}
+use Rattle.nit_hall.proofs.RoomSteps.{IsTurned, ended_by, ended_long, room_then, room_turned}
 
 -- ---- what each actor has ended
-
-pub ended_long : (scripts : List (List Line)) (input : List InputLine) (counts : List ℕ)
-    → length counts ≡ length scripts + 1 → length (phases_ended scripts input counts) ≡ length scripts + 1
-ended_long [] input (c ∷ cs) long = refl
-ended_long (s ∷ ss) input (c ∷ cs) long = omega (arith, ended_long ss input cs (omega arith))
-ended_long ss input [] long = absurd (omega arith)
 
 -- ---- a client's next line
 
@@ -33,7 +28,7 @@ phases_served [] = refl
 phases_served (line.Stroke s ∷ xs) = omega (arith, phases_served xs, count_cons is_phase (line.Stroke s))
 phases_served (other ∷ xs) = omega (arith, phases_served xs, count_cons is_phase other)
 
-phases_front : (script : List Line) (k : ℕ) → count_by is_phase (take (length (served (take k script))) (served script))
+pub phases_front : (script : List Line) (k : ℕ) → count_by is_phase (take (length (served (take k script))) (served script))
     ≡ phases_before script k
 phases_front script k = rw (front_filter is_served k script) (phases_served (take k script))
 
@@ -43,7 +38,7 @@ pub record Ends (old now : List ℕ) (actor before after' : ℕ) : Type 0 where
   pub was : slice_index old actor ≡ before
   pub is : now ≡ set old actor after'
 
-client_set : (scripts : List (List Line)) (input : List InputLine) (counts : List ℕ) (t n : ℕ)
+pub client_set : (scripts : List (List Line)) (input : List InputLine) (counts : List ℕ) (t n : ℕ)
     → length counts ≡ length scripts + 1 → t < length scripts
     → Ends (phases_ended scripts input counts) (phases_ended scripts input (set counts t n)) t
     (count_by is_phase (take (slice_index counts t) (served (script_in scripts t))))
@@ -80,9 +75,9 @@ user_ends {scripts = scripts} {input = input} {counts = counts} long at =
     rw (← at.counted) (user_set scripts input counts (slice_index counts (length scripts) + 1) long)
 
 -- a line that ends no phase leaves what the actors have ended
-pub same_phase : {phase arrived actor before after' : ℕ} {old now : List ℕ} → Ends old now actor before after'
-    → after' ≡ before → IsServedPhase phase arrived old → IsServedPhase phase arrived now
-same_phase ends same is = rw (ends.is, same, ← ends.was, set-get_or) is
+pub same_phase : {actor before after' : ℕ} {old now : List ℕ} → Ends old now actor before after' → after' ≡ before
+    → now ≡ old
+same_phase ends same = rw (ends.is, same, ← ends.was, set-get_or)
 
 -- ---- numbers that pass a test
 
@@ -105,7 +100,7 @@ none_pass p (x ∷ xs) none =
 -- The last one brings the next phase, and any other one leaves it.
 pub phase_ended : {phase arrived i before after' : ℕ} {xs now : List ℕ} (clients : ℕ) → length xs ≡ clients + 1
     → Ends xs now i before after' → before ≡ phase → after' ≡ phase + 1 → IsServedPhase phase arrived xs
-    → IsServedPhase (after_arrival clients phase arrived).0 (after_arrival clients phase arrived).1 now
+    → IsTurned phase (after_arrival clients phase arrived).0 (after_arrival clients phase arrived).1 now
 phase_ended {phase = phase} {arrived = arrived} {i = i} {xs = xs} clients long ends ready up is =
     let q : ℕ → Bool = λ n. n == phase + 1 in
     let ys = set xs i (phase + 1) in
@@ -120,23 +115,29 @@ phase_ended {phase = phase} {arrived = arrived} {i = i} {xs = xs} clients long e
           let there : (k : ℕ) → k < length ys → slice_index ys k ≡ phase + 1 =
           λ k h. eqb-true (slice_index ys k) (phase + 1) (all_pass q ys full k h) in
           rw last (record {
-            each = λ k h. inl (there k h);
-            counted = sym (none_pass (λ n. n == phase + 1 + 1) ys (λ k h. rw (there k h) (grind (arith, nat_tests))));
-            some_left = omega (arith, many, inside);
+            served = record {
+              each = λ k h. inl (there k h);
+              counted = sym (none_pass (λ n. n == phase + 1 + 1) ys (λ k h. rw (there k h) (grind (arith, nat_tests))));
+              some_left = omega (arith, many, inside);
+            };
+            step = λ k h. inr (there k h);
           })
       | inr not_last ↦
           rw not_last (record {
-            each = λ k h.
-                let same = get_or-set_same xs i (phase + 1) 0 inside in
-                grind (arith, same, get_or-set_other xs i k (phase + 1) 0, is.each k (omega (arith, many, h)));
-            counted = omega (arith, more, is.counted);
-            some_left = omega (arith, is.some_left, eqb-false arrived clients not_last, many, long);
+            served = record {
+              each = λ k h.
+                  let same = get_or-set_same xs i (phase + 1) 0 inside in
+                  grind (arith, same, get_or-set_other xs i k (phase + 1) 0, is.each k (omega (arith, many, h)));
+              counted = omega (arith, more, is.counted);
+              some_left = omega (arith, is.some_left, eqb-false arrived clients not_last, many, long);
+            };
+            step = λ k h. inl refl;
           })
     ])
 
 -- ---- at the beginning
 
-none_ended : (scripts : List (List Line)) (input : List InputLine) (n k : ℕ)
+pub none_ended : (scripts : List (List Line)) (input : List InputLine) (n k : ℕ)
     → slice_index (phases_ended scripts input (replicate n 0)) k ≡ 0
 none_ended (s ∷ ss) input (suc n) (suc k) = none_ended ss input n k
 none_ended (s ∷ ss) input (suc n) zero = refl
@@ -166,11 +167,17 @@ NextLine = (p : Painting) (script : List Line) (k : ℕ) (l : Line) → slice_ge
 
 -- the end of a phase was served
 pub pass_phase : NextLine → {p : PassModel} {share share' : ShareModel} {spare : End} (name : _)
-    (known : List Recorded) (known' : List Entry) → IsPass p share spare → slice_get p.script p.next ≡ Some line.Phase
+    (known : List Recorded) (known' : List Entry) (stages : List (List ℕ)) → IsPass p share spare → slice_get p.script p.next ≡ Some line.Phase
     → share' ≡ record share { count = share.count + 1; seen = known }
     → calls_of p.sid known' ≡ calls_in (take p.next p.script)
-    → IsPass (record p { next = p.next + 1; phase = p.phase + 1; name = name; seen = known' }) share' spare
-pass_phase next {p = p} name known known' is at e knows =
+    → IsPass (record p {
+      next = p.next + 1;
+      phase = p.phase + 1;
+      name = name;
+      seen = known';
+      sight = with_stages stages p.sight;
+    }) share' spare
+pass_phase next {p = p} name known known' stages is at e knows =
     let told : p.sight.words ≡ Some (words_after p.script p.donation (p.next + 1)) =
     rw (next (blank p.donation) p.script p.next line.Phase at, words_after) is.told in
     let words : IfSome p.sight.words (λ words. words ≡ words_after p.script p.donation (p.next + 1)) = rw told refl in
@@ -185,7 +192,7 @@ pass_phase next {p = p} name known known' is at e knows =
       inked = is.inked;
       told = told;
       not_ahead = omega (arith, is.not_ahead);
-      agreed = is.agreed;
+      agreed = refl;
       stretch = λ same. absurd (omega (arith, is.not_ahead, same));
       spare_owner = is.spare_owner;
       spare_size = is.spare_size;
@@ -195,16 +202,20 @@ pass_phase next {p = p} name known known' is at e knows =
 
 -- an actor has ended the phase that is served
 pub phase_over : {r : RoomModel} {actor before after' : ℕ} (counts : List ℕ) → IsRoom r → IsOpen r.scene.entries
-    → Ends (phases_ended r.parts.scripts r.parts.input r.counts) (phases_ended r.parts.scripts r.parts.input counts)
-    actor before after' → before ≡ r.phase → after' ≡ before + 1
+    → Ends (ended_by r) (phases_ended r.parts.scripts r.parts.input counts) actor before after'
+    → before ≡ r.phase → after' ≡ before + 1
     → ((later : ℕ) → r.phase ≤ later
     → Follows r.parts.scripts r.parts.input counts later (without_final r.scene.entries))
+    → AreWatching r.parts.scripts r.parts.config (without_final r.scene.entries)
+    (slice_index (phases_ended r.parts.scripts r.parts.input counts)) r.scene.glasses
     → let then = after_arrival (length r.parts.scripts) r.phase r.arrived in IsRoom
     (room_then r r.scene r.raws counts then.0 then.1)
-phase_over {r = r} counts room o ends ready up follows =
+phase_over {r = r} counts room o ends ready up follows waiting =
     let risen = not_back (length r.parts.scripts) r.phase r.arrived in
-    room_turned counts _ _ room o risen (follows _ risen) (phase_ended _
+    let then = follows _ risen in
+    room_turned counts _ _ room o then (phase_ended _
     (ended_long r.parts.scripts r.parts.input r.counts room.follows.each) ends ready (rw ready at up) room.phases)
+    then.each waiting
 
 -- the room in which the user has a line left is open
 pub user_open : {r : RoomModel} {next : ℕ} {l : InputLine} → IsRoom r

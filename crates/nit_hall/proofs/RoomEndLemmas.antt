@@ -1,25 +1,25 @@
 -- Passes that are done, and the last picture.
-use Rattle.std.proofs.lemmas.Bool.Decides.{nat_tests}
 use Rattle.nit_hall.proofs.Basics.{AllServed, AreDone, AreGlasses, Bare, Black, Configuration, End}
 use Rattle.nit_hall.proofs.Basics.{Entry, EntryLaws, HasMet, IsAdded, IsDonePass, IsKnownPass}
 use Rattle.nit_hall.proofs.Basics.{IsOpen, IsRoom, IsWordOfSource, Line, Painted, Painting}
 use Rattle.nit_hall.proofs.Basics.{PassModel, PassRest, PixelSource, RoomModel, SceneModel, Sight}
-use Rattle.nit_hall.proofs.Basics.{State, Word, blank, calls_of-append, cases_lt, common_steps}
+use Rattle.nit_hall.proofs.Basics.{State, Word, blank, calls_of-append, common_steps}
 use Rattle.nit_hall.proofs.Basics.{donation_of, frame, get_or-map-range_with_len}
 use Rattle.nit_hall.proofs.Basics.{get_or_from_slice_get, get_or_past, gets, glass_in, knowing}
-use Rattle.nit_hall.proofs.Basics.{left_word, length-map, map-map, map_over_more, no_ink, no_sight}
-use Rattle.nit_hall.proofs.Basics.{painted_from, pixel_count, rest_of, same_frame, scenery_of}
-use Rattle.nit_hall.proofs.Basics.{script_in, slice_get-map, slice_get_within, source_at, state_now}
-use Rattle.nit_hall.proofs.Basics.{without_final, words_after, words_left, words_left_in, zero_at}
-use Rattle.std.proofs.Common.{List, Some, [], ap, append-nil, arith, drop, get_or, inl, inr, length}
+use Rattle.nit_hall.proofs.Basics.{left_word, length-map, map-map, map_over_more, nat_tests, no_ink}
+use Rattle.nit_hall.proofs.Basics.{no_sight, painted_from, pixel_count, rest_of, same_frame}
+use Rattle.nit_hall.proofs.Basics.{scenery_of, script_in, slice_get-map, slice_get_within}
+use Rattle.nit_hall.proofs.Basics.{source_at, state_now, without_final, words_after, words_left}
+use Rattle.nit_hall.proofs.Basics.{words_left_in, zero_at}
+use Rattle.std.proofs.Common.{List, Some, [], ap, append-nil, arith, drop, get_or, inr, length}
 use Rattle.std.proofs.Common.{map, refl, set, slice_get, slice_index, sym, take, take_all, zero-add}
 use Rattle.std.proofs.Common.{ℕ, ◌++◌, ◌+◌, ◌<◌, ◌∙◌, ◌∷◌, ◌≡◌, ◌≤◌}
 use Rattle.nit_events.specs.declared.entry.Entry.TheVariants as entry
-use Rattle.nit_hall.proofs.NearLemmas.{AreInks, ShowsThen, all_inks, lens_shows, told_shows}
+use Rattle.nit_hall.proofs.NearLemmas.{AreInks, ShowsThen, all_inks, told_shows}
 use Rattle.nit_hall.proofs.NearLemmas.{told_word}
 use Rattle.nit_hall.proofs.LineLemmas.{item_there}
 use Rattle.nit_hall.proofs.EntryLemmas.{not_open, open_whole, without-append}
-use Rattle.nit_hall.proofs.RoomSteps.{inks_before, legal_then, near_then, room_grown, room_then}
+use Rattle.nit_hall.proofs.RoomSteps.{inks_before, near_then, room_grown, room_then}
 use Rattle.nit_hall.proofs.ServedCalls.{calls_made}
 
 -- ---- a list that is changed in place
@@ -174,23 +174,18 @@ ends_show : EntryLaws → {r : RoomModel} {new : SceneModel End} {ps : List Pass
     → IsOpen r.scene.entries → AreKnown r ps → IsAdded r.scene new entry.Final
     → ShowsThen r.scene.config r.parts.scripts r.phase r.scene.entries entry.Final
     (glass_in (map (λ (q : PassModel). q.sight) ps))
-ends_show laws {r = r} {ps = ps} room o are added t i w loaded = elim (cases_lt t (length r.parts.scripts)) [
-  | inl inside ↦
-      let there = pass_there t are inside in
-      let p = there.p in
-      let made = rw (open_whole r.scene.entries o)
-      at (calls_made r t p.next p.script room (rw there.is.number at there.is.belongs.script) there.known.counted) in
-      let paid = there.donation ∙ ap (λ (c : Configuration). donation_of c t) (sym room.config) in
-      told_shows r.scene.config r.parts.scripts r.phase (r.scene.entries ++ entry.Final ∷ []) t p.next _
-      (rw (there.sight, there.script, ← paid) there.known.told)
-      (record {
-        calls = rw (there.script, calls_of-append, append-nil, made);
-        phases = λ still. absurd (not_open r.scene.entries still);
-      }) i w loaded
-  | inr past ↦ lens_shows r.scene.config r.parts.scripts r.phase r.scene.entries entry.Final t _
-      (legal_then laws room o added) (rw room.config room.sessions) (rw room.config (inks_of are t))
-      (λ inside. absurd (omega (arith, inside, past))) refl i w loaded
-]
+ends_show laws {r = r} {ps = ps} room o are added t inside i w loaded =
+    let there = pass_there t are inside in
+    let p = there.p in
+    let made = rw (open_whole r.scene.entries o)
+    at (calls_made r t p.next p.script room (rw there.is.number at there.is.belongs.script) there.known.counted) in
+    let paid = there.donation ∙ ap (λ (c : Configuration). donation_of c t) (sym room.config) in
+    told_shows r.scene.config r.parts.scripts r.phase (r.scene.entries ++ entry.Final ∷ []) t p.next _
+    (rw (there.sight, there.script, ← paid) there.known.told)
+    (record {
+      calls = rw (there.script, calls_of-append, append-nil, made);
+      phases = λ still. absurd (not_open r.scene.entries still);
+    }) i w loaded
 
 pub room_ended : EntryLaws → {r : RoomModel} {new : SceneModel End} {ps : List PassModel} {glasses' : ℕ → Sight}
     → IsRoom r → IsOpen r.scene.entries → AreKnown r ps → AllServed r.parts.scripts r.parts.input r.counts
@@ -206,7 +201,7 @@ room_ended laws {r = r} {new = new} room o are all ended =
     (near_then laws room o ended.added (λ still. absurd (not_open r.scene.entries still))
     (ends_show laws room o are ended.added) (λ t call rep same. absurd cc) ended.painted)
     (rw ended.same (inks_before laws room o ended.added)) (rw (ended.same, room.config, ← same) room.watching)
-    (rw (← same) room.follows) room.phases (inr all)
+    (rw (ended.same, room.config, ← same) room.waiting) (rw (← same) room.follows) refl (inr all)
 
 -- the sights are those of before they met
 pub same_sights : (known : List Entry) (ps₀ : List PassModel) {ps : List PassModel} → ps ≡ map (knowing known) ps₀

@@ -1,5 +1,4 @@
 -- A room, its passes and canvases before the first line.
-use Rattle.std.proofs.lemmas.Bool.Decides.{nat_tests}
 use Rattle.nit_hall.proofs.Basics.{AreAgreed, AreBegun, AreBlank, AreGlasses, AreNear, AreSplitOff}
 use Rattle.nit_hall.proofs.Basics.{AreWatching, BookModel, ClipLine, ClipModel, ClipPassModel}
 use Rattle.nit_hall.proofs.Basics.{Configuration, End, Entry, Follows, FollowsClips, HaveInks}
@@ -9,9 +8,9 @@ use Rattle.nit_hall.proofs.Basics.{bare_everywhere, bare_word, buffers_of, cases
 use Rattle.nit_hall.proofs.Basics.{common_steps, donation_of, entries_in, first_pass}
 use Rattle.nit_hall.proofs.Basics.{get_or-replicate, get_or_default, get_or_from_slice_get, gets}
 use Rattle.nit_hall.proofs.Basics.{glass_in, length-map, length-replicate, lines_of_clips}
-use Rattle.nit_hall.proofs.Basics.{map-append, map-set_same, new_sight, raws_in, same_Some}
-use Rattle.nit_hall.proofs.Basics.{script_in, slice_get_within, stretch, sum_by-replicate}
-use Rattle.nit_hall.proofs.Basics.{watching_sight, with_clip_scripts}
+use Rattle.nit_hall.proofs.Basics.{map-append, map-set_same, nat_tests, new_sight, raws_in}
+use Rattle.nit_hall.proofs.Basics.{same_Some, script_in, slice_get_within, stretch, stretch_end}
+use Rattle.nit_hall.proofs.Basics.{sum_by-replicate, watching_sight, with_clip_scripts}
 use Rattle.std.proofs.Common.{List, Some, [], ap, arith, drop, drop_at, get_or, inl, inr, length}
 use Rattle.std.proofs.Common.{length-append, length-set, map, refl, replicate, set, slice_get}
 use Rattle.std.proofs.Common.{slice_index, sym, take, take_all, take_at, ℕ, ⊎_elim, ◌*◌, ◌++◌, ◌+◌}
@@ -83,12 +82,14 @@ module _ {config : Configuration} {scripts : List (List Line)} {canvases lenses 
       (λ t h. rw (lens_at t (omega (arith, sessions, h))))
 
   -- the readers' ends know the first stretch
-  pub lenses_watch : length scripts ≡ length config.clients → AreWatching scripts config [] 0 lenses
+  pub lenses_watch : length scripts ≡ length config.clients → AreWatching scripts config [] (λ t. 0) lenses
   lenses_watch sessions t inside = record {
     since = 0;
+    until = stretch_end (script_in scripts t) 0;
     stages_are = ap (λ (g : Sight). g.stages) (lens_at t (omega (arith, sessions, inside)));
-    behind = refl;
-    begun = omega arith;
+    strokes = omega arith;
+    made_before = refl;
+    in_phase = refl;
   }
 
 -- a canvas that was blank and agrees on the first stretch

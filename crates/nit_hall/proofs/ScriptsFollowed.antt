@@ -1,12 +1,11 @@
 -- What the journal has of each script, kept line by line; and whole where all lines are served.
-use Rattle.std.proofs.lemmas.Bool.Decides.{nat_tests}
 use Rattle.nit_hall.proofs.Basics.{AllServed, Call, Entry, Follows, InputLine, IsNonDecreasing}
 use Rattle.nit_hall.proofs.Basics.{IsUsers, IsWhole, Line, Reply, UserAction, actions_of-append}
 use Rattle.nit_hall.proofs.Basics.{actions_same, calls_done, calls_in, calls_of, calls_other}
 use Rattle.nit_hall.proofs.Basics.{calls_own, calls_same, calls_to_make, common_steps}
 use Rattle.nit_hall.proofs.Basics.{count_by-le-length, done, get_or-map, get_or_from_slice_get}
 use Rattle.nit_hall.proofs.Basics.{input_phases_before, is_input_phase, is_served, length-filter}
-use Rattle.nit_hall.proofs.Basics.{length-map, lines_of_all, next_phase, phase_of_entry}
+use Rattle.nit_hall.proofs.Basics.{length-map, lines_of_all, nat_tests, next_phase, phase_of_entry}
 use Rattle.nit_hall.proofs.Basics.{phases_action, phases_along, phases_before, phases_call}
 use Rattle.nit_hall.proofs.Basics.{phases_final, raised, script_in, served, slice_get_within}
 use Rattle.nit_hall.proofs.Basics.{sum_by-append, sum_by-cons, sum_by-set, to_do, user_actions_in}

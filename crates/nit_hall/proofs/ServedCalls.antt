@@ -1,5 +1,4 @@
 -- A room and a pass after a call.
-use Rattle.std.proofs.lemmas.Bool.Decides.{nat_tests}
 use Rattle.nit_hall.proofs.Basics.{AreWatching, Belongs, Call, End, Entry, EntryLaws, HasLoaded}
 use Rattle.nit_hall.proofs.Basics.{HaveInks, IsAdded, IsOpen, IsPaintedTo, IsPass, IsRoom, Line}
 use Rattle.nit_hall.proofs.Basics.{OpeningParts, Painted, PassModel, Recorded, Reply, RoomModel}
@@ -7,10 +6,11 @@ use Rattle.nit_hall.proofs.Basics.{SceneModel, ShareModel, Sight, call_entry, ca
 use Rattle.nit_hall.proofs.Basics.{calls_own, cases_eq, donation_of, entries_in}
 use Rattle.nit_hall.proofs.Basics.{get_or_from_slice_get, glass_in, glasses_of_call, in_line}
 use Rattle.nit_hall.proofs.Basics.{is_accepted, is_phase, is_served, knowing, length-map, lenses}
-use Rattle.nit_hall.proofs.Basics.{line_stages, next_call, phases_before, raised, seen, serve}
-use Rattle.nit_hall.proofs.Basics.{served, session, sight_after_line, slice_get_within, stands}
-use Rattle.nit_hall.proofs.Basics.{state_now, stretch, stretch_from, with_end_stages, with_stages}
-use Rattle.nit_hall.proofs.Basics.{with_words, without_final, words_after}
+use Rattle.nit_hall.proofs.Basics.{line_stages, nat_tests, next_call, phases_before, raised, seen}
+use Rattle.nit_hall.proofs.Basics.{serve, served, session, sight_after_line, slice_get_within}
+use Rattle.nit_hall.proofs.Basics.{stands, state_now, stretch, stretch_end, stretch_from}
+use Rattle.nit_hall.proofs.Basics.{with_end_stages, with_stages, with_words, without_final}
+use Rattle.nit_hall.proofs.Basics.{words_after}
 use Rattle.std.proofs.Common.{List, Some, [], ap, arith, eq-eqb, false, inl, inr, length, ne_eqb}
 use Rattle.std.proofs.Common.{refl, slice_get, slice_index, sym, take, true, ℕ, ◌++◌, ◌+◌, ◌<◌, ◌∙◌}
 use Rattle.std.proofs.Common.{◌∷◌, ◌≡◌, ◌≢◌}
@@ -22,7 +22,7 @@ use Rattle.nit_hall.proofs.EntryLemmas.{clean_painted, goes_on, open_whole}
 use Rattle.nit_hall.proofs.NearLemmas.{IsInPhase, ShowsThen, TellsWords, other_end, own_end}
 use Rattle.nit_hall.proofs.NearLemmas.{same_ink, same_stands, stages_again, told_shows}
 use Rattle.nit_hall.proofs.RoomSteps.{booked_more, inks_before, lenses_show, near_then, room_grown}
-use Rattle.nit_hall.proofs.RoomSteps.{room_then, state_later, watching_other}
+use Rattle.nit_hall.proofs.RoomSteps.{ended_by, room_then, state_later, watching_other}
 use Rattle.nit_hall.proofs.ScriptsFollowed.{IsNext, client_is, follows_call, one_left}
 use Rattle.nit_hall.proofs.ScriptsFollowed.{phase_of_next, script_there}
 use Rattle.nit_hall.proofs.Phases.{client_ends, same_phase}
@@ -120,7 +120,7 @@ module _ (laws : EntryLaws) {r : RoomModel} {called : SceneModel End} {sid next 
   ended_then = counted_same is_phase script next (line.Call c) at.line_is refl ∙ sym ready
 
   in_phase : IsInPhase r.parts.scripts r.parts.input r.phase r.scene.entries (entry.Call sid c rep)
-  in_phase still = omega (arith, rw (open_whole r.scene.entries was_open) at (phase_of_next rep room.follows at ready))
+  in_phase still = rw (open_whole r.scene.entries was_open) at (phase_of_next rep room.follows at ready)
 
   no_other_call : (t : ℕ) → t ≢ sid → calls_of t (entry.Call sid c rep ∷ []) ≡ []
   no_other_call t ne = rw (ne_eqb sid t (λ e. ne (sym e)))
@@ -131,13 +131,14 @@ module _ (laws : EntryLaws) {r : RoomModel} {called : SceneModel End} {sid next 
 
   shows : ShowsThen r.scene.config r.parts.scripts r.phase r.scene.entries (entry.Call sid c rep)
       (glasses_of_call (lenses (scene_with r.scene sid stages)) sid own)
-  shows t i w loaded = elim (cases_eq t sid) [
+  shows t inside i w loaded = elim (cases_eq t sid) [
     | inl e ↦ rw e (told_shows r.scene.config r.parts.scripts r.phase _ sid (next + 1) own (rw (script_there at) told)
         (record {
           calls = rw (script_there at, made_then) refl;
-          phases = rw (script_there at) (λ still. omega (arith, ended_then));
+          phases = rw (script_there at) (λ still. ended_then);
         }) i w (rw (e, own_there (lenses (scene_with r.scene sid stages)) sid own) at loaded))
-    | inr ne ↦ lenses_show laws room was_open added t (no_other_call t ne) i w (rw (other_glass t ne) at loaded)
+    | inr ne ↦ lenses_show laws room was_open added t inside (no_other_call t ne) i w
+        (rw (other_glass t ne) at loaded)
   ]
 
   -- the caller's glass tells what the lines up to the call leave
@@ -160,28 +161,34 @@ module _ (laws : EntryLaws) {r : RoomModel} {called : SceneModel End} {sid next 
       → (glass_in (lenses later) t).stages ≡ (glass_in (lenses r.scene) t).stages
   other_stages t ne = grind (arith, nat_tests, other_end, other_there, other_glass)
 
-  watching_then : sid < length called.glasses → AreWatching r.parts.scripts r.scene.config
-      (without_final later.entries) r.phase later.glasses
-  watching_then many t inside = elim (cases_eq t sid) [
+  watching_then : sid < length called.glasses → (phase_of : ℕ → ℕ) → phase_of sid ≡ r.phase
+      → AreWatching r.parts.scripts r.parts.config (without_final r.scene.entries) phase_of r.scene.glasses
+      → AreWatching r.parts.scripts r.scene.config (without_final later.entries) phase_of later.glasses
+  watching_then many phase_of here watching t inside = elim (cases_eq t sid) [
     | inl e ↦ rw e (record {
       since = next + 1;
+      until = stretch_end script (next + 1);
       stages_are = rw (script_there at, own_end sid _ called.glasses many);
-      behind = rw (script_there at, ← made_then, open_whole called.entries did.open_is, did.added.recorded);
-      begun = rw (script_there at) (omega (arith, ended_then));
+      strokes = rw (script_there at) (omega arith);
+      made_before = rw (script_there at, ← made_then, open_whole called.entries did.open_is, did.added.recorded);
+      in_phase = rw (script_there at, here) ended_then;
     })
-    | inr ne ↦ watching_other laws room was_open added t inside did.open_is (other_stages t ne) (no_other_call t ne)
+    | inr ne ↦ watching_other laws room was_open added (phase_of t) t did.open_is (other_stages t ne)
+        (no_other_call t ne) (watching t inside)
   ]
 
   pub room_call : sid < length called.glasses
       → IsRoom (room_then r later (r.raws ++ later.raw ∷ []) (raised r.counts sid) r.phase r.arrived)
   room_call many =
+      let ends = client_ends r.parts.input room.follows.each at in
       room_grown laws room was_open added (r.raws ++ later.raw ∷ []) (raised r.counts sid)
       (goes_on room was_open did.open_is added
       (clean_painted r.scene later (entry.Call sid c rep) (state_later laws added) did.painted))
-      (near_then laws room was_open added in_phase shows tells did.painted) later_inks (watching_then many)
+      (near_then laws room was_open added in_phase shows tells did.painted) later_inks
+      (watching_then many (λ t. r.phase) refl room.watching)
+      (watching_then many (slice_index (ended_by r)) (ends.was ∙ sym ready) room.waiting)
       (rw (← booked_more was_open did.open_is added) (follows_call rep room.follows at ready))
-      (same_phase (client_ends r.parts.input room.follows.each at)
-      (counted_same is_phase script next (line.Call c) at.line_is refl) room.phases)
+      (same_phase ends (counted_same is_phase script next (line.Call c) at.line_is refl))
       (inl did.open_is)
 
 -- ---- the pass after it

@@ -1,5 +1,4 @@
 -- A room and a clip pass after a clip call, and clip passes that are done.
-use Rattle.std.proofs.lemmas.Bool.Decides.{nat_tests}
 use Rattle.nit_hall.proofs.Basics.{AreDoneClips, AreTogether, Belongs, CallLaws, ClipBelongs}
 use Rattle.nit_hall.proofs.Basics.{ClipHasMet, ClipLine, ClipPassModel, ClipReply, Configuration}
 use Rattle.nit_hall.proofs.Basics.{FollowsClips, IsAtClip, IsAtPhaseEnd, IsClipPass, IsDoneClip}
@@ -8,12 +7,13 @@ use Rattle.nit_hall.proofs.Basics.{ShareModel, calls_in, calls_of, calls_to_make
 use Rattle.nit_hall.proofs.Basics.{cases_eq, clip_answer, clip_calls_in, clip_calls_of, clip_entry}
 use Rattle.nit_hall.proofs.Basics.{clip_phases_before, clip_script_in, clipboard_of, clips_to_do}
 use Rattle.nit_hall.proofs.Basics.{clips_to_make, done, get_or-map, get_or_from_slice_get}
-use Rattle.nit_hall.proofs.Basics.{left_after, length-map, next_clip, next_phase, phases_before}
-use Rattle.nit_hall.proofs.Basics.{raised, replay, script_in, served, slice_get_within, state_now}
-use Rattle.nit_hall.proofs.Basics.{to_do, user_actions_to_do, with_clip, without_final}
+use Rattle.nit_hall.proofs.Basics.{left_after, length-map, nat_tests, next_clip, next_phase}
+use Rattle.nit_hall.proofs.Basics.{phases_before, raised, replay, script_in, served}
+use Rattle.nit_hall.proofs.Basics.{slice_get_within, state_now, to_do, user_actions_to_do}
+use Rattle.nit_hall.proofs.Basics.{with_clip, without_final}
 use Rattle.std.proofs.Common.{List, Some, [], ap, arith, drop, get_or-drop, inl, inr, length}
 use Rattle.std.proofs.Common.{length-append, length-set, map, refl, slice_get, slice_index, sym}
-use Rattle.std.proofs.Common.{take, take_all, ℕ, ◌++◌, ◌+◌, ◌-◌, ◌<◌, ◌∙◌, ◌∷◌, ◌≡◌, ◌≤◌}
+use Rattle.std.proofs.Common.{take, take_all, ℕ, ◌++◌, ◌+◌, ◌<◌, ◌∙◌, ◌∷◌, ◌≡◌, ◌≤◌}
 use mathlib.Core.List.{IsPrefix}
 use Rattle.nit_hall.proofs.LineLemmas.{front_short, item_there}
 use Rattle.nit_hall.proofs.EntryLemmas.{open_whole}

@@ -1,15 +1,14 @@
 -- A room and the user's pass after a device event, and after a shot.
-use Rattle.std.proofs.lemmas.Bool.Decides.{nat_tests}
-use Rattle.std.proofs.Common.{List, Some, [], ap, arith, inl, length, length-append, refl}
-use Rattle.std.proofs.Common.{slice_get, take, ℕ, ◌++◌, ◌+◌, ◌-◌, ◌∙◌, ◌∷◌, ◌≡◌}
 use Rattle.nit_hall.proofs.Basics.{AreNear, BookModel, Device, End, Entry, EntryLaws, HasActed}
 use Rattle.nit_hall.proofs.Basics.{HaveInks, InputLine, IsAdded, IsOpen, IsRoom, IsUserPass, Line}
 use Rattle.nit_hall.proofs.Basics.{OpeningParts, Painted, RoomModel, Routed, SceneModel, ShareModel}
 use Rattle.nit_hall.proofs.Basics.{Sight, TellsShot, UserBelongs, UserHasMet, UserPassModel}
 use Rattle.nit_hall.proofs.Basics.{actions_of-append, buffers_of, entries_in, frame, glass_in}
-use Rattle.nit_hall.proofs.Basics.{input_phases_before, is_input_phase, lenses, raised, raws_in}
-use Rattle.nit_hall.proofs.Basics.{scenery_of, slice_get_within, state_now, with_entry}
+use Rattle.nit_hall.proofs.Basics.{input_phases_before, is_input_phase, lenses, nat_tests, raised}
+use Rattle.nit_hall.proofs.Basics.{raws_in, scenery_of, slice_get_within, state_now, with_entry}
 use Rattle.nit_hall.proofs.Basics.{without_final}
+use Rattle.std.proofs.Common.{List, Some, [], ap, arith, inl, length, length-append, refl}
+use Rattle.std.proofs.Common.{slice_get, take, ℕ, ◌++◌, ◌+◌, ◌-◌, ◌∙◌, ◌∷◌, ◌≡◌}
 use Rattle.nit_events.specs.declared.entry.Entry.TheVariants as entry
 use Rattle.nit_script.specs.declared.line.InputLine.TheVariants as inputs
 use Rattle.nit_hall.proofs.RoomSteps.{before_open, booked_more, inks_before, legal_then}
@@ -55,10 +54,9 @@ done_input laws {r = r} {new = new} {dev = dev} {routed = routed} room at ready 
       inks = λ t. rw (painted.sights t) (inks_before laws room was added t);
       watching = λ t. ap (λ (g : Sight). g.stages) (painted.sights t);
       near = near_then laws room was added
-          (λ still. let here = rw (open_whole r.scene.entries was)
-          at (phase_of_action_next room.follows at (entry.Input dev routed) adds_input ready) in
-          omega (arith, here))
-          (λ t. lenses_show laws room was added t refl) (λ t call rep same. absurd cc) painted;
+          (λ still. rw (open_whole r.scene.entries was)
+          at (phase_of_action_next room.follows at (entry.Input dev routed) adds_input ready))
+          (λ t inside. lenses_show laws room was added t inside refl) (λ t call rep same. absurd cc) painted;
       keeps = clean_painted r.scene new (entry.Input dev routed) (state_later laws added) painted;
     }
 
@@ -153,11 +151,13 @@ module _ {r : RoomModel} {u : UserPassModel} {new : SceneModel End} {book book' 
         rw (a.book_is, a.user.number, a.found.number_is, raws_more book.entries e new.raw, raised_then, back)
             (room_grown laws room was_open did.added _ (raised (take (m + 1) book.counts) m)
             (goes_on room was_open did.open_is did.added did.keeps) did.near did.inks
-            (λ t inside. watching_other laws room was_open did.added t inside did.open_is (did.watching t)
-            (a.adds.no_call t))
+            (λ t inside. watching_other laws room was_open did.added _ t did.open_is (did.watching t)
+            (a.adds.no_call t) (room.watching t inside))
+            (λ t inside. watching_other laws room was_open did.added _ t did.open_is (did.watching t)
+            (a.adds.no_call t) (room.waiting t inside))
             (rw (← booked_more was_open did.open_is did.added) (follows_action room.follows at e a.adds ready))
             (same_phase (user_ends room.follows.each at)
-            (counted_same is_input_phase r.parts.input u.next l at.line_is a.adds.no_phase) room.phases)
+            (counted_same is_input_phase r.parts.input u.next l at.line_is a.adds.no_phase))
             (inl did.open_is)),
         rw a.book_is (seen_more book.entries e new.raw refl a.booked ∙ booked_more was_open did.open_is did.added),
       )

@@ -21,12 +21,13 @@ pub use Rattle.nit_events.specs.declared.device.Device.{Device}
 pub use Rattle.nit_events.specs.declared.entry.Entry.{Entry}
 pub use Rattle.nit_events.specs.declared.event.Routed.{Routed}
 pub use Rattle.nit_journal.specs.Deliveries.{kills}
-pub use Rattle.nit_journal.specs.Journal.{JournalModel, most_entries}
+pub use Rattle.nit_journal.specs.Journal.{most_entries}
 pub use Rattle.nit_journal.specs.Replay.{Agrees, IsLegal, IsOpen, LegalFrom, replay, replay_from}
 pub use Rattle.nit_journal.specs.Replay.{shots}
-pub use Rattle.nit_journal.specs.Session.{serve}
+pub use Rattle.nit_journal.specs.Session.{first_session, serve}
 pub use Rattle.nit_journal.specs.StackAfter.{is_accepted}
-pub use Rattle.nit_journal.specs.State.{State, after, first_state, route, session, source_of}
+pub use Rattle.nit_journal.specs.State.{State, after, buffer_size, first_state, owner_of, route}
+pub use Rattle.nit_journal.specs.State.{session, source_of}
 pub use Rattle.nit_journal.specs.WholeJournals.{Does, IsWhole, Shoots, UserAction, calls_of, done}
 pub use Rattle.nit_journal.specs.WholeJournals.{next_phase, phases_along, to_do, user_actions_of}
 pub use Rattle.nit_ledger.specs.Book.{BookModel, BookName, ShareModel, entries_in, most_shares}
@@ -39,9 +40,8 @@ pub use Rattle.nit_pixels.specs.declared.standing.Standing.{Standing}
 pub use Rattle.nit_plan.specs.Calls.{calls_from, calls_in, calls_to_make, user_actions_from}
 pub use Rattle.nit_plan.specs.Calls.{user_actions_to_do}
 pub use Rattle.nit_plan.specs.Plan.{IsPlanOf, PlanModel}
-pub use Rattle.nit_plan.specs.ScriptWords.{HasStages, Painting, after_line, blank, painted_from}
-pub use Rattle.nit_plan.specs.ScriptWords.{script_ink, stages_within, table_size, words_after}
-pub use Rattle.nit_plan.specs.ScriptWords.{words_left}
+pub use Rattle.nit_plan.specs.ScriptWords.{Painting, after_line, blank, painted_from, script_ink}
+pub use Rattle.nit_plan.specs.ScriptWords.{stages_within, table_size, words_after, words_left}
 pub use Rattle.nit_plan.specs.SessionLists.{plan_in, script_in}
 pub use Rattle.nit_plan.specs.Surface.{IsPaintedTo}
 pub use Rattle.nit_rect.specs.Limits.{most_height, most_sessions, most_width}
@@ -59,15 +59,16 @@ pub use Rattle.nit_script.specs.declared.line.InputLine.{InputLine}
 pub use Rattle.nit_script.specs.declared.line.Line.{Line}
 pub use Rattle.nit_script.specs.declared.line.Stroke.{Stroke}
 pub use Rattle.nit_slots.specs.Account.{IsDonation}
-pub use Rattle.nit_stack.specs.Sources.{Bare, Black, PixelSource, Word, pixel}
+pub use Rattle.nit_stack.specs.Sources.{Bare, Black, PixelSource, Size, Word, among, black_or_word}
+pub use Rattle.nit_stack.specs.Sources.{buffer_place, pixel, shown_index, source_under}
+pub use Rattle.nit_stack.specs.declared.view.View.{View}
 pub use Rattle.nit_word.specs.Channels.{bare_word}
-pub use Rattle.nit_word.specs.Inks.{Colours, Ink, IsAmong, IsInked, IsWord}
+pub use Rattle.nit_word.specs.Inks.{Colours, Ink, IsAmong, IsWord}
 pub use Rattle.nit_word.specs.Sight.{HasStage, IsLoaded, Sight, seen, told_words, with_stages}
 pub use Rattle.nit_word.specs.Updates.{with_words}
 pub use Rattle.std.specs.List.{AllByRecursion, range_with_len}
 pub use Rattle.std.specs.List.Sorted.{IsNonDecreasing}
-pub use Rattle.std.specs.Option.{option_map}
-pub use Rattle.std.specs.Prelude.{IfNone, List, Option, Some, count_by, length, map, nat_le}
-pub use Rattle.std.specs.Prelude.{replicate, slice_get, slice_index, slice_index_or, sum, sum_by}
-pub use Rattle.std.specs.Prelude.{take}
+pub use Rattle.std.specs.Prelude.{IfNone, List, None, Option, Some, count_by, length, map, negsuc}
+pub use Rattle.std.specs.Prelude.{pos, replicate, slice_get, slice_index, slice_index_or, sum, take}
+pub use Rattle.std.specs.Prelude.{ℤ}
 pub use Rattle.std.specs.Vec.Iter.{into_iter_items}

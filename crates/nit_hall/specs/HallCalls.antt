@@ -48,11 +48,17 @@ pub record ServedCall (parts : OpeningParts) (p : PassModel) (reply : Reply) (p'
   pub sight : HasLoaded (sight_after_line p) p'.sight
   pub agreed : p'.sight.stages ≡ Some (stretch_from p (p.next + 1))
 
--- the pass has ended its phase, and knows what it did and maybe more, all of it legal
+-- The pass has ended its phase, and knows what it did and maybe more, all of it legal. It and the
+-- room's end of its words agree on the words that its lines have left.
 pub record EndedPhase (parts : OpeningParts) (p p' : PassModel) : Type 0 where
   pub grows : IsPrefix p.seen p'.seen
   pub legal : IsLegal parts.config p'.seen
-  pub pass : p' ≡ record p { next = p.next + 1; phase = p.phase + 1; seen = p'.seen }
+  pub pass : p' ≡ record p {
+    next = p.next + 1;
+    phase = p.phase + 1;
+    seen = p'.seen;
+    sight = with_stages (stretch_from p p.next) p.sight;
+  }
 
 -- The pass has found its phase served, and knows what it did and maybe more, all of it legal.
 pub record Admitted (parts : OpeningParts) (p p' : PassModel) : Type 0 where

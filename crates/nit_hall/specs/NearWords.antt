@@ -1,6 +1,6 @@
 -- Which words a pixel may hold after a journal, whatever the threads of the clients wrote
 -- meanwhile. Pixels count from 0, row by row from the top.
-use Rattle.std.specs.Prelude.{◌≡◌, ℕ, ◌+◌, ◌<◌, ◌≤◌, Bool, true, false, List, [], ◌∷◌, ◌++◌, length}
+use Rattle.std.specs.Prelude.{◌≡◌, ℕ, ◌+◌, ◌<◌, Bool, true, false, List, [], ◌∷◌, ◌++◌, length}
 use Rattle.std.specs.Prelude.{drop, take}
 use Rattle.nit_hall.specs.Below.{Bare, Black, Call, Configuration, Entry, InputLine, IsOpen, Line}
 use Rattle.nit_hall.specs.Below.{PixelSource, Reply, Word, after, bare_word, calls_in, calls_of}
@@ -54,12 +54,13 @@ phase_of_entry scripts input front other =
     next_phase (drop (length (user_actions_of front)) (user_actions_to_do input))
 
 -- A session may have done n lines of its script when the last of these entries was put, in this
--- phase: just so many of them are calls as it has made, and as long as there is no last picture,
--- none of them is of a later phase.
+-- phase: just so many of them are calls as it has made; and as long as there is no last picture,
+-- they end just the phases before this one. A line that ends a phase sets no word, so this serves a
+-- session that has ended this phase too.
 pub record MayHaveDone (scripts : List (List Line)) (phase t : ℕ) (entries : List Entry) (n : ℕ)
     : Type 0 where
   pub calls : length (calls_in (take n (script_in scripts t))) ≡ length (calls_of t entries)
-  pub phases : IsOpen entries → phases_before (script_in scripts t) n ≤ phase
+  pub phases : IsOpen entries → phases_before (script_in scripts t) n ≡ phase
 
 -- The session's script has left w at place i of its table after a number of lines that it may have
 -- done when the last entry was put that made the pixel dirty. That entry is `last`, and these stand

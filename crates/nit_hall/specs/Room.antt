@@ -172,16 +172,18 @@ abbrev pub HaveInks : Configuration → List (List Line) → List End → Type 0
 HaveInks config scripts ends =
     (t : ℕ) → (glass_in (map (λ (e : End). e.sight) ends) t).ink ≡ ink_in config scripts t
 
--- the reader's end of each client is in a stretch of its script, behind the calls that it has made
-abbrev pub AreWatching : List (List Line) → Configuration → List Entry → ℕ → List End → Type 0
-AreWatching scripts config entries phase ends =
+-- the reader's end of each client knows strokes of its script, after the calls that it has made and
+-- in this phase of the client's
+abbrev pub AreWatching : List (List Line) → Configuration → List Entry → (ℕ → ℕ) → List End → Type 0
+AreWatching scripts config entries phase_of ends =
     (t : ℕ) → t < length scripts
-    → KnowsStretch (script_in scripts t) (donation_of config t) (length (calls_of t entries)) phase
-    (glass_in (map (λ (e : End). e.sight) ends) t)
+    → KnowsStretch (script_in scripts t) (donation_of config t) (length (calls_of t entries))
+    (phase_of t) (glass_in (map (λ (e : End). e.sight) ends) t)
 
 -- What holds of every room: its journal is legal and follows the scripts, but for the last picture;
--- its readers' ends have the inks of the scripts and know a stretch of each, and each raw word is
--- one that its pixel may hold; there is room for an entry of each line and for the last picture,
+-- its readers' ends have the inks of the scripts, and know strokes of each in the phase that is
+-- served and in the one that the client is in, which may wait for the next; each raw word is one
+-- that its pixel may hold; there is room for an entry of each line and for the last picture,
 -- which comes only when all lines were served; the phase that is served is the one that the last of
 -- its actors are in; the clip list follows the clip scripts; and the raw words behind each entry
 -- are one history, which goes up to the raw words now as long as the journal is not ended.
@@ -195,8 +197,10 @@ pub record IsRoom (r : RoomModel) : Type 0 where
   pub phases : IsServedPhase r.phase r.arrived
       (phases_ended r.parts.scripts r.parts.input r.counts)
   pub inks : HaveInks r.parts.config r.parts.scripts r.scene.glasses
-  pub watching : AreWatching r.parts.scripts r.parts.config (without_final r.scene.entries) r.phase
-      r.scene.glasses
+  pub watching : AreWatching r.parts.scripts r.parts.config (without_final r.scene.entries)
+      (λ t. r.phase) r.scene.glasses
+  pub waiting : AreWatching r.parts.scripts r.parts.config (without_final r.scene.entries)
+      (slice_index (phases_ended r.parts.scripts r.parts.input r.counts)) r.scene.glasses
   pub near : AreNear r.parts.config r.parts.scripts r.parts.input r.scene.entries r.scene.raw
   pub room : length r.scene.entries + r.scene.spare ≡ lines_of_all r.parts.scripts r.parts.input + 1
   pub ended : IsOpen r.scene.entries ⊎ AllServed r.parts.scripts r.parts.input r.counts

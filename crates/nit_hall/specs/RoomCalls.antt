@@ -75,14 +75,16 @@ pub record HasActed (r : RoomModel) (u : UserPassModel) (r' : RoomModel) (u' : U
   pub unended : IsOpen r'.scene.entries
 
 -- The pass has ended its phase. It knew a front of the journal, which stays as it was, and now
--- knows all of it, which is legal and not ended; and its lines before this one were counted.
+-- knows all of it, which is legal and not ended; its lines before this one were counted; and it and
+-- the room's end of its words agree on the words that these have left.
 pub record HasArrived (r : RoomModel) (p : PassModel) (r' : RoomModel) (p' : PassModel)
     : Type 0 where
-  pub room : r' ≡ arrived_one r p.sid
+  pub room : r' ≡ arrived_one (with_room_stages r p.sid (stretch_from p p.next)) p.sid
   pub pass : p' ≡ record p {
     next = p.next + 1;
     phase = p.phase + 1;
     seen = r.scene.entries;
+    sight = with_stages (stretch_from p p.next) p.sight;
   }
   pub before : IsPrefix p.seen r.scene.entries
   pub counted : slice_index r.counts p.sid ≡ length (served (take p.next p.script))

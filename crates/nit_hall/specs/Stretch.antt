@@ -31,14 +31,16 @@ pub record HasStretch (script : List Line) (donation next : ℕ) (stages : Optio
   pub begun : since ≤ next
   pub whole : stretch_end script next ≤ until
 
--- A reader's end knows a stretch of the script: it begins behind so many calls, in this phase or an
--- earlier one.
+-- A reader's end knows the words that the lines from `since` to `until` of the script leave: these
+-- are strokes alone, after so many calls, and in this phase.
 pub record KnowsStretch (script : List Line) (donation made phase : ℕ) (sight : Sight)
     : Type 0 where
   pub since : ℕ
-  pub stages_are : sight.stages ≡ Some (stretch script donation since)
-  pub behind : length (calls_in (take since script)) ≡ made
-  pub begun : phases_before script since ≤ phase
+  pub until : ℕ
+  pub stages_are : sight.stages ≡ Some (stages_within script donation since until)
+  pub strokes : until ≤ stretch_end script since
+  pub made_before : length (calls_in (take since script)) ≡ made
+  pub in_phase : phases_before script since ≡ phase
 
 -- a new reader's sight of an owner's words that knows these stages
 abbrev pub watching_sight : List (List ℕ) → Sight → Sight

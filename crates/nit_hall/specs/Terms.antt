@@ -1,33 +1,33 @@
 -- The words that clauses use: those that come from outside, and those of this crate.
 pub use Rattle.nit_hall.specs.Agreeing.{CanAgree}
 pub use Rattle.nit_hall.specs.Below.{AllByRecursion, AreGlasses, AreInPhases, Bare, Black}
-pub use Rattle.nit_hall.specs.Below.{BookModel, BookName, BufferName, Call, CanAdd, ClipCall}
-pub use Rattle.nit_hall.specs.Below.{ClipEntry, ClipLine, ClipModel, ClipReply, Colours}
-pub use Rattle.nit_hall.specs.Below.{Configuration, Device, Does, End, Entry, FitsDevice, HasStage}
-pub use Rattle.nit_hall.specs.Below.{HasStages, Ink, InputLine, IsAdded, IsAmong, IsConfiguration}
-pub use Rattle.nit_hall.specs.Below.{IsDevice, IsDonation, IsGlass, IsInPhase, IsInked, IsLegal}
-pub use Rattle.nit_hall.specs.Below.{IsLegalClips, IsLoaded, IsNonDecreasing, IsOpen, IsPaintedTo}
-pub use Rattle.nit_hall.specs.Below.{IsPlanOf, IsThere, IsWhole, IsWholeClips, IsWord}
-pub use Rattle.nit_hall.specs.Below.{IsWordOfSource, JournalModel, LegalFrom, Line, List, Member}
-pub use Rattle.nit_hall.specs.Below.{Option, Painted, Painting, PixelSource, PlanModel, Recorded}
-pub use Rattle.nit_hall.specs.Below.{Reply, Routed, SceneModel, ShareModel, Shoots, Sight, Some}
-pub use Rattle.nit_hall.specs.Below.{Standing, State, Stroke, UserAction, Word, after, after_line}
-pub use Rattle.nit_hall.specs.Below.{bare_word, before_final, blank, calls_from, calls_in, calls_of}
-pub use Rattle.nit_hall.specs.Below.{calls_to_make, calls_up_to, clip_answer, clip_calls_in}
-pub use Rattle.nit_hall.specs.Below.{clip_calls_of, clipboard_of, clips_to_do, clips_to_make}
-pub use Rattle.nit_hall.specs.Below.{count_by, deliveries_of, donation_of, done, entries_in}
-pub use Rattle.nit_hall.specs.Below.{first_state, frame, glass_in, glasses_of_call, into_iter_items}
-pub use Rattle.nit_hall.specs.Below.{is_accepted, is_clip_phase, is_input_phase, is_phase, kills}
-pub use Rattle.nit_hall.specs.Below.{left_after, length, map, most_clips, most_entries, most_height}
-pub use Rattle.nit_hall.specs.Below.{most_lines, most_sessions, most_shares, most_width, nat_le}
-pub use Rattle.nit_hall.specs.Below.{new_sight, next_phase, no_sight, option_map, painted_from}
-pub use Rattle.nit_hall.specs.Below.{phases_along, pixel, pixel_count, plan_in, raised}
-pub use Rattle.nit_hall.specs.Below.{range_with_len, raws_in, replay, replicate, route, routed_as}
-pub use Rattle.nit_hall.specs.Below.{scenery_of, script_in, script_ink, seen, serve, session, shots}
-pub use Rattle.nit_hall.specs.Below.{slice_get, slice_index, slice_index_or, source_at, source_of}
-pub use Rattle.nit_hall.specs.Below.{state_now, sum, sum_by, table_size, take, to_do, told_words}
-pub use Rattle.nit_hall.specs.Below.{user_actions_from, user_actions_of, user_actions_to_do}
-pub use Rattle.nit_hall.specs.Below.{with_stages, with_words, words_after, words_left}
+pub use Rattle.nit_hall.specs.Below.{BookModel, BufferName, Call, CanAdd, ClipCall, ClipEntry}
+pub use Rattle.nit_hall.specs.Below.{ClipLine, ClipModel, ClipReply, Colours, Configuration, Device}
+pub use Rattle.nit_hall.specs.Below.{End, Entry, FitsDevice, HasStage, InputLine, IsAdded, IsAmong}
+pub use Rattle.nit_hall.specs.Below.{IsConfiguration, IsDevice, IsDonation, IsGlass, IsInPhase}
+pub use Rattle.nit_hall.specs.Below.{IsLegal, IsLegalClips, IsLoaded, IsNonDecreasing, IsOpen}
+pub use Rattle.nit_hall.specs.Below.{IsPaintedTo, IsThere, IsWhole, IsWholeClips, IsWord}
+pub use Rattle.nit_hall.specs.Below.{IsWordOfSource, LegalFrom, Line, List, Member, None, Painted}
+pub use Rattle.nit_hall.specs.Below.{Painting, PixelSource, Point, Recorded, Reply, Routed}
+pub use Rattle.nit_hall.specs.Below.{SceneModel, ShareModel, Sight, Size, Some, Standing, State}
+pub use Rattle.nit_hall.specs.Below.{Stroke, UserAction, View, Word, after, after_line, among}
+pub use Rattle.nit_hall.specs.Below.{bare_word, before_final, black_or_word, blank, buffer_place}
+pub use Rattle.nit_hall.specs.Below.{buffer_size, calls_from, calls_in, calls_of, calls_to_make}
+pub use Rattle.nit_hall.specs.Below.{calls_up_to, clip_answer, clip_calls_in, clip_calls_of}
+pub use Rattle.nit_hall.specs.Below.{clipboard_of, clips_to_do, clips_to_make, deliveries_of}
+pub use Rattle.nit_hall.specs.Below.{donation_of, done, entries_in, first_session, first_state}
+pub use Rattle.nit_hall.specs.Below.{frame, glass_in, glasses_of_call, into_iter_items, is_accepted}
+pub use Rattle.nit_hall.specs.Below.{is_clip_phase, is_input_phase, is_phase, kills, left_after}
+pub use Rattle.nit_hall.specs.Below.{length, most_clips, most_entries, most_height, most_lines}
+pub use Rattle.nit_hall.specs.Below.{most_sessions, most_shares, most_width, negsuc, new_sight}
+pub use Rattle.nit_hall.specs.Below.{next_phase, no_sight, owner_of, painted_from, phases_along}
+pub use Rattle.nit_hall.specs.Below.{pixel, pixel_count, pos, raised, raws_in, replay, replicate}
+pub use Rattle.nit_hall.specs.Below.{route, routed_as, scenery_of, script_in, script_ink, seen}
+pub use Rattle.nit_hall.specs.Below.{serve, session, shots, shown_index, slice_get, source_at}
+pub use Rattle.nit_hall.specs.Below.{source_of, source_under, stages_within, state_now, table_size}
+pub use Rattle.nit_hall.specs.Below.{take, to_do, told_words, user_actions_from, user_actions_of}
+pub use Rattle.nit_hall.specs.Below.{user_actions_to_do, with_stages, with_words, words_after}
+pub use Rattle.nit_hall.specs.Below.{words_left, ℤ}
 pub use Rattle.nit_hall.specs.ClipOpening.{AreFirstClipPasses, IsUnserved, with_clip_scripts}
 pub use Rattle.nit_hall.specs.ClipPass.{AreDoneClips, AreTogether, ClipBelongs, ClipPassModel}
 pub use Rattle.nit_hall.specs.ClipPass.{IsAtClip, IsAtClipPhase, IsAtPhaseEnd, IsClipPass}
@@ -41,8 +41,7 @@ pub use Rattle.nit_hall.specs.NearWords.{AreNear, IsLastDirtied, IsNear, IsNearB
 pub use Rattle.nit_hall.specs.NearWords.{IsWordOfScripts, MayHaveDone, is_dirtied, phase_of_entry}
 pub use Rattle.nit_hall.specs.NearWords.{words_at_call}
 pub use Rattle.nit_hall.specs.Opening.{AreAgreed, AreBegun, AreBlank, AreSplitOff, CanOpen, IsFirst}
-pub use Rattle.nit_hall.specs.Opening.{IsOpening, IsSetting, buffers_of, first_pass, first_user}
-pub use Rattle.nit_hall.specs.Opening.{parts_of}
+pub use Rattle.nit_hall.specs.Opening.{IsOpening, IsSetting, buffers_of, first_pass, parts_of}
 pub use Rattle.nit_hall.specs.OpeningParts.{OpeningParts}
 pub use Rattle.nit_hall.specs.Pass.{AreDone, Belongs, HasLoaded, IsAtCall, IsAtDevice, IsAtPhase}
 pub use Rattle.nit_hall.specs.Pass.{IsAtShot, IsAtUserPhase, IsDonePass, IsDoneUser, IsPass}

@@ -103,7 +103,7 @@ impl<'a> Room<'a> {
         requires room { scene.spare ≡ lines_of_all parts.scripts.now parts.input.now + 1 }
         requires raw { scene.raw ≡ replicate (scene.config.width * scene.config.height) bare_word }
         requires inks { HaveInks scene.config parts.scripts.now scene.glasses }
-        requires watching { AreWatching parts.scripts.now scene.config [] 0 scene.glasses }
+        requires watching { AreWatching parts.scripts.now scene.config [] (λ t. 0) scene.glasses }
         requires counts { book.counts ≡ replicate (length parts.scripts.now + 1) 0 }
         requires clip { clip ≡ record { entries = []; spare = 0 } }
         ensures { result ≡ record {

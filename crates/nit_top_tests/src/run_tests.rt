@@ -163,6 +163,48 @@ holds events-b.txt EVENTS
 holds journal.txt JOURNAL
 whole JOURNAL
 
+text LAYERED
+| [screen]
+| width = 4
+| height = 1
+|
+| [input]
+| script = "two.in"
+|
+| [[client]]
+| label = "a"
+| donation = 65536
+| layer = 1
+| script = "a.nit"
+|
+| [[client]]
+| label = "b"
+| donation = 65536
+| script = "b.nit"
+
+text DRAWN_OVER
+| buffer 2 1
+| view
+| place 1 0 0 2 1
+| fill 0 0 2 1 FF0000
+| refresh 0 0 2 1
+| fill 0 0 2 1 0000FF
+| phase
+| phase
+
+case what is drawn over in a phase that is over does not come back where another view is taken away
+words run, two.toml
+file two.toml LAYERED
+file a.nit DRAWN_OVER
+file b.nit =buffer 1 1\nview\nplace 1 0 0 2 1\nphase\ndestroy 1\nphase\n
+file two.in =phase\nphase\nshot\n
+ends 0 =nitpicker: clients 2 entries 10 frames 2\n
+asked =two.toml a.nit b.nit two.in shot-1.ppm final.ppm events-a.txt events-b.txt journal.txt
+there =two.toml a.nit b.nit two.in shot-1.ppm final.ppm events-a.txt events-b.txt journal.txt
+entries 10
+picture shot-1.ppm 4 1 =BB..
+picture final.ppm 4 1 =BB..
+
 case one client paints, and green only beside what another uncovers, or after all shots
 words run, storm.toml
 file storm.toml STORM_CONFIG

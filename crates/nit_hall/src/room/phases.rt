@@ -7,18 +7,23 @@ ghost use Rattle.nit_hall.specs.Terms.{most_sessions};
 
 use crate::pass::Pass;
 use crate::room::Room;
+use crate::room::agreeing::agree_on_stretch;
 use crate::user::UserPass;
 use nit_plan::laws::one_more_line;
 
 impl<'a> Room<'a> {
-    /// The pass, whose next line ends a phase, has ended it. Once all clients and the user have,
-    /// the next phase is served. The pass is of this room's opening and ready.
+    /// The pass, whose next line ends a phase, has ended it. It and the room's end of its words
+    /// agree on what its lines have left, so no word of the phase that is over is shown in the next
+    /// one unless it stands there then. Once all clients and the user have ended theirs, the next
+    /// phase is served. The pass is of this room's opening and ready.
     pub fn arrive(&mut self, pass: &mut Pass<'a>)
         requires { IsReadyAt self.old.parts self.old.phase IsAtPhase pass.old }
         ensures { HasArrived self.old pass.old self.new pass.new }
     {
         one_more_line();
         let _few = pass.script.lines().len();
+        let at = pass.at_line();
+        agree_on_stretch(&mut self.scene, &at, &mut pass.canvas, &mut pass.spare);
         self.book.count(&mut pass.share);
         pass.next += 1;
         pass.phase += 1;

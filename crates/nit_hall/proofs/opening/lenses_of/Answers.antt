@@ -1,7 +1,6 @@
-use Rattle.std.proofs.lemmas.Bool.Decides.{nat_tests}
+use Rattle.nit_hall.proofs.Lemmas.{all_agree, donation_at, donation_of, get_or_default, nat_tests}
+use Rattle.nit_hall.proofs.Lemmas.{none_agree, one_agrees, script_in, slice_get-get_or}
 use Rattle.std.proofs.Common.{Some, arith, get_or, slice_get, ◌≡◌}
-use Rattle.nit_hall.proofs.Lemmas.{all_agree, donation_at, donation_of, get_or_default, none_agree}
-use Rattle.nit_hall.proofs.Lemmas.{one_agrees, script_in, slice_get-get_or}
 use Rattle.nit_hall.proofs.opening.lenses_of.Goals as goal
 use Rattle.nit_hall.proofs.opening.lenses_of.Goals.{After-index-clients-k}
 

@@ -1,5 +1,5 @@
-use Rattle.std.proofs.Common.{ap, arith, length, refl, sym, ◌∙◌}
-use Rattle.nit_hall.proofs.Lemmas.{counted_more, is_clip_phase, slice_get_within}
+use Rattle.nit_hall.proofs.Lemmas.{ap, arith, counted_more, is_clip_phase, length, refl}
+use Rattle.nit_hall.proofs.Lemmas.{slice_get_within, sym, ◌∙◌}
 use Rattle.nit_hall.proofs.clip_pass.ClipPass.turn.Goals as goal
 
 pub invariant_of-self : goal.invariant_of-self

@@ -1,5 +1,4 @@
-use Rattle.std.proofs.Common.{ap, rules, ◌∙◌}
-use Rattle.nit_hall.proofs.Lemmas.{OpeningParts, clipboard_of}
+use Rattle.nit_hall.proofs.Lemmas.{OpeningParts, ap, clipboard_of, rules, ◌∙◌}
 use Rattle.nit_hall.proofs.hall.Hall.clip_next.Goals as goal
 
 pub returns : goal.returns

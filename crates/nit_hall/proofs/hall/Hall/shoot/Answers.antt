@@ -1,5 +1,4 @@
-use Rattle.std.proofs.Common.{rules}
-use Rattle.nit_hall.proofs.Lemmas.{shot_told}
+use Rattle.nit_hall.proofs.Lemmas.{rules, shot_told}
 use Rattle.nit_hall.proofs.hall.Hall.shoot.Goals as goal
 
 pub returns : goal.returns

@@ -1,6 +1,4 @@
-use Rattle.std.proofs.Common.{arith}
-use Rattle.std.proofs.lemmas.Bool.Decides.{nat_tests}
-use Rattle.nit_hall.proofs.Lemmas.{open_whole}
+use Rattle.nit_hall.proofs.Lemmas.{arith, nat_tests, open_whole}
 use Rattle.nit_hall.proofs.hall.Hall.wait_ready.Goals as goal
 
 pub returns : goal.returns

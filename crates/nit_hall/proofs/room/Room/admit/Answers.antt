@@ -1,10 +1,8 @@
-use Rattle.std.proofs.Common.{arith}
-use Rattle.std.proofs.lemmas.Bool.Decides.{nat_tests}
+use Rattle.std.proofs.Common.{arith, List, ap, refl, rules, sym, ℕ, ◌∙◌, ◌≡◌}
 use Rattle.nit_hall.proofs.Lemmas.{CanAgree, IsMet, PassModel, RoomModel, buffers_of, can_agree}
-use Rattle.nit_hall.proofs.Lemmas.{end_with, left_of, room_admitted, room_and_pass_met}
+use Rattle.nit_hall.proofs.Lemmas.{end_with, left_of, nat_tests, room_admitted, room_and_pass_met}
 use Rattle.nit_hall.proofs.Lemmas.{same_buffers, same_stands, slice_get_within, stretch}
 use Rattle.nit_hall.proofs.Lemmas.{with_room_stages, with_stages}
-use Rattle.std.proofs.Common.{List, ap, refl, rules, sym, ℕ, ◌∙◌, ◌≡◌}
 use Rattle.nit_hall.proofs.room.Room.admit.Goals as goal
 use Rattle.nit_hall.proofs.room.Room.admit.Goals.{After-agree_on_stretch}
 use Rattle.nit_hall.proofs.room.Room.admit.Goals.{After-agree_on_stretch-arg-3-1}

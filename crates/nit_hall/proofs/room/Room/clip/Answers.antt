@@ -1,12 +1,11 @@
-use Rattle.std.proofs.lemmas.Bool.Decides.{nat_tests}
-use Rattle.std.proofs.Common.{ap, arith, length, length-append, refl, slice_index, subst, sym, ◌+◌}
-use Rattle.std.proofs.Common.{◌∙◌, ◌≡◌, ◌≤◌}
 use Rattle.nit_hall.proofs.Lemmas.{FoundClip, IsLegalClips, IsRoom, PassModel, RoomModel}
 use Rattle.nit_hall.proofs.Lemmas.{back_raised, clip_answer, clip_counted, clip_entry, clipboard_of}
 use Rattle.nit_hall.proofs.Lemmas.{counted_same, entries_in, follows_then, front_of_each}
-use Rattle.nit_hall.proofs.Lemmas.{is_clip_phase, left_of, next_clip, number_is, open_whole}
-use Rattle.nit_hall.proofs.Lemmas.{room_clip, room_left, slice_get_within, state_now, stretch_from}
-use Rattle.nit_hall.proofs.Lemmas.{take-set-le, with_clip, with_room_stages}
+use Rattle.nit_hall.proofs.Lemmas.{is_clip_phase, left_of, nat_tests, next_clip, number_is}
+use Rattle.nit_hall.proofs.Lemmas.{open_whole, room_clip, room_left, slice_get_within, state_now}
+use Rattle.nit_hall.proofs.Lemmas.{stretch_from, take-set-le, with_clip, with_room_stages}
+use Rattle.std.proofs.Common.{ap, arith, length, length-append, refl, slice_index, subst, sym, ◌+◌}
+use Rattle.std.proofs.Common.{◌∙◌, ◌≡◌, ◌≤◌}
 use Rattle.nit_hall.proofs.room.Room.clip.Goals as goal
 use Rattle.nit_hall.proofs.room.Room.clip.Goals.{After-entries, After-serve-reply}
 

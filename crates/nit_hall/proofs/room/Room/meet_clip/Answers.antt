@@ -1,5 +1,4 @@
-use Rattle.std.proofs.Common.{refl, rules}
-use Rattle.nit_hall.proofs.Lemmas.{clip_counted, front_of_each}
+use Rattle.nit_hall.proofs.Lemmas.{clip_counted, front_of_each, refl, rules}
 use Rattle.nit_hall.proofs.room.Room.meet_clip.Goals as goal
 
 pub returns : goal.returns

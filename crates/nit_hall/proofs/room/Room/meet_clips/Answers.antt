@@ -1,6 +1,6 @@
-use Rattle.std.proofs.Common.{arith, ◌∙◌}
-use Rattle.nit_hall.proofs.Lemmas.{IsKnownClip, clip_met, clips_whole, common_steps, holds_all}
-use Rattle.nit_hall.proofs.Lemmas.{holds_below, knowing_clip, step_far, still_there, without_final}
+use Rattle.nit_hall.proofs.Lemmas.{IsKnownClip, arith, clip_met, clips_whole, common_steps}
+use Rattle.nit_hall.proofs.Lemmas.{holds_all, holds_below, knowing_clip, step_far, still_there}
+use Rattle.nit_hall.proofs.Lemmas.{without_final, ◌∙◌}
 use Rattle.nit_hall.proofs.room.Room.meet_clips.Goals as goal
 
 pub meet_clip-requires : goal.meet_clip-requires

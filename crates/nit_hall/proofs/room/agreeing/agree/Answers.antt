@@ -1,6 +1,5 @@
-use Rattle.std.proofs.Common.{arith, List, ap, set, ◌∙◌}
-use Rattle.std.proofs.lemmas.Bool.Decides.{nat_tests}
-use Rattle.nit_hall.proofs.Lemmas.{End, SceneModel, put_back, same_Some, set_there}
+use Rattle.nit_hall.proofs.Lemmas.{End, List, SceneModel, ap, arith, nat_tests, put_back, same_Some}
+use Rattle.nit_hall.proofs.Lemmas.{set, set_there, ◌∙◌}
 use Rattle.nit_hall.proofs.room.agreeing.agree.Goals as goal
 
 pub returns-clause-scene : goal.returns-clause-scene

@@ -1,6 +1,5 @@
-use Rattle.std.proofs.Common.{ap, refl, subst, sym, ◌∙◌}
-use Rattle.nit_hall.proofs.Lemmas.{IsRoom, RoomModel, counts_long, opened_clips, room_with_clips}
-use Rattle.nit_hall.proofs.Lemmas.{without_final}
+use Rattle.nit_hall.proofs.Lemmas.{IsRoom, RoomModel, ap, counts_long, opened_clips, refl}
+use Rattle.nit_hall.proofs.Lemmas.{room_with_clips, subst, sym, without_final, ◌∙◌}
 use Rattle.nit_hall.proofs.room.clip_opening.open_clips.Goals as goal
 
 pub invariant_of-room : goal.invariant_of-room
