@@ -10,12 +10,14 @@ use std::marker::Model;
 use std::rt::Files;
 use std::{fs, io};
 
-/// The files of the current folder and the standard output. It tells nothing but how often reads
-/// and how often writes failed; each count stays at 2^64 - 1 once it is there.
+/// The files that are read, by names of the current folder; the folder into which files are put;
+/// and the standard output. It tells nothing but how often reads and how often writes failed; each
+/// count stays at 2^64 - 1 once it is there.
 #[derive(Drop)]
 pub struct DiskStore<'a, R: Files + Print> {
     rt: &'a R,
     alloc: Global,
+    folder: Option<&'a str>,
     read_faults: u64,
     write_faults: u64,
 }
@@ -31,13 +33,15 @@ impl<'a, R: Files + Print> Model for DiskStore<'a, R> {
 impl<'a, R: Files + Print> DiskStore<'a, R> {
     ghost use Rattle.nit_store.specs.DiskStore.{CountsWrite};
 
-    /// The store of a runtime, of which nothing failed yet. It takes no memory.
-    pub fn new(rt: &'a R, alloc: Global) -> DiskStore<'a, R>
+    /// The store of a runtime, of which nothing failed yet. It puts into this folder, or else into
+    /// the current one. It takes no memory.
+    pub fn new(rt: &'a R, alloc: Global, folder: Option<&'a str>) -> DiskStore<'a, R>
         ensures { result ≡ record { reads = 0; writes = 0 } }
     {
         DiskStore {
             rt,
             alloc,
+            folder,
             read_faults: 0,
             write_faults: 0,
         }
@@ -104,6 +108,18 @@ fn put_file<R: Files>(rt: &R, alloc: Global, name: &str, bytes: &[u8]) -> io::Re
     end
 }
 
+/// Puts a file, by its name and its bytes, into this folder.
+fn put_within<R: Files>(
+    rt: &R,
+    alloc: Global,
+    folder: &str,
+    file: (&str, &[u8]),
+) -> io::Result<()> {
+    let (name, bytes) = file;
+    let place = format!(in alloc; "{folder}/{name}")?;
+    put_file(rt, alloc, &place, bytes)
+}
+
 impl<'a, R: Files + Print> Store for DiskStore<'a, R> {
     ghost use Rattle.nit_store.specs.DiskStore.{disk_store_shown};
 
@@ -122,7 +138,10 @@ impl<'a, R: Files + Print> Store for DiskStore<'a, R> {
     }
 
     fn put(&mut self, name: &str, bytes: &[u8]) -> Result<(), PutError> {
-        let end = put_file(self.rt, self.alloc, name, bytes);
+        let end = match self.folder {
+            Some(folder) => put_within(self.rt, self.alloc, folder, (name, bytes)),
+            None => put_file(self.rt, self.alloc, name, bytes),
+        };
         self.written(end)
     }
 

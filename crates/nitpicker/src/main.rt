@@ -6,12 +6,16 @@ use nit_store::{DiskStore, Store};
 use nit_top::nitpicker;
 use std::alloc::{AllocError, Global};
 use std::env;
+use std::env::VarError;
 use std::io::ErrorKind;
 use std::process::ExitCode;
 use std::rt::Env;
 
-/// The status where there is no memory for the words.
+/// The status where there is no memory to begin with.
 const NO_MEMORY: u8 = 7;
+
+/// The variable that names the folder into which files are put.
+const FOLDER: &str = "NITPICKER_OUT";
 
 /// The words of the command line behind the program's name. Arguments that are no text are no
 /// command, and so are no words.
@@ -23,14 +27,51 @@ fn words<R: Env + AllocGlobal>(rt: &R) -> Result<Vec<String>, AllocError> {
     }
 }
 
+/// What the program is started with: its words, and the folder into which files are put, or else the
+/// current one.
+#[derive(Drop)]
+struct Beginning {
+    words: Vec<String>,
+    folder: Option<String>,
+}
+
+/// The words and the folder. An empty name of a folder is none. With one that is no text there are
+/// no words, as with arguments that are none.
+fn begin<R: Env + AllocGlobal>(rt: &R) -> Result<Beginning, AllocError> {
+    let words = words(rt)?;
+    match env::var(rt, FOLDER) {
+        Ok(folder) => {
+            let folder = if folder.is_empty() {
+                None
+            } else {
+                Some(folder)
+            };
+            Ok(Beginning { words, folder })
+        }
+        Err(VarError::NotPresent) => Ok(Beginning {
+            words,
+            folder: None,
+        }),
+        Err(VarError::NotUnicode) => Ok(Beginning {
+            words: Vec::new(rt.alloc()),
+            folder: None,
+        }),
+        Err(VarError::OutOfMemory) => Err(AllocError),
+    }
+}
+
+/// There is no memory to begin with. Where this cannot be said either, the status alone tells it.
+fn no_memory<S: Store>(store: &mut S) -> ExitCode {
+    let _ = store.say(b"nitpicker: no memory\n");
+    ExitCode::from(NO_MEMORY)
+}
+
 fn main(rt: HostRuntime) -> ExitCode {
     let alloc: Global = rt.alloc();
-    let mut store = DiskStore::new(&rt, alloc);
-    let Ok(words) = words(&rt) else {
-        // Where this cannot be said either, the status alone tells it.
-        let _ = store.say(b"nitpicker: no memory\n");
-        return ExitCode::from(NO_MEMORY);
+    let Ok(beginning) = begin(&rt) else {
+        return no_memory(&mut DiskStore::new(&rt, alloc, None));
     };
-    let done = nitpicker(&rt, alloc, &words, &mut store, &Open);
+    let mut store = DiskStore::new(&rt, alloc, beginning.folder.as_deref());
+    let done = nitpicker(&rt, alloc, &beginning.words, &mut store, &Open);
     ExitCode::from(done.status)
 }
