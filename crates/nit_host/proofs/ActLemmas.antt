@@ -1,9 +1,9 @@
--- What a host serves are steps: calls, device events and refreshes; and who gets the focus.
-use Rattle.std.proofs.Common.{List, None, Option, Some, [], ap, false, get_or, inl, inr, length}
-use Rattle.std.proofs.Common.{refl, set, slice_get, sym, true, ℕ, ℤ, ◌++◌, ◌-◌, ◌<◌, ◌∙◌, ◌∷◌, ◌≡◌}
-use Rattle.std.proofs.Common.{◌≢◌, ◌≤◌, ◌⊎◌}
+-- What a host serves are steps: calls, device events and refreshes.
+use Rattle.std.proofs.Common.{List, None, Option, Some, [], ap, false, get_or, length}
+use Rattle.std.proofs.Common.{refl, set, slice_get, sym, ℕ, ℤ, ◌++◌, ◌-◌, ◌<◌, ◌∙◌, ◌∷◌, ◌≡◌}
+use Rattle.std.proofs.Common.{◌≢◌, ◌≤◌}
 use Rattle.nit_host.proofs.Basics.{Act, Answered, Call, Calls, Comes, DesktopModel, Device, Does}
-use Rattle.nit_host.proofs.Basics.{Entry, HostModel, IsClickAt, IsClickBy, IsHost, IsPlainOf}
+use Rattle.nit_host.proofs.Basics.{Entry, HostModel, IsHost, IsPlainOf}
 use Rattle.nit_host.proofs.Basics.{IsStepOf, Looks, Painted, PixelSource, Rectangle, Refreshes}
 use Rattle.nit_host.proofs.Basics.{Reply, Routed, Serves, Session, SheetModel, Sight, State, Step}
 use Rattle.nit_host.proofs.Basics.{Word, after, after_act, after_acts, after_handing, after_step}
@@ -11,11 +11,11 @@ use Rattle.nit_host.proofs.Basics.{and_right, arith, called, cases_eq, cond_both
 use Rattle.nit_host.proofs.Basics.{fold-append, get_or-set_same, glass_in, handed, is_accepted}
 use Rattle.nit_host.proofs.Basics.{is_handed, is_word_in, low_bytes, nat_tests, pixel, plain_sight}
 use Rattle.nit_host.proofs.Basics.{rectangle, refreshed, refusal, refused_reply, reply_to, route}
-use Rattle.nit_host.proofs.Basics.{routed_as, routed_of, seated, serve, serve_accepted}
+use Rattle.nit_host.proofs.Basics.{routed_as, routed_of, serve, serve_accepted}
 use Rattle.nit_host.proofs.Basics.{serve_refused, session, set_long, set_where, sheet_in, sheets_of}
 use Rattle.nit_host.proofs.Basics.{slice_get_within, source_at, step_of, step_unless, steps_of}
-use Rattle.nit_host.proofs.Basics.{told, told_words, unless_for, unseated, unserved_call}
-use Rattle.nit_host.proofs.Basics.{unserved_input, unserved_refresh, word_from}
+use Rattle.nit_host.proofs.Basics.{told, told_words, unless_for}
+use Rattle.nit_host.proofs.Basics.{unserved_input, word_from}
 use Rattle.nit_host.proofs.Seatings.{may_sit}
 use Rattle.nit_host.proofs.Beginnings.{is_seat}
 use Rattle.nit_journal.specs.Steps.{AreSteps, after_steps}
@@ -63,54 +63,6 @@ both s (t ∷ ts) ys a b = (a.0, both (after_step s t) ts ys a.1 b)
 pub all_acts : (h : HostModel) (acts : List Act) → Goes h (after_acts h acts) (steps_of h acts)
 all_acts h [] = (tt, refl)
 all_acts h (act ∷ rest) = grind (arith, nat_tests, all_acts (after_act h act) rest, one_act, both, fold-append)
-
--- ---- who gets the focus by an act
-
--- what a law says of the focus
-pub record FocusLaws : Type 0 where
-  pub calls : (s : State) (sid : ℕ) (c : Call) (r : Reply)
-      → ((after s (entry.Call sid c r)).input.focus ≡ s.input.focus)
-      ⊎ ((c ≡ call.Close) × (is_accepted r ≡ true) × (s.input.focus ≡ Some sid))
-  pub closed : (s : State) (sid : ℕ) (r : Reply) → is_accepted r ≡ true → s.input.focus ≡ Some sid
-      → (after s (entry.Call sid call.Close r)).input.focus ≡ None
-  pub clicks : (s : State) (dev : Device) (routed : Routed) (x : ℕ)
-      → (after s (entry.Input dev routed)).input.focus ≡ Some x
-      → (s.input.focus ≡ Some x) ⊎ IsClickAt s dev x
-
--- a step that there is a reason against gives nobody the focus
-by_reason : {A Q : Type 0} (o : Option A) (served h : HostModel) (x : ℕ)
-    → (served.state.input.focus ≡ Some x → (h.state.input.focus ≡ Some x) ⊎ Q)
-    → (unless_for o served h).state.input.focus ≡ Some x → (h.state.input.focus ≡ Some x) ⊎ Q
-by_reason None served h x f is = f is
-by_reason (Some why) served h x f is = inl is
-
-module _ (laws : FocusLaws) where
-  by_call : (s : State) (seat : ℕ) (c : Call) (r : Reply) (x : ℕ)
-      → (after s (entry.Call seat c r)).input.focus ≡ Some x → s.input.focus ≡ Some x
-  by_call s seat c r x is =
-      elim (laws.calls s seat c r) [
-        | inl e ↦ sym e ∙ is
-        | inr gone ↦
-            let wrong : ◌≡◌ {A = Option ℕ} None (Some x) = sym (laws.closed s seat r gone.1 gone.2)
-            ∙ (rw gone.0 at is) in
-            cc
-      ]
-
-  pub by_act : (h : HostModel) (act : Act) (x : ℕ) → (after_act h act).state.input.focus ≡ Some x
-      → (h.state.input.focus ≡ Some x) ⊎ IsClickBy act h.state x
-  by_act h (Calls seat c) x is =
-      by_reason (unserved_call h seat c) (called seat c h) h x
-      (λ e. inl (by_call h.state seat c (reply_to h seat c) x e)) is
-  by_act h (Refreshes seat left top w height words) x is =
-      by_reason (unserved_refresh h seat words) (refreshed seat left top w height words h) h x
-      (λ e. inl (by_call h.state seat (call.Refresh left top w height)
-      (reply_to h seat (call.Refresh left top w height)) x
-      (rw (same_call h seat left top w height words) at e))) is
-  by_act h (Does dev) x is =
-      by_reason (unserved_input h dev) (told dev h) h x (λ e. laws.clicks h.state dev (routed_of h dev) x e) is
-  by_act h (Comes seat label) x is =
-      by_reason (unseated h seat label) (seated seat label h) h x (λ e. inl e) is
-  by_act h Looks x is = inl is
 
 -- ---- what a device event leaves
 

@@ -1,5 +1,5 @@
 -- What answers use: all that lemmas use, and this crate's lemmas.
-pub use Rattle.nit_host.proofs.ActLemmas.{WasRefreshed, WasTold, all_acts, by_act, handed_plain}
+pub use Rattle.nit_host.proofs.ActLemmas.{WasRefreshed, WasTold, all_acts, handed_plain}
 pub use Rattle.nit_host.proofs.ActLemmas.{was_refreshed, was_told, when_served}
 pub use Rattle.nit_host.proofs.Frames.{agree_outside, by_source, of_none, of_past, same_view}
 pub use Rattle.nit_host.proofs.Frames.{seen_now, shown_there}

@@ -5,5 +5,7 @@ mod HandedWords
 mod Seatings
 mod Frames
 mod CallChanges
+mod UserMoves
+mod ActMoves
 pub mod Basics
 pub mod Lemmas

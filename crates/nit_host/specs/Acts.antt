@@ -1,6 +1,6 @@
 -- A host's whole life: what it is asked, one thing after the other.
 use Rattle.std.specs.Prelude.{ℕ, ℤ, List, [], ◌∷◌, ◌++◌, fold, Option, Some, None}
-use Rattle.nit_host.specs.Below.{Call, Device, IsClickAt, Opens, Serves, State, Step}
+use Rattle.nit_host.specs.Below.{Call, Device, Opens, Serves, Step}
 use Rattle.nit_events.specs.declared.call.Call.TheVariants as call
 use Rattle.nit_events.specs.declared.entry.Entry.TheVariants as entry
 use Rattle.nit_host.specs.Host.{HostModel, called, looked, refreshed, reply_to, routed_of, told}
@@ -29,11 +29,6 @@ after_act h (Refreshes seat x y w height words) =
 after_act h (Does dev) = unless_for (unserved_input h dev) (told dev h) h
 after_act h (Comes seat label) = unless_for (unseated h seat label) (seated seat label h) h
 after_act h Looks = looked h
-
--- the act is the user's click on a pixel of this seat's client, which takes the focus by clicks
-abbrev pub IsClickBy : Act → State → ℕ → Type 0
-IsClickBy (Does dev) s seat = IsClickAt s dev seat
-IsClickBy other s seat = ⊥
 
 -- the host behind all of them
 abbrev pub after_acts : HostModel → List Act → HostModel

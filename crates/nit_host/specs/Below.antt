@@ -3,7 +3,8 @@ pub use Rattle.nit_config.specs.Configuration.{Configuration, bar_rows, donation
 pub use Rattle.nit_config.specs.ConfigurationRanges.{IsConfiguration, IsMember}
 pub use Rattle.nit_config.specs.declared.config.Member.{Member}
 pub use Rattle.nit_desktop.specs.Desktop.{DesktopModel, asks_view}
-pub use Rattle.nit_events.specs.Input.{deliveries_of, routed_as}
+pub use Rattle.nit_events.specs.Input.{deliveries_of, kill_button, kill_key, kill_mode, routed_as}
+pub use Rattle.nit_events.specs.Input.{xray_key, xray_mode}
 pub use Rattle.nit_events.specs.Ranges.{most_code}
 pub use Rattle.nit_events.specs.declared.call.Call.{Call}
 pub use Rattle.nit_events.specs.declared.call.Reply.{Reply}
@@ -34,9 +35,10 @@ pub use Rattle.nit_journal.specs.State.{source_of}
 pub use Rattle.nit_journal.specs.Steps.{IsFreeLabel, IsStepOf, Opens, Serves, Step, after_step}
 pub use Rattle.nit_journal.specs.Steps.{opened, relabelled, vacant_state}
 pub use Rattle.nit_journal.specs.Terms.{AreSteps, Flat, Gets, IsDown, IsLive, Kill, KillsPointed}
-pub use Rattle.nit_journal.specs.Terms.{Observation, TellsFocus, Xray, after_steps, first_input}
-pub use Rattle.nit_journal.specs.Terms.{is_button, is_held, is_key, opening_of, projection}
-pub use Rattle.nit_journal.specs.Terms.{replies_from, replies_to, since_opening, to, under_pointer}
+pub use Rattle.nit_journal.specs.Terms.{Observation, TellsFocus, TellsLeave, Xray, after_steps}
+pub use Rattle.nit_journal.specs.Terms.{first_input, is_button, is_held, is_key, is_mode_key}
+pub use Rattle.nit_journal.specs.Terms.{opening_of, projection, replies_from, replies_to}
+pub use Rattle.nit_journal.specs.Terms.{since_opening, to, under_pointer}
 pub use Rattle.nit_look.specs.Look.{AgreeIn, AgreeOutside, CoversChange, IsTouched, LiesOn}
 pub use Rattle.nit_look.specs.Look.{place_at}
 pub use Rattle.nit_overlay.specs.Frame.{Scenery, bar_word, frame, shown}

@@ -1,12 +1,12 @@
 -- A host as a value, and what each of its calls makes of it.
-use Rattle.std.specs.Prelude.{◌≡◌, ℕ, ◌-◌, ◌*◌, ◌^◌, ℤ, Bool, true, ◌&&◌, ◌==◌, nat_le, nat_lt}
+use Rattle.std.specs.Prelude.{◌≡◌, ◌⊎◌, ℕ, ◌-◌, ◌*◌, ◌^◌, ℤ, Bool, true, ◌&&◌, ◌==◌, nat_le, nat_lt}
 use Rattle.std.specs.Prelude.{negsuc, int_le, not, List, [], ◌∷◌, length, map, slice_index_or}
 use Rattle.std.specs.Prelude.{slice_set, Option, Some, None, if◌then◌else◌}
 use Rattle.nit_host.specs.Below.{Call, Configuration, Device, Entry, Rectangle, Reply, Routed}
-use Rattle.nit_host.specs.Below.{Session, State, Unserved, after, asks_view, covers, frame}
-use Rattle.nit_host.specs.Below.{is_accepted, journal_text, most_code, pixel, rectangle, route}
-use Rattle.nit_host.specs.Below.{routed_as, scenery_of, serve, session, set_where, source_at}
-use Rattle.nit_host.specs.Below.{table_size, word_from, words_of, zeros}
+use Rattle.nit_host.specs.Below.{Session, State, Unserved, after, asks_view, covers, first_state}
+use Rattle.nit_host.specs.Below.{frame, is_accepted, journal_text, most_code, pixel, rectangle}
+use Rattle.nit_host.specs.Below.{route, routed_as, scenery_of, serve, session, set_where, source_at}
+use Rattle.nit_host.specs.Below.{table_size, vacant_state, word_from, words_of, zeros}
 use Rattle.nit_events.specs.declared.call.Call.TheVariants as call
 use Rattle.nit_events.specs.declared.device.Device.TheVariants as device
 use Rattle.nit_events.specs.declared.entry.Entry.TheVariants as entry
@@ -58,6 +58,12 @@ first_host s config =
       last = None;
       seen = None;
     }
+
+-- a host as it opens by a configuration: its seats are all free, or all taken
+abbrev pub IsFirst : HostModel → Type 0
+IsFirst h =
+    (config : Configuration)
+    × ((h ≡ first_host (vacant_state config) config) ⊎ (h ≡ first_host (first_state config) config))
 
 -- ---- one entry
 

@@ -6,6 +6,7 @@ pub mod Words
 pub mod Seats
 pub mod Fresh
 pub mod Acts
+pub mod Moves
 pub mod Area
 pub mod Touch
 pub mod Looked

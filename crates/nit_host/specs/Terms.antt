@@ -1,5 +1,5 @@
 -- The words that clauses use: those that come from outside, and those of this crate.
-pub use Rattle.nit_host.specs.Acts.{Act, Calls, Comes, Does, IsClickBy, Looks, Refreshes, after_act}
+pub use Rattle.nit_host.specs.Acts.{Act, Calls, Comes, Does, Looks, Refreshes, after_act}
 pub use Rattle.nit_host.specs.Acts.{after_acts, step_of, step_unless, steps_of, unless_for}
 pub use Rattle.nit_host.specs.Area.{HoldsBoth, HoldsUnless, HoldsWhere, IsAreaOf, IsInReach}
 pub use Rattle.nit_host.specs.Area.{StaysOutside, has_place, is_inside, rectangle_over}
@@ -12,17 +12,18 @@ pub use Rattle.nit_host.specs.Below.{IsWord, IsWordOfSource, Item, Kill, KillsPo
 pub use Rattle.nit_host.specs.Below.{Member, Mode, Observation, Painted, PixelSource, PlanError}
 pub use Rattle.nit_host.specs.Below.{Point, Rectangle, Reply, Routed, Scenery, SeatPlan, Serves}
 pub use Rattle.nit_host.specs.Below.{Session, ShowsLabels, Sight, Size, Stages, State, Step}
-pub use Rattle.nit_host.specs.Below.{TellsFocus, Touch, Unseated, Unserved, View, Word, Xray, after}
-pub use Rattle.nit_host.specs.Below.{after_accepted, after_deliveries, after_delivery, after_step}
-pub use Rattle.nit_host.specs.Below.{after_steps, among, answered, asks_view, bar_rows, bar_word}
-pub use Rattle.nit_host.specs.Below.{bare_word, black_or_word, buffer_place, buffer_size, covers}
-pub use Rattle.nit_host.specs.Below.{deliveries_of, dirty, dirty_by_call, donation_of}
+pub use Rattle.nit_host.specs.Below.{TellsFocus, TellsLeave, Touch, Unseated, Unserved, View, Word}
+pub use Rattle.nit_host.specs.Below.{Xray, after, after_accepted, after_deliveries, after_delivery}
+pub use Rattle.nit_host.specs.Below.{after_step, after_steps, among, answered, asks_view, bar_rows}
+pub use Rattle.nit_host.specs.Below.{bar_word, bare_word, black_or_word, buffer_place, buffer_size}
+pub use Rattle.nit_host.specs.Below.{covers, deliveries_of, dirty, dirty_by_call, donation_of}
 pub use Rattle.nit_host.specs.Below.{enumerate_from, filled_up, first_input, first_session}
 pub use Rattle.nit_host.specs.Below.{first_state, frame, glass_in, glasses_of_call, in_bar}
 pub use Rattle.nit_host.specs.Below.{index_at, input_after_call, is_accepted, is_between, is_button}
-pub use Rattle.nit_host.specs.Below.{is_held, is_key, is_kill, is_killed, is_label, is_owned_by}
-pub use Rattle.nit_host.specs.Below.{is_rectangle, is_session, is_some, is_view, is_word_in, kills}
-pub use Rattle.nit_host.specs.Below.{layer, least_units, list_all, list_any, member, most_height}
+pub use Rattle.nit_host.specs.Below.{is_held, is_key, is_kill, is_killed, is_label, is_mode_key}
+pub use Rattle.nit_host.specs.Below.{is_owned_by, is_rectangle, is_session, is_some, is_view}
+pub use Rattle.nit_host.specs.Below.{is_word_in, kill_button, kill_key, kill_mode, kills, layer}
+pub use Rattle.nit_host.specs.Below.{least_units, list_all, list_any, member, most_height}
 pub use Rattle.nit_host.specs.Below.{most_length, most_sessions, most_units, most_width, no_sight}
 pub use Rattle.nit_host.specs.Below.{opened, opening_of, option_map, option_map_or, owner, owner_of}
 pub use Rattle.nit_host.specs.Below.{owns_either, pixel, pixel_count, place_at, plain_sight, point}
@@ -31,16 +32,19 @@ pub use Rattle.nit_host.specs.Below.{replies_from, replies_to, route, routed_as,
 pub use Rattle.nit_host.specs.Below.{serve, session, session_owns, set_where, shown, shown_index}
 pub use Rattle.nit_host.specs.Below.{shows_part, since_opening, slice_index, source_at, source_of}
 pub use Rattle.nit_host.specs.Below.{source_under, spans, table_size, to, told_words, under_pointer}
-pub use Rattle.nit_host.specs.Below.{vacant_state, view_owns, word_from, words_of, zeros}
+pub use Rattle.nit_host.specs.Below.{vacant_state, view_owns, word_from, words_of, xray_key}
+pub use Rattle.nit_host.specs.Below.{xray_mode, zeros}
 pub use Rattle.nit_host.specs.Fresh.{AreBlank, AreHollow, AreQuiet, AreSheets, IsFresh, IsHost}
 pub use Rattle.nit_host.specs.Fresh.{IsPlainOf, sheet_at, sheets_of, size_at}
 pub use Rattle.nit_host.specs.Handing.{CanTakeWords, IsHandedIn, after_handing, is_in_rows}
-pub use Rattle.nit_host.specs.Host.{HostModel, IsAsSeen, IsOneOf, blank_sheets, called, first_host}
-pub use Rattle.nit_host.specs.Host.{frame_by, frame_shown, handed, is_device, is_handed}
+pub use Rattle.nit_host.specs.Host.{HostModel, IsAsSeen, IsFirst, IsOneOf, blank_sheets, called}
+pub use Rattle.nit_host.specs.Host.{first_host, frame_by, frame_shown, handed, is_device, is_handed}
 pub use Rattle.nit_host.specs.Host.{lacks_handles, last_text, looked, picture, picture_from}
 pub use Rattle.nit_host.specs.Host.{refreshed, reply_to, routed_of, sheet_in, told, unserved_call}
 pub use Rattle.nit_host.specs.Host.{unserved_input, unserved_refresh, with_handed, worn_out}
 pub use Rattle.nit_host.specs.Looked.{IsSeenBut, frame_at}
+pub use Rattle.nit_host.specs.Moves.{IsClickBy, IsClickOff, IsKillClick, IsTakenByClicks}
+pub use Rattle.nit_host.specs.Moves.{SwitchesMode, TakesFocus, is_held_after}
 pub use Rattle.nit_host.specs.Plan.{hex_digit, is_screen, is_within, no_script, planned}
 pub use Rattle.nit_host.specs.Plan.{refused_plan, waiting_label, waiting_member}
 pub use Rattle.nit_host.specs.Seats.{has_label, is_label_taken, is_live, is_taken, seat_for, seated}

@@ -5,15 +5,18 @@ ghost use Rattle.std.specs.Prelude.{All, ◌≡◌, ◌≢◌, ◌∷◌, ◌++�
 ghost use Rattle.std.specs.Prelude.{◌⊎◌, ◌-ℤ◌, List, [], length, slice_index, None, Some, false};
 ghost use Rattle.std.specs.Prelude.{pos, true, ℕ, ℤ};
 ghost use Rattle.nit_host.specs.Terms.{Act, AreSteps, Black, Calls, Comes, Does, Flat, Gets};
-ghost use Rattle.nit_host.specs.Terms.{HostModel, IsClickBy, IsDown, IsInPart, IsLive, Kill};
-ghost use Rattle.nit_host.specs.Terms.{KillsPointed, Looks, Observation, Refreshes, TellsFocus};
+ghost use Rattle.nit_host.specs.Terms.{HostModel, IsClickBy, IsDown, IsFirst, IsInPart, IsLive};
+ghost use Rattle.nit_host.specs.Terms.{IsTakenByClicks, Kill, KillsPointed, Looks, Observation};
+ghost use Rattle.nit_host.specs.Terms.{Refreshes, SwitchesMode, TakesFocus, TellsFocus, TellsLeave};
 ghost use Rattle.nit_host.specs.Terms.{View, Word, Xray, after_act, after_acts, after_steps};
 ghost use Rattle.nit_host.specs.Terms.{bare_word, deliveries_of, first_input, is_accepted};
-ghost use Rattle.nit_host.specs.Terms.{is_button, is_held, is_key, opening_of, picture, pixel};
-ghost use Rattle.nit_host.specs.Terms.{pixel_count, projection, replies_from, replies_to, reply_to};
-ghost use Rattle.nit_host.specs.Terms.{routed_of, session, sheet_in, since_opening, source_at};
-ghost use Rattle.nit_host.specs.Terms.{steps_of, to, under_pointer, unseated, unserved_refresh};
-ghost use Rattle.nit_host.specs.Terms.{word_of};
+ghost use Rattle.nit_host.specs.Terms.{is_button, is_held, is_held_after, is_key, is_mode_key};
+ghost use Rattle.nit_host.specs.Terms.{kill_button, kill_key, kill_mode, opening_of, picture};
+ghost use Rattle.nit_host.specs.Terms.{pixel, pixel_count, projection, replies_from, replies_to};
+ghost use Rattle.nit_host.specs.Terms.{reply_to, routed_of, session, sheet_in, since_opening};
+ghost use Rattle.nit_host.specs.Terms.{source_at, steps_of, to, under_pointer, unseated};
+ghost use Rattle.nit_host.specs.Terms.{unserved_input, unserved_refresh, word_of, xray_key};
+ghost use Rattle.nit_host.specs.Terms.{xray_mode};
 ghost use Rattle.nit_journal.specs.Terms.{AreLive, Call, Delivery, Device, owner_of};
 ghost use Rattle.nit_events.specs.declared.call.Call.TheVariants as call;
 ghost use Rattle.nit_events.specs.declared.device.Device.TheVariants as device;
@@ -21,8 +24,8 @@ ghost use Rattle.nit_events.specs.declared.event.Event.TheVariants as event;
 ghost use Rattle.nit_events.specs.declared.event.Item.TheVariants as item;
 
 use nit_journal::laws::{
-    deliveries_fit, focus_is_the_users, input_goes_where_it_is_meant_along_steps,
-    live_sessions_stay, releases_follow_presses_since_opening, seats_stand_alone,
+    deliveries_fit, input_goes_where_it_is_meant_along_steps, live_sessions_stay,
+    releases_follow_presses_since_opening, seats_stand_alone,
 };
 
 /// Whatever a host is asked, with looks wherever, what it serves are steps, each of the state
@@ -64,8 +67,9 @@ pub fn clients_are_served_alone()
 ///
 /// In the mode Flat, with nothing held down, a key goes to the client that has the focus, and a
 /// button to the one under the pointer; no other is told anything, but for the news of the focus.
-/// While codes are held, all goes to one client, the receiver. Only the user's click on one of its
-/// pixels gives a client the focus. Each item goes to a client that sits.
+/// While codes are held, all goes to one client, the receiver. A mode key goes to nobody: at most
+/// the client that the pointer was on is told that it has left. Each item goes to a client that
+/// sits.
 ///
 /// Of a host that has opened, whatever it was asked since: the receiver got the press of each code
 /// that is held, since it came. In the modes Xray and Kill, whatever the user does next, no client
@@ -82,9 +86,8 @@ pub fn input_goes_where_it_is_meant()
         ≡ news ++ to (under_pointer h.state) (event.Press k)) }
     ensures held { (h : HostModel) (dev : Device) → h.state.input.held ≢ []
         → All (λ d. h.state.input.receiver ≡ Some d.sid) (deliveries_of (routed_of h dev)) }
-    ensures focus { (h : HostModel) (act : Act) (seat : ℕ)
-        → (after_act h act).state.input.focus ≡ Some seat
-        → (h.state.input.focus ≡ Some seat) ⊎ IsClickBy act h.state seat }
+    ensures mode_keys { (h : HostModel) (k : ℕ) → is_mode_key k ≡ true
+        → All (TellsLeave h.state) (deliveries_of (routed_of h (device.Press k))) }
     ensures live { (h : HostModel) (acts : List Act) (dev : Device)
         → AreLive h.state → let now = after_acts h acts in
         All (λ d. IsLive now.state d.sid) (deliveries_of (routed_of now dev)) }
@@ -103,10 +106,96 @@ pub fn input_goes_where_it_is_meant()
 {
     hosts_go_by_steps();
     deliveries_fit();
-    focus_is_the_users();
     live_sessions_stay();
     nit_journal::laws::input_goes_where_it_is_meant();
     input_goes_where_it_is_meant_along_steps();
+}
+
+/// Nothing but the user's click gives a client the focus: with nothing held, a button goes down in
+/// mode Flat or Xray over one of the client's pixels, and the client takes the focus by clicks.
+/// Each such click that is served gives it, and one where no client has the pixel leaves nobody
+/// with it. A client loses it by such a click elsewhere, as it leaves, or as the user locks it out,
+/// and by nothing else.
+pub fn focus_is_the_users()
+    ensures comes { (h : HostModel) (act : Act) (seat : ℕ)
+        → (after_act h act).state.input.focus ≡ Some seat
+        → (h.state.input.focus ≡ Some seat) ⊎ IsClickBy act h.state seat }
+    ensures goes { (h : HostModel) (act : Act) (seat : ℕ)
+        → h.state.input.focus ≡ Some seat
+        → ((after_act h act).state.input.focus ≡ Some seat) ⊎ TakesFocus act h.state seat }
+    ensures clicked { (h : HostModel) (k : ℕ)
+        → unserved_input h (device.Press k) ≡ None → is_button k ≡ true
+        → h.state.input.held ≡ [] → h.state.input.mode ≢ Kill → IsTakenByClicks h.state
+        → (after_act h (Does (device.Press k))).state.input.focus ≡ under_pointer h.state }
+{}
+
+/// Nothing but the user switches the mode: with nothing held, by a mode key, or in mode Kill by the
+/// click that ends it. Each of these that is served does so. A mode key goes to nobody
+/// ([`input_goes_where_it_is_meant`]).
+pub fn modes_are_the_users()
+    ensures others { (h : HostModel) (act : Act)
+        → ((after_act h act).state.input.mode ≡ h.state.input.mode) ⊎ SwitchesMode act h.state }
+    ensures xray_key { (h : HostModel)
+        → unserved_input h (device.Press xray_key) ≡ None → h.state.input.held ≡ []
+        → let now = after_act h (Does (device.Press xray_key)) in
+        now.state.input.mode ≡ xray_mode h.state.input.mode }
+    ensures kill_key { (h : HostModel)
+        → unserved_input h (device.Press kill_key) ≡ None → h.state.input.held ≡ []
+        → let now = after_act h (Does (device.Press kill_key)) in
+        now.state.input.mode ≡ kill_mode h.state.input.mode }
+    ensures kill_click { (h : HostModel)
+        → unserved_input h (device.Press kill_button) ≡ None → h.state.input.held ≡ []
+        → h.state.input.mode ≡ Kill
+        → (after_act h (Does (device.Press kill_button))).state.input.mode ≡ Flat }
+{}
+
+/// A code is held from its press to its release, but a mode key never, whoever comes and goes
+/// meanwhile. So a release that the host does not hand in leaves its code held.
+pub fn codes_are_held_until_released()
+    ensures user { (h : HostModel) (dev : Device) (k : ℕ) → unserved_input h dev ≡ None
+        → is_held (after_act h (Does dev)).state.input k
+        ≡ is_held_after dev k (is_held h.state.input k) }
+    ensures others { (h : HostModel) (act : Act) → ((dev : Device) → act ≢ Does dev)
+        → (after_act h act).state.input.held ≡ h.state.input.held }
+{}
+
+/// Of each host, whatever it was asked since it opened, by [`Host::vacant`](crate::Host::vacant) or
+/// [`Host::seated`](crate::Host::seated): what [`clients_are_served_alone`] and
+/// [`input_goes_where_it_is_meant`] say of one that begins in a state where whoever is known sits,
+/// and the user has done nothing yet.
+pub fn laws_hold_since_opening()
+    ensures alone { (first : HostModel) (acts : List Act) (seat : ℕ)
+        → IsFirst first → seat < length first.state.sessions → let steps = steps_of first acts in
+        replies_to seat (since_opening seat steps)
+        ≡ replies_from (opening_of first.state seat steps)
+        (projection seat (since_opening seat steps)) }
+    ensures pressed { (first : HostModel) (acts : List Act) (seat k : ℕ)
+        (before rest : List Observation)
+        → IsFirst first
+        → projection seat (since_opening seat (steps_of first acts))
+        ≡ before ++ Gets (item.Event (event.Release k)) ∷ rest
+        → IsDown k before }
+    ensures live { (first : HostModel) (acts : List Act) (dev : Device)
+        → IsFirst first → let now = after_acts first acts in
+        All (λ d. IsLive now.state d.sid) (deliveries_of (routed_of now dev)) }
+    ensures known { (first : HostModel) (acts : List Act)
+        → IsFirst first → AreLive (after_acts first acts).state }
+    ensures receiver { (first : HostModel) (acts : List Act) (seat k : ℕ)
+        → IsFirst first → let now = after_acts first acts in
+        now.state.input.receiver ≡ Some seat → is_held now.state.input k ≡ true
+        → IsDown k (projection seat (since_opening seat (steps_of first acts))) }
+    ensures xray { (first : HostModel) (acts : List Act) (dev : Device)
+        → IsFirst first → let now = after_acts first acts in
+        now.state.input.mode ≡ Xray
+        → All (TellsFocus now.state) (deliveries_of (routed_of now dev)) }
+    ensures kill { (first : HostModel) (acts : List Act) (dev : Device)
+        → IsFirst first → let now = after_acts first acts in
+        now.state.input.mode ≡ Kill
+        → All (KillsPointed now.state) (deliveries_of (routed_of now dev)) }
+{
+    clients_are_served_alone();
+    input_goes_where_it_is_meant();
+    live_sessions_stay();
 }
 
 /// What a client has handed in, word by word. A refresh that is served and accepted sets the words

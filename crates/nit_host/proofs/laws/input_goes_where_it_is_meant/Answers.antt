@@ -1,7 +1,7 @@
 use Rattle.std.proofs.Common.{refl, ◌∙◌}
 use Rattle.nit_events.specs.declared.device.Device.TheVariants as device
 use Rattle.nit_host.proofs.Basics.{Device}
-use Rattle.nit_host.proofs.Lemmas.{HostModel, after_acts, by_act, routed_of, steps_of}
+use Rattle.nit_host.proofs.Lemmas.{HostModel, after_acts, routed_of, steps_of}
 use Rattle.nit_host.proofs.laws.input_goes_where_it_is_meant.Goals as goal
 
 pub returns : goal.returns
@@ -19,7 +19,7 @@ returns c =
             fit h (device.Press k) ∙ goes.2,
           );
       held = λ h dev some. rw (fit h dev) (meant.held h.state dev some);
-      focus = λ h act seat is. by_act (assumption c.focus_is_the_users.ensures) h act seat is;
+      mode_keys = λ h k key. rw (fit h (device.Press k)) (meant.mode_keys h.state k key);
       live = λ h acts dev live.
           let lives = c.live_sessions_stay.ensures.steps h.state (steps_of h acts) live (go.steps h acts) in
           rw (fit (after_acts h acts) dev)
