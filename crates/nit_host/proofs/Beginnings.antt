@@ -127,7 +127,7 @@ first_now s config d sheets is left glasses blank = rw (is, glasses, left, words
 
 -- ---- the first of so many numbers
 
-in_order : (n k d : ℕ) → k < n → get_or (range_with_len 0 n) k d ≡ k
+pub in_order : (n k d : ℕ) → k < n → get_or (range_with_len 0 n) k d ≡ k
 in_order n k d inside = get_or-range_with_len 0 n k d inside ∙ omega arith
 
 -- what is found is the first number that passes

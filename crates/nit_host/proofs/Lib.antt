@@ -7,5 +7,6 @@ mod Frames
 mod CallChanges
 mod UserMoves
 mod ActMoves
+mod SeatsFound
 pub mod Basics
 pub mod Lemmas

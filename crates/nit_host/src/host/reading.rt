@@ -1,9 +1,9 @@
 //! What can be read of a host.
 
-ghost use Rattle.std.specs.Prelude.{◌≡◌, ◌<◌, ◌≤◌, ◌*◌, false, find, length, IfSome, IsTrue, not};
-ghost use Rattle.std.specs.Prelude.{None, Some};
+ghost use Rattle.std.specs.Prelude.{◌≡◌, ◌≢◌, ◌<◌, ◌≤◌, ◌*◌, false, find, length, IfSome, IsTrue};
+ghost use Rattle.std.specs.Prelude.{not, None, Some, ℕ};
 ghost use Rattle.nit_host.specs.Terms.{IsFreeLabel, has_label, is_taken, member, seat_for};
-ghost use Rattle.nit_host.specs.Terms.{seats_of, session, sheet_in};
+ghost use Rattle.nit_host.specs.Terms.{seats_of, session, sheet_in, unseated};
 
 use crate::host::Host;
 use nit_events::{Mode, Status};
@@ -116,8 +116,19 @@ impl Host {
 
     /// The seat for a client of this label: the free seat whose last client had it, else, where no
     /// other seat has it, the first free one. `None` where a client that sits has it, or where no
-    /// seat is free.
+    /// seat is free. [`Host::seat`] on the answer is done, and where there is none no seat takes a
+    /// client of this label.
     pub fn seat_for(&self, label: &Label) -> Option<u32>
+        ensures seat { result ≡ seat_for self.now.state label.now }
+        ensures takes { IfSome result (λ seat. unseated self.now seat label.now ≡ None) }
+        ensures none { result ≡ None → (seat : ℕ) → unseated self.now seat label.now ≢ None }
+    {
+        self.facts();
+        self.sought(label)
+    }
+
+    /// The free seat that has this label, or the first free one.
+    fn sought(&self, label: &Label) -> Option<u32>
         ensures { result ≡ seat_for self.now.state label.now }
     {
         match self.labelled(label) {
