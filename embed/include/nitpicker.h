@@ -16,18 +16,32 @@
  *      never copied; between two calls it may be moved.
  *   2. A pointer is not null, also where its count is 0, and is aligned for what it points to.
  *      Behind it lie as many words or bytes as the count says, and those that are read are set.
- *      While a call runs no other thread writes what it reads, nor reads or writes what it writes
- *      to (`server`, `out`), and that overlaps nothing else that the call gets.
+ *      While a call runs no other thread and no other process writes what it reads, nor reads or
+ *      writes what it writes to (`server`, `out`), and that overlaps nothing else that the call
+ *      gets. So memory that a client shares is copied first.
  *   3. All calls for one server come from the thread that opened it, and never from a signal
  *      handler or from the child of a fork. Several servers may each have a thread of their own,
  *      where malloc, realloc and free may be called from several threads.
  *   4. malloc, realloc and free are of one allocator, which aligns a block to each power of two
- *      up to 16 that divides its size, as each C library's does.
- *   5. The header and the archive are of one version, and the machine is an x86-64 one.
- *   6. The words of nit_look are as the last look left them; before the first one they may be any.
- *   7. While nit_state says NIT_MODE_KILL no client's call is served, and no client sits down. So
- *      what the user points at stays where it is until the click.
- * Where 6 or 7 is not kept the user sees what is not so, and nothing else goes wrong.
+ *      up to 16 that divides its size, as each C library's does. They return, and make no call
+ *      of this header.
+ *   5. A call has stack enough. Nothing bounds it by proof; by measure (embed/tests/stack.c) an
+ *      opening needs less than 64 KB, and any other call less than 16 KB.
+ *   6. The header and the archive are of one version, and the machine is an x86-64 one.
+ *   7. The words of nit_look are as the last look left them; before the first one they may be any.
+ *   8. While nit_state says NIT_MODE_KILL no call of a client but nit_take is served, and no client
+ *      sits down. So what the user points at stays where it is until the click.
+ *   9. What speaks for a client calls for that client's seat alone. From nit_leave and NIT_KILL on
+ *      it calls for none, and what it still has under way is dropped: the next client of the seat
+ *      has its number, and its views count from 1 again.
+ *  10. Each press has its release. The release of a key or a button that the host has lost sight of
+ *      (its window lost the keyboard, a device went) is made up; that of a code which is not held
+ *      does nothing, so one of each code from 0 to 767 lets go of all.
+ * Where one of 1 to 6 is not kept, anything may happen. Where one of the others is not, each call
+ * does what it says, but: without 7 the words are not what the screen shows; without 8 the click
+ * may lock out another client than the user meant; without 9 a client calls as the next one of its
+ * seat, and is told what is that one's; without 10 all keys, clicks and motions go on to whoever
+ * got the press, the focus stays, and the mode keys do nothing.
  */
 #ifndef NITPICKER_H
 #define NITPICKER_H
@@ -249,23 +263,25 @@ uint32_t nit_close(struct nit_server *server);
 uint32_t nit_seat(struct nit_server *server, uint32_t seat, const char *label, size_t length);
 
 /* The seat that takes a new client of this label: the free one that had the label last, else the
- * first free one, whatever its layer, donation and clicks are. NIT_NONE where no seat is free,
- * where a seat that is taken has the label, where it is no label, and where there is no server. So
- * nit_seat on the answer is done. */
+ * first free one, whatever its layer, donation and clicks are. So nit_seat on the answer is done.
+ * NIT_NONE where no seat takes it: no seat is free, a seat that is taken has the label, it is no
+ * label, or there is no server. A client that the user has locked out gets its seat again so, where
+ * the host lets it. */
 uint32_t nit_seat_for(struct nit_server *server, const char *label, size_t length);
 
 /* ---- Calls of a client
  *
- * The client of the seat `seat` asks for this. Where one of NIT_NO_SERVER, NIT_NO_SEAT, what stands
- * at the call, and NIT_WORN_OUT applies, the first of them is answered (but NIT_BAD_TEXT only
- * behind NIT_WORN_OUT), and its session is not asked. Else it is a step, and the answer is the
- * reply of docs/RULES.md; for a refusal the first that applies of NIT_SESSION_CLOSED or
- * NIT_SESSION_KILLED, NIT_NO_SUCH_VIEW, NIT_BAD_RECT, NIT_BAD_SIZE, NIT_BAD_TITLE,
- * NIT_TOO_MANY_VIEWS, NIT_OUT_OF_QUOTA, NIT_NO_RESERVE. Any number may be handed in. */
+ * The client of the seat `seat` asks for this. Where one of these applies, the first of them is
+ * answered, and its session is not asked: NIT_NO_SERVER, NIT_NO_SEAT, NIT_HANDLES_USED_UP (of
+ * nit_view), NIT_SHORT_WORDS (of nit_refresh), NIT_WORN_OUT, NIT_BAD_TEXT (of nit_title). Else it
+ * is a step, and the answer is the reply of docs/RULES.md; for a refusal the first that applies of
+ * NIT_SESSION_CLOSED or NIT_SESSION_KILLED, NIT_NO_SUCH_VIEW, NIT_BAD_RECT, NIT_BAD_SIZE,
+ * NIT_BAD_TITLE, NIT_TOO_MANY_VIEWS, NIT_OUT_OF_QUOTA, NIT_NO_RESERVE. Any number may be handed
+ * in. */
 
 /* The client's buffer has this width and height, in words, each 1..4096. A word stays by its
  * index, which is row * w + column, whatever w was before, and is 0 until it is handed in. So a
- * client refreshes all of its buffer next. */
+ * client refreshes all of its buffer next. (The line `buffer` of a script sets its words to 0.) */
 struct nit_reply nit_buffer(struct nit_server *server, uint32_t seat, uint32_t w, uint32_t h);
 
 /* A new view, in front of its layer, with the rectangle (0, 0, 0, 0). Answers NIT_HANDLE, or
@@ -343,7 +359,8 @@ struct nit_routed nit_wheel(struct nit_server *server, int32_t turn);
  * with what the screen shows, and answers the least rectangle outside of which no word changed.
  *
  * The words have to be as the last look left them; before the first look they may be any. Then they
- * are what the screen shows, and the rectangle has just what changed since. Of other words only
+ * are what the screen shows, and the rectangle has just what changed since. That of the first look
+ * has what was not so by chance, and may be empty: show all words after it. Of other words only
  * those in the rectangle are surely so, for what cannot have changed is not looked at: a host that
  * shows its frame in two places copies it there. A look at a wrong number of words is none. */
 struct nit_rect nit_look(struct nit_server *server, uint32_t *out, size_t count);

@@ -327,6 +327,27 @@ static void entries(void)
     close_plain(&server);
 }
 
+/* The longest lines that the format has; docs/FORMATS.md. */
+static void longest_entries(void)
+{
+    struct nit_server server = NIT_CLOSED;
+    char text[40];
+    memset(text, '~', sizeof text);
+    open_plain(&server, 8, 8, 16, 256);
+    CHECK(nit_seat(&server, 15, TEXT("a")) == NIT_DONE);
+    REPLY(nit_place(&server, 15, UINT32_MAX, INT32_MIN, INT32_MIN, UINT32_MAX, UINT32_MAX),
+          .kind = NIT_NO_SUCH_VIEW, .handle = UINT32_MAX);
+    static const char longest[] = "call 15 no-such-view 4294967295 < place 4294967295 -2147483648 "
+                                  "-2147483648 4294967295 4294967295\n";
+    CHECK(sizeof longest - 1 < NIT_LINE);
+    entry_is(&server, longest);
+    REPLY(nit_title(&server, 15, UINT32_MAX, text, sizeof text), .kind = NIT_NO_SUCH_VIEW,
+          .handle = UINT32_MAX);
+    entry_is(&server, "call 15 no-such-view 4294967295 < title 4294967295 "
+             "=~~~~~~~~~~~~~~~~~~~~~~~~~~~~~~~~~~~~~~~~\n");
+    close_plain(&server);
+}
+
 int main(void)
 {
     handles_that_are_none();
@@ -338,8 +359,10 @@ int main(void)
     labels_of_free_seats();
     seats();
     entries();
+    longest_entries();
     calls_answer();
     screen_answers();
+    refreshes_read();
     input_answers();
     puts("answers: each call and each refusal is as the rules say");
     return 0;

@@ -10,6 +10,9 @@ void calls_answer(void);
 /* What the screen shows: answers_screen.c. */
 void screen_answers(void);
 
+/* Which words a refresh reads: answers_reads.c. */
+void refreshes_read(void);
+
 /* Where input goes: answers_input.c. */
 void input_answers(void);
 

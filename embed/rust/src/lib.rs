@@ -36,9 +36,11 @@
 //! ```
 //!
 //! It cannot be copied either, and a seat borrows it as long as it is used. So of the duties that
-//! the header lists three are left to a host: the words of [`Server::look`] are as the last look
-//! left them, no client is served or seated while the mode is [`Mode::Kill`], and the archive that
-//! is linked is of this version.
+//! the header lists these are left to a host: the thread has stack enough, and the archive that is
+//! linked is of this version; the words of [`Server::look`] are as the last look left them; while
+//! the mode is [`Mode::Kill`] no call of a client but [`Seat::take`] is served, and none sits down;
+//! what speaks for a client calls for its own seat alone, and for none once that client has left or
+//! was locked out; and each press has its release.
 //!
 //! ```compile_fail
 //! fn copy<T: Clone>() {}
@@ -267,9 +269,9 @@ impl Server {
 
     /// Brings the words, one for each pixel, row by row from the top, up to date with what the
     /// screen shows. They have to be as the last look left them; before the first look they may be
-    /// any. The least part outside of which no word changed is answered; none where none did. Of
-    /// words that are not as the last look left them, only those in the part are surely right, and
-    /// nothing tests that they are.
+    /// any, and are all to be shown after it. The least part outside of which no word changed is
+    /// answered; none where none did. Of words that are not as the last look left them, only those
+    /// in the part are surely right, and nothing tests that they are.
     ///
     /// # Errors
     /// [`Refusal::WrongFrame`].
