@@ -17,7 +17,7 @@ CASES = """small | tell red 2 0 | 0 | red | 2
 small | tell 'no run' 0 9 | 9 | no run | 0
 small | read a.nit | 0 | one | 0
 small | read a.nit | 0 | two | 0 | s/one/two/ a.nit
-small | read a.nit | 0 | one | 0
+small | read a.nit | 0 | one | 0 | | grep one a.nit
 """
 
 
@@ -167,7 +167,8 @@ class Archives(Case):
     def test_what_is_not_as_it_should_be_is_found(self):
         cases = self.unpacked / "examples" / "cases.txt"
         for old, new in (("0 | red | 2", "0 | blue | 2"), ("0 | red | 2", "0 | red | 3"),
-                         ("9 | no run", "8 | no run"), ("0 | two", "0 | one")):
+                         ("9 | no run", "8 | no run"), ("0 | two", "0 | one"),
+                         ("grep one", "grep two")):
             cases.write_text(CASES.replace(old, new))
             (self.unpacked / "SHA256SUMS").unlink(missing_ok=True)
             ended = self.try_examples()

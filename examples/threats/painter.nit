@@ -1,0 +1,67 @@
+buffer 96 57
+fill 0 0 40 24 C8E0C8
+fill 0 0 40 8 307030
+view
+place 1 0 7 40 24
+phase
+phase
+fill 40 0 56 57 000020
+fill 0 24 40 33 000020
+fill 46 11 48 38 D8D8D0
+fill 46 11 48 16 304878
+fill 52 33 36 10 FFFFFF
+place 1 -1 6 98 60
+offset 1 1 1
+front 1
+phase
+phase
+take
+take
+take
+take
+take
+fill 0 0 40 24 808080
+fill 1 1 38 22 647064
+fill 1 1 38 7 183818
+fill 46 11 48 38 FFFFFF
+fill 47 12 46 36 D8D8D0
+fill 47 12 46 15 304878
+fill 52 33 36 10 FFFFFF
+fill 46 11 45 7 000000
+fill 47 12 1 5 FFFFFF
+fill 48 12 1 1 FFFFFF
+fill 48 14 1 1 FFFFFF
+fill 48 16 1 1 FFFFFF
+fill 49 13 1 1 FFFFFF
+fill 49 15 1 1 FFFFFF
+fill 51 13 1 4 FFFFFF
+fill 53 13 1 4 FFFFFF
+fill 52 12 1 1 FFFFFF
+fill 52 14 1 1 FFFFFF
+fill 55 12 1 5 FFFFFF
+fill 57 13 1 4 FFFFFF
+fill 56 12 1 1 FFFFFF
+fill 59 12 1 5 FFFFFF
+fill 61 12 1 2 FFFFFF
+fill 61 15 1 2 FFFFFF
+fill 60 14 1 1 FFFFFF
+fill 64 13 1 1 FFFFFF
+fill 64 15 1 1 FFFFFF
+fill 67 12 1 5 FFFFFF
+fill 68 16 2 1 FFFFFF
+fill 71 13 1 3 FFFFFF
+fill 73 13 1 3 FFFFFF
+fill 72 12 1 1 FFFFFF
+fill 72 16 1 1 FFFFFF
+fill 75 13 1 3 FFFFFF
+fill 77 14 1 3 FFFFFF
+fill 76 12 2 1 FFFFFF
+fill 76 16 1 1 FFFFFF
+fill 84 12 1 5 FFFFFF
+fill 83 12 3 1 FFFFFF
+fill 83 16 3 1 FFFFFF
+fill 87 12 1 5 FFFFFF
+fill 89 13 1 4 FFFFFF
+fill 88 12 1 1 FFFFFF
+refresh 0 0 96 57
+phase
