@@ -3,9 +3,10 @@
 A pixel that a call of its owner's loaded last has the very word that the owner's script had left
 there at that call. Each other pixel of a buffer has a word that the script leaves at that place
 after a number of its lines: just as many of these are calls as its client had made when the pixel
-was loaded, and none is of a later phase than the entry for which it was loaded. It has the same
-word in all shots until an entry makes it dirty: one word has to agree with all that these shots
-show there.
+was loaded, and just as many are `phase` as phases were over. So the script is within the phase of
+the entry for which the pixel was loaded: a word of a phase that is over stands there only if that
+phase left it so. The pixel has the same word in all shots until an entry makes it dirty: one word
+has to agree with all that these shots show there.
 """
 from bisect import bisect_left, bisect_right
 from functools import cached_property
@@ -45,8 +46,8 @@ class Stages:
 
     def words_at(self, place, made, phase):
         """The words that stand there after numbers of lines of which just so many are calls, and
-        none is of a later phase."""
-        least = bisect_left(self.calls, made)
+        just so many `phase`: the script is within this phase."""
+        least = max(bisect_left(self.calls, made), bisect_left(self.phases, phase))
         behind = min(bisect_right(self.calls, made), bisect_right(self.phases, phase))
         if behind <= least:
             return set()

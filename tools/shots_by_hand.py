@@ -18,6 +18,10 @@ PHASED = [*FIRST[:-1], "phase", FIRST[-1]]
 # Here the second buffer is accepted, with white in the left half before it.
 CLEARED = [*FIRST[:5], "fill 0 0 2 1 FFFFFF", "buffer 4 1", "fill 2 0 9 1 0000FF", FIRST[5]]
 
+# Here the first phase ends with white, and the second covers it with green and blue. The third has
+# no line.
+COVERED = [*FIRST[:5], "fill 0 0 4 1 FFFFFF", "phase", FIRST[5], FIRST[-1], "phase"]
+
 # The first client's `place` loads all four pixels, red by then. The second one's `destroy` loads
 # the two in the middle, whatever the first one has drawn by then: in front of its next call or
 # behind that.
@@ -47,6 +51,16 @@ SHOTS_BEFORE_CLEARED = {"RRRR": None, "RWRR": None, "RKRR": cannot(1, "K"), "RWK
 SHOTS_OF_CLEARED = {"KKKK": None, "KKBK": None, "KGBK": None,
                     "KWKK": cannot(1, "W"), "KKRK": cannot(2, "R")}
 
+# Red and white may be there in the first phase. White may still be there in the second, whose
+# strokes may not have been done yet. In the third it is over.
+SHOTS_COVERED = [
+    {"RWWR": None, "RRWR": None, "RGWR": cannot(1, "G"), "RWBR": cannot(2, "B")},
+    {"RWWR": None, "RGWR": None, "RWBR": None, "RGBR": None, "RRWR": cannot(1, "R"),
+     "RWRR": cannot(2, "R"), "RKWR": cannot(1, "K"), "RBWR": cannot(1, "B")},
+    {"RGBR": None, "RWBR": cannot(1, "W"), "RGWR": cannot(2, "W"), "RRBR": cannot(1, "R"),
+     "RGRR": cannot(2, "R"), "RKBR": cannot(1, "K")},
+]
+
 # Two shots. Where nothing between them loads the pixel again it has one word for both.
 EARLIER = " after what earlier shots show"
 PAIRS = {"RGRR RGRR": None, "RGBR RGBR": None, "RGRR RGGR": cannot(2, "G", 2),
@@ -75,6 +89,11 @@ def runs_of_one_shot():
     yield [PHASED, early], ["shot", "phase"], [*BEHIND, "shot 1"], SHOTS_OF_FIRST_PHASE
     yield [PHASED, early], ["phase", "shot"], [*BEHIND, "shot 1"], SHOTS_OF_FIRST_PHASE
     yield [PHASED, late], ["phase", "shot"], [*BEHIND, "shot 1"], SHOTS_OF_SECOND_PHASE
+    for phase, shots in enumerate(SHOTS_COVERED):
+        before, behind = ["phase"] * phase, ["phase"] * (2 - phase)
+        second = [*SECOND[:-1], *before, SECOND[-1], *behind]
+        for user in ([*before, "shot", *behind], ["phase", "phase", "shot"]):
+            yield [COVERED, second], user, [*IN_FRONT, "shot 1"], shots
     yield [CLEARED, SECOND], ["shot"], [*IN_FRONT, "shot 1", ACCEPTED], SHOTS_BEFORE_CLEARED
     yield [CLEARED, SECOND], ["shot"], [*OPENING, ACCEPTED, DESTROYED, "shot 1"], SHOTS_OF_CLEARED
 
