@@ -144,11 +144,17 @@ def entry_of_device(line, told):
     return f"input {line}" + "".join(f" > {number} {item}" for number, item in told)
 
 
-def outputs_by_turns(setup):
+def outputs_by_turns(setup, scene=None):
     """The files of a run by turns, in the order in which they are put."""
-    scene, journal, puts = Scene(setup.config), [], {}
+    return outputs_in(setup, model.rounds(setup.clients + [setup.user]), scene)
+
+
+def outputs_in(setup, order, scene=None):
+    """The files of a run in which the actors do their lines in this order, as pairs of an actor
+    and its line. A large screen takes long without the scene of tools/page/pixels.py."""
+    scene, journal, puts = scene or Scene(setup.config), [], {}
     events = [[] for _ in setup.clients]
-    for who, line in model.rounds(setup.clients + [setup.user]):
+    for who, line in order:
         if who < len(setup.clients):
             scene.drawings[who].do(line)
             if is_call(line):

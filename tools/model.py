@@ -43,6 +43,7 @@ def line_pattern(forms):
 
 CLIENT_LINE = line_pattern(CALLS | STROKES | {"phase": ""})
 INPUT_LINE = line_pattern(DEVICES | {"shot": "", "phase": ""})
+CLIP_LINE = line_pattern({"copy": "=[ -~]{0,40}", "paste": "", "phase": ""})
 
 
 def is_client_line(line):
@@ -56,6 +57,10 @@ def is_input_line(line):
     values = [int(number) for number in numbers]
     bounds = {"press": (0, 767), "release": (0, 767), "motion": (0, 65535), "wheel": (-127, 127)}
     return word not in bounds or all(bounds[word][0] <= n <= bounds[word][1] for n in values)
+
+
+def is_clip_line(line):
+    return CLIP_LINE.match(line) is not None
 
 
 class BadScript(Exception):

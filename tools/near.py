@@ -8,12 +8,21 @@ the entry for which the pixel was loaded: a word of a phase that is over stands 
 phase left it so. The pixel has the same word in all shots until an entry makes it dirty: one word
 has to agree with all that these shots show there.
 """
+from array import array
 from bisect import bisect_left, bisect_right
+from collections import namedtuple
 from functools import cached_property
 
 from expected import is_call
 from model import Drawing
-from screen import Scene, header
+from page.pixels import Scene
+from pictures import WrongPixel
+from screen import header
+
+# A load of words that are not told: how many calls the client had made, in which phase, where the
+# buffer's first place lies on the screen, how wide the buffer is, and for which call or event of the
+# run it was.
+Load = namedtuple("Load", "who made phase left top across entry")
 
 
 class Changes:
@@ -56,17 +65,19 @@ class Stages:
 
 
 class SceneBeside(Scene):
-    """The scene along the journal of a run on threads. A pixel has no word where the journal and
-    the scripts do not tell it, and has it again when a call of its owner's loads it. Of a pixel
-    without a word are kept how many calls its client had made when it was loaded and in which
-    phase, as the actors tell it, and the words that agree with all shots since then."""
+    """The scene along the journal of a run on threads. Where the journal and the scripts do not
+    tell the word of a pixel, the load is kept for which it was made dirty last, and the words that
+    agree with all shots since then. A call of the owner's tells it again. One that does not load
+    knows no pixels."""
 
-    def __init__(self, config, scripts, actors):
-        super().__init__(config)
+    def __init__(self, config, scripts, actors, loads=True):
+        super().__init__(config, loads)
         self.donations = [client["donation"] for client in config["client"]]
         self.scripts, self.left = scripts, [iter(lines) for lines in scripts]
-        self.actors, self.made, self.loaded_at = actors, [0 for _ in scripts], {}
-        self.told, self.agreeing = [], {}
+        self.actors, self.made, self.told = actors, [0 for _ in scripts], []
+        self.entry, self.loaded, self.numbers = 0, [None], {}
+        self.load_at = array("I", bytes(4 * self.width * self.height))
+        self.agreeing = {}
 
     @cached_property
     def stages(self):
@@ -75,7 +86,7 @@ class SceneBeside(Scene):
 
     def draw(self, who):
         """Does the lines of a client's script up to its next call, or all that are left."""
-        for line in self.left[who]:
+        for line in self.left[who] if self.loads else ():
             self.drawings[who].do(line)
             if is_call(line):
                 break
@@ -83,10 +94,15 @@ class SceneBeside(Scene):
     def call(self, who, line):
         self.draw(who)
         self.made[who] += 1
+        self.entry += 1
         self.told = [self.sessions[who]]
         reply = super().call(who, line)
         self.told = []
         return reply
+
+    def device(self, line):
+        self.entry += 1
+        return super().device(line)
 
     def finish(self):
         """The last picture loads what the whole scripts leave. All calls are done by then."""
@@ -95,50 +111,68 @@ class SceneBeside(Scene):
         self.told = self.sessions
         super().finish()
 
-    def word(self, view, column, row):
-        self.agreeing.pop((column, row), None)
-        if view and view.session not in self.told and self.place_of(view, column, row):
-            made = self.made[self.sessions.index(view.session)]
-            self.loaded_at[column, row] = made, self.actors.phase
-            return None
-        return super().word(view, column, row)
+    def load_part(self, view, left, right, top, bottom):
+        super().load_part(view, left, right, top, bottom)
+        self.note((left, right), (top, bottom), 0)
+        if view is None or view.session in self.told:
+            return
+        x, y = view.rect[0] + view.offset[0], view.rect[1] + view.offset[1]
+        across, down = view.session.size
+        columns = max(left, x), min(right, x + across)
+        rows = max(top, y), min(bottom, y + down)
+        if columns[0] < columns[1]:
+            who = self.sessions.index(view.session)
+            load = Load(who, self.made[who], self.actors.phase, x, y, across, self.entry)
+            if load not in self.numbers:
+                self.numbers[load] = len(self.loaded)
+                self.loaded.append(load)
+            self.note(columns, rows, self.numbers[load])
 
-    def may_hold(self, view, column, row):
+    def note(self, columns, rows, number):
+        """Keeps the number of their load for the pixels of a rectangle, or 0 where it is told."""
+        part = array("I", [number]) * (columns[1] - columns[0])
+        for row in range(*rows):
+            start = row * self.width + columns[0]
+            self.load_at[start : start + len(part)] = part
+
+    def may_hold(self, column, row):
         """The words of which a pixel holds one, whatever the shots show."""
-        word = self.raw[row][column]
-        if word is not None:
-            return {word}
-        x, y = self.place_of(view, column, row)
-        stages = self.stages[self.sessions.index(view.session)]
-        place = y * view.session.size[0] + x
-        return stages.words_at(place, *self.loaded_at[column, row])
+        at = row * self.width + column
+        load = self.loaded[self.load_at[at]]
+        if load is None:
+            return {int.from_bytes(self.raw[3 * at : 3 * at + 3], "big")}
+        place = (row - load.top) * load.across + column - load.left
+        return self.stages[load.who].words_at(place, load.made, load.phase)
 
     def fault_of_shot(self, picture):
         """What is wrong with a picture that is taken here, if something is."""
-        start, size = header(self.width, self.height), 3 * self.width * self.height
-        if picture[: len(start)] != start or len(picture) != len(start) + size:
-            return "it is no picture of this screen"
+        start, right = len(header(self.width, self.height)), self.frame()
+        if picture[:start] != right[:start] or len(picture) != len(right):
+            return f"it is no picture of {self.width} by {self.height} pixels"
         owners, labels = self.what_stands()
-        for row in range(self.height):
-            for column in range(self.width):
-                view, at = owners[row][column], len(start) + 3 * (row * self.width + column)
-                word = int.from_bytes(picture[at : at + 3], "big")
-                raws = {raw for raw in self.may_hold(view, column, row)
-                        if self.pixel(view, labels, column, row, raw) == word}
-                fault = self.fault_of_pixel(column, row, raws, word)
+        for at in range(self.width * self.height):
+            here = start + 3 * at
+            if self.load_at[at] or picture[here : here + 3] != right[here : here + 3]:
+                row, column = divmod(at, self.width)
+                word = int.from_bytes(picture[here : here + 3], "big")
+                shown = {raw: self.pixel(owners[row][column], labels, column, row, raw)
+                         for raw in self.may_hold(column, row)}
+                fault = self.fault_of_pixel(column, row, shown, word)
                 if fault:
                     return fault
         return None
 
-    def fault_of_pixel(self, column, row, raws, word):
-        """What is wrong with this word at a pixel of a shot, which shows it where the pixel holds
-        one of these. Those that agree with all shots are kept."""
-        if not raws:
-            return f"the pixel at ({column}, {row}) cannot be {word:06X}"
-        if self.raw[row][column] is None:
-            raws = raws & self.agreeing.get((column, row), raws)
-            self.agreeing[column, row] = raws
-        if not raws:
-            return (f"the pixel at ({column}, {row}) cannot be {word:06X} "
-                    "after what earlier shots show")
+    def fault_of_pixel(self, column, row, shown, word):
+        """What is wrong with this word at a pixel of a shot, where the pixel may hold any of some
+        words, each with what it shows. Those that agree with all shots are kept."""
+        at = row * self.width + column
+        number = self.load_at[at]
+        since, agreeing = self.agreeing.get(at, (0, None))
+        if not number or since != number:
+            agreeing = set(shown)
+        kept = {raw for raw in agreeing if shown[raw] == word}
+        if not kept:
+            is_later = word in shown.values()
+            return WrongPixel(column, row, word, {shown[raw] for raw in agreeing}, is_later)
+        self.agreeing[at] = number, kept
         return None

@@ -1,4 +1,5 @@
 """Runs on threads whose shots are worked out by hand, right and wrong, for tools/selftest."""
+from along import Fault, check_journal
 from expected import Setup, text_of
 from screen import header
 
@@ -32,45 +33,51 @@ REFUSED, ACCEPTED = "call 0 out-of-quota 640 256 < buffer 2 40", "call 0 done < 
 IN_FRONT, BEHIND = [*OPENING, DESTROYED], [*OPENING, REFUSED, DESTROYED]
 
 
-def cannot(column, letter, shot=1, more=""):
-    return f"shot {shot}: the pixel at ({column}, 0) cannot be {COLOURS[letter]}{more}"
+def cannot(column, letter, right, shot=1, more=""):
+    """What is said of a pixel that shows the colour of a letter and is to show one of others."""
+    words = " or ".join(sorted(COLOURS[other] for other in right))
+    return f"shot {shot}: the pixel at ({column}, 0) cannot be {COLOURS[letter]}{more}, but {words}"
 
 
 # Each of these but `RYBR` has nothing but black and colours of the first client's script. In the
 # left half red is from before its last call; in front of that blue is from behind its next one.
 SHOTS_BEHIND = {
-    "RGBR": None, "RGRR": None, "RRBR": cannot(1, "R"), "RKBR": cannot(1, "K"),
-    "RGKR": cannot(2, "K"), "RBBR": cannot(1, "B"), "RGGR": cannot(2, "G"), "RWBR": cannot(1, "W"),
-    "RGWR": cannot(2, "W"), "RYBR": cannot(1, "Y"), "GGBR": cannot(0, "G"), "RGBK": cannot(3, "K"),
-    "RGB": "shot 1: it is no picture of this screen",
+    "RGBR": None, "RGRR": None, "RRBR": cannot(1, "R", "G"), "RKBR": cannot(1, "K", "G"),
+    "RGKR": cannot(2, "K", "RB"), "RBBR": cannot(1, "B", "G"), "RGGR": cannot(2, "G", "RB"),
+    "RWBR": cannot(1, "W", "G"), "RGWR": cannot(2, "W", "RB"), "RYBR": cannot(1, "Y", "G"),
+    "GGBR": cannot(0, "G", "R"), "RGBK": cannot(3, "K", "R"),
+    "RGB": "shot 1: it is no picture of 4 by 1 pixels",
 }
-SHOTS_IN_FRONT = {"RRRR": None, "RGRR": None, "RGBR": cannot(2, "B"), "RKRR": cannot(1, "K")}
-SHOTS_OF_FIRST_PHASE = {"RGRR": None, "RGBR": cannot(2, "B"), "RRRR": cannot(1, "R")}
-SHOTS_OF_SECOND_PHASE = {"RGRR": None, "RGBR": None, "RRRR": cannot(1, "R")}
-SHOTS_BEFORE_CLEARED = {"RRRR": None, "RWRR": None, "RKRR": cannot(1, "K"), "RWKR": cannot(2, "K")}
+SHOTS_IN_FRONT = {"RRRR": None, "RGRR": None, "RGBR": cannot(2, "B", "R"),
+                  "RKRR": cannot(1, "K", "RG")}
+SHOTS_OF_FIRST_PHASE = {"RGRR": None, "RGBR": cannot(2, "B", "R"), "RRRR": cannot(1, "R", "G")}
+SHOTS_OF_SECOND_PHASE = {"RGRR": None, "RGBR": None, "RRRR": cannot(1, "R", "G")}
+SHOTS_BEFORE_CLEARED = {"RRRR": None, "RWRR": None, "RKRR": cannot(1, "K", "RW"),
+                        "RWKR": cannot(2, "K", "R")}
 SHOTS_OF_CLEARED = {"KKKK": None, "KKBK": None, "KGBK": None,
-                    "KWKK": cannot(1, "W"), "KKRK": cannot(2, "R")}
+                    "KWKK": cannot(1, "W", "KG"), "KKRK": cannot(2, "R", "KB")}
 
 # Red and white may be there in the first phase. White may still be there in the second, whose
 # strokes may not have been done yet. In the third it is over.
 SHOTS_COVERED = [
-    {"RWWR": None, "RRWR": None, "RGWR": cannot(1, "G"), "RWBR": cannot(2, "B")},
-    {"RWWR": None, "RGWR": None, "RWBR": None, "RGBR": None, "RRWR": cannot(1, "R"),
-     "RWRR": cannot(2, "R"), "RKWR": cannot(1, "K"), "RBWR": cannot(1, "B")},
-    {"RGBR": None, "RWBR": cannot(1, "W"), "RGWR": cannot(2, "W"), "RRBR": cannot(1, "R"),
-     "RGRR": cannot(2, "R"), "RKBR": cannot(1, "K")},
+    {"RWWR": None, "RRWR": None, "RGWR": cannot(1, "G", "RW"), "RWBR": cannot(2, "B", "RW")},
+    {"RWWR": None, "RGWR": None, "RWBR": None, "RGBR": None, "RRWR": cannot(1, "R", "WG"),
+     "RWRR": cannot(2, "R", "WB"), "RKWR": cannot(1, "K", "WG"), "RBWR": cannot(1, "B", "WG")},
+    {"RGBR": None, "RWBR": cannot(1, "W", "G"), "RGWR": cannot(2, "W", "B"),
+     "RRBR": cannot(1, "R", "G"), "RGRR": cannot(2, "R", "B"), "RKBR": cannot(1, "K", "G")},
 ]
 
 # Two shots. Where nothing between them loads the pixel again it has one word for both.
 EARLIER = " after what earlier shots show"
-PAIRS = {"RGRR RGRR": None, "RGBR RGBR": None, "RGRR RGGR": cannot(2, "G", 2),
-         "RGRR RGBR": cannot(2, "B", 2, EARLIER), "RGBR RGRR": cannot(2, "R", 2, EARLIER)}
-PAIRS_ANEW = PAIRS | {"RGRR RGBR": None, "RGBR RGRR": None}
-PAIRS_OF_PHASES = PAIRS | {"RGBR RGBR": cannot(2, "B"), "RGBR RGRR": cannot(2, "B"),
-                           "RGRR RGBR": cannot(2, "B", 2)}
-PAIRS_OF_PHASES_ANEW = PAIRS_OF_PHASES | {"RGRR RGBR": None}
-PAIRS_BESIDE_A_CALL = {"RGRR RGRR": None, "RGRR RGBR": None, "RGRR RGKR": cannot(2, "K", 2),
-                       "RRRR RRBR": None, "RRRR RGBR": cannot(1, "G", 2, EARLIER)}
+PAIRS = {"RGRR RGRR": None, "RGBR RGBR": None, "RGRR RGGR": cannot(2, "G", "R", 2),
+         "RGRR RGBR": cannot(2, "B", "R", 2, EARLIER), "RGBR RGRR": cannot(2, "R", "B", 2, EARLIER)}
+PAIRS_ANEW = PAIRS | {"RGRR RGBR": None, "RGBR RGRR": None, "RGRR RGGR": cannot(2, "G", "RB", 2)}
+PAIRS_OF_PHASES = PAIRS | {"RGBR RGBR": cannot(2, "B", "R"), "RGBR RGRR": cannot(2, "B", "R"),
+                           "RGRR RGBR": cannot(2, "B", "R", 2)}
+PAIRS_OF_PHASES_ANEW = PAIRS_OF_PHASES | {"RGRR RGBR": None,
+                                          "RGRR RGGR": cannot(2, "G", "RB", 2)}
+PAIRS_BESIDE_A_CALL = {"RGRR RGRR": None, "RGRR RGBR": None, "RGRR RGKR": cannot(2, "K", "RB", 2),
+                       "RRRR RRBR": None, "RRRR RGBR": cannot(1, "G", "R", 2, EARLIER)}
 
 
 def anew(column):
@@ -127,14 +134,20 @@ def files_with(journal, shots):
                        "journal.txt": text_of([*journal, "final"])}
 
 
-def faults(fuzz):
-    """Where tools/fuzz calls right shots wrong, or wrong ones anything but what they are."""
+def cases():
+    """Each run's setup and files, and what is wrong with them, with the shots as letters."""
     for clients, user, journal, rows in [*runs_of_one_shot(), *runs_of_two_shots()]:
         for shots, wrong in rows.items():
-            said = None
-            try:
-                fuzz.check_journal(Setup(CONFIG, clients, user), files_with(journal, shots.split()))
-            except fuzz.Fault as fault:
-                said = str(fault)
-            if said != wrong:
-                yield f"tools/fuzz: of the shots {shots} it says {said!r} and not {wrong!r}"
+            yield Setup(CONFIG, clients, user), files_with(journal, shots.split()), wrong, shots
+
+
+def faults():
+    """Where right shots are called wrong, or wrong ones anything but what they are."""
+    for setup, files, wrong, shots in cases():
+        said = None
+        try:
+            check_journal(setup, files)
+        except Fault as fault:
+            said = str(fault)
+        if said != wrong:
+            yield f"tools/fuzz: of the shots {shots} it says {said!r} and not {wrong!r}"
