@@ -15,7 +15,7 @@ from verifying.films import check_film
 OF_RUNS = re.compile(r"(shot-[1-9][0-9]*|final)\.ppm|events-.*\.txt|(inner-)?journal\.txt|"
                      r"clip\.txt|capture\.ncap")
 BY_JOURNAL = re.compile(r"(shot-[0-9]+|final)\.ppm|events-.*\.txt|clip\.txt")
-MOST_SHOWN = 120
+MOST_SHOWN, MOST_SAID = 120, 400
 BY_TURNS = "each byte is that of the run by turns"
 
 
@@ -27,7 +27,9 @@ class Report:
 
     def say(self, word, name, what):
         self.counts[word] += 1
-        print(f"{word}: {shown(name)}: {shown(str(what))}", flush=True)
+        what = str(what)
+        more = " .." if len(what) > MOST_SAID else ""
+        print(f"{word}: {shown(name)}: {shown(what[:MOST_SAID])}{more}", flush=True)
 
     def judge(self, name, fault, what):
         """Says what is wrong, or where nothing is, what is right."""
