@@ -1,4 +1,4 @@
-"""What a shot on threads may show, by the end of docs/RULES.md, for tools/fuzz.
+"""What a shot on threads may show, by the end of docs/RULES.md.
 
 A pixel that a call of its owner's loaded last has the very word that the owner's script had left
 there at that call. Each other pixel of a buffer has a word that the script leaves at that place
@@ -20,8 +20,8 @@ from pictures import WrongPixel
 from screen import header
 
 # A load of words that are not told: how many calls the client had made, in which phase, where the
-# buffer's first place lies on the screen, how wide the buffer is, and for which call or event of the
-# run it was.
+# buffer's first place lies on the screen, how wide the buffer is, and for which call or event it
+# was.
 Load = namedtuple("Load", "who made phase left top across entry")
 
 

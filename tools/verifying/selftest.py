@@ -85,11 +85,11 @@ class VerifyTest(unittest.TestCase):
         self.place = Place(self.top, type(self).own)
         self.addCleanup(shutil.rmtree, self.top)
 
-    def right(self, made, what, names=None):
-        """That a folder is right, and each of its files, or of these."""
+    def right(self, made, what):
+        """That a folder is right, and each of its files."""
         status, said = self.place.check(made)
         self.assertEqual(status, 0, f"{what}:\n{said}")
-        for name in made.puts if names is None else names:
+        for name in made.puts:
             self.assertIn(f"right: {name}: ", said, what)
 
     def wrong(self, made, plant, what):
