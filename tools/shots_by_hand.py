@@ -23,6 +23,13 @@ CLEARED = [*FIRST[:5], "fill 0 0 2 1 FFFFFF", "buffer 4 1", "fill 2 0 9 1 0000FF
 # no line.
 COVERED = [*FIRST[:5], "fill 0 0 4 1 FFFFFF", "phase", FIRST[5], FIRST[-1], "phase"]
 
+# Here the buffer ends behind two columns of two rows, of which the lower one is green.
+NARROW = ["buffer 2 2", "fill 0 0 2 1 FF0000", "fill 0 1 2 1 00FF00", "view", "place 1 0 0 4 1"]
+
+# Here it ends above the row that is shown. The words behind it are those of a larger one.
+ABOVE = ["buffer 2 2", "fill 0 0 2 2 00FF00", "buffer 2 1", "view", "place 1 0 0 4 1",
+         "offset 1 0 -1"]
+
 # The first client's `place` loads all four pixels, red by then. The second one's `destroy` loads
 # the two in the middle, whatever the first one has drawn by then: in front of its next call or
 # behind that.
@@ -66,6 +73,11 @@ SHOTS_COVERED = [
     {"RGBR": None, "RWBR": cannot(1, "W", "G"), "RGWR": cannot(2, "W", "B"),
      "RRBR": cannot(1, "R", "G"), "RGRR": cannot(2, "R", "B"), "RKBR": cannot(1, "K", "G")},
 ]
+
+# Behind the ends of a buffer all is black.
+SHOTS_NARROW = {"RRKK": None, "RRGK": cannot(2, "G", "K"), "RRRK": cannot(2, "R", "K"),
+                "RKKK": cannot(1, "K", "R")}
+SHOTS_ABOVE = {"KKKK": None, "KGKK": cannot(1, "G", "K")}
 
 # Two shots. Where nothing between them loads the pixel again it has one word for both.
 EARLIER = " after what earlier shots show"
@@ -122,23 +134,36 @@ def runs_of_two_shots():
     yield [FIRST, SECOND + lines], shots, journal, PAIRS_BESIDE_A_CALL
 
 
+def runs_of_small_buffers():
+    """So of runs whose last picture is not `GGBB`, each with that."""
+    for script, replies, shots, final in (
+            (NARROW, ["done", "handle 1", "done"], SHOTS_NARROW, "RRKK"),
+            (ABOVE, ["done", "done", "handle 1", "done", "done"], SHOTS_ABOVE, "KKKK")):
+        calls = [line for line in script if not line.startswith("fill ")]
+        entries = [f"call 0 {reply} < {line}" for reply, line in zip(replies, calls)]
+        journal = [*entries, *OPENING[3:], DESTROYED, "shot 1"]
+        yield [script, SECOND], ["shot"], journal, shots, final
+
+
 def picture(letters):
     return header(4, 1) + bytes.fromhex("".join(COLOURS[letter] for letter in letters))
 
 
-def files_with(journal, shots):
-    """The files of a run with this journal, with these shots."""
+def files_with(journal, shots, final):
+    """The files of a run with this journal, with these pictures."""
     end = text_of(["lost 0", "left 0", "state live"])
     pictures = {f"shot-{number}.ppm": picture(shot) for number, shot in enumerate(shots, 1)}
-    return pictures | {"final.ppm": picture("GGBB"), "events-a.txt": end, "events-b.txt": end,
+    return pictures | {"final.ppm": picture(final), "events-a.txt": end, "events-b.txt": end,
                        "journal.txt": text_of([*journal, "final"])}
 
 
 def cases():
     """Each run's setup and files, and what is wrong with them, with the shots as letters."""
-    for clients, user, journal, rows in [*runs_of_one_shot(), *runs_of_two_shots()]:
+    plain = [(*run, "GGBB") for run in (*runs_of_one_shot(), *runs_of_two_shots())]
+    for clients, user, journal, rows, final in [*plain, *runs_of_small_buffers()]:
         for shots, wrong in rows.items():
-            yield Setup(CONFIG, clients, user), files_with(journal, shots.split()), wrong, shots
+            files = files_with(journal, shots.split(), final)
+            yield Setup(CONFIG, clients, user), files, wrong, shots
 
 
 def faults():

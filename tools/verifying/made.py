@@ -4,7 +4,7 @@ The actors of a run on threads do their lines in an order by chance, each stroke
 """
 import model
 import runs
-from expected import generated, is_call, outputs_by_turns, outputs_in, setup_of, still_setup
+from expected import generated, outputs_by_turns, outputs_in, setup_of, still_setup
 from page.pixels import Scene as FastScene
 from page.png import part_of
 from pictures import read_picture
@@ -16,28 +16,43 @@ TILE = 16
 
 
 class Made:
-    """The words of a run, the files that it reads, and those that it leaves."""
+    """The words of a run, the files that it reads, and those that it leaves. On threads also the
+    phase of each entry of the journal, and of each one of the clip list."""
 
-    def __init__(self, words, files, puts):
+    def __init__(self, words, files, puts, phases=(), clip_phases=()):
         self.words, self.files, self.puts = words, files, puts
+        self.phases, self.clip_phases = phases, clip_phases
 
 
-def any_order(rng, parts):
-    """An order that threads may take. Each actor has the parts of its phases; some are slow."""
-    for number in range(len(parts[0])):
-        rows = [(list(actor[number])[::-1], rng.choice([1, 1, 5, 20])) for actor in parts]
-        while any(row for row, _ in rows):
-            left = [(who, speed) for who, (row, speed) in enumerate(rows) if row]
-            who = rng.choices([who for who, _ in left], [speed for _, speed in left])[0]
-            yield who, rows[who][0].pop()
+class Order:
+    """An order that threads may take. Each actor has the parts of its phases; some are slow. The
+    phases of the lines that make entries are kept."""
+
+    def __init__(self, rng, parts):
+        self.rng, self.parts, self.number, self.phases = rng, parts, 0, []
+
+    def __iter__(self):
+        for self.number in range(len(self.parts[0])):
+            rows = [(list(actor[self.number])[::-1], self.rng.choice([1, 1, 5, 20]))
+                    for actor in self.parts]
+            while any(row for row, _ in rows):
+                left = [(who, speed) for who, (row, speed) in enumerate(rows) if row]
+                who = self.rng.choices([who for who, _ in left], [speed for _, speed in left])[0]
+                line = rows[who][0].pop()
+                if isinstance(line, str) and line.split(" ")[0] not in (*model.STROKES, "phase"):
+                    self.phases.append(self.number)
+                yield who, line
 
 
 def parts_of(setup):
     return [model.by_phases(lines) for lines in [*setup.clients, setup.user]]
 
 
-def outputs_beside(rng, setup):
-    return outputs_in(setup, any_order(rng, parts_of(setup)))
+def made_beside(rng, words, files, setup, scene=None):
+    """What a run on threads leaves."""
+    order = Order(rng, parts_of(setup))
+    puts = outputs_in(setup, order, scene)
+    return Made(words, files, puts, order.phases)
 
 
 # A run of each command.
@@ -55,15 +70,15 @@ def made_turns(rng):
 
 def made_run(rng):
     case = valid_case(rng, rng.choice(["free", "layers"]))
-    return Made(["run", "c.toml"], case.files, outputs_beside(rng, setup_of(case)))
+    return made_beside(rng, ["run", "c.toml"], case.files, setup_of(case))
 
 
 def made_gen(rng):
     number = rng.randrange(1000000000)
     setup, files = generated(number)
-    order = any_order(rng, parts_of(setup))
-    return Made(["gen", str(number)], {},
-                files | outputs_in(setup, order, FastScene(setup.config)))
+    made = made_beside(rng, ["gen", str(number)], {}, setup, FastScene(setup.config))
+    made.puts |= files
+    return made
 
 
 def made_capture(rng):
@@ -81,62 +96,72 @@ def made_clip(rng):
     refused = True
     while refused:
         case, setup, clips, refused = random_cases.clip_case(rng)
-    said, scene = [], Scene(setup.config)
-    puts = outputs_in(setup, clip_order(rng, setup, (clips, said), scene), scene)
-    puts["clip.txt"] = "".join(f"{line}\n" for line in said).encode("latin-1")
-    return Made(["clip", "c.toml"], case.files, puts)
+    scene, said = Scene(setup.config), []
+    order = Order(rng, parts_with(setup, clips))
+    puts = outputs_in(setup, clip_calls_apart(order, said, scene), scene)
+    puts["clip.txt"] = "".join(f"{line}\n" for line, _ in said).encode("latin-1")
+    return Made(["clip", "c.toml"], case.files, puts, order.phases, [phase for _, phase in said])
 
 
 def made_nested(rng):
     refused = True
     while refused:
         case, setup, journal, refused = random_cases.nested_case(rng)
-    puts = outputs_beside(rng, setup) | {"inner-journal.txt": journal}
-    return Made(case.words, case.files, puts)
+    made = made_beside(rng, case.words, case.files, setup)
+    made.puts["inner-journal.txt"] = journal
+    return made
 
 
 # Clip calls.
 
 
-def clip_order(rng, setup, clips_said, scene):
-    """An order of the lines in which each client does its clip calls at the end of each phase. The
-    clip list is added line by line, as the scene stands then."""
-    clips, said = clips_said
-    parts, entries, text = parts_of(setup), 0, None
+def parts_with(setup, clips):
+    """The parts of the phases, with each client's clip calls at their ends, as tuples."""
+    parts = parts_of(setup)
     for client, lines in zip(parts, clips):
         for part, calls in zip(client, model.by_phases(lines)):
             end = len(part) - (part[-1:] == ["phase"])
             part[end:end] = [(line,) for line in calls if line != "phase"]
-    for who, line in any_order(rng, parts):
+    return parts
+
+
+def clip_calls_apart(order, said, scene):
+    """The order without its clip calls. Their entries are added to `said`, each with its phase, as
+    the scene stands then."""
+    text = None
+    for who, line in order:
         if isinstance(line, str):
-            entries += is_call(line) if who < len(clips) else line != "phase"
             yield who, line
             continue
-        focused = scene.focused is not None and scene.focused is scene.sessions[who]
-        if not focused:
+        is_focused = scene.focused is not None and scene.focused is scene.sessions[who]
+        if not is_focused:
             reply = "not-focused"
         elif line[0] == "paste":
             reply = "empty" if text is None else f"pasted ={text}"
         else:
             reply, text = "copied", line[0].split("=", 1)[1]
-        said.append(f"clip {entries} {who} {reply} < {line[0]}")
+        said.append((f"clip {len(order.phases)} {who} {reply} < {line[0]}", order.number))
 
 
 # Films.
 
 
-def film_of(pictures, region):
-    """The film of a region of pictures."""
+def is_new(before, now):
+    return before != now
+
+
+def film_of(pictures, region, is_put=is_new, longest=256):
+    """The film of a region of pictures. A film has only tiles that are new, and runs as long as
+    they can be."""
     _, _, width, height = region
     stream = b"NCAP" + width.to_bytes(2, "little") + height.to_bytes(2, "little")
     before = bytes(3 * width * height)
     for picture in pictures:
         across, _, pixels = read_picture(picture)
         now = part_of(pixels, across, region)
-        tiles = [number.to_bytes(2, "little") + runs_of(tile)
-                 for number, (old, tile) in enumerate(zip(tiles_of(before, width, height),
-                                                          tiles_of(now, width, height)))
-                 if old != tile]
+        pairs = zip(tiles_of(before, width, height), tiles_of(now, width, height))
+        tiles = [number.to_bytes(2, "little") + runs_of(tile, longest)
+                 for number, (old, tile) in enumerate(pairs) if is_put(old, tile)]
         stream += b"\1" + len(tiles).to_bytes(2, "little") + b"".join(tiles)
         before = now
     return stream + b"\0"
@@ -150,12 +175,12 @@ def tiles_of(pixels, width, height):
             yield part_of(pixels, width, rect)
 
 
-def runs_of(tile):
+def runs_of(tile, longest):
     """A tile's pixels as runs of equal ones."""
     stream, count = b"", 0
     for at in range(0, len(tile), 3):
         count += 1
-        if tile[at : at + 3] != tile[at + 3 : at + 6]:
+        if tile[at : at + 3] != tile[at + 3 : at + 6] or count == longest:
             stream += bytes([count - 1]) + tile[at : at + 3]
             count = 0
     return stream

@@ -135,6 +135,16 @@ def journal_end(rng, made):
     return with_file(made, "journal.txt", data, "line ")
 
 
+def phase_early(_rng, made):
+    """An entry stands in front of one of the phase before its own."""
+    lines = lines_of(made)
+    for at in range(1, len(made.phases)):
+        if made.phases[at - 1] < made.phases[at]:
+            lines[at - 1], lines[at] = lines[at], lines[at - 1]
+            return with_lines(made, "journal.txt", lines, "line ")
+    return None
+
+
 def shot_number(rng, made):
     lines = lines_of(made)
     at = place_of(rng, lines, "shot ")
@@ -173,6 +183,40 @@ def clip(rng, made):
         [], [lines[at]] * 2, [f"{word} {place} {who} {other} < {line}"],
         [f"{word} {int(place) + 100000} {who} {rest}"], [f"{word} {place} {who} {rest}x"]])
     return with_lines(made, "clip.txt", lines, "line ")
+
+
+def clip_order(rng, made):
+    """The places of a clip list fall once."""
+    lines = lines_of(made, "clip.txt")
+    places = [int(line.split(" ")[1]) for line in lines]
+    rises = [at for at in range(1, len(lines)) if places[at - 1] < places[at]]
+    if not rises:
+        return None
+    at = rng.choice(rises)
+    lines[at - 1], lines[at] = lines[at], lines[at - 1]
+    return with_lines(made, "clip.txt", lines, "line ")
+
+
+def clip_early(_rng, made):
+    """The first clip call stands in front of calls that its client has made before it."""
+    lines = lines_of(made, "clip.txt")
+    if not lines or " not-focused < " not in lines[0]:
+        return None
+    _, place, who, rest = lines[0].split(" ", 3)
+    if not any(entry.startswith(f"call {who} ") for entry in lines_of(made)[: int(place)]):
+        return None
+    lines[0] = f"clip 0 {who} {rest}"
+    return with_lines(made, "clip.txt", lines, "line 1: ")
+
+
+def clip_late(_rng, made):
+    """The last clip call stands behind an entry of a later phase than its own."""
+    lines = lines_of(made, "clip.txt")
+    if not lines or not made.phases or made.phases[-1] <= made.clip_phases[-1]:
+        return None
+    _, _, who, rest = lines[-1].split(" ", 3)
+    lines[-1] = f"clip {len(made.phases)} {who} {rest}"
+    return with_lines(made, "clip.txt", lines, f"line {len(lines)}: ")
 
 
 def inner(rng, made):
@@ -215,9 +259,8 @@ def film_pictures(rng, made):
     """The film is a right one, of other pictures or of another region."""
     if "capture.ncap" not in made.puts:
         return None
-    shown = [made.puts[name] for name in pictures(made)]
-    x, y, width, height = map(int, made.words[2:])
-    region = x, y, width, height
+    shown, region = [made.puts[name] for name in pictures(made)], region_of(made)
+    x, y, width, height = region
     if rng.random() < 0.5 and width > 1:
         region = x, y, width - 1, height
     elif rng.random() < 0.5 or len(shown) == 1:
@@ -225,6 +268,20 @@ def film_pictures(rng, made):
     else:
         shown.pop()
     return with_file(made, "capture.ncap", film_of(shown, region), "byte ")
+
+
+def film_spelling(rng, made):
+    """The film has the right pictures, with a run for each pixel, or with each tile."""
+    if "capture.ncap" not in made.puts:
+        return None
+    shown = [made.puts[name] for name in pictures(made)]
+    more = rng.choice([{"longest": 1}, {"is_put": lambda *_: True}])
+    film = film_of(shown, region_of(made), **more)
+    return with_file(made, "capture.ncap", film, "byte ")
+
+
+def region_of(made):
+    return tuple(map(int, made.words[2:]))
 
 
 # Files.
@@ -243,5 +300,5 @@ def file_more(rng, made):
 
 
 KINDS = (pixel, picture_bytes, reply, delivery, entry_gone, entry_twice, swapped, journal_end,
-         shot_number, events, clip, inner, text_bytes, film_byte, film_pictures, file_gone,
-         file_more)
+         phase_early, shot_number, events, clip, clip_order, clip_early, clip_late, inner,
+         text_bytes, film_byte, film_pictures, film_spelling, file_gone, file_more)

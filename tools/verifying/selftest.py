@@ -17,8 +17,8 @@ from verifying.checks import BY_TURNS
 from verifying.made import MAKERS, Made
 from verifying.planted import KINDS, OTHER, pixel
 
-FOLDERS = {"still": 10, "turns": 24, "run": 36, "clip": 24, "capture": 30, "nested": 8}
-LEAST, LEAST_OF_KIND, EACH = 200, 8, 4
+FOLDERS = {"still": 10, "turns": 24, "run": 36, "clip": 40, "capture": 30, "nested": 8}
+LEAST, LEAST_OF_KIND, EACH = 200, 5, 4
 NO_RUN = """#!/bin/sh
 echo "nitpicker: $3: entry 3: not a run"
 exit 9
