@@ -7,9 +7,10 @@ import runs
 from expected import generated, outputs_by_turns, outputs_in, setup_of, still_setup
 from page.pixels import Scene as FastScene
 from page.png import part_of
+from page.sources import read_sources
 from pictures import read_picture
 from screen import Scene
-from valid_cases import still_case, valid_case
+from valid_cases import Case, still_case, valid_case
 
 random_cases = runs.tool("clips-and-nests")
 TILE = 16
@@ -73,14 +74,6 @@ def made_run(rng):
     return made_beside(rng, ["run", "c.toml"], case.files, setup_of(case))
 
 
-def made_gen(rng):
-    number = rng.randrange(1000000000)
-    setup, files = generated(number)
-    made = made_beside(rng, ["gen", str(number)], {}, setup, FastScene(setup.config))
-    made.puts |= files
-    return made
-
-
 def made_capture(rng):
     made = made_run(rng)
     width, height, _ = read_picture(made.puts["final.ppm"])
@@ -110,6 +103,32 @@ def made_nested(rng):
     made = made_beside(rng, case.words, case.files, setup)
     made.puts["inner-journal.txt"] = journal
     return made
+
+
+# Large screens.
+
+
+def made_example(rng, folder, config):
+    """A run of an example, on threads."""
+    words, here = ["run", config], runs.TOP / "examples" / folder
+    files = read_sources(here, words)
+    setup = setup_of(Case("example", words, files))
+    return made_beside(rng, words, files, setup, FastScene(setup.config))
+
+
+def made_gen(rng):
+    """A generated run, whose shot is wrong: nothing is loaded before it, which would take long."""
+    number = rng.randrange(1000000000)
+    setup, files = generated(number)
+    scene = FastScene(setup.config, loads=False)
+    order = loading_from_shot(Order(rng, parts_of(setup)), scene)
+    return Made(["gen", str(number)], {}, files | outputs_in(setup, order, scene))
+
+
+def loading_from_shot(order, scene):
+    for who, line in order:
+        scene.loads |= line == "shot"
+        yield who, line
 
 
 # Clip calls.
@@ -187,4 +206,4 @@ def runs_of(tile, longest):
 
 
 MAKERS = {"still": made_still, "turns": made_turns, "run": made_run, "clip": made_clip,
-          "capture": made_capture, "nested": made_nested, "gen": made_gen}
+          "capture": made_capture, "nested": made_nested}

@@ -14,8 +14,8 @@ import shots_by_hand
 import stand_ins
 from valid_cases import toml_text
 from verifying.checks import BY_TURNS
-from verifying.made import MAKERS, Made
-from verifying.planted import KINDS, OTHER, pixel
+from verifying.made import MAKERS, Made, made_example, made_gen
+from verifying.planted import KINDS, OTHER
 
 FOLDERS = {"still": 10, "turns": 24, "run": 36, "clip": 40, "capture": 30, "nested": 8}
 LEAST, LEAST_OF_KIND, EACH = 200, 5, 4
@@ -124,15 +124,25 @@ class VerifyTest(unittest.TestCase):
             number, _, fault = (wrong or "").partition(": ")
             self.assertIn(f"wrong: shot-{number[5:]}.ppm: {fault}" if wrong else "wrong 0", said)
 
+    def test_large_screens(self):
+        counts = {kind.__name__: 0 for kind in KINDS}
+        for folder, config in (("windows", "windows.toml"), ("phishing", "phishing.toml"),
+                               ("desk", "desk.toml")):
+            rng = random.Random(f"verify {folder}")
+            made = made_example(rng, folder, config)
+            self.right(made, folder)
+            for name, plant in plants(rng, made, counts):
+                counts[name] += 1
+                self.wrong(made, plant, f"{folder}, {name}")
+
     def test_a_generated_run(self):
         """All but three files are right."""
-        rng = random.Random("verify gen")
-        made = MAKERS["gen"](rng)
-        shown, script = pixel(rng, made), bytearray(made.puts["g3.nit"])
+        made = made_gen(random.Random("verify gen"))
+        script = bytearray(made.puts["g3.nit"])
         script[-8] ^= 1
-        files = shown.files | {"g3.nit": bytes(script), "shot-2.ppm": b""}
+        files = made.puts | {"g3.nit": bytes(script), "shot-2.ppm": b""}
         _, said = self.place.check(made, files)
-        wrong = {shown.name: shown.has, "g3.nit": "line 1995: ", "shot-2.ppm": OTHER}
+        wrong = {"shot-1.ppm": "the pixel at (", "g3.nit": "line 1995: ", "shot-2.ppm": OTHER}
         for name, has in wrong.items():
             self.is_told(said, name, has, "gen")
         for name in made.puts.keys() - wrong.keys():
