@@ -3,7 +3,10 @@
 Crates that do not stand on each other are built side by side. One `rt` at a time works in a crate
 and in those below it, so each has a lane: a copy of the sources, into which the libraries below the
 crate are linked, and from which what was built of it is moved to its place. Last, `rt run` looks at
-all of it, proves and links the program, and builds what it finds lacking."""
+all of it, proves and links the program, and builds what it finds lacking. Without words it builds
+alone. Words with which nothing would run are refused as the program does it, and nothing is built.
+"""
+import interpreter  # first: it looks at the Python
 import contextlib
 import fcntl
 import os
@@ -14,10 +17,11 @@ import sys
 import time
 from concurrent.futures import FIRST_COMPLETED, ThreadPoolExecutor, wait
 
+import usage
 from crates import KEPT, PROGRAM, TOP, is_current, note_program, parts_of, RECORD
 from lanes import Lane, remove_lanes
 from machine import Machine
-from starter import die_of, output_of, say, start
+from starter import die_of, output_of, refuse_words, say, start, tell
 
 # More seldom help a check.
 MOST_JOBS = 8
@@ -186,7 +190,22 @@ def build_all(toolchain, commands):
     say(f"proved and built in {since(begun)}")
 
 
+def refused(words):
+    """The status of words with which nothing would run, said as the program says it, or none."""
+    if usage.fault_of(words):
+        return refuse_words(words)
+    name = usage.unreadable(words)
+    if name is None:
+        return None
+    tell(f"nitpicker: {name}: read fault\n")
+    say("nothing is built for that; tools/explain before the same words says more")
+    return 3
+
+
 def main(words):
+    status = refused(words) if words else None
+    if status is not None:
+        return status
     if not shutil.which("rt"):
         say("there is no command rt; README.md says where the toolchain comes from")
         return 1
@@ -203,7 +222,9 @@ def main(words):
         build_all(toolchain, commands)
     if commands.signal:
         die_of(commands.signal)
-    start(PROGRAM, words)
+    if words:
+        start(PROGRAM, words)
+    return 0
 
 
 if __name__ == "__main__":

@@ -1,4 +1,5 @@
 """The words of bin/nitpicker's own, in front of a command of the program."""
+import interpreter  # first: it looks at the Python
 import contextlib
 import os
 import resource
@@ -7,6 +8,7 @@ import subprocess
 import sys
 from pathlib import Path
 
+import usage
 from aside import Refusal, run_aside
 
 TOP = Path(__file__).resolve().parent.parent
@@ -20,6 +22,19 @@ def say(text):
     with contextlib.suppress(OSError, AttributeError):
         sys.stderr.write(f"bin/nitpicker: {text}\n")
         sys.stderr.flush()
+
+
+def tell(text):
+    """Says on standard output what the program would, where that takes it."""
+    with contextlib.suppress(OSError):
+        os.write(1, os.fsencode(text))
+
+
+def refuse_words(words):
+    """Says that words are no command, as the program does. Answers the status."""
+    tell(usage.TEXT)
+    say(usage.hint(words))
+    return 2
 
 
 def own_words(words):
@@ -83,6 +98,8 @@ def main(words):
         print(HELP.read_text(encoding="utf8") if words[0] == "--help" else version(), end="")
         return 0
     os.chdir(here)
+    if usage.fault_of(words):
+        return refuse_words(words)
     if out is None:
         start(STARTER, words)
     status = run_aside([STARTER, *words], out, say)

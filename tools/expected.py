@@ -1,12 +1,13 @@
 """What a case of tools/fuzz comes to, worked out by tools/model.py from the documents alone."""
 import os
 import re
-import tomllib
 
 import model
+from reasons import toml_places
+from reasons.config import plain
+from reasons.faults import Fault
 from screen import Scene
-
-USAGE = "usage: nitpicker still W H SCRIPT, turns CONFIG, run CONFIG, gen N, audit CONFIG JOURNAL, clip CONFIG, capture CONFIG X Y W H or nested OUTER INNER"
+from usage import LINE as USAGE
 
 
 class Setup:
@@ -52,21 +53,8 @@ def file_of(case, name):
 
 
 def table_of(text):
-    """The table of a TOML text. The crate `toml` also reads an inline table over several lines."""
-    try:
-        return tomllib.loads(text)
-    except tomllib.TOMLDecodeError:
-        return tomllib.loads(re.sub(r"\{[^{}]*\}", in_one_line, text))
-
-
-def in_one_line(match):
-    """An inline table without its line feeds, but as it is where one of them parts a string, the
-    parts of a key, or a key from its value."""
-    lines = match[0].split("\n")
-    parted = any(line.count('"') % 2 or line.count("'") % 2 for line in lines)
-    parted |= any(line.rstrip(" \t\r").endswith(("=", ".")) for line in lines[:-1])
-    parted |= any(line.lstrip(" \t").startswith(("=", ".")) for line in lines[1:])
-    return match[0] if parted else " ".join(lines)
+    """The table of a TOML text."""
+    return plain(toml_places.read(text))
 
 
 def config_of(case, name):
@@ -76,7 +64,7 @@ def config_of(case, name):
     try:
         table = table_of(data.decode())
         kind = model.refusal(table)
-    except (tomllib.TOMLDecodeError, UnicodeDecodeError):
+    except (Fault, UnicodeDecodeError):
         kind = "syntax"
     if kind:
         raise Refused(5, f"{name}: bad configuration: {kind}")

@@ -9,15 +9,15 @@ import unittest
 from pathlib import Path
 
 import starter_stand_ins as stand_ins
-from starter_stand_ins import TOP, Repository, executable, try_all
+from starter_stand_ins import TOP, Repository, doing, executable, try_all
 
-PAGE = ("`../../bin/nitpicker tell red 2 0` says `nitpicker: red`, and "
-        "`../../bin/nitpicker read a.nit` says `nitpicker: one`. So does `../../bin/nitpicker X`.")
-CASES = """small | tell red 2 0 | 0 | red | 2
-small | tell 'no run' 0 9 | 9 | no run | 0
-small | read a.nit | 0 | one | 0
-small | read a.nit | 0 | two | 0 | s/one/two/ a.nit
-small | read a.nit | 0 | one | 0 | | grep one a.nit
+PAGE = ("`../../bin/nitpicker turns 'tell red 2 0'` says `nitpicker: red`, and `../../bin/nitpicker "
+        "turns 'read a.nit'` says `nitpicker: one`. So does `../../bin/nitpicker X`.")
+CASES = """small | turns 'tell red 2 0' | 0 | red | 2
+small | turns 'tell "no run" 0 9' | 9 | no run | 0
+small | turns 'read a.nit' | 0 | one | 0
+small | turns 'read a.nit' | 0 | two | 0 | s/one/two/ a.nit
+small | turns 'read a.nit' | 0 | one | 0 | | grep one a.nit
 """
 
 
@@ -32,14 +32,14 @@ class Case(unittest.TestCase):
         self.folder = self.repository.folder
         for name, text in {"examples/small/README.md": PAGE, "examples/small/a.nit": "one\n",
                            "examples/cases.txt": CASES, "docs/x.md": "x", ".hidden": "x",
-                           "examples/broken/cases.txt": "tell b 0 5 | 5 | b\n"}.items():
+                           "examples/broken/cases.txt": "turns 'tell b 0 5' | 5 | b\n"}.items():
             self.repository.write(name, text)
         for name in ("release", "run-examples", "runs.py"):
             (self.folder / "tools").mkdir(exist_ok=True)
             shutil.copy(TOP / "tools" / name, self.folder / "tools" / name)
         self.git("init", "-q")
         self.commit()
-        self.assertEqual(self.repository.run(STAND_IN_SECONDS="0").returncode, 7)
+        self.assertEqual(self.repository.run("gen", "1", STAND_IN_SECONDS="0").returncode, 7)
 
     def git(self, *words):
         who = ["-c", "user.name=nobody", "-c", "user.email=nobody@localhost"]
@@ -83,7 +83,7 @@ class Refusals(Case):
         self.repository.write("crates/low/src/lib.rt", "another text")
         self.commit()
         self.refused("was not built from this commit")
-        self.assertEqual(self.repository.run(STAND_IN_SECONDS="0").returncode, 7)
+        self.assertEqual(self.repository.run("gen", "1", STAND_IN_SECONDS="0").returncode, 7)
         self.made()
 
     def test_a_program_that_was_not_built_by_the_starter(self):
@@ -101,9 +101,9 @@ class Refusals(Case):
         self.repository.write("examples/small/README.md", PAGE + " It says `nitpicker: blue`.")
         self.commit()
         self.refused("lacks what these pages tell:\nexamples/small: blue")
-        self.repository.write("examples/small/README.md", PAGE + " `../../bin/nitpicker tell x`")
+        self.repository.write("examples/small/README.md", PAGE + " `../../bin/nitpicker run x`")
         self.commit()
-        self.refused("lacks what these pages tell:\nexamples/small: tell x")
+        self.refused("lacks what these pages tell:\nexamples/small: run x")
 
 
 class Archives(Case):
@@ -158,7 +158,7 @@ class Archives(Case):
         for words, wanted in ((["--version"], (self.unpacked / "VERSION").read_bytes()),
                               (["--help"], (TOP / "bin" / "help.txt").read_bytes()),
                               (["turns", "--help"], b"[b'turns', b'--help']\n"),
-                              (["-C", "docs", "join", "y", "x.md"], b"")):
+                              (["-C", "docs", *doing("join", "y", "x.md")], b"")):
             ended = subprocess.run([starter, *words], cwd=self.unpacked, capture_output=True,
                                    check=False)
             self.assertEqual((ended.stdout, ended.stderr), (wanted, b""))

@@ -2,12 +2,15 @@
 import importlib.machinery
 import importlib.util
 import os
+import signal
 import subprocess
 import sys
 import time
 from pathlib import Path
 
 TOP = Path(__file__).resolve().parent.parent
+sys.path.append(str(TOP / "bin"))
+import interpreter  # noqa: E402
 SECONDS = 120
 BETWEEN = 5.0
 
@@ -30,6 +33,8 @@ def name_of(path):
 def command(main, about):
     """Runs a tool and ends. `--help` prints what it is; words that it refuses have status 2."""
     words, name, status = sys.argv[1:], name_of(sys.argv[0]), 0
+    if signal.getsignal(signal.SIGINT) == signal.SIG_DFL:
+        signal.signal(signal.SIGINT, signal.default_int_handler)
     try:
         if "--help" in words or "-h" in words:
             print(about.strip())
@@ -83,13 +88,20 @@ class Outcome:
         self.status, self.said, self.files = status, said, files
 
 
+def build(starter):
+    """Builds the program, where it is not as the sources are. Ctrl-C leaves it the time that it
+    needs to put its work away."""
+    with subprocess.Popen([sys.executable, "-B", starter / "building.py"]):
+        pass
+
+
 def program_at(path):
     """The program itself, where the path is that of the script that builds it. Its runs then have
     the pages of memory that the script asks for."""
     program = Path(path).resolve()
     crate = program.parent.parent / "crates" / "nitpicker"
     if program.parent.name == "bin" and crate.is_dir():
-        subprocess.run([program], stdout=subprocess.DEVNULL, check=False)
+        build(program.parent)
         pages = program.parent / "pages.txt"
         if pages.is_file():
             os.environ.setdefault("GLIBC_TUNABLES", pages.read_text(encoding="utf8").strip())

@@ -1,9 +1,12 @@
 """A small repository with the starter of this one, for its tests: `rt` and the program in it are
 stand-ins, which write down what they are asked for."""
 import os
+import shlex
 import shutil
 import subprocess
 import sys
+import tempfile
+import time
 import unittest
 from pathlib import Path
 
@@ -67,32 +70,34 @@ else:
 note(f"end {{here.name}}")
 sys.exit(2 if verb == "run" else 0)
 """
-# Its first word says what it does. A put is as the program's: a new file beside it, and a renaming.
-# Python ignores the signal of `die` by itself, and the shell does as it is told.
+# Behind a command stand, in one word, the words that say what it does (`doing`); other words it
+# prints. A put is as the program's: a new file beside it, and a renaming. Python ignores the signal
+# of `die` by itself, and the shell does as it is told.
 PROGRAM = f"""#!/bin/sh
-if [ "$1" = die ]; then
+if [ "$2" = die ]; then
     echo one >one.txt
     kill -XFSZ $$
     exit 0
 fi
 exec {sys.executable} -S "$0.py" "$@"
 """
-WORK = """import os, sys, time
+WORK = """import os, shlex, sys, time
 
 def put(name, data):
     with open(name + ".1.part", "wb") as part:
         part.write(data)
     os.rename(name + ".1.part", name)
 
-words = [os.fsencode(word) for word in sys.argv[1:]]
+texts = shlex.split(sys.argv[2]) if sys.argv[1:2] == ["turns"] and len(sys.argv) == 3 else []
+words = [os.fsencode(word) for word in texts]
 if words[:1] == [b"join"]:
     data = b"".join(open(name, "rb").read() for name in words[2:])
-    put(sys.argv[2], data)
+    put(texts[1], data)
 elif words[:1] == [b"tell"]:
-    for number in range(int(sys.argv[3])):
+    for number in range(int(texts[2])):
         put(f"{number}.ppm", b"P6")
-    print("nitpicker: " + sys.argv[2])
-    sys.exit(int(sys.argv[4]))
+    print("nitpicker: " + texts[1])
+    sys.exit(int(texts[3]))
 elif words[:1] == [b"half"]:
     put("one.txt", b"one")
     open("two.txt.1.part", "wb").write(b"tw")
@@ -112,9 +117,18 @@ elif words[:1] == [b"read"]:
 elif words[:1] == [b"known"]:
     print(os.environb.get(words[1], b"nothing").decode())
 else:
-    print(words)
+    print([os.fsencode(word) for word in sys.argv[1:]])
     sys.exit(7)
 """
+
+
+# Words with which it prints them.
+ANY = ("gen", "1")
+
+
+def doing(*words):
+    """The words of a command with which the stand-in does what these words say."""
+    return "turns", shlex.join(map(str, words))
 
 
 class Repository:
@@ -173,6 +187,32 @@ def executable(path, text):
     path.parent.mkdir(parents=True, exist_ok=True)
     path.write_text(text)
     path.chmod(0o755)
+
+
+def ends(condition):
+    """Whether something comes about in a minute."""
+    last = time.monotonic() + 60
+    while not condition() and time.monotonic() < last:
+        time.sleep(0.02)
+    return condition()
+
+
+class Case(unittest.TestCase):
+    """A case has a repository in a folder that goes with it."""
+
+    is_built = True
+
+    def setUp(self):
+        folder = tempfile.TemporaryDirectory(prefix="starter-")
+        self.addCleanup(folder.cleanup)
+        self.top = Path(folder.name).resolve()
+        self.repository = Repository(self.top)
+        self.run_it = self.repository.run
+        if self.is_built:
+            self.assertEqual(self.run_it(*ANY, STAND_IN_SECONDS="0").returncode, 7)
+
+    def said(self, ended):
+        return ended.stderr.decode()
 
 
 def try_all(kinds):

@@ -25,8 +25,8 @@ from pathlib import Path
 
 sys.path.insert(0, str(Path(__file__).resolve().parents[2] / "tools"))
 
+import runs  # first: it looks at the Python
 import model
-import runs
 from cases import case_of
 from expected import expected_of
 from screen import Scene

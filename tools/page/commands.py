@@ -3,22 +3,33 @@ import os
 import re
 import shlex
 
+import runs
+import usage
 from page.png import size_of
 from page.replay import Step, journal_lines
 from page.run import Run
 from page.sources import Fault, read_sources, run_apart, setup_of
-from reasons.faults import shown
+from shown import shown
 
-EXPLAINED = (5, 6, 8)
-COMMANDS = ("still", "turns", "run", "gen", "audit", "clip", "capture", "nested")
+EXPLAINED = (3, 5, 6, 8)
+
+
+def explaining(folder, words):
+    """The tool that says why a file is refused, with the words for it."""
+    within = [] if str(folder) == "." else ["-C", str(folder)]
+    return shown(shlex.join(["tools/explain", *within, *words]))
 
 
 class Command:
-    """The words of a command, the files that it reads, and the program that does it."""
+    """The words of a command, the files that it reads, and the program that does it, which is built
+    where it is not there. Words with which nothing would run are refused before."""
 
     def __init__(self, program, folder, words):
-        if not words or words[0] not in COMMANDS:
-            raise Fault(f"the commands are {', '.join(COMMANDS)}")
+        if usage.fault_of(words):
+            raise runs.WrongWords(usage.hint(words))
+        if usage.unreadable(words, folder) is not None:
+            raise Fault(f"{shown(usage.unreadable(words, folder))}: it cannot be read; "
+                        f"{explaining(folder, words)} says why")
         self.program, self.folder, self.words = program, folder, words
         self.files = read_sources(folder, words)
 
@@ -27,17 +38,14 @@ class Command:
         outcome = run_apart(self.program, words, self.files)
         if outcome.status not in statuses:
             said = outcome.said.decode("utf-8", "replace").strip()
-            why = f"; {self.explain(words)} says why" if outcome.status in EXPLAINED else ""
-            raise Fault(f"the program ends with status {outcome.status}: {said}{why}")
+            why = f"; {explaining(self.folder, words)} says why"
+            raise Fault(f"the program ends with status {outcome.status}: {said}"
+                        f"{why if outcome.status in EXPLAINED else ''}")
         return outcome
-
-    def explain(self, words):
-        """The tool that says why a file is refused, with the words for it."""
-        within = [] if str(self.folder) == "." else ["-C", str(self.folder)]
-        return shown(shlex.join(["tools/explain", *within, *words]))
 
     def runs(self):
         """What the page shows: a run, and for `nested` the inner one behind it."""
+        self.program = runs.program_at(self.program)
         return getattr(self, self.words[0])()
 
     def run_of(self, outcome, config, by_turns=False):

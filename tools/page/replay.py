@@ -1,6 +1,7 @@
 """A run along its journal: each step with what the rules say of the state behind it."""
 import re
 from dataclasses import dataclass, field
+from typing import Optional
 
 import expected
 import model
@@ -18,12 +19,12 @@ class Step:
     """An entry of the journal, or a call of the clip list."""
 
     text: str
-    lane: int | None  # the client whose call it is
+    lane: Optional[int]  # the client whose call it is
     kind: str
     plain: str  # the same in plain words
     why: str = ""  # why it was refused
     told: list = field(default_factory=list)  # pairs of a client and what it gets
-    entry: int | None = None  # its number in the journal
+    entry: Optional[int] = None  # its number in the journal
 
 
 class Tracks:

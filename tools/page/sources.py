@@ -2,11 +2,11 @@
 import os
 import shutil
 import tempfile
-import tomllib
 from pathlib import Path
 
 import expected
 import runs
+from reasons import faults
 from valid_cases import Case
 
 CONFIGS = {"turns": 1, "run": 1, "audit": 1, "clip": 1, "capture": 1, "nested": 2}
@@ -30,7 +30,7 @@ def scripts_of(data):
         table = expected.table_of(data.decode())
         parts = [*table["client"], table["input"]]
         return [part["script"] for part in parts if isinstance(part["script"], str)]
-    except (UnicodeDecodeError, tomllib.TOMLDecodeError, KeyError, TypeError):
+    except (UnicodeDecodeError, faults.Fault, KeyError, TypeError):
         return []
 
 

@@ -40,7 +40,8 @@ class BrowserTest(unittest.TestCase):
     def setUpClass(cls):
         cls.folder = Path(tempfile.mkdtemp(prefix="nitpicker-pages-"))
         cls.addClassCleanup(shutil.rmtree, cls.folder)
-        cls.browser = cls.enterClassContext(Browser())
+        cls.browser = Browser()
+        cls.addClassCleanup(cls.browser.__exit__)
         cls.pages = {}
 
     def page(self, example, words=None, folder=None):
@@ -127,7 +128,8 @@ class BrowserTest(unittest.TestCase):
                                    ("End", "ArrowLeft", range(last, last - far - 1, -1)),
                                    ("Home", "ArrowRight", [0, 1]), ("End", "ArrowLeft", [last])):
             pictures = self.walk([first, *[key] * (len(places) - 1)])
-            for place, picture in zip(places, pictures, strict=True):
+            self.assertEqual(len(pictures), len(places))
+            for place, picture in zip(places, pictures):
                 self.assertEqual(picture, wanted[place], f"by {key} at {place}")
         self.check_quiet()
 

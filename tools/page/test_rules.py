@@ -6,6 +6,7 @@ import struct
 import unittest
 import zlib
 from html.parser import HTMLParser
+from itertools import zip_longest
 
 import expected
 import runs
@@ -27,7 +28,7 @@ class FramesTest(unittest.TestCase):
         """That frames by rectangles are those pixel by pixel."""
         slow = frames_along(setup, screen.Scene(setup.config))
         fast = frames_along(setup, pixels.Scene(setup.config))
-        for number, (one, other) in enumerate(zip(slow, fast, strict=True)):
+        for number, (one, other) in enumerate(zip_longest(slow, fast)):
             self.assertEqual(one, other, f"{what}, line {number}")
 
     def test_frames_of_random_runs(self):

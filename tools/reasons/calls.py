@@ -2,8 +2,9 @@
 import model
 import runs
 from screen import KILL_KEY
+from shown import quoted, shown
 
-from .faults import counted, quoted, shown
+from .faults import counted
 from .journal import Unpainted, is_call
 
 KILL = f"press {KILL_KEY}"

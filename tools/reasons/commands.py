@@ -1,73 +1,28 @@
 """What the program would say to the words of a command line, and why. Nothing is run or put."""
-import difflib
 import os
-import re
 
-from expected import USAGE, Setup, outputs_by_turns
+import usage
+from expected import Setup, outputs_by_turns
 from screen import header
+from shown import shown
 
 from . import calls, config, journal, scripts
-from .faults import Note, Refused, Verdict, quoted, shown
+from .faults import Note, Refused, Verdict
 
-NUMBER = re.compile(r"0|[1-9][0-9]{0,8}")
-COMMANDS = {
-    "still": ("W", "H", "SCRIPT"), "turns": ("CONFIG",), "run": ("CONFIG",), "gen": ("N",),
-    "audit": ("CONFIG", "JOURNAL"), "clip": ("CONFIG",), "capture": ("CONFIG", "X", "Y", "W", "H"),
-    "nested": ("OUTER", "INNER"),
-}
-KNOWN = ", ".join(f"`{name}`" for name in COMMANDS)
 USAGE_RULE = "docs/FORMATS.md, The command line"
-
-
-def usage(what, right):
-    return Refused(2, USAGE, Note("the words", what, right, USAGE_RULE))
-
-
-def form_of(command):
-    return f"`{' '.join([command, *COMMANDS[command]])}`"
-
-
-# The words.
-
-
-def check_number(command, name, word):
-    """That a word is a number within the bounds of its place."""
-    least, most = 0, 999999999
-    if command == "still":
-        least, most = 1, {"W": 1024, "H": 768}[name]
-    if not (NUMBER.fullmatch(word) and least <= int(word) <= most):
-        raise usage(f"{quoted(word)} stands where {name} is to stand in {form_of(command)}",
-                    f"a number from {least} to {most}, in decimal without leading zeros")
-
-
-def command_near(word):
-    """What is right where a word is no command."""
-    if word.lower() in COMMANDS:
-        return f"`{word.lower()}`, in lower case"
-    close = difflib.get_close_matches(word.lower(), COMMANDS, 1, 0.6)
-    return f"perhaps `{close[0]}`; the commands are {KNOWN}" if close else \
-        f"one of {KNOWN}, or the name of a file that is there"
 
 
 def check_words(words):
     """That the words are those of a command."""
-    for word in words:
-        try:
-            word.encode()
-        except UnicodeEncodeError as wrong:
-            raise usage(f"{quoted(word)} is no UTF-8", "all words are UTF-8") from wrong
-    if not words:
-        raise usage("there are none", f"the first is one of {KNOWN}")
-    if words[0] not in COMMANDS:
-        raise usage(f"{quoted(words[0])} is no command", command_near(words[0]))
-    command, given = words[0], words[1:]
-    names = COMMANDS[command]
-    if len(given) != len(names):
-        raise usage(f"`{command}` takes {len(names)} word{'s' if len(names) > 1 else ''}, and "
-                    f"{len(given)} are given", form_of(command))
-    for name, word in zip(names, given):
-        if len(name) == 1:
-            check_number(command, name, word)
+    fault = usage.fault_of(words)
+    if fault is None:
+        return
+    what, right = fault
+    if not words or words[0] not in usage.COMMANDS:
+        known = ", ".join(f"`{name}`" for name in usage.COMMANDS)
+        right = f"{right}; the commands are {known}" if right else f"one of {known}, or the " \
+            "name of a file that is there"
+    raise Refused(2, usage.LINE, Note("the words", what, right, USAGE_RULE))
 
 
 # Files.

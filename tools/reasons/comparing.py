@@ -12,11 +12,11 @@ import model
 import runs
 from broken_cases import BREAKS
 from expected import entry_of_device, is_call, text_of
+from shown import quoted
 from valid_cases import pick_title, toml_text, valid_case
 
 from . import calls, commands
 from .edits import MARKS, TOML_MARKS, edited, other_entry, other_statements
-from .faults import quoted
 from .journal import Unpainted
 
 FROM_ONE = 40

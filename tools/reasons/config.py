@@ -2,8 +2,10 @@
 import difflib
 import re
 
+from shown import quoted, shown
+
 from . import toml_places
-from .faults import Fault, Finding, Note, Refused, quoted, shown
+from .faults import Fault, Finding, Note, Refused
 
 MOST_BYTES = 1048576
 KINDS = ("syntax", "kind", "missing", "unknown", "too many", "range", "label", "twice")
@@ -244,7 +246,9 @@ def refusals(top, text):
 
 
 def plain(value):
-    """A value without its places."""
+    """A value without its places. A date or time is none that a configuration has."""
+    if value.kind == "a date or time":
+        return None
     if isinstance(value.data, dict):
         return {key: plain(inner) for key, (_, inner) in value.data.items()}
     return [plain(item) for item in value.data] if isinstance(value.data, list) else value.data

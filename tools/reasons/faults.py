@@ -1,4 +1,5 @@
 """What is wrong at a place of a file, and how that is shown to a person."""
+from shown import shown
 
 WIDEST = 76
 
@@ -56,31 +57,8 @@ class Refused(Exception):
         self.verdict = Verdict(status, line, findings)
 
 
-def letter_shown(letter):
-    """A character as it is, or as an escape where a terminal would act on it or show nothing."""
-    code = ord(letter)
-    if letter.isprintable():
-        return letter
-    simple = {"\t": "\\t", "\r": "\\r", "\n": "\\n"}
-    if letter in simple:
-        return simple[letter]
-    if 0xDC80 <= code <= 0xDCFF:
-        code -= 0xDC00
-    return f"\\x{code:02x}" if code < 256 else f"\\u{{{code:x}}}"
-
-
-def shown(text):
-    """A text with nothing in it that a terminal would act on."""
-    return "".join(map(letter_shown, text))
-
-
 def counted(number, what):
     return f"{number} {what}{'' if number == 1 else 's'}"
-
-
-def quoted(text, most=40):
-    """A piece of a file between back quotes, cut where it is long."""
-    return f"`{shown(text[:most])}`" + (" .." if len(text) > most else "")
 
 
 def excerpt(line, column, length):

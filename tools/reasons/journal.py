@@ -1,8 +1,9 @@
 """Why a journal is refused: a line that has no reading, or an entry that is none of a run."""
 from screen import Scene
+from shown import quoted, shown
 
 from . import lines
-from .faults import Fault, Finding, Note, Refused, quoted, shown
+from .faults import Fault, Finding, Note, Refused
 from .scripts import pieces_of
 
 MOST_BYTES = 134217728

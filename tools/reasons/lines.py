@@ -6,7 +6,9 @@ character: that of ASCII, or by `surrogateescape` one that stands for a byte fro
 import difflib
 import re
 
-from .faults import Fault, quoted
+from shown import quoted
+
+from .faults import Fault
 
 # The least and the most of each kind of number.
 MOST = 999999999

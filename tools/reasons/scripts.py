@@ -1,6 +1,8 @@
 """Why a script is refused: its lines without a reading, its size, its phases."""
+from shown import shown
+
 from . import lines
-from .faults import Fault, Finding, Note, Refused, shown
+from .faults import Fault, Finding, Note, Refused
 
 MOST_BYTES = 1048576
 MOST_LINES = 65536

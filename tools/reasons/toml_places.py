@@ -4,7 +4,9 @@ Python's tomllib reads TOML 1.0, says nothing of places, and differs from what t
 inline tables over several lines, `\\e` and `\\x41`, times without seconds, a byte order mark at the
 start, and numbers that are too large. This reader has the text of TOML 1.1 in those.
 """
-from .faults import Fault, quoted
+from shown import quoted
+
+from .faults import Fault
 from .toml_words import (
     after_blanks, after_gap, is_control, line_end, read_key, read_string, read_word)
 

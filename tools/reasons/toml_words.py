@@ -2,7 +2,9 @@
 import math
 import re
 
-from .faults import Fault, letter_shown, quoted
+from shown import letter_shown, quoted
+
+from .faults import Fault
 
 MOST_PARTS = 80
 BARE = re.compile(r"[A-Za-z0-9_-]+")
