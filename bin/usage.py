@@ -37,6 +37,8 @@ def near(word):
 def perhaps(word):
     """The same as one says it, or nothing."""
     close = near(word)
+    if close == [word.lower()]:
+        return f"`{close[0]}`, in lower case"
     return "perhaps " + " or ".join(f"`{it}`" for it in close) if close else ""
 
 

@@ -21,7 +21,7 @@ def found():
     """Those that are there."""
     names = [shutil.which(f"python3.{number}") for number in range(READS[1], LEAST[1])]
     places = [*filter(None, names), *Path.home().glob(".pyenv/versions/3.*/bin/python3")]
-    return [place for place in sorted(map(str, places)) if READS <= (version_of(place) or ()) < LEAST]
+    return [it for it in sorted(map(str, places)) if READS <= (version_of(it) or ()) < LEAST]
 
 
 def reading_faults(path):

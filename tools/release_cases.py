@@ -11,8 +11,9 @@ from pathlib import Path
 import starter_stand_ins as stand_ins
 from starter_stand_ins import TOP, Repository, doing, executable, try_all
 
-PAGE = ("`../../bin/nitpicker turns 'tell red 2 0'` says `nitpicker: red`, and `../../bin/nitpicker "
-        "turns 'read a.nit'` says `nitpicker: one`. So does `../../bin/nitpicker X`.")
+PAGE = ("`../../bin/nitpicker turns 'tell red 2 0'` says `nitpicker: red`, and "
+        "`../../bin/nitpicker turns 'read a.nit'` says `nitpicker: one`. So does "
+        "`../../bin/nitpicker X`.")
 CASES = """small | turns 'tell red 2 0' | 0 | red | 2
 small | turns 'tell "no run" 0 9' | 9 | no run | 0
 small | turns 'read a.nit' | 0 | one | 0

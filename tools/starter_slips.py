@@ -16,7 +16,7 @@ SAID_BY_TESTS = TOP / "crates" / "nit_top_tests" / "src" / "usage_tests.rt"
 GUESSES = (
     (["turn", "a.toml"], "`turn` is no command; perhaps `turns`"),
     (["trun", "a.toml"], "`trun` is no command; perhaps `run` or `turns`"),
-    (["Audit", "a", "b"], "`Audit` is no command; perhaps `audit`"),
+    (["Audit", "a", "b"], "`Audit` is no command; `audit`, in lower case"),
     (["-C", ".", "cilp", "a"], "`cilp` is no command; perhaps `clip`"),
     (["help"], "perhaps `--help`"), (["-h"], "perhaps `--help`"), (["--HELP"], "perhaps `--help`"),
     (["-v"], "perhaps `--version`"), (["version"], "perhaps `--version`"),

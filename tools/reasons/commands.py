@@ -1,6 +1,4 @@
 """What the program would say to the words of a command line, and why. Nothing is run or put."""
-import os
-
 import usage
 from expected import Setup, outputs_by_turns
 from screen import header
@@ -8,11 +6,12 @@ from shown import shown
 
 from . import calls, config, journal, scripts
 from .faults import Note, Refused, Verdict
+from .folder import Folder
 
 USAGE_RULE = "docs/FORMATS.md, The command line"
 
 
-def check_words(words):
+def check_words(words, folder):
     """That the words are those of a command."""
     fault = usage.fault_of(words)
     if fault is None:
@@ -20,62 +19,14 @@ def check_words(words):
     what, right = fault
     if not words or words[0] not in usage.COMMANDS:
         known = ", ".join(f"`{name}`" for name in usage.COMMANDS)
-        right = f"{right}; the commands are {known}" if right else f"one of {known}, or the " \
-            "name of a file that is there"
+        close = folder.near(words[0]) if words and "." in words[0] else None
+        right = f"perhaps the file `{shown(close)}`, which is there" if close else \
+            f"{right}; the commands are {known}" if right else \
+            f"one of {known}, or the name of a file that is there"
     raise Refused(2, usage.LINE, Note("the words", what, right, USAGE_RULE))
 
 
 # Files.
-
-
-class Folder:
-    """The folder that a run would be in, with the files that it reads. `is_aside` tells that it
-    puts its own elsewhere."""
-
-    def __init__(self, path=".", is_aside=False):
-        self.path, self.is_aside = path, is_aside
-
-    def read(self, name, most, beside=""):
-        """The bytes of a file, enough to tell whether it is too long. `beside` names it."""
-        try:
-            with open(os.path.join(self.path, name) if name else "", "rb") as file:
-                return file.read(most + 1)
-        except (OSError, ValueError) as wrong:
-            raise Refused(3, f"{name}: read fault", self.why_not(name, wrong, beside)) from wrong
-
-    def why_not(self, name, wrong, beside):
-        path = os.path.join(self.path, name) if name else ""
-        what = getattr(wrong, "strerror", None) or str(wrong)
-        here = shown(os.path.realpath(self.path))
-        right = ""
-        if not name:
-            what = "the name is empty"
-        elif os.path.isdir(path):
-            what = "it is a folder"
-        elif isinstance(wrong, FileNotFoundError):
-            what = f"there is no such file in {here}"
-            right = "names go from the folder in which the program is started, also those in a " \
-                "configuration"
-            home = os.path.dirname(beside)
-            if os.path.isfile(os.path.join(self.path, home, name)):
-                right += f"; there is one in {shown(home)}: start the program there"
-        return Note(name or "''", f"it cannot be read: {what}", right,
-                    "docs/FAILURES.md, Reading")
-
-    def phases(self, name):
-        """How many lines `phase` a file has, whatever its other lines are, or none."""
-        try:
-            return self.read(name, scripts.MOST_BYTES).split(b"\n").count(b"phase")
-        except Refused:
-            return None
-
-    def is_blocked(self, name):
-        """Whether a folder stands where a file is to be put."""
-        path = os.path.join(self.path, name)
-        return os.path.isdir(path) and not os.path.islink(path)
-
-    def is_closed(self):
-        return not os.access(self.path, os.W_OK | os.X_OK)
 
 
 def read_setup(folder, name, first_line=None, has_phases=True):
@@ -106,15 +57,6 @@ def check_phases(folder, names, named_script, count, of_whom=None):
                                of_whom or f"the first client's {shown(names[0])} has", counts)
 
 
-def check_puts(folder, names):
-    for name in [] if folder.is_aside else names:
-        if folder.is_closed() or folder.is_blocked(name):
-            what = "the folder has no leave to write" if folder.is_closed() else \
-                "a folder stands in its place"
-            raise Refused(4, f"{name}: write fault",
-                          Note(name, f"it cannot be put: {what}", "", "docs/FAILURES.md, Putting"))
-
-
 def puts_of(setup):
     """The names of what a run puts, in their order."""
     shots = [f"shot-{number}.ppm" for number in range(1, setup.user.count("shot") + 1)]
@@ -127,7 +69,7 @@ def puts_of(setup):
 
 def do_still(folder, width, height, name):
     script = scripts.read_script(name, folder.read(name, scripts.MOST_BYTES), "client")
-    check_puts(folder, ["final.ppm"])
+    folder.check_puts(["final.ppm"])
     screen = {"width": int(width), "height": int(height)}
     client = {"label": "still", "donation": 8388608}
     user = ["phase"] * script.count("phase")
@@ -138,7 +80,7 @@ def do_still(folder, width, height, name):
 
 def do_turns(folder, name):
     setup = read_setup(folder, name)
-    check_puts(folder, puts_of(setup))
+    folder.check_puts(puts_of(setup))
     return Verdict(0, setup.summary(), notes=calls.refused_by_turns(setup))
 
 
@@ -149,14 +91,14 @@ def do_run(folder, name):
 
 def on_threads(folder, setup, more=()):
     """The verdict of a run on threads that puts these files more than `turns`."""
-    check_puts(folder, [*puts_of(setup), *more])
+    folder.check_puts([*puts_of(setup), *more])
     return Verdict(0, setup.summary(), notes=calls.refused_on_threads(setup))
 
 
 def do_gen(folder, _number):
     made = ["gen.toml", *(f"g{client}.nit" for client in range(8)), "gen.in"]
     texts = [f"events-g{client}.txt" for client in range(8)]
-    check_puts(folder, [*made, "shot-1.ppm", "final.ppm", *texts, "journal.txt"])
+    folder.check_puts([*made, "shot-1.ppm", "final.ppm", *texts, "journal.txt"])
     return Verdict(0, "clients 8 entries 12260 frames 2")
 
 
@@ -172,7 +114,10 @@ def do_clip(folder, name):
     count = setup.clients[0].count("phase")
     for script_name in setup.names[:-1]:
         clip = f"{script_name}.clip"
-        lines = scripts.read_script(clip, folder.read(clip, scripts.MOST_BYTES), "clip")
+        about = "`clip` reads a clip script beside each client's script, here " \
+            f"{shown(clip)} for {shown(script_name)}, with as many lines `phase`"
+        data = folder.read(clip, scripts.MOST_BYTES, about=about)
+        lines = scripts.read_script(clip, data, "clip")
         check_phases(folder, setup.names, (clip, lines), count)
     return on_threads(folder, setup, ["clip.txt"])
 
@@ -209,7 +154,7 @@ def do_nested(folder, outer_name, inner_name):
             f"{len(outer.clients[0]):,}, and {scripts.MOST_LINES:,} are the most",
             "fewer shots, a smaller screen or plainer pictures",
             "docs/FORMATS.md, Frames as lines of a script"))
-    check_puts(folder, [*puts_of(outer), "inner-journal.txt"])
+    folder.check_puts([*puts_of(outer), "inner-journal.txt"])
     said = outer.summary().split(" ")
     said[3] = str(int(said[3]) + 1 + frames)
     return Verdict(0, " ".join(said))
@@ -235,10 +180,13 @@ DO = {"still": do_still, "turns": do_turns, "run": do_run, "gen": do_gen, "audit
       "clip": do_clip, "capture": do_capture, "nested": do_nested}
 
 
-def verdict_of(words, path=".", is_aside=False):
-    """How the program would end with these words in the folder of this path."""
+def verdict_of(words, path=".", out=None):
+    """How the program would end with these words in the folder of this path, and with --out where
+    a folder is given for it."""
+    folder = Folder(path, out)
     try:
-        check_words(words)
-        return DO[words[0]](Folder(path, is_aside), *words[1:])
+        check_words(words, folder)
+        folder.check_out()
+        return DO[words[0]](folder, *words[1:])
     except Refused as refused:
         return refused.verdict

@@ -17,6 +17,7 @@ from valid_cases import pick_title, toml_text, valid_case
 
 from . import calls, commands
 from .edits import MARKS, TOML_MARKS, edited, other_entry, other_statements
+from .folder import Folder
 from .journal import Unpainted
 
 FROM_ONE = 40
@@ -86,14 +87,14 @@ class Good:
             self.files[f"{letter}.toml"] = toml_text(rng, config).encode()
 
 
-class Memory(commands.Folder):
+class Memory(Folder):
     """Files that are not on a disk yet."""
 
     def __init__(self, files):
         super().__init__()
         self.files = files
 
-    def read(self, name, most, beside=""):
+    def read(self, name, most, beside="", about=""):
         return self.files[os.path.normpath(name)]
 
 
@@ -198,7 +199,7 @@ def calls_told(verdict, words, folder):
     """The labels of a run and what is told of its refused calls, or none where that is left out."""
     if verdict.status != 0 or words[0] not in ("turns", "run", "clip", "capture"):
         return None
-    setup = commands.read_setup(commands.Folder(folder), words[1])
+    setup = commands.read_setup(Folder(folder), words[1])
     if words[0] != "turns" and calls.KILL in setup.user:
         return None
     told = [re.match(r"(.*?): (\d+) .*?: (`.*)", note).groups() for note in verdict.notes]

@@ -42,19 +42,20 @@ class Note:
 
 class Verdict:
     """How the program would end: the status, its line behind `nitpicker: `, and why. `notes` are
-    lines on a run that is not refused; they are worked out when they are asked for."""
+    lines on a run that is not refused; they are worked out when they are asked for. `who` is who
+    says the line, if not the program."""
 
-    def __init__(self, status, line, findings=(), notes=()):
+    def __init__(self, status, line, findings=(), notes=(), who="The program"):
         self.status, self.line, self.findings = status, line, list(findings)
-        self.notes = notes
+        self.notes, self.who = notes, who
 
 
 class Refused(Exception):
     """A verdict that ends the reading."""
 
-    def __init__(self, status, line, *findings):
+    def __init__(self, status, line, *findings, **more):
         super().__init__(line)
-        self.verdict = Verdict(status, line, findings)
+        self.verdict = Verdict(status, line, findings, **more)
 
 
 def counted(number, what):

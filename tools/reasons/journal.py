@@ -36,6 +36,8 @@ def read_journal(name, data):
         if fault is None and number > len(whole):
             fault = Fault(len(rest), len(rest) + 1, "the file ends here without a line feed",
                           "a line feed behind the last line too", lines.ENDED)
+        if isinstance(fault, lines.LineEnd):
+            fault.told(name, sum(line.endswith("\r") for line in whole))
         if fault:
             raise Refused(8, f"{name}: line {number}: bad journal",
                           Finding(name, line, fault, TEXT_RULE, number))

@@ -5,8 +5,9 @@ character: that of ASCII, or by `surrogateescape` one that stands for a byte fro
 """
 import difflib
 import re
+import shlex
 
-from shown import quoted
+from shown import quoted, shown
 
 from .faults import Fault
 
@@ -63,6 +64,11 @@ PARTED = "words are parted by exactly one space, with nothing before the first a
 ENDED = "each line ends with one line feed"
 NOTHING = "there are no comments and no empty lines"
 MARK = b"\xef\xbb\xbf".decode("ascii", "surrogateescape")
+# What a person may write for the codes that every scene has.
+CODES = {"left": "the left button is `272`", "right": "the right button is `273`",
+         "middle": "the middle button is `274`", "xray": "the X-ray key is `70`",
+         "x-ray": "the X-ray key is `70`", "kill": "the kill key is `99`"}
+CODED = "codes are those of Linux's input-event-codes.h: `272` is the left button, `30` the key A"
 UTF_16 = ("\udcff\udcfe", "\udcfe\udcff")
 ODD = {
     "\t": "a tab", "\r": "a carriage return", "\0": "a NUL byte",
@@ -178,6 +184,8 @@ def number_fault(word, kind, name):
         return f"{quoted(word)} is out of range", right
     if re.fullmatch(r"[-+]?0[xX][0-9a-fA-F]+|[-+]?[0-9]+\.[0-9]*", word):
         return f"{quoted(word)} is no number here; numbers are whole and in decimal", right
+    if kind == "CODE":
+        right = CODES.get(word.lower(), CODED)
     return f"{quoted(word)} stands where {name} is to stand, which is a number", right
 
 
@@ -295,17 +303,23 @@ def check_start(reader):
     if line.startswith(("#", "//", ";", "--")):
         reader.fail(0, len(line), "this looks like a comment", "take the line out", NOTHING)
     if line == "\r":
-        reader.fail(0, 1, "the line has a carriage return alone: it is an empty one, with the line "
-                    "end of Windows", "take the line out", NOTHING)
+        reader.fail(0, 0, "the line is empty, but for a carriage return", "take the line out",
+                    NOTHING)
 
 
-def at_carriage_return(fault, line):
-    """The fault, or what says it better where the line ends as under Windows."""
-    if line.endswith("\r") and fault.at == len(line) - 1 and len(line) > 1:
-        return Fault(fault.at, fault.end, "a carriage return stands before the line feed: the line "
-                     "ends as under Windows", "a line feed alone; `sed -i 's/\\r$//' FILE` takes "
-                     "the carriage returns out", ENDED)
-    return fault
+class LineEnd(Fault):
+    """A line that would be good, were it not for the line end of Windows."""
+
+    def __init__(self, line):
+        super().__init__(len(line) - 1, len(line), "a carriage return stands before the line feed",
+                         "a line feed alone", ENDED)
+
+    def told(self, name, count):
+        """The same of all such lines of a file, and how they are mended."""
+        more = f", as in {count - 1} more line{'s' if count > 2 else ''}" if count > 1 else ""
+        self.what += f"{more}: lines end so under Windows"
+        self.right += f"; `sed -i 's/\\r$//' {shown(shlex.quote(name))}` takes all of them out"
+        return self
 
 
 def first_fault(line, read):
@@ -313,7 +327,8 @@ def first_fault(line, read):
     try:
         read(Reader(line))
     except Fault as fault:
-        return at_carriage_return(fault, line)
+        is_end = len(line) > 1 and line.endswith("\r") and fault.at == len(line) - 1
+        return LineEnd(line) if is_end else fault
     return None
 
 

@@ -1,4 +1,6 @@
 """Why a script is refused: its lines without a reading, its size, its phases."""
+import shlex
+
 from shown import shown
 
 from . import lines
@@ -40,13 +42,22 @@ def bad_lines(whole, read):
             yield number, fault
 
 
-def open_end(rest, read):
+def told_once(bad, name):
+    """The same with one fault for all line ends of Windows."""
+    ends = [fault for _, fault in bad if isinstance(fault, lines.LineEnd)]
+    if ends:
+        ends[0].told(name, len(ends))
+    return [row for row in bad if row[1] not in ends[1:]]
+
+
+def open_end(rest, read, name):
     """The fault of a last line without its line feed."""
     fault = lines.first_fault(rest, read)
     if fault:
         return fault
     return Fault(len(rest), len(rest) + 1, "the file ends here without a line feed",
-                 "a line feed behind the last line too; `echo >> FILE` adds it", lines.ENDED)
+                 f"a line feed behind the last line too; `echo >> {shown(shlex.quote(name))}` adds "
+                 "it", lines.ENDED)
 
 
 def read_script(name, data, kind, read=None):
@@ -65,9 +76,10 @@ def read_script(name, data, kind, read=None):
             name, f"the script has {len(whole) + bool(rest):,} lines, and {MOST_LINES:,} are the "
             "most", "", f"{SCRIPTS}: a script has at most {MOST_LINES:,} lines"))
     if rest and len(whole) < MOST_LINES:
-        bad.append((len(whole) + 1, open_end(rest, read)))
+        bad.append((len(whole) + 1, open_end(rest, read, name)))
     if not bad:
         return whole
+    bad = told_once(bad, name)
     rules = [SCRIPTS if bad[0][1].rule in GENERAL else rule] + [""] * (len(bad) - 1)
     texts = whole + [rest]
     raise Refused(6, f"{name}: line {bad[0][0]}: bad script", *(
