@@ -8,6 +8,8 @@ from interpreter import LEAST
 
 # What an older one has to be able to read, so that it comes to say that it is too old.
 READS = (3, 6)
+# What looks at the Python.
+LOOKS = ("interpreter", "runs")
 
 
 def version_of(python):
@@ -24,14 +26,31 @@ def found():
     return [it for it in sorted(map(str, places)) if READS <= (version_of(it) or ()) < LEAST]
 
 
+def imported(body):
+    """The modules that a text imports at its top, in order."""
+    for it in body:
+        yield from (name.name for name in it.names) if isinstance(it, ast.Import) else \
+            [it.module] if isinstance(it, ast.ImportFrom) else []
+
+
 def reading_faults(path):
-    """Why an older Python cannot read a file, or does not come to say that it is too old."""
+    """Why an older Python cannot read a file, or does not come to say that it is too old before it
+    reads others of ours."""
+    path = Path(path)
     try:
-        body = ast.parse(Path(path).read_text(encoding="utf8"), feature_version=READS).body
+        body = ast.parse(path.read_text(encoding="utf8"), feature_version=READS).body
     except SyntaxError as fault:
         return [f"{path}: Python {READS[0]}.{READS[1]} cannot read it: {fault}"]
-    return [] if any(isinstance(it, ast.Import) and it.names[0].name in ("interpreter", "runs")
-                     for it in body) else [f"{path}: it does not look at the Python"]
+    ours = [name for name in imported(body) if name in LOOKS or
+            any((path.parent / name.split(".")[0]).with_suffix(it).exists() for it in ("", ".py"))]
+    is_first = bool(ours) and ours[0] in LOOKS
+    return [] if is_first else [f"{path}: it does not look at the Python first"]
+
+
+def faults_of(tool):
+    """What is wrong with how the older Pythons that are here take a tool."""
+    refused = (refusal_faults([tool, "--help"], None, python) for python in found())
+    return [*reading_faults(tool), *(fault for faults in refused for fault in faults)]
 
 
 def refusal_faults(words, environment=None, python=None):

@@ -3,14 +3,13 @@ import os
 import re
 import signal
 import subprocess
-import time
 from unittest import SkipTest
 
 import older_pythons
 import starter_stand_ins as stand_ins
+from slips import QUICK, spent
 from starter_stand_ins import ANY, TOP, Case, ends, executable
 
-SECONDS = 1.0
 SAID_BY_TESTS = TOP / "crates" / "nit_top_tests" / "src" / "usage_tests.rt"
 # Words, and what may have been meant.
 GUESSES = (
@@ -18,7 +17,7 @@ GUESSES = (
     (["trun", "a.toml"], "`trun` is no command; perhaps `run` or `turns`"),
     (["Audit", "a", "b"], "`Audit` is no command; `audit`, in lower case"),
     (["-C", ".", "cilp", "a"], "`cilp` is no command; perhaps `clip`"),
-    (["help"], "perhaps `--help`"), (["-h"], "perhaps `--help`"), (["--HELP"], "perhaps `--help`"),
+    (["help"], "perhaps `--help`"), (["-h"], "perhaps `--help`"), (["--HELP"], "`--help`, in lower case"),
     (["-v"], "perhaps `--version`"), (["version"], "perhaps `--version`"),
     (["--out=x", "turns", "a"], "perhaps `--out`"), (["-c", "x"], "perhaps `-C`"),
     (["two.toml"], "`two.toml` is no command; --help lists the commands"),
@@ -50,15 +49,10 @@ class Slips(Case):
     is_built = False
 
     def quick(self, *words, **more):
-        """How it ended, where no build was begun, and one of three starts was quick."""
-        least = SECONDS
-        for _ in range(3):
-            begun = time.monotonic()
-            ended = self.run_it(*words, **more)
-            least = min(least, time.monotonic() - begun)
-            if least < SECONDS:
-                break
-        self.assertLess(least, SECONDS, words)
+        """How it ended, where no build was begun, and it took no second of a processor."""
+        before = spent()
+        ended = self.run_it(*words, **more)
+        self.assertLess(spent() - before, QUICK, words)
         self.assertEqual(self.repository.done(), [], words)
         self.assertNotIn("Traceback", self.said(ended))
         return ended
