@@ -108,13 +108,14 @@ class Browser:
 
     # The page.
 
-    def look(self, width, height, scheme="light", touch=False):
-        """Of what size and colours the page is seen, and whether by touch."""
+    def look(self, width, height, scheme="light", touch=False, motion="no-preference"):
+        """Of what size and colours the page is seen, whether by touch, and with how much motion."""
         self.ask("Emulation.setDeviceMetricsOverride", {
             "width": width, "height": height, "deviceScaleFactor": 1, "mobile": touch})
         self.ask("Emulation.setTouchEmulationEnabled", {"enabled": touch})
         self.ask("Emulation.setEmulatedMedia", {
-            "features": [{"name": "prefers-color-scheme", "value": scheme}]})
+            "features": [{"name": "prefers-color-scheme", "value": scheme},
+                         {"name": "prefers-reduced-motion", "value": motion}]})
 
     def open(self, path, place=""):
         """Opens a page of a file, and waits until it stands."""

@@ -25,6 +25,14 @@ function drawn(tag, attributes, text = "") {
   return element;
 }
 
+// A part that scrolls by itself, also by the keys, once it has the focus.
+function scrolled(element, name) {
+  element.classList.add("scrolled");
+  element.tabIndex = 0;
+  element.setAttribute("aria-label", name);
+  return element;
+}
+
 // The last place in a sorted list whose key is at most this one, or -1.
 function lastUpTo(list, key, keyOf) {
   let low = 0;

@@ -72,11 +72,14 @@ class Line {
     });
   }
 
-  show(first = null, behind = null) {
+  // While it plays, a screen reader is told no place.
+  show(first = null, behind = null, isPlaying = false) {
     const { run } = this;
     this.knob.setAttribute("transform", `translate(${this.x(run.at)} 0)`);
-    this.svg.setAttribute("aria-valuenow", run.at);
-    this.svg.setAttribute("aria-valuetext", run.place());
+    if (!isPlaying) {
+      this.svg.setAttribute("aria-valuenow", run.at);
+      this.svg.setAttribute("aria-valuetext", run.place());
+    }
     if (first === null) return;
     const isPart = first > 0 || behind <= run.steps.length;
     this.view.setAttribute("visibility", isPart ? "visible" : "hidden");

@@ -58,7 +58,7 @@ function pictureCard(run, place, go) {
   const caption = made("figcaption", "", "", [made("b", "", name),
     made("span", `mode ${mode}`, MODES[mode]), made("span", "", "focus"),
     chip(run, run.value("focus", step)), large]);
-  const lines = made("ol", "journal");
+  const lines = scrolled(made("ol", "journal"), `The journal up to ${name}`);
   fill(lines, run, Array.from({ length: step - start + 1 }, (_, at) => start + at), go);
   new Picture(run, canvas).show(step);
   return made("article", "card picture", "", [made("figure", "", "", [show, caption]), lines]);
@@ -69,6 +69,6 @@ function showLists(run, go) {
   byId("pictures").replaceChildren(...run.pictures.map((_, place) => pictureCard(run, place, go)));
   const refused = run.steps.flatMap((step, place) => (step.isRefused() ? [place + 1] : []));
   byId("refusals").hidden = refused.length === 0;
-  fill(byId("refused"), run, refused, go, true);
+  fill(scrolled(byId("refused"), "Refused calls"), run, refused, go, true);
   byId("checks").replaceChildren(...run.checks.map((check) => made("li", "", check)));
 }

@@ -1,5 +1,10 @@
 // The page: which run is seen, at which step, and what keys and buttons do.
 
+// How long an entry stands while it plays, in milliseconds, and for who wants little motion.
+const PACE = 120;
+const CALM_PACE = 1000;
+const CALM = matchMedia("(prefers-reduced-motion: reduce)");
+
 const go = (step) => page.go(step);
 const stage = new Stage();
 const line = new Line(go);
@@ -9,7 +14,7 @@ const clients = new Clients();
 
 const page = {
   run: runs[0],
-  timer: null,
+  timer: null, // of an entry each so often, while it plays
   noting: null,
 
   open(run) {
@@ -45,7 +50,7 @@ const page = {
     const { run } = this;
     stage.show();
     lanes.show();
-    line.show(lanes.first, lanes.first + lanes.count);
+    line.show(lanes.first, lanes.first + lanes.count, this.timer !== null);
     panel.show(run);
     clients.show();
     for (const stop of byId("stops").children) {
@@ -72,16 +77,21 @@ const page = {
     }
     if (this.run.at === this.run.steps.length) this.go(0);
     byId("play").textContent = "stop";
+    byId("plain").setAttribute("aria-live", "off");
     this.timer = setInterval(() => {
       this.go(this.run.at + 1);
       if (this.run.at === this.run.steps.length) this.stop();
-    }, 120);
+    }, CALM.matches ? CALM_PACE : PACE);
   },
 
+  // What a screen reader was not told meanwhile, it is told now.
   stop() {
+    if (this.timer === null) return;
     clearInterval(this.timer);
     this.timer = null;
     byId("play").textContent = "play";
+    byId("plain").setAttribute("aria-live", "polite");
+    this.show();
   },
 };
 
@@ -97,8 +107,10 @@ function stops(run) {
   });
 }
 
+// The keys go along the run, but where the focus is in a part that scrolls, they scroll it.
 function onKey(event) {
   if (event.altKey || event.ctrlKey || event.metaKey) return;
+  if (event.target instanceof Element && event.target.closest(".scrolled")) return;
   const { at, steps } = page.run;
   const far = event.shiftKey ? 10 : 1;
   const places = { ArrowLeft: at - far, ArrowRight: at + far, Home: 0, End: steps.length };

@@ -28,7 +28,7 @@ class Panel {
     byId("plain").replaceChildren(
       ...(step === null ? ["Nobody has done anything yet."] : plainParts(step)));
     byId("told").replaceChildren(...(step === null ? [] : told(run, step)));
-    byId("state").replaceChildren(...stateOf(run));
+    byId("state").replaceChildren(...stateOf(run, this.go));
     const near = byId("near");
     near.replaceChildren(...this.near(run));
     const line = near.querySelector("[aria-current]");
@@ -60,9 +60,20 @@ function told(run, step) {
     made("li", item === "kill" ? "kill" : "", "", [chip(run, client), made("code", "", item)]));
 }
 
-function stateOf(run) {
+// Since which entry the focus is where it is, and how it came there.
+function sinceOf(run, go) {
+  const since = run.value("since");
+  if (since === null) return [];
+  const [entry, how] = since;
+  const link = made("button", "link", `entry ${entry}`);
+  link.type = "button";
+  link.addEventListener("click", () => go(run.stepOfEntry(entry)));
+  return [made("span", "since", "", ["since ", link, `, ${how}`])];
+}
+
+function stateOf(run, go) {
   const rows = [["mode", made("span", `mode ${run.value("mode")}`, MODES[run.value("mode")])]];
-  rows.push(["focus", chip(run, run.value("focus"))]);
+  rows.push(["focus", chip(run, run.value("focus")), ...sinceOf(run, go)]);
   rows.push(["hover", chip(run, run.value("hover"))]);
   rows.push(["pointer", made("span", "", `(${run.value("pointer").join(", ")})`)]);
   const held = run.value("held");
@@ -75,7 +86,7 @@ function stateOf(run) {
     rows.push(["clipboard", text === null ? made("span", "nobody", "nothing")
       : made("code", "", `“${text}”`)]);
   }
-  return rows.flatMap(([name, value]) => [made("dt", "", name), made("dd", "", "", [value])]);
+  return rows.flatMap(([name, ...values]) => [made("dt", "", name), made("dd", "", "", values)]);
 }
 
 // A card for each client: what it has behind a step, and its events.
@@ -107,7 +118,9 @@ class Clients {
     const { run } = this;
     const has = (name) => run.ofClient(client, name);
     const own = [has("state")];
-    if (run.value("focus") === client) own.push("has the focus");
+    if (run.value("focus") === client) {
+      own.push(`has the focus since entry ${run.value("since")[0]}`);
+    }
     if (run.value("hover") === client) own.push("is under the pointer");
     const [width, height] = has("buffer");
     const kept = run.clients[client];
@@ -125,7 +138,7 @@ class Clients {
 }
 
 function eventsOf(client) {
-  const list = made("pre", "", client.events.join("\n"));
+  const list = scrolled(made("pre", "", client.events.join("\n")), `events of ${client.label}`);
   const count = client.events.length - 3;
   return made("details", "", "", [made("summary", "", `its events: ${count} taken`), list]);
 }

@@ -47,6 +47,9 @@ class Replay:
         self.scene = Scene(config, loads)
         self.labels = self.scene.labels
         self.steps, self.tracks, self.texts, self.shots = [], Tracks(), [], 0
+        # Since which entry the focus is where it is and how it came there, and the client that got
+        # the first press while something is held.
+        self.focused, self.since, self.first = None, None, None
         self.note()
 
     def note(self):
@@ -61,13 +64,16 @@ class Replay:
         number = {None: None} | {one: k for k, one in enumerate(scene.sessions)}
         return {"mode": scene.mode, "focus": number[scene.focused], "hover": number[scene.hovered],
                 "receiver": number[scene.receiver], "pointer": list(scene.pointer),
-                "held": list(scene.held)}
+                "held": list(scene.held), "since": self.since}
 
-    def add(self, step):
+    def add(self, step, cause=""):
+        """Adds a step. `cause` is how it moves the focus, where it does."""
         self.steps.append(step)
         if step.kind != "clip":
             self.texts.append(step.text)
             step.entry = len(self.texts)
+        if self.scene.focused is not self.focused:
+            self.focused, self.since = self.scene.focused, [step.entry, cause]
         self.note()
 
     # Entries.
@@ -94,17 +100,21 @@ class Replay:
         why = words.refusal(reply)
         kind = "refused" if why else "take" if reply.startswith("event ") else "call"
         plain = words.of_call(self.labels[who], line, reply)
-        self.add(Step(f"call {who} {reply} < {line}", who, kind, plain, why))
+        self.add(Step(f"call {who} {reply} < {line}", who, kind, plain, why),
+                 f"as client {self.labels[who]} closed its session")
 
     def device(self, line):
         before = self.state()
         told = self.scene.device(line)
-        plain = words.of_device(line, told, self.labels)
+        if not before["held"]:
+            receiver = self.scene.receiver
+            self.first = self.labels[self.scene.sessions.index(receiver)] if receiver else None
+        plain = words.of_device(line, told, self.labels, words.why_nobody(line, before, self.first))
         changes = words.of_changes(before, self.state(), self.labels)
         text = expected.entry_of_device(line, told)
         step = Step(text, None, line.split(" ")[0], f"{plain} {changes}".strip())
         step.told = [list(pair) for pair in told]
-        self.add(step)
+        self.add(step, words.of_click(told, before["pointer"], self.labels))
 
     def finish(self):
         if self.scene.loads:

@@ -4,7 +4,7 @@ import unittest
 from pathlib import Path
 
 import runs
-from page import browser, test_browser, test_rules, test_runs
+from page import browser, test_access, test_browser, test_rules, test_runs
 
 
 def selftest(program):
@@ -12,7 +12,7 @@ def selftest(program):
     test_runs.PROGRAM = Path(runs.program_at(program))
     modules = [test_rules, test_runs]
     if browser.program():
-        modules.append(test_browser)
+        modules += [test_browser, test_access]
     else:
         print("tools/show: chromium is not here, so no page was tried in a browser")
     tests = unittest.TestSuite(map(unittest.defaultTestLoader.loadTestsFromModule, modules))

@@ -180,13 +180,14 @@ class WordsTest(unittest.TestCase):
 
     def test_device_events(self):
         told = [(1, "leave"), (0, "motion 4 5")]
-        self.assertEqual(words.of_device("motion 4 5", told, ["a", "b"]),
+        self.assertEqual(words.of_device("motion 4 5", told, ["a", "b"], ""),
                          "The user moves the pointer to (4, 5). Client b gets word that the "
                          "pointer has left it. Client a gets the motion to (4, 5).")
-        self.assertEqual(words.of_device("press 272", [(1, "kill")], ["a", "b"]),
+        self.assertEqual(words.of_device("press 272", [(1, "kill")], ["a", "b"], ""),
                          "The user presses the left button (272). Client b is locked out.")
-        self.assertEqual(words.of_device("press 70", [], ["a"]),
-                         "The user presses the X-ray key. Nobody gets an event.")
+        self.assertEqual(words.of_device("press 70", [], ["a"], "a mode key is the server's own"),
+                         "The user presses the X-ray key. Nobody gets an event: a mode key is the "
+                         "server's own.")
 
 
 class Elements(HTMLParser):
@@ -256,6 +257,27 @@ class StandIn:
         return {"name": self.name}
 
 
+NOBODY = "while something is held all goes where its first press went, to nobody"
+ENDED = "while something is held all goes where its first press went, to client a, whose session " \
+    "has ended"
+BARE, XRAY, KILL = ("no client is under the pointer", "in X-ray mode none goes to a client",
+                    "in kill mode none goes to a client")
+# Lines behind four calls, and why nobody gets an event at each, where nobody does.
+REASONS = [
+    ("motion 15 8", BARE), ("press 30", "nobody has the focus"), ("press 30", "it is held already"),
+    ("press 70", "a mode key does nothing while something is held"), ("wheel 1", NOBODY),
+    ("press 31", NOBODY), ("release 32", "it was not held"),
+    ("release 70", "a mode key is never held"), ("release 30", NOBODY), ("release 31", NOBODY),
+    ("press 272", BARE), ("release 272", NOBODY), ("motion 1 1", ""), ("press 272", ""),
+    ("close", ""), ("motion 2 2", ENDED), ("release 272", ENDED),
+    ("press 70", "a mode key is the server's own"), ("press 31", XRAY), ("release 31", NOBODY),
+    ("motion 6 1", XRAY), ("press 272", ""), ("release 272", NOBODY),
+    ("press 99", "a mode key is the server's own"), ("wheel 2", KILL), ("press 273", KILL),
+    ("release 273", NOBODY), ("press 272", ""), ("release 272", NOBODY),
+    ("press 99", "a mode key is the server's own"), ("motion 15 8", KILL), ("press 272", BARE),
+]
+
+
 class ReplayTest(unittest.TestCase):
     """A run by turns as tools/expected.py makes it, and the same with something wrong."""
 
@@ -279,17 +301,48 @@ class ReplayTest(unittest.TestCase):
         run = self.run_of(setup, files)
         self.assertEqual([step.text for step in run.replay.steps],
                          replay.journal_lines(files["journal.txt"]))
-        scene = screen.Scene(setup.config)
+        scene, focus, entry = screen.Scene(setup.config), None, None
         for number, step in enumerate(run.replay.steps[:-1], 1):
             if step.text.startswith("call "):
                 scene.call(step.lane, step.text.split(" < ", 1)[1])
             elif step.text.startswith("input "):
                 scene.device(step.text[6:].split(" > ")[0])
+            focused = number_of(scene, scene.focused)
+            if focused != focus:
+                focus, entry = focused, number
+            since = replay.value_at(run.replay.tracks.pairs["since"], number)
+            self.assertEqual(since and since[0], entry, number)
             for name, value in (("mode", scene.mode), ("pointer", list(scene.pointer)),
                                 ("held", scene.held), ("focus", number_of(scene, scene.focused)),
                                 ("hover", number_of(scene, scene.hovered))):
                 pairs = run.replay.tracks.pairs[name]
                 self.assertEqual(replay.value_at(pairs, number), value, f"{name} behind {number}")
+
+    def test_since_when_and_how_a_client_has_the_focus(self):
+        made, _ = self.made_by(REASONS)
+        self.assertEqual(made.tracks.pairs["since"], [
+            [0, None], [18, [18, "by the click at (1, 1)"]],
+            [19, [19, "as client a closed its session"]], [26, [26, "by the click at (6, 1)"]],
+            [32, [32, "as client b was locked out"]]])
+
+    def test_why_nobody_gets_an_event(self):
+        made, rows = self.made_by(REASONS)
+        for step, (line, why) in zip(made.steps[4:], rows):
+            said = f" Nobody gets an event: {why}."
+            self.assertEqual(step.plain.count("Nobody gets an event"), bool(why), line)
+            self.assertIn(said if why else "", step.plain, line)
+
+    def made_by(self, rows):
+        """The steps of lines, where two clients have a view each and `close` is one of the
+        first client."""
+        setup = setup_from(scene_files((20, 10, "false"), {"a": [], "b": []}, []))
+        made = replay.Replay(setup.config, False)
+        for who, column in ((0, 0), (1, 5)):
+            made.act(who, "view")
+            made.act(who, f"place 1 {column} 0 5 5")
+        for line, _ in rows:
+            made.act(0 if line == "close" else 2, line)
+        return made, rows
 
     def test_units_that_are_left(self):
         lines = ["buffer 10 9", "view", "view", "destroy 1", "upgrade 1", "buffer 40 40", "close"]

@@ -127,20 +127,24 @@ class RunsTest(unittest.TestCase):
                     runs_of(example)
 
     def test_a_run_that_is_refused_has_no_page(self):
-        for words, said in ((["turns", "capital.toml"], "status 3: .*read fault"),
+        for words, said in ((["turns", "absent.toml"], "absent.toml: it cannot be read; "
+                             "tools/explain -C .*broken turns absent.toml says why"),
+                            (["turns", "folder.toml"], "status 3: .*read fault; tools/explain "),
                             (["still", "8", "4", "zero.nit"], "status 6: .*bad script; "
                              "tools/explain -C .*broken still 8 4 zero.nit says why"),
-                            (["turns"], "status 2"), (["film"], "the commands are"),
-                            ([], "the commands are"),
                             (["turns", "kind.toml"], "status 5: .* says why")):
             with self.assertRaisesRegex(Fault, said):
+                runs_of("broken", words)
+        for words in (["turns"], ["film"], [], ["still", "0", "4", "zero.nit"]):
+            with self.assertRaises(runs.WrongWords):
                 runs_of("broken", words)
 
     def test_a_file_that_is_refused_is_explained_elsewhere(self):
         folder = EXAMPLES / "broken"
         rows = ((["still", "8", "4", "zero.nit"], "still 8 4 zero.nit"),
                 (["turns", "kind.toml"], "turns kind.toml"),
-                (["turns", "capital.toml"], None), (["turns"], None))
+                (["turns", "folder.toml"], "turns folder.toml"),
+                (["capture", "good.toml", "0", "0", "99", "99"], None))
         for words, named in rows:
             with self.assertRaises(Fault) as raised:
                 runs_of("broken", words)
@@ -186,7 +190,7 @@ class StarterTest(unittest.TestCase):
             self.assertEqual(ended.stdout, f"tools/show: {page}: {page.stat().st_size} bytes\n")
 
     def test_a_fault_is_one_line(self):
-        for words in ([], ["turns", "none.toml"], ["film", "x"],
+        for words in (["turns", "none.toml"],
                       ["--out", "/none/x.html", "-C", EXAMPLES / "first", *ROWS["first"]]):
             ended = self.started(*words)
             self.assertEqual((ended.returncode, ended.stdout), (1, ""), words)

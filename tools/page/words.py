@@ -1,4 +1,5 @@
 """What an entry of a journal says, in plain words."""
+import screen
 
 CALLS = {
     "buffer": "a buffer of {0} by {1} pixels",
@@ -31,6 +32,7 @@ REFUSALS = {
     "killed": "the user has locked it out",
     "not-focused": "it has not the focus",
 }
+MODES = {"flat": "the plain mode", "xray": "X-ray mode", "kill": "kill mode"}
 BUTTONS = {272: "the left button", 273: "the right button", 274: "the middle button"}
 KEYS = {70: "the X-ray key", 99: "the kill key"}
 
@@ -48,7 +50,7 @@ def code_name(code):
     number = int(code)
     if number in KEYS:
         return KEYS[number]
-    if 272 <= number <= 279:
+    if number in screen.BUTTONS:
         return f"{BUTTONS.get(number, 'a button')} ({code})"
     return f"key {code}"
 
@@ -90,8 +92,37 @@ def of_call(label, line, reply):
     return f"{asked}: {ANSWERS[kind]}."
 
 
-def of_device(line, told, labels):
-    """What the user does, and who gets what."""
+def why_nobody(line, before, first):
+    """Why nobody gets a device's event, by the state before it. `first` is the client that got the
+    first press while something is held, if one did."""
+    word, *numbers = line.split(" ")
+    code = int(numbers[0])
+    if word in ("press", "release") and code in KEYS:
+        return why_no_mode_key(word, before)
+    if word == "release" and code not in before["held"]:
+        return "it was not held"
+    if word == "press" and code in before["held"]:
+        return "it is held already"
+    if before["held"]:
+        who = "nobody" if first is None else f"client {first}, whose session has ended"
+        return f"while something is held all goes where its first press went, to {who}"
+    is_kill = word == "press" and before["mode"] == "kill" and code == screen.KILL_BUTTON
+    if before["mode"] != "flat" and not is_kill:
+        return f"in {MODES[before['mode']]} none goes to a client"
+    if word == "press" and code not in screen.BUTTONS:
+        return "nobody has the focus"
+    return "no client is under the pointer"
+
+
+def why_no_mode_key(word, before):
+    if word == "release":
+        return "a mode key is never held"
+    return "a mode key does nothing while something is held" if before["held"] else \
+        "a mode key is the server's own"
+
+
+def of_device(line, told, labels, why):
+    """What the user does, and who gets what, or why nobody does."""
     word, *numbers = line.split(" ")
     done = {
         "motion": lambda: "moves the pointer to ({}, {})".format(*numbers),
@@ -103,7 +134,14 @@ def of_device(line, told, labels):
     for client, item in told:
         verb = "is" if item == "kill" else "gets"
         sentences.append(f"Client {labels[client]} {verb} {event_name(item)}.")
-    return " ".join(sentences if told else [*sentences, "Nobody gets an event."])
+    return " ".join(sentences if told else [*sentences, f"Nobody gets an event: {why}."])
+
+
+def of_click(told, pointer, labels):
+    """How a press moves the focus: by a click, or as it locks out who had it."""
+    killed = [client for client, item in told if item == "kill"]
+    return f"as client {labels[killed[0]]} was locked out" if killed else \
+        "by the click at ({}, {})".format(*pointer)
 
 
 def of_changes(before, after, labels):
