@@ -1,20 +1,31 @@
 """The words of bin/nitpicker's own, in front of a command of the program."""
 import interpreter  # first: it looks at the Python
 import contextlib
+import fcntl
 import os
 import resource
 import signal
 import subprocess
 import sys
+import tempfile
 from pathlib import Path
 
 import usage
-from aside import Refusal, run_aside
 
 TOP = Path(__file__).resolve().parent.parent
 STARTER = TOP / "bin" / "nitpicker"
 HELP = TOP / "bin" / "help.txt"
 PAGES = TOP / "bin" / "pages.txt"
+# The variable by which the program knows the folder to put into.
+OUT = "NITPICKER_OUT"
+
+
+class Refusal(Exception):
+    """Why there is no run, and the status of that."""
+
+    def __init__(self, status, why):
+        super().__init__(why)
+        self.status = status
 
 
 def say(text):
@@ -85,11 +96,45 @@ def start(program, words):
 
 
 def die_of(number):
-    """Ends by the signal that ended the program."""
+    """Ends by the signal that ended what was started."""
     resource.setrlimit(resource.RLIMIT_CORE, (0, 0))
     if number != signal.SIGKILL:
         signal.signal(number, signal.SIG_DFL)
     os.kill(os.getpid(), number)
+
+
+def hold(folder):
+    """Waits until no other run puts into the folder, where its file system has locks. The program
+    that this process becomes has the lock until it ends."""
+    found = os.open(folder, os.O_RDONLY)
+    # What is handed on is no standard stream, even where one is closed.
+    held = fcntl.fcntl(found, fcntl.F_DUPFD, 3)
+    os.close(found)
+    with contextlib.suppress(OSError):
+        try:
+            fcntl.flock(held, fcntl.LOCK_EX | fcntl.LOCK_NB)
+        except BlockingIOError:
+            say(f"waits for another run that puts into {folder}")
+            fcntl.flock(held, fcntl.LOCK_EX)
+
+
+def put_into(out):
+    """Has the program put into this folder, which is made where it is not there."""
+    try:
+        os.makedirs(out, exist_ok=True)
+        if os.path.samefile(out, os.curdir):
+            raise Refusal(2, f"{out} is the folder that is read in; put there without --out")
+        tempfile.TemporaryFile(dir=out).close()
+        whole = os.path.abspath(out)
+        whole.encode()
+        if os.listdir(out):
+            say(f"{out} is not empty: files of the same name are replaced, all others stay")
+        hold(out)
+    except UnicodeEncodeError as error:
+        raise Refusal(2, f"{os.fsencode(out)} is no text, which a folder's name has to be") from error
+    except OSError as error:
+        raise Refusal(4, f"{out} takes no files: {error.strerror}") from error
+    os.environ[OUT] = whole
 
 
 def main(words):
@@ -100,12 +145,10 @@ def main(words):
     os.chdir(here)
     if usage.fault_of(words):
         return refuse_words(words)
-    if out is None:
-        start(STARTER, words)
-    status = run_aside([STARTER, *words], out, say)
-    if status < 0:
-        die_of(-status)
-    return status
+    if out is not None:
+        put_into(out)
+    start(STARTER, words)
+    return 1
 
 
 if __name__ == "__main__":

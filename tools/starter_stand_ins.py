@@ -75,7 +75,7 @@ sys.exit(2 if verb == "run" else 0)
 # of `die` by itself, and the shell does as it is told.
 PROGRAM = f"""#!/bin/sh
 if [ "$2" = die ]; then
-    echo one >one.txt
+    echo one >"${{NITPICKER_OUT:-.}}/one.txt"
     kill -XFSZ $$
     exit 0
 fi
@@ -84,9 +84,15 @@ exec {sys.executable} -S "$0.py" "$@"
 WORK = """import os, shlex, sys, time
 
 def put(name, data):
+    name = os.path.join(os.environ.get("NITPICKER_OUT", ""), name)
     with open(name + ".1.part", "wb") as part:
         part.write(data)
-    os.rename(name + ".1.part", name)
+    try:
+        os.rename(name + ".1.part", name)
+    except OSError:
+        os.remove(name + ".1.part")
+        print("nitpicker: a write fault")
+        sys.exit(4)
 
 texts = shlex.split(sys.argv[2]) if sys.argv[1:2] == ["turns"] and len(sys.argv) == 3 else []
 words = [os.fsencode(word) for word in texts]
@@ -100,7 +106,6 @@ elif words[:1] == [b"tell"]:
     sys.exit(int(texts[3]))
 elif words[:1] == [b"half"]:
     put("one.txt", b"one")
-    open("two.txt.1.part", "wb").write(b"tw")
     sys.exit(4)
 elif words[:1] == [b"hang"]:
     put("one.txt", b"one")

@@ -84,19 +84,15 @@ class Folder:
     def check_puts(self, names):
         """That nothing refuses to put files of these names."""
         for name in names:
+            path = os.path.join(self.out or "", name)
             if self.out is None and not is_open(self.path):
                 raise Refused(4, f"{name}: write fault", Note(
-                    name, "it cannot be written: this user may not write into the folder", "",
+                    path, "it cannot be written: this user may not write into the folder", "",
                     "docs/FAILURES.md, Putting"))
-            if self.out is None and self.is_blocked(name):
+            if self.is_blocked(path):
                 raise Refused(4, f"{name}: write fault", Note(
-                    name, "it cannot be written: a folder has this name", "",
+                    path, "it cannot be written: a folder has this name", "",
                     "docs/FAILURES.md, Putting"))
-            if self.out is not None and self.is_blocked(os.path.join(self.out, name)):
-                path = str(Path(self.out) / name)
-                raise Refused(4, f"{path} is not put: Is a directory", Note(
-                    path, "it cannot be written: a folder has this name", "", ELSEWHERE),
-                    who=STARTER)
 
     def is_blocked(self, name):
         """Whether a folder stands where a file is to be put."""
