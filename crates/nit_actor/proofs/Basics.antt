@@ -1,9 +1,9 @@
 -- What lemmas use: the words of clauses, the library's lemmas, and those of the crates below.
 pub use Rattle.nit_actor.specs.Terms.{Action, AreAlone, AreOfOneHistory, Belongs, Call, Calls}
-pub use Rattle.nit_actor.specs.Terms.{CanShoot, ClipPassModel, Configuration, Desk, Device}
+pub use Rattle.nit_actor.specs.Terms.{CanShoot, CanTakeTurns, ClipPassModel, Configuration, Desk, Device}
 pub use Rattle.nit_actor.specs.Terms.{DidClips, Entry, File, GoTogether, InputLine, IsAtClipPhase}
 pub use Rattle.nit_actor.specs.Terms.{IsAtPhase, IsAtPhaseEnd, IsHeld, IsHeldPicture, IsHistory}
-pub use Rattle.nit_actor.specs.Terms.{IsLeastOf, IsNearPicture, IsOneOn, IsPairIn, IsPairRoleIn}
+pub use Rattle.nit_actor.specs.Terms.{IsLeastOf, IsNearPicture, IsNotBefore, IsOneOn, IsPairIn, IsPairRoleIn}
 pub use Rattle.nit_actor.specs.Terms.{IsPictureAmong, IsQuietlyOn, IsRoleIn, Line, NoneIsBefore}
 pub use Rattle.nit_actor.specs.Terms.{OpeningParts, Pair, PairIsOneOn, PairIsThrough, PairRole}
 pub use Rattle.nit_actor.specs.Terms.{PassModel, PutState, PutsNext, PutsShotsBehind, Reply, Role}

@@ -63,7 +63,7 @@ step_on {p = p} {l = l} s at other parts phase arrived is =
         arrived = rw arrived s.arrived;
         idle = s.idle ∙ ap idle_user (drop_at p.script p.next l at) ∙ idle_on l (drop (p.next + 1) p.script) other;
       };
-      pass = assumption;
+      pass = record { same = refl; next = refl; later = omega arith };
       user_same = refl;
       parts = parts;
     })
@@ -83,13 +83,13 @@ one_arrived n phase arrived one none = rw (one, none)
 both_arrived : (n phase arrived : ℕ) → n ≡ 1 → arrived ≡ 1 → after_arrival n phase arrived ≡ (phase + 1, 0)
 both_arrived n phase arrived one has = rw (one, has)
 
-pub phase_ended : {r r1 r2 : RoomModel} {p p' : PassModel} {u u' : UserPassModel} (n m : ℕ) {seen known : List Entry}
-    {raws stages : List (List ℕ)} {sight : Sight} → StepTogether r p u
+pub phase_ended : {r r1 r2 : RoomModel} {p p' : PassModel} {u u' : UserPassModel} (n m : ℕ)
+    (stages : List (List ℕ)) {seen known : List Entry} {raws : List (List ℕ)} {sight : Sight} → StepTogether r p u
     → slice_get p.script p.next ≡ Some line.Phase
     → r1 ≡ arrived_one (with_room_stages r n stages) n → r2 ≡ arrived_one r1 m
     → p' ≡ record p { next = p.next + 1; phase = p.phase + 1; seen = seen; sight = sight }
     → u' ≡ record u { next = u.next + 1; phase = u.phase + 1; seen = known; raws = raws } → StepOn r p u r2 p' u'
-phase_ended {r = r} {p = p} {u = u} n m {stages = stages} s at is_first is_second passed user_passed =
+phase_ended {r = r} {p = p} {u = u} n m stages s at is_first is_second passed user_passed =
     let first = one_arrived (length r.parts.scripts) r.phase r.arrived s.one s.arrived in
     let agreed = with_room_stages r n stages in
     let then = both_arrived (length r.parts.scripts) (arrived_one r n).phase (arrived_one r n).arrived s.one
@@ -108,7 +108,7 @@ phase_ended {r = r} {p = p} {u = u} n m {stages = stages} s at is_first is_secon
         arrived = ap (λ x. x.1) then;
         idle = idle;
       };
-      pass = assumption;
+      pass = record { same = refl; next = refl; later = omega arith };
       user_same = refl;
       parts = refl;
     })

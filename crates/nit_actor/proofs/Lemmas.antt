@@ -1,7 +1,8 @@
 -- What answers use: all that lemmas use, and this crate's lemmas.
-pub use Rattle.nit_actor.proofs.Basics.{All-set, AreAlone, Belongs, CanShoot, Configuration}
-pub use Rattle.nit_actor.proofs.Basics.{IsAtPhaseEnd, IsLeastOf, IsNearPicture, IsPairIn, List}
-pub use Rattle.nit_actor.proofs.Basics.{PassModel, RoomModel, TakesShots, UserPassModel, []}
+pub use Rattle.nit_actor.proofs.Basics.{All-set, AreAlone, Belongs, CanShoot, CanTakeTurns}
+pub use Rattle.nit_actor.proofs.Basics.{Configuration, IsAtPhaseEnd, IsLeastOf, IsNearPicture}
+pub use Rattle.nit_actor.proofs.Basics.{IsNotBefore, IsPairIn, List, NoneIsBefore, PassModel}
+pub use Rattle.nit_actor.proofs.Basics.{RoomModel, TakesShots, UserPassModel, []}
 pub use Rattle.nit_actor.proofs.Basics.{actions_to_be, ap, arith, as_many_files, clip_role_of}
 pub use Rattle.nit_actor.proofs.Basics.{file_of_a_shot, filter_map, length, next_device, pixel}
 pub use Rattle.nit_actor.proofs.Basics.{refl, replay, role_of, rules, same_throughout, scenery_of}
@@ -14,3 +15,4 @@ pub use Rattle.nit_actor.proofs.IdleUserLemmas.{nothing_recorded, phase_ended, s
 pub use Rattle.nit_actor.proofs.IdleUserLemmas.{user_at_phase, user_ended}
 pub use Rattle.nit_actor.proofs.Roles.{all_again, all_ended, left_in_all, left_more}
 pub use Rattle.nit_actor.proofs.Roles.{none_before, pair_none, pairs_again, same_set}
+pub use Rattle.nit_actor.proofs.Turns.{IsUnderWay, one_taken}

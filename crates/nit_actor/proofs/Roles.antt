@@ -1,7 +1,7 @@
 -- The roles of actors: of one that did a line, of a pass and its clip pass; and the least phase of those not done.
 use Rattle.nit_actor.proofs.Basics.{All, All-cons, All-push, Belongs, Bool, ClipPassModel}
 use Rattle.nit_actor.proofs.Basics.{Contains-append_left, Contains-push, DidClips, GoTogether}
-use Rattle.nit_actor.proofs.Basics.{IfSome, IsAtClipPhase, IsAtPhase, IsLeastOf, IsOneOn, IsPairIn}
+use Rattle.nit_actor.proofs.Basics.{IfSome, IsAtClipPhase, IsAtPhase, IsLeastOf, IsNotBefore, IsOneOn, IsPairIn}
 use Rattle.nit_actor.proofs.Basics.{IsPairRoleIn, IsRoleIn, Line, List, None, NoneIsBefore}
 use Rattle.nit_actor.proofs.Basics.{OpeningParts, Option, Pair, PairIsOneOn, PairIsThrough}
 use Rattle.nit_actor.proofs.Basics.{PairRole, PassModel, Role, Some, UserBelongs, UserPassModel}
@@ -263,10 +263,10 @@ none_before h xs u a n least is = (each_after h n xs _ (rw is at least).1).0
 
 -- nor is the user
 pub user_not_before : {X : Type 0} (h : X → Option ℕ) (xs : List X) (u : UserPassModel) (a : Option ℕ) (n : ℕ)
-    → IsLeastOf a (phases_left h xs u) → a ≡ Some n → NoneIsBefore user_phase_left n (u ∷ [])
+    → IsLeastOf a (phases_left h xs u) → a ≡ Some n → IsNotBefore user_phase_left n u
 user_not_before h xs u a n least is =
     let all = each_after h n xs (filter_map user_phase_left (u ∷ [])) (rw is at least).1 in
-    (each_after user_phase_left n (u ∷ []) [] (rw append-nil all.1)).0
+    (each_after user_phase_left n (u ∷ []) [] (rw append-nil all.1)).0 0 u (omega arith)
 
 -- ---- none
 

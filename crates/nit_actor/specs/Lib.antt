@@ -12,6 +12,7 @@ pub mod History
 pub mod UserShots
 pub mod Crew
 pub mod PhasesLeft
+pub mod Turn
 pub mod IdleUser
 pub mod Below
 pub mod Terms

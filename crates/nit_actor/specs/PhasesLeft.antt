@@ -37,9 +37,13 @@ abbrev pub IsLeastOf : Option ℕ → List ℕ → Type 0
 IsLeastOf None numbers = numbers ≡ []
 IsLeastOf (Some n) numbers = Contains numbers n × All (λ m. n ≤ m) numbers
 
+-- this one is done, or in no phase before this phase
+abbrev pub IsNotBefore : {X : Type 0} → (X → Option ℕ) → ℕ → X → Type 0
+IsNotBefore left phase x = IfSome (left x) (λ n. phase ≤ n)
+
 -- no one of these who is not done is in a phase before this one
 abbrev pub NoneIsBefore : {X : Type 0} → (X → Option ℕ) → ℕ → List X → Type 0
-NoneIsBefore left phase actors = All (λ x. IfSome (left x) (λ n. phase ≤ n)) actors
+NoneIsBefore left phase actors = All (λ x. IsNotBefore left phase x) actors
 
 -- the lesser of two numbers, of which each may be missing
 abbrev pub lesser : Option ℕ → Option ℕ → Option ℕ

@@ -1,5 +1,5 @@
 -- Who an actor is and what it has to do. No line that it does changes this.
-use Rattle.std.specs.Prelude.{◌≡◌, ◌+◌, ℕ, All, List, length, map, slice_get, Some}
+use Rattle.std.specs.Prelude.{◌≡◌, ◌+◌, ◌≤◌, ℕ, All, List, length, map, slice_get, Some}
 use Rattle.nit_actor.specs.Below.{BookName, BufferName, InputLine, Line, OpeningParts, PassModel}
 use Rattle.nit_actor.specs.Below.{PlanModel, UserPassModel, donation_of}
 
@@ -28,10 +28,11 @@ role_of p = record {
 abbrev pub IsAtLine : Line → PassModel → Type 0
 IsAtLine line p = slice_get p.script p.next ≡ Some line
 
--- a client's pass keeps its role, and one more of its lines is done
+-- a client's pass keeps its role, one more of its lines is done, and its phase is no earlier one
 pub record IsOneOn (before after' : PassModel) : Type 0 where
   pub same : role_of after' ≡ role_of before
   pub next : after'.next ≡ before.next + 1
+  pub later : before.phase ≤ after'.phase
 
 -- it keeps its role, and all its lines are done
 pub record IsThrough (before after' : PassModel) : Type 0 where

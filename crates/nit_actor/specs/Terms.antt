@@ -21,11 +21,13 @@ pub use Rattle.nit_actor.specs.Crew.{CrewCanRun, CrewHasRun, HasPlaceFor, IsSame
 pub use Rattle.nit_actor.specs.History.{AreOfOneHistory, IsHeldPicture, StaysClean}
 pub use Rattle.nit_actor.specs.IdleUser.{AloneOn, AreAlone, StepOn, StepTogether, actions_to_be}
 pub use Rattle.nit_actor.specs.IdleUser.{idle_user}
-pub use Rattle.nit_actor.specs.PhasesLeft.{IsLeastOf, NoneIsBefore, lesser, pair_phase_left}
-pub use Rattle.nit_actor.specs.PhasesLeft.{phase_left, phases_left, user_phase_left}
+pub use Rattle.nit_actor.specs.PhasesLeft.{IsLeastOf, IsNotBefore, NoneIsBefore, lesser}
+pub use Rattle.nit_actor.specs.PhasesLeft.{pair_phase_left, phase_left, phases_left}
+pub use Rattle.nit_actor.specs.PhasesLeft.{user_phase_left}
 pub use Rattle.nit_actor.specs.Pictures.{AreNearShots, IsNearPicture, IsPictureAmong}
 pub use Rattle.nit_actor.specs.Pictures.{PutsShotsBehind}
 pub use Rattle.nit_actor.specs.Role.{AreThrough, IsAtLine, IsOneOn, IsRoleIn, IsThrough, Role}
 pub use Rattle.nit_actor.specs.Role.{UserRole, role_of, user_role_of}
+pub use Rattle.nit_actor.specs.Turn.{EachTakesTurn, IsTurn, TakesTurn}
 pub use Rattle.nit_actor.specs.UserShots.{CanShoot, CanShootAt, CanTakeTurns, IsQuietlyOn}
 pub use Rattle.nit_actor.specs.UserShots.{TakesAllShots, TakesShots, TakesShotsOn, UserIsAtLine}

@@ -13,7 +13,8 @@ use std::sync::Wait;
 /// A client as one thread steps it, alone or with its clips. What it shares with all actors of its
 /// run is a `W`.
 pub(crate) trait Actor<W> {
-    ghost use Rattle.std.specs.Prelude.{◌≡◌, ℕ, Option, None, IsSome};
+    ghost use Rattle.std.specs.Prelude.{◌≡◌, ℕ, Option, None, IfSome, IsSome};
+    ghost use Rattle.nit_actor.specs.PhasesLeft.{IsNotBefore};
 
     /// Who the actor is and what it has to do. No step changes this.
     ghost Role: { Type 0 };
@@ -33,12 +34,14 @@ pub(crate) trait Actor<W> {
     fn phase_left(&self) -> Option<u32>
         ensures { result ≡ left self.now };
 
-    /// Does what is next. It may wait until the room serves the actor's phase.
+    /// Does what is next. It may wait until the room serves the actor's phase, and leads to no
+    /// phase before it.
     fn step<R: Wait>(&mut self, rt: &R, shared: &W)
         requires fits { fits (role self.old) }
         requires left { IsSome (left self.old) }
         ensures same { role self.new ≡ role self.old }
-        ensures steps { steps self.old self.new };
+        ensures steps { steps self.old self.new }
+        ensures later { IfSome (left self.old) (λ phase. IsNotBefore left phase self.new) };
 
     /// Does all that is left.
     fn run<R: Wait>(&mut self, rt: &R, shared: &W)
@@ -71,6 +74,7 @@ impl<'h, 'a, N: Name, K: Checkpoint> Actor<GatedHall<'h, 'a, N, K>> for Pass<'a>
         }
     }
 
+    #[tactic(auto, using(crate::proofs::Turns::no_earlier))]
     fn step<R: Wait>(&mut self, rt: &R, gated: &GatedHall<'h, 'a, N, K>) {
         if let Some(line) = self.next() {
             do_line(rt, gated, self, &line);

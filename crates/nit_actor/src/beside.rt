@@ -48,8 +48,9 @@ impl<'a, 's, W: UserTurns<'a>, A: Actor<W>, S: Store> CallerThread<A, W>
 /// user, by turns with the passes whose threads could not be started. The pictures of the shots are
 /// put meanwhile, until a put is refused. Afterwards each pass is at its place, with all its lines
 /// done. No memory is taken but by the store: the place where unstarted passes wait is empty and
-/// has room for all, and there is a flag for each pass, which is not raised. Where the flag of a
-/// pass is raised, its thread leaves it as it is, and the calling thread steps it at the end.
+/// has room for all, and there is a flag for each pass. Where the flag of a pass is raised, its
+/// thread leaves it as it is, and the calling thread steps it at the end. So the caller raises
+/// none; tests with gates show that, since no clause can: an atomic has no value in contracts.
 #[tactic(auto, using(crate::proofs::Roles::clients_done))]
 pub fn run_beside<'a, 's, N: Name + Send + Sync, G: Gate, S: Store, R: Threads + Wait + Sync>(
     rt: &R,
@@ -72,9 +73,7 @@ pub fn run_beside<'a, 's, N: Name + Send + Sync, G: Gate, S: Store, R: Threads +
 /// scripts: each pair on a thread of its own, and on the calling thread the user, by turns
 /// with the pairs whose threads could not be started. Afterwards each pair is at its place, with
 /// all its lines done. No memory is taken but by the store: the place where unstarted pairs wait is
-/// empty and has room for all, and there is a flag for each pair, which is not raised. Where the
-/// flag of a pair is raised, its thread leaves it as it is, and the calling thread steps it at the
-/// end.
+/// empty and has room for all, and there is a flag for each pair, of which the caller raises none.
 #[tactic(auto, using(crate::proofs::Roles::pairs_fit, crate::proofs::Roles::pairs_done))]
 pub fn run_beside_clips<'a, 's, N: Name + Send + Sync, G: Gate, S: Store, R: Threads + Wait + Sync>(
     rt: &R,

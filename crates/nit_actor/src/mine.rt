@@ -1,10 +1,11 @@
 //! What the calling thread does: the user, and the clients whose threads could not be started, by
 //! turns.
 
-ghost use Rattle.std.specs.Prelude.{◌≡◌, All, None, Some, length, map};
-ghost use Rattle.nit_actor.specs.Terms.{AreThrough, Belongs, CanTakeTurns, IsLeastOf, IsPairIn};
-ghost use Rattle.nit_actor.specs.Terms.{NoneIsBefore, TakesAllShots, lesser, pair_role_of};
-ghost use Rattle.nit_actor.specs.Terms.{phases_left, role_of, user_phase_left};
+ghost use Rattle.std.specs.Prelude.{◌≡◌, All, IfNone, IfSome, None, length, map};
+ghost use Rattle.nit_actor.specs.Terms.{AreThrough, Belongs, CanTakeTurns, EachTakesTurn};
+ghost use Rattle.nit_actor.specs.Terms.{IsLeastOf, IsNotBefore, IsPairIn, IsTurn, NoneIsBefore};
+ghost use Rattle.nit_actor.specs.Terms.{TakesAllShots, TakesShots, TakesTurn, lesser};
+ghost use Rattle.nit_actor.specs.Terms.{pair_role_of, phases_left, role_of};
 
 use crate::actor::Actor;
 use crate::gate::{Gate, GatedHall};
@@ -58,9 +59,8 @@ pub fn run_mine_clips<'a, N: Name, G: Gate, S: Store, R: Wait>(
     run_turns(rt, &gated, pairs, user, desk)
 }
 
-/// Does all that is left of these actors and of the user, by turns. In each turn those of the least
-/// phase that has a line left do what is next.
-#[tactic(auto, using(crate::proofs::Roles::user_not_before, crate::proofs::Shots::nothing))]
+/// Does all that is left of these actors and of the user, by turns.
+#[tactic(auto, using(crate::proofs::Shots::nothing))]
 pub(crate) fn run_turns<'a, W: UserTurns<'a>, A: Actor<W>, S: Store, R: Wait>(
     rt: &R,
     shared: &W,
@@ -73,34 +73,61 @@ pub(crate) fn run_turns<'a, W: UserTurns<'a>, A: Actor<W>, S: Store, R: Wait>(
     ensures user { TakesAllShots S.shown W.parts user.old user.new desk.old desk.new }
 {
     'turns: for _ in rt.forever() {
-        let Some(phase) = least_phase(actors, user) else {
+        let Some(_phase) = do_turn(rt, shared, actors, user, desk) else {
             return;
         };
-        do_turn(rt, shared, actors, phase);
-        shared.user_turn(rt, user, phase, desk);
     }
     unreachable!()
 }
 
+/// A turn, in the least phase of those that are not done: each actor that is in it does what is
+/// next, and then the user does. The result is the phase, or `None` where all are done. So nobody
+/// waits for another one of this thread.
+#[tactic(auto, using(crate::proofs::Roles::user_not_before, crate::proofs::Shots::nothing))]
+fn do_turn<'a, W: UserTurns<'a>, A: Actor<W>, S: Store, R: Wait>(
+    rt: &R,
+    shared: &W,
+    actors: &mut [A],
+    user: &mut UserPass<'a>,
+    desk: &mut Desk<S>,
+) -> Option<u32>
+    requires { CanTakeTurns W.parts (λ a. A.fits (A.role a)) actors.old user.old desk.old }
+    ensures phase { IsLeastOf result (phases_left A.left actors.old user.old) }
+    ensures turn { IfSome result (λ phase.
+        IsTurn A.left A.steps phase actors.old actors.new user.old user.new) }
+    ensures end { IfNone result ((actors.new ≡ actors.old) × (user.new ≡ user.old)) }
+    ensures same { map A.role actors.new ≡ map A.role actors.old }
+    ensures shots { TakesShots S.shown W.parts user.old user.new desk.old desk.new }
+{
+    let Some(phase) = least_phase(actors, user) else {
+        return None;
+    };
+    step_actors(rt, shared, actors, phase);
+    shared.user_turn(rt, user, phase, desk);
+    Some(phase)
+}
+
 /// Each actor that is in this phase does what is next, if it is not done. No actor that is not done
-/// is in a lesser phase.
-fn do_turn<A: Actor<W>, W, R: Wait>(rt: &R, shared: &W, actors: &mut [A], phase: u32)
+/// is in a lesser phase, and none is afterwards.
+fn step_actors<A: Actor<W>, W, R: Wait>(rt: &R, shared: &W, actors: &mut [A], phase: u32)
     requires fits { All (λ a. A.fits (A.role a)) actors.old }
     requires least { NoneIsBefore A.left phase actors.old }
+    ensures turn { EachTakesTurn A.left A.steps phase actors.old actors.new }
+    ensures least { NoneIsBefore A.left phase actors.new }
     ensures same { map A.role actors.new ≡ map A.role actors.old }
-    ensures fits { All (λ a. A.fits (A.role a)) actors.new }
 {
     'actors: for actor in actors.iter_mut() {
         do_one_turn(rt, shared, actor, phase);
     }
 }
 
-/// The actor does what is next, if it is not done and is in this phase.
+/// The actor does what is next, if it is not done and is in this phase. It is in no lesser one.
 fn do_one_turn<A: Actor<W>, W, R: Wait>(rt: &R, shared: &W, actor: &mut A, phase: u32)
     requires fits { A.fits (A.role actor.old) }
+    requires least { IsNotBefore A.left phase actor.old }
+    ensures turn { TakesTurn A.left A.steps phase actor.old actor.new }
+    ensures least { IsNotBefore A.left phase actor.new }
     ensures same { A.role actor.new ≡ A.role actor.old }
-    ensures in_phase { A.left actor.old ≡ Some phase → A.steps actor.old actor.new }
-    ensures others { (A.left actor.old ≡ Some phase → ⊥) → actor.new ≡ actor.old }
 {
     if actor.phase_left() == Some(phase) {
         actor.step(rt, shared);

@@ -42,7 +42,7 @@ impl<'h, 'a, N: Name, K: Checkpoint> Actor<GatedHall<'h, 'a, N, K>> for Pair<'a>
         }
     }
 
-    #[tactic(auto, using(crate::proofs::Roles::fits_pair, crate::proofs::Roles::pair_role_again))]
+    #[tactic(auto, using(crate::proofs::Turns::pair_stays))]
     fn step<R: Wait>(&mut self, rt: &R, gated: &GatedHall<'h, 'a, N, K>) {
         match self.pass.next() {
             Some(line) => do_pair_line(rt, gated, &mut self.pass, &mut self.clip, &line),

@@ -14,9 +14,9 @@ use std::sync::Wait;
 
 /// What all actors of a run share, as the turns of the user go through it.
 pub(crate) trait UserTurns<'a> {
-    ghost use Rattle.std.specs.Prelude.{◌≡◌, ◌+◌, ◌∷◌, [], Some};
     ghost use Rattle.nit_hall.specs.OpeningParts.{OpeningParts};
-    ghost use Rattle.nit_actor.specs.PhasesLeft.{NoneIsBefore, user_phase_left};
+    ghost use Rattle.nit_actor.specs.PhasesLeft.{IsNotBefore, user_phase_left};
+    ghost use Rattle.nit_actor.specs.Turn.{TakesTurn, UserSteps};
     ghost use Rattle.nit_actor.specs.UserShots.{CanShoot, TakesShots};
 
     /// Of which opening the run is.
@@ -32,10 +32,8 @@ pub(crate) trait UserTurns<'a> {
         desk: &mut Desk<S>,
     )
         requires ready { CanShoot parts user.old desk.old }
-        requires least { NoneIsBefore user_phase_left phase (user.old ∷ []) }
-        ensures in_phase { user_phase_left user.old ≡ Some phase
-            → user.new.next ≡ user.old.next + 1 }
-        ensures others { (user.old.phase ≡ phase → ⊥) → user.new ≡ user.old }
+        requires least { IsNotBefore user_phase_left phase user.old }
+        ensures turn { TakesTurn user_phase_left UserSteps phase user.old user.new }
         ensures shots { TakesShots S.shown parts user.old user.new desk.old desk.new };
 }
 

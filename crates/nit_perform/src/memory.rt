@@ -39,7 +39,8 @@ impl<T: Drop> Memory<T> {
     }
 }
 
-/// So many flags that are not raised.
+/// So many flags, none of which is raised. Tests with gates show the latter, and no clause does: an
+/// atomic has no value in contracts.
 pub fn flags(alloc: Global, count: usize) -> Result<Vec<AtomicBool>, NoMemory>
     ensures { IfOk result (λ v. vec_len v ≡ count) }
 {

@@ -125,6 +125,14 @@ pub record IsFocusTheUsers (config : Configuration) (journal : List Entry) : Typ
       → journal ≡ front ++ entry.Input dev routed ∷ rest
       → focus_after config (front ++ entry.Input dev routed ∷ []) ≡ Some sid
       → (focus_after config front ≡ Some sid) ⊎ IsClickOn (replay config front) dev sid
+  -- a shot leaves it as it is, and so does the last picture
+  pub at_shot : (front rest : List Entry) (number : ℕ)
+      → journal ≡ front ++ entry.Shot number ∷ rest
+      → focus_after config (front ++ entry.Shot number ∷ []) ≡ focus_after config front
+  pub at_end : (front rest : List Entry) → journal ≡ front ++ entry.Final ∷ rest
+      → focus_after config (front ++ entry.Final ∷ []) ≡ focus_after config front
+  -- in front of the first entry nobody has it
+  pub at_first : focus_after config [] ≡ None
 
 -- ---- the pictures
 

@@ -1,4 +1,4 @@
-use Rattle.nit_actor.proofs.Lemmas.{all_ended, also, none_before, ready_again, ◌∙◌}
+use Rattle.nit_actor.proofs.Lemmas.{all_again, all_ended, also, ready_again, ◌∙◌}
 use Rattle.nit_actor.proofs.mine.run_turns.Goals as goal
 
 pub turns-preserved : goal.turns-preserved
@@ -7,23 +7,25 @@ turns-preserved g c =
     let t = c.do_turn.ensures in
     record {
       same = t.same ∙ i.same;
-      fit = t.fits;
-      user = also g.S.Store.shown g.W.UserTurns.parts _ _ _ _ _ _ i.user c.user_turn.ensures.shots;
-      ready = ready_again g.S.Store.shown g.W.UserTurns.parts _ _ _ _ i.ready c.user_turn.ensures.shots;
+      user = also g.S.Store.shown g.W.UserTurns.parts _ _ _ _ _ _ i.user t.shots;
+      can = record {
+        actors_in = all_again g.A.Actor.role g.A.Actor.fits _ _ t.same i.can.actors_in;
+        user = ready_again g.S.Store.shown g.W.UserTurns.parts _ _ _ _ i.can.user t.shots;
+      };
     }
 
 pub returns-in_default-clause-actors : goal.returns-in_default-clause-actors
-returns-in_default-clause-actors g c = record {
-  same = c.turns.invariant.same;
-  done = (all_ended g.A.Actor.left c.turns.actors c.turns.user c.in_default.ensures).0;
-}
+returns-in_default-clause-actors g c =
+    let t = c.in_default.ensures in
+    record {
+      same = t.same ∙ c.turns.invariant.same;
+      done = rw t.end.0 (all_ended g.A.Actor.left c.turns.actors c.turns.user t.phase).0;
+    }
 
 pub returns-in_default-clause-user : goal.returns-in_default-clause-user
-returns-in_default-clause-user g c = record {
-  shots = c.turns.invariant.user;
-  done = (all_ended g.A.Actor.left c.turns.actors c.turns.user c.in_default.ensures).1;
-}
-
-pub do_turn-requires-clause-least : goal.do_turn-requires-clause-least
-do_turn-requires-clause-least g c =
-    none_before g.A.Actor.left c.turns.actors c.turns.user _ _ c.least_phase.ensures c.in-Some-least_phase.is
+returns-in_default-clause-user g c =
+    let t = c.in_default.ensures in
+    record {
+      shots = also g.S.Store.shown g.W.UserTurns.parts _ _ _ _ _ _ c.turns.invariant.user t.shots;
+      done = rw t.end.1 (all_ended g.A.Actor.left c.turns.actors c.turns.user t.phase).1;
+    }

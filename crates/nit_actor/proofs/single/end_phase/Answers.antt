@@ -10,7 +10,7 @@ arrive_user-requires c = record {
 
 pub returns-clause-on : goal.returns-clause-on
 returns-clause-on c =
-    phase_ended _ _ c.requires.step c.requires.next c.arrive.ensures.room c.arrive_user.ensures.room
+    phase_ended _ _ _ c.requires.step c.requires.next c.arrive.ensures.room c.arrive_user.ensures.room
     c.arrive.ensures.pass c.arrive_user.ensures.user
 
 pub returns-clause-scene : goal.returns-clause-scene

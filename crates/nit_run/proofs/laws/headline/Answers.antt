@@ -1,4 +1,4 @@
-use Rattle.std.proofs.Common.{◌≡◌, ◌∙◌, ◌++◌, ◌∷◌, [], ◌<◌, List, length, ap, inl, inr}
+use Rattle.std.proofs.Common.{◌≡◌, ◌∙◌, ◌++◌, ◌∷◌, [], ◌<◌, List, length, ap, inl, inr, refl}
 use Rattle.nit_run.proofs.Lemmas.{Entry, IsLegal, after, calls_to_make, done, end_shows}
 use Rattle.nit_run.proofs.Lemmas.{events_among, events_taken, files_counted, first_state}
 use Rattle.nit_run.proofs.Lemmas.{focus_after, get_or-map, history_shows, length-map, replay}
@@ -71,6 +71,9 @@ returns c = λ s journal outputs runnable j are.
               | inr (k, is, button, mode, owns, by) ↦
                   inr (record { code = k; pressed = is; button = button; mode = mode; owns = owns; by_clicks = by })
             ];
+        at_shot = λ front rest number parts. rw (focus_after, same front (entry.Shot number)) refl;
+        at_end = λ front rest parts. rw (focus_after, same front entry.Final) refl;
+        at_first = refl;
       };
       shots_show = λ front rest number parts.
           shot_shows s journal outputs j are law fronts c.frame_pixels.ensures.count c.frame_pixels.ensures.each
