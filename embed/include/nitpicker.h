@@ -196,6 +196,7 @@ struct nit_seat_state {
     uint32_t kind;            /* NIT_DONE, NIT_NO_SERVER, NIT_NO_SEAT */
     uint32_t status;          /* enum nit_status: taken where it is live, and free else */
     uint32_t waiting;         /* how many events wait, 0..64 */
+    uint32_t zero;            /* 0 */
     uint64_t lost;            /* how many were lost since the seat was taken */
 };
 
@@ -377,7 +378,7 @@ struct nit_seat_state nit_seat_state(struct nit_server *server, uint32_t seat);
  * down since. SIZE_MAX where memory ran out: this call takes some for its time. */
 size_t nit_entry(struct nit_server *server, char *out, size_t room);
 
-/* ---- How many bytes the structs have */
+/* ---- How many bytes the structs have: those of their fields, and no other */
 
 #ifdef __cplusplus
 #define NIT_BYTES(type, bytes) static_assert(sizeof(type) == (bytes), #type)
@@ -392,6 +393,8 @@ NIT_BYTES(struct nit_routed, 68);
 NIT_BYTES(struct nit_rect, 20);
 NIT_BYTES(struct nit_state, 36);
 NIT_BYTES(struct nit_seat_state, 24);
+NIT_BYTES(struct nit_seat_plan, 12);
+NIT_BYTES(struct nit_plan, 24);
 #undef NIT_BYTES
 
 #ifdef __cplusplus

@@ -14,6 +14,7 @@ compared where one is given. What is compared:
   sources: the names and types of its fields in their order, but for ghost ones. An array may be as
   many fields there, of any names. C's compiler says by `_Static_assert` that its size and the place
   of each field are those that Rust's rules for `#[repr(C)]` give.
+- each struct of the header has the bytes of its fields, and no other: so says `_Static_assert` too.
 - each number of an enum of the header is a constant of the sources, of that name without NIT_ and
   of that value.
 - `raw.rs` of embed/rust says the same of functions, structs and those numbers that it has.
@@ -203,6 +204,16 @@ def asserts(structs, names):
     return "\n".join(lines) + "\n"
 
 
+def named_bytes(header):
+    """C that does not compile where a struct of the header has bytes that no field names."""
+    lines = []
+    for name, fields in sorted(header.structs.items()):
+        total = " + ".join(f"sizeof(((struct {name} *)0)->{field})" for _, field, _ in fields)
+        lines.append(f'_Static_assert(sizeof(struct {name}) == {total}, '
+                     f'"{name} has bytes that no field names");')
+    return "\n".join(lines) + "\n"
+
+
 # What differs.
 
 
@@ -265,8 +276,8 @@ def struct_faults(header, sources, folder):
                for name in names if ours[name] != theirs[name]]
     if not faults:
         command = [compiler(), "-std=c11", "-fsyntax-only", "-I", folder, "-x", "c", "-"]
-        ended = subprocess.run(command, input=asserts(theirs, names), text=True,
-                               capture_output=True, check=False)
+        ended = subprocess.run(command, input=asserts(theirs, names) + named_bytes(header),
+                               text=True, capture_output=True, check=False)
         if ended.returncode:
             faults += re.findall(r"error: (.*)", ended.stderr) or [f"cc: {ended.stderr.strip()}"]
     return faults

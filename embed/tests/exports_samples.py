@@ -5,7 +5,7 @@ HEADER = """#include <stddef.h>
 struct nit_server { void *at; uint64_t mark; };
 enum nit_answer { NIT_DONE = 1, /* done */ NIT_LATE = 32 };
 struct nit_pair { uint16_t x, y; int32_t turn; };
-struct nit_told { uint32_t kind; struct nit_pair to[3]; uint64_t need; };
+struct nit_told { uint32_t kind; struct nit_pair to[3]; uint32_t zero; uint64_t need; };
 struct nit_told nit_tell(struct nit_server *server, uint32_t w, int32_t x, const char *text,
                          size_t length);
 uint32_t nit_put(struct nit_server *server, uint32_t *out, size_t count);
@@ -37,6 +37,7 @@ pub struct NitPair {
 pub struct NitTold {
     pub kind: u32,
     pub to: [NitPair; 3],
+    pub zero: u32,
     pub need: u64,
 }
 #[unsafe(no_mangle)]
@@ -73,7 +74,10 @@ CHANGES = [
     ("LATE: u32 = 32", "LATE: u32 = 33", "NIT_LATE is 32 and not 33"),
     ("const LATE: u32 = 32;\n", "", "constant NIT_LATE: in the header alone"),
     ("uint32_t nit_put(", "uint32_t nit_set(", "nit_set: in the header alone"),
-    ("#include <stddef.h>", "#include <stddef.h>\n#pragma pack(1)", "place of nit_told.need"),
+    ("#include <stddef.h>", "#include <stddef.h>\n#pragma pack(2)",
+     "alignment of nit_told"),
+    ("struct nit_pair {", "struct nit_plan { uint32_t w; uint64_t h; };\nstruct nit_pair {",
+     "nit_plan has bytes that no field names"),
 ]
 
 # What an archive has, and what is to be said of it.
@@ -104,6 +108,7 @@ pub struct Pair {
 pub struct Told {
     pub kind: u32,
     pub to: [Pair; 3],
+    pub zero: u32,
     pub need: u64,
 }
 extern "C" {

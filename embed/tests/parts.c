@@ -97,13 +97,13 @@ void same_state(struct nit_state got, struct nit_state want, const char *file, i
 void same_seat(struct nit_seat_state got, struct nit_seat_state want, const char *file, int line)
 {
     char both[250];
-    if (got.kind == want.kind && got.status == want.status && got.waiting == want.waiting
-        && got.lost == want.lost)
+    if (memcmp(&got, &want, sizeof got) == 0)
         return;
     snprintf(both, sizeof both,
-             "the seat has kind %u, status %u, waiting %u, lost %llu, and not %u, %u, %u, %llu",
-             got.kind, got.status, got.waiting, (unsigned long long)got.lost, want.kind,
-             want.status, want.waiting, (unsigned long long)want.lost);
+             "the seat has kind %u, status %u, waiting %u, zero %u, lost %llu, "
+             "and not %u, %u, %u, %u, %llu",
+             got.kind, got.status, got.waiting, got.zero, (unsigned long long)got.lost,
+             want.kind, want.status, want.waiting, want.zero, (unsigned long long)want.lost);
     failed(file, line, both);
 }
 

@@ -97,9 +97,9 @@ static void closes(void)
 
 /* ---- Measuring. */
 
-/* Paints all that lies below the caller's frame, or counts the bytes of it that are painted no
- * more, from the deepest one on. */
-static size_t paint(bool is_new)
+/* Paints what lies below the frame of this function, but for some bytes that it needs itself; or
+ * counts the bytes that are painted no more, from the deepest one on. */
+static __attribute__((noinline)) size_t paint(bool is_new)
 {
     unsigned char *here = __builtin_frame_address(0);
     size_t room = (size_t)(here - lowest), deep = 0;

@@ -34,7 +34,7 @@ c_state h = record {
 
 -- a seat's state that is its kind alone
 abbrev pub no_seat_state : ℕ → NitSeatState
-no_seat_state kind = record { kind = kind; status = 0; waiting = 0; lost = 0 }
+no_seat_state kind = record { kind = kind; status = 0; waiting = 0; zero = 0; lost = 0 }
 
 abbrev pub c_seat_state : HostModel → ℕ → NitSeatState
 c_seat_state h seat =
@@ -45,6 +45,7 @@ c_seat_state h seat =
       kind = 1;
       status = status_number s.status;
       waiting = length s.queue;
+      zero = 0;
       lost = s.lost;
     }
     else no_seat_state 32

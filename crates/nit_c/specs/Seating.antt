@@ -1,5 +1,6 @@
 -- Clients that come to a seat.
-use Rattle.std.specs.Prelude.{◌≡◌, ℕ, not, nat_lt, List, length, Option, Some, None, if◌then◌else◌}
+use Rattle.std.specs.Prelude.{◌≡◌, ◌≢◌, ℕ, not, nat_lt, List, length, Option, Some, None}
+use Rattle.std.specs.Prelude.{if◌then◌else◌}
 use Rattle.nit_c.specs.Below.{HostModel, Unseated, is_label, seat_for, seated, unseated}
 use Rattle.nit_c.specs.Numbers.{seat_number, unseated_number}
 use Rattle.nit_c.specs.declared.handle.NitServer.{NitServer}
@@ -32,8 +33,14 @@ abbrev pub IsSeatedBy : NitServer → NitServer → ℕ → List ℕ → ℕ →
 IsSeatedBy old new seat label answer =
     Steps old new (answer ≡ 0) (λ h g. IsSeated h g seat label answer)
 
+-- The answer is the seat that takes a new client of this label. So nit_seat on it is done; and
+-- where it is none, nit_seat is done on no seat.
+pub record IsSought (h : HostModel) (label : List ℕ) (answer : ℕ) : Type 0 where
+  pub seat : answer ≡ seat_number (seat_of h label)
+  pub takes : answer ≢ seat_number None → refused_seat h answer label ≡ None
+  pub none : answer ≡ seat_number None → (seat : ℕ) → refused_seat h seat label ≢ None
+
 -- a seat is looked for, by a handle
 abbrev pub IsSeatFor : NitServer → NitServer → List ℕ → ℕ → Type 0
 IsSeatFor old new label answer =
-    Steps old new (answer ≡ seat_number None)
-    (λ h g. (g ≡ h) × (answer ≡ seat_number (seat_of h label)))
+    Steps old new (answer ≡ seat_number None) (λ h g. (g ≡ h) × IsSought h label answer)

@@ -15,7 +15,8 @@ pub use Rattle.nit_c.specs.Replies.{IsCalled, IsRedrawn, IsRefreshed, IsTitled, 
 pub use Rattle.nit_c.specs.Replies.{c_answer, c_event, c_reply, no_event, only_kind, untitled}
 pub use Rattle.nit_c.specs.Routing.{IsInput, IsTold, c_delivery, c_item, c_routed, c_told, moved_to}
 pub use Rattle.nit_c.specs.Routing.{one_of, only_routed, pressed, released, turned}
-pub use Rattle.nit_c.specs.Seating.{IsSeatFor, IsSeated, IsSeatedBy, seat_of}
+pub use Rattle.nit_c.specs.Seating.{IsSeatFor, IsSeated, IsSeatedBy, IsSought, refused_seat}
+pub use Rattle.nit_c.specs.Seating.{seat_of}
 pub use Rattle.nit_c.specs.Steps.{ByServer, host_of, host_where, server_of}
 pub use Rattle.nit_c.specs.contracts.handle.NitServer.{the_type}
 pub use Rattle.nit_c.specs.declared.handle.NitServer.{NitServer}

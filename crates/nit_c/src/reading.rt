@@ -45,6 +45,8 @@ pub struct NitSeatState {
     pub status: u32,
     /// How many events wait, 0..=64.
     pub waiting: u32,
+    /// 0, so that no byte is left to chance.
+    pub zero: u32,
     /// How many were lost since the seat was taken.
     pub lost: u64,
 }
@@ -93,6 +95,7 @@ fn no_seat_state(kind: u32) -> NitSeatState
         kind,
         status: SEAT_NONE,
         waiting: 0,
+        zero: 0,
         lost: 0,
     }
 }
@@ -105,10 +108,10 @@ fn seat_state_of(host: &Host, seat: u32) -> NitSeatState
         return no_seat_state(NO_SEAT);
     }
     NitSeatState {
-        kind: DONE,
         status: status_number(host.status(seat)),
         waiting: host.waiting(seat),
         lost: host.lost(seat),
+        ..no_seat_state(DONE)
     }
 }
 

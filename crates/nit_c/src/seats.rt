@@ -1,7 +1,8 @@
 //! Clients that come to a seat.
 
-ghost use Rattle.std.specs.Prelude.{◌≡◌};
-ghost use Rattle.nit_c.specs.Terms.{IsSeatFor, IsSeated, IsSeatedBy, seat_of};
+ghost use Rattle.std.specs.Prelude.{◌≡◌, ◌≢◌, IfSome, None, ℕ};
+ghost use Rattle.nit_c.specs.Terms.{IsSeatFor, IsSeated, IsSeatedBy, IsSought, refused_seat};
+ghost use Rattle.nit_c.specs.Terms.{seat_of};
 
 use crate::handle::NitServer;
 use crate::numbers::{BAD_LABEL, DONE, NO_SEAT, NO_SERVER, seat_number, unseated_number};
@@ -25,9 +26,19 @@ fn sit(host: &mut Host, seat: u32, label: &[u8]) -> u32
     }
 }
 
+/// The number of the seat that takes a new client of this label, or that of none.
+fn sought(host: &Host, label: &[u8]) -> u32
+    ensures { IsSought host.now label.now result }
+{
+    let _seats = host.seats();
+    seat_number(seat_of(host, label))
+}
+
 /// The seat that takes a new client of this label. None also where the bytes are no label.
 fn seat_of(host: &Host, label: &[u8]) -> Option<u32>
-    ensures { result ≡ seat_of host.now label.now }
+    ensures seat { result ≡ seat_of host.now label.now }
+    ensures takes { IfSome result (λ seat. refused_seat host.now seat label.now ≡ None) }
+    ensures none { result ≡ None → (seat : ℕ) → refused_seat host.now seat label.now ≢ None }
 {
     match Label::new(label) {
         Some(label) => host.seat_for(&label),
@@ -50,7 +61,7 @@ pub extern "C" fn nit_seat(alloc: Global, server: &mut NitServer, seat: u32, lab
 }
 
 /// The seat that takes a new client of this label: the free one that had the label last, else the
-/// first free one. 4,294,967,295 where there is none.
+/// first free one. [`nit_seat`] on the answer is done. 4,294,967,295 where no seat takes it.
 #[unsafe(no_mangle)]
 pub extern "C" fn nit_seat_for(alloc: Global, server: &mut NitServer, label: &[u8]) -> u32
     ensures { IsSeatFor server.old server.new label.now result }
@@ -59,7 +70,7 @@ pub extern "C" fn nit_seat_for(alloc: Global, server: &mut NitServer, label: &[u
         return seat_number(None);
     }
     let host = server.take(alloc);
-    let answer = seat_number(seat_of(host.as_ref(), label));
+    let answer = sought(host.as_ref(), label);
     *server = NitServer::of(host);
     answer
 }

@@ -126,6 +126,7 @@ pub struct SeatState {
     pub kind: u32,
     pub status: u32,
     pub waiting: u32,
+    pub zero: u32,
     pub lost: u64,
 }
 
