@@ -1,66 +1,25 @@
-/* The calls of clients: one message each, answered by one. Not proved.
+/* The calls of clients, each answered by one message. Not proved.
  *
- * A client that breaks the protocol is closed. A message has its size, a descriptor is a sealed
- * memfd, and pixels are copied before the library reads them. */
+ * All that a client can write meanwhile is read once, by pread: a call, and pixels before the
+ * library reads them. A client that breaks the protocol is closed. */
 #include "host.h"
 #include "protocol.h"
-#include <errno.h>
-#include <fcntl.h>
 #include <string.h>
 #include <sys/socket.h>
-#include <sys/stat.h>
+#include <sys/uio.h>
+#include <time.h>
 #include <unistd.h>
 
-enum received { NO_CALL, A_CALL, BROKEN };
-
-/* Takes one message, and the descriptor that came with it, or -1. The room is for one alone: the
- * system closes others, and says that there were some. */
-static enum received receive(int socket, struct call *call, int *descriptor)
+/* Takes one call, where one waits. The bell's flags are the client's too, so that this read itself
+ * says that it does not wait. */
+static bool receive(struct client *client, struct call *call)
 {
-    union {
-        struct cmsghdr head;
-        char room[CMSG_SPACE(sizeof(int))];
-    } control;
-    struct iovec part = { call, sizeof *call };
-    struct msghdr message = { .msg_iov = &part, .msg_iovlen = 1, .msg_control = &control,
-                              .msg_controllen = CMSG_LEN(sizeof(int)) };
-    *descriptor = -1;
-    ssize_t got = recvmsg(socket, &message, MSG_DONTWAIT | MSG_CMSG_CLOEXEC);
-    if (got < 0)
-        return errno == EAGAIN || errno == EINTR ? NO_CALL : BROKEN;
-    const struct cmsghdr *head = CMSG_FIRSTHDR(&message);
-    if (head && head->cmsg_level == SOL_SOCKET && head->cmsg_type == SCM_RIGHTS)
-        memcpy(descriptor, CMSG_DATA(head), sizeof *descriptor);
-    bool whole = got == sizeof *call && (message.msg_flags & (MSG_TRUNC | MSG_CTRUNC)) == 0;
-    bool known = whole && call->call >= CALL_BUFFER && call->call <= CALL_LAST;
-    return known && (*descriptor >= 0) == (call->call == CALL_BUFFER) ? A_CALL : BROKEN;
-}
-
-/* True where the descriptor is of a memfd that has so many words, and always will. */
-static bool is_sealed(int descriptor, uint64_t words)
-{
-    struct stat about;
-    int seals = fcntl(descriptor, F_GET_SEALS);
-    return seals >= 0 && (seals & F_SEAL_SHRINK) != 0 && fstat(descriptor, &about) == 0 &&
-           (uint64_t)about.st_size / sizeof(uint32_t) >= words;
-}
-
-/* The new buffer shows the new memfd, once the library has let the client have it. */
-static struct nit_reply buffer(struct host *host, uint32_t seat, const struct call *call,
-                               int descriptor)
-{
-    struct client *client = &host->clients[seat];
-    struct nit_reply reply = nit_buffer(&host->server, seat, call->w, call->h);
-    if (reply.kind != NIT_DONE) {
-        close(descriptor);
-        return reply;
-    }
-    if (client->pixels >= 0)
-        close(client->pixels);
-    client->pixels = descriptor;
-    client->w = call->w;
-    client->h = call->h;
-    return reply;
+    uint64_t one;
+    struct iovec part = { &one, sizeof one };
+    if (preadv2(client->bell, &part, 1, -1, RWF_NOWAIT) != sizeof one)
+        return false;
+    off_t place = client->call++ % PROTOCOL_CALLS * (off_t)sizeof *call;
+    return pread(client->memory, call, sizeof *call, place) == sizeof *call;
 }
 
 /* Copies the part of the buffer that is refreshed, once. It is read from the file and not from
@@ -75,11 +34,22 @@ static bool copy(struct host *host, const struct client *client, const struct ca
     ssize_t bytes = (right - left) * (ssize_t)sizeof(uint32_t);
     for (int64_t row = top; row < bottom; row++) {
         int64_t at = row * client->w + left;
-        off_t place = at * (off_t)sizeof(uint32_t);
-        if (pread(client->pixels, host->words + at, (size_t)bytes, place) != bytes)
+        off_t place = PROTOCOL_PIXELS + at * (off_t)sizeof(uint32_t);
+        if (pread(client->memory, host->words + at, (size_t)bytes, place) != bytes)
             return false;
     }
     return true;
+}
+
+/* The buffer has its new size once the library has let the client have it. */
+static struct nit_reply buffer(struct host *host, uint32_t seat, const struct call *call)
+{
+    struct nit_reply reply = nit_buffer(&host->server, seat, call->w, call->h);
+    if (reply.kind == NIT_DONE) {
+        host->clients[seat].w = call->w;
+        host->clients[seat].h = call->h;
+    }
+    return reply;
 }
 
 /* What the library answers to a call that is known and is neither of buffers nor of parts. */
@@ -123,16 +93,14 @@ static bool answer(struct client *client, const struct nit_reply *told)
 }
 
 /* Serves one call. Answers why the client is to be closed, or NULL. */
-static const char *serve(struct host *host, uint32_t seat, const struct call *call, int descriptor)
+static const char *serve(struct host *host, uint32_t seat, const struct call *call)
 {
     struct client *client = &host->clients[seat];
     struct nit_reply reply;
+    if (call->call < CALL_BUFFER || call->call > CALL_LAST)
+        return "closed: it broke the protocol";
     if (call->call == CALL_BUFFER) {
-        if (!is_sealed(descriptor, (uint64_t)call->w * call->h)) {
-            close(descriptor);
-            return "closed: no memory that serves as a buffer";
-        }
-        reply = buffer(host, seat, call, descriptor);
+        reply = buffer(host, seat, call);
     } else if (call->call == CALL_REFRESH) {
         if (!copy(host, client, call))
             return "closed: its buffer cannot be read";
@@ -145,36 +113,54 @@ static const char *serve(struct host *host, uint32_t seat, const struct call *ca
     return answer(client, &reply) ? NULL : "closed: it does not read its replies";
 }
 
-/* Serves one client until nothing is left to do or its slice of the period is over. So the host
- * has time for others, however much one asks for. */
+/* Microseconds that this host has had of a processor. */
+static uint64_t spent(void)
+{
+    struct timespec time;
+    clock_gettime(CLOCK_THREAD_CPUTIME_ID, &time);
+    return (uint64_t)time.tv_sec * 1000000 + (uint64_t)time.tv_nsec / 1000;
+}
+
+/* Serves one client until nothing is left to do or its slice of the period is over. A call is served
+ * to its end, and who uses more than a slice rests so much longer: so it never has more than its
+ * part of the time. */
 static void serve_client(struct host *host, uint32_t seat)
 {
     struct client *client = &host->clients[seat];
-    uint64_t end = now() + SLICE;
-    const char *why = client->gone ? "ended" : NULL;
-    while (!why && now() < end) {
-        struct call call;
-        int descriptor;
-        enum received received = receive(client->socket, &call, &descriptor);
-        if (received == NO_CALL)
-            return;
-        if (received == A_CALL) {
-            why = serve(host, seat, &call, descriptor);
-            continue;
-        }
-        if (descriptor >= 0)
-            close(descriptor);
-        why = "closed: it broke the protocol, or left";
-    }
-    client->rest = end - SLICE + host->period;
+    const char *why = client->gone[0] ? client->gone : NULL;
+    const uint64_t begin = spent();
+    uint64_t used = 0;
+    for (struct call call; !why && used < SLICE && receive(client, &call); used = spent() - begin)
+        why = serve(host, seat, &call);
+    if (used > 0)
+        client->rest = now() + (used < SLICE ? 0 : SDL_max(host->period, (SEATS - 1) * used));
     if (why)
         seats_close(host, seat, why);
 }
 
-/* A turn for each client. Nobody has one while the host is frozen. */
+/* The seat whose client has rested longest, of those that may be served and are not yet. */
+static uint32_t longest_rested(const struct host *host, uint32_t served)
+{
+    uint64_t least = now();
+    uint32_t longest = NIT_NONE;
+    for (uint32_t seat = 0; seat < SEATS; seat++) {
+        const struct client *client = &host->clients[seat];
+        if (client->socket == 0 || (served >> seat & 1) != 0 || client->rest > least)
+            continue;
+        least = client->rest;
+        longest = seat;
+    }
+    return longest;
+}
+
+/* Serves each client once, but for a slice of time in all: then it is the devices' turn. Nobody is
+ * served while the host is frozen. */
 void calls_serve(struct host *host)
 {
-    for (uint32_t seat = 0; seat < SEATS && !frozen(host); seat++)
-        if (host->clients[seat].socket >= 0 && host->clients[seat].rest <= now())
-            serve_client(host, seat);
+    const uint64_t end = now() + SLICE;
+    uint32_t seat, served = 0;
+    while (!frozen(host) && now() < end && (seat = longest_rested(host, served)) != NIT_NONE) {
+        serve_client(host, seat);
+        served |= 1u << seat;
+    }
 }

@@ -1,7 +1,6 @@
 /* The client library: see client.h. */
 #include "client.h"
 #include "protocol.h"
-#include <fcntl.h>
 #include <poll.h>
 #include <stdlib.h>
 #include <string.h>
@@ -21,29 +20,33 @@ static struct reply receive(void)
     return reply;
 }
 
+/* What the host and this client have both. */
+static unsigned char *memory(void)
+{
+    static unsigned char *shared;
+    if (!shared)
+        shared = mmap(NULL, PROTOCOL_BYTES, PROT_READ | PROT_WRITE, MAP_SHARED, PROTOCOL_MEMORY, 0);
+    if (shared == MAP_FAILED)
+        exit(1);
+    return shared;
+}
+
 /* Set where the host has said so while a reply was waited for. */
 static bool woken;
 
-/* Sends a call, with a descriptor where it is not -1, and waits for the reply. */
-static struct reply ask(const struct call *call, int descriptor)
+void client_send(const struct call *call)
 {
-    union {
-        struct cmsghdr head;
-        char room[CMSG_SPACE(sizeof(int))];
-    } control;
-    struct iovec part = { (void *)call, sizeof *call };
-    struct msghdr message = { .msg_iov = &part, .msg_iovlen = 1 };
-    if (descriptor >= 0) {
-        memset(&control, 0, sizeof control);
-        message.msg_control = &control;
-        message.msg_controllen = sizeof control;
-        control.head.cmsg_level = SOL_SOCKET;
-        control.head.cmsg_type = SCM_RIGHTS;
-        control.head.cmsg_len = CMSG_LEN(sizeof(int));
-        memcpy(CMSG_DATA(&control.head), &descriptor, sizeof descriptor);
-    }
-    if (sendmsg(PROTOCOL_SOCKET, &message, MSG_NOSIGNAL) != sizeof *call)
-        exit(0);
+    static uint32_t calls;
+    const uint64_t one = 1;
+    memcpy(memory() + calls++ % PROTOCOL_CALLS * sizeof *call, call, sizeof *call);
+    if (write(PROTOCOL_BELL, &one, sizeof one) != sizeof one)
+        exit(1);
+}
+
+/* Makes a call, and waits for the reply. */
+static struct reply ask(const struct call *call)
+{
+    client_send(call);
     struct reply reply = receive();
     while (reply.kind == PROTOCOL_WOKEN) {
         woken = true;
@@ -54,39 +57,25 @@ static struct reply ask(const struct call *call, int descriptor)
 
 static bool done(struct call call)
 {
-    return ask(&call, -1).kind == NIT_DONE;
+    return ask(&call).kind == NIT_DONE;
 }
 
 /* ---- Calls */
 
 bool client_buffer(struct client *client, uint32_t w, uint32_t h)
 {
-    size_t bytes = (size_t)w * h * sizeof *client->words;
-    struct call call = { .call = CALL_BUFFER, .w = w, .h = h };
-    int memory = memfd_create("buffer", MFD_CLOEXEC | MFD_ALLOW_SEALING);
-    if (memory < 0 || ftruncate(memory, (off_t)bytes) < 0 ||
-        fcntl(memory, F_ADD_SEALS, F_SEAL_SHRINK | F_SEAL_GROW | F_SEAL_SEAL) < 0)
-        exit(1);
-    uint32_t *words = mmap(NULL, bytes, PROT_READ | PROT_WRITE, MAP_SHARED, memory, 0);
-    if (words == MAP_FAILED)
-        exit(1);
-    bool allowed = ask(&call, memory).kind == NIT_DONE;
-    close(memory);
-    if (!allowed) {
-        munmap(words, bytes);
+    if ((uint64_t)w * h > PROTOCOL_WORDS || !done((struct call){ CALL_BUFFER, .w = w, .h = h }))
         return false;
-    }
-    if (client->words)
-        munmap(client->words, (size_t)client->w * client->h * sizeof *client->words);
-    client->words = words;
+    client->words = (uint32_t *)(memory() + PROTOCOL_PIXELS);
     client->w = w;
     client->h = h;
+    client_fill(client, 0, 0, (int32_t)w, (int32_t)h, 0);
     return true;
 }
 
 uint32_t client_view(void)
 {
-    struct reply reply = ask(&(struct call){ .call = CALL_VIEW }, -1);
+    struct reply reply = ask(&(struct call){ .call = CALL_VIEW });
     return reply.kind == NIT_HANDLE ? reply.handle : 0;
 }
 
@@ -132,7 +121,7 @@ bool client_wait(struct client *client, int milliseconds)
             return false;
         woken = receive().kind == PROTOCOL_WOKEN;
     }
-    struct reply reply = ask(&(struct call){ .call = CALL_TAKE }, -1);
+    struct reply reply = ask(&(struct call){ .call = CALL_TAKE });
     client->event = (struct nit_event){ reply.event, reply.code, (uint16_t)reply.x,
                                         (uint16_t)reply.y, reply.turn };
     if (reply.kind == NIT_EVENT)

@@ -33,6 +33,10 @@ bool client_refresh(int32_t x, int32_t y, uint32_t w, uint32_t h);
  * in `event`. */
 bool client_wait(struct client *client, int milliseconds);
 
+/* Sends a call of protocol.h, and leaves the reply to who reads the socket. */
+struct call;
+void client_send(const struct call *call);
+
 /* Milliseconds of a clock that only goes forward. */
 int64_t client_time(void);
 

@@ -59,10 +59,13 @@ static struct nit_routed device_event(struct host *host, const SDL_Event *event)
         return nit_motion(&host->server, (uint32_t)SDL_clamp(event->motion.x, 0, 65535),
                           (uint32_t)SDL_clamp(event->motion.y, 0, 65535));
     case SDL_MOUSEWHEEL:
-        return nit_wheel(&host->server, SDL_clamp(event->wheel.y, -127, 127));
+        if (event->wheel.y != 0)
+            return nit_wheel(&host->server, SDL_clamp(event->wheel.y, -127, 127));
+        break;
     case SDL_WINDOWEVENT:
-        if (event->window.event == SDL_WINDOWEVENT_EXPOSED)
-            SDL_UpdateWindowSurface(host->window);
+        if (event->window.event == SDL_WINDOWEVENT_EXPOSED ||
+            event->window.event == SDL_WINDOWEVENT_SIZE_CHANGED)
+            host->changed = host->whole = true;
         break;
     case SDL_QUIT:
         host->over = true;

@@ -16,14 +16,16 @@ enum {
     KILL_KEY = 99
 };
 
-/* Who sits on a seat. Nobody does where `socket` is -1. */
+/* Who sits on a seat. Nobody does where `socket` is 0. */
 struct client {
-    int socket;
+    int socket;              /* takes replies away, and brings nothing */
+    int bell;                /* an eventfd: as many calls wait */
+    int memory;              /* a memfd: the client's calls and pixels */
+    uint32_t call;           /* the number of the next call */
     pid_t process;           /* 0 where it has ended already */
-    int pixels;              /* the client's memfd, or -1 */
     uint32_t w, h;           /* of its buffer */
     bool woken;              /* it was told that events wait, and has not found none since */
-    bool gone;               /* it is closed as soon as calls are served */
+    char gone[40];           /* where not empty: why it is closed as soon as calls are served */
     uint64_t rest;           /* it has used up its slice, and is not served before */
     bool kept;               /* the seat stands in front, and is kept for this label */
     char label[LABEL];
@@ -38,8 +40,9 @@ struct host {
     uint32_t *frame;         /* as the last look left it */
     int display;             /* the descriptor of the window system */
     bool changed;            /* a look may find something */
+    bool whole;              /* the window lacks more than a look finds */
     uint64_t period, next;   /* microseconds between two looks; when the next may be */
-    int signals;             /* a descriptor that tells of SIGCHLD, SIGTERM and SIGINT */
+    int signals;             /* a descriptor that tells of signals */
     bool listens;            /* the control line is open */
     bool over;
 };
@@ -52,8 +55,9 @@ bool frozen(struct host *host);
 /* In devices.c, seats.c and calls.c. */
 bool devices_name(const char *key, uint16_t code);
 void devices_read(struct host *host);
-void seats_start(struct host *host, const char *word);
+const char *seats_start(struct host *host, const char *word);
 void seats_close(struct host *host, uint32_t seat, const char *why);
+void seats_left(struct client *client);
 void seats_reap(struct host *host);
 void seats_deliver(struct host *host, const struct nit_routed *routed);
 void seats_control(struct host *host);

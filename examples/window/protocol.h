@@ -4,12 +4,25 @@
 
 #include <stdint.h>
 
-/* The client's end of the socket has this descriptor. */
-enum { PROTOCOL_SOCKET = 3 };
+/* A client begins with these descriptors. */
+enum {
+    PROTOCOL_SOCKET = 3, /* what the host says is read here; nothing can be sent */
+    PROTOCOL_BELL = 4,   /* an eventfd: 1 is added for each call */
+    PROTOCOL_MEMORY = 5  /* a memfd of PROTOCOL_BYTES bytes */
+};
+
+/* The memory: the calls, each in its turn at the place behind the one before, the next after the
+ * last place in the first one; and from PROTOCOL_PIXELS on the words of the buffer. */
+enum {
+    PROTOCOL_CALLS = 64,
+    PROTOCOL_PIXELS = 4096,
+    PROTOCOL_WORDS = 1048576,
+    PROTOCOL_BYTES = PROTOCOL_PIXELS + 4 * PROTOCOL_WORDS
+};
 
 /* What a client may ask for. */
 enum protocol_call {
-    CALL_BUFFER = 1,   /* w, h; and one descriptor, of a memfd, comes with it */
+    CALL_BUFFER = 1,   /* w, h */
     CALL_VIEW = 2,
     CALL_PLACE = 3,    /* view, x, y, w, h */
     CALL_OFFSET = 4,   /* view, x, y */
@@ -37,7 +50,7 @@ struct call {
     char title[20]; /* ends at its first 0 */
 };
 
-/* From the host: 48 bytes. */
+/* From the host: a message of 48 bytes. */
 struct reply {
     uint32_t kind; /* enum nit_answer of nitpicker.h, or PROTOCOL_WOKEN */
     uint32_t handle;

@@ -1,6 +1,10 @@
 /* Processes and the seats that they sit on. Not proved. A label is what the host's words say, never
- * what a client says of itself. A client knows its socket and nothing else of the host: no other
- * descriptor, no environment. */
+ * what a client says of itself.
+ *
+ * A client has its channel and nothing else of the host, and the channel is such that nothing which
+ * a client does to its ends makes the host wait. A Unix socket would bring descriptors, and to
+ * close one may take as long as the client likes: so the host's end is shut for all that comes. A
+ * pipe is locked while the memory of who writes is read: so calls come by a memfd and an eventfd. */
 #include "host.h"
 #include "protocol.h"
 #include <errno.h>
@@ -9,100 +13,138 @@
 #include <spawn.h>
 #include <stdio.h>
 #include <string.h>
+#include <sys/eventfd.h>
+#include <sys/mman.h>
 #include <sys/socket.h>
 #include <sys/wait.h>
 #include <unistd.h>
 
 /* ---- Starting */
 
-/* What a client has of the host: this socket and the standard error. False where memory ends. */
-static bool lend(posix_spawn_file_actions_t *actions, int socket)
+/* The channel, and the client's end of the socket. The memory keeps its size. */
+static bool open_channel(struct client *client, int *lent)
 {
-    return posix_spawn_file_actions_addopen(actions, 0, "/dev/null", O_RDONLY, 0) == 0 &&
-           posix_spawn_file_actions_addopen(actions, 1, "/dev/null", O_WRONLY, 0) == 0 &&
-           posix_spawn_file_actions_adddup2(actions, socket, PROTOCOL_SOCKET) == 0 &&
-           posix_spawn_file_actions_addclosefrom_np(actions, PROTOCOL_SOCKET + 1) == 0;
+    const int seals = F_SEAL_SHRINK | F_SEAL_GROW | F_SEAL_SEAL;
+    int pair[2] = { 0, 0 };
+    bool joined = socketpair(AF_UNIX, SOCK_SEQPACKET | SOCK_CLOEXEC, 0, pair) == 0;
+    client->socket = pair[0];
+    *lent = pair[1];
+    client->bell = eventfd(0, EFD_CLOEXEC | EFD_SEMAPHORE);
+    client->memory = memfd_create("client", MFD_CLOEXEC | MFD_ALLOW_SEALING);
+    return joined && shutdown(client->socket, SHUT_RD) == 0 && client->bell >= 0 &&
+           client->memory >= 0 && ftruncate(client->memory, PROTOCOL_BYTES) == 0 &&
+           fcntl(client->memory, F_ADD_SEALS, seals) == 0;
 }
 
-/* Starts a program with this socket, the standard error and nothing else. Its number, or 0. */
-static pid_t spawn(const char *program, int socket)
+/* What a client has of the host: the channel. False where memory ends. */
+static bool lend(posix_spawn_file_actions_t *actions, const struct client *client, int lent)
+{
+    return posix_spawn_file_actions_addopen(actions, 0, "/dev/null", O_RDWR, 0) == 0 &&
+           posix_spawn_file_actions_adddup2(actions, 0, 1) == 0 &&
+           posix_spawn_file_actions_adddup2(actions, 0, 2) == 0 &&
+           posix_spawn_file_actions_adddup2(actions, lent, PROTOCOL_SOCKET) == 0 &&
+           posix_spawn_file_actions_adddup2(actions, client->bell, PROTOCOL_BELL) == 0 &&
+           posix_spawn_file_actions_adddup2(actions, client->memory, PROTOCOL_MEMORY) == 0 &&
+           posix_spawn_file_actions_addclosefrom_np(actions, PROTOCOL_MEMORY + 1) == 0;
+}
+
+/* Starts a program in a session of its own, with the channel and nothing else. Answers 0, or the
+ * number of what is wrong. */
+static int spawn(struct client *client, const char *program, int lent)
 {
     static char *const nothing[] = { NULL };
     char *const words[] = { (char *)program, NULL };
     posix_spawn_file_actions_t actions;
     posix_spawnattr_t attributes;
     sigset_t none;
-    pid_t process = 0;
     sigemptyset(&none);
     posix_spawn_file_actions_init(&actions);
     posix_spawnattr_init(&attributes);
-    posix_spawnattr_setflags(&attributes, POSIX_SPAWN_SETSIGMASK);
+    posix_spawnattr_setflags(&attributes, POSIX_SPAWN_SETSIGMASK | POSIX_SPAWN_SETSID);
     posix_spawnattr_setsigmask(&attributes, &none);
-    int refused = !lend(&actions, socket) ? ENOMEM :
-        posix_spawn(&process, program, &actions, &attributes, words, nothing);
+    int wrong = !lend(&actions, client, lent) ? ENOMEM :
+        posix_spawn(&client->process, program, &actions, &attributes, words, nothing);
     posix_spawnattr_destroy(&attributes);
     posix_spawn_file_actions_destroy(&actions);
-    errno = refused;
-    return refused ? 0 : process;
+    return wrong;
 }
 
 /* The seat that the library gives to this label: first one that is kept for it, and none that is
- * kept for another one. */
-static uint32_t sit_down(struct host *host, const char *label, size_t length)
+ * kept for another one. Answers why it gives none, or NULL. */
+static const char *sit_down(struct host *host, const char *label, size_t length, uint32_t *seat)
 {
+    const char *why = "no seat is free for it";
     for (uint32_t turn = 0; turn < 2 * SEATS; turn++) {
-        const uint32_t seat = turn % SEATS;
-        const struct client *client = &host->clients[seat];
+        const struct client *client = &host->clients[*seat = turn % SEATS];
         bool own = strlen(client->label) == length && memcmp(client->label, label, length) == 0;
         if (client->kept ? !own : turn < SEATS)
             continue;
-        if (nit_seat(&host->server, seat, label, length) == NIT_DONE)
-            return seat;
+        uint32_t answer = nit_seat(&host->server, *seat, label, length);
+        if (answer == NIT_DONE)
+            return NULL;
+        if (answer == NIT_BAD_LABEL)
+            return "a label is 1 to 20 of a..z, 0..9, '-', '.', '_'";
+        if (answer == NIT_LABEL_TAKEN)
+            why = "another client has this label";
     }
-    return NIT_NONE;
+    return why;
 }
 
-/* A new client by a word NAME=PROGRAM. Its seat is free again where it has no process. */
-void seats_start(struct host *host, const char *word)
+/* The client has no seat, no channel and no process any more, nor what its process has started. */
+static void leave(struct host *host, uint32_t seat)
+{
+    struct client *client = &host->clients[seat];
+    const int files[] = { client->socket, client->bell, client->memory };
+    nit_leave(&host->server, seat);
+    host->changed = true;
+    for (int at = 0; at < 3; at++)
+        if (files[at] > 0)
+            close(files[at]);
+    client->socket = 0;
+    if (client->process != 0)
+        kill(-client->process, SIGKILL);
+}
+
+/* A new client by a word NAME=PROGRAM. Answers why there is none, or NULL. */
+const char *seats_start(struct host *host, const char *word)
 {
     const char *program = strchr(word, '=');
-    size_t length = program ? (size_t)(program - word) : 0;
-    uint32_t seat = program ? sit_down(host, word, length) : NIT_NONE;
-    int pair[2] = { -1, -1 };
-    if (seat == NIT_NONE) {
-        printf("window: no seat for %s\n", word);
-        return;
-    }
+    if (!program)
+        return "a client is NAME=PROGRAM";
+    uint32_t seat;
+    const char *why = sit_down(host, word, (size_t)(program - word), &seat);
+    if (why)
+        return why;
     struct client *client = &host->clients[seat];
-    *client = (struct client){ .pixels = -1, .kept = client->kept };
-    memcpy(client->label, word, length);
-    if (socketpair(AF_UNIX, SOCK_SEQPACKET | SOCK_CLOEXEC, 0, pair) == 0) {
-        client->process = spawn(program + 1, pair[1]);
-        close(pair[1]);
-    }
-    client->socket = pair[0];
-    if (client->process == 0)
-        seats_close(host, seat, strerror(errno));
+    int lent;
+    *client = (struct client){ .kept = client->kept };
+    memcpy(client->label, word, (size_t)(program - word));
+    int wrong = open_channel(client, &lent) ? spawn(client, program + 1, lent) : errno;
+    if (lent > 0)
+        close(lent);
+    if (wrong != 0)
+        leave(host, seat);
+    return wrong != 0 ? strerror(wrong) : NULL;
 }
 
 /* A line of the control line: +NAME=PROGRAM starts a client, and quit ends the host. */
 static void control(struct host *host, const char *line)
 {
-    if (line[0] == '+')
-        seats_start(host, line + 1);
-    else if (!strcmp(line, "quit"))
+    const char *why = line[0] == '+' ? seats_start(host, line + 1) : "+NAME=PROGRAM or quit";
+    if (!strcmp(line, "quit"))
         host->over = true;
-    else
-        printf("window: +NAME=PROGRAM or quit: %s\n", line);
+    else if (why)
+        printf("window: %s: %s\n", line, why);
 }
 
-/* Reads what stands on the standard input. A line of over 511 bytes ends it, as its end does. */
+/* Reads what stands on the standard input, if it still does. A line of over 511 bytes ends it, as
+ * its end does. */
 void seats_control(struct host *host)
 {
     static char line[512];
     static size_t length;
     ssize_t got = read(STDIN_FILENO, line + length, sizeof line - 1 - length);
-    host->listens = got > 0;
+    host->listens = got > 0 || (got < 0 && errno == EAGAIN);
     length += got > 0 ? (size_t)got : 0;
     line[length] = 0;
     for (char *end; (end = strchr(line, '\n')) != NULL;) {
@@ -115,33 +157,38 @@ void seats_control(struct host *host)
 
 /* ---- Ending */
 
-/* The client loses its seat, its socket and its process. Never called while the host is frozen,
- * but for the client that the user has just locked out. */
+/* Ends a client, and says so. Never called while the host is frozen, but for the client that the
+ * user has just locked out. */
 void seats_close(struct host *host, uint32_t seat, const char *why)
 {
-    struct client *client = &host->clients[seat];
-    printf("window: %s: %s\n", client->label, why);
-    nit_leave(&host->server, seat);
-    host->changed = true;
-    if (client->socket >= 0)
-        close(client->socket);
-    client->socket = -1;
-    if (client->pixels >= 0)
-        close(client->pixels);
-    if (client->process != 0)
-        kill(client->process, SIGKILL);
+    printf("window: %s: %s\n", host->clients[seat].label, why);
+    leave(host, seat);
 }
 
-/* Notes which processes have ended. They are children of nobody else, so a number is not used
- * again before it is found here. */
+/* Notes that a client has closed its end. How it has ended is told soon, where it has. */
+void seats_left(struct client *client)
+{
+    strcpy(client->gone, "closed: it left");
+    client->rest = now() + 10000;
+}
+
+/* Notes which processes have ended, and ends those that they started. A number is not used again
+ * before it is taken from here, so the group is still theirs. */
 void seats_reap(struct host *host)
 {
-    for (pid_t ended; (ended = waitpid(-1, NULL, WNOHANG)) > 0;)
+    siginfo_t ended = { 0 };
+    while (waitid(P_ALL, 0, &ended, WEXITED | WNOHANG | WNOWAIT) == 0 && ended.si_pid != 0) {
+        const char *how = ended.si_code == CLD_EXITED ? "status" : "signal";
         for (struct client *client = host->clients; client < host->clients + SEATS; client++)
-            if (client->socket >= 0 && client->process == ended) {
+            if (client->socket != 0 && client->process == ended.si_pid) {
                 client->process = 0;
-                client->gone = true;
+                client->rest = 0;
+                snprintf(client->gone, sizeof client->gone, "ended, %s %d", how, ended.si_status);
             }
+        kill(-ended.si_pid, SIGKILL);
+        waitpid(ended.si_pid, NULL, 0);
+        ended.si_pid = 0;
+    }
 }
 
 /* ---- Telling */
@@ -150,11 +197,11 @@ void seats_reap(struct host *host)
 static void wake(struct client *client)
 {
     const struct reply woken = { .kind = PROTOCOL_WOKEN };
-    if (client->socket < 0 || client->woken)
+    if (client->socket == 0 || client->woken)
         return;
     client->woken = true;
     if (send(client->socket, &woken, sizeof woken, MSG_DONTWAIT | MSG_NOSIGNAL) < 0)
-        client->gone = true;
+        strcpy(client->gone, "closed: it does not read its replies");
 }
 
 /* Wakes those to whom something went, and ends the one that is locked out. */
@@ -164,7 +211,7 @@ void seats_deliver(struct host *host, const struct nit_routed *routed)
         uint32_t seat = routed->to[k].seat;
         if (routed->to[k].event.kind != NIT_KILL)
             wake(&host->clients[seat]);
-        else if (host->clients[seat].socket >= 0)
+        else if (host->clients[seat].socket != 0)
             seats_close(host, seat, "locked out by the user");
     }
 }

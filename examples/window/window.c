@@ -2,18 +2,25 @@
  *
  * THIS PROGRAM IS AN EXAMPLE, AND NOT PROVED. What is proved is the library below it, and who sees
  * and gets what is decided there: whose a pixel is, what the modes show, where a key or a click
- * goes, what a call may do. Here is the rest: a window, devices, processes and their sockets.
- *
- *     window [--size=WxH] [--xray=KEY] [--kill=KEY] [^]NAME=PROGRAM ... (see README.md) */
+ * goes, what a call may do. Here is the rest: a window, devices, processes and their channels. */
 #include "host.h"
+#include "protocol.h"
 #include <SDL_syswm.h>
+#include <fcntl.h>
 #include <poll.h>
 #include <signal.h>
 #include <stdio.h>
 #include <string.h>
+#include <sys/prctl.h>
 #include <sys/signalfd.h>
 #include <time.h>
 #include <unistd.h>
+
+static const char usage[] =
+    "window [--size=WxH] [--xray=KEY] [--kill=KEY] [^]NAME=PROGRAM ...\n"
+    "    NAME=PROGRAM starts a client; ^ puts it in front, where no click gives it the focus\n"
+    "    --size is the window's, up to 1024x768; --xray and --kill are more keys for the modes\n"
+    "README.md says more.\n";
 
 uint64_t now(void)
 {
@@ -29,34 +36,70 @@ bool frozen(struct host *host)
 
 /* ---- Beginning */
 
+/* Says what is wrong with a word. Answers 2, the status of wrong words. */
+static int refuse(const char *word, const char *why)
+{
+    fprintf(stderr, "window: %s: %s\n", word, why);
+    return 2;
+}
+
+/* The same file as the descriptor has, but with flags of its own: the host never waits for it,
+ * whoever else has it open. What cannot be opened so, as a socket, has its flags changed. */
+static void own(int descriptor, int flags)
+{
+    char path[32];
+    snprintf(path, sizeof path, "/proc/self/fd/%d", descriptor);
+    int file = open(path, flags | O_NONBLOCK | O_NOCTTY | O_CLOEXEC);
+    if (file < 0)
+        fcntl(descriptor, F_SETFL, fcntl(descriptor, F_GETFL) | O_NONBLOCK);
+    else if (dup2(file, descriptor) == descriptor)
+        close(file);
+}
+
+/* No file of the host has a number that a client's has. Neither the control line nor what is
+ * printed makes it wait, and no other process of the user looks into it. */
+static void open_descriptors(void)
+{
+    for (int file = 0; file >= 0 && file <= PROTOCOL_MEMORY;)
+        file = open("/dev/null", O_RDWR | O_CLOEXEC);
+    own(STDIN_FILENO, O_RDONLY);
+    own(STDOUT_FILENO, O_WRONLY | O_APPEND);
+    setvbuf(stdout, NULL, _IONBF, 0);
+    prctl(PR_SET_DUMPABLE, 0);
+}
+
+/* Signals come by a descriptor, so that they wake the host, and at no other point. */
+static void open_signals(struct host *host)
+{
+    const int all[] = { SIGCHLD, SIGTERM, SIGINT, SIGHUP, SIGPIPE, SIGTTIN };
+    sigset_t some;
+    sigemptyset(&some);
+    for (size_t at = 0; at < sizeof all / sizeof *all; at++)
+        sigaddset(&some, all[at]);
+    host->listens = true;
+    host->signals = signalfd(-1, &some, SFD_CLOEXEC | SFD_NONBLOCK);
+    sigprocmask(SIG_BLOCK, &some, NULL);
+}
+
 /* Seats for the words in their order, and free ones behind. The mark ^ puts a client in front of
- * all others, where no click gives it the focus. */
-static bool open_server(struct host *host, const char *size, char **words, int count)
+ * all others, where no click gives it the focus. False where there is no such screen. */
+static bool open_server(struct host *host, const char *size, char **words)
 {
     struct nit_seat_plan seats[SEATS];
     struct nit_plan plan = { 1024, 768, 1, SEATS, seats };
     char more;
-    if (size && sscanf(size, "%ux%u%c", &plan.width, &plan.height, &more) != 2)
+    if (size && sscanf(size, "%4ux%4u%c", &plan.width, &plan.height, &more) != 2)
         return false;
     for (int seat = 0; seat < SEATS; seat++) {
-        bool front = seat < count && words[seat][0] == '^';
+        const char *word = *words ? *words++ : "";
+        bool front = word[0] == '^';
+        size_t length = front ? strcspn(word + 1, "=") : 0;
         seats[seat] = (struct nit_seat_plan){ DONATION, front ? 0 : 1, !front };
-        host->clients[seat].socket = -1;
         host->clients[seat].kept = front;
-    }
-    return count <= SEATS && nit_open(&host->server, &plan) == NIT_DONE;
-}
-
-/* The client of each word sits on the seat that was planned for it. */
-static void start_clients(struct host *host, char **words, int count)
-{
-    for (int seat = 0; seat < count; seat++) {
-        const char *word = words[seat] + (words[seat][0] == '^');
-        size_t length = strcspn(word, "=");
         if (length < LABEL)
-            memcpy(host->clients[seat].label, word, length);
-        seats_start(host, word);
+            memcpy(host->clients[seat].label, word + 1, length);
     }
+    return nit_open(&host->server, &plan) == NIT_DONE;
 }
 
 /* The window and its picture. The window system is X11, whose descriptor can be waited for. */
@@ -83,21 +126,8 @@ static bool open_window(struct host *host)
                                                        SDL_PIXELFORMAT_RGB888);
     SDL_GetCurrentDisplayMode(0, &mode);
     host->period = 1000000 / (uint64_t)(mode.refresh_rate > 0 ? mode.refresh_rate : 60);
-    host->changed = true;
+    host->changed = host->whole = true;
     return host->picture && SDL_GetWindowSurface(host->window);
-}
-
-/* Signals come by a descriptor, so that they wake the host, and at no other point. */
-static bool open_signals(struct host *host)
-{
-    sigset_t some;
-    sigemptyset(&some);
-    sigaddset(&some, SIGCHLD);
-    sigaddset(&some, SIGTERM);
-    sigaddset(&some, SIGINT);
-    host->listens = true;
-    host->signals = signalfd(-1, &some, SFD_CLOEXEC | SFD_NONBLOCK);
-    return sigprocmask(SIG_BLOCK, &some, NULL) == 0 && host->signals >= 0;
 }
 
 /* ---- A turn */
@@ -106,34 +136,39 @@ static bool open_signals(struct host *host)
  * and for clients that rest. While the host is frozen the control line and clients wake nobody. */
 static void wait_for_any(struct host *host)
 {
-    bool served = !frozen(host);
-    int control = served && host->listens ? STDIN_FILENO : -1;
-    struct pollfd any[3 + SEATS] = { { host->display, POLLIN, 0 }, { host->signals, POLLIN, 0 },
-                                     { control, POLLIN, 0 } };
+    const bool served = !frozen(host);
+    struct pollfd any[3 + 2 * SEATS] = { { host->display, POLLIN, 0 }, { host->signals, POLLIN, 0 },
+        { served && host->listens ? STDIN_FILENO : -1, POLLIN, 0 } };
     uint64_t time = now(), next = host->changed ? host->next : UINT64_MAX;
     for (int seat = 0; seat < SEATS; seat++) {
         const struct client *client = &host->clients[seat];
-        bool rests = client->rest > time;
-        any[3 + seat] = (struct pollfd){ served && !rests ? client->socket : -1, POLLIN, 0 };
-        if (served && rests)
+        bool here = served && client->socket != 0, rests = here && client->rest > time;
+        any[3 + 2 * seat] = (struct pollfd){ here && !rests ? client->bell : -1, POLLIN, 0 };
+        any[4 + 2 * seat] = (struct pollfd){ here && !client->gone[0] ? client->socket : -1, 0, 0 };
+        if (rests || (here && client->gone[0]))
             next = SDL_min(next, client->rest);
     }
     int wait = next == UINT64_MAX ? -1 : (int)((SDL_max(next, time) - time + 999) / 1000);
     SDL_PumpEvents();
-    poll(any, 3 + SEATS, SDL_HasEvents(SDL_FIRSTEVENT, SDL_LASTEVENT) ? 0 : wait);
+    poll(any, 3 + 2 * SEATS, SDL_HasEvents(SDL_FIRSTEVENT, SDL_LASTEVENT) ? 0 : wait);
     if (any[2].revents != 0)
         seats_control(host);
+    for (int seat = 0; seat < SEATS; seat++)
+        if (any[4 + 2 * seat].revents != 0)
+            seats_left(&host->clients[seat]);
 }
 
 static void read_signals(struct host *host)
 {
     struct signalfd_siginfo signal;
     while (read(host->signals, &signal, sizeof signal) == sizeof signal)
-        host->over |= signal.ssi_signo != SIGCHLD;
+        host->over |= signal.ssi_signo == SIGTERM || signal.ssi_signo == SIGINT ||
+                      signal.ssi_signo == SIGHUP;
     seats_reap(host);
 }
 
-/* Shows what has changed, at the display's rate and for half of the time at most. */
+/* Shows what has changed, at the display's rate and for half of the time at most; and the whole of
+ * a window that is new or that others have changed. */
 static void show(struct host *host)
 {
     uint64_t begin = now();
@@ -141,26 +176,40 @@ static void show(struct host *host)
         return;
     size_t count = (size_t)(host->picture->w * host->picture->h);
     struct nit_rect part = nit_look(&host->server, host->frame, count);
-    SDL_Rect from = { (int)part.x, (int)part.y, (int)part.w, (int)part.h }, to = from;
+    SDL_Rect from = { (int)part.x, (int)part.y, (int)part.w, (int)part.h }, to;
+    SDL_Surface *surface = SDL_GetWindowSurface(host->window);
     host->changed = false;
     host->next = SDL_max(begin + host->period, 2 * now() - begin);
-    if (part.w == 0)
+    if (surface && host->whole) {
+        from = (SDL_Rect){ 0, 0, surface->w, surface->h };
+        host->whole = SDL_FillRect(surface, NULL, 0) != 0;
+    }
+    if (!surface || from.w == 0)
         return;
-    SDL_BlitSurface(host->picture, &from, SDL_GetWindowSurface(host->window), &to);
+    to = from;
+    SDL_BlitSurface(host->picture, &from, surface, &to);
     SDL_UpdateWindowSurfaceRects(host->window, &from, 1);
 }
 
-static int refuse(const char *why)
+/* ---- All of it */
+
+/* Takes a word that begins with --. Answers what is wrong with it, or NULL. */
+static const char *option(const char *word, const char **size)
 {
-    fprintf(stderr, "window: %s\n"
-                    "window [--size=WxH] [--xray=KEY] [--kill=KEY] [^]NAME=PROGRAM ...\n", why);
-    return 2;
+    const bool xray = !strncmp(word, "--xray=", 7);
+    if (!strncmp(word, "--size=", 7))
+        *size = word + 7;
+    else if (!xray && strncmp(word, "--kill=", 7))
+        return "there is no such word, see --help";
+    else if (!devices_name(word + 7, xray ? XRAY_KEY : KILL_KEY))
+        return "there is no such key";
+    return NULL;
 }
 
 static void close_all(struct host *host)
 {
     for (uint32_t seat = 0; seat < SEATS; seat++)
-        if (host->clients[seat].socket >= 0)
+        if (host->clients[seat].socket != 0)
             seats_close(host, seat, "the host ends");
     nit_close(&host->server);
     SDL_FreeSurface(host->picture);
@@ -168,33 +217,32 @@ static void close_all(struct host *host)
     SDL_Quit();
 }
 
-/* Takes the words that begin with --. Answers how many there are, or -1 where one is none. */
-static int options(char **words, const char **size)
+/* Opens all, until something is wrong. Answers 0, or the status to end with. */
+static int begin(struct host *host, char **words)
 {
-    int taken = 0;
-    for (; words[taken] && !strncmp(words[taken], "--", 2); taken++) {
-        const char *word = words[taken], *value = strchr(word, '=') ? strchr(word, '=') + 1 : "";
-        if (!strncmp(word, "--size=", 7))
-            *size = value;
-        else if ((strncmp(word, "--xray=", 7) || !devices_name(value, XRAY_KEY)) &&
-                 (strncmp(word, "--kill=", 7) || !devices_name(value, KILL_KEY)))
-            return -1;
-    }
-    return taken;
+    const char *size = NULL, *why = NULL;
+    for (; *words && !strncmp(*words, "--", 2); words++)
+        if ((why = option(*words, &size)) != NULL)
+            return refuse(*words, why);
+    if (!*words)
+        return refuse("NAME=PROGRAM", "there is no client, see --help");
+    if (!open_server(host, size, words))
+        return refuse("--size", "1x8 to 1024x768");
+    for (; *words; words++)
+        if ((why = seats_start(host, *words + (**words == '^'))) != NULL)
+            return refuse(*words, why);
+    return open_window(host) ? 0 : refuse("the window", SDL_GetError());
 }
 
 int main(int count, char **words)
 {
     static struct host host;
-    const char *size = NULL;
-    setvbuf(stdout, NULL, _IOLBF, 0);
-    int first = options(words + 1, &size) + 1;
-    if (first == 0 || !open_server(&host, size, words + first, count - first))
-        return refuse("no such words, no such screen, or too many clients");
-    if (!open_signals(&host) || !open_window(&host))
-        return refuse(SDL_GetError());
-    start_clients(&host, words + first, count - first);
-    while (!host.over) {
+    if (count == 2 && !strcmp(words[1], "--help"))
+        return fputs(usage, stdout) < 0;
+    open_descriptors();
+    open_signals(&host);
+    int status = begin(&host, words + 1);
+    while (status == 0 && !host.over) {
         wait_for_any(&host);
         devices_read(&host);
         read_signals(&host);
@@ -202,5 +250,5 @@ int main(int count, char **words)
         show(&host);
     }
     close_all(&host);
-    return 0;
+    return status;
 }

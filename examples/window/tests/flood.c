@@ -5,7 +5,7 @@
 #include "protocol.h"
 #include <unistd.h>
 
-enum { SIDE = 256, UNDER_WAY = 64 };
+enum { SIDE = 256 };
 
 int main(void)
 {
@@ -19,10 +19,9 @@ int main(void)
     client_fill(&client, 0, 0, SIDE, SIDE, 0xA02020);
     client_refresh(0, 0, SIDE, SIDE);
     for (uint32_t sent = 0;; sent++) {
+        if (sent >= PROTOCOL_CALLS && read(PROTOCOL_SOCKET, &reply, sizeof reply) <= 0)
+            return 0;
         client_fill(&client, 0, 0, 16, 16, sent);
-        if (write(PROTOCOL_SOCKET, &refresh, sizeof refresh) < 0)
-            return 0;
-        if (sent >= UNDER_WAY && read(PROTOCOL_SOCKET, &reply, sizeof reply) <= 0)
-            return 0;
+        client_send(&refresh);
     }
 }

@@ -1,113 +1,273 @@
-"""A client of the test that does what PROTOCOL.md forbids: hostile.py MISDEED.
+"""Clients of the test that do what they should not.
 
-The host has to close it and nobody else, so it never ends by itself."""
+The host has to close who does one of MISDEEDS, and nobody else; so no client ends by itself. It need
+not notice what is in LIBERTIES, and goes on."""
 
+import ctypes
 import fcntl
+import itertools
 import os
-import signal
+from pathlib import Path
 import socket
 import struct
 import sys
+import termios
+import threading
 import time
 
 BUFFER, VIEW, PLACE, REFRESH, TAKE, UPGRADE = 1, 2, 3, 10, 11, 12
-SOCKET = socket.socket(socket.AF_UNIX, socket.SOCK_SEQPACKET,
-                       fileno=3) if __name__ == "__main__" else None
+SOCKET, BELL, MEMORY = 3, 4, 5
+CALLS, PIXELS, BYTES = 64, 4096, 4096 + 4 * 1048576
 WIDTH, HEIGHT = 1024, 768
+SENT = itertools.count()
+ENDLESS = 2 ** 64 - 2
 
 
-def message(call, view=0, x=0, y=0, w=0, h=0, number=0):
-    """A call as the protocol spells it."""
-    return struct.pack("<IIiiIII20x", call, view, x, y, w, h, number)
+# ---- The channel
 
 
-def ask(data, descriptors=()):
-    """Sends a call, and answers the kind of its reply and the handle."""
-    socket.send_fds(SOCKET, [data], list(descriptors))
+def send(number, view=0, x=0, y=0, w=0, h=0, units=0):
+    """Sends a call as the protocol spells it."""
+    data = struct.pack("<IIiiIII20x", number, view, x, y, w, h, units)
+    os.pwrite(MEMORY, data, next(SENT) % CALLS * len(data))
+    ring(1)
+
+
+def ring(times):
+    """Says that so many calls have been written."""
+    os.write(BELL, struct.pack("<Q", times))
+
+
+def reply():
+    """The next reply: all its numbers."""
     kind = 128
     while kind == 128:
-        kind, handle = struct.unpack("<II40x", SOCKET.recv(64) or sys.exit(0))
-    return kind, handle
+        data = os.read(SOCKET, 64) or sys.exit(0)
+        kind, *others = struct.unpack("<6Ii4x2Q", data)
+    return kind, others
 
 
-def memory(size, seals=fcntl.F_SEAL_SHRINK):
-    """A memfd of so many bytes."""
-    made = os.memfd_create("buffer", os.MFD_CLOEXEC | os.MFD_ALLOW_SEALING)
-    os.ftruncate(made, size)
-    if seals:
-        fcntl.fcntl(made, fcntl.F_ADD_SEALS, seals)
-    return made
+def ask(*words, **named):
+    """Makes a call, and answers the kind of its reply and the handle."""
+    send(*words, **named)
+    kind, others = reply()
+    return kind, others[0]
 
 
-def whole_screen():
-    """A buffer as large as the screen, which is refreshed whole again and again."""
-    view = ask(message(VIEW))[1]
-    ask(message(UPGRADE, number=4194304))
-    ask(message(BUFFER, w=WIDTH, h=HEIGHT), [memory(4 * WIDTH * HEIGHT)])
-    ask(message(PLACE, view, 100, 300, WIDTH, HEIGHT))
-    while True:
-        ask(message(REFRESH, w=WIDTH, h=HEIGHT))
+def draw(x, y, w, h, word):
+    """A view of one colour."""
+    view = ask(VIEW)[1]
+    ask(BUFFER, w=w, h=h)
+    os.pwrite(MEMORY, struct.pack("<I", word) * (w * h), PIXELS)
+    ask(PLACE, view, x, y, w, h)
+    ask(REFRESH, w=w, h=h)
 
 
-def half():
-    """Half a message, and then no life at all."""
-    SOCKET.send(message(VIEW)[:24])
-    os.kill(os.getpid(), signal.SIGSTOP)
+# ---- What the host closes
 
 
 def deaf():
     """Calls, and no look at any reply."""
     while True:
-        SOCKET.send(message(VIEW))
+        send(VIEW)
 
 
-def buffer(*descriptors):
-    """A buffer of 64 by 64 with these descriptors."""
-    socket.send_fds(SOCKET, [message(BUFFER, w=64, h=64)], list(descriptors))
+def deaf_at_once():
+    """All calls that the bell can count, and no look at any reply."""
+    for _ in range(CALLS):
+        send(TAKE)
+    ring(ENDLESS)
 
 
-def write_only():
-    """A memfd that cannot be read: that is found at the refresh."""
-    made = memory(SIZE)
-    buffer(os.open(f"/proc/self/fd/{made}", os.O_WRONLY))
-    SOCKET.send(message(REFRESH, w=64, h=64))
+def leave():
+    """Closes the channel, and lives on."""
+    os.closerange(SOCKET, MEMORY + 1)
 
 
-SIZE = 4 * 64 * 64
 MISDEEDS = {
-    "short": lambda: SOCKET.send(message(VIEW)[:47]),
-    "long": lambda: SOCKET.send(message(VIEW) + b"x"),
-    "empty": lambda: SOCKET.send(b""),
-    "huge": lambda: SOCKET.send(bytes(65536)),
-    "call-0": lambda: SOCKET.send(message(0)),
-    "call-13": lambda: SOCKET.send(message(13)),
-    "call-last": lambda: SOCKET.send(message(0xFFFFFFFF)),
-    "no-memory": buffer,
-    "two-memories": lambda: buffer(memory(SIZE), memory(SIZE)),
-    "stray-memory": lambda: socket.send_fds(SOCKET, [message(VIEW)], [memory(SIZE)]),
-    "late-memory": lambda: socket.send_fds(SOCKET, [message(VIEW)[:40]], [memory(SIZE)]),
-    "unsealed": lambda: buffer(memory(SIZE, 0)),
-    "small": lambda: buffer(memory(SIZE - 1)),
-    "pipe": lambda: buffer(os.pipe()[0]),
-    "own-socket": lambda: buffer(3),
-    "file": lambda: buffer(os.open("/proc/self/exe", os.O_RDONLY)),
-    "device": lambda: buffer(os.open("/dev/zero", os.O_RDONLY)),
-    "half": half,
+    "call-0": lambda: send(0),
+    "call-13": lambda: send(13),
+    "call-last": lambda: send(0xFFFFFFFF),
+    "bell-alone": lambda: ring(ENDLESS),
     "deaf": deaf,
-    "write-only": write_only,
+    "deaf-at-once": deaf_at_once,
+    "leave": leave,
+    "leave-socket": lambda: os.close(SOCKET),
+    "shut": lambda: socket.socket(fileno=SOCKET).shutdown(socket.SHUT_RDWR),
+    "shut-reading": lambda: socket.socket(fileno=SOCKET).shutdown(socket.SHUT_RD),
 }
 
 
-def main():
-    """Does the misdeed that the word names, and stays."""
-    misdeeds = MISDEEDS | {"whole-screen": whole_screen}
+# ---- What the host does not notice
+
+
+def lingering():
+    """A socket that takes a million seconds to close."""
+    door = socket.create_server(("127.0.0.1", 0))
+    near = socket.create_connection(door.getsockname())
+    far = door.accept()[0]
+    near.setblocking(False)
     try:
-        misdeeds[sys.argv[1]]()
+        while near.send(bytes(65536)):
+            continue
+    except BlockingIOError:
+        near.setsockopt(socket.SOL_SOCKET, socket.SO_LINGER, struct.pack("ii", 1, 1000000))
+    return near, far
+
+
+def linger(path):
+    """Sends such a socket by each descriptor that there is, and closes it here."""
+    near, far = lingering()
+    for number in (SOCKET, BELL, MEMORY):
+        refused(lambda number=number: socket.send_fds(socket.socket(fileno=os.dup(number)),
+                                                      [bytes(48)], [near.fileno()]))
+        refused(lambda number=number: os.write(number, bytes(48)) if number == SOCKET else None)
+    thread = threading.Thread(target=near.close, daemon=True)
+    Path(path).touch()
+    thread.start()
+    return far
+
+
+def refused(deed):
+    """True where the system does not let this be done."""
+    try:
+        deed()
+    except OSError:
+        return True
+    return False
+
+
+def resize(path):
+    """The memory keeps its size and its seals."""
+    sealed = [refused(lambda: os.ftruncate(MEMORY, 0)),
+              refused(lambda: os.ftruncate(MEMORY, BYTES + 1)),
+              refused(lambda: fcntl.fcntl(MEMORY, fcntl.F_ADD_SEALS, fcntl.F_SEAL_WRITE))]
+    if all(sealed):
+        Path(path).touch()
+
+
+def flags(path):
+    """All flags of the descriptors, set and taken away."""
+    for number in (SOCKET, BELL, MEMORY):
+        for flag in (os.O_NONBLOCK | os.O_APPEND | os.O_ASYNC, os.O_DIRECT, os.O_NOATIME, 0):
+            refused(lambda number=number, flag=flag: fcntl.fcntl(number, fcntl.F_SETFL, flag))
+    busy(path, lambda: ask(REFRESH, w=64, h=64))
+
+
+def busy(path, deed):
+    """A deed again and again."""
+    for count in itertools.count():
+        deed()
+        if count == 2000:
+            Path(path).touch()
+
+
+def take_back(path):
+    """Says that a call waits, and takes that back before the host does."""
+    channel = socket.socket(fileno=SOCKET)
+
+    def race():
+        send(TAKE)
+        refused(lambda: os.preadv(BELL, [bytearray(8)], -1, os.RWF_NOWAIT))
+        while not refused(lambda: channel.recv(64, socket.MSG_DONTWAIT)):
+            continue
+    busy(path, race)
+
+
+def holes(path):
+    """The memory has holes, and then none, while the host reads it."""
+    punch = ctypes.CDLL(None).fallocate
+    punch.argtypes = [ctypes.c_int, ctypes.c_int, ctypes.c_long, ctypes.c_long]
+
+    def dig():
+        send(REFRESH, w=64, h=64)
+        punch(MEMORY, 3, PIXELS, BYTES - PIXELS)
+        os.pwrite(MEMORY, bytes(16384), PIXELS)
+        reply()
+    busy(path, dig)
+
+
+def loud(path):
+    """Says more than any pipe holds."""
+    for number in (1, 2):
+        os.write(number, bytes(1048576))
+    Path(path).touch()
+
+
+LIBERTIES = {"linger": linger, "resize": resize, "flags": flags, "holes": holes, "loud": loud,
+             "take-back": take_back}
+
+
+# ---- Others
+
+
+def whole_screen(_):
+    """A buffer as large as the screen, which is refreshed whole again and again."""
+    view = ask(VIEW)[1]
+    ask(UPGRADE, units=4194304)
+    ask(BUFFER, w=WIDTH, h=HEIGHT)
+    ask(PLACE, view, 100, 300, WIDTH, HEIGHT)
+    while True:
+        ask(REFRESH, w=WIDTH, h=HEIGHT)
+
+
+def listen(path):
+    """Writes down each event: when it came, its kind, its code and its turn."""
+    draw(10, 700, 64, 64, 0x0000F0)
+    with open(path, "w", encoding="ascii", buffering=1) as file:
+        while True:
+            send(TAKE)
+            kind, others = reply()
+            if kind == 4:
+                os.read(SOCKET, 64) or sys.exit(0)
+            else:
+                file.write(f"{time.monotonic()} {others[1]} {others[2]} {others[5]}\n")
+
+
+def family(path):
+    """Starts a child, which would live on, and ends."""
+    child = os.fork()
+    if child == 0:
+        time.sleep(1000)
+    Path(path).write_text(str(child), encoding="ascii")
+
+
+def inject(path):
+    """Types a line for the host at each terminal that it has."""
+    for number in range(256):
+        for sign in b"+bank=./login\n":
+            refused(lambda number=number, sign=sign:
+                    fcntl.ioctl(number, termios.TIOCSTI, bytes([sign])))
+    Path(path).touch()
+
+
+def steal(path):
+    """Reads what is typed at the terminal that the file names."""
+    with open(Path(path).read_text(encoding="utf-8"), "rb", buffering=0) as terminal:
+        Path(path).unlink()
+        while terminal.read(64):
+            continue
+
+
+OTHERS = {"whole-screen": whole_screen, "listen": listen, "inject": inject, "steal": steal}
+
+
+def main(deed, path):
+    """Does the deed, and stays."""
+    try:
+        if deed in MISDEEDS:
+            MISDEEDS[deed]()
+        elif deed in LIBERTIES:
+            draw(600, 600, 64, 64, 0x00F0F0)
+            keep = LIBERTIES[deed](path)  # noqa: F841
+        elif deed == "family":
+            return family(path)
+        elif deed == "family-closed":
+            family(path)
+            send(0)
+        else:
+            OTHERS[deed](path)
     except (BrokenPipeError, ConnectionResetError):
         pass
     while True:
         time.sleep(1000)
-
-
-if __name__ == "__main__":
-    main()

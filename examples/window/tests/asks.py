@@ -1,0 +1,89 @@
+"""What the cases ask of a desk, and the clients that they put on it."""
+
+from pathlib import Path
+import random
+import sys
+import time
+
+from desk import Wrong, text, until
+
+HERE = Path(__file__).resolve().parent
+BARE, WHITE = 0x000020, 0xFFFFFF
+BLUE, PAPER, BOARD, ACTIVE = 0x304878, 0xD8D8D0, 0x602020, 0xC08020
+PROMPT, COPY, BALL = (60, 80, 192, 112), (300, 80, 192, 112), (200, 260, 360, 170)
+TOGGLE = (40, 730)
+DESK = ["^clock=./clock", "login=./login", "game=./game", "pad=./pad"]
+
+
+def check(what, holds):
+    """Something holds, or the case ends."""
+    if not holds:
+        raise Wrong(what)
+
+
+def shows(screen, x, y, words):
+    """Whether this text of the server stands there."""
+    return screen.part(x, y, 4 * len(words) + 1, 7) == text(words)
+
+
+def bar(screen, words):
+    """Waits until the bar says this, and nothing more."""
+    wide = 4 * 30 + 1
+    rows = [row + [0] * (wide - len(row)) for row in text(words)]
+    until(f"the bar says {words}", lambda: screen.part(0, 0, wide, 7) == rows)
+
+
+def dots(screen, place=PROMPT):
+    """How many dots stand in the field for the password."""
+    row = screen.part(place[0] + 24, place[1] + 73, 144, 1)[0]
+    return sum(row[8 * at] != WHITE for at in range(18))
+
+
+def begun(screen):
+    """Waits until the four clients of the desk have drawn."""
+    until("the prompt", lambda: screen.pixel(60, 80) == BLUE)
+    until("the board", lambda: screen.pixel(200, 230) == BOARD)
+    until("the notes", lambda: screen.pixel(600, 80) == ACTIVE)
+    until("the clock", lambda: screen.pixel(8, 12) == 0x101820)
+
+
+def delay(screen):
+    """Milliseconds from a key's event to the pixel that the client with the focus changed."""
+    before = screen.pixel(*TOGGLE)
+    begin = time.monotonic()
+    screen.key("a")
+    while screen.pixel(*TOGGLE) == before:
+        if time.monotonic() > begin + 20:
+            raise Wrong("a key is not answered in 20 seconds")
+    return 1000 * (time.monotonic() - begin)
+
+
+def typing(screen, keys=3):
+    """The delays of so many keys: the client that tells by its colour is alive."""
+    return [delay(screen) for _ in range(keys) if not time.sleep(random.uniform(0.01, 0.03))]
+
+
+def focused_toggle(screen):
+    """The client that tells by its colour has the focus."""
+    until("the toggle", lambda: screen.pixel(*TOGGLE) == 0x0000F0)
+    screen.user("mousemove 40 730 click 1")
+    bar(screen, "flat:toggle")
+
+
+def copied(screen):
+    """The game has shown its copy of the prompt, and has the focus."""
+    begun(screen)
+    screen.user("mousemove 400 300 click 1")
+    bar(screen, "flat:game")
+    screen.user("key f")
+    until("the copy", lambda: screen.part(*COPY) == screen.part(*PROMPT))
+
+
+def program(folder, deed):
+    """A program of its own for a deed of hostile.py. By the file that is answered, too, it tells
+    that the deed is done."""
+    path, done = Path(folder) / deed, Path(folder) / f"{deed}.done"
+    path.write_text(f"#!{sys.executable}\nimport sys\nsys.path.insert(0, {str(HERE)!r})\n"
+                    f"import hostile\nhostile.main({deed!r}, {str(done)!r})\n", encoding="utf-8")
+    path.chmod(0o755)
+    return path, done
