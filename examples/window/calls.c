@@ -41,17 +41,6 @@ static bool copy(struct host *host, const struct client *client, const struct ca
     return true;
 }
 
-/* The buffer has its new size once the library has let the client have it. */
-static struct nit_reply buffer(struct host *host, uint32_t seat, const struct call *call)
-{
-    struct nit_reply reply = nit_buffer(&host->server, seat, call->w, call->h);
-    if (reply.kind == NIT_DONE) {
-        host->clients[seat].w = call->w;
-        host->clients[seat].h = call->h;
-    }
-    return reply;
-}
-
 /* What the library answers to a call that is known and is neither of buffers nor of parts. */
 static struct nit_reply ask(struct nit_server *server, uint32_t seat, const struct call *call)
 {
@@ -100,7 +89,9 @@ static const char *serve(struct host *host, uint32_t seat, const struct call *ca
     if (call->call < CALL_BUFFER || call->call > CALL_LAST)
         return "closed: it broke the protocol";
     if (call->call == CALL_BUFFER) {
-        reply = buffer(host, seat, call);
+        reply = nit_buffer(&host->server, seat, call->w, call->h);
+        client->w = reply.kind == NIT_DONE ? call->w : client->w;
+        client->h = reply.kind == NIT_DONE ? call->h : client->h;
     } else if (call->call == CALL_REFRESH) {
         if (!copy(host, client, call))
             return "closed: its buffer cannot be read";
@@ -121,9 +112,9 @@ static uint64_t spent(void)
     return (uint64_t)time.tv_sec * 1000000 + (uint64_t)time.tv_nsec / 1000;
 }
 
-/* Serves one client until nothing is left to do or its slice of the period is over. A call is served
- * to its end, and who uses more than a slice rests so much longer: so it never has more than its
- * part of the time. */
+/* Serves one client until nothing is left to do or its slice is over. A call is served to its end,
+ * and who uses more than a slice rests so much longer: so none has more than its part of the time.
+ * The time is that of this process, since a client is not to pay for what others do meanwhile. */
 static void serve_client(struct host *host, uint32_t seat)
 {
     struct client *client = &host->clients[seat];

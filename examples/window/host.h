@@ -11,7 +11,7 @@ enum {
     LABEL = 21,              /* a label and its 0 */
     DONATION = 4194304,      /* units of each seat */
     MOST_WORDS = 1048576,    /* of a buffer, whatever is donated: 8,388,608 units */
-    SLICE = 1000,            /* microseconds for the calls of a client, in each period */
+    SLICE = 1000,            /* microseconds for the calls of a client, which rests then */
     XRAY_KEY = 70,           /* Linux's codes of the keys of modes */
     KILL_KEY = 99
 };

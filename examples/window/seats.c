@@ -1,10 +1,10 @@
 /* Processes and the seats that they sit on. Not proved. A label is what the host's words say, never
  * what a client says of itself.
  *
- * A client has its channel and nothing else of the host, and the channel is such that nothing which
- * a client does to its ends makes the host wait. A Unix socket would bring descriptors, and to
- * close one may take as long as the client likes: so the host's end is shut for all that comes. A
- * pipe is locked while the memory of who writes is read: so calls come by a memfd and an eventfd. */
+ * A client has its channel and nothing else of the host, and nothing that it does to that makes the
+ * host wait. A socket would bring descriptors, and to close one may take as long as the client
+ * likes: so the host's end is shut for all that comes. A pipe is locked while the memory of who
+ * writes is read, and that may take as long: so calls come by a memfd and an eventfd. */
 #include "host.h"
 #include "protocol.h"
 #include <errno.h>

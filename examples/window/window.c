@@ -227,7 +227,7 @@ static int begin(struct host *host, char **words)
     if (!*words)
         return refuse("NAME=PROGRAM", "there is no client, see --help");
     if (!open_server(host, size, words))
-        return refuse("--size", "1x8 to 1024x768");
+        return refuse("--size", "a window has 1x8 to 1024x768");
     for (; *words; words++)
         if ((why = seats_start(host, *words + (**words == '^'))) != NULL)
             return refuse(*words, why);

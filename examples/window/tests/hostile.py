@@ -1,7 +1,7 @@
 """Clients of the test that do what they should not.
 
-The host has to close who does one of MISDEEDS, and nobody else; so no client ends by itself. It need
-not notice what is in LIBERTIES, and goes on."""
+The host has to close who does one of MISDEEDS, and nobody else; so no client ends by itself. What
+is in LIBERTIES it need not notice."""
 
 import ctypes
 import fcntl
