@@ -84,15 +84,12 @@ class Folder:
     def check_puts(self, names):
         """That nothing refuses to put files of these names."""
         for name in names:
-            path = os.path.join(self.out or "", name)
-            if self.out is None and not is_open(self.path):
+            path = str(Path(self.out or "") / name)
+            why = "a folder has this name" if self.is_blocked(path) else \
+                "" if self.out or is_open(self.path) else "this user may not write into the folder"
+            if why:
                 raise Refused(4, f"{name}: write fault", Note(
-                    path, "it cannot be written: this user may not write into the folder", "",
-                    "docs/FAILURES.md, Putting"))
-            if self.is_blocked(path):
-                raise Refused(4, f"{name}: write fault", Note(
-                    path, "it cannot be written: a folder has this name", "",
-                    "docs/FAILURES.md, Putting"))
+                    path, f"it cannot be written: {why}", "", "docs/FAILURES.md, Putting"))
 
     def is_blocked(self, name):
         """Whether a folder stands where a file is to be put."""
