@@ -139,6 +139,7 @@ class Clients {
 
 function eventsOf(client) {
   const list = scrolled(made("pre", "", client.events.join("\n")), `events of ${client.label}`);
+  list.setAttribute("role", "group");
   const count = client.events.length - 3;
   return made("details", "", "", [made("summary", "", `its events: ${count} taken`), list]);
 }

@@ -32,7 +32,7 @@ REFUSALS = {
     "killed": "the user has locked it out",
     "not-focused": "it has not the focus",
 }
-MODES = {"flat": "the plain mode", "xray": "X-ray mode", "kill": "kill mode"}
+MODES = {"xray": "X-ray mode", "kill": "kill mode"}
 BUTTONS = {272: "the left button", 273: "the right button", 274: "the middle button"}
 KEYS = {70: "the X-ray key", 99: "the kill key"}
 

@@ -139,7 +139,7 @@ PART = b"[screen]\nwidth = 8\nheight = 8\n[input]\nscript = 'u.in'\n[[client]]\n
 MANY = ["view", "bufer", "fill 0 0 1 1 red", *["view 1"] * 11]
 FILES = {
     "scene.toml": PART, "u.in": b"phase\n", "a.nit": b"view\nphase\n", "b.nit": b"view\n",
-    "w 1.nit": b"view\r\n" * 30, "many.nit": "\n".join([*MANY, ""]).encode(),
+    "w 1.nit": b"view\r\n" * 60000, "many.nit": "\n".join([*MANY, ""]).encode(),
     "open.nit": b"view\ntake", "full/journal.txt": None,
 }
 IS_READ_IN = "is the folder that is read in; put there without --out`, with status 2."
@@ -148,7 +148,7 @@ SLIPS = [
     (["many.nit"], 1, "line 3, column 14: `red` stands where the colour is to stand\n"
      "     3 | fill 0 0 1 1 red\n       |              ^^^\n  right: red is"),
     (["many.nit"], 1, "\nand 3 more\nThe program says `many.nit: line 2: bad script`"),
-    (["w 1.nit"], 1, "line 1, column 5: a carriage return stands before the line feed, as in 29 "
+    (["w 1.nit"], 1, "line 1, column 5: a carriage return stands before the line feed, as in 59999 "
      "more lines: lines end so under Windows\n     1 | view\\r\n       |     ^^\n  right: a line "
      "feed alone; `sed -i 's/\\r$//' 'w 1.nit'` takes all of them out\n  rule:  docs/FORMATS.md, "
      "Scripts: each line ends with one line feed\nThe program says `w 1.nit: line 1: bad script`"),

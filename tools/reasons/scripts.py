@@ -44,10 +44,10 @@ def bad_lines(whole, read):
 
 def told_once(bad, name):
     """The same with one fault for all line ends of Windows."""
-    ends = [fault for _, fault in bad if isinstance(fault, lines.LineEnd)]
+    ends = [row for row in bad if isinstance(row[1], lines.LineEnd)]
     if ends:
-        ends[0].told(name, len(ends))
-    return [row for row in bad if row[1] not in ends[1:]]
+        ends[0][1].told(name, len(ends))
+    return [row for row in bad if not isinstance(row[1], lines.LineEnd) or row is ends[0]]
 
 
 def open_end(rest, read, name):
