@@ -40,5 +40,6 @@ def check_audits(run, folder, report, program):
         at = next(f"{number}.journal" for number in range(99) if f"{number}.journal" not in files)
         outcome = run_apart(program, ["audit", config, at], files | {at: folder.read(name)})
         said = outcome.said.decode("utf-8", "replace").strip().removeprefix("nitpicker: ")
+        said = said or f"it has not ended within {runs.SECONDS} s, or was killed"
         word = {0: "right", 8: "wrong", 9: "wrong"}.get(outcome.status, "not checked")
         report.say(word, name, f"by `audit`: {said.replace(at, name)}")
