@@ -9,7 +9,7 @@ import time
 from pathlib import Path
 
 TOP = Path(__file__).resolve().parent.parent
-sys.path.append(str(TOP / "bin"))
+sys.path.insert(1, str(TOP / "bin"))
 import interpreter  # noqa: E402
 SECONDS = 120
 BETWEEN = 5.0

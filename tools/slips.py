@@ -9,7 +9,7 @@ from pathlib import Path
 import runs
 import stand_ins
 
-SECONDS = 60
+SECONDS = 300
 # What an answer may take that needs no program, of a processor: others may be at work too.
 QUICK = 1.0
 # A program that tells in a file that it has begun, and goes on until it gets a signal.

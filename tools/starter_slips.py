@@ -145,7 +145,7 @@ class Interrupts(Case):
     def ended_by(self, started, number=signal.SIGINT):
         """That a start ends by a signal that it gets now."""
         started.send_signal(number)
-        said, told = started.communicate(timeout=60)
+        said, told = started.communicate(timeout=300)
         self.assertEqual((started.returncode, said), (-number, b""), told)
         self.assertNotIn(b"Traceback", told)
 

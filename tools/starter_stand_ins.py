@@ -158,6 +158,7 @@ class Repository:
                             "STAND_IN_LOG": str(self.log),
                             "STAND_IN_PROGRAM": str(program or self.program)}
         self.environment.pop("GLIBC_TUNABLES", None)
+        self.started = []
 
     def write(self, name, text):
         path = self.folder / name
@@ -177,9 +178,17 @@ class Repository:
     def begin(self, *words, here=None, **more):
         """Starts it, and does not wait for its end."""
         environment = {**self.environment, **more}
-        return subprocess.Popen(self.command(words), cwd=here or self.folder, env=environment,
-                                stdin=subprocess.DEVNULL, stdout=subprocess.PIPE,
-                                stderr=subprocess.PIPE)
+        started = subprocess.Popen(self.command(words), cwd=here or self.folder, env=environment,
+                                   stdin=subprocess.DEVNULL, stdout=subprocess.PIPE,
+                                   stderr=subprocess.PIPE)
+        self.started.append(started)
+        return started
+
+    def end_all(self):
+        """Ends what was started and goes on."""
+        for it in self.started:
+            it.kill()
+            it.wait()
 
     def done(self):
         """What `rt` did since this was asked last, a line each."""
@@ -195,8 +204,8 @@ def executable(path, text):
 
 
 def ends(condition):
-    """Whether something comes about in a minute."""
-    last = time.monotonic() + 60
+    """Whether something comes about in five minutes."""
+    last = time.monotonic() + 300
     while not condition() and time.monotonic() < last:
         time.sleep(0.02)
     return condition()
@@ -212,6 +221,7 @@ class Case(unittest.TestCase):
         self.addCleanup(folder.cleanup)
         self.top = Path(folder.name).resolve()
         self.repository = Repository(self.top)
+        self.addCleanup(self.repository.end_all)
         self.run_it = self.repository.run
         if self.is_built:
             self.assertEqual(self.run_it(*ANY, STAND_IN_SECONDS="0").returncode, 7)

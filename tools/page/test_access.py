@@ -1,4 +1,4 @@
-"""Pages by the keys, for a screen reader and with little motion, and since when the focus is where."""
+"""Pages by the keys, for a screen reader, with little motion; and since when the focus is where."""
 import json
 
 from page.browser_case import PageCase
