@@ -18,7 +18,7 @@ import time
 from concurrent.futures import FIRST_COMPLETED, ThreadPoolExecutor, wait
 
 import usage
-from crates import KEPT, PROGRAM, TOP, is_current, note_program, parts_of, RECORD
+from crates import KEPT, PROGRAM, TOP, is_current, note_product, parts_of, RECORD
 from lanes import Lane, remove_lanes
 from machine import Machine
 from starter import die_of, output_of, refuse_words, say, start, tell
@@ -186,7 +186,7 @@ def build_all(toolchain, commands):
         return
     if parts_of("nitpicker", toolchain)[-1].sum != parts[-1].sum:
         raise NotBuilt("a source has changed while the program was built; start it again")
-    note_program(parts, toolchain, begun)
+    note_product(parts, toolchain, begun)
     say(f"proved and built in {since(begun)}")
 
 

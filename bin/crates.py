@@ -1,7 +1,8 @@
-"""The crates that the program is made of, and which of them are built as they stand."""
+"""The crates that the program and the library are made of, and which are built as they stand."""
 import hashlib
 import os
 from pathlib import Path
+from typing import NamedTuple
 
 TOP = Path(__file__).resolve().parent.parent
 KEPT = TOP / "out" / "build"
@@ -76,24 +77,38 @@ def parts_of(name, toolchain):
     return list(parts.values())
 
 
-def sum_of_program():
-    return hashlib.sha256(PROGRAM.read_bytes()).hexdigest() if PROGRAM.is_file() else "none"
+class Product(NamedTuple):
+    """What is built: its word in the note, its file, and the note, which tells from what."""
+
+    word: str
+    file: Path
+    note: Path
 
 
-def record_of(parts, toolchain):
-    """What tells that the program there was built from these parts: a word and a value a line."""
-    lines = [("toolchain", toolchain), ("sources", parts[-1].sum), ("program", sum_of_program())]
+THE_PROGRAM = Product("program", PROGRAM, RECORD)
+LIBRARY = Product("library", TOP / "crates" / "nit_c" / "out" / "libnit_c.a",
+                  TOP / "embed" / "out" / "built")
+
+
+def sum_of(path):
+    return hashlib.sha256(path.read_bytes()).hexdigest() if path.is_file() else "none"
+
+
+def record_of(parts, toolchain, product):
+    """What tells that it was built from these parts: a word and a value a line."""
+    lines = [("toolchain", toolchain), ("sources", parts[-1].sum),
+             (product.word, sum_of(product.file))]
     return "".join(f"{word} {value}\n" for word, value in
                    [*lines, *(("part", part.name) for part in parts)])
 
 
-def is_current(parts, toolchain):
-    """Whether the program there was built here from what stands there now."""
-    return PROGRAM.is_file() and text_of(RECORD) == record_of(parts, toolchain)
+def is_current(parts, toolchain, product=THE_PROGRAM):
+    """Whether what is there was built here from what stands there now."""
+    return product.file.is_file() and text_of(product.note) == record_of(parts, toolchain, product)
 
 
-def note_program(parts, toolchain, begun):
-    """Notes what the program was built from. A source that is newer than the note is another one,
-    so the note is as old as the begin of the build."""
-    RECORD.write_text(record_of(parts, toolchain), encoding="utf8")
-    os.utime(RECORD, (begun, begun))
+def note_product(parts, toolchain, begun, product=THE_PROGRAM):
+    """Notes what it was built from. A source that is newer than the note is another one, so the
+    note is as old as the begin of the build."""
+    product.note.write_text(record_of(parts, toolchain, product), encoding="utf8")
+    os.utime(product.note, (begun, begun))

@@ -2,10 +2,10 @@
 """Compares nitpicker.h with the library: with the sources of its exports, and with the archive.
 
 usage: embed/tests/exports.py [--header HEADER] [--sources FOLDER] [--archive ARCHIVE]
-                              [--selftest]
+                              [--shared OBJECT] [--selftest]
 
-HEADER is embed/include/nitpicker.h and FOLDER crates/nit_c/src where none is given. ARCHIVE is
-compared where one is given. What is compared:
+HEADER is embed/include/nitpicker.h and FOLDER crates/nit_c/src where none is given. ARCHIVE, and
+OBJECT, a shared one, are compared where they are given. What is compared:
 
 - each function of the header is an export of the sources, and the other way round: its name, the
   names of its arguments in their order, their types, and what it answers. A `Global` takes no
@@ -20,6 +20,7 @@ compared where one is given. What is compared:
 - `raw.rs` of embed/rust says the same of functions, structs and those numbers that it has.
 - the archive defines the functions of the header and no other name that another object sees, and
   wants nothing but malloc, realloc, free, memcpy, memmove, memset, memcmp and bcmp.
+- so does the shared object, but for what the compiler wants of a C library where that has it.
 
 --selftest compares small headers and sources that differ, one difference at a time, which has to be
 found. The status is 1 where something differs.
@@ -295,15 +296,26 @@ def constant_faults(header, sources):
             if header.constants[name] != pairs[name]]
 
 
-def archive_faults(header, archive):
-    said = subprocess.run(["nm", "-g", archive], capture_output=True, text=True, check=True).stdout
-    symbols = re.findall(r"^[0-9a-f ]{16} ([A-Za-z]) (\S+)$", said, re.M)
+def symbol_faults(header, what, words, ignored=""):
+    """What is not as it should be of the names that `nm` tells with these words."""
+    said = subprocess.run(["nm", *words], capture_output=True, text=True, check=True).stdout
+    symbols = [it for it in re.findall(r"^[0-9a-f ]{16} ([A-Za-z]) ([^\s@]+)\S*$", said, re.M)
+               if it[0] not in ignored]
     defined = {name for kind, name in symbols if kind != "U"}
     wanted = {name for kind, name in symbols if kind == "U"} - defined
-    faults = [f"archive: {name} is missing" for name in sorted(header.functions.keys() - defined)]
-    faults += [f"archive: {name} is defined" for name in sorted(defined - header.functions.keys())]
-    return faults + [f"archive: {name} is wanted"
+    faults = [f"{what}: {name} is missing" for name in sorted(header.functions.keys() - defined)]
+    faults += [f"{what}: {name} is defined" for name in sorted(defined - header.functions.keys())]
+    return faults + [f"{what}: {name} is wanted"
                      for name in sorted(wanted - WANTED - {"_GLOBAL_OFFSET_TABLE_"})]
+
+
+def archive_faults(header, archive):
+    return symbol_faults(header, "archive", ["-g", archive])
+
+
+def shared_faults(header, shared):
+    """Weak names (`w`) are wanted only where another object has them: the compiler's own."""
+    return symbol_faults(header, "shared", ["-D", shared], "w")
 
 
 def source_text(folder):
@@ -315,7 +327,7 @@ def code_faults(ours, theirs, folder):
     return faults + constant_faults(ours, theirs)
 
 
-def faults_of(header, text, archive, binding=None):
+def faults_of(header, text, archive=None, shared=None, binding=None):
     """What differs, and what was compared."""
     ours, theirs = Header(header.read_text()), Sources(text)
     faults = code_faults(ours, theirs, header.parent) + missing_constants(ours, theirs)
@@ -323,6 +335,7 @@ def faults_of(header, text, archive, binding=None):
         faults += [f"raw.rs: {fault}"
                    for fault in code_faults(ours, Binding(binding), header.parent)]
     faults += archive_faults(ours, archive) if archive else []
+    faults += shared_faults(ours, shared) if shared else []
     constants = sum(f"NIT_{name}" in ours.constants for name in theirs.constants)
     return faults, (f"functions {len(ours.functions)}, structs {len(crossing(ours))}, "
                     f"constants {constants}")
@@ -341,20 +354,21 @@ def selftest():
         header, object_file = Path(top) / "nitpicker.h", Path(top) / "part.o"
         for old, new, has in [("", "", None), *CHANGES]:
             header.write_text(HEADER.replace(old, new, 1))
-            faults, _ = faults_of(header, SOURCES.replace(old, new, 1), None)
+            faults, _ = faults_of(header, SOURCES.replace(old, new, 1))
             if not is_said(faults, has):
                 yield f"{new!r} in the place of {old!r}: it says {faults} and not {has!r}"
         header.write_text(HEADER)
         for old, new, has in [("", "", None), *BINDINGS]:
-            faults, _ = faults_of(header, SOURCES, None, BINDING.replace(old, new, 1))
+            faults, _ = faults_of(header, SOURCES, binding=BINDING.replace(old, new, 1))
             if not is_said(faults, has):
                 yield f"{new!r} in the place of {old!r}: it says {faults} and not {has!r}"
         for text, has in OBJECTS:
-            command = [compiler(), "-w", "-c", "-x", "c", "-", "-o", object_file]
-            subprocess.run(command, input=text, text=True, check=True)
-            faults = archive_faults(Header(HEADER), object_file)
-            if not is_said(faults, has):
-                yield f"{text}: it says {faults} and not {has!r}"
+            for words, look in (["-c"], archive_faults), (["-shared", "-fPIC"], shared_faults):
+                command = [compiler(), "-w", *words, "-x", "c", "-", "-o", object_file]
+                subprocess.run(command, input=text, text=True, check=True)
+                faults = look(Header(HEADER), object_file)
+                if not is_said(faults, has):
+                    yield f"{text}: {look.__name__} says {faults} and not {has!r}"
 
 
 def main(words):
@@ -364,6 +378,7 @@ def main(words):
     reader.add_argument("--header", type=Path, default=top / "embed" / "include" / "nitpicker.h")
     reader.add_argument("--sources", default=top / "crates" / "nit_c" / "src")
     reader.add_argument("--archive")
+    reader.add_argument("--shared")
     reader.add_argument("--selftest", action="store_true")
     given = reader.parse_args(words)
     if given.selftest:
@@ -373,7 +388,7 @@ def main(words):
         if not text:
             raise runs.WrongWords(f"{given.sources}: no sources")
         binding = (top / "embed" / "rust" / "src" / "raw.rs").read_text()
-        faults, compared = faults_of(given.header, text, given.archive, binding)
+        faults, compared = faults_of(given.header, text, given.archive, given.shared, binding)
     print("".join(f"{fault}\n" for fault in faults), end="")
     print(f"exports: {compared}, differences {len(faults)}")
     return 1 if faults else 0
