@@ -1,6 +1,7 @@
 """What `tools/release --selftest` tries: a release of a small repository with stand-ins."""
 import hashlib
 import os
+import re
 import shutil
 import subprocess
 import tarfile
@@ -9,7 +10,8 @@ import unittest
 from pathlib import Path
 
 import starter_stand_ins as stand_ins
-from starter_stand_ins import TOP, Repository, doing, executable, try_all
+from stand_ins import copied, plain_library, silent_library
+from starter_stand_ins import CRATES, RT, TOP, Repository, doing, executable, try_all
 
 PAGE = ("`../../bin/nitpicker turns 'tell red 2 0'` says `nitpicker: red`, and "
         "`../../bin/nitpicker turns 'read a.nit'` says `nitpicker: one`. So does "
@@ -20,10 +22,16 @@ small | turns 'read a.nit' | 0 | one | 0
 small | turns 'read a.nit' | 0 | two | 0 | s/one/two/ a.nit
 small | turns 'read a.nit' | 0 | one | 0 | | grep one a.nit
 """
+# A toolchain that is the stand-in of the starter's and builds the library: `library` beside it.
+LIBRARY_RT = """#!/bin/sh
+[ "$1" != doc ] || exec echo "{kit}/START-HERE.md"
+[ "${{PWD##*/}} $1" = "nit_c lib" ] || exec "{kit}/starter-rt" "$@"
+mkdir -p out && cp "{kit}/library" out/libnit_c.a
+"""
 
 
 class Case(unittest.TestCase):
-    """A case has a repository with a commit, whose program is built from it."""
+    """A case has a repository with a commit, whose program and library are built from it."""
 
     def setUp(self):
         folder = tempfile.TemporaryDirectory(prefix="release-")
@@ -38,9 +46,30 @@ class Case(unittest.TestCase):
         for name in ("release", "run-examples", "runs.py"):
             (self.folder / "tools").mkdir(exist_ok=True)
             shutil.copy(TOP / "tools" / name, self.folder / "tools" / name)
+        self.lay_library()
         self.git("init", "-q")
         self.commit()
+        self.build()
+
+    def lay_library(self):
+        """Puts embed, the crate below it, and a toolchain that builds it."""
+        shutil.copy(TOP / ".gitignore", self.folder)
+        self.repository.write("crates.txt", CRATES + "nit_c staticlib: low core\n")
+        self.repository.write("crates/nit_c/src/lib.rt", "nit_c")
+        embed = copied(self.folder, TOP / "embed")
+        shutil.copy(silent_library(self.top, embed), self.top / "library")
+        executable(self.top / "starter-rt", RT)
+        executable(self.repository.tools / "rt", LIBRARY_RT.format(kit=self.top))
+        (self.top / "c").mkdir()
+        subprocess.run(["ar", "rc", self.top / "c/liblibc_c.a"], check=True)
+
+    def make(self, *words):
+        subprocess.run(["make", "-s", "-C", "embed", *words], cwd=self.folder, check=True,
+                       env=self.repository.environment)
+
+    def build(self):
         self.assertEqual(self.repository.run("gen", "1", STAND_IN_SECONDS="0").returncode, 7)
+        self.make()
 
     def git(self, *words):
         who = ["-c", "user.name=nobody", "-c", "user.email=nobody@localhost"]
@@ -53,7 +82,8 @@ class Case(unittest.TestCase):
 
     def release(self):
         return subprocess.run([self.folder / "tools" / "release", self.top / "made"],
-                              cwd=self.top, capture_output=True, text=True, check=False)
+                              cwd=self.top, capture_output=True, text=True, check=False,
+                              env=self.repository.environment)
 
     def refused(self, why):
         ended = self.release()
@@ -83,9 +113,22 @@ class Refusals(Case):
     def test_a_program_of_other_sources(self):
         self.repository.write("crates/low/src/lib.rt", "another text")
         self.commit()
-        self.refused("was not built from this commit")
+        self.refused("the program was not built from this commit")
         self.assertEqual(self.repository.run("gen", "1", STAND_IN_SECONDS="0").returncode, 7)
+        self.refused("the library was not built from this commit")
+        self.make()
         self.made()
+
+    def test_a_library_of_other_sources(self):
+        self.repository.write("crates/nit_c/src/lib.rt", "another text")
+        self.commit()
+        self.refused("the library was not built from this commit")
+        self.make()
+        archive = self.folder / "crates/nit_c/out/libnit_c.a"
+        archive.write_bytes(archive.read_bytes() + b"\n")
+        self.refused("the library was not built from this commit")
+        self.make("clean")
+        self.refused("the library was not built from this commit")
 
     def test_a_program_that_was_not_built_by_the_starter(self):
         program = self.folder / "crates/nitpicker/out/nitpicker"
@@ -129,10 +172,12 @@ class Archives(Case):
 
     def test_what_is_in_it(self):
         self.assertEqual(self.archive.name, f"{self.name}.tar.gz")
-        files = subprocess.run(["git", "ls-files", "bin", "docs", "examples", "tools", "README.md"],
-                               cwd=self.folder, capture_output=True, text=True, check=True)
+        kept = ["bin", "docs", "embed", "examples", "tools", "README.md"]
+        files = subprocess.run(["git", "ls-files", *kept], cwd=self.folder, capture_output=True,
+                               text=True, check=True)
         wanted = [*files.stdout.split(), "VERSION", "SHA256SUMS", "run-examples",
-                  "bin/proved/nitpicker"]
+                  "bin/proved/nitpicker", "embed/lib/libnitpicker.a",
+                  "embed/lib/pkgconfig/nitpicker.pc"]
         self.assertEqual(self.names, sorted(f"{self.name}/{name}" for name in wanted))
         self.assertEqual((self.unpacked / "VERSION").read_text(),
                          f"nitpicker {self.git('rev-parse', 'HEAD')}\n"
@@ -148,6 +193,32 @@ class Archives(Case):
         for it in self.folder.rglob("*.md"):
             os.utime(it)
         self.assertEqual(self.made().read_bytes(), first)
+
+    def test_another_library_beside_it_is_not_taken(self):
+        first = self.archive.read_bytes()
+        other = plain_library(self.top, self.folder / "embed")
+        self.make(f"NIT_C={other}")
+        self.assertNotEqual((self.folder / "embed/out/libnitpicker.a").read_bytes(),
+                            (self.unpacked / "embed/lib/libnitpicker.a").read_bytes())
+        self.assertEqual(self.made().read_bytes(), first)
+
+    def test_a_host_is_compiled_without_a_toolchain(self):
+        """By the pkg-config file where it lies, after the release was moved, and by the two
+        commands of the guide."""
+        moved = self.unpacked.rename(self.top / "moved")
+        page = (TOP / "docs/EMBEDDING.md").read_text()
+        commands, host = (re.search(rf"^```{kind}\n(.*?)^```$", page, re.M | re.S)[1]
+                          for kind in ("", "c"))
+        (moved / "host.c").write_text(host)
+        there = ("cc -Wall -Werror host.c "
+                 "$(PKG_CONFIG_PATH=embed/lib/pkgconfig pkg-config --cflags --libs nitpicker)")
+        for text in (there, commands):
+            subprocess.run(["sh", "-ec", text], cwd=moved, check=True, capture_output=True,
+                           env={"PATH": "/usr/bin:/bin", "HOME": str(self.top / "home")})
+            # The stand-in of the library opens nothing.
+            self.assertEqual(subprocess.run(["./a.out"], cwd=moved, check=False).returncode, 1)
+            (moved / "a.out").unlink()
+        self.assertTrue((self.top / "home/.local/lib/libnitpicker.a").is_file())
 
     def test_examples_are_as_their_pages_say(self):
         ended = self.try_examples()
