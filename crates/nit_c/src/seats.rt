@@ -30,6 +30,7 @@ fn sit(host: &mut Host, seat: u32, label: &[u8]) -> u32
 fn sought(host: &Host, label: &[u8]) -> u32
     ensures { IsSought host.now label.now result }
 {
+    // No seat has the number of none.
     let _seats = host.seats();
     seat_number(seat_of(host, label))
 }
