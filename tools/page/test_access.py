@@ -1,5 +1,6 @@
 """Pages by the keys, for a screen reader, with little motion; and since when the focus is where."""
 import json
+import time
 
 from page.browser_case import PageCase
 
@@ -23,6 +24,16 @@ class AccessTest(PageCase):
         self.assertTrue(self.browser.value(
             f"document.activeElement === document.querySelector({json.dumps(selector)})"), selector)
 
+    def press_until(self, key, expression):
+        """Presses a key, and again where a browser that is busy has lost it."""
+        for _ in range(100):
+            self.browser.press(key)
+            self.browser.settle()
+            if self.browser.value(expression):
+                return
+            time.sleep(0.2)
+        self.fail(f"{key}: never came: {expression}")
+
     def test_keys_act_where_the_focus_is(self):
         [run] = self.open("desk", place="#9")
         count = len(run.replay.steps)
@@ -30,10 +41,8 @@ class AccessTest(PageCase):
         for selector in ("#pictures article ol", "#pictures article ol button"):
             top = "document.querySelector('#pictures article ol').scrollTop"
             self.focus(selector)
-            self.browser.press("End")
-            self.browser.wait(f"{top} > 0")
-            self.browser.press("Home")
-            self.browser.wait(f"{top} === 0")
+            self.press_until("End", f"{top} > 0")
+            self.press_until("Home", f"{top} === 0")
             for key in ("ArrowLeft", "ArrowRight"):
                 self.browser.press(key)
             self.assertEqual(self.text("#place"), place)
