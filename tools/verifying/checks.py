@@ -9,7 +9,7 @@ from clips import ClipList
 from expected import outputs_by_turns
 from page.pixels import Scene
 from pictures import fault_of_picture
-from reasons.faults import quoted, shown
+from shown import quoted, shown
 from verifying.films import check_film
 
 OF_RUNS = re.compile(r"(shot-[1-9][0-9]*|final)\.ppm|events-.*\.txt|(inner-)?journal\.txt|"
