@@ -11,12 +11,6 @@ use borrow.Rule.Slice.PartMut.{put_mid}
 
 -- ---- a row is painted part by part
 
--- as far as the parts have come
-pub record RowSoFar (f : ℕ → ℕ → ℕ) (raw old now : List ℕ) (from to at : ℕ) : Type 0 where
-  pub after : from ≤ at
-  pub inside : at ≤ to
-  pub whole : IsPainted f raw old now from at
-
 pub nothing : {f : ℕ → ℕ → ℕ} {raw row : List ℕ} {from : ℕ} → IsPainted f raw row row from from
 nothing = record { painted = λ k le lt. absurd (omega arith); before = λ k lt. refl; after = λ k le. refl }
 
@@ -36,11 +30,6 @@ joined {mid = mid} le more first second = record {
   before = λ k lt. second.before k (omega arith) ∙ first.before k lt;
   after = λ k ge. second.after k ge ∙ first.after k (omega arith);
 }
-
-pub further : {f : ℕ → ℕ → ℕ} {raw old now new : List ℕ} {from to at next : ℕ} → RowSoFar f raw old now from to at
-    → at ≤ next → next ≤ to → IsPainted f raw now new at next → RowSoFar f raw old new from to next
-further far le short part =
-    record { after = omega (arith, far.after); inside = short; whole = joined far.after le far.whole part }
 
 -- ---- a part of a list that is put back
 
@@ -203,7 +192,7 @@ module _ (f : ℕ → ℕ → ℕ → ℕ) (width : ℕ) {raw old : List ℕ} {c
 abbrev pub bar_area : ℕ → ℕ → Area
 bar_area width bar = record { left = 0; top = 0; right = width; bottom = bar }
 
--- in the picture of the text, and behind it
+-- in the picture of the text, and after it
 in_text : (s : Scenery) (x y : ℕ) → x < picture_width (length (bar_text s)) → y < 7
     → ink_of (dot (bar_text s) (x - 0) (y - 0)) ≡ bar_word s (point x y)
 in_text s x y left row =
@@ -213,7 +202,7 @@ past_text : (s : Scenery) (x y : ℕ) → picture_width (length (bar_text s)) �
 past_text s x y right =
     let no : is_in_picture (bar_text s) 0 0 (point x y) ≡ false = grind (arith, ints) in rw no
 
--- a row of the bar: the picture of its text, and black behind it
+-- a row of the bar: the picture of its text, and black after it
 module _ (s : Scenery) (y : ℕ) {from cut to wide : ℕ} {text raw old new : List ℕ} (is : text ≡ bar_text s)
     (width : wide ≡ picture_width (length text)) (least : cut ≡ max (min wide to) from) (order : from ≤ to) where
   bar_ground : from ≤ cut → (mid : List ℕ) → IsPainted (λ x w. bar_word s (point x y)) raw old mid from cut
@@ -237,13 +226,7 @@ module _ (s : Scenery) (y : ℕ) {from cut to wide : ℕ} {text raw old new : Li
 in_row : (bar x y : ℕ) → y < bar → in_bar bar (point x y) ≡ true
 in_row bar x y less = grind (arith, ints)
 
--- what is painted of the bar is what is shown there, whatever the raw words, and whether a view owns the pixel or none
--- does
-pub bar_shown : (s : Scenery) (y : ℕ) {from to : ℕ} {raw old now : List ℕ} → y < s.bar
-    → IsPainted (λ x w. bar_word s (point x y)) raw old now from to
-    → IsPainted (λ x w. shown s (point x y) w) raw old now from to
-bar_shown s y less row = painted_by row (λ x w f l. rw (in_row s.bar x y less))
-
+-- what is painted of the bar is what is shown there
 pub bar_unowned : (s : Scenery) (y : ℕ) {from to : ℕ} {raw old now : List ℕ} → y < s.bar
     → IsPainted (λ x w. bar_word s (point x y)) raw old now from to
     → IsPainted (λ x w. unowned_word s (point x y)) raw old now from to

@@ -2,9 +2,9 @@
 use Rattle.nit_overlay.proofs.Basics.{Area, Flat, IsBright, IsMark, IsOfNamed, IsReddish, IsRenewed}
 use Rattle.nit_overlay.proofs.Basics.{IsShownIn, IsWord, Kill, Look, Mode, NoPair, Point, Rectangle}
 use Rattle.nit_overlay.proofs.Basics.{Scenery, SlotView, View, ViewRef, Xray, bar_word, bare_word}
-use Rattle.nit_overlay.proofs.Basics.{by_label, by_mode, column_and_row, covers, ext_get_or, frame}
+use Rattle.nit_overlay.proofs.Basics.{by_label, by_mode, column_and_row, covers, ext_get_or}
 use Rattle.nit_overlay.proofs.Basics.{get_or-map-range_with_len, get_or_default, grey_word, has_dot}
-use Rattle.nit_overlay.proofs.Basics.{in_area, in_bar, in_label, ink_of, is_dot_of_text}
+use Rattle.nit_overlay.proofs.Basics.{in_area, in_bar, in_label, ink_of, ints, is_dot_of_text}
 use Rattle.nit_overlay.proofs.Basics.{is_in_picture, is_in_text, is_on_ring, is_same, is_some}
 use Rattle.nit_overlay.proofs.Basics.{label_place_of, le-ltb, length-map-range_with_len, nat_tests}
 use Rattle.nit_overlay.proofs.Basics.{option_map, owner, owner_is, owner_of_views, owner_word}
@@ -12,10 +12,10 @@ use Rattle.nit_overlay.proofs.Basics.{pixel, point, same_number_lists, same_slot
 use Rattle.nit_overlay.proofs.Basics.{seat_owner, shown, slice_get, slice_get_within, slot_view_in}
 use Rattle.nit_overlay.proofs.Basics.{true_from_ne_false, unowned_word, view_ref, view_text}
 use Rattle.nit_overlay.proofs.Basics.{view_word, views_of, white_word}
+use Rattle.nit_overlay.specs.Frame.{frame}
 use Rattle.std.proofs.Common.{Bool, List, None, Option, Some, [], ap, arith, cond, false, find}
 use Rattle.std.proofs.Common.{get_or, inl, inr, length, refl, slice_index, subst, suc, sym, true}
 use Rattle.std.proofs.Common.{zero, ℕ, ◌%◌, ◌&&◌, ◌*◌, ◌/◌, ◌<◌, ◌∙◌, ◌∷◌, ◌≡◌, ◌≤◌, ◌⊎◌}
-use Rattle.nit_overlay.specs.Frame.{frame}
 
 pub length-frame : (s : Scenery) (raw : List ℕ) → length (frame s raw) ≡ s.width * s.height
 unfolding frame
@@ -138,25 +138,21 @@ flat_same before now p w flat flat' bar below same =
 
 -- ---- a pixel whose owner is known
 
--- a view's pixel
-pub shown_owned : (look : Look) (p : Point) (w : ℕ) (v : ViewRef) (view : View) → NoPair same_slot look.stack.now.views
-    → Some v ≡ option_map view_ref (seat_owner look.stack.now.bar look.stack.now.views p)
-    → slot_view_in v.0 look.stack.now.views ≡ Some (record { slot = v.0; view = view })
-    → shown (scenery look) p w ≡ view_word look.mode (scenery look) view p w
-shown_owned look p w v view apart owned at =
-    let bar = look.stack.now.bar in
-    let views = look.stack.now.views in
-    shown_of_owner (scenery look) p w view (owner_of_views bar views p
-    ∙ ap (option_map (λ s. s.view)) (owner_is bar views p v view apart owned at))
-
 -- a pixel that no view owns
-pub shown_unowned : (look : Look) (p : Point) (w : ℕ)
-    → None ≡ option_map view_ref (seat_owner look.stack.now.bar look.stack.now.views p)
-    → shown (scenery look) p w ≡ unowned_word (scenery look) p
-shown_unowned look p w owned =
-    ap (λ o. cond (in_bar look.stack.now.bar p) (bar_word (scenery look) p) (owner_word (scenery look) p w o))
-    (owner_of_views look.stack.now.bar look.stack.now.views p
-    ∙ none (seat_owner look.stack.now.bar look.stack.now.views p) owned)
+pub shown_unowned : (s : Scenery) (p : Point) (w : ℕ) → owner s.bar s.stack p ≡ None → shown s p w ≡ unowned_word s p
+shown_unowned s p w owned = ap (λ o. cond (in_bar s.bar p) (bar_word s p) (owner_word s p w o)) owned
+
+-- the view in a slot that owns a pixel
+pub owner_in_slot : (bar : ℕ) (views : List SlotView) (p : Point) (v : ViewRef) (view : View) → NoPair same_slot views
+    → slot_view_in v.0 views ≡ Some (record { slot = v.0; view = view })
+    → Some v ≡ option_map view_ref (seat_owner bar views p) → owner bar (views_of views) p ≡ Some view
+owner_in_slot bar views p v view apart at owned =
+    owner_of_views bar views p ∙ ap (option_map (λ s. s.view)) (owner_is bar views p v view apart owned at)
+
+-- where no slot is named, there is none
+pub no_owner : (bar : ℕ) (views : List SlotView) (p : Point) → None ≡ option_map view_ref (seat_owner bar views p)
+    → owner bar (views_of views) p ≡ None
+no_owner bar views p owned = owner_of_views bar views p ∙ none (seat_owner bar views p) owned
   where
     none : (o : Option SlotView) → None ≡ option_map view_ref o → option_map (λ s. s.view) o ≡ None
     none None e = refl
@@ -187,6 +183,10 @@ pub record RunSoFar (seats : List SlotView) (n x y to run_end : ℕ) : Type 0 wh
 -- a row below the bar is not in it
 pub below_bar : {A : Type 0} (bar y z : ℕ) (o : A) (found : A) → bar ≤ y → cond (in_bar bar (point z y)) o found ≡ found
 below_bar bar y z o found below = let e : in_bar bar (point z y) ≡ false = le-ltb y bar below in rw e refl
+
+-- a row of the bar
+pub bar_run : (bar : ℕ) (views : List SlotView) (y z : ℕ) → y < bar → owner bar (views_of views) (point z y) ≡ None
+bar_run bar views y z less = let e : in_bar bar (point z y) ≡ true = grind (arith, ints) in rw e refl
 
 -- the view at number n covers all of the run
 pub owned_run : {seats : List SlotView} (bar : ℕ) {n x y to run_end : ℕ} (last : ℕ) {s : SlotView}

@@ -1,7 +1,7 @@
 -- Parts of a screen.
 use Rattle.std.specs.Prelude.{◌≡◌, ℕ, ◌%◌, ◌/◌, ◌*◌, ◌<◌, ◌≤◌, Bool, ◌&&◌, nat_le, nat_lt, List}
 use Rattle.std.specs.Prelude.{length, slice_index, if◌then◌else◌}
-use Rattle.nit_overlay.specs.Below.{Area, Look, Rectangle, covers, pixel}
+use Rattle.nit_overlay.specs.Below.{Area, Look, Rectangle, covers, pixel, point}
 use Rattle.nit_overlay.specs.Look.{scenery}
 use Rattle.nit_overlay.specs.Frame.{shown}
 
@@ -34,8 +34,7 @@ IsAreaBy f a width raw old now count =
 -- the pixels of the screen that lie in the area are as shown, and all others as before
 abbrev pub IsShownIn : Area → Look → List ℕ → List ℕ → List ℕ → Type 0
 IsShownIn a look raw old now =
-    IsOverlaid (λ k w. shown (scenery look) (pixel look.stack.now.width k) w)
-    (λ k. in_area a (k % look.stack.now.width) (k / look.stack.now.width)) raw old now
+    IsAreaBy (λ x y w. shown (scenery look) (point x y) w) a look.stack.now.width raw old now
     (look.stack.now.width * look.stack.now.height)
 
 -- the pixels of the screen that lie in the rectangle are as shown, and all others as before

@@ -17,7 +17,7 @@ pub use Rattle.nit_rect.specs.Limits.{most_edge, most_height, most_length, most_
 pub use Rattle.nit_rect.specs.Rectangle.{IsPlace, Rectangle, covers, rectangle, spans}
 pub use Rattle.nit_rect.specs.declared.point.Point.{Point}
 pub use Rattle.nit_stack.specs.LabelPlaces.{label_place}
-pub use Rattle.nit_stack.specs.Sources.{covering, in_bar, owner, pixel, point}
+pub use Rattle.nit_stack.specs.Sources.{in_bar, owner, pixel, point}
 pub use Rattle.nit_stack.specs.Stack.{IsSlotView, IsStack, NoPair, SlotView, has_slot, is_slot}
 pub use Rattle.nit_stack.specs.Stack.{same_slot, seat_owner, slot_view_in, view_ref}
 pub use Rattle.nit_stack.specs.ViewNames.{views_of}
@@ -28,4 +28,4 @@ pub use Rattle.nit_word.specs.Inks.{IsWord}
 pub use Rattle.std.specs.List.{between, range_with_len}
 pub use Rattle.std.specs.Option.{is_some, option_map}
 pub use Rattle.std.specs.Ordering.{int_eq}
-pub use Rattle.std.specs.Prelude.{IsTrue, codes, max, nat_lt, slice_get}
+pub use Rattle.std.specs.Prelude.{codes, max, nat_lt, slice_get}

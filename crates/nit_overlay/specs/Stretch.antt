@@ -25,11 +25,12 @@ pub record AreOnRow (x y to : ℕ) : Type 0 where
   pub columns : AreColumns x to
   pub down : y ≤ most_height
 
--- they lie below the bar of a look's screen
-pub record AreBelowBar (l : Look) (x y to : ℕ) : Type 0 where
+-- these columns of the row y, on a look's screen
+pub record AreOnScreen (l : Look) (x y to : ℕ) : Type 0 where
   pub look : IsLook l
-  pub on : AreOnRow x y to
-  pub below : l.stack.now.bar ≤ y
+  pub before : x < to
+  pub across : to ≤ l.stack.now.width
+  pub down : y < l.stack.now.height
 
 -- these rows, and the owner of pixels there
 pub record AreRowsOf (l : Look) (o : Owner) (y to : ℕ) : Type 0 where

@@ -1,28 +1,28 @@
 -- The words that clauses use: those that come from outside, and those of this crate.
 pub use Rattle.nit_overlay.specs.Area.{IsArea, IsAreaBy, IsOverlaid, IsRectShown, IsShownIn}
 pub use Rattle.nit_overlay.specs.Area.{in_area}
-pub use Rattle.nit_overlay.specs.Below.{Area, Flat, IsPlace, IsSlotView, IsStack, IsTrue, IsWord}
-pub use Rattle.nit_overlay.specs.Below.{Kill, Look, Mode, NoPair, Point, Rectangle, Rule, SlotView}
-pub use Rattle.nit_overlay.specs.Below.{Text, View, ViewRef, Xray, bar_text_of, bare_word, between}
-pub use Rattle.nit_overlay.specs.Below.{codes, covering, covers, dim, dot, has_slot, in_bar, int_eq}
-pub use Rattle.nit_overlay.specs.Below.{is_same, is_slot, is_some, max, most_edge, most_length}
-pub use Rattle.nit_overlay.specs.Below.{most_width, nat_lt, option_map, owner, picture_width, pixel}
-pub use Rattle.nit_overlay.specs.Below.{point, range_with_len, rectangle, same_slot, seat_owner}
-pub use Rattle.nit_overlay.specs.Below.{slice_get, slot_view_in, spans, tint, view_ref, views_of}
+pub use Rattle.nit_overlay.specs.Below.{Area, Flat, IsPlace, IsSlotView, IsStack, IsWord, Kill}
+pub use Rattle.nit_overlay.specs.Below.{Look, Mode, NoPair, Point, Rectangle, Rule, SlotView, Text}
+pub use Rattle.nit_overlay.specs.Below.{View, ViewRef, Xray, bare_word, between, codes, covers, dot}
+pub use Rattle.nit_overlay.specs.Below.{has_slot, in_bar, int_eq, is_same, is_slot, is_some, max}
+pub use Rattle.nit_overlay.specs.Below.{most_edge, most_length, most_width, nat_lt, option_map}
+pub use Rattle.nit_overlay.specs.Below.{owner, picture_width, pixel, point, range_with_len}
+pub use Rattle.nit_overlay.specs.Below.{rectangle, same_slot, seat_owner, slice_get, slot_view_in}
+pub use Rattle.nit_overlay.specs.Below.{spans, view_ref, views_of}
 pub use Rattle.nit_overlay.specs.Frame.{Scenery, bar_text, bar_word, by_label, by_mode, frame}
 pub use Rattle.nit_overlay.specs.Frame.{grey_word, has_dot, ink_of, is_in_picture, is_on_ring}
-pub use Rattle.nit_overlay.specs.Frame.{label_of, label_place_of, mode_word, owner_word, red_word}
-pub use Rattle.nit_overlay.specs.Frame.{shown, unowned_word, view_text, view_word, white_word}
+pub use Rattle.nit_overlay.specs.Frame.{label_place_of, mode_word, owner_word, shown, unowned_word}
+pub use Rattle.nit_overlay.specs.Frame.{view_text, view_word, white_word}
 pub use Rattle.nit_overlay.specs.FrameRenewal.{IsRenewed}
 pub use Rattle.nit_overlay.specs.Look.{IsLook, IsPlaced, draws_labels, pixel_at, scenery}
 pub use Rattle.nit_overlay.specs.Marks.{IsBright, IsMark, IsOfNamed, IsReddish, in_label}
 pub use Rattle.nit_overlay.specs.Marks.{is_dot_of_text, is_in_text, is_label_dot}
-pub use Rattle.nit_overlay.specs.Owner.{IsOwner}
+pub use Rattle.nit_overlay.specs.Owner.{HasOwner, IsOwner}
 pub use Rattle.nit_overlay.specs.PixelRow.{IsPainted, IsRowPart}
 pub use Rattle.nit_overlay.specs.Rule.{IsInTag, IsTagged, word_by}
 pub use Rattle.nit_overlay.specs.Span.{has_at_end, moved_of, span_has}
-pub use Rattle.nit_overlay.specs.Stripe.{IsRowOfTag, mode_rule, stripe_rule, tag_rule}
-pub use Rattle.nit_overlay.specs.Stretch.{AreBelowBar, AreColumns, AreOnRow, AreRows, AreRowsOf}
+pub use Rattle.nit_overlay.specs.Stretch.{AreColumns, AreOnRow, AreOnScreen, AreRows, AreRowsOf}
 pub use Rattle.nit_overlay.specs.Stretch.{HoldsUpTo}
+pub use Rattle.nit_overlay.specs.Stripe.{IsRowOfTag, mode_rule, stripe_rule, tag_rule}
 pub use Rattle.nit_overlay.specs.ToPaint.{AreScreenWords, IsAreaToPaint, IsAreaToShow, IsBarToShow}
 pub use Rattle.nit_overlay.specs.ToPaint.{IsRowToPaint, IsRowToShow, IsRunToPaint}

@@ -30,7 +30,7 @@ impl Area {
     }
 }
 
-/// The first of these columns or rows that the screen has, of `most`, and the first one behind
+/// The first of these columns or rows that the screen has, of `most`, and the first one after
 /// them.
 fn on_screen(places: Span, most: u32) -> (u32, u32)
     ensures in_order { result.0 ≤ result.1 }

@@ -25,10 +25,7 @@ fn mode_word(mode: Mode) -> &'static [u8]
 fn mode_label(mode: Mode) -> Label
     ensures { result ≡ mode_word mode }
 {
-    let Some(label) = Label::new(mode_word(mode)) else {
-        unreachable!()
-    };
-    label
+    Label::new(mode_word(mode)).unwrap()
 }
 
 /// The text of the bar.

@@ -10,17 +10,14 @@
 //! The first rule that applies to a pixel gives its word.
 //!
 //! - In the status bar it is white on black: the bar's text stands at the top left, and what does
-//! not fit
-//!   on the screen is cut off at the right.
+//!   not fit on the screen is cut off at the right.
 //! - Where no view covers it, it is the word of the bare screen.
 //! - In mode Flat it is the raw word.
 //! - In the label of the view that owns it, it is white on black.
 //! - On the ring of the view, its first and last rows and columns, it is red in mode Kill. In mode
-//! Xray it
-//!   is white where the view's session has the focus, and grey elsewhere.
+//!   Xray it is white where the view's session has the focus, and grey elsewhere.
 //! - In mode Xray it is the raw word where the session has the focus, and the dimmed word
-//! elsewhere. In
-//!   mode Kill it is the tinted word.
+//!   elsewhere. In mode Kill it is the tinted word.
 //!
 //! In mode Xray no client without the focus can show the white of labels or the grey of rings, and
 //! in mode Kill none can show white or black ([`laws::marks_are_the_servers`]).
@@ -30,10 +27,11 @@
 //! depends on the raw word, and on whether the pixel has an owner, alone. So there the raw words of
 //! what was painted are the frame's.
 //!
-//! Where owners are not known, a row is painted by pieces that have one owner or none, and a piece
-//! by runs that have one rule. So the stack is searched once for each piece of a row, and not for
-//! each pixel. Where a piece comes with its owner, nothing is searched: it is cut into bands of
-//! rows that are painted alike, at most five, and a band into runs of columns.
+//! An area whose pixels have one owner is cut into bands of rows that are painted alike, at most
+//! five, and a band into runs of columns that have one rule. A piece comes with its owner, so
+//! nothing is searched. Where owners are not known, each row is first cut into pieces that have one
+//! owner or none, and each piece is painted as such an area. So the stack is searched once for each
+//! piece of a row, and not for each pixel.
 //!
 //! The tests are in `nit_tests`: `parts/overlay_tests`.
 #![tactic(auto)]
@@ -46,7 +44,6 @@ mod overlay;
 mod owner;
 mod paint;
 mod piece;
-mod row;
 mod row_part;
 mod span;
 mod stripe;

@@ -2,9 +2,10 @@
 
 ghost use Rattle.std.specs.Prelude.{◌≡◌, ◌<◌, true, length, option_map, slice_get, Some, IfSome};
 ghost use Rattle.std.specs.Prelude.{IsTrue};
-ghost use Rattle.nit_overlay.specs.Terms.{AreBelowBar, HoldsUpTo, IsLook, IsOwner, IsPlaced};
-ghost use Rattle.nit_overlay.specs.Terms.{IsStack, draws_labels, has_slot, label_place_of, owner};
-ghost use Rattle.nit_overlay.specs.Terms.{pixel_at, point, scenery, slot_view_in, views_of};
+ghost use Rattle.nit_overlay.specs.Terms.{AreOnScreen, HasOwner, HoldsUpTo, IsLook, IsOwner};
+ghost use Rattle.nit_overlay.specs.Terms.{IsPlaced, IsStack, Point, draws_labels, has_slot};
+ghost use Rattle.nit_overlay.specs.Terms.{label_place_of, pixel_at, point, scenery, seat_owner};
+ghost use Rattle.nit_overlay.specs.Terms.{view_ref};
 
 use crate::look::Look;
 use crate::span::reach;
@@ -19,7 +20,7 @@ pub(crate) struct Owner {
     pub place: Option<Point>,
 }
 
-/// What pixels that follow one another in a row have in common: their owner, and the column behind
+/// What pixels that follow one another in a row have in common: their owner, and the column after
 /// the last.
 #[derive(Clone, Copy)]
 pub(crate) struct OwnedColumns {
@@ -51,30 +52,38 @@ fn place_at(look: &Look, v: ViewRef, view: &View) -> Option<Point>
     }
 }
 
-/// The view in a slot as an owner.
-pub(crate) fn owner_of(look: &Look, v: ViewRef) -> Owner
+/// The view in a slot as an owner, and none where no slot is named.
+pub(crate) fn owner_of(look: &Look, slot: Option<ViewRef>) -> Option<Owner>
     requires look { IsLook look.now }
-    requires stands { has_slot v.0 look.now.stack.now.views ≡ true }
-    ensures view { slot_view_in v.0 look.now.stack.now.views
-        ≡ Some (record { slot = v.0; view = result.view }) }
-    ensures owner { IsOwner look.now result }
-    ensures standing { IsStack look.now.stack.now }
+    requires stands { IfSome slot (λ v. has_slot v.0 look.now.stack.now.views ≡ true) }
+    ensures owner { (p : Point) → slot ≡ option_map view_ref
+        (seat_owner look.now.stack.now.bar look.now.stack.now.views p)
+        → HasOwner look.now p result }
+    ensures placed { IfSome result (IsOwner look.now) }
 {
-    let view = look.stack.view(v);
-    let place = place_at(look, v, &view);
-    Owner { view, place }
+    match slot {
+        Some(v) => {
+            let view = look.stack.view(v);
+            let place = place_at(look, v, &view);
+            Some(Owner { view, place })
+        }
+        None => None,
+    }
 }
 
-/// The owner of the pixel in column x of the row y, which lies below the bar, and the column, at
-/// most `to`, up to which the pixels to the right have the same.
+/// The owner of the pixel in column x of the row y, and the column, at most `to`, up to which the
+/// pixels to the right have the same. Those of the bar have none.
 pub(crate) fn piece_at(look: &Look, x: u32, y: u32, to: u32) -> OwnedColumns
-    requires { AreBelowBar look.now x y to }
-    ensures owner { HoldsUpTo
-        (λ z. owner look.now.stack.now.bar (views_of look.now.stack.now.views) (point z y)
-        ≡ option_map (λ o. o.view) result.owner)
-        x to result.end }
+    requires { AreOnScreen look.now x y to }
+    ensures owner { HoldsUpTo (λ z. HasOwner look.now (point z y) result.owner) x to result.end }
     ensures placed { IfSome result.owner (IsOwner look.now) }
 {
+    if y < look.stack.bar() {
+        return OwnedColumns {
+            owner: None,
+            end: to,
+        };
+    }
     let mut end = to;
     'views: for i in 0..look.stack.len() {
         let (v, view) = view_at(look.stack, i);

@@ -1,11 +1,12 @@
 //! Pieces of the screen, each of which has one owner or none.
 
-ghost use Rattle.std.specs.Prelude.{◌≡◌, ℕ, ◌<◌, ◌≤◌, length, IfSome, IsTrue, None, true};
-ghost use Rattle.nit_overlay.specs.Terms.{AreScreenWords, IsAreaBy, IsAreaToPaint, IsAreaToShow};
-ghost use Rattle.nit_overlay.specs.Terms.{IsOwner, IsPainted, IsRectShown, IsRowOfTag, IsRowToShow};
-ghost use Rattle.nit_overlay.specs.Terms.{IsShownIn, IsTagged, Point, covers, has_slot, in_area};
-ghost use Rattle.nit_overlay.specs.Terms.{option_map, point, scenery, seat_owner, stripe_rule};
-ghost use Rattle.nit_overlay.specs.Terms.{unowned_word, view_ref, view_word, word_by};
+ghost use Rattle.std.specs.Prelude.{◌≡◌, ℕ, ◌<◌, ◌≤◌, length, IfSome, IsTrue, true};
+ghost use Rattle.nit_overlay.specs.Terms.{AreScreenWords, HasOwner, IsAreaBy, IsAreaToPaint};
+ghost use Rattle.nit_overlay.specs.Terms.{IsAreaToShow, IsOwner, IsPainted, IsRectShown};
+ghost use Rattle.nit_overlay.specs.Terms.{IsRowOfTag, IsRowToShow, IsShownIn, IsTagged, Point};
+ghost use Rattle.nit_overlay.specs.Terms.{covers, has_slot, in_area, option_map, point, scenery};
+ghost use Rattle.nit_overlay.specs.Terms.{seat_owner, stripe_rule, unowned_word, view_ref};
+ghost use Rattle.nit_overlay.specs.Terms.{view_word, word_by};
 
 use crate::area::{Area, area_of};
 use crate::bar::overlay_bar;
@@ -32,19 +33,34 @@ pub fn overlay_piece(look: &Look, raw: &[u32], piece: &Piece, out: &mut [u32])
 {
     let (width, height) = look.stack.size();
     let area = area_of(&piece.rect, width, height);
-    match piece.owner {
-        Some(v) => {
-            let owner = owner_of(look, v);
-            overlay_view(look, &owner, raw, &area, out);
-        }
-        None => overlay_unowned(look, raw, &area, out),
+    let owner = owner_of(look, piece.owner);
+    overlay_owned(look, owner, raw, &area, out);
+}
+
+/// Sets the words of the pixels of an area, which have this owner or none, to what is shown there.
+pub(crate) fn overlay_owned(
+    look: &Look,
+    owner: Option<Owner>,
+    raw: &[u32],
+    area: &Area,
+    out: &mut [u32],
+)
+    requires owner { (x y : ℕ) → in_area area.now x y ≡ true
+        → HasOwner look.now (point x y) owner }
+    requires placed { IfSome owner (IsOwner look.now) }
+    requires area { IsAreaToShow look.now area.now raw.now out.old }
+    ensures { IsShownIn area.now look.now raw.now out.old out.new }
+{
+    match owner {
+        Some(owner) => overlay_view(look, &owner, raw, area, out),
+        None => overlay_unowned(look, raw, area, out),
     }
 }
 
 /// Paints an area as pixels of this view, one band of rows after the other.
 fn overlay_view(look: &Look, owner: &Owner, raw: &[u32], area: &Area, out: &mut [u32])
     requires owner { IsOwner look.now owner.now }
-    requires area { IsAreaToPaint look.now.stack.now.width area.now raw.now out.old }
+    requires area { IsAreaToShow look.now area.now raw.now out.old }
     ensures { IsAreaBy
         (λ x y w. view_word look.now.mode (scenery look.now) owner.now.view (point x y) w)
         area.now look.now.stack.now.width raw.now out.old out.new (length raw.now) }
@@ -102,12 +118,11 @@ fn overlay_block(rule: &Rule, raw: &[u32], area: &Area, width: u32, out: &mut [u
     }
 }
 
-/// Paints an area of which no view owns a pixel.
+/// Paints an area as pixels that no view owns.
 fn overlay_unowned(look: &Look, raw: &[u32], area: &Area, out: &mut [u32])
-    requires area { IsAreaToShow look.now area.now raw.now out.old }
-    requires owner { (x y : ℕ) → in_area area.now x y ≡ true → None ≡ option_map view_ref
-        (seat_owner look.now.stack.now.bar look.now.stack.now.views (point x y)) }
-    ensures { IsShownIn area.now look.now raw.now out.old out.new }
+    requires { IsAreaToShow look.now area.now raw.now out.old }
+    ensures { IsAreaBy (λ x y w. unowned_word (scenery look.now) (point x y))
+        area.now look.now.stack.now.width raw.now out.old out.new (length raw.now) }
 {
     let (width, _height) = look.stack.size();
     'rows: for y in area.top..area.bottom {

@@ -1,24 +1,31 @@
-use Rattle.std.proofs.Common.{ap, arith, ◌*◌, ◌+◌, ◌≡◌, ◌≤◌}
-use Rattle.nit_overlay.proofs.Lemmas.{last_row, mul-le-mul_right, next_of, point, scenery, shown}
+use Rattle.std.proofs.Common.{arith, inr, ◌+◌, ◌≡◌}
+use Rattle.nit_overlay.proofs.Lemmas.{more_rows, no_pixels, point, scenery, shown}
 use Rattle.nit_overlay.proofs.overlay.overlay_area.Goals as goal
+
+pub rows-init : goal.rows-init
+rows-init c =
+    let a = c.args.area.now in
+    let look = c.args.look.now in
+    record {
+      after = omega arith;
+      inside = c.requires.area.down;
+      painted = no_pixels (λ x y w. shown (scenery look) (point x y) w) look.stack.now.width a.left a.top a.right a.top
+          (inr (omega arith));
+    }
 
 pub rows-preserved : goal.rows-preserved
 rows-preserved c =
-    let width = c.size-width.result.0 in
-    let stack = c.args.look.now.stack.now in
-    let s = scenery c.args.look.now in
-    let wide : width ≡ stack.width = ap (λ size. size.0) c.size-width.ensures.size in
-    let row : (c.rows.y + 1) * width ≤ stack.height * width = mul-le-mul_right width (omega arith) in
-    let count : width * stack.height ≡ stack.width * stack.height = ap (λ n. n * stack.height) wide in
-    next_of (λ x y w. shown s (point x y) w) c.rows.invariant (rw c.row.ensures at c.overlay_row.ensures)
-    c.requires.area.across (omega arith) c.rows-test.true (omega arith) (omega arith)
+    let a = c.args.area.now in
+    let look = c.args.look.now in
+    let i = c.rows.invariant in
+    record {
+      after = omega (arith, i.after);
+      inside = omega arith;
+      painted = more_rows (λ x y w. shown (scenery look) (point x y) w) look.stack.now.width a.left a.top a.right
+          c.rows.y (c.rows.y + 1) i.after (omega arith) i.painted c.overlay_row.ensures;
+    }
 
 pub returns : goal.returns
 returns c =
-    let width = c.size-width.result.0 in
-    let stack = c.args.look.now.stack.now in
-    let wide : width ≡ stack.width = ap (λ size. size.0) c.size-width.ensures.size in
-    let row : c.args.area.now.bottom * width ≤ stack.height * width = mul-le-mul_right width c.requires.area.bottom in
-    let count : width * stack.height ≡ stack.width * stack.height = ap (λ n. n * stack.height) wide in
     let done : c.rows.y ≡ c.args.area.now.bottom = omega (arith, c.rows.invariant.inside) in
-    rw wide at (last_row {count = stack.width * stack.height} (rw done at c.rows.invariant) (omega arith) (omega arith))
+    rw done at c.rows.invariant.painted
