@@ -4,9 +4,10 @@ use Rattle.std.proofs.Common.{rules, slice_index, true, ℕ, ◌%◌, ◌*◌, �
 use Rattle.std.proofs.Common.{◌≡◌, ◌≤◌, ◌⊎◌}
 use Rattle.nit_overlay.proofs.Basics.{Area, IsAreaBy, IsOverlaid, IsPainted, Scenery, bar_text}
 use Rattle.nit_overlay.proofs.Basics.{bar_word, between, cases_lt, div-lt_iff_lt-mul, div-mul-add}
-use Rattle.nit_overlay.proofs.Basics.{dot, get_or-between, in_area, in_bar, ink_of, ints}
+use Rattle.nit_overlay.proofs.Basics.{dot, get_or-between, in_area, ink_of, ints}
 use Rattle.nit_overlay.proofs.Basics.{is_in_picture, le-div, max, mod-mul-add, nat_lt, nat_tests}
-use Rattle.nit_overlay.proofs.Basics.{picture_width, pixel, places, point, shown, unowned_word}
+use Rattle.nit_overlay.proofs.Basics.{picture_width, pixel, places, point, unowned_word}
+use Rattle.nit_overlay.proofs.FrameLemmas.{in_bar_row}
 use borrow.Rule.Slice.PartMut.{put_mid}
 
 -- ---- a row is painted part by part
@@ -136,10 +137,6 @@ last_row {a = a} {width} far some room = record {
 
 -- ---- parts of an area
 
--- the columns from left to before right, in the rows from top to before bottom
-abbrev pub part_at : (left top right bottom : ℕ) → Area
-part_at left top right bottom = record { left = left; top = top; right = right; bottom = bottom }
-
 pub in_rows : (a : Area) (x y : ℕ) → in_area a x y ≡ true → (a.top ≤ y) × (y < a.bottom)
 in_rows a x y on = (grind (arith, nat_tests), grind (arith, nat_tests))
 
@@ -155,36 +152,70 @@ area_as f g a width {raw} {old} same is = record {
   rest = is.rest;
 }
 
-module _ (f : ℕ → ℕ → ℕ → ℕ) (width : ℕ) {raw old : List ℕ} {count : ℕ} where
-  -- no row or no column yet
-  pub no_pixels : (left top right bottom : ℕ) → (right ≤ left) ⊎ (bottom ≤ top)
-      → IsAreaBy f (part_at left top right bottom) width raw old old count
-  no_pixels left top right bottom none =
-      record { words = λ k lt. grind (arith, nat_tests, none); rest = λ k ge. refl }
+no_pixels : (f : ℕ → ℕ → ℕ → ℕ) (a : Area) (width : ℕ) {raw old : List ℕ} {count : ℕ}
+    → (a.right ≤ a.left) ⊎ (a.bottom ≤ a.top) → IsAreaBy f a width raw old old count
+no_pixels f a width none = record { words = λ k lt. grind (arith, nat_tests, none); rest = λ k ge. refl }
 
-  -- one area is painted first, and then another
-  more_part : (first second all : Area) {mid new : List ℕ}
-      → ((x y : ℕ) → in_area all x y ≡ (in_area second x y || in_area first x y))
-      → IsAreaBy f first width raw old mid count → IsAreaBy f second width raw mid new count
-      → IsAreaBy f all width raw old new count
-  more_part first second all is one two = record {
-    words = λ k lt. grind (arith, two.words k lt, one.words k lt, is (k % width) (k / width));
-    rest = λ k ge. two.rest k ge ∙ one.rest k ge;
-  }
+-- one area is painted first, and then another
+more_part : (f : ℕ → ℕ → ℕ → ℕ) (width : ℕ) {raw old mid new : List ℕ} {count : ℕ} (first second all : Area)
+    → ((x y : ℕ) → in_area all x y ≡ (in_area second x y || in_area first x y))
+    → IsAreaBy f first width raw old mid count → IsAreaBy f second width raw mid new count
+    → IsAreaBy f all width raw old new count
+more_part f width first second all is one two = record {
+  words = λ k lt. grind (arith, two.words k lt, one.words k lt, is (k % width) (k / width));
+  rest = λ k ge. two.rest k ge ∙ one.rest k ge;
+}
 
-  pub more_rows : (left top right y next : ℕ) {mid new : List ℕ} → top ≤ y → y ≤ next
-      → IsAreaBy f (part_at left top right y) width raw old mid count
-      → IsAreaBy f (part_at left y right next) width raw mid new count
-      → IsAreaBy f (part_at left top right next) width raw old new count
-  more_rows left top right y next from le = more_part (part_at left top right y) (part_at left y right next)
-      (part_at left top right next) (λ u v. grind (arith, nat_tests))
+-- the rows of an area are painted to before y
+pub record RowsPainted (f : ℕ → ℕ → ℕ → ℕ) (a : Area) (width : ℕ) (raw old now : List ℕ) (count y : ℕ) : Type 0 where
+  pub after : a.top ≤ y
+  pub inside : y ≤ a.bottom
+  pub painted : IsAreaBy f (record a { bottom = y }) width raw old now count
 
-  pub more_columns : (left top bottom x next : ℕ) {mid new : List ℕ} → left ≤ x → x ≤ next
-      → IsAreaBy f (part_at left top x bottom) width raw old mid count
-      → IsAreaBy f (part_at x top next bottom) width raw mid new count
-      → IsAreaBy f (part_at left top next bottom) width raw old new count
-  more_columns left top bottom x next from le = more_part (part_at left top x bottom) (part_at x top next bottom)
-      (part_at left top next bottom) (λ u v. grind (arith, nat_tests))
+pub no_rows : {f : ℕ → ℕ → ℕ → ℕ} {a : Area} {width : ℕ} {raw old : List ℕ} {count : ℕ} → a.top ≤ a.bottom
+    → RowsPainted f a width raw old old count a.top
+no_rows {f} {a} {width} down = record {
+  after = omega arith;
+  inside = down;
+  painted = no_pixels f (record a { bottom = a.top }) width (inr (omega arith));
+}
+
+pub more_rows : {f : ℕ → ℕ → ℕ → ℕ} {a : Area} {width y next : ℕ} {raw old mid new : List ℕ} {count : ℕ}
+    → RowsPainted f a width raw old mid count y → y ≤ next → next ≤ a.bottom
+    → IsAreaBy f (record a { top = y; bottom = next }) width raw mid new count
+    → RowsPainted f a width raw old new count next
+more_rows {f} {a} {width} {y} {next} far le within part = record {
+  after = omega (arith, far.after);
+  inside = within;
+  painted = more_part f width (record a { bottom = y }) (record a { top = y; bottom = next })
+      (record a { bottom = next }) (λ u v. let from = far.after in grind (arith, nat_tests)) far.painted part;
+}
+
+-- its columns are painted to before x
+pub record ColumnsPainted (f : ℕ → ℕ → ℕ → ℕ) (a : Area) (width : ℕ) (raw old now : List ℕ) (count x : ℕ) : Type 0
+  where
+    pub after : a.left ≤ x
+    pub inside : x ≤ a.right
+    pub painted : IsAreaBy f (record a { right = x }) width raw old now count
+
+pub no_columns : {f : ℕ → ℕ → ℕ → ℕ} {a : Area} {width : ℕ} {raw old : List ℕ} {count : ℕ} → a.left ≤ a.right
+    → ColumnsPainted f a width raw old old count a.left
+no_columns {f} {a} {width} across = record {
+  after = omega arith;
+  inside = across;
+  painted = no_pixels f (record a { right = a.left }) width (inl (omega arith));
+}
+
+pub more_columns : {f : ℕ → ℕ → ℕ → ℕ} {a : Area} {width x next : ℕ} {raw old mid new : List ℕ} {count : ℕ}
+    → ColumnsPainted f a width raw old mid count x → x ≤ next → next ≤ a.right
+    → IsAreaBy f (record a { left = x; right = next }) width raw mid new count
+    → ColumnsPainted f a width raw old new count next
+more_columns {f} {a} {width} {x} {next} far le within part = record {
+  after = omega (arith, far.after);
+  inside = within;
+  painted = more_part f width (record a { right = x }) (record a { left = x; right = next })
+      (record a { right = next }) (λ u v. let from = far.after in grind (arith, nat_tests)) far.painted part;
+}
 
 -- ---- the rows of the status bar
 
@@ -223,14 +254,11 @@ module _ (s : Scenery) (y : ℕ) {from cut to wide : ℕ} {text raw old new : Li
       let all : cut ≡ from = omega (arith, none, least) in
       bar_ground (omega (arith, least)) old (rw all nothing) ground
 
-in_row : (bar x y : ℕ) → y < bar → in_bar bar (point x y) ≡ true
-in_row bar x y less = grind (arith, ints)
-
 -- what is painted of the bar is what is shown there
 pub bar_unowned : (s : Scenery) (y : ℕ) {from to : ℕ} {raw old now : List ℕ} → y < s.bar
     → IsPainted (λ x w. bar_word s (point x y)) raw old now from to
     → IsPainted (λ x w. unowned_word s (point x y)) raw old now from to
-bar_unowned s y less row = painted_by row (λ x w f l. rw (in_row s.bar x y less))
+bar_unowned s y less row = painted_by row (λ x w f l. rw (in_bar_row s.bar y x less))
 
 -- ---- the rows
 

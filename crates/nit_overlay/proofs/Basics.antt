@@ -15,7 +15,7 @@ pub use Rattle.nit_overlay.specs.Terms.{view_ref, view_text, view_word, views_of
 pub use Rattle.nit_overlay.specs.Terms.{word_by}
 pub use Rattle.nit_stack.proofs.ForCallers.{All_found, owner_is, owner_of_views}
 pub use Rattle.nit_word.proofs.ForCallers.{column_and_row}
-pub use Rattle.std.proofs.Common.{ap, arith, inl, length, rules, sym, ℕ, ◌∙◌}
+pub use Rattle.std.proofs.Common.{ap, arith, length, rules, sym, ℕ, ◌∙◌}
 pub use Rattle.std.proofs.Math.Nat.{div-lt_iff_lt-mul, mul-le-mul_right}
 pub use Rattle.std.proofs.lemmas.Bool.{cases_lt, le-ltb, true_from_ne_false}
 pub use Rattle.std.proofs.lemmas.Bool.Decides.{nat_tests}

@@ -184,9 +184,12 @@ pub record RunSoFar (seats : List SlotView) (n x y to run_end : ℕ) : Type 0 wh
 pub below_bar : {A : Type 0} (bar y z : ℕ) (o : A) (found : A) → bar ≤ y → cond (in_bar bar (point z y)) o found ≡ found
 below_bar bar y z o found below = let e : in_bar bar (point z y) ≡ false = le-ltb y bar below in rw e refl
 
--- a row of the bar
+-- a row of the bar is in it, and no view owns any of it
+pub in_bar_row : (bar y z : ℕ) → y < bar → in_bar bar (point z y) ≡ true
+in_bar_row bar y z less = grind (arith, ints)
+
 pub bar_run : (bar : ℕ) (views : List SlotView) (y z : ℕ) → y < bar → owner bar (views_of views) (point z y) ≡ None
-bar_run bar views y z less = let e : in_bar bar (point z y) ≡ true = grind (arith, ints) in rw e refl
+bar_run bar views y z less = rw (in_bar_row bar y z less) refl
 
 -- the view at number n covers all of the run
 pub owned_run : {seats : List SlotView} (bar : ℕ) {n x y to run_end : ℕ} (last : ℕ) {s : SlotView}

@@ -1,10 +1,7 @@
-use Rattle.std.proofs.Common.{◌≤◌}
-use Rattle.nit_overlay.proofs.Lemmas.{IsShownIn, part_at}
+use Rattle.std.proofs.Common.{◌*◌}
+use Rattle.nit_overlay.proofs.Lemmas.{RowsPainted, point, scenery, shown}
 use Rattle.nit_overlay.proofs.overlay.overlay_area.Given as goal
 
 abbrev pub invariant-rows : goal.invariant-rows
-invariant-rows l = record {
-  after : l.area.top ≤ l.y;
-  inside : l.y ≤ l.area.bottom;
-  painted : IsShownIn (part_at l.area.left l.area.top l.area.right l.y) l.look l.raw l.initial.out l.out;
-}
+invariant-rows l = RowsPainted (λ x y w. shown (scenery l.look) (point x y) w) l.area l.look.stack.now.width l.raw
+    l.initial.out l.out (l.look.stack.now.width * l.look.stack.now.height) l.y

@@ -1,13 +1,10 @@
-use Rattle.std.proofs.Common.{◌-◌, ◌≤◌}
-use Rattle.nit_overlay.proofs.Lemmas.{IsShownIn, part_at}
+use Rattle.std.proofs.Common.{◌*◌, ◌-◌}
+use Rattle.nit_overlay.proofs.Lemmas.{ColumnsPainted, point, scenery, shown}
 use Rattle.nit_overlay.proofs.overlay.overlay_row.Given as goal
 
 abbrev pub invariant-pieces : goal.invariant-pieces
-invariant-pieces l = record {
-  after : l.row.left ≤ l.x;
-  inside : l.x ≤ l.row.right;
-  painted : IsShownIn (part_at l.row.left l.row.top l.x l.row.bottom) l.look l.raw l.initial.out l.out;
-}
+invariant-pieces l = ColumnsPainted (λ x y w. shown (scenery l.look) (point x y) w) l.row l.look.stack.now.width l.raw
+    l.initial.out l.out (l.look.stack.now.width * l.look.stack.now.height) l.x
 
 abbrev pub decreases-pieces : goal.decreases-pieces
 decreases-pieces l = l.row.right - l.x

@@ -1,4 +1,4 @@
-use Rattle.std.proofs.Common.{ap, arith, rules, sym, ℕ, ◌<◌, ◌∙◌, ◌≡◌}
+use Rattle.std.proofs.Common.{ap, arith, rules, sym, ℕ, ◌<◌, ◌∙◌}
 use Rattle.nit_overlay.proofs.Lemmas.{in_columns, in_rows, point, rect_shown}
 use Rattle.nit_overlay.proofs.piece.overlay_piece.Goals as goal
 
