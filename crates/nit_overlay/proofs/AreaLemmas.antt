@@ -4,9 +4,9 @@ use Rattle.std.proofs.Common.{rules, slice_index, true, ℕ, ◌%◌, ◌*◌, �
 use Rattle.std.proofs.Common.{◌≡◌, ◌≤◌, ◌⊎◌}
 use Rattle.nit_overlay.proofs.Basics.{Area, IsAreaBy, IsOverlaid, IsPainted, Scenery, bar_text}
 use Rattle.nit_overlay.proofs.Basics.{bar_word, between, cases_lt, div-lt_iff_lt-mul, div-mul-add}
-use Rattle.nit_overlay.proofs.Basics.{dot, get_or-between, in_area, ink_of, ints}
-use Rattle.nit_overlay.proofs.Basics.{is_in_picture, le-div, max, mod-mul-add, nat_lt, nat_tests}
-use Rattle.nit_overlay.proofs.Basics.{picture_width, pixel, places, point, unowned_word}
+use Rattle.nit_overlay.proofs.Basics.{dot, get_or-between, in_area, ink_of, ints, is_in_picture}
+use Rattle.nit_overlay.proofs.Basics.{le-div, max, mod-mul-add, nat_lt, nat_tests, picture_width}
+use Rattle.nit_overlay.proofs.Basics.{pixel, places, point, unowned_word}
 use Rattle.nit_overlay.proofs.FrameLemmas.{in_bar_row}
 use borrow.Rule.Slice.PartMut.{put_mid}
 

@@ -5,8 +5,9 @@ pub use Rattle.nit_overlay.proofs.AreaLemmas.{in_columns, in_rows, last_row, mor
 pub use Rattle.nit_overlay.proofs.AreaLemmas.{more_rows, next_of, no_columns, no_rows}
 pub use Rattle.nit_overlay.proofs.Basics.{All_found, IsPlaced, IsSlotView, Text, ap, arith}
 pub use Rattle.nit_overlay.proofs.Basics.{bar_word, frame, is_slot, length, max, mul-le-mul_right}
-pub use Rattle.nit_overlay.proofs.Basics.{option_map, point, rules, scenery, shown, stripe_rule}
-pub use Rattle.nit_overlay.proofs.Basics.{sym, unowned_word, view_word, word_by, ℕ, ◌∙◌}
+pub use Rattle.nit_overlay.proofs.Basics.{nat_tests, option_map, point, rules, scenery, shown}
+pub use Rattle.nit_overlay.proofs.Basics.{stripe_rule, sym, unowned_word, view_word, word_by, ℕ}
+pub use Rattle.nit_overlay.proofs.Basics.{◌∙◌}
 pub use Rattle.nit_overlay.proofs.FrameLemmas.{RunSoFar, bar_run, bare_run, frame_fits}
 pub use Rattle.nit_overlay.proofs.FrameLemmas.{get_or-frame, is_frame, is_whole, kill_tints}
 pub use Rattle.nit_overlay.proofs.FrameLemmas.{length-frame, no_owner, owned_run, owner_in_slot}

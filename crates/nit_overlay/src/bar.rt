@@ -1,7 +1,7 @@
 //! The status bar.
 
 ghost use Rattle.std.specs.Prelude.{◌≡◌, ℕ, ◌*◌, ◌<◌, List, length, nat_lt, slice_index};
-ghost use Rattle.std.specs.Prelude.{if◌then◌else◌};
+ghost use Rattle.std.specs.Prelude.{if◌then◌else◌, true};
 ghost use Rattle.nit_overlay.specs.Terms.{IsBarToShow, IsLook, IsPainted, bar_text, bar_word};
 ghost use Rattle.nit_overlay.specs.Terms.{mode_word, pixel, point, scenery};
 
@@ -38,6 +38,14 @@ fn text_of(look: &Look) -> LabelText
         Some(session) => bar_text(&mode, Some(&look.labels[session as usize])),
         None => bar_text(&mode, None),
     }
+}
+
+/// Whether the row y is one of the bar.
+pub(crate) fn is_bar_row(look: &Look, y: u32) -> bool
+    ensures row { result ≡ nat_lt y look.now.stack.now.bar }
+    ensures few { result ≡ true → y < 7 }
+{
+    y < look.stack.bar()
 }
 
 /// Paints these pixels of a row of the bar.

@@ -7,6 +7,7 @@ ghost use Rattle.nit_overlay.specs.Terms.{IsPlaced, IsStack, Point, draws_labels
 ghost use Rattle.nit_overlay.specs.Terms.{label_place_of, pixel_at, point, scenery, seat_owner};
 ghost use Rattle.nit_overlay.specs.Terms.{view_ref};
 
+use crate::bar::is_bar_row;
 use crate::look::Look;
 use crate::span::reach;
 use nit_events::Mode;
@@ -78,7 +79,7 @@ pub(crate) fn piece_at(look: &Look, x: u32, y: u32, to: u32) -> OwnedColumns
     ensures owner { HoldsUpTo (λ z. HasOwner look.now (point z y) result.owner) x to result.end }
     ensures placed { IfSome result.owner (IsOwner look.now) }
 {
-    if y < look.stack.bar() {
+    if is_bar_row(look, y) {
         return OwnedColumns {
             owner: None,
             end: to,

@@ -9,7 +9,7 @@ ghost use Rattle.nit_overlay.specs.Terms.{seat_owner, stripe_rule, unowned_word,
 ghost use Rattle.nit_overlay.specs.Terms.{view_word, word_by};
 
 use crate::area::{Area, area_of};
-use crate::bar::overlay_bar;
+use crate::bar::{is_bar_row, overlay_bar};
 use crate::look::Look;
 use crate::owner::{Owner, owner_of};
 use crate::paint::{Rule, paint_part};
@@ -138,7 +138,7 @@ fn bare_row(look: &Look, part: RowPart, raw: &[u32], out: &mut [u32])
     ensures { IsPainted (λ x w. unowned_word (scenery look.now) (point x part.y))
         raw.now out.old out.new part.from part.to }
 {
-    if part.y < look.stack.bar() {
+    if is_bar_row(look, part.y) {
         overlay_bar(look, part, out);
     } else {
         paint_part(&Rule::Fill(BARE), part, raw, out);

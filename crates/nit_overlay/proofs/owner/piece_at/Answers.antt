@@ -1,13 +1,13 @@
-use Rattle.nit_overlay.proofs.Lemmas.{arith, bar_run, bare_run, owned_run, ◌∙◌}
+use Rattle.nit_overlay.proofs.Lemmas.{arith, bar_run, bare_run, nat_tests, owned_run, ◌∙◌}
 use Rattle.nit_overlay.proofs.owner.piece_at.Goals as goal
 
-pub returns-then-y-bar-clause-owner : goal.returns-then-y-bar-clause-owner
-returns-then-y-bar-clause-owner c = record {
+pub returns-then-is_bar_row-clause-owner : goal.returns-then-is_bar_row-clause-owner
+returns-then-is_bar_row-clause-owner c = record {
   after = c.requires.before;
   within = omega arith;
   all =
       let s = c.args.look.now.stack.now in
-      λ z from less. bar_run s.bar s.views c.args.y z (omega (arith, c.if-y-bar.true, c.bar.ensures.rows));
+      λ z from less. bar_run s.bar s.views c.args.y z (grind (arith, nat_tests, c.if-is_bar_row.true, c.is_bar_row.ensures.row));
 }
 
 pub returns-then-covered-clause-owner : goal.returns-then-covered-clause-owner
@@ -16,7 +16,7 @@ returns-then-covered-clause-owner c = record {
   within = omega arith;
   all = owned_run c.args.look.now.stack.now.bar c.reach-covered.result.1 c.views.invariant c.view_at-view.ensures.place
       c.reach-covered.ensures.within (λ u from less. c.reach-covered.ensures.all u from less ∙ c.if-covered.true)
-      (omega (arith, c.if-y-bar.false, c.bar.ensures.rows));
+      (grind (arith, nat_tests, c.if-is_bar_row.false, c.is_bar_row.ensures.row));
 }
 
 pub returns-clause-owner : goal.returns-clause-owner
@@ -24,5 +24,5 @@ returns-clause-owner c = record {
   after = omega arith;
   within = omega arith;
   all = bare_run c.args.look.now.stack.now.bar c.views.invariant (omega arith)
-      (omega (arith, c.if-y-bar.false, c.bar.ensures.rows));
+      (grind (arith, nat_tests, c.if-is_bar_row.false, c.is_bar_row.ensures.row));
 }

@@ -1,7 +1,7 @@
-use Rattle.nit_overlay.proofs.Lemmas.{arith, bar_unowned, scenery}
+use Rattle.nit_overlay.proofs.Lemmas.{arith, bar_unowned, nat_tests, scenery}
 use Rattle.nit_overlay.proofs.piece.bare_row.Goals as goal
 
-pub returns-then-part-bar : goal.returns-then-part-bar
-returns-then-part-bar c =
-    bar_unowned (scenery c.args.look.now) c.args.part.y (omega (arith, c.if-part-bar.true, c.bar.ensures.rows))
+pub returns-then-is_bar_row : goal.returns-then-is_bar_row
+returns-then-is_bar_row c =
+    bar_unowned (scenery c.args.look.now) c.args.part.y (grind (arith, nat_tests, c.if-is_bar_row.true, c.is_bar_row.ensures.row))
     (c.overlay_bar.ensures c.args.raw.now)
