@@ -1,6 +1,6 @@
 -- What lemmas use: the words of clauses, the library's lemmas, and those of the crates below.
 pub use Rattle.nit_hall.specs.Terms.{AllByRecursion, AllServed, AreAgreed, AreBegun, AreBlank}
-pub use Rattle.nit_hall.specs.Terms.{AreDone, AreDoneClips, AreGlasses, AreInPhases, AreLast}
+pub use Rattle.nit_hall.specs.Terms.{AreDone, AreDoneClips, AreListedGlasses, AreInPhases, AreLast}
 pub use Rattle.nit_hall.specs.Terms.{AreNear, AreSplitOff, AreTogether, AreWatching, Bare, Belongs}
 pub use Rattle.nit_hall.specs.Terms.{Black, BookModel, BufferName, Call, CallLaws, CanAdd, CanAgree}
 pub use Rattle.nit_hall.specs.Terms.{ClipBelongs, ClipCall, ClipEntry, ClipHasMet, ClipLine}

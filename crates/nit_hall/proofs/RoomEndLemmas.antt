@@ -1,5 +1,5 @@
 -- Passes that are done, and the last picture.
-use Rattle.nit_hall.proofs.Basics.{AllServed, AreDone, AreGlasses, Bare, Black, Configuration, End}
+use Rattle.nit_hall.proofs.Basics.{AllServed, AreDone, AreListedGlasses, Bare, Black, Configuration, End}
 use Rattle.nit_hall.proofs.Basics.{Entry, EntryLaws, HasMet, IsAdded, IsDonePass, IsKnownPass}
 use Rattle.nit_hall.proofs.Basics.{IsOpen, IsRoom, IsWordOfSource, Line, Painted, Painting}
 use Rattle.nit_hall.proofs.Basics.{PassModel, PassRest, PixelSource, RoomModel, SceneModel, Sight}
@@ -211,7 +211,7 @@ same_sights known ps₀ is = rw is (map-map (λ (p : PassModel). p.sight) (knowi
 pub glasses_settled : {r : RoomModel} {ps₀ : List PassModel} (ps : List PassModel) → AreKnown r ps₀
     → map (λ (p : PassModel). p.sight) ps ≡ map (λ (p : PassModel). p.sight) ps₀
     → length r.parts.scripts ≡ length r.parts.config.clients
-    → AreGlasses (λ (p : PassModel). p.sight) r.parts.config ps
+    → AreListedGlasses (λ (p : PassModel). p.sight) r.parts.config ps
 glasses_settled {r = r} {ps₀ = ps₀} ps are same sessions = record {
   each = grind (arith, nat_tests, length-map);
   tables = λ t h.

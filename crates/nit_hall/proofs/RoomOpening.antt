@@ -1,5 +1,5 @@
 -- A room, its passes and canvases before the first line.
-use Rattle.nit_hall.proofs.Basics.{AreAgreed, AreBegun, AreBlank, AreGlasses, AreNear, AreSplitOff}
+use Rattle.nit_hall.proofs.Basics.{AreAgreed, AreBegun, AreBlank, AreListedGlasses, AreNear, AreSplitOff}
 use Rattle.nit_hall.proofs.Basics.{AreWatching, BookModel, ClipLine, ClipModel, ClipPassModel}
 use Rattle.nit_hall.proofs.Basics.{Configuration, End, Entry, Follows, FollowsClips, HaveInks}
 use Rattle.nit_hall.proofs.Basics.{InputLine, IsFirst, IsLegalClips, IsNonDecreasingBy-short}
@@ -73,7 +73,7 @@ module _ {config : Configuration} {scripts : List (List Line)} {canvases lenses 
       let (lens, here) = item_there lenses t (omega (arith, b.canvas_each, are.each, h)) in
       rw (sight_at lenses t lens here, are.sights t canvas lens at here, b.blank t canvas at)
 
-  pub lens_glasses : AreGlasses (λ (e : End). e.sight) config lenses
+  pub lens_glasses : AreListedGlasses (λ (e : End). e.sight) config lenses
   lens_glasses = record { each = are.each ∙ b.canvas_each; tables = λ t h. rw (lens_at t h) (refl, refl) }
 
   pub lens_inks : length scripts ≡ length config.clients → HaveInks config scripts lenses

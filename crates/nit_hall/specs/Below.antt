@@ -34,7 +34,7 @@ pub use Rattle.nit_ledger.specs.Book.{BookModel, BookName, ShareModel, entries_i
 pub use Rattle.nit_ledger.specs.Book.{raised, raws_in}
 pub use Rattle.nit_ledger.specs.declared.view.Recorded.{Recorded}
 pub use Rattle.nit_overlay.specs.Frame.{frame}
-pub use Rattle.nit_paint.specs.Repaint.{IsWordOfSource, no_sight}
+pub use Rattle.nit_paint.specs.Repaint.{IsWordOfSource}
 pub use Rattle.nit_pixels.specs.End.{BufferName, End, new_sight, reader_sight}
 pub use Rattle.nit_pixels.specs.declared.standing.Standing.{Standing}
 pub use Rattle.nit_plan.specs.Calls.{calls_from, calls_in, calls_to_make, user_actions_from}
@@ -46,11 +46,11 @@ pub use Rattle.nit_plan.specs.SessionLists.{plan_in, script_in}
 pub use Rattle.nit_plan.specs.Surface.{IsPaintedTo}
 pub use Rattle.nit_rect.specs.Limits.{most_height, most_sessions, most_width}
 pub use Rattle.nit_rect.specs.declared.point.Point.{Point}
-pub use Rattle.nit_repaint.specs.Glasses.{glasses_of_call}
 pub use Rattle.nit_scene.specs.DirtyPixels.{dirty}
-pub use Rattle.nit_scene.specs.RawWords.{Painted, glass_in, pixel_count, source_at}
-pub use Rattle.nit_scene.specs.Scene.{CanAdd, IsAdded, SceneModel, state_now}
-pub use Rattle.nit_scene.specs.Screen.{AreGlasses, IsGlass}
+pub use Rattle.nit_scene.specs.RawWords.{Painted, pixel_count, source_at}
+pub use Rattle.nit_scene.specs.Scene.{AreListedGlasses, CanAdd, IsAdded, SceneModel}
+pub use Rattle.nit_scene.specs.Scene.{glasses_of_call, state_now}
+pub use Rattle.nit_scene.specs.Screen.{IsGlass}
 pub use Rattle.nit_scene.specs.StateScenery.{scenery_of}
 pub use Rattle.nit_script.specs.Grammar.{most_lines}
 pub use Rattle.nit_script.specs.Phases.{is_input_phase, is_phase}
@@ -65,6 +65,7 @@ pub use Rattle.nit_stack.specs.declared.view.View.{View}
 pub use Rattle.nit_word.specs.Channels.{bare_word}
 pub use Rattle.nit_word.specs.Inks.{Colours, Ink, IsAmong, IsWord}
 pub use Rattle.nit_word.specs.Sight.{HasStage, IsLoaded, Sight, seen, told_words, with_stages}
+pub use Rattle.nit_word.specs.Sights.{glass_in, no_sight}
 pub use Rattle.nit_word.specs.Updates.{with_words}
 pub use Rattle.std.specs.List.{AllByRecursion, range_with_len}
 pub use Rattle.std.specs.List.Sorted.{IsNonDecreasing}

@@ -1,6 +1,6 @@
 -- The words that clauses use: those that come from outside, and those of this crate.
 pub use Rattle.nit_hall.specs.Agreeing.{CanAgree}
-pub use Rattle.nit_hall.specs.Below.{AllByRecursion, AreGlasses, AreInPhases, Bare, Black}
+pub use Rattle.nit_hall.specs.Below.{AllByRecursion, AreListedGlasses, AreInPhases, Bare, Black}
 pub use Rattle.nit_hall.specs.Below.{BookModel, BufferName, Call, CanAdd, ClipCall, ClipEntry}
 pub use Rattle.nit_hall.specs.Below.{ClipLine, ClipModel, ClipReply, Colours, Configuration, Device}
 pub use Rattle.nit_hall.specs.Below.{End, Entry, FitsDevice, HasStage, InputLine, IsAdded, IsAmong}

@@ -6,11 +6,11 @@ pub use Rattle.nit_paint.specs.Terms.{Point, Reach, Rectangle, Repainted, Sight,
 pub use Rattle.nit_paint.specs.Terms.{StackModel, View, ViewRef, Word, among, black_or_word}
 pub use Rattle.nit_paint.specs.Terms.{buffer_place, covers, enumerate_from, has_pixel, in_rows}
 pub use Rattle.nit_paint.specs.Terms.{in_run, index_at, index_from, is_slot, is_word_of, loads_at}
-pub use Rattle.nit_paint.specs.Terms.{loads_of, long, no_sight, option_map, own_word, owner_in}
+pub use Rattle.nit_paint.specs.Terms.{loads_in_row, loads_of, long, no_sight, option_map, own_word, owner_in}
 pub use Rattle.nit_paint.specs.Terms.{pixel, point, reached, rectangle, row_at, row_source, seen}
-pub use Rattle.nit_paint.specs.Terms.{session_shown, shown_index, size_of, slice_index}
+pub use Rattle.nit_paint.specs.Terms.{shown_index, size_of, slice_index}
 pub use Rattle.nit_paint.specs.Terms.{slot_view_in, source_of_number, times_shown, view_ref}
-pub use Rattle.nit_paint.specs.Terms.{with_glass, ℤ}
+pub use Rattle.nit_paint.specs.Terms.{ℤ}
 pub use Rattle.nit_stack.proofs.ForCallers.{All_found, source_bare, source_is}
 pub use Rattle.nit_word.proofs.ForCallers.{at_place, loaded_after, more_taken, seen_none}
 pub use Rattle.nit_word.proofs.ForCallers.{seen_twice}

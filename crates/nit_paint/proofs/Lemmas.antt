@@ -2,9 +2,8 @@
 pub use Rattle.nit_paint.proofs.Basics.{Bare, PixelSource, Repainted, Sight, among, ap, arith}
 pub use Rattle.nit_paint.proofs.Basics.{black_or_word, in_rows, index_at, ints, long, no_sight}
 pub use Rattle.nit_paint.proofs.Basics.{option_map, own_word, places, reached, refl, row_at}
-pub use Rattle.nit_paint.proofs.Basics.{row_source, rules, session_shown, to_z-of_z, with_glass}
+pub use Rattle.nit_paint.proofs.Basics.{row_source, rules, to_z-of_z}
 pub use Rattle.nit_paint.proofs.Blocks.{row_told, rows_more, rows_none}
-pub use Rattle.nit_paint.proofs.Glasses.{own_seen_by}
 pub use Rattle.nit_paint.proofs.OneMore.{loaded_by, skipped}
 pub use Rattle.nit_paint.proofs.PieceOwners.{bare_told, piece_of_owner, rows_fit, seat_stands}
 pub use Rattle.nit_paint.proofs.PieceOwners.{view_told, whole_piece}

@@ -1,6 +1,5 @@
 pub mod RepaintLemmas
 pub mod FrameCopyLemmas
-pub mod Glasses
 pub mod Pixels
 pub mod Blocks
 pub mod PieceOwners

@@ -5,7 +5,7 @@ use Rattle.nit_paint.proofs.Basics.{Point, Reach, Rectangle, Repainted, Sight, S
 use Rattle.nit_paint.proofs.Basics.{ViewRef, among, black_or_word, buffer_place, covers, has_pixel}
 use Rattle.nit_paint.proofs.Basics.{in_rows, index_at, ints, is_slot, mul-le-mul_left, nat_tests}
 use Rattle.nit_paint.proofs.Basics.{option_map, owner_in, pixel, point, reached, rectangle, row_at}
-use Rattle.nit_paint.proofs.Basics.{rows, session_shown, shown_index, size_of, slot_view_in}
+use Rattle.nit_paint.proofs.Basics.{rows, shown_index, size_of, slot_view_in}
 use Rattle.nit_paint.proofs.Basics.{source_bare, source_is, source_of_number, view_ref, ℤ}
 use Rattle.std.proofs.Common.{List, None, Some, ap, arith, length, pos, subst, sym, ℕ, ◌%◌, ◌*◌}
 use Rattle.std.proofs.Common.{◌+ℤ◌, ◌+◌, ◌-ℤ◌, ◌/◌, ◌<◌, ◌∙◌, ◌≡◌, ◌≤◌}
@@ -57,17 +57,16 @@ module _ {s : StackModel} {piece : Piece} (b : Block) (sound : IsPiece s piece)
       (top : row ≡ buffer_place piece.rect.y view.rect.y view.oy)
       (places : (i : ℕ) → i < b.wide → reached r i ≡ among (column +ℤ pos i) w) where
     pub view_told : (j i : ℕ) → j < b.tall → i < b.wide → source_of_number s (row_at b j + i)
-        ≡ black_or_word (session_shown s piece) (index_at w (reached r i) (among (row +ℤ pos j) h))
+        ≡ black_or_word view.sid (index_at w (reached r i) (among (row +ℤ pos j) h))
     view_told j i l m =
         let x : piece.rect.x ≡ pos b.left = ap (λ r. r.x) is in
         let y : piece.rect.y ≡ pos b.top = ap (λ r. r.y) is in
         let across_it : buffer_place (pos (b.left + i)) view.rect.x view.ox ≡ column +ℤ pos i = omega (arith, ints) in
         let down_it : buffer_place (pos (b.top + j)) view.rect.y view.oy ≡ row +ℤ pos j = omega (arith, ints) in
-        let session : session_shown s piece ≡ view.sid = rw (own, seat) in
         source_is (size_of s.sizes) s.bar s.views (pixel s.width (row_at b j + i)) v view standing.slots
         (sym (owned_there j i l m ∙ own)) seat
-        ∙ (λ t. black_or_word (sym session t) (shown_index (sym size t) view (pixel_there j i m t)))
-        ∙ (λ t. black_or_word (session_shown s piece)
+        ∙ (λ t. black_or_word view.sid (shown_index (sym size t) view (pixel_there j i m t)))
+        ∙ (λ t. black_or_word view.sid
         (index_at w ((ap (λ z. among z w) across_it ∙ sym (places i m)) t) (among (down_it t) h)))
 
 -- the whole piece is painted

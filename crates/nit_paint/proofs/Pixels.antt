@@ -1,16 +1,15 @@
 -- Pixels that stand side by side: what one more does, and how runs of them go together.
 use Rattle.nit_paint.proofs.Basics.{IsAmongLoads, IsLoadedRow, IsWordOfSource, PixelSource, Reach}
 use Rattle.nit_paint.proofs.Basics.{Repainted, Sight, Word, at_place, enumerate_from, get_or-set_at}
-use Rattle.nit_paint.proofs.Basics.{in_run, loaded_after, long, more_taken, nat_tests, own_word}
-use Rattle.nit_paint.proofs.Basics.{row_source, seen, seen_none, seen_twice, set-get_or, take_all}
-use Rattle.nit_paint.proofs.Basics.{with_glass}
+use Rattle.nit_paint.proofs.Basics.{in_run, loaded_after, loads_in_row, loads_of, long, more_taken}
+use Rattle.nit_paint.proofs.Basics.{nat_tests, own_word, row_source, seen, seen_none, seen_twice}
+use Rattle.nit_paint.proofs.Basics.{set-get_or, take_all}
 use Rattle.std.proofs.Common.{List, Some, [], add-one, ap, arith, cond, false, get_or}
 use Rattle.std.proofs.Common.{get_or-set_other, le_refl, length, length-set, refl, set, subst, suc}
 use Rattle.std.proofs.Common.{sym, take, true, zero, ℕ, ◌+◌, ◌-◌, ◌<◌, ◌==◌, ◌∙◌, ◌∷◌, ◌≡◌, ◌≤◌}
 use borrow.Rule.Slice.PartMut.{put_mid}
-use Rattle.nit_paint.proofs.Glasses.{held_by_load, seen_by_load}
 use Rattle.nit_paint.proofs.RepaintLemmas.{none_shown, repainted_none, repainted_one}
-use Rattle.nit_paint.proofs.RepaintLemmas.{repainted_there, repainted_union}
+use Rattle.nit_paint.proofs.RepaintLemmas.{repainted_same, repainted_there, repainted_union}
 
 -- a pixel that shows no word of a glass
 own_shown : (glasses : ℕ → Sight) (loads : ℕ → List (ℕ × ℕ)) (s : PixelSource) (w : ℕ) → own_word s ≡ Some w
@@ -59,49 +58,54 @@ written_at at row raw (suc j) k room =
     let here = get_or-set_at (written at row raw j) (at + j) k (get_or row j 0) 0 in
     grind (arith, nat_tests, here, get_or-set_other (written at row raw j) (at + j) k (get_or row j 0) 0)
 
--- the first so many pixels of a row that was loaded in one go
-row_written : (source : ℕ → PixelSource) (at n sid from : ℕ) (others : ℕ → Sight) (g : Sight) (raw row : List ℕ)
-    → at + length row ≤ n → n ≡ length raw
-    → ((j : ℕ) → j < length row → source (at + j) ≡ Word sid (from + j)) → IsLoadedRow g from row → (j : ℕ)
-    → j ≤ length row
-    → Repainted source (in_run at j) n (with_glass others sid g)
-    (with_glass others sid (seen g (enumerate_from from (take j row)))) raw (written at row raw j)
-row_written source at n sid from others g raw row fits count is loaded zero few =
-    rw (← seen_none g) (repainted_none source (in_run at 0) n (with_glass others sid g) raw
-    (λ k l. grind (arith, nat_tests)))
-row_written source at n sid from others g raw row fits count is loaded (suc j) few =
-    let far = row_written source at n sid from others g raw row fits count is loaded j (omega arith) in
-    let before = seen g (enumerate_from from (take j row)) in
-    let after = seen g (enumerate_from from (take (j + 1) row)) in
-    let w = get_or row j 0 in
-    let long = written_long at row raw j in
-    let here = is j (omega arith) in
-    let more = rw (set-get_or row j 0) at (more_taken from j w row (omega arith)) in
-    let saw : after ≡ seen before ((from + j, w) ∷ []) = rw more (sym (seen_twice g _ ((from + j, w) ∷ []))) in
-    let held = held_by_load others sid (from + j) w before (loaded_after g _ (from + j) w (loaded j (omega arith))) in
-    subst (λ (k : ℕ). Repainted source (in_run at k) n (with_glass others sid g)
-    (with_glass others sid (seen g (enumerate_from from (take k row)))) raw (written at row raw (suc j)))
-    (add-one j)
-    (repainted_union _ (in_run at j) (λ k. k == (at + j)) (in_run at (j + 1)) _ _ _ _ _ _ _
-    (λ k. grind (arith, nat_tests)) (λ k. grind (arith, nat_tests)) far
-    (repainted_one source (at + j) w n _ _ _ (omega arith) (omega (arith, long, count)) (rw here held)
-    (λ t. rw here (seen_by_load others sid (from + j) w before after saw t))))
+-- a row that was loaded in one go
+module _ (source : ℕ → PixelSource) (at n sid from : ℕ) (g : ℕ → Sight) (raw row : List ℕ)
+    (fits : at + length row ≤ n) (count : n ≡ length raw)
+    (is : (j : ℕ) → j < length row → source (at + j) ≡ Word sid (from + j)) (loaded : IsLoadedRow (g sid) from row) where
+  -- the sights when so many of its words were loaded
+  abbrev far : ℕ → ℕ → Sight
+  far j t = seen (g t) (loads_in_row sid from (take j row) t)
+
+  far_more : (j : ℕ) → j < length row → (t : ℕ)
+      → far (j + 1) t ≡ seen (far j t) (loads_of (Word sid (from + j)) (get_or row j 0) t)
+  far_more j l t =
+      let more = rw (set-get_or row j 0) at (more_taken from j (get_or row j 0) row l) in
+      let here = seen_twice (g t) (enumerate_from from (take j row)) ((from + j, get_or row j 0) ∷ []) in
+      grind (arith, more, here, seen_none (g t))
+
+  -- its first so many pixels
+  row_written : (j : ℕ) → j ≤ length row
+      → Repainted source (in_run at j) n g (far j) raw (written at row raw j)
+  row_written zero few =
+      repainted_same _ _ _ _ n g g g (far 0) raw raw (λ k l. refl) (λ k l m. refl) (λ t. refl)
+      (λ t. grind (arith, seen_none (g t))) (repainted_none source (in_run at 0) n g raw (λ k l. grind (arith, nat_tests)))
+  row_written (suc j) few =
+      let w = get_or row j 0 in
+      let long = written_long at row raw j in
+      let here = is j (omega arith) in
+      let held = loaded_after (g sid) (loads_in_row sid from (take j row) sid) (from + j) w (loaded j (omega arith)) in
+      subst (λ (k : ℕ). Repainted source (in_run at k) n g (far k) raw (written at row raw (suc j))) (add-one j)
+      (repainted_union _ (in_run at j) (λ k. k == (at + j)) (in_run at (j + 1)) _ _ _ _ _ _ _
+      (λ k. grind (arith, nat_tests)) (λ k. grind (arith, nat_tests)) (row_written j (omega arith))
+      (repainted_one source (at + j) w n _ _ _ (omega arith) (omega (arith, long, count)) (rw here held)
+      (λ t. rw here (far_more j (omega arith) t))))
 
 -- a row that was loaded in one go and put into the screen
-pub row_loaded : (source : ℕ → PixelSource) (at count m sid from : ℕ) (others : ℕ → Sight) (g g' : Sight)
+pub row_loaded : (source : ℕ → PixelSource) (at count m sid from : ℕ) (g g' : ℕ → Sight)
     (raw row : List ℕ) → length row ≡ count → m ≡ count → at + count ≤ length raw
-    → ((j : ℕ) → j < count → source (at + j) ≡ Word sid (from + j)) → IsLoadedRow g from row
-    → g' ≡ seen g (enumerate_from from row)
-    → Repainted source (in_run at count) (length raw) (with_glass others sid g) (with_glass others sid g') raw
-    (put_mid at m raw row)
-row_loaded source at count m sid from others g g' raw row long all fits is loaded saw =
-    let done = row_written source at (length raw) sid from others g raw row (omega arith) refl
+    → ((j : ℕ) → j < count → source (at + j) ≡ Word sid (from + j)) → IsLoadedRow (g sid) from row
+    → ((t : ℕ) → g' t ≡ seen (g t) (loads_in_row sid from row t))
+    → Repainted source (in_run at count) (length raw) g g' raw (put_mid at m raw row)
+row_loaded source at count m sid from g g' raw row long all fits is loaded saw =
+    let done = row_written source at (length raw) sid from g raw row (omega arith) refl
     (λ j l. is j (omega arith)) loaded (length row) (le_refl (length row)) in
-    rw (saw, all) (repainted_there source (in_run at count) (length raw) _ _ raw (written at row raw count) _
+    rw all (repainted_there source (in_run at count) (length raw) _ _ raw (written at row raw count) _
     (λ k. written_at at row raw count k fits
     ∙ sym (at_place at count (λ i. get_or row (i - at) 0) raw row k fits long
     (λ i inside. ap (λ (j : ℕ). get_or row j 0) (omega arith))))
-    (rw (take_all (length row) row (le_refl (length row)), long) at done))
+    (rw long at (repainted_same _ _ _ _ _ g g _ g' _ _ (λ k l. refl) (λ k l m. refl) (λ t. refl)
+    (λ t. ap (λ xs. seen (g t) (loads_in_row sid from xs t)) (take_all (length row) row (le_refl (length row)))
+    ∙ sym (saw t)) done)))
 
 -- one run behind another
 runs_both : (source : ℕ → PixelSource) (at a b n : ℕ) (before mid after : ℕ → Sight) (raw first last : List ℕ)

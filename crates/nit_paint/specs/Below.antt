@@ -4,7 +4,7 @@ pub use Rattle.nit_rect.specs.Limits.{most_height, most_side, most_width}
 pub use Rattle.nit_rect.specs.Rectangle.{IsPlace, Rectangle, covers, rectangle}
 pub use Rattle.nit_rect.specs.Strips.{IsScreenRectangle}
 pub use Rattle.nit_rect.specs.declared.point.Point.{Point}
-pub use Rattle.nit_stack.specs.SourceAnswers.{session_of, word_count}
+pub use Rattle.nit_stack.specs.SourceAnswers.{word_count}
 pub use Rattle.nit_stack.specs.Sources.{Bare, Black, PixelSource, Word, among, black_or_word}
 pub use Rattle.nit_stack.specs.Sources.{buffer_place, index_at, owner_in, pixel, point, shown_index}
 pub use Rattle.nit_stack.specs.Sources.{source}
@@ -16,8 +16,9 @@ pub use Rattle.nit_stack.specs.declared.view.Piece.{Piece}
 pub use Rattle.nit_stack.specs.declared.view.View.{View}
 pub use Rattle.nit_stack.specs.declared.view.ViewRef.{ViewRef}
 pub use Rattle.nit_word.specs.Channels.{bare_word}
-pub use Rattle.nit_word.specs.Inks.{Colours, IsWord}
+pub use Rattle.nit_word.specs.Inks.{IsWord}
 pub use Rattle.nit_word.specs.Sight.{IsLoaded, IsLoadedRow, Sight, seen}
+pub use Rattle.nit_word.specs.Sights.{loads_in_row, no_sight}
 pub use Rattle.std.specs.List.{enumerate_from}
-pub use Rattle.std.specs.Option.{option_map, option_map_or}
+pub use Rattle.std.specs.Option.{option_map}
 pub use Rattle.std.specs.Prelude.{IsTrue, slice_index, ℤ}

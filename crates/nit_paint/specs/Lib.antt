@@ -1,5 +1,6 @@
 pub use Rattle.nit_word.specs.Inks
 pub use Rattle.nit_word.specs.Sight
+pub use Rattle.nit_word.specs.Sights
 pub use Rattle.nit_stack.specs.Sources
 pub mod FrameCopy
 pub mod Repaint

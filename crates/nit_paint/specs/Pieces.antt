@@ -1,8 +1,8 @@
 -- Pieces of the screen, and what their pixels show.
-use Rattle.std.specs.Prelude.{◌≡◌, ℕ, pos, ◌+ℤ◌, ◌≤ℤ◌, Bool, IsTrue}
-use Rattle.nit_paint.specs.Below.{IsScreenRectangle, Piece, PixelSource, Point, Rectangle}
-use Rattle.nit_paint.specs.Below.{StackModel, covers, option_map, option_map_or, owner_in, pixel}
-use Rattle.nit_paint.specs.Below.{session_of, size_of, source, view_ref, views_of, word_count}
+use Rattle.std.specs.Prelude.{◌≡◌, ◌≤◌, ℕ, pos, ◌+ℤ◌, ◌≤ℤ◌, Bool, IsTrue}
+use Rattle.nit_paint.specs.Below.{IsScreenRectangle, Piece, PixelSource, Point, Rectangle, Sight}
+use Rattle.nit_paint.specs.Below.{StackModel, covers, option_map, owner_in, pixel, size_of, source}
+use Rattle.nit_paint.specs.Below.{view_ref, views_of, word_count}
 
 -- the source of the pixel of a number
 abbrev pub source_of_number : StackModel → ℕ → PixelSource
@@ -21,10 +21,6 @@ pub record IsPiece (s : StackModel) (piece : Piece) : Type 0 where
   pub owned : (p : Point) → IsTrue (covers piece.rect p)
       → option_map view_ref (owner_in (λ seat. seat.view) s.bar s.views p) ≡ piece.owner
 
--- the session of the view that owns the piece, where one does
-abbrev pub session_shown : StackModel → Piece → ℕ
-session_shown s piece = option_map_or (λ v. session_of s.views v.0) piece.owner 0
-
--- how many words the buffer of that session has
-abbrev pub words_shown : StackModel → Piece → ℕ
-words_shown s piece = word_count (size_of s.sizes (session_shown s piece))
+-- each session has a word for each of its buffer's
+abbrev pub HoldBuffers : StackModel → (ℕ → Sight) → Type 0
+HoldBuffers s sights = (t : ℕ) → word_count (size_of s.sizes t) ≤ (sights t).size

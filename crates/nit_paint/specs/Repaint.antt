@@ -2,17 +2,9 @@
 -- glasses are told by the numbers of their sessions, and the pixels by their numbers, row by row
 -- from the top.
 use Rattle.std.specs.Prelude.{◌≡◌, ℕ, zero, suc, ◌+◌, ◌<◌, ◌==◌, Bool, true, false, ◌&&◌, List, []}
-use Rattle.std.specs.Prelude.{◌∷◌, count_by, Contains, slice_index_or, None, if◌then◌else◌}
-use Rattle.nit_paint.specs.Below.{Bare, Black, Colours, IsLoaded, PixelSource, Sight, Word}
+use Rattle.std.specs.Prelude.{◌∷◌, count_by, Contains, slice_index_or, if◌then◌else◌}
+use Rattle.nit_paint.specs.Below.{Bare, Black, IsLoaded, PixelSource, Sight, Word}
 use Rattle.nit_paint.specs.Below.{bare_word, seen}
-
--- the sight where there is no glass
-abbrev pub no_sight : Sight
-no_sight = record { owner = 0; size = 0; ink = Colours []; stages = None; words = None; log = None }
-
--- the glasses of all sessions, with this one for one of them
-abbrev pub with_glass : (ℕ → Sight) → ℕ → Sight → ℕ → Sight
-with_glass glasses sid glass t = if t == sid then glass else glasses t
 
 -- The word may be held by a pixel of this source: it is the bare word or 0 where nothing is loaded,
 -- and what the session's glass gives at the index otherwise.

@@ -1,98 +1,79 @@
 //! Pieces of the screen, row by row.
 
-ghost use Rattle.std.specs.Prelude.{◌≡◌, ℕ, ◌+◌, ◌*◌, ◌<◌, ◌≤◌, All, List, length, pos, ◌+ℤ◌, ◌≤ℤ◌};
-ghost use Rattle.std.specs.Prelude.{IsSomeAnd, None, true};
-ghost use Rattle.nit_paint.specs.Terms.{Bare, IsPiece, IsWord, PixelSource, Repainted, Sight};
-ghost use Rattle.nit_paint.specs.Terms.{among, black_or_word, has_pixel, has_slot, in_rows};
+ghost use Rattle.std.specs.Prelude.{◌≡◌, ℕ, ◌+◌, ◌*◌, ◌<◌, ◌≤◌, All, length, pos, ◌+ℤ◌, ◌≤ℤ◌};
+ghost use Rattle.std.specs.Prelude.{IfSome, true};
+ghost use Rattle.nit_paint.specs.Terms.{Bare, HoldBuffers, IsPiece, IsWord, PixelSource, Repainted};
+ghost use Rattle.nit_paint.specs.Terms.{Sight, among, black_or_word, has_pixel, has_slot, in_rows};
 ghost use Rattle.nit_paint.specs.Terms.{index_at, least_place, long, most_place, most_side};
-ghost use Rattle.nit_paint.specs.Terms.{reached, row_at, seen, session_shown, source_of_number};
-ghost use Rattle.nit_paint.specs.Terms.{with_glass, words_shown};
+ghost use Rattle.nit_paint.specs.Terms.{reached, row_at, source_of_number};
 
 use crate::block::Block;
 use crate::reach::{Reach, buffer_place, row_start};
 use crate::runs::{fill_run, paint_row};
 use nit_stack::{Piece, Stack};
-use nit_word::{BARE, Glass};
+use nit_word::{BARE, Glasses};
 
-/// Paints a piece of the screen that a view owns, by the glass of the view's session. A pixel to
-/// which the session's buffer does not reach gets 0. Any other is loaded once, at the index that it
-/// shows, and gets what the glass gives there: a word below 2^24 that is 0 or in its ink. Nothing
-/// else is loaded, no other pixel changes, and of the glass nothing but its log. `raw` has one word
-/// for each pixel of the screen, row by row from the top.
-pub fn paint_view<G: Glass>(stack: &Stack, raw: &mut [u32], piece: &Piece, glass: &mut G)
+/// Paints a piece of the screen. Where no view owns it, each pixel gets 0x000020, the word of the
+/// bare screen. Else a pixel to which the buffer of the view's session does not reach gets 0, and
+/// any other is loaded once, at the index that it shows, and gets what the session's words give
+/// there: a word below 2^24 that is 0 or in its ink. Nothing else is loaded, no other pixel
+/// changes, and of the words nothing but the session's log. `raw` has one word for each pixel of
+/// the screen, row by row from the top.
+pub fn paint_piece<L: Glasses>(stack: &Stack, raw: &mut [u32], piece: &Piece, glasses: &mut L)
     requires raw { length raw.old ≡ stack.now.width * stack.now.height }
     requires piece { IsPiece stack.now piece.now }
-    requires view { IsSomeAnd piece.now.owner (λ v. has_slot v.0 stack.now.views ≡ true) }
-    requires words { words_shown stack.now piece.now ≤ (G.sight glass.old).size }
-    ensures painted { (others : ℕ → Sight)
-        → Repainted (source_of_number stack.now) (has_pixel stack.now.width piece.now.rect)
-        (length raw.old)
-        (with_glass others (session_shown stack.now piece.now) (G.sight glass.old))
-        (with_glass others (session_shown stack.now piece.now) (G.sight glass.new))
-        raw.old raw.new }
-    ensures kept { (loads : List (ℕ × ℕ)) × (G.sight glass.new ≡ seen (G.sight glass.old) loads) }
-    ensures rest { G.rest glass.new ≡ G.rest glass.old }
+    requires stands { IfSome piece.now.owner (λ v. has_slot v.0 stack.now.views ≡ true) }
+    requires held { HoldBuffers stack.now (L.sights glasses.old) }
+    ensures painted { Repainted (source_of_number stack.now)
+        (has_pixel stack.now.width piece.now.rect) (length raw.old)
+        (L.sights glasses.old) (L.sights glasses.new) raw.old raw.new }
+    ensures rest { L.rest glasses.new ≡ L.rest glasses.old }
     ensures count { length raw.new ≡ length raw.old }
     ensures words { All IsWord raw.old → All IsWord raw.new }
 {
-    let Some(v) = piece.owner else { unreachable!() };
-    let view = stack.view(v);
-    let (w, h) = stack.buffer(view.sid);
     let (width, _height) = stack.size();
     let block = Block::new(&piece.rect, width);
+    let Some(v) = piece.owner else {
+        bare_rows(raw, &block);
+        return;
+    };
+    let view = stack.view(v);
+    let (w, h) = stack.buffer(view.sid);
     let column = buffer_place(piece.rect.x(), view.rect.x(), view.ox);
     let row = buffer_place(piece.rect.y(), view.rect.y(), view.oy);
     let reach = Reach::new(column, block.wide, w);
-    paint_rows(raw, &block, &reach, row, (w, h), glass);
+    paint_rows(raw, &block, &reach, row, (w, h), view.sid, glasses);
 }
 
-/// Paints a piece of the screen that no view owns: each pixel gets 0x000020, the word of the bare
-/// screen. Nothing is loaded, and no other pixel changes. `raw` has one word for each pixel of the
-/// screen, row by row from the top.
-pub fn paint_bare(stack: &Stack, raw: &mut [u32], piece: &Piece)
-    requires raw { length raw.old ≡ stack.now.width * stack.now.height }
-    requires piece { IsPiece stack.now piece.now }
-    requires bare { piece.now.owner ≡ None }
-    ensures painted { (glasses : ℕ → Sight)
-        → Repainted (source_of_number stack.now) (has_pixel stack.now.width piece.now.rect)
-        (length raw.old) glasses glasses raw.old raw.new }
-    ensures count { length raw.new ≡ length raw.old }
-    ensures words { All IsWord raw.old → All IsWord raw.new }
-{
-    let (width, _height) = stack.size();
-    let block = Block::new(&piece.rect, width);
-    bare_rows(raw, &block);
-}
-
-/// Paints a block by a buffer of `size.0` columns and `size.1` rows. The block's first row would
-/// show the buffer's row `row`.
-fn paint_rows<G: Glass>(
+/// Paints a block by a session's buffer of `size.0` columns and `size.1` rows. The block's first
+/// row would show the buffer's row `row`.
+fn paint_rows<L: Glasses>(
     raw: &mut [u32],
     block: &Block,
     reach: &Reach,
     row: i32,
     size: (u32, u32),
-    glass: &mut G,
+    sid: u32,
+    glasses: &mut L,
 )
     requires pixels { block.now.width * (block.now.top + block.now.tall) ≤ length raw.old }
     requires row { (least_place ≤ℤ row) × (row ≤ℤ most_place) }
     requires size { (size.0 ≤ most_side) × (size.1 ≤ most_side) }
     requires long { long reach.now ≡ block.now.wide }
     requires columns { reach.now.from + reach.now.words ≤ size.0 }
-    requires words { size.0 * size.1 ≤ (G.sight glass.old).size }
-    ensures painted { (source : ℕ → PixelSource) (sid : ℕ) (others : ℕ → Sight)
+    requires words { size.0 * size.1 ≤ (L.sights glasses.old sid).size }
+    ensures painted { (source : ℕ → PixelSource)
         → ((j i : ℕ) → j < block.now.tall → i < block.now.wide
         → source (row_at block.now j + i)
         ≡ black_or_word sid (index_at size.0 (reached reach.now i) (among (row +ℤ pos j) size.1)))
         → Repainted source (in_rows block.now block.now.tall) (length raw.old)
-        (with_glass others sid (G.sight glass.old))
-        (with_glass others sid (G.sight glass.new)) raw.old raw.new }
-    ensures rest { G.rest glass.new ≡ G.rest glass.old }
+        (L.sights glasses.old) (L.sights glasses.new) raw.old raw.new }
+    ensures rest { L.rest glasses.new ≡ L.rest glasses.old }
 {
     'rows: for j in 0..block.tall {
         let at = (block.top + j) * block.width + block.left;
         let start = row_start(row + j as i32, size.0, size.1);
-        paint_row(raw, at as usize, reach, start, glass);
+        paint_row(raw, at as usize, reach, start, sid, glasses);
     }
 }
 

@@ -2,10 +2,10 @@
 
 ghost use Rattle.std.specs.Prelude.{◌≡◌, ℕ, ◌+◌, ◌<◌, ◌≤◌, length, IfSome, Some};
 ghost use Rattle.nit_paint.specs.Terms.{PixelSource, Repainted, Sight, Word, in_run, long};
-ghost use Rattle.nit_paint.specs.Terms.{most_buffer, own_word, row_source, with_glass};
+ghost use Rattle.nit_paint.specs.Terms.{most_buffer, own_word, row_source};
 
 use crate::reach::Reach;
-use nit_word::Glass;
+use nit_word::Glasses;
 
 /// The word of a pixel that its view shows, but its buffer does not reach.
 const BLACK: u32 = 0;
@@ -20,26 +20,26 @@ pub(crate) fn fill_run(raw: &mut [u32], at: usize, count: u32, word: u32)
     raw[at..at + count as usize].fill(word);
 }
 
-/// Paints the pixels of a row from `at` on. The words of the buffer's row begin at `start`; where
-/// the buffer has no such row all pixels are black.
-pub(crate) fn paint_row<G: Glass>(
+/// Paints the pixels of a row from `at` on, by a session's buffer. The words of the buffer's row
+/// begin at `start`; where the buffer has no such row all pixels are black.
+pub(crate) fn paint_row<L: Glasses>(
     raw: &mut [u32],
     at: usize,
     reach: &Reach,
     start: Option<u32>,
-    glass: &mut G,
+    sid: u32,
+    glasses: &mut L,
 )
     requires pixels { at + long reach.now ≤ length raw.old }
     requires words { IfSome start
-        (λ s. s + (reach.now.from + reach.now.words) ≤ (G.sight glass.old).size) }
+        (λ s. s + (reach.now.from + reach.now.words) ≤ (L.sights glasses.old sid).size) }
     requires fits { IfSome start (λ s. s + (reach.now.from + reach.now.words) ≤ most_buffer) }
-    ensures painted { (source : ℕ → PixelSource) (sid : ℕ) (others : ℕ → Sight)
+    ensures painted { (source : ℕ → PixelSource)
         → ((j : ℕ) → j < long reach.now → source (at + j) ≡ row_source sid reach.now start j)
         → Repainted source (in_run at (long reach.now)) (length raw.old)
-        (with_glass others sid (G.sight glass.old))
-        (with_glass others sid (G.sight glass.new)) raw.old raw.new }
-    ensures size { (G.sight glass.new).size ≡ (G.sight glass.old).size }
-    ensures rest { G.rest glass.new ≡ G.rest glass.old }
+        (L.sights glasses.old) (L.sights glasses.new) raw.old raw.new }
+    ensures size { (L.sights glasses.new sid).size ≡ (L.sights glasses.old sid).size }
+    ensures rest { L.rest glasses.new ≡ L.rest glasses.old }
 {
     let Some(start) = start else {
         fill_run(raw, at, reach.before + reach.words + reach.after, BLACK);
@@ -48,6 +48,6 @@ pub(crate) fn paint_row<G: Glass>(
     let words = at + reach.before as usize;
     let after = words + reach.words as usize;
     fill_run(raw, at, reach.before, BLACK);
-    glass.load_row((start + reach.from) as usize, &mut raw[words..after]);
+    glasses.load_row(sid, (start + reach.from) as usize, &mut raw[words..after]);
     fill_run(raw, after, reach.after, BLACK);
 }

@@ -39,7 +39,7 @@ pub use Rattle.nit_nested.specs.Nest.{nest_script, script_answer}
 pub use Rattle.nit_nested.specs.declared.error.NestError.{NestError}
 pub use Rattle.nit_nested.specs.declared.error.NestError.TheVariants.{Bad, Phases, TooLong}
 pub use Rattle.nit_overlay.specs.Frame.{frame}
-pub use Rattle.nit_paint.specs.Repaint.{IsWordOfSource, no_sight}
+pub use Rattle.nit_paint.specs.Repaint.{IsWordOfSource}
 pub use Rattle.nit_perform.specs.declared.inner.Inner.{Inner}
 pub use Rattle.nit_perform.specs.declared.memory.Memory.{Memory}
 pub use Rattle.nit_perform.specs.declared.opening.OpenedRounds.{OpenedRounds}
@@ -83,7 +83,7 @@ pub use Rattle.nit_run.specs.Setup.{IsRunnable, RunFiles, Setup, by_turns, gener
 pub use Rattle.nit_run.specs.Setup.{run_files, script_files, setup_of}
 pub use Rattle.nit_run.specs.declared.region.Region.{Region}
 pub use Rattle.nit_run.specs.declared.scripts.Scripts.{Scripts}
-pub use Rattle.nit_scene.specs.RawWords.{Painted, glass_in, pixel_count, source_at}
+pub use Rattle.nit_scene.specs.RawWords.{Painted, pixel_count, source_at}
 pub use Rattle.nit_scene.specs.Scene.{SceneModel, state_now}
 pub use Rattle.nit_scene.specs.Screen.{IsGlass}
 pub use Rattle.nit_scene.specs.StateScenery.{scenery_of}
@@ -103,6 +103,7 @@ pub use Rattle.nit_store.specs.StoreAnswers.{AfterPut, AskedAtMost}
 pub use Rattle.nit_store.specs.declared.store.PutError.{PutError}
 pub use Rattle.nit_word.specs.Inks.{IsWord}
 pub use Rattle.nit_word.specs.Sight.{Sight}
+pub use Rattle.nit_word.specs.Sights.{glass_in, no_sight}
 pub use Rattle.std.specs.Fmt.{decimal}
 pub use Rattle.std.specs.Global.{Global}
 pub use Rattle.std.specs.List.{AllByRecursion, list_all, range_with_len}

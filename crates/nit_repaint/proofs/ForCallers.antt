@@ -5,6 +5,6 @@ pub use Rattle.nit_repaint.proofs.ViewChangeLemmas.{find_moved, gone_change, gon
 pub use Rattle.nit_repaint.proofs.ViewChangeLemmas.{gone_room, none_left, place_changed}
 pub use Rattle.nit_repaint.proofs.ViewChangeLemmas.{without_changed, without_moved, without_none}
 pub use Rattle.nit_repaint.proofs.ViewRemovalLemmas.{all_painted, all_taken, goes, goes_painted}
-pub use Rattle.nit_repaint.proofs.ViewRemovalLemmas.{held_by_all, nobody_calls, painted_more, stays}
+pub use Rattle.nit_repaint.proofs.ViewRemovalLemmas.{painted_more, stays}
 pub use Rattle.nit_repaint.proofs.ViewRemovalLemmas.{stays_clean, taken_held, taken_more}
 pub use Rattle.nit_repaint.proofs.ViewRemovalLemmas.{taken_none}

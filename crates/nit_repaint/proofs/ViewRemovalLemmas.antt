@@ -1,143 +1,62 @@
--- What the painting of one piece does to the glasses of a call.
-use Rattle.nit_repaint.proofs.Basics.{CutterModel, HoldBuffers, IsRemovedFrom, NoPair, Painter}
-use Rattle.nit_repaint.proofs.Basics.{PaintsMarked, PixelSource, Point, Rectangle, Repainted, Sight}
-use Rattle.nit_repaint.proofs.Basics.{SlotView, StackModel, and_parts, covers, drop_all, drop_at}
-use Rattle.nit_repaint.proofs.Basics.{get_or-map, get_or-set_at, get_or_past, glass_in}
-use Rattle.nit_repaint.proofs.Basics.{glasses_of_call, has_come, has_pixel, is_of_session, is_slot}
-use Rattle.nit_repaint.proofs.Basics.{length-map, list_any, map-set, map-set_same, nat_tests}
-use Rattle.nit_repaint.proofs.Basics.{no_sight, option_map_or, other_count, owner_in}
+-- What the painting of one piece leaves.
+use Rattle.nit_repaint.proofs.Basics.{CanPaint, CutterModel, HoldBuffers, IsRemovedFrom, IsRepaint}
+use Rattle.nit_repaint.proofs.Basics.{NoPair, Painter, PixelSource, Point, Rectangle, Repainted}
+use Rattle.nit_repaint.proofs.Basics.{Sight, SlotView, StackModel, and_parts, covers, drop_all}
+use Rattle.nit_repaint.proofs.Basics.{drop_at, has_come, has_pixel, is_of_session, is_slot}
+use Rattle.nit_repaint.proofs.Basics.{list_any, nat_tests, option_map_or, other_count, owner_in}
 use Rattle.nit_repaint.proofs.Basics.{owner_of_views, owner_passes, pixel, repainted_same}
 use Rattle.nit_repaint.proofs.Basics.{repainted_union, same_slot, seen, size_of, slot_view_covers}
 use Rattle.nit_repaint.proofs.Basics.{source_in, source_of_number, source_under, times, to_come}
-use Rattle.nit_repaint.proofs.Basics.{uncovered, with_glass, without, without_session}
-use Rattle.std.proofs.Common.{Bool, IsTrue, List, Some, [], add-one, ap, arith, cond, drop, eq-eqb}
-use Rattle.std.proofs.Common.{false, find, get_or-set_other, length, map, ne_eqb, not, option_map}
-use Rattle.std.proofs.Common.{refl, set, slice_get, slice_index_or, suc, sym, true, zero, ℕ, ◌&&◌}
-use Rattle.std.proofs.Common.{◌+◌, ◌<◌, ◌==◌, ◌∙◌, ◌∷◌, ◌≡◌, ◌≤◌}
+use Rattle.nit_repaint.proofs.Basics.{uncovered, without, without_session}
+use Rattle.std.proofs.Common.{Bool, IsTrue, List, Some, [], add-one, ap, arith, drop, eq-eqb, false, find}
+use Rattle.std.proofs.Common.{length, ne_eqb, not, option_map, refl, slice_get, suc, sym, true}
+use Rattle.std.proofs.Common.{zero, ℕ, ◌&&◌, ◌+◌, ◌<◌, ◌∙◌, ◌∷◌, ◌≡◌, ◌≤◌}
 use Rattle.nit_repaint.proofs.ViewChangeLemmas.{found_not, marked_same, other_slot, owned_not}
 use Rattle.nit_repaint.proofs.ViewChangeLemmas.{without_none}
 use Rattle.nit_repaint.proofs.WantedLemmas.{one_came}
 
--- a glass of a list, which a piece leaves as another one
-module _ {G : Type 0} (f : G → Sight) (gs : List G) (g g' : G) (t : ℕ) (is : g ≡ slice_index_or gs t g)
-    (l : t < length gs) where
-  it_is : f g ≡ slice_index_or (map f gs) t no_sight
-  it_is = ap f is ∙ sym (get_or-map f gs t g no_sight l)
+-- loads leave the sizes of what all sessions have
+pub still_held : (s : StackModel) (before after : ℕ → Sight) (loads : ℕ → List (ℕ × ℕ))
+    → ((t : ℕ) → after t ≡ seen (before t) (loads t)) → HoldBuffers s before → HoldBuffers s after
+still_held s before after loads e h t = rw (e t) (h t)
 
-  all_of : t < length (map f gs)
-  all_of = rw length-map l
+-- so more can be painted
+pub still_can : {source : ℕ → PixelSource} {all : ℕ → Bool} {x y : ℕ → Sight} {a b : Painter} (s : StackModel)
+    → IsRepaint source all x y a b → CanPaint s a x → CanPaint s b y
+still_can {x = x} {y = y} s was can = record {
+  pixels = was.kept.count ∙ can.pixels;
+  held = still_held s x y was.painted.loads was.painted.sights can.held;
+}
 
-  -- the glasses of the list after it
-  now_at : (u : ℕ) → glass_in (map f (set gs t g')) u ≡ cond (u == t) (f g') (glass_in (map f gs) u)
-  now_at u =
-      let other = get_or-set_other (map f gs) t u (f g') no_sight in
-      rw (map-set f gs t g') (grind (arith, nat_tests, get_or-set_at (map f gs) t u (f g') no_sight, other, all_of))
+-- ==== Pixels that are painted one set after the other.
 
-  -- a piece of a session of the list
-  pub listed_painted : (source : ℕ → PixelSource) (marked : ℕ → Bool) (n shown : ℕ) (raw raw' : List ℕ) → shown ≡ t
-      → ((others : ℕ → Sight) → Repainted source marked n (with_glass others shown (f g))
-      (with_glass others shown (f g')) raw raw')
-      → Repainted source marked n (glass_in (map f gs)) (glass_in (map f (set gs t g'))) raw raw'
-  listed_painted source marked n shown raw raw' e h =
-      repainted_same source source marked marked n _ _ _ _ raw raw' (λ k m. refl) (λ k m d. refl)
-      (λ u. grind (arith, nat_tests, it_is))
-      (λ u. grind (arith, nat_tests, now_at u))
-      (rw e at (h (glass_in (map f gs))))
+-- nothing yet
+pub nothing_painted : {source : ℕ → PixelSource} {all : ℕ → Bool} {x y : ℕ → Sight} {p : Painter}
+    → Repainted source all (length p.raw.items) x y p.raw.items p.raw.items → IsRepaint source all x y p p
+nothing_painted painted = record { painted = painted; kept = record { count = refl; room = refl } }
 
-  module _ (sid : ℕ) (ne : t ≡ sid → ⊥) where
-    -- a piece of another session than the caller's
-    pub scene_painted : (source : ℕ → PixelSource) (marked : ℕ → Bool) (n shown : ℕ) (own : Sight) (raw raw' : List ℕ)
-        → shown ≡ t
-        → ((others : ℕ → Sight) → Repainted source marked n (with_glass others shown (f g))
-        (with_glass others shown (f g')) raw raw')
-        → Repainted source marked n (glasses_of_call (map f gs) sid own) (glasses_of_call (map f (set gs t g')) sid own)
-        raw raw'
-    scene_painted source marked n shown own raw raw' e h =
-        repainted_same source source marked marked n _ _ _ _ raw raw' (λ k m. refl) (λ k m d. refl)
-        (λ u. grind (arith, nat_tests, it_is, ne))
-        (λ u. grind (arith, nat_tests, now_at u, ne))
-        (rw e at (h (glasses_of_call (map f gs) sid own)))
+-- and more is painted
+pub more_painted : {source : ℕ → PixelSource} {first second all : ℕ → Bool} {x y z : ℕ → Sight} {a b c : Painter}
+    {k : CutterModel} → IsRepaint source first x y a b → k.room ≡ b.cutter.room
+    → IsRepaint source second y z (record b { cutter = k }) c
+    → Repainted source all (length a.raw.items) x z a.raw.items c.raw.items → IsRepaint source all x z a c
+more_painted was room new painted = record {
+  painted = painted;
+  kept = record { count = new.kept.count ∙ was.kept.count; room = new.kept.room ∙ room ∙ was.kept.room };
+}
 
-    pub idle_at : slice_index_or (map f (set gs t g')) sid no_sight ≡ slice_index_or (map f gs) sid no_sight
-    idle_at = grind (arith, nat_tests, now_at sid, ne)
-
--- what a load leaves of a glass stays in the list of all
-pub left_at : {G R : Type 0} (f : G → R) (gs : List G) (g g' : G) (t : ℕ) → g ≡ slice_index_or gs t g → f g' ≡ f g
-    → map f (set gs t g') ≡ map f gs
-left_at f gs g g' t is e = map-set_same f gs t g' g (e ∙ ap f is)
-
--- lists of which each element has the same of these are as long
-pub as_many : {G R : Type 0} (f : G → R) (gs' gs : List G) → map f gs' ≡ map f gs → length gs' ≡ length gs
-as_many f gs' gs e = sym (length-map gs' f) ∙ ap length e ∙ length-map gs f
-
--- loads leave the sizes of the glasses
-pub still_held : (s : StackModel) (count count' : ℕ) (before after : ℕ → Sight) (loads : ℕ → List (ℕ × ℕ))
-    → count' ≡ count → ((t : ℕ) → after t ≡ seen (before t) (loads t)) → HoldBuffers s count before
-    → HoldBuffers s count' after
-still_held s count count' before after loads same e h = λ t l.
-    (rw same (h t l).0, rw (e t) (h t l).1)
-
--- where nobody calls, all glasses are those of the list
-pub nobody_calls : {G : Type 0} (f : G → Sight) (gs : List G) (n : ℕ) → length gs ≤ n → (t : ℕ)
-    → glasses_of_call (map f gs) n no_sight t ≡ glass_in (map f gs) t
-nobody_calls f gs n l t = grind (arith, nat_tests, length-map gs f, get_or_past (map f gs) t no_sight)
-
-pub held_by_all : {G : Type 0} (f : G → Sight) (s : StackModel) (gs : List G) (n : ℕ) → length gs ≤ n
-    → HoldBuffers s (length gs) (glass_in (map f gs))
-    → HoldBuffers s (length gs) (glasses_of_call (map f gs) n no_sight)
-held_by_all f s gs n l h = λ t m.
-    let was = h t m in
-    (was.0, rw (nobody_calls f gs n l t) was.1)
-
--- ==== Pixels that are painted for one call, one set after the other.
-
-abbrev IsBy : {G C : Type 0} → (G → Sight) → (C → Sight) → StackModel → ℕ → (ℕ → Bool) → Painter G → Painter G → C → C
-    → Type 0
-IsBy sight own_sight s sid is_marked before after' own own' =
-    Repainted (source_of_number s) is_marked (length before.raw.items)
-    (glasses_of_call (map sight before.glasses.items) sid (own_sight own))
-    (glasses_of_call (map sight after'.glasses.items) sid (own_sight own'))
-    before.raw.items after'.raw.items
-
-module _ {G C R Q : Type 0} {sight : G → Sight} {own_sight : C → Sight} {rest : G → R} {own_rest : C → Q}
-    {s : StackModel} {sid : ℕ} where
-  -- nothing yet
-  pub nothing_painted : {all : ℕ → Bool} {p : Painter G} {own : C} → IsBy sight own_sight s sid all p p own own
-      → PaintsMarked sight own_sight rest own_rest s sid all p p own own
-  nothing_painted painted = record {
-    painted = painted;
-    kept = record { count = refl; room = refl; idle = refl; rest_of_own = refl; rests = refl };
-  }
-
-  -- and more is painted
-  pub more_painted : {first second all : ℕ → Bool} {a b c : Painter G} {k : CutterModel} {own own' own'' : C}
-      → PaintsMarked sight own_sight rest own_rest s sid first a b own own' → k.room ≡ b.cutter.room
-      → PaintsMarked sight own_sight rest own_rest s sid second (record b { cutter = k }) c own' own''
-      → IsBy sight own_sight s sid all a c own own''
-      → PaintsMarked sight own_sight rest own_rest s sid all a c own own''
-  more_painted was room new painted = record {
-    painted = painted;
-    kept = record {
-      count = new.kept.count ∙ was.kept.count;
-      room = new.kept.room ∙ room ∙ was.kept.room;
-      idle = new.kept.idle ∙ was.kept.idle;
-      rest_of_own = new.kept.rest_of_own ∙ was.kept.rest_of_own;
-      rests = new.kept.rests ∙ was.kept.rests;
-    };
-  }
-
-  -- a piece that the cutter handed out is painted
-  pub piece_painted : {a b c : Painter G} {own own' own'' : C} (next : CutterModel) (r : Rectangle)
-      → next.room ≡ b.cutter.room
-      → ((p : Point) → to_come a.cutter s p ≤ 1) → ((p : Point) → to_come b.cutter s p ≤ to_come a.cutter s p)
-      → ((p : Point) → to_come b.cutter s p ≡ to_come next s p + times r p)
-      → ((p : Point) → IsTrue (covers r p) → to_come b.cutter s p ≡ 1)
-      → PaintsMarked sight own_sight rest own_rest s sid (has_come a.cutter b.cutter s) a b own own'
-      → PaintsMarked sight own_sight rest own_rest s sid (has_pixel s.width r) (record b { cutter = next }) c own' own''
-      → PaintsMarked sight own_sight rest own_rest s sid (has_come a.cutter next s) a c own own''
-  piece_painted {a = a} {b = b} next r room once less count came was new =
-      more_painted was room new (one_came s a.cutter b.cutter next r once less count came was.painted
-      (other_count _ _ _ _ _ _ _ _ was.kept.count new.painted))
+-- a piece that the cutter handed out is painted
+pub piece_painted : (s : StackModel) {x y z : ℕ → Sight} {a b c : Painter} (next : CutterModel) (r : Rectangle)
+    → next.room ≡ b.cutter.room
+    → ((p : Point) → to_come a.cutter s p ≤ 1) → ((p : Point) → to_come b.cutter s p ≤ to_come a.cutter s p)
+    → ((p : Point) → to_come b.cutter s p ≡ to_come next s p + times r p)
+    → ((p : Point) → IsTrue (covers r p) → to_come b.cutter s p ≡ 1)
+    → IsRepaint (source_of_number s) (has_come a.cutter b.cutter s) x y a b
+    → IsRepaint (source_of_number s) (has_pixel s.width r) y z (record b { cutter = next }) c
+    → IsRepaint (source_of_number s) (has_come a.cutter next s) x z a c
+piece_painted s {a = a} {b = b} next r room once less count came was new =
+    more_painted was room new (one_came s a.cutter b.cutter next r once less count came was.painted
+    (other_count _ _ _ _ _ _ _ _ was.kept.count new.painted))
 
 -- ==== What views uncover when they are taken away.
 
@@ -305,11 +224,9 @@ painted_more sid i n before now next a b c raw mid last first second one two =
     (λ k l m. rw (first.rest, first.left))
     (λ t. refl) (λ t. refl) two)
 
-pub taken_held : (sid i count count' : ℕ) (before now : StackModel) (a b : ℕ → Sight) (loads : ℕ → List (ℕ × ℕ))
-    → IsRemovedFrom sid i before now → count' ≡ count → ((t : ℕ) → b t ≡ seen (a t) (loads t))
-    → HoldBuffers before count a → HoldBuffers now count' b
-taken_held sid i count count' before now a b loads taken same e h =
-    rw taken.rest (still_held before count count' a b loads same e h)
+pub taken_held : (sid i : ℕ) (before now : StackModel) (a b : ℕ → Sight) (loads : ℕ → List (ℕ × ℕ))
+    → IsRemovedFrom sid i before now → ((t : ℕ) → b t ≡ seen (a t) (loads t)) → HoldBuffers before a → HoldBuffers now b
+taken_held sid i before now a b loads taken e h = rw taken.rest (still_held before a b loads e h)
 
 pub all_taken : (sid : ℕ) (before now : StackModel) → IsRemovedFrom sid 0 before now → now ≡ without_session sid before
 all_taken sid before now taken = taken.rest

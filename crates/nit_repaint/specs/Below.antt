@@ -6,8 +6,8 @@ pub use Rattle.nit_overlay.specs.Frame.{frame, shown}
 pub use Rattle.nit_overlay.specs.Look.{IsLook, scenery}
 pub use Rattle.nit_overlay.specs.declared.look.Look.{Look}
 pub use Rattle.nit_paint.specs.FrameCopy.{AreSet}
-pub use Rattle.nit_paint.specs.Pieces.{IsPiece, has_pixel, session_shown, source_of_number}
-pub use Rattle.nit_paint.specs.Repaint.{Repainted, no_sight, with_glass}
+pub use Rattle.nit_paint.specs.Pieces.{HoldBuffers, has_pixel, source_of_number}
+pub use Rattle.nit_paint.specs.Repaint.{Repainted}
 pub use Rattle.nit_rect.specs.Intersection.{CoversBoth}
 pub use Rattle.nit_rect.specs.Limits.{most_length, most_side}
 pub use Rattle.nit_rect.specs.Rectangle.{IsPlace, Rectangle, covers, rectangle, spans}
@@ -15,7 +15,6 @@ pub use Rattle.nit_rect.specs.Strips.{times}
 pub use Rattle.nit_rect.specs.declared.point.Point.{Point}
 pub use Rattle.nit_repaint.specs.declared.painter.Painter.{Painter}
 pub use Rattle.nit_stack.specs.Orders.{changed, moved, put_above, put_again, without}
-pub use Rattle.nit_stack.specs.SourceAnswers.{session_of, word_count}
 pub use Rattle.nit_stack.specs.Sources.{PixelSource, Size, Word, among, black_or_word, buffer_place}
 pub use Rattle.nit_stack.specs.Sources.{in_bar, index_at, owner_in, pixel, point, shown_index}
 pub use Rattle.nit_stack.specs.Sources.{source, source_under}
@@ -25,7 +24,6 @@ pub use Rattle.nit_stack.specs.Stack.{moved_above, on_view, place_of, put_own_ba
 pub use Rattle.nit_stack.specs.Stack.{same_slot, size_of, slot_view_in, slot_view_layer}
 pub use Rattle.nit_stack.specs.Stack.{with_offset, with_rect}
 pub use Rattle.nit_stack.specs.ViewNames.{views_of}
-pub use Rattle.nit_stack.specs.declared.view.Piece.{Piece}
 pub use Rattle.nit_stack.specs.declared.view.View.{View}
 pub use Rattle.nit_stack.specs.declared.view.ViewRef.{ViewRef}
 pub use Rattle.nit_word.specs.Inks.{IsWord}

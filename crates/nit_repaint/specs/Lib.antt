@@ -8,7 +8,6 @@ pub use Rattle.nit_paint.specs.Pieces
 pub use Rattle.nit_overlay.specs.Look
 pub use Rattle.nit_overlay.specs.Frame
 pub mod PixelOwners
-pub mod Glasses
 pub mod Painting
 pub mod PixelsToCome
 pub mod ViewChange

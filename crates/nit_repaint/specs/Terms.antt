@@ -1,23 +1,22 @@
 -- The words that clauses use: those that come from outside, and those of this crate.
-pub use Rattle.nit_repaint.specs.Below.{AreSet, CoversBoth, CutterModel, FitsStack, IsOnScreen}
+pub use Rattle.nit_repaint.specs.Below.{AreSet, CoversBoth, CutterModel, FitsStack, HoldBuffers}
+pub use Rattle.nit_repaint.specs.Below.{IsOnScreen}
 pub use Rattle.nit_repaint.specs.Below.{IsPlace, IsScreenSize, IsSlotView, IsStack, Look, NoPair}
 pub use Rattle.nit_repaint.specs.Below.{Painter, PixelSource, Point, Rectangle, Repainted, Sight}
 pub use Rattle.nit_repaint.specs.Below.{SlotView, StackModel, View, ViewRef, among, black_or_word}
 pub use Rattle.nit_repaint.specs.Below.{buffer_place, changed, covered, covers, frame, has_pixel}
 pub use Rattle.nit_repaint.specs.Below.{has_slot, in_bar, index_at, is_behind, is_of_moved}
 pub use Rattle.nit_repaint.specs.Below.{is_of_session, is_owned, is_slot, list_any, most_length}
-pub use Rattle.nit_repaint.specs.Below.{most_side, moved, moved_above, no_sight, on_view, once}
+pub use Rattle.nit_repaint.specs.Below.{most_side, moved, moved_above, on_view, once}
 pub use Rattle.nit_repaint.specs.Below.{option_map_or, owner_in, pieces_left, pixel, place_of}
 pub use Rattle.nit_repaint.specs.Below.{point, position_or_len, put_above, put_again, put_own_back}
 pub use Rattle.nit_repaint.specs.Below.{put_own_front, rectangle, same_slot, scenery, seen}
-pub use Rattle.nit_repaint.specs.Below.{session_of, session_shown, shown_index, size_of}
+pub use Rattle.nit_repaint.specs.Below.{shown_index, size_of}
 pub use Rattle.nit_repaint.specs.Below.{slot_view_covers, slot_view_in, slot_view_layer}
 pub use Rattle.nit_repaint.specs.Below.{source_of_number, source_under, spans, times, to_come}
-pub use Rattle.nit_repaint.specs.Below.{views_of, with_glass, with_offset, with_rect, without}
-pub use Rattle.nit_repaint.specs.Glasses.{HoldBuffers, glass_in, glasses_of_call}
-pub use Rattle.nit_repaint.specs.Painting.{CanPaint, CanPaintByList, CanRepaint, IsFrameToShow}
-pub use Rattle.nit_repaint.specs.Painting.{IsOnlyCut, IsPieceOfStack, KeepsPainter, PaintsByList}
-pub use Rattle.nit_repaint.specs.Painting.{PaintsMarked}
+pub use Rattle.nit_repaint.specs.Below.{views_of, with_offset, with_rect, without}
+pub use Rattle.nit_repaint.specs.Painting.{CanPaint, CanRepaint, IsFrameToShow, IsOnlyCut}
+pub use Rattle.nit_repaint.specs.Painting.{IsRepaint, KeepsPainter}
 pub use Rattle.nit_repaint.specs.PixelOwners.{is_word_in, owner_passes, source_in}
 pub use Rattle.nit_repaint.specs.PixelsToCome.{has_come, is_to_come}
 pub use Rattle.nit_repaint.specs.ShownPixels.{shown_at}

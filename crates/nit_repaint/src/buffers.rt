@@ -1,9 +1,9 @@
 //! Loading again what views of one session show.
 
-ghost use Rattle.std.specs.Prelude.{false, ◌≡◌, ◌<◌, ◌≤◌, ◌&&◌, Some, length, map, slice_get, true};
-ghost use Rattle.nit_repaint.specs.Terms.{CanRepaint, FitsStack, IsOnScreen, IsPlace, PaintsMarked};
-ghost use Rattle.nit_repaint.specs.Terms.{Point, SlotView, covers, glasses_of_call, is_slot};
-ghost use Rattle.nit_repaint.specs.Terms.{is_wanted, once, owner_passes, pixel, size_of, to_come};
+ghost use Rattle.std.specs.Prelude.{false, ◌≡◌, ◌<◌, ◌≤◌, ◌&&◌, Some, length, slice_get, true};
+ghost use Rattle.nit_repaint.specs.Terms.{CanRepaint, FitsStack, IsOnScreen, IsPlace, IsRepaint};
+ghost use Rattle.nit_repaint.specs.Terms.{Point, SlotView, covers, is_slot, is_wanted, once};
+ghost use Rattle.nit_repaint.specs.Terms.{owner_passes, pixel, size_of, source_of_number, to_come};
 ghost use Rattle.nit_repaint.specs.Terms.{wanted, wants};
 
 use crate::painter::Painter;
@@ -11,7 +11,7 @@ use crate::part::shown_part;
 use nit_damage::Cutter;
 use nit_rect::Rect;
 use nit_stack::{Stack, View};
-use nit_word::Glass;
+use nit_word::Glasses;
 
 /// The rectangle at which a view shows a part of its session's buffer, or its own where no part is
 /// given.
@@ -64,23 +64,21 @@ pub(crate) fn begin_seat(
     true
 }
 
-impl<G: Glass + Drop> Painter<G> {
+impl Painter {
     /// Loads again exactly the pixels that views of the session `of` own and that show `part` of
     /// its buffer, or all that they own where no part is given.
-    pub fn paint_session<C: Glass>(
+    pub fn paint_session<L: Glasses>(
         &mut self,
         stack: &Stack,
         of: u32,
         part: &Option<Rect>,
-        sid: u32,
-        own: &mut C,
+        glasses: &mut L,
     )
-        requires { CanRepaint
-            (glasses_of_call (map G.sight self.old.glasses.items) sid (C.sight own.old))
-            stack.now self.old }
-        ensures { PaintsMarked G.sight C.sight G.rest C.rest stack.now sid
+        requires { CanRepaint stack.now self.old (L.sights glasses.old) }
+        ensures painted { IsRepaint (source_of_number stack.now)
             (λ k. wanted of part.now stack.now (pixel stack.now.width k))
-            self.old self.new own.old own.new }
+            (L.sights glasses.old) (L.sights glasses.new) self.old self.new }
+        ensures rest { L.rest glasses.new ≡ L.rest glasses.old }
     {
         let views = stack.len();
         'views: for i in 0..views {
@@ -88,7 +86,7 @@ impl<G: Glass + Drop> Painter<G> {
             if !is_of_session {
                 continue;
             }
-            self.paint_to_come(stack, sid, own);
+            self.paint_to_come(stack, glasses);
         }
     }
 }

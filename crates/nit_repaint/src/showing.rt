@@ -23,7 +23,7 @@ fn show_to_come(cutter: &mut Cutter, look: &Look, raw: &[u32], frame: &mut [u32]
     }
 }
 
-impl<G: Drop> Painter<G> {
+impl Painter {
     /// Sets the frame to what is shown at each pixel that views of the session `of` own and that
     /// shows `part` of its buffer, or at all that they own where no part is given, as
     /// [`Painter::paint_session`] loads them. Each raw word is below 2^24.

@@ -16,7 +16,7 @@ pub use Rattle.nit_journal.specs.WholeJournals.{Action, Acts, Calls, Does, IsWho
 pub use Rattle.nit_journal.specs.WholeJournals.{UserAction, action_of, calls_of, done, left}
 pub use Rattle.nit_journal.specs.WholeJournals.{next_phase, phases_along, to_do, user_actions_of}
 pub use Rattle.nit_overlay.specs.Frame.{frame}
-pub use Rattle.nit_paint.specs.Repaint.{IsWordOfSource, no_sight}
+pub use Rattle.nit_paint.specs.Repaint.{IsWordOfSource}
 pub use Rattle.nit_plan.specs.Calls.{calls_from, calls_to_make, user_actions_from}
 pub use Rattle.nit_plan.specs.Calls.{user_actions_to_do}
 pub use Rattle.nit_plan.specs.Plan.{IsPlanOf, PlanModel, is_set_by, plan_of_script, step_of}
@@ -38,9 +38,9 @@ pub use Rattle.nit_rounds.specs.declared.stale.Stale.{Stale}
 pub use Rattle.nit_rounds.specs.declared.turn.Turn.{Turn}
 pub use Rattle.nit_rounds.specs.declared.turn.Turn.TheVariants.{Client, User}
 pub use Rattle.nit_scene.specs.DirtyPixels.{dirty}
-pub use Rattle.nit_scene.specs.RawWords.{AreRaw, Painted, glass_in, glasses_of_call, pixel_count}
+pub use Rattle.nit_scene.specs.RawWords.{AreRaw, Painted, pixel_count}
 pub use Rattle.nit_scene.specs.RawWords.{source_at}
-pub use Rattle.nit_scene.specs.Scene.{IsAdded, SceneModel, state_now}
+pub use Rattle.nit_scene.specs.Scene.{IsAdded, SceneModel, glasses_of_call, state_now}
 pub use Rattle.nit_scene.specs.Screen.{IsGlass}
 pub use Rattle.nit_scene.specs.StateScenery.{scenery_of}
 pub use Rattle.nit_script.specs.Grammar.{most_lines}
@@ -59,6 +59,7 @@ pub use Rattle.nit_store.specs.declared.store.PutError.{PutError}
 pub use Rattle.nit_word.specs.Channels.{bare_word}
 pub use Rattle.nit_word.specs.Inks.{IsWord}
 pub use Rattle.nit_word.specs.Sight.{HasStage, IsLoaded, Sight, inked_sight, seen, told_at}
+pub use Rattle.nit_word.specs.Sights.{glass_in, no_sight}
 pub use Rattle.nit_word.specs.Updates.{is_between, set_where, with_words}
 pub use Rattle.nit_word.specs.Zeros.{zeros}
 pub use Rattle.std.specs.Fmt.{decimal}

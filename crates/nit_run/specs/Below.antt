@@ -87,7 +87,7 @@ pub use Rattle.nit_rounds.specs.TurnActions.{input_lines_of}
 pub use Rattle.nit_run.specs.declared.output.LabelBytes.{LabelBytes}
 pub use Rattle.nit_run.specs.declared.output.Output.{Output}
 pub use Rattle.nit_run.specs.declared.region.Region.{Region}
-pub use Rattle.nit_scene.specs.RawWords.{glass_in, pixel_count, source_at}
+pub use Rattle.nit_scene.specs.RawWords.{pixel_count, source_at}
 pub use Rattle.nit_scene.specs.StateScenery.{scenery_of}
 pub use Rattle.nit_script.specs.Grammar.{most_lines}
 pub use Rattle.nit_script.specs.Phases.{input_phases, is_phase, phases}
@@ -99,6 +99,7 @@ pub use Rattle.nit_stack.specs.Sources.{Word, owner, pixel, point}
 pub use Rattle.nit_store.specs.Files.{HasDifferentNames, have_different_names}
 pub use Rattle.nit_store.specs.Store.{File, IsPut, StoreModel, file_at, with_asked}
 pub use Rattle.nit_word.specs.Sight.{Sight}
+pub use Rattle.nit_word.specs.Sights.{glass_in}
 pub use Rattle.std.specs.Fmt.{decimal}
 pub use Rattle.std.specs.Global.{Global}
 pub use Rattle.std.specs.List.{AllByRecursion, AllZip, flat_map, range_with_len}

@@ -1,3 +1,4 @@
 pub mod SceneLemmas
+pub mod ListedGlasses
 pub mod Basics
 pub mod Lemmas

@@ -53,7 +53,7 @@ scene_of s j raw glasses =
 
 module _ {s : ServerModel} (s' : ServerModel) {entries : List Entry} {spare taken : ℕ} {raw : List ℕ}
     (h : IsScene s entries spare raw taken) (e : Entry) (state_ : state_of s' ≡ after (state_of s) e) where
-  config_ : s'.config ≡ s.config
+  pub config_ : s'.config ≡ s.config
   config_ = ap (λ (t : State). t.config) state_ ∙ same_config (state_of s) e
 
   pub replays : state_of s' ≡ replay s'.config (entries ++ e ∷ [])

@@ -20,10 +20,8 @@ pub use Rattle.nit_journal.specs.Session.{serve}
 pub use Rattle.nit_journal.specs.StackAfter.{is_accepted}
 pub use Rattle.nit_journal.specs.State.{State, after, first_state, route, session, session_in}
 pub use Rattle.nit_overlay.specs.Frame.{Scenery, frame}
-pub use Rattle.nit_paint.specs.Repaint.{no_sight}
-pub use Rattle.nit_repaint.specs.Glasses.{glasses_of_call}
 pub use Rattle.nit_screen.specs.FrameLabels.{IsFrameShown, ShowsLabels}
-pub use Rattle.nit_screen.specs.RawWords.{AreInked, AreRaw, IsRawOf, Painted, glass_in, pixel_count}
+pub use Rattle.nit_screen.specs.RawWords.{AreInked, AreRaw, IsRawOf, Painted, pixel_count}
 pub use Rattle.nit_screen.specs.RawWords.{source_at}
 pub use Rattle.nit_screen.specs.Screen.{AreGlasses, IsGlass}
 pub use Rattle.nit_screen.specs.StateScenery.{scenery_of}
@@ -33,5 +31,6 @@ pub use Rattle.nit_stack.specs.Sources.{Bare, Black, PixelSource, Word, pixel}
 pub use Rattle.nit_word.specs.Channels.{bare_word}
 pub use Rattle.nit_word.specs.Inks.{IsInked, IsWord}
 pub use Rattle.nit_word.specs.Sight.{Sight, stored, told_at}
+pub use Rattle.nit_word.specs.Sights.{glass_in, no_sight, with_glass}
 pub use Rattle.nit_word.specs.Updates.{is_between, set_where, with_words}
 pub use Rattle.std.specs.Prelude.{List, map}

@@ -7,7 +7,7 @@ pub use Rattle.nit_word.specs.Sight
 pub use Rattle.nit_events.specs.Input
 pub use Rattle.nit_events.specs.Ranges
 pub use Rattle.nit_paint.specs.Repaint
-pub use Rattle.nit_repaint.specs.Glasses
+pub use Rattle.nit_word.specs.Sights
 pub use Rattle.nit_repaint.specs.PixelOwners
 pub use Rattle.nit_stack.specs.Stack
 pub use Rattle.nit_journal.specs.Session

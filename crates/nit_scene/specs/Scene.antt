@@ -1,8 +1,9 @@
 -- What contracts see of a scene, and what holds of it.
 use Rattle.std.specs.Prelude.{◌≡◌, ℕ, ◌+◌, ◌-◌, ◌*◌, ◌≤◌, ◌++◌, ◌∷◌, [], List, length, map}
-use Rattle.nit_scene.specs.Below.{AreRaw, Configuration, Entry, IsLegal, IsOpen, Painted}
+use Rattle.nit_scene.specs.Below.{AreGlasses, AreRaw, Configuration, Entry, IsLegal, IsOpen}
+use Rattle.nit_scene.specs.Below.{Painted}
 use Rattle.nit_scene.specs.Below.{ServerModel, Sight, State, glass_in, replay, session_in, shots}
-use Rattle.nit_scene.specs.Below.{state_of}
+use Rattle.nit_scene.specs.Below.{state_of, with_glass}
 use Rattle.nit_events.specs.declared.entry.Entry.TheVariants as entry
 use Rattle.nit_scene.specs.SessionsAlone.{AreAlone}
 
@@ -55,6 +56,16 @@ pub record IsFinished {G C R : Type 0} (sight : C → Sight) (rest : C → R) (o
   pub painted : Painted (state_now before) entry.Final (state_now now)
       (glass_in (map sight owns)) (glass_in (map sight owns')) before.raw now.raw
   pub rests : map rest owns' ≡ map rest owns
+
+-- the glasses of a call: the caller's own for its session, and the scene's for all others
+abbrev pub glasses_of_call : List Sight → ℕ → Sight → ℕ → Sight
+glasses_of_call scene sid own = with_glass (glass_in scene) sid own
+
+-- there is a glass for each session, in order
+pub record AreListedGlasses {G : Type 0} (sight : G → Sight) (config : Configuration)
+    (glasses : List G) : Type 0 where
+  pub each : length glasses ≡ length config.clients
+  pub tables : AreGlasses config (glass_in (map sight glasses))
 
 -- The server is in the state that a legal journal leads to, and the raw words are as the pixels'
 -- sources want them. No session has made more views than there are entries, or lost more than three

@@ -6,12 +6,13 @@ pub use Rattle.nit_scene.specs.Below.{IsRawOf, IsWord, JournalModel, List, Membe
 pub use Rattle.nit_scene.specs.Below.{PixelSource, Reply, Scenery, ServerModel, Session}
 pub use Rattle.nit_scene.specs.Below.{ShowsLabels, Sight, State, Take, View, Word, accepted, after}
 pub use Rattle.nit_scene.specs.Below.{alone, bare_word, by_refusal, deliveries_of, first_session}
-pub use Rattle.nit_scene.specs.Below.{first_state, frame, glass_in, glasses_of_call, is_accepted}
+pub use Rattle.nit_scene.specs.Below.{first_state, frame, glass_in, is_accepted}
 pub use Rattle.nit_scene.specs.Below.{is_between, kills, map, member, no_sight, pixel, pixel_count}
 pub use Rattle.nit_scene.specs.Below.{projection, refusal, replay, replies_to, reserved, route}
 pub use Rattle.nit_scene.specs.Below.{routed_as, scenery_of, serve, session, session_in, set_where}
 pub use Rattle.nit_scene.specs.Below.{shots, source_at, spare, state_of, stored, told_at}
-pub use Rattle.nit_scene.specs.Below.{views_in_use, with_words}
-pub use Rattle.nit_scene.specs.Scene.{CanAdd, IsAdded, IsFinished, IsScene, IsShot, SceneModel}
-pub use Rattle.nit_scene.specs.Scene.{state_now}
+pub use Rattle.nit_scene.specs.Below.{views_in_use, with_glass, with_words}
+pub use Rattle.nit_scene.specs.Scene.{AreListedGlasses, CanAdd, IsAdded, IsFinished, IsScene}
+pub use Rattle.nit_scene.specs.Scene.{IsShot, SceneModel}
+pub use Rattle.nit_scene.specs.Scene.{glasses_of_call, state_now}
 pub use Rattle.nit_scene.specs.SessionsAlone.{FollowPresses}

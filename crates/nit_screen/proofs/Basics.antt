@@ -8,21 +8,21 @@ pub use Rattle.nit_paint.proofs.ForCallers.{repainted_same, repainted_words}
 pub use Rattle.nit_place.proofs.ForCallers.{apart, fits_within, name_both, pixel_owned}
 pub use Rattle.nit_repaint.proofs.ForCallers.{all_of_session, all_painted, all_taken, find_moved}
 pub use Rattle.nit_repaint.proofs.ForCallers.{goes, goes_painted, gone_change, gone_painted}
-pub use Rattle.nit_repaint.proofs.ForCallers.{gone_room, held_by_all, nobody_calls, none_left}
+pub use Rattle.nit_repaint.proofs.ForCallers.{gone_room, none_left}
 pub use Rattle.nit_repaint.proofs.ForCallers.{nothing_spanned, painted_more, part_of_session}
 pub use Rattle.nit_repaint.proofs.ForCallers.{place_changed, seat_here, stays, stays_clean}
 pub use Rattle.nit_repaint.proofs.ForCallers.{taken_held, taken_more, taken_none, without_changed}
 pub use Rattle.nit_repaint.proofs.ForCallers.{without_moved, without_none}
 pub use Rattle.nit_screen.specs.Terms.{Above, Agrees, AllByRecursion, AreBelowNext, AreInked}
-pub use Rattle.nit_screen.specs.Terms.{AreLabelsApart, AreLive, ArePixels, AreRaw, AreSet, Back}
+pub use Rattle.nit_screen.specs.Terms.{AreGlasses, AreLabelsApart, AreLive, ArePixels, AreRaw, AreSet, Back}
 pub use Rattle.nit_screen.specs.Terms.{Bare, Buffer, Call, CanAccept, CanRepaint, CanServe, CanShow}
 pub use Rattle.nit_screen.specs.Terms.{CanShowBy, Close, Configuration, Delivery, Destroy, Device}
 pub use Rattle.nit_screen.specs.Terms.{Entry, Event, Flat, Front, HaveOwnNames, HoldBuffers}
 pub use Rattle.nit_screen.specs.Terms.{InputState, IsAmongLoads, IsCallShown, IsClean, IsCopied}
-pub use Rattle.nit_screen.specs.Terms.{IsForgottenIfKilled, IsFrameOf, IsGlass, IsGlassOf}
+pub use Rattle.nit_screen.specs.Terms.{IsForgottenIfKilled, IsFrameOf, IsGlass}
 pub use Rattle.nit_screen.specs.Terms.{IsInkedBy, IsKillAlone, IsLabelShown, IsLabelled, IsLegal}
 pub use Rattle.nit_screen.specs.Terms.{IsLive, IsNamedBy, IsNewlyNamed, IsOn, IsPartOf, IsPartShown}
-pub use Rattle.nit_screen.specs.Terms.{IsQuiet, IsRawOf, IsRemovedFrom, IsRepaint, IsScreen}
+pub use Rattle.nit_screen.specs.Terms.{IsQuiet, IsRawOf, IsRemovedFrom, IsRepaint}
 pub use Rattle.nit_screen.specs.Terms.{IsServed, IsServer, IsShown, IsSlotView, IsStack}
 pub use Rattle.nit_screen.specs.Terms.{IsViewChange, IsWord, IsWordOfSource, Item, KeepsPainter}
 pub use Rattle.nit_screen.specs.Terms.{LegalFrom, MeanSame, Mode, NoPair, Offset, Painted, Painter}
@@ -35,7 +35,7 @@ pub use Rattle.nit_screen.specs.Terms.{after_deliveries, after_delivery, bar_row
 pub use Rattle.nit_screen.specs.Terms.{bare_word, black_or_word, buffer_size, by_life, by_refusal}
 pub use Rattle.nit_screen.specs.Terms.{changed, covering, covers, delivered, deliveries_of, dirty}
 pub use Rattle.nit_screen.specs.Terms.{dirty_by_call, dot, draws_labels, ended, first_session}
-pub use Rattle.nit_screen.specs.Terms.{first_state, fits, forget, frame, glass_in, glasses_of_call}
+pub use Rattle.nit_screen.specs.Terms.{first_state, fits, forget, frame}
 pub use Rattle.nit_screen.specs.Terms.{has_dot, in_bar, ink_of, input_after_call, is_accepted}
 pub use Rattle.nit_screen.specs.Terms.{is_in_picture, is_kill, is_killed, is_named, is_of_session}
 pub use Rattle.nit_screen.specs.Terms.{is_owner, is_session, is_slot, is_view, is_word_in}
@@ -77,7 +77,7 @@ pub use Rattle.std.proofs.lemmas.Bool.{false≢true, or_parts}
 pub use Rattle.std.proofs.lemmas.Bool.Decides.{nat_tests}
 pub use Rattle.std.proofs.lemmas.Int.{ints}
 pub use Rattle.std.proofs.lemmas.List.{drop-replicate, get_or-append_right, get_or-replicate}
-pub use Rattle.std.proofs.lemmas.List.{get_or_append_left, get_or_read, length-map}
+pub use Rattle.std.proofs.lemmas.List.{get_or_append_left, get_or_past, get_or_read, length-map}
 pub use Rattle.std.proofs.lemmas.List.{length-replicate, map-set, replicate-append-replicate}
 pub use Rattle.std.proofs.lemmas.List.{set-get_or}
 pub use Rattle.std.proofs.lemmas.List.Elements.{All-append, All-drop, All-filter, All-head, All-nil}

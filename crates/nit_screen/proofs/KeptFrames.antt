@@ -9,7 +9,7 @@ use Rattle.nit_screen.proofs.Basics.{ServerModel, Sight, Size, StackModel, State
 use Rattle.nit_screen.proofs.Basics.{Upgrade, Word, after, after_accepted, and-false, bar_rows}
 use Rattle.nit_screen.proofs.Basics.{bar_word, bare_word, black_or_word, buffer_size, deliveries_of}
 use Rattle.nit_screen.proofs.Basics.{dirty, dirty_by_call, flat_same, flat_shown, frame}
-use Rattle.nit_screen.proofs.Basics.{glasses_of_call, gone_room, in_bar, is_accepted, is_slot}
+use Rattle.nit_screen.proofs.Basics.{gone_room, in_bar, is_accepted, is_slot}
 use Rattle.nit_screen.proofs.Basics.{layer, length-frame, length-map, nat_tests, other_count, owner}
 use Rattle.nit_screen.proofs.Basics.{painted_more, pixel, pixel_count, refusal, renewed}
 use Rattle.nit_screen.proofs.Basics.{repainted_none, route, scenery_of, serve, session, shown}
@@ -157,14 +157,14 @@ part_stays layers sid part other r stack on = absurd on
 -- ---- what a frame is made by
 
 -- it stays where the server keeps its configuration and its slots, and the words of the pixels were loaded
-pub can_still : {G : Type 0} (s s' : ServerModel) (p : Pixels G) (painter : Painter G) → s'.config ≡ s.config
+pub can_still : (s s' : ServerModel) (p : Pixels) (painter : Painter) → s'.config ≡ s.config
     → s'.stack.most ≡ s.stack.most → length painter.raw.items ≡ length p.painter.raw.items
     → All IsWord painter.raw.items → painter.cutter.room ≡ p.painter.cutter.room → CanShowBy s p
     → CanShowBy s' (record p { painter = painter })
 can_still s s' p painter config most long words room_ h = grind (arith, nat_tests)
 
 -- and where nothing was loaded
-pub can_stay : {G : Type 0} (s s' : ServerModel) (p : Pixels G) → s'.config ≡ s.config
+pub can_stay : (s s' : ServerModel) (p : Pixels) → s'.config ≡ s.config
     → s'.stack.most ≡ s.stack.most → CanShowBy s p → CanShowBy s' p
 can_stay s s' p config most h = can_still s s' p p.painter config most refl h.words refl h
 
@@ -270,57 +270,40 @@ quiet_stays layers sid other r stack is = absurd is
 
 -- ==== What a painter loads again, told by one record.
 
--- lists that look alike are equally long
-pub as_many_as : {G R : Type 0} (rest : G → R) (gs gs' : List G) → map rest gs' ≡ map rest gs → length gs' ≡ length gs
-as_many_as rest gs gs' same = sym (length-map gs' rest) ∙ ap length same ∙ length-map gs rest
-
 -- a painter can still load where one more view is gone
-pub can_paint_gone : {G : Type 0} (glasses : ℕ → Sight) (s s' : StackModel) (k : ℕ) (p : Painter G)
-    → s' ≡ record s { views = without (is_slot k) s.views } → CanRepaint glasses s p → CanRepaint glasses s' p
-can_paint_gone glasses s s' k p now can =
+pub can_paint_gone : (sights : ℕ → Sight) (s s' : StackModel) (k : ℕ) (p : Painter)
+    → s' ≡ record s { views = without (is_slot k) s.views } → CanRepaint s p sights → CanRepaint s' p sights
+can_paint_gone sights s s' k p now can =
     rw now (record { room = rw now at (gone_room s s' k _ now can.room); pixels = can.pixels; held = can.held })
 
-module _ {G C R S : Type 0} {sight : G → Sight} {rest : G → R} {own_sight : C → Sight} {own_rest : C → S} where
-  -- nothing is loaded
-  pub no_repaint : {source : ℕ → PixelSource} {chosen : ℕ → Bool} {sid : ℕ} {own : C} {p : Painter G}
-      → ((k : ℕ) → chosen k ≡ false) → IsRepaint sight rest own_sight own_rest source chosen sid own own p p
-  no_repaint {source} {chosen} {p = p} none = record {
-    room = refl;
-    painted = repainted_none source chosen (length p.raw.items) _ p.raw.items (λ k l. none k);
-    count = refl;
-    idle = refl;
-    own_stays = refl;
-    rests = refl;
-  }
+-- nothing is loaded
+pub no_repaint : {source : ℕ → PixelSource} {chosen : ℕ → Bool} {sights : ℕ → Sight} {p : Painter}
+    → ((k : ℕ) → chosen k ≡ false) → IsRepaint source chosen sights sights p p
+no_repaint {source} {chosen} {p = p} none = record {
+  painted = repainted_none source chosen (length p.raw.items) _ p.raw.items (λ k l. none k);
+  kept = record { count = refl; room = refl };
+}
 
-  -- one more view of a session is taken away
-  pub repaint_more : {of i sid : ℕ} {before now next : StackModel} {a b c : C} {p q r : Painter G}
-      → IsRemovedFrom of (i + 1) before now → IsRemovedFrom of i now next
-      → IsRepaint sight rest own_sight own_rest (source_of_number (without_session of before))
-      (λ k. uncovered of before now (pixel before.width k)) sid a b p q
-      → IsRepaint sight rest own_sight own_rest (source_of_number (without_session of now))
-      (λ k. uncovered of now next (pixel now.width k)) sid b c q r
-      → IsRepaint sight rest own_sight own_rest (source_of_number (without_session of before))
-      (λ k. uncovered of before next (pixel before.width k)) sid a c p r
-  repaint_more {of} {i} {sid} {before} {now} {next} first then one two = record {
-    room = two.room ∙ one.room;
-    painted = painted_more of i _ before now next _ _ _ _ _ _ first then one.painted
-        (other_count _ _ _ _ _ _ _ _ one.count two.painted);
-    count = two.count ∙ one.count;
-    idle = two.idle ∙ one.idle;
-    own_stays = two.own_stays ∙ one.own_stays;
-    rests = two.rests ∙ one.rests;
-  }
+-- one more view of a session is taken away
+pub repaint_more : {of i : ℕ} {before now next : StackModel} {x y z : ℕ → Sight} {p q r : Painter}
+    → IsRemovedFrom of (i + 1) before now → IsRemovedFrom of i now next
+    → IsRepaint (source_of_number (without_session of before)) (λ k. uncovered of before now (pixel before.width k)) x y
+    p q
+    → IsRepaint (source_of_number (without_session of now)) (λ k. uncovered of now next (pixel now.width k)) y z q r
+    → IsRepaint (source_of_number (without_session of before)) (λ k. uncovered of before next (pixel before.width k)) x z
+    p r
+repaint_more {of} {i} {before} {now} {next} first then one two = record {
+  painted = painted_more of i _ before now next _ _ _ _ _ _ first then one.painted
+      (other_count _ _ _ _ _ _ _ _ one.kept.count two.painted);
+  kept = record { count = two.kept.count ∙ one.kept.count; room = two.kept.room ∙ one.kept.room };
+}
 
-  -- a painter can still load where views were taken away
-  pub can_paint_rest : {of i sid : ℕ} {before now : StackModel} {source : ℕ → PixelSource} {chosen : ℕ → Bool}
-      {a b : C} {p q : Painter G} → IsRemovedFrom of i before now
-      → IsRepaint sight rest own_sight own_rest source chosen sid a b p q
-      → CanRepaint (glasses_of_call (map sight p.glasses.items) sid (own_sight a)) before p
-      → CanRepaint (glasses_of_call (map sight q.glasses.items) sid (own_sight b)) now q
-  can_paint_rest {of} {i} {before = before} {now = now} taken one can = record {
-    room = let m = one.room in let n = taken.fewer in let l = can.room in omega (arith, m, n, l);
-    pixels = one.count ∙ can.pixels ∙ ap (λ (t : StackModel). t.width * t.height) (sym taken.rest);
-    held = taken_held of i _ _ before now _ _ one.painted.loads taken (as_many_as rest _ _ one.rests) one.painted.sights
-        can.held;
-  }
+-- a painter can still load where views were taken away
+pub can_paint_rest : {of i : ℕ} {before now : StackModel} {source : ℕ → PixelSource} {chosen : ℕ → Bool}
+    {x y : ℕ → Sight} {p q : Painter} → IsRemovedFrom of i before now → IsRepaint source chosen x y p q
+    → CanRepaint before p x → CanRepaint now q y
+can_paint_rest {of} {i} {before = before} {now = now} taken one can = record {
+  room = let m = one.kept.room in let n = taken.fewer in let l = can.room in omega (arith, m, n, l);
+  pixels = one.kept.count ∙ can.pixels ∙ ap (λ (t : StackModel). t.width * t.height) (sym taken.rest);
+  held = taken_held of i before now _ _ one.painted.loads taken one.painted.sights can.held;
+}

@@ -126,7 +126,7 @@ flat_raw s bar raw flat is fits many raws =
     by_bar k l false e = grind (arith, nat_tests, get_or-frame, flat_word, bar_first)
 
 -- the frame takes the place of the raw words, in mode Flat
-pub made_one : {G : Type 0} (s : ServerModel) (p : Pixels G) → p.is_apart ≡ true → s.input.mode ≡ Flat
+pub made_one : (s : ServerModel) (p : Pixels) → p.is_apart ≡ true → s.input.mode ≡ Flat
     → ArePixels s p → AreRaw (state_of s) (raw_of p)
     → IsShown s p (record p { painter = record p.painter { raw = p.frame }; frame = p.painter.raw; is_apart = false })
 made_one s p is flat (h, was, apart) raws =
@@ -147,7 +147,6 @@ made_one s p is flat (h, was, apart) raws =
         λ m. cc (ap draws_labels flat),
       );
       raw = rw is back;
-      glasses = refl;
     }
   where
     raw : List ℕ
@@ -204,7 +203,7 @@ module _ (s : State) (bar : ℕ) (raw now : List ℕ) (is : bar ≡ s.config.wid
       ∙ sym (get_or-frame (scenery_of s) (unbarred bar now) k m))
 
 -- so a server's frame can be made of it again
-pub bar_again : {G : Type 0} (s : ServerModel) (p : Pixels G) (painter : Painter G) → p.is_apart ≡ false
+pub bar_again : (s : ServerModel) (p : Pixels) (painter : Painter) → p.is_apart ≡ false
     → s.input.mode ≡ Flat → CanShowBy s p → painter ≡ record p.painter { raw = painter.raw }
     → length painter.raw.items ≡ length p.painter.raw.items
     → ((k : ℕ) → slice_index painter.raw.items k ≡ cond (nat_lt k (s.config.width * bar_rows s.config))
@@ -227,7 +226,6 @@ bar_again s p painter one flat h other long drawn below =
         λ m. cc (ap draws_labels flat),
       );
       raw = rw one same;
-      glasses = ap (λ q. q.glasses) other;
     }
 
 -- ---- a call

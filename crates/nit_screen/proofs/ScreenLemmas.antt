@@ -1,23 +1,23 @@
 -- A stack has room for its views, and as much after a call.
 use Rattle.nit_screen.proofs.Basics.{All-head, All-tail, AllByRecursion, All_found, AreBelowNext}
-use Rattle.nit_screen.proofs.Basics.{AreLive, AreRaw, Call, CanShow, CanShowBy, Configuration}
+use Rattle.nit_screen.proofs.Basics.{AreGlasses, AreLive, AreRaw, Call, CanShow, CanShowBy, Configuration}
 use Rattle.nit_screen.proofs.Basics.{Delivery, Device, Entry, HoldBuffers, InputState}
-use Rattle.nit_screen.proofs.Basics.{IsForgottenIfKilled, IsGlass, IsGlassOf, IsKillAlone, IsLive}
+use Rattle.nit_screen.proofs.Basics.{IsForgottenIfKilled, IsKillAlone, IsLive}
 use Rattle.nit_screen.proofs.Basics.{IsServed, IsServer, IsSlotView, IsStack, Item, NoPair, Painted}
 use Rattle.nit_screen.proofs.Basics.{PixelSource, Pixels, Point, Repainted, Reply, Routed, Routing}
 use Rattle.nit_screen.proofs.Basics.{ServerModel, Session, Sight, SlotView, StackModel, State}
-use Rattle.nit_screen.proofs.Basics.{Status, View, after, bar_rows, buffer_size, by_life, cases_eq}
+use Rattle.nit_screen.proofs.Basics.{Status, View, after, bar_rows, buffer_size, by_life, cases_lt}
 use Rattle.nit_screen.proofs.Basics.{client_kept, covers, deliveries_of, dirty, false_from_ne_true}
 use Rattle.nit_screen.proofs.Basics.{first_session, forget, forgotten_again, found_passes}
-use Rattle.nit_screen.proofs.Basics.{found_some, glass_in, glasses_of_call, is_kill, is_killed}
+use Rattle.nit_screen.proofs.Basics.{found_some, get_or_past, is_kill, is_killed}
 use Rattle.nit_screen.proofs.Basics.{is_session, killed_by, killed_in, kills}
 use Rattle.nit_screen.proofs.Basics.{length-le_from_distinct_below, length-map, list_any}
-use Rattle.nit_screen.proofs.Basics.{list_any-map, loads_at, map-set, member, nat_tests, no_sight}
+use Rattle.nit_screen.proofs.Basics.{list_any-map, loads_at, map-set, member, nat_tests}
 use Rattle.nit_screen.proofs.Basics.{no_size, opened, owner_of, pixel, pixel_count, repainted_none}
 use Rattle.nit_screen.proofs.Basics.{repainted_same, route, routed_as, routing_of, same_slot, seen}
 use Rattle.nit_screen.proofs.Basics.{seen_none, session, session_in, session_owns, size_of_buffer}
 use Rattle.nit_screen.proofs.Basics.{source, source_at, source_of, state_of, sum_by-cons}
-use Rattle.nit_screen.proofs.Basics.{table_size, times_shown, unless_it_is, views_closed, views_of}
+use Rattle.nit_screen.proofs.Basics.{times_shown, unless_it_is, views_closed, views_of}
 use Rattle.nit_screen.proofs.Basics.{with_ended, with_opened, with_reopened, with_routed, without}
 use Rattle.nit_screen.proofs.Basics.{word_count}
 use Rattle.std.proofs.Common.{All, Bool, IfSome, List, None, Option, Some, [], ap, arith, cond, eqb}
@@ -73,24 +73,14 @@ pub same_config : {sid : ℕ} {call : Call} {r : Reply} {before after' : ServerM
     → after'.config ≡ before.config
 same_config s = ap (λ (t : State). t.config) s.state
 
--- each session has a glass with a word for each of its buffer's
-pub holds : (s : ServerModel) (glasses : ℕ → Sight) (count : ℕ) → IsServer s → count ≡ length s.config.clients
-    → ((t : ℕ) → t < length s.config.clients → (glasses t).size ≡ table_size (member s.config t).donation)
-    → HoldBuffers s.stack count glasses
-holds s glasses count h count_ sizes_ = λ t l.
-    let sessions_ = rw (ap length h.sizes ∙ length-map s.sessions size_of_buffer) at l in
-    let clients_ = rw h.each at sessions_ in
-    let words = ap word_count (size_at s h t) in
-    (rw count_ clients_, rw (words, sizes_ t clients_) (h.within t sessions_))
-
-pub held_by_glasses : (before after' : ServerModel) (sights : List Sight) (count sid : ℕ) (own : Sight)
-    → IsServer after' → after'.config ≡ before.config
-    → count ≡ length before.config.clients
-    → ((t : ℕ) → t < length before.config.clients → IsGlassOf before t (glass_in sights t)) → IsGlassOf before sid own
-    → HoldBuffers after'.stack count (glasses_of_call sights sid own)
-held_by_glasses before after' sights count sid own h config_ count_ tables own_ =
-    holds after' (glasses_of_call sights sid own) count h (rw config_ count_)
-    (λ t l. rw config_ (grind (arith, nat_tests, own_.1, (tables t (rw config_ at l)).1)))
+-- each session has a word for each of its buffer's
+pub holds : (s : ServerModel) (sights : ℕ → Sight) → IsServer s → AreGlasses s.config sights → HoldBuffers s.stack sights
+holds s sights h all t = elim (cases_lt t (length s.stack.sizes)) [
+  | inl l ↦
+      let sessions_ = rw (ap length h.sizes ∙ length-map s.sessions size_of_buffer) at l in
+      rw (ap word_count (size_at s h t), (all t (rw h.each at sessions_)).1) (h.within t sessions_)
+  | inr past ↦ rw (get_or_past s.stack.sizes t no_size past) (omega arith)
+]
 
 -- all pixels loaded again are those of the last picture
 pub painted_whole : (s : ServerModel) (n : ℕ) (glasses glasses' : ℕ → Sight) (raw raw' : List ℕ) → IsServer s
@@ -273,7 +263,7 @@ clean_seen source is_marked n a b raw raw' clean painted t =
 -- ==== What holds of a screen stays so when a session, of which nothing is left, opens again.
 
 -- a frame can still be made, with the new label
-pub can_relabel : {G : Type 0} (mid s' : ServerModel) (sid : ℕ) (label : List ℕ) (p : Pixels G)
+pub can_relabel : (mid s' : ServerModel) (sid : ℕ) (label : List ℕ) (p : Pixels)
     → s' ≡ with_opened sid label mid → CanShowBy mid p
     → CanShow s' p.painter.raw.items (length p.frame.items) (vec_capacity p.frame) p.painter.cutter.room
     (set p.labels.texts.items sid label) (length p.labels.places.items) p.bar
@@ -294,25 +284,3 @@ same_source s mid s' sid label over is lt =
 
     sizes : buffer_size (set mid.sessions sid fresh) ≡ buffer_size mid.sessions
     sizes = λ i t. alike_at size_of mid.sessions sid fresh (sym none) t i
-
--- each session has its glass as before
-pub tables_stay : (s mid s' : ServerModel) (sid : ℕ) (label : List ℕ) (sights sights' : List Sight) (loads : ℕ
-    → List (ℕ × ℕ)) → IsServer s → mid ≡ with_ended sid status.Killed s → s' ≡ with_opened sid label mid
-    → sid < length s.sessions
-    → ((t : ℕ) → glass_in sights' t ≡ seen (glass_in sights t) (loads t))
-    → ((t : ℕ) → t < length s.config.clients → IsGlassOf s t (glass_in sights t))
-    → (t : ℕ) → t < length s'.config.clients → IsGlassOf s' t (glass_in sights' t)
-tables_stay s mid s' sid label sights sights' loads h over is lt seen_ tables t l =
-    let old = tables t (rw (is, over, length-set) at l) in
-    let kept = client_kept s.config sid label (λ m. m.donation) refl t (rw h.each at lt) in
-    (rw (seen_ t) old.0, rw (seen_ t, is, over, kept) old.1)
-
--- each session has a glass of its own when one of them is exchanged for another of its session
-pub exchanged : {G : Type 0} (sight : G → Sight) (config : Configuration) (glasses : List G) (sid : ℕ) (x : G)
-    → IsGlass config sid (sight x) → sid < length glasses
-    → ((t : ℕ) → t < length config.clients → IsGlass config t (glass_in (map sight glasses) t)) → (t : ℕ)
-    → t < length config.clients → IsGlass config t (glass_in (map sight (set glasses sid x)) t)
-exchanged sight config glasses sid x is inside tables t l = rw map-set (elim (cases_eq t sid) [
-  | inl e ↦ rw (e, get_or-set_same (map sight glasses) sid (sight x) no_sight (rw length-map inside)) is
-  | inr other ↦ rw (get_or-set_other (map sight glasses) sid t (sight x) no_sight other) (tables t l)
-])

@@ -35,15 +35,14 @@ pub use Rattle.nit_overlay.specs.Frame.{Scenery, bar_word, frame, has_dot, ink_o
 pub use Rattle.nit_overlay.specs.Frame.{label_place_of, owner_word, shown, view_text, view_word}
 pub use Rattle.nit_overlay.specs.Look.{draws_labels, pixel_at}
 pub use Rattle.nit_paint.specs.FrameCopy.{AreSet, IsCopied}
-pub use Rattle.nit_paint.specs.Pieces.{source_of_number}
-pub use Rattle.nit_paint.specs.Repaint.{IsAmongLoads, IsWordOfSource, Repainted, loads_at, no_sight}
+pub use Rattle.nit_paint.specs.Pieces.{HoldBuffers, source_of_number}
+pub use Rattle.nit_paint.specs.Repaint.{IsAmongLoads, IsWordOfSource, Repainted, loads_at}
 pub use Rattle.nit_paint.specs.Repaint.{times_shown}
 pub use Rattle.nit_rect.specs.Intersection.{IsApart}
 pub use Rattle.nit_rect.specs.Limits.{most_slots}
 pub use Rattle.nit_rect.specs.Rectangle.{Rectangle, covers, is_rectangle, rectangle, spans}
 pub use Rattle.nit_rect.specs.declared.point.Point.{Point}
-pub use Rattle.nit_repaint.specs.Glasses.{HoldBuffers, glasses_of_call}
-pub use Rattle.nit_repaint.specs.Painting.{CanRepaint, IsOnlyCut, KeepsPainter}
+pub use Rattle.nit_repaint.specs.Painting.{CanRepaint, IsOnlyCut, IsRepaint, KeepsPainter}
 pub use Rattle.nit_repaint.specs.PixelOwners.{is_word_in, owner_passes, source_in}
 pub use Rattle.nit_repaint.specs.ViewChange.{IsViewChange, slot_owns_either}
 pub use Rattle.nit_repaint.specs.ViewRemoval.{IsRemovedFrom, uncovered, without_session}
@@ -69,8 +68,8 @@ pub use Rattle.nit_stack.specs.declared.view.View.{View}
 pub use Rattle.nit_stack.specs.declared.view.ViewRef.{ViewRef}
 pub use Rattle.nit_word.specs.Channels.{bare_word}
 pub use Rattle.nit_word.specs.Inks.{IsInked, IsWord}
-pub use Rattle.nit_word.specs.Sight.{Sight, seen, stored, told_at}
-pub use Rattle.nit_word.specs.Updates.{is_between, set_where, with_words}
+pub use Rattle.nit_word.specs.Sight.{Sight, seen}
+pub use Rattle.nit_word.specs.Sights.{no_sight}
 pub use Rattle.std.specs.List.{AllByRecursion, list_any, position_or_len, range_with_len}
 pub use Rattle.std.specs.Option.{option_map_or}
 pub use Rattle.std.specs.Prelude.{AllPairs, IfSome, IsTrue, Some, drop, false, length, map}

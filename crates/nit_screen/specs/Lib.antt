@@ -3,7 +3,7 @@ pub use Rattle.nit_word.specs.Sight
 pub use Rattle.nit_events.specs.Input
 pub use Rattle.nit_events.specs.Ranges
 pub use Rattle.nit_paint.specs.Repaint
-pub use Rattle.nit_repaint.specs.Glasses
+pub use Rattle.nit_word.specs.Sights
 pub use Rattle.nit_repaint.specs.PixelOwners
 pub use Rattle.nit_stack.specs.Stack
 pub use Rattle.nit_journal.specs.Session
@@ -18,7 +18,6 @@ pub mod CallKinds
 pub mod DirtyPixels
 pub mod FrameLabels
 pub mod LabelSlots
-pub mod Painting
 pub mod Pixels
 pub mod RawWords
 pub mod Screen

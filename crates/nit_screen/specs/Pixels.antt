@@ -15,11 +15,11 @@ unbarred bar words = replicate bar bare_word ++ drop bar words
 abbrev pub raw_in : Bool → ℕ → List ℕ → List ℕ
 raw_in is_apart bar words = if is_apart then words else unbarred bar words
 
-abbrev pub raw_of : {G : Type 0} → Pixels G → List ℕ
+abbrev pub raw_of : Pixels → List ℕ
 raw_of p = raw_in p.is_apart p.bar p.painter.raw.items
 
 -- the frame: a list of its own where the raw words stand apart from it, or the list that is both
-abbrev pub kept_frame : {G : Type 0} → Pixels G → List ℕ
+abbrev pub kept_frame : Pixels → List ℕ
 kept_frame p = if p.is_apart then p.frame.items else p.painter.raw.items
 
 -- A frame can be made: a word below 2^24 for each pixel, room for as many words of a frame apart,
@@ -49,35 +49,32 @@ ShowsBelow s words =
     → shown_by s words k ≡ slice_index words k
 
 -- the pixels have all that a frame of the server is made by
-abbrev pub CanShowBy : {G : Type 0} → ServerModel → Pixels G → Type 0
+abbrev pub CanShowBy : ServerModel → Pixels → Type 0
 CanShowBy s p =
     CanShow s p.painter.raw.items (length p.frame.items) (vec_capacity p.frame)
     p.painter.cutter.room p.labels.texts.items
     (length p.labels.places.items) p.bar
 
 -- the frame is the one of the server's state and of the raw words
-abbrev pub IsFrameOf : {G : Type 0} → ServerModel → Pixels G → Type 0
+abbrev pub IsFrameOf : ServerModel → Pixels → Type 0
 IsFrameOf s p = kept_frame p ≡ frame (scenery_of (state_of s)) (raw_of p)
 
 -- and so it is; where labels are drawn, the raw words stand apart
-abbrev pub ArePixels : {G : Type 0} → ServerModel → Pixels G → Type 0
+abbrev pub ArePixels : ServerModel → Pixels → Type 0
 ArePixels s p =
     CanShowBy s p × IsFrameOf s p × (IsTrue (draws_labels s.input.mode) → p.is_apart ≡ true)
 
--- All is shown: the frame is the one of the server's state and of the raw words. These are as they
--- were, and so are the glasses.
-pub record IsShown {G : Type 0} (s : ServerModel) (before now : Pixels G) : Type 0 where
+-- All is shown: the frame is the one of the server's state and of the raw words, which are as they
+-- were.
+pub record IsShown (s : ServerModel) (before now : Pixels) : Type 0 where
   pub pixels : ArePixels s now
   pub raw : raw_of now ≡ raw_of before
-  pub glasses : now.painter.glasses ≡ before.painter.glasses
 
 -- The chosen pixels of a frame apart were set to what is shown there, and nothing else changed that
 -- a frame is made by.
-pub record IsPartShown {G : Type 0} (s : ServerModel) (chosen : ℕ → Bool)
-    (before now : Pixels G) : Type 0 where
+pub record IsPartShown (s : ServerModel) (chosen : ℕ → Bool) (before now : Pixels) : Type 0 where
   pub can : CanShowBy s now
   pub raw : now.painter.raw ≡ before.painter.raw
-  pub glasses : now.painter.glasses ≡ before.painter.glasses
   pub kept : (now.is_apart ≡ before.is_apart) × (now.bar ≡ before.bar)
   pub shown : AreSet chosen (length now.painter.raw.items)
       (shown_by (state_of s) now.painter.raw.items) before.frame.items now.frame.items

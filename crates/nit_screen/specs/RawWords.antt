@@ -2,7 +2,6 @@
 use Rattle.std.specs.Prelude.{◌≡◌, ℕ, ◌*◌, ◌<◌, List, map, slice_index, slice_index_or}
 use Rattle.nit_screen.specs.Below.{Bare, Black, Entry, IsInked, IsWord, PixelSource, Repainted}
 use Rattle.nit_screen.specs.Below.{Sight, State, Word, bare_word, pixel, range_with_len, source_of}
-pub use Rattle.nit_repaint.specs.Glasses.{glass_in, glasses_of_call}
 use Rattle.nit_screen.specs.DirtyPixels.{dirty}
 
 -- how many pixels the screen of a state has

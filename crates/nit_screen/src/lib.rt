@@ -4,9 +4,11 @@
 //! A [`Screen`] keeps a [`Server`](nit_server::Server), the raw word of each pixel, and the frame
 //! that they make. A call of a session, a device event and the last picture are each one step from
 //! the state before to the state after, as the definitions of the journal have it. Exactly the
-//! pixels that a step makes dirty are loaded again, each once, by its source in the state after it:
-//! a session's own pixels through the glass that it hands in with its call, all others through the
-//! screen's glasses. Pixels that are not dirty keep their source and their word ([`laws`]).
+//! pixels that a step makes dirty are loaded again, each once, by its source in the state after it,
+//! through the words of all sessions that are handed in with the step ([`Glasses`]). Pixels that
+//! are not dirty keep their source and their word ([`laws`]).
+//!
+//! [`Glasses`]: nit_word::Glasses
 //!
 //! All memory is taken by [`Screen::new`]. A refused call changes nothing.
 //!

@@ -1,10 +1,9 @@
 //! The screen with all that it shows.
 
-ghost use Rattle.std.specs.Prelude.{◌≡◌, ◌*◌, All, length, map};
-ghost use Rattle.nit_screen.specs.Terms.{AreGlasses, IsServer, IsWord};
+ghost use Rattle.std.specs.Prelude.{◌≡◌, ◌*◌, All, length};
+ghost use Rattle.nit_screen.specs.Terms.{IsServer, IsWord};
 
 mod calls;
-mod drawing;
 mod frames;
 mod input;
 mod labels;
@@ -18,34 +17,27 @@ mod views;
 
 use crate::screen::pixels::Pixels;
 use nit_server::Server;
-use nit_word::Glass;
 use std::marker::Model;
 
 /// The server with the words that its screen shows, and with what they are loaded again by.
 #[derive(Drop)]
-pub struct Screen<G: Glass + Drop> {
+pub struct Screen {
     pub(crate) server: Server,
-    pub(crate) pixels: Pixels<G>,
+    pub(crate) pixels: Pixels,
 }
 
-impl<G: Glass + Drop> Model for Screen<G> {
-    ghost use Rattle.std.specs.Prelude.{map};
-    ghost use Rattle.nit_screen.specs.Pixels.{raw_of};
-    ghost use Rattle.nit_screen.specs.Screen.{IsScreen, ScreenModel};
+impl Model for Screen {
+    ghost use Rattle.nit_screen.specs.Pixels.{ArePixels, raw_of};
+    ghost use Rattle.nit_screen.specs.Screen.{ScreenModel};
 
-    ghost Value = { ScreenModel G };
+    ghost Value = { ScreenModel };
 
-    ghost view = { λ s. record {
-      serving = s.server;
-      raw = raw_of s.pixels;
-      glasses = s.pixels.painter.glasses.items;
-    } };
+    ghost view = { λ s. record { serving = s.server; raw = raw_of s.pixels } };
 
-    ghost invariant = { λ s. IsScreen s.server (map G.sight s.pixels.painter.glasses.items)
-        s.pixels };
+    ghost invariant = { λ s. ArePixels s.server s.pixels };
 }
 
-impl<G: Glass + Drop> Screen<G> {
+impl Screen {
     /// The server.
     pub fn server(&self) -> &Server
         ensures server { result.now ≡ self.now.serving }
@@ -61,7 +53,6 @@ impl<G: Glass + Drop> Screen<G> {
         ensures words { All IsWord self.now.raw }
         ensures pixels { length self.now.raw
             ≡ self.now.serving.config.width * self.now.serving.config.height }
-        ensures glasses { AreGlasses G.sight self.now.serving.config self.now.glasses }
     {
         let _ = &self.pixels;
         self.server.facts();

@@ -1,2 +1,3 @@
 pub mod LookLemmas
 pub mod OpeningLemmas
+pub mod PaintLemmas

@@ -8,6 +8,7 @@ pub mod UpdateLemmas
 pub mod SideBySide
 pub mod ZeroLemmas
 pub mod RowPlaces
+pub mod SessionSights
 pub mod ForCallers
 pub mod Basics
 pub mod Lemmas

@@ -1,6 +1,8 @@
 -- The words that clauses use: those that come from outside, and those of this crate.
 pub use Rattle.nit_word.specs.Below.{enumerate_from, list_any, option_map, slice_index}
 pub use Rattle.nit_word.specs.Channels.{dim, tint}
+pub use Rattle.nit_word.specs.Sights.{BesideRest, LentRest, glass_in, loads_in_row, no_sight}
+pub use Rattle.nit_word.specs.Sights.{with_glass}
 pub use Rattle.nit_word.specs.Inks.{AreInkedBetween, Colours, Ink, IsAmong, IsInked, IsOfColours}
 pub use Rattle.nit_word.specs.Inks.{IsWord, Stages}
 pub use Rattle.nit_word.specs.Sight.{HasStage, HaveWords, IsLoaded, IsLoadedRow, MayHold}

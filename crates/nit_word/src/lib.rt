@@ -12,6 +12,7 @@
 #![tactic(auto)]
 
 mod glass;
+mod glasses;
 mod inked;
 mod plain;
 mod setting;
@@ -19,6 +20,7 @@ mod shade;
 mod words;
 
 pub use glass::Glass;
+pub use glasses::{Beside, Glasses, Lent};
 pub use inked::Inked;
 pub use plain::Plain;
 pub use shade::{dim, dim_row, tint, tint_row};

@@ -22,7 +22,6 @@ impl Scene<Inked> {
               (slice_index_or self.old.glasses sid no_sight));
         } }
     {
-        self.screen.facts();
-        self.screen.draw_row(sid, from, to, own);
+        self.glasses[sid as usize].copy(from, to, own);
     }
 }

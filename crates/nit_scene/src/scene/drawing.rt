@@ -18,7 +18,6 @@ impl Scene<Inked> {
               (stored (slice_index_or self.old.glasses sid no_sight) i w);
         } }
     {
-        self.screen.facts();
-        self.screen.draw(sid, i, w);
+        self.glasses[sid as usize].store(i, w);
     }
 }

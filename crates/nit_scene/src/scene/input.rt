@@ -43,7 +43,7 @@ impl<G: Glass + Drop> Scene<G> {
         isolation();
         releases_follow_presses();
         deliveries_go_to_live_sessions();
-        let routed = self.screen.input(dev);
+        let routed = self.screen.input(dev, &mut self.glasses);
         self.journal.append(Entry::Input { dev, routed });
         routed
     }

@@ -1,7 +1,7 @@
 //! A scene before its first entry.
 
 ghost use Rattle.std.specs.Prelude.{◌≡◌, ◌+◌, ◌≤◌, IfOk, ◌*◌, [], replicate};
-ghost use Rattle.nit_scene.specs.Terms.{AreGlasses, IsConfiguration, bare_word, shots, spare};
+ghost use Rattle.nit_scene.specs.Terms.{AreListedGlasses, IsConfiguration, bare_word, shots, spare};
 
 use crate::scene::Scene;
 use nit_config::Config;
@@ -24,7 +24,7 @@ impl<G: Glass + Drop> Scene<G> {
     ) -> Result<Scene<G>, NoMemory>
         requires config { IsConfiguration config.now }
         requires room { room ≤ 1114113 }
-        requires glasses { AreGlasses G.sight config.now glasses.items }
+        requires glasses { AreListedGlasses G.sight config.now glasses.items }
         ensures { IfOk result (λ s. s ≡ record {
           config = config.now;
           entries = [];
@@ -33,10 +33,11 @@ impl<G: Glass + Drop> Scene<G> {
           glasses = glasses.items;
         }) }
     {
-        let screen = Screen::new(alloc, config, glasses)?;
+        let screen = Screen::new(alloc, config)?;
         let journal = Journal::with_room(alloc, room)?;
         Ok(Scene {
             screen,
+            glasses,
             journal,
             shots: 0,
         })

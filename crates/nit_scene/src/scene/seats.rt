@@ -5,6 +5,7 @@ ghost use Rattle.nit_scene.specs.Terms.{IsGlass};
 
 use crate::scene::Scene;
 use nit_word::Glass;
+use std::mem::swap;
 
 impl<G: Glass + Drop> Scene<G> {
     /// The scene's glass for the session `sid` and `glass`, which is one of the session too, change
@@ -18,7 +19,6 @@ impl<G: Glass + Drop> Scene<G> {
         ensures out { slice_get self.old.glasses sid ≡ Some glass.new }
         ensures glass { IsGlass self.old.config sid (G.sight glass.new) }
     {
-        self.screen.facts();
-        self.screen.exchange(sid, glass);
+        swap(&mut self.glasses[sid as usize], glass);
     }
 }

@@ -5,9 +5,8 @@ ghost use Rattle.nit_screen.specs.Terms.{IsWord, frame, scenery_of, state_of};
 
 use crate::screen::Screen;
 use nit_overlay::laws::frame_pixels;
-use nit_word::Glass;
 
-impl<G: Glass + Drop> Screen<G> {
+impl Screen {
     /// The frame, as it is kept.
     pub fn frame(&self) -> &[u32]
         ensures frame { result.now ≡ frame (scenery_of (state_of self.now.serving)) self.now.raw }

@@ -1,8 +1,9 @@
 //! What the user does, and exactly the pixels that it makes dirty.
 
-ghost use Rattle.std.specs.Prelude.{◌≡◌, ◌+◌, ◌-◌, ◌<◌, All, false, Some, map};
-ghost use Rattle.nit_screen.specs.Terms.{IsDevice, IsLive, MayLose, Painted, after, deliveries_of};
-ghost use Rattle.nit_screen.specs.Terms.{glass_in, kills, route, routed_as, routing_of, state_of};
+ghost use Rattle.std.specs.Prelude.{◌≡◌, ◌+◌, ◌-◌, ◌<◌, All, false, Some};
+ghost use Rattle.nit_screen.specs.Terms.{AreGlasses, IsDevice, IsLive, MayLose, Painted, after};
+ghost use Rattle.nit_screen.specs.Terms.{deliveries_of, kills, route, routed_as, routing_of};
+ghost use Rattle.nit_screen.specs.Terms.{state_of};
 ghost use Rattle.nit_events.specs.declared.entry.Entry.TheVariants as entry;
 ghost use Rattle.nit_events.specs.declared.event.Status.TheVariants as status;
 
@@ -11,26 +12,26 @@ use crate::screen::sessions::kill_session;
 use nit_events::{Device, Routed};
 use nit_journal::laws::kills_stand_alone;
 use nit_server::killed;
-use nit_word::Glass;
+use nit_word::Glasses;
 
-impl<G: Glass + Drop> Screen<G> {
+impl Screen {
     /// Serves a device event. Exactly the pixels of a session that is locked out are loaded again.
-    pub fn input(&mut self, dev: Device) -> Routed
+    pub fn input<L: Glasses>(&mut self, dev: Device, glasses: &mut L) -> Routed
         requires device { IsDevice dev }
         requires live { All (λ d. IsLive (state_of self.old.serving) d.sid)
             (routing_of self.old.serving dev).deliveries }
         requires lost { MayLose 3 self.old.serving }
+        requires glasses { AreGlasses self.old.serving.config (L.sights glasses.old) }
         ensures routed { result ≡ routed_as (routing_of self.old.serving dev).deliveries }
         ensures delivered { deliveries_of result ≡ (routing_of self.old.serving dev).deliveries }
         ensures state { state_of self.new.serving ≡ after (state_of self.old.serving)
             (entry.Input dev result) }
         ensures painted { Painted (state_of self.old.serving) (entry.Input dev result)
-            (state_of self.new.serving)
-            (glass_in (map G.sight self.old.glasses)) (glass_in (map G.sight self.new.glasses))
+            (state_of self.new.serving) (L.sights glasses.old) (L.sights glasses.new)
             self.old.raw self.new.raw }
-        ensures rests { map G.rest self.new.glasses ≡ map G.rest self.old.glasses }
-        ensures quiet { kills (deliveries_of result) ≡ false → (self.new.raw ≡ self.old.raw) ×
-            (self.new.glasses ≡ self.old.glasses) }
+        ensures rest { L.rest glasses.new ≡ L.rest glasses.old }
+        ensures quiet { kills (deliveries_of result) ≡ false
+            → (self.new.raw ≡ self.old.raw) × (glasses.new ≡ glasses.old) }
     {
         kills_stand_alone();
         self.server.facts();
@@ -38,7 +39,7 @@ impl<G: Glass + Drop> Screen<G> {
         let focus = self.server.focus();
         let routed = self.server.route(dev);
         if let Some(sid) = killed(&routed) {
-            kill_session(&mut self.server, sid, &mut self.pixels);
+            kill_session(&mut self.server, sid, &mut self.pixels, glasses);
             return routed;
         }
         self.server.tell_all(&routed);

@@ -43,7 +43,7 @@ pub(crate) fn take_bar_off(raw: &mut Vec<u32>, is_apart: bool, bar: usize)
     bare_first(raw.as_mut_slice(), bar);
 }
 
-impl<G: Drop> Pixels<G> {
+impl Pixels {
     /// In mode Flat, makes the frame the one list of which both are seen.
     pub(crate) fn make_one(&mut self, server: &Server)
         requires pixels { ArePixels server.now self.old }

@@ -1,7 +1,7 @@
 //! A screen before its first entry.
 
 ghost use Rattle.std.specs.Prelude.{◌≡◌, ◌+◌, ◌-◌, ◌<◌, ◌≤◌, None, IfOk, length, ◌*◌, map};
-ghost use Rattle.nit_screen.specs.Terms.{AreGlasses, IsConfiguration, Point, bar_rows, bare_word};
+ghost use Rattle.nit_screen.specs.Terms.{IsConfiguration, Point, bar_rows, bare_word};
 ghost use Rattle.nit_screen.specs.Terms.{false, first_state, most_slots, replicate, state_of};
 ghost use Rattle.nit_screen.specs.Terms.{vec_capacity};
 
@@ -14,41 +14,33 @@ use nit_glyph::Label;
 use nit_rect::{NoMemory, Point};
 use nit_repaint::Painter;
 use nit_server::Server;
-use nit_word::{BARE, Glass};
+use nit_word::BARE;
 use std::alloc::Global;
 
 /// The most views that all sessions together may have.
 const MOST_VIEWS: usize = 1024;
 
-impl<G: Glass + Drop> Screen<G> {
+impl Screen {
     /// A screen of this configuration without any view.
-    pub fn new(alloc: Global, config: &Config, glasses: Vec<G>) -> Result<Screen<G>, NoMemory>
+    pub fn new(alloc: Global, config: &Config) -> Result<Screen, NoMemory>
         requires config { IsConfiguration config.now }
-        requires glasses { AreGlasses G.sight config.now glasses.items }
         ensures state { IfOk result (λ s. state_of s.serving ≡ first_state config.now) }
         ensures raw { IfOk result (λ s. s.raw ≡ replicate
             (config.now.width * config.now.height) bare_word) }
-        ensures glasses { IfOk result (λ s. s.glasses ≡ glasses.items) }
     {
         let server = Server::new(alloc, config)?;
         server.facts();
-        let mut pixels = bare_pixels(alloc, config, glasses, bar_pixels(&server))?;
+        let mut pixels = bare_pixels(alloc, config, bar_pixels(&server))?;
         pixels.show_again(&server);
         Ok(Screen { server, pixels })
     }
 }
 
 /// The pixels of a bare screen in mode Flat, without the bar.
-fn bare_pixels<G: Drop>(
-    alloc: Global,
-    config: &Config,
-    glasses: Vec<G>,
-    bar: usize,
-) -> Result<Pixels<G>, NoMemory>
+fn bare_pixels(alloc: Global, config: &Config, bar: usize) -> Result<Pixels, NoMemory>
     requires { IsConfiguration config.now }
     ensures raw { IfOk result (λ p. p.painter.raw.items
         ≡ replicate (config.now.width * config.now.height) bare_word) }
-    ensures glasses { IfOk result (λ p. p.painter.glasses ≡ glasses) }
     ensures one { IfOk result (λ p. p.is_apart ≡ false) }
     ensures bar { IfOk result (λ p. p.bar ≡ bar) }
     ensures none { IfOk result (λ p. length p.frame.items ≡ 0) }
@@ -66,11 +58,7 @@ fn bare_pixels<G: Drop>(
         texts: labels_of(alloc, config)?,
         places: no_places(alloc)?,
     };
-    let painter = Painter {
-        cutter,
-        raw,
-        glasses,
-    };
+    let painter = Painter { cutter, raw };
     Ok(Pixels {
         painter,
         frame,

@@ -16,16 +16,15 @@ use nit_repaint::Painter;
 use nit_server::Server;
 
 /// The raw word of each pixel of a screen and the frame of them, each row by row from the top, with
-/// what they are loaded and shown by: the glasses and the labels of the sessions, and the places of
-/// the views' labels.
+/// what they are shown by: the labels of the sessions, and the places of the views' labels.
 ///
 /// Where labels are drawn, the raw words stand apart from the frame. In mode Flat one list is both:
 /// the painter's `raw` has the frame, which differs from the raw words in the pixels of the bar
 /// alone, and the words of `frame` have no meaning. So a pixel is written once when it is loaded,
 /// and `frame` is room alone until labels are drawn for the first time.
 #[derive(Drop)]
-pub struct Pixels<G: Drop> {
-    pub painter: Painter<G>,
+pub struct Pixels {
+    pub painter: Painter,
     pub frame: Vec<u32>,
     /// Whether the raw words stand apart from the frame.
     pub is_apart: bool,
@@ -34,7 +33,7 @@ pub struct Pixels<G: Drop> {
     pub labels: Labels,
 }
 
-impl<G: Drop> Pixels<G> {
+impl Pixels {
     /// The frame.
     pub(crate) fn frame(&self) -> &[u32]
         ensures { result.now ≡ kept_frame self.now }
@@ -157,12 +156,7 @@ impl<G: Drop> Pixels<G> {
 }
 
 /// Sets `out` to the whole frame. Where the mode draws labels, their places are worked out first.
-fn frame_of<G: Drop>(
-    server: &Server,
-    painter: &mut Painter<G>,
-    labels: &mut Labels,
-    out: &mut [u32],
-)
+fn frame_of(server: &Server, painter: &mut Painter, labels: &mut Labels, out: &mut [u32])
     requires room { server.now.stack.most ≤ painter.old.cutter.room }
     requires named { labels.old.texts.items ≡ map (λ m. m.label) server.now.config.clients }
     requires placed { server.now.stack.most ≤ length labels.old.places.items }

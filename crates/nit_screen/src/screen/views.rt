@@ -1,39 +1,39 @@
 //! Calls on one view, and exactly the pixels that they make dirty.
 
 ghost use Rattle.nit_screen.specs.Terms.{CanRepaint, CanServe, IsCallShown, IsNamedBy, IsOn};
-ghost use Rattle.nit_screen.specs.Terms.{IsRepaint, SlotView, Some, glasses_of_call, has_view};
-ghost use Rattle.nit_screen.specs.Terms.{is_of_session, map, owner_passes, pixel, place_of};
-ghost use Rattle.nit_screen.specs.Terms.{session_in, slot_view_in, source_of_number};
-ghost use Rattle.nit_screen.specs.Terms.{without_session, without_views};
+ghost use Rattle.nit_screen.specs.Terms.{IsRepaint, SlotView, Some, has_view, is_of_session};
+ghost use Rattle.nit_screen.specs.Terms.{owner_passes, pixel, place_of, session_in, slot_view_in};
+ghost use Rattle.nit_screen.specs.Terms.{source_of_number, without_session, without_views};
 ghost use Rattle.std.specs.Prelude.{◌≡◌, ◌<◌, true, length};
 
 use crate::screen::Screen;
 use nit_events::{Call, Reply};
 use nit_repaint::{Painter, ViewBefore};
 use nit_server::Server;
-use nit_word::Glass;
+use nit_word::Glasses;
 
-impl<G: Glass + Drop> Screen<G> {
+impl Screen {
     /// Serves an accepted call on the view of this handle, and loads again what the view owned
     /// before or owns after.
-    pub(crate) fn change_view<C: Glass>(
+    pub(crate) fn change_view<L: Glasses>(
         &mut self,
         sid: u32,
         handle: u32,
         call: &Call,
-        own: &mut C,
+        glasses: &mut L,
     ) -> Reply
-        requires can { CanServe self.old sid call.now (C.sight own.old) }
+        requires can { CanServe self.old sid call.now (L.sights glasses.old) }
         requires on { IsOn handle call.now }
-        ensures { IsCallShown G.sight G.rest C.sight C.rest sid call.now result own.old own.new
-            self.old self.new }
+        ensures shown { IsCallShown sid call.now result (L.sights glasses.old)
+            (L.sights glasses.new) self.old self.new }
+        ensures rest { L.rest glasses.new ≡ L.rest glasses.old }
     {
         self.server.facts();
         self.pixels.make_one(&self.server);
         let was = view_before(&self.server, sid, handle);
         let reply = self.server.accept(sid, call);
         let stack = self.server.stack();
-        self.pixels.painter.paint_changed(stack, &was, sid, own);
+        self.pixels.painter.paint_changed(stack, &was, glasses);
         self.pixels.show_views(&self.server);
         reply
     }
@@ -66,24 +66,21 @@ fn view_count(server: &Server) -> u32
 
 /// Takes all views of a session away, from the rear one to the front one, and paints what they
 /// uncover.
-pub(crate) fn take_views_away<G: Glass + Drop, C: Glass>(
+pub(crate) fn take_views_away<L: Glasses>(
     server: &mut Server,
     of: u32,
-    painter: &mut Painter<G>,
-    sid: u32,
-    own: &mut C,
+    painter: &mut Painter,
+    glasses: &mut L,
 )
     requires session { of < length server.old.sessions }
-    requires can { CanRepaint
-        (glasses_of_call (map G.sight painter.old.glasses.items) sid (C.sight own.old))
-        server.old.stack painter.old }
+    requires can { CanRepaint server.old.stack painter.old (L.sights glasses.old) }
     ensures left { without_views of server.new ≡ without_views of server.old }
     ensures stack { server.new.stack ≡ without_session of server.old.stack }
     ensures session { of < length server.new.sessions }
-    ensures painted { IsRepaint G.sight G.rest C.sight C.rest
-        (source_of_number (without_session of server.old.stack))
+    ensures painted { IsRepaint (source_of_number (without_session of server.old.stack))
         (λ k. owner_passes (is_of_session of) server.old.stack (pixel server.old.stack.width k))
-        sid own.old own.new painter.old painter.new }
+        (L.sights glasses.old) (L.sights glasses.new) painter.old painter.new }
+    ensures rest { L.rest glasses.new ≡ L.rest glasses.old }
 {
     let mut i = view_count(server);
     'views: while 0 < i {
@@ -98,6 +95,6 @@ pub(crate) fn take_views_away<G: Glass + Drop, C: Glass>(
             place: i,
             rect: view.rect,
         };
-        painter.paint_changed(server.stack(), &was, sid, own);
+        painter.paint_changed(server.stack(), &was, glasses);
     }
 }

@@ -6,18 +6,24 @@ ghost use Rattle.nit_stack.specs.Stack.{IsOnScreen, empty_stack};
 ghost use Rattle.nit_tests.specs.Painted.{one_view};
 
 use crate::checks::same;
-use nit_paint::{paint_bare, paint_view};
+use nit_paint::paint_piece;
 use nit_rect::{Point, Rect};
 use nit_stack::{Piece, Source, Stack, ViewRef};
-use nit_word::{Glass, Inked, Plain};
+use nit_word::{Glasses, Inked, Lent, Plain};
 use std::alloc::Global;
 use std::process::Abort;
 
 /// The screen of 8 by 4 on which one view of 4 by 2 stands at (1, 1), after the view's rectangle
 /// was painted, and what is to the right of it. The view's session has a buffer of 4 by 2.
-fn painted<G: Glass>(rt: &impl Abort, alloc: Global, ox: i32, oy: i32, glass: &mut G) -> [u32; 32]
+fn painted<L: Glasses>(
+    rt: &impl Abort,
+    alloc: Global,
+    ox: i32,
+    oy: i32,
+    glasses: &mut L,
+) -> [u32; 32]
     requires offset { IsPlace ox × IsPlace oy }
-    requires words { 8 ≤ (G.sight glass.old).size }
+    requires words { 8 ≤ (L.sights glasses.old 0).size }
 {
     let Some(viewed) = Rect::new(1, 1, 4, 2) else {
         unreachable!()
@@ -28,7 +34,7 @@ fn painted<G: Glass>(rt: &impl Abort, alloc: Global, ox: i32, oy: i32, glass: &m
     let mut stack = Stack::new(alloc, 8, 4, 1, 1).expect(rt, "memory");
     put_view(&mut stack, viewed, ox, oy);
     let mut raw = [7; 32];
-    paint_pieces(&stack, viewed, beside, ox, oy, &mut raw, glass);
+    paint_pieces(&stack, viewed, beside, ox, oy, &mut raw, glasses);
     raw
 }
 
@@ -45,31 +51,32 @@ fn put_view(stack: &mut Stack, viewed: Rect, ox: i32, oy: i32)
 }
 
 /// Paints both pieces.
-fn paint_pieces<G: Glass>(
+#[tactic(auto, using(crate::proofs::PaintLemmas::all_held))]
+fn paint_pieces<L: Glasses>(
     stack: &Stack,
     viewed: Rect,
     beside: Rect,
     ox: i32,
     oy: i32,
     raw: &mut [u32],
-    glass: &mut G,
+    glasses: &mut L,
 )
     requires stack { stack.now ≡ one_view viewed ox oy }
     requires viewed { viewed ≡ rectangle (pos 1) (pos 1) 4 2 }
     requires beside { beside ≡ rectangle (pos 5) (pos 0) 3 4 }
     requires raw { length raw.old ≡ 32 }
-    requires words { 8 ≤ (G.sight glass.old).size }
+    requires words { 8 ≤ (L.sights glasses.old 0).size }
 {
     let of_view = Piece {
         rect: viewed,
         owner: Some(ViewRef(0)),
     };
-    paint_view(stack, raw, &of_view, glass);
+    paint_piece(stack, raw, &of_view, glasses);
     let bare = Piece {
         rect: beside,
         owner: None,
     };
-    paint_bare(stack, raw, &bare);
+    paint_piece(stack, raw, &bare, glasses);
 }
 
 /// The picture of a buffer that is moved by so much and has another word in each of its pixels.
@@ -77,8 +84,8 @@ fn plain(rt: &impl Abort, alloc: Global, ox: i32, oy: i32) -> [u32; 32]
     requires { IsPlace ox × IsPlace oy }
 {
     let words = vec![in alloc; 11, 12, 13, 14, 21, 22, 23, 24].expect(rt, "memory");
-    let mut glass = Plain::new(0, words);
-    painted(rt, alloc, ox, oy, &mut glass)
+    let glasses = &mut [Plain::new(0, words)];
+    painted(rt, alloc, ox, oy, &mut Lent { glasses })
 }
 
 /// The view moves its buffer by one column: its first column is black, and it shows three columns.
@@ -103,7 +110,7 @@ fn moved_to_the_left_and_up(rt: HostRuntime) {
     let alloc = rt.alloc();
     let ink = vec![in alloc; 255, 256].expect(&rt, "memory");
     let words = vec![in alloc; 255, 255, 255, 255, 256, 0, 255, 256].expect(&rt, "memory");
-    let mut glass = Inked::new(0, words, ink);
+    let glasses = &mut [Inked::new(0, words, ink)];
     #[rattlefmt::skip]
     let want = &[
         7, 7, 7, 7, 7, 32, 32, 32, 7, 0, 255, 256, 0, 32, 32, 32, 7, 0, 0, 0, 0, 32, 32, 32, 7, 7,
@@ -112,7 +119,7 @@ fn moved_to_the_left_and_up(rt: HostRuntime) {
     same(
         &rt,
         "moved to the left and up",
-        &painted(&rt, alloc, -1, -1, &mut glass),
+        &painted(&rt, alloc, -1, -1, &mut Lent { glasses }),
         want,
     );
 }

@@ -7,7 +7,7 @@ use Rattle.nit_paint.proofs.pieces.paint_rows.Goals as goal
 
 pub rows-init : goal.rows-init
 rows-init g c = record {
-  painted = λ source sid others told. rows_none source c.args.block.now _ _ _;
+  painted = λ source told. rows_none source c.args.block.now _ _ _;
   size = refl;
   rest = refl;
 }
@@ -17,19 +17,19 @@ rows-preserved g c =
     let i = c.rows.invariant in
     let e = c.paint_row.ensures in
     record {
-      painted = λ source sid others told.
+      painted = λ source told.
           let start = c.row_start-start.ensures.start
           ∙ ap (λ z. option_map (λ y. y * c.args.size.0) (among z c.args.size.1)) (omega (arith, ints)) in
           rows_more source c.args.block.now c.rows.j _ _ _ _ _ _ _ _ _ _ (omega arith) (omega arith) refl
-          c.requires.long c.rows.auto.raw (i.painted source sid others told)
-          (e.painted source sid others (row_told source _ sid c.args.size.0 c.args.block.now.wide c.args.reach.now _ _
+          c.requires.long c.rows.auto.raw (i.painted source told)
+          (e.painted source (row_told source _ c.args.sid c.args.size.0 c.args.block.now.wide c.args.reach.now _ _
           start c.requires.long (λ k l. told c.rows.j k c.rows-test.true l)));
       size = e.size ∙ i.size;
       rest = e.rest ∙ i.rest;
     }
 
 pub returns-clause-painted : goal.returns-clause-painted
-returns-clause-painted g c source sid others told =
+returns-clause-painted g c source told =
     let same : c.args.row ≡ to_z w32 (of_z w32 c.args.row) = sym (to_z-of_z w32 c.args.row c.ranges.row) in
     let done : c.rows.j ≡ c.args.block.now.tall = omega arith in
-    rw done at (c.rows.invariant.painted source sid others (λ j i l m. rw same at (told j i l m)))
+    rw done at (c.rows.invariant.painted source (λ j i l m. rw same at (told j i l m)))

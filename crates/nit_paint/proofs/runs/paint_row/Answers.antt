@@ -5,16 +5,16 @@ use borrow.Rule.Slice.PartMut.{same_len_mid}
 use Rattle.nit_paint.proofs.runs.paint_row.Goals as goal
 
 pub returns-clause-painted : goal.returns-clause-painted
-returns-clause-painted g c source sid others told =
+returns-clause-painted g c source told =
     let r = c.args.reach.now in
     let s = c.in-Some.start in
     let e = c.load_row.ensures in
-    let shown : (j : ℕ) → j < long r → source (c.args.at + j) ≡ row_source sid r (Some s) j = λ j l. told j l
-    ∙ ap (λ o. row_source sid r o j) c.in-Some.is in
+    let shown : (j : ℕ) → j < long r → source (c.args.at + j) ≡ row_source c.args.sid r (Some s) j = λ j l. told j l
+    ∙ ap (λ o. row_source c.args.sid r o j) c.in-Some.is in
     three_runs source c.args.at r.before r.words r.after _ _ _ _ _ _ _ _ _ c.fill_run-2.auto.raw
     (same_len_mid _ _ _ _ e.count ∙ c.fill_run-2.auto.raw)
-    (c.fill_run-2.ensures.painted source _ (black_before source c.args.at sid r s shown))
-    (row_loaded source (c.args.at + r.before) r.words _ sid (s + r.from) others _ _ _ c.load_row.new.row
-    (omega (arith, e.count)) (omega arith) (omega arith) (words_within source c.args.at sid r s shown) e.loaded
-    e.sight)
-    (c.fill_run-3.ensures.painted source _ (black_after source c.args.at sid r s shown))
+    (c.fill_run-2.ensures.painted source _ (black_before source c.args.at c.args.sid r s shown))
+    (row_loaded source (c.args.at + r.before) r.words _ c.args.sid (s + r.from) _ _ _ c.load_row.new.row
+    (omega (arith, e.count)) (omega arith) (omega arith) (words_within source c.args.at c.args.sid r s shown) e.loaded
+    e.sights)
+    (c.fill_run-3.ensures.painted source _ (black_after source c.args.at c.args.sid r s shown))

@@ -5,8 +5,9 @@ pub returns-clause-painted : goal.returns-clause-painted
 returns-clause-painted g c before change =
     comes_as c.args.stack.now c.begin_changed.new.cutter
     (λ (p : Point). slot_owns_either c.args.was.now.view.0 before c.args.stack.now p) c.requires.pixels
-    (c.begin_changed.ensures.to_come before change) c.paint_to_come.ensures.painted
+    (c.begin_changed.ensures.to_come before change) c.paint_to_come.ensures.painted.painted
 
 pub returns-clause-kept : goal.returns-clause-kept
 returns-clause-kept g c =
-    assumption (c.paint_to_come.ensures.kept.room ∙ c.begin_changed.ensures.room, c.paint_to_come.ensures.kept)
+    let kept = c.paint_to_come.ensures.painted.kept in
+    record { count = kept.count; room = kept.room ∙ c.begin_changed.ensures.room }

@@ -5,15 +5,14 @@ use Rattle.nit_repaint.proofs.Lemmas.{shown_at, ◌∙◌}
 use Rattle.nit_repaint.proofs.painter.Painter.show_session.Goals as goal
 
 pub views-init : goal.views-init
-views-init g c = record {
+views-init c = record {
   room = refl;
   raw = refl;
-  glasses = refl;
   shown = nothing_set _ _ _ _ (λ k l. grind arith);
 }
 
 pub views-preserved : goal.views-preserved
-views-preserved g c =
+views-preserved c =
     let s = c.args.look.now.stack.now in
     let word = shown_at c.args.look.now c.args.self.now.raw.items in
     let v = c.views.invariant in
@@ -22,7 +21,6 @@ views-preserved g c =
     record {
       room = e.room ∙ c.begin_seat-is_of_session.ensures.room ∙ v.room;
       raw = v.raw;
-      glasses = v.glasses;
       shown = next_shown s c.args.of c.args.part.now c.views.i x.0 word word _ _ _
           c.len-views.ensures.standing.slots x.1 (λ k out. refl) v.shown
           (shown_as s c.begin_seat-is_of_session.new.cutter
@@ -32,7 +30,7 @@ views-preserved g c =
     }
 
 pub views-preserved-then-not-is_of_session : goal.views-preserved-then-not-is_of_session
-views-preserved-then-not-is_of_session g c =
+views-preserved-then-not-is_of_session c =
     let s = c.args.look.now.stack.now in
     let word = shown_at c.args.look.now c.args.self.now.raw.items in
     let v = c.views.invariant in
@@ -40,7 +38,6 @@ views-preserved-then-not-is_of_session g c =
     record {
       room = c.begin_seat-is_of_session.ensures.room ∙ v.room;
       raw = v.raw;
-      glasses = v.glasses;
       shown = next_shown s c.args.of c.args.part.now c.views.i x.0 word word _ _ _
           c.len-views.ensures.standing.slots x.1 (λ k out. refl) v.shown
           (nothing_set _ _ _ _ (λ k l. c.begin_seat-is_of_session.ensures.none c.if-not-is_of_session.true x.0 x.1
@@ -48,6 +45,6 @@ views-preserved-then-not-is_of_session g c =
     }
 
 pub returns-clause-shown : goal.returns-clause-shown
-returns-clause-shown g c =
+returns-clause-shown c =
     last_shown c.args.look.now.stack.now c.args.of c.args.part.now c.views.i
     (omega (arith, c.views-test.false, c.len-views.ensures.count)) c.views.invariant.shown

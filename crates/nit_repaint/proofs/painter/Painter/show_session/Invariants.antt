@@ -3,10 +3,9 @@ use Rattle.nit_repaint.proofs.Lemmas.{AreSet, pixel, shown_at, wanted_of_first}
 use Rattle.nit_repaint.proofs.painter.Painter.show_session.Given as goal
 
 abbrev pub invariant-views : goal.invariant-views
-invariant-views g l = record {
+invariant-views l = record {
   room : l.self.cutter.room ≡ l.initial.self.cutter.room;
   raw : l.self.raw ≡ l.initial.self.raw;
-  glasses : l.self.glasses ≡ l.initial.self.glasses;
   shown : AreSet (λ k. wanted_of_first l.i l.of l.part l.look.stack.now (pixel l.look.stack.now.width k))
       (length l.initial.self.raw.items) (shown_at l.look l.initial.self.raw.items) l.initial.frame l.frame;
 }

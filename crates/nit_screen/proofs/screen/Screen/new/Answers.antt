@@ -1,11 +1,11 @@
 use Rattle.nit_screen.proofs.Lemmas.{All-replicate, Configuration, IsWord, State, bare_unbarred}
-use Rattle.nit_screen.proofs.Lemmas.{bare_word, flat_below, get_or-replicate, length-map}
+use Rattle.nit_screen.proofs.Lemmas.{bare_word, flat_below, get_or-replicate}
 use Rattle.nit_screen.proofs.Lemmas.{length-replicate, nat_tests}
 use Rattle.std.proofs.Common.{ap, arith, length, ◌*◌, ◌∙◌, ◌≡◌}
 use Rattle.nit_screen.proofs.screen.Screen.new.Goals as goal
 
 pub show_again-requires-clause-can : goal.show_again-requires-clause-can
-show_again-requires-clause-can g c =
+show_again-requires-clause-can c =
     let same : c.in_ok-server.server.config ≡ c.args.config.now = ap (λ (t : State). t.config) c.in_ok-server.ensures in
     let e = c.in_ok-pixels.ensures in
     let n = c.args.config.now.width * c.args.config.now.height in
@@ -26,10 +26,7 @@ show_again-requires-clause-can g c =
 
 -- all words are bare
 pub show_again-requires-clause-below : goal.show_again-requires-clause-below
-show_again-requires-clause-below g c = grind (arith, nat_tests, flat_below, get_or-replicate)
+show_again-requires-clause-below c = grind (arith, nat_tests, flat_below, get_or-replicate)
 
 pub returns-clause-raw : goal.returns-clause-raw
-returns-clause-raw g c = grind (arith, nat_tests, bare_unbarred)
-
-pub invariant_of-result : goal.invariant_of-result
-invariant_of-result g c = grind (arith, nat_tests, length-map)
+returns-clause-raw c = grind (arith, nat_tests, bare_unbarred)

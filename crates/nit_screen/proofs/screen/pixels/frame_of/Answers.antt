@@ -2,4 +2,4 @@ use Rattle.nit_screen.proofs.Lemmas.{arith, few_views, nat_tests}
 use Rattle.nit_screen.proofs.screen.pixels.frame_of.Goals as goal
 
 pub show_whole-requires-clause-room : goal.show_whole-requires-clause-room
-show_whole-requires-clause-room g c = grind (arith, nat_tests, few_views)
+show_whole-requires-clause-room c = grind (arith, nat_tests, few_views)

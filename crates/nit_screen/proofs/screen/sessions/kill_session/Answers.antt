@@ -1,21 +1,12 @@
-use Rattle.nit_screen.proofs.Lemmas.{ServerModel, as_many_as, bar_is_bare, can_paint_by}
-use Rattle.nit_screen.proofs.Lemmas.{can_show_loaded, ended_painted, ended_server, glass_in}
-use Rattle.nit_screen.proofs.Lemmas.{held_by_all, holds, nobody_calls, painted_in, repainted_same}
-use Rattle.nit_screen.proofs.Lemmas.{state_of}
-use Rattle.std.proofs.Common.{ap, arith, length, map, refl, ◌≤◌}
+use Rattle.nit_screen.proofs.Lemmas.{ServerModel, ap, bar_is_bare, can_paint, can_show_loaded}
+use Rattle.nit_screen.proofs.Lemmas.{ended_painted, ended_server, painted_in, refl, state_of}
 use Rattle.nit_events.specs.declared.event.Status.TheVariants as status
 use Rattle.nit_screen.proofs.screen.sessions.kill_session.Goals as goal
 
 pub take_views_away-requires-clause-can : goal.take_views_away-requires-clause-can
 take_views_away-requires-clause-can g c =
     let s = c.args.server.now in
-    let gs = c.args.pixels.now.painter.glasses.items in
-    let many : length gs ≤ c.len-nobody.result =
-    omega (arith, c.len-nobody.ensures, c.args.pixels.now.painter.glasses.ok.0) in
-    can_paint_by s s c.args.pixels.now _ c.facts.ensures refl refl c.requires.can
-    (held_by_all g.G.Glass.sight s.stack gs c.len-nobody.result many
-    (holds s (glass_in (map g.G.Glass.sight gs)) (length gs) c.facts.ensures c.requires.glasses.each
-    (λ t l. (c.requires.glasses.tables t l).1)))
+    can_paint s s c.args.pixels.now _ c.facts.ensures refl refl c.requires.can c.requires.glasses
 
 pub redraw-requires : goal.redraw-requires
 redraw-requires g c =
@@ -36,17 +27,10 @@ returns-clause-painted g c =
     let s = c.args.server.now in
     let s' = c.end_session.new.self in
     let p = c.args.pixels.now in
-    let gs = p.painter.glasses.items in
-    let gs' = c.take_views_away.new.painter.glasses.items in
     let e = c.take_views_away.ensures in
-    let many : length gs ≤ c.len-nobody.result = omega (arith, c.len-nobody.ensures, p.painter.glasses.ok.0) in
-    let same_ = as_many_as g.G.Glass.rest gs gs' e.painted.rests in
     let now = ended_server c.args.of status.Killed s c.take_views_away.new.server s' c.requires.session e.session e.left
     c.end_session.ensures in
-    rw (c.redraw.ensures.glasses, c.redraw.ensures.raw)
+    rw c.redraw.ensures.raw
     (painted_in p.is_apart p.bar (λ k l. bar_is_bare (state_of s') k (rw (now, ← c.requires.can.bar) l))
-    (repainted_same _ _ _ _ _ _ _ _ _ _ _ (λ k le. refl) (λ k le d. refl)
-    (nobody_calls g.G.Glass.sight gs c.len-nobody.result many)
-    (nobody_calls g.G.Glass.sight gs' c.len-nobody.result (omega (arith, many, same_)))
     (ended_painted s s' c.args.of status.Killed _ _ _ p.painter.raw.items c.take_views_away.new.painter.raw.items
-    c.facts.ensures c.facts-2.ensures now c.requires.can.pixels e.painted.painted)))
+    c.facts.ensures c.facts-2.ensures now c.requires.can.pixels e.painted.painted))

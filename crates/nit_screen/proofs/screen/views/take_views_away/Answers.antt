@@ -14,6 +14,7 @@ views-init g c =
       left = refl;
       session = c.requires.session;
       painted = no_repaint (λ k. stays_clean c.args.of s (pixel s.width k));
+      rest = refl;
     }
 
 -- the place that is looked at, and those behind it
@@ -61,7 +62,8 @@ views-preserved g c =
       taken = taken_more c.args.of (c.views.i - 1) c.args.server.now.stack mid.stack next.stack first gone;
       left = ap (without_views c.args.of) c.remove_view.ensures ∙ one_less c.args.of view.handle mid i.session ∙ i.left;
       session = rw (c.remove_view.ensures, length-set) i.session;
-      painted = repaint_more first gone i.painted (assumption (painted, e.kept));
+      painted = repaint_more first gone i.painted (record { painted = painted; kept = e.kept });
+      rest = e.rest ∙ i.rest;
     }
 
 -- no place is left
@@ -75,4 +77,4 @@ pub returns-clause-painted : goal.returns-clause-painted
 returns-clause-painted g c =
     let all = all_painted c.args.of _ c.args.server.now.stack c.views.server.stack _ _ _ _
     (rw (none_left c.views.i c.views-test.false) at c.views.invariant.taken) c.views.invariant.painted.painted in
-    assumption (all, c.views.invariant.painted)
+    record { painted = all; kept = c.views.invariant.painted.kept }

@@ -8,10 +8,10 @@ invariant-views g l = record {
   taken : IsRemovedFrom l.of l.i l.initial.server.stack l.server.stack;
   left : without_views l.of l.server ≡ without_views l.of l.initial.server;
   session : l.of < length l.server.sessions;
-  painted : IsRepaint g.G.Glass.sight g.G.Glass.rest g.C.Glass.sight g.C.Glass.rest
-      (source_of_number (without_session l.of l.initial.server.stack))
+  painted : IsRepaint (source_of_number (without_session l.of l.initial.server.stack))
       (λ k. uncovered l.of l.initial.server.stack l.server.stack (pixel l.initial.server.stack.width k))
-      l.sid l.initial.own l.own l.initial.painter l.painter;
+      (g.L.Glasses.sights l.initial.glasses) (g.L.Glasses.sights l.glasses) l.initial.painter l.painter;
+  rest : g.L.Glasses.rest l.glasses ≡ g.L.Glasses.rest l.initial.glasses;
 }
 
 abbrev pub decreases-views : goal.decreases-views

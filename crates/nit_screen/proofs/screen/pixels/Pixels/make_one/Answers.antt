@@ -3,7 +3,7 @@ use Rattle.nit_screen.proofs.Lemmas.{Flat, made_one, rules}
 use Rattle.nit_screen.proofs.screen.pixels.Pixels.make_one.Goals as goal
 
 pub returns-clause-shown : goal.returns-clause-shown
-returns-clause-shown g c =
+returns-clause-shown c =
     let s = c.args.server.now in
     let flat : s.input.mode ≡ Flat = search rules in
     rw (c.swap.ensures.x_after, c.swap.ensures.y_after)

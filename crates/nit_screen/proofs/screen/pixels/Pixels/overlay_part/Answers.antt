@@ -4,14 +4,14 @@ use Rattle.std.proofs.Common.{List, ap, arith, drop, length, refl, take, ℕ, �
 use Rattle.nit_screen.proofs.screen.pixels.Pixels.overlay_part.Goals as goal
 
 pub show_session-requires-clause-room : goal.show_session-requires-clause-room
-show_session-requires-clause-room g c = grind (arith, nat_tests, few_views)
+show_session-requires-clause-room c = grind (arith, nat_tests, few_views)
 
 -- what was written into a list is all of it
 written : (n : ℕ) (new old : List ℕ) → length new ≡ n → take n (new ++ drop (length new) old) ≡ new
 written n new old e = rw (← e) (take-append_seam new (drop (length new) old))
 
 pub returns : goal.returns
-returns g c =
+returns c =
     let p = c.args.self.now in
     let is = c.stack-2.ensures.stack in
     let screen = c.facts.ensures.screen in
@@ -32,7 +32,6 @@ returns g c =
     record {
       can = rw back (search rules);
       raw = e.kept.raw;
-      glasses = e.kept.glasses;
       kept = (refl, refl);
       shown = rw (back, e.kept.raw, ← c.as_mut_slice.ensures.value) shown;
     }

@@ -3,7 +3,7 @@ use Rattle.nit_screen.proofs.Lemmas.{Flat, bar_again}
 use Rattle.nit_screen.proofs.screen.pixels.Pixels.show_again.Goals as goal
 
 pub returns-in-Flat : goal.returns-in-Flat
-returns-in-Flat g c =
+returns-in-Flat c =
     let s = c.args.server.now in
     let p = c.args.self.now in
     let e = c.draw_bar.ensures in

@@ -1,0 +1,9 @@
+use Rattle.nit_scene.proofs.Lemmas.{listed_changed, refl}
+use Rattle.nit_scene.proofs.scene.drawing.Scene+Inked.draw.Goals as goal
+
+pub invariant_of-self : goal.invariant_of-self
+invariant_of-self c = (
+  c.self.invariant.0,
+  listed_changed c.args.sid _ c.store.new.self c.index_mut.ensures.value
+      (rw (← c.self.view_is) at c.requires.session) (rw c.store.ensures refl) (rw c.store.ensures refl) c.self.invariant.1,
+)
