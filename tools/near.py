@@ -1,4 +1,4 @@
-"""What a shot on threads may show, by the end of docs/RULES.md.
+"""What a shot on threads may show, by the second theorem of README.md.
 
 A pixel that a call of its owner's loaded last has the very word that the owner's script had left
 there at that call. Each other pixel of a buffer has a word that the script leaves at that place
