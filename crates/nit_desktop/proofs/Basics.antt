@@ -2,11 +2,10 @@
 pub use Rattle.nit_desktop.specs.Terms.{Agrees, Answered, AreBelowNext, AreInked, AreLive, AreRaw}
 pub use Rattle.nit_desktop.specs.Terms.{Call, Close, Configuration, Delivery, DesktopModel, Device}
 pub use Rattle.nit_desktop.specs.Terms.{Entry, HaveOwnNames, IsDesktop, IsLive, IsNewlyNamed}
-pub use Rattle.nit_desktop.specs.Terms.{KeepsWords, Member, Painted, Reply, Routed, ServerModel}
-pub use Rattle.nit_desktop.specs.Terms.{Session, Sight, State, Take, View, accepted, after}
-pub use Rattle.nit_desktop.specs.Terms.{asks_view, bare_word, by_refusal, dirty, donation_of, ended}
-pub use Rattle.nit_desktop.specs.Terms.{first_input, first_session, first_state, glass_in}
-pub use Rattle.nit_desktop.specs.Terms.{glasses_of_call, input_after_call, layer, no_sight, opened}
+pub use Rattle.nit_desktop.specs.Terms.{Member, Painted, Reply, Routed, ServerModel, Session, Sight}
+pub use Rattle.nit_desktop.specs.Terms.{State, Take, View, accepted, after, asks_view, bare_word}
+pub use Rattle.nit_desktop.specs.Terms.{by_refusal, dirty, donation_of, ended, first_input}
+pub use Rattle.nit_desktop.specs.Terms.{first_session, first_state, input_after_call, layer, opened}
 pub use Rattle.nit_desktop.specs.Terms.{pixel, refusal, route, scenery_of, session, session_in}
 pub use Rattle.nit_desktop.specs.Terms.{state_of, vacant_state}
 pub use Rattle.nit_journal.proofs.ForCallers.{bare_everywhere, serve_accepted}
@@ -18,7 +17,5 @@ pub use Rattle.std.proofs.Common.{ap, arith, length, ◌∙◌}
 pub use Rattle.std.proofs.Math.ListN.{get_or-map, length-set}
 pub use Rattle.std.proofs.lemmas.Bool.{cases_eq}
 pub use Rattle.std.proofs.lemmas.List.{ext_get_or, get_or-replicate, get_or_default, length-map}
-pub use Rattle.std.proofs.lemmas.List.{map-set}
 pub use Rattle.std.proofs.lemmas.List.Elements.{All-nil}
-pub use Rattle.std.proofs.lemmas.Option.{get_or_from_slice_get, slice_get_within}
 pub use Rattle.std.proofs.lemmas.Bool.Decides.{nat_tests}

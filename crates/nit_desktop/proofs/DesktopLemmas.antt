@@ -1,8 +1,8 @@
 -- Handles do not come to their end: a call makes one view at most, and none but `View` makes one.
 use Rattle.std.proofs.Common.{List, None, Some, [], ap, arith, cond, false, get_or}
 use Rattle.std.proofs.Common.{get_or-set_other, get_or-set_same, length, map, refl, replicate, set}
-use Rattle.std.proofs.Common.{slice_get, suc, sym, true, zero, ℕ, ◌*◌, ◌+◌, ◌-◌, ◌<◌, ◌^◌, ◌∙◌, ◌∷◌}
-use Rattle.std.proofs.Common.{◌≡◌, ◌≢◌, ◌≤◌}
+use Rattle.std.proofs.Common.{suc, sym, true, zero, ℕ, ◌*◌, ◌+◌, ◌-◌, ◌<◌, ◌^◌, ◌∙◌, ◌∷◌, ◌≡◌, ◌≢◌}
+use Rattle.std.proofs.Common.{◌≤◌}
 use Rattle.nit_desktop.proofs.Basics.{Agrees, All-nil, Answered, AreBelowNext, AreInked, AreLive}
 use Rattle.nit_desktop.proofs.Basics.{AreRaw, Call, Close, Configuration, Device, Entry}
 use Rattle.nit_desktop.proofs.Basics.{HaveOwnNames, IsDesktop, IsNewlyNamed, Member, Painted, Reply}
@@ -11,11 +11,10 @@ use Rattle.nit_desktop.proofs.Basics.{asks_view, bare_everywhere, bare_word, by_
 use Rattle.nit_desktop.proofs.Basics.{clean_seen, clean_words, delivered_keeps_next, dirty}
 use Rattle.nit_desktop.proofs.Basics.{donation_of, ended, entry_loses, ext_get_or, first_input}
 use Rattle.nit_desktop.proofs.Basics.{first_session, first_state, get_or-map, get_or-replicate}
-use Rattle.nit_desktop.proofs.Basics.{get_or_default, get_or_from_slice_get, glass_in}
-use Rattle.nit_desktop.proofs.Basics.{glasses_of_call, input_after_call, layer, length-map}
-use Rattle.nit_desktop.proofs.Basics.{length-set, nat_tests, no_sight, opened, pixel, refusal}
-use Rattle.nit_desktop.proofs.Basics.{route, serve_accepted, session, session_in, slice_get_within}
-use Rattle.nit_desktop.proofs.Basics.{taking_keeps_next, vacant_state}
+use Rattle.nit_desktop.proofs.Basics.{get_or_default, input_after_call, layer, length-map}
+use Rattle.nit_desktop.proofs.Basics.{length-set, opened, pixel, refusal, route}
+use Rattle.nit_desktop.proofs.Basics.{serve_accepted, session, session_in, taking_keeps_next}
+use Rattle.nit_desktop.proofs.Basics.{vacant_state}
 use Rattle.nit_journal.specs.Session.{serve}
 use Rattle.nit_journal.specs.StackAfter.{stack_after_call}
 use Rattle.nit_events.specs.declared.entry.Entry.TheVariants as entry
@@ -176,27 +175,6 @@ module _ (s : State) (sid d : ℕ) (r : Reply) (first : session s sid ≡ first_
       → Painted s (entry.Call sid call.Close r) s' a b raw raw' → (t : ℕ) → b t ≡ a t
   closes_unseen s' painted = clean_seen _ _ _ _ _ _ _ (clean s') painted
 
--- the glasses are as before where none of them tells a load, and the one that the call left out is
-pub same_sights : (old new : List Sight) (sid : ℕ) (own own' : Sight) → length new ≡ length old
-    → glass_in new sid ≡ glass_in old sid
-    → ((t : ℕ) → glasses_of_call new sid own' t ≡ glasses_of_call old sid own t) → new ≡ old
-same_sights old new sid own own' long idle same =
-    ext_get_or no_sight new old long (λ t l. grind (arith, nat_tests, idle, same t))
-
-pub as_many_sights : {A R : Type 0} (sight : A → Sight) (rest : A → R) (old new : List A) → map rest new ≡ map rest old
-    → length (map sight new) ≡ length (map sight old)
-as_many_sights sight rest old new rests = length-map new sight ∙ sym (length-map new rest) ∙ ap length rests
-    ∙ length-map old rest ∙ sym (length-map old sight)
-
--- the glass that is taken out of a list is the one of its number there
-pub taken_out : {A : Type 0} (sight : A → Sight) (glasses : List A) (sid : ℕ) (out : A)
-    → slice_get glasses sid ≡ Some out → sight out ≡ glass_in (map sight glasses) sid
-taken_out sight glasses sid out is =
-    sym (get_or_default (map sight glasses) sid no_sight (sight out)
-    (rw length-map (slice_get_within glasses sid out is))
-    ∙ get_or-map sight glasses sid out
-    ∙ ap sight (get_or_from_slice_get glasses sid out out is))
-
 -- ---- all of them
 
 -- those before n are closed, and those from n on have just opened
@@ -218,16 +196,17 @@ none_closed config s is = rw is (record {
   idle = refl;
 })
 
-pub one_closed : (config : Configuration) (n d : ℕ) (s s' : State) → AreClosedTo config n s → n < length config.clients
-    → d ≡ donation_of config n
-    → s' ≡ record s { sessions = set s.sessions n (closed_first d) } → AreClosedTo config (n + 1) s'
-one_closed config n d s s' h lt donated is =
+pub one_closed : (config : Configuration) (n : ℕ) (s s' : State) → AreClosedTo config n s → n < length config.clients
+    → s' ≡ record s { sessions = set s.sessions n (closed_first (donation_of s.config n)) }
+    → AreClosedTo config (n + 1) s'
+one_closed config n s s' h lt is =
+    let d : ℕ = donation_of s.config n in
     let here = get_or-set_same s.sessions n (closed_first d) (first_session 0) (rw h.count lt) in
     let others = λ (t : ℕ). get_or-set_other s.sessions n t (closed_first d) (first_session 0) in
     rw is (record {
       configured = h.configured;
       count = length-set s.sessions n (closed_first d) ∙ h.count;
-      closed = λ t below there. grind (arith, cases_eq t n, here, others t, h.closed t, below, there, donated);
+      closed = λ t below there. grind (arith, cases_eq t n, here, others t, h.closed t, below, there, h.configured);
       first = λ t l. others t (λ e. omega (arith, l, e)) ∙ h.first t (omega (arith, l));
       bare = h.bare;
       idle = h.idle;

@@ -22,22 +22,19 @@ pub use Rattle.nit_journal.specs.StackAfter.{is_accepted}
 pub use Rattle.nit_journal.specs.State.{State, after, first_state, input_after_call, layer, route}
 pub use Rattle.nit_journal.specs.State.{session, session_in}
 pub use Rattle.nit_journal.specs.Steps.{IsFreeLabel, opened, vacant_state}
-pub use Rattle.nit_paint.specs.Repaint.{no_sight}
 pub use Rattle.nit_rect.specs.Rectangle.{IsPlace}
-pub use Rattle.nit_repaint.specs.Glasses.{glass_in, glasses_of_call}
 pub use Rattle.nit_screen.specs.DirtyPixels.{dirty}
 pub use Rattle.nit_screen.specs.FrameLabels.{IsFrameShown, ShowsLabels}
 pub use Rattle.nit_screen.specs.RawWords.{AreInked, AreRaw, IsRawOf, Painted, pixel_count}
 pub use Rattle.nit_screen.specs.RawWords.{source_at}
-pub use Rattle.nit_screen.specs.Screen.{AreGlasses, IsGlass}
+pub use Rattle.nit_screen.specs.Screen.{AreGlasses}
 pub use Rattle.nit_screen.specs.StateScenery.{scenery_of}
 pub use Rattle.nit_screen.specs.Terms.{in_bar, is_session, option_map_or}
 pub use Rattle.nit_screen.specs.ViewNames.{AreBelowNext, HaveOwnNames, IsNewlyNamed}
 pub use Rattle.nit_server.specs.Server.{ServerModel, state_of}
-pub use Rattle.nit_slots.specs.Account.{IsDonation, table_size}
+pub use Rattle.nit_slots.specs.Account.{table_size}
 pub use Rattle.nit_stack.specs.Sources.{PixelSource, pixel}
 pub use Rattle.nit_stack.specs.declared.view.View.{View}
 pub use Rattle.nit_word.specs.Channels.{bare_word}
-pub use Rattle.nit_word.specs.Inks.{Colours}
 pub use Rattle.nit_word.specs.Sight.{Sight}
 pub use Rattle.std.specs.Prelude.{None, [], ℕ}

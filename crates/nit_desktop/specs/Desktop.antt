@@ -1,37 +1,25 @@
 -- What contracts see of a screen that keeps no journal, and what holds of it.
-use Rattle.std.specs.Prelude.{◌≡◌, ℕ, ◌+◌, ◌-◌, ◌*◌, ◌^◌, ◌<◌, Bool, true, false, List, map}
-use Rattle.nit_desktop.specs.Below.{AreBelowNext, AreLive, AreRaw, Call, Entry, HaveOwnNames, Sight}
+use Rattle.std.specs.Prelude.{◌≡◌, ℕ, ◌+◌, ◌-◌, ◌*◌, ◌^◌, ◌<◌, Bool, true, false, List}
+use Rattle.nit_desktop.specs.Below.{AreBelowNext, AreLive, AreRaw, Call, Entry, HaveOwnNames}
 use Rattle.nit_desktop.specs.Below.{State, after, session}
 use Rattle.nit_events.specs.declared.call.Call.TheVariants.{View}
 
--- the state, how many more entries it serves, the raw words of the screen's pixels, and the glasses
--- through which the sessions' words are loaded
-pub record DesktopModel (G : Type 0) : Type 0 where
+-- the state, how many more entries it serves, and the raw words of the screen's pixels
+pub record DesktopModel : Type 0 where
   pub state : State
   pub left : ℕ
   pub raw : List ℕ
-  pub glasses : List G
 
 -- the call asks for a new view
 abbrev pub asks_view : Call → Bool
 asks_view View = true
 asks_view other = false
 
--- The state is the one after this entry, the raw words are as its sources want them, and of the
--- glasses only what is told can have changed.
-pub record IsServedEntry {G R : Type 0} (rest : G → R) (before now : DesktopModel G)
-    (e : Entry) : Type 0 where
+-- The state is the one after this entry, and the raw words are as its sources want them.
+pub record IsServedEntry (before now : DesktopModel) (e : Entry) : Type 0 where
   pub state : now.state ≡ after before.state e
   pub left : now.left ≡ before.left - 1
   pub raw : AreRaw now.state now.raw
-  pub rests : map rest now.glasses ≡ map rest before.glasses
-
--- neither a raw word changed nor what a glass tells
-pub record KeepsWords {G R : Type 0} (sight : G → Sight) (rest : G → R)
-    (before now : DesktopModel G) : Type 0 where
-  pub raw : now.raw ≡ before.raw
-  pub sights : map sight now.glasses ≡ map sight before.glasses
-  pub rests : map rest now.glasses ≡ map rest before.glasses
 
 -- Whoever the input knows and whoever has a view is live, the raw words are as the pixels' sources
 -- want them, no two views have the same session and handle, nor does one have a handle that is

@@ -1,4 +1,3 @@
-pub mod Blank
 pub mod Desktop
 pub mod Below
 pub mod Terms

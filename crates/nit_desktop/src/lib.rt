@@ -6,12 +6,15 @@
 //! host does: each client is served as if it were alone since its session opened, releases follow
 //! presses, and the user's input goes to live sessions (`nit_journal::laws`).
 //!
+//! The words of all sessions are the caller's: each step is handed a source of them ([`Glasses`]).
+//!
+//! [`Glasses`]: nit_word::Glasses
+//!
 //! All memory is taken by [`Desktop::new`]. A refused call changes nothing.
 //!
 //! The tests are those of a host in `nit_tests`: `scenes/host_tests`.
 #![tactic(auto)]
 
-mod blank;
 mod desktop;
 
 pub use desktop::Desktop;

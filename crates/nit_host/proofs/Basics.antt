@@ -1,29 +1,29 @@
 -- What lemmas use: the words of clauses, the library's lemmas, and those of the crates below.
 pub use Rattle.nit_host.specs.Terms.{Act, AgreeOutside, Agrees, Answered, AreBlank, AreGlasses}
-pub use Rattle.nit_host.specs.Terms.{AreHollow, AreLive, AreQuiet, AreSheets, Area, Bare, Call}
-pub use Rattle.nit_host.specs.Terms.{Calls, Comes, Configuration, Delivery, DesktopModel, Device}
-pub use Rattle.nit_host.specs.Terms.{Does, Entry, HoldsBar, HoldsBarIn, HoldsBoth, HoldsTouched}
-pub use Rattle.nit_host.specs.Terms.{HoldsUnless, HostModel, IsAreaOf, IsBarArea, IsClickAt}
-pub use Rattle.nit_host.specs.Terms.{IsClickBy, IsConfiguration, IsFreeLabel, IsFresh, IsHandedIn}
-pub use Rattle.nit_host.specs.Terms.{IsHost, IsInPart, IsLoaded, IsOneOf, IsPlainOf, IsSeenBut}
-pub use Rattle.nit_host.specs.Terms.{IsStepOf, IsToldArea, IsWord, IsWordOfSource, Looks, Member}
-pub use Rattle.nit_host.specs.Terms.{Mode, Painted, PixelSource, Point, Rectangle, Refreshes, Reply}
-pub use Rattle.nit_host.specs.Terms.{Routed, SeatPlan, Serves, Session, SheetModel, Sight, Size}
-pub use Rattle.nit_host.specs.Terms.{State, StaysOutside, Step, Touch, View, Word, after}
-pub use Rattle.nit_host.specs.Terms.{after_accepted, after_act, after_acts, after_deliveries}
-pub use Rattle.nit_host.specs.Terms.{after_handing, after_step, among, bar_rows, bar_word}
-pub use Rattle.nit_host.specs.Terms.{bare_word, black_or_word, blank_sheet, blank_sheets}
-pub use Rattle.nit_host.specs.Terms.{buffer_place, buffer_size, called, covers, deliveries_of}
-pub use Rattle.nit_host.specs.Terms.{dirty, dirty_by_call, enumerate_from, filled_up, first_host}
-pub use Rattle.nit_host.specs.Terms.{first_state, frame, frame_at, frame_by, frame_shown, glass_in}
-pub use Rattle.nit_host.specs.Terms.{glasses_of_call, handed, handed_over, has_label, has_place}
-pub use Rattle.nit_host.specs.Terms.{in_bar, index_at, input_after_call, is_accepted, is_between}
-pub use Rattle.nit_host.specs.Terms.{is_handed, is_in_rows, is_inside, is_killed, is_label}
-pub use Rattle.nit_host.specs.Terms.{is_label_taken, is_owned_by, is_screen, is_session, is_taken}
-pub use Rattle.nit_host.specs.Terms.{is_touched, is_within, is_word_in, kills, layer, list_all}
-pub use Rattle.nit_host.specs.Terms.{list_any, low_bytes, member, no_sight, opened, option_map}
-pub use Rattle.nit_host.specs.Terms.{option_map_or, owner_of, owns_either, picture, pixel}
-pub use Rattle.nit_host.specs.Terms.{pixel_count, place_at, plain_sight, planned, point}
+pub use Rattle.nit_host.specs.Terms.{AreLive, AreSheets, Area, Bare, Call, Calls, Comes}
+pub use Rattle.nit_host.specs.Terms.{Configuration, Delivery, DesktopModel, Device, Does, Entry}
+pub use Rattle.nit_host.specs.Terms.{HoldsBar, HoldsBarIn, HoldsBoth, HoldsTouched, HoldsUnless}
+pub use Rattle.nit_host.specs.Terms.{HostModel, IsAreaOf, IsBarArea, IsClickAt, IsClickBy}
+pub use Rattle.nit_host.specs.Terms.{IsConfiguration, IsFreeLabel, IsFresh, IsHandedIn, IsHost}
+pub use Rattle.nit_host.specs.Terms.{IsInPart, IsLoaded, IsOneOf, IsPlainOf, IsSeenBut}
+pub use Rattle.nit_host.specs.Terms.{IsServedEntry, IsStepOf, IsToldArea, IsWord, IsWordOfSource}
+pub use Rattle.nit_host.specs.Terms.{Looks, Member, Mode, Painted, PixelSource, Point, Rectangle}
+pub use Rattle.nit_host.specs.Terms.{Refreshes, Reply, Routed, SeatPlan, Serves, Session}
+pub use Rattle.nit_host.specs.Terms.{SheetModel, Sight, Size, State, StaysOutside, Step, Touch}
+pub use Rattle.nit_host.specs.Terms.{View, Word, after, after_accepted, after_act, after_acts}
+pub use Rattle.nit_host.specs.Terms.{after_deliveries, after_handing, after_step, among, bar_rows}
+pub use Rattle.nit_host.specs.Terms.{bar_word, bare_word, behind, black_or_word, blank_sheet}
+pub use Rattle.nit_host.specs.Terms.{blank_sheets, buffer_place, buffer_size, called, covers}
+pub use Rattle.nit_host.specs.Terms.{deliveries_of, dirty, dirty_by_call, enumerate_from, filled_up}
+pub use Rattle.nit_host.specs.Terms.{first_host, first_state, frame, frame_at, frame_by}
+pub use Rattle.nit_host.specs.Terms.{frame_shown, glass_in, handed, handed_over, has_label}
+pub use Rattle.nit_host.specs.Terms.{has_place, in_bar, index_at, input_after_call, is_accepted}
+pub use Rattle.nit_host.specs.Terms.{is_between, is_handed, is_in_rows, is_inside, is_killed}
+pub use Rattle.nit_host.specs.Terms.{is_label, is_label_taken, is_owned_by, is_screen, is_session}
+pub use Rattle.nit_host.specs.Terms.{is_taken, is_touched, is_within, is_word_in, kills, layer}
+pub use Rattle.nit_host.specs.Terms.{list_all, list_any, low_bytes, member, no_sight, opened}
+pub use Rattle.nit_host.specs.Terms.{option_map, option_map_or, owner_of, owns_either, picture}
+pub use Rattle.nit_host.specs.Terms.{pixel, pixel_count, place_at, plain_sight, planned, point}
 pub use Rattle.nit_host.specs.Terms.{range_with_len, rectangle, rectangle_over, refreshed, refusal}
 pub use Rattle.nit_host.specs.Terms.{refused_plan, relabelled, reply_to, route, routed_as}
 pub use Rattle.nit_host.specs.Terms.{routed_of, scenery_of, seated, seats_of, seen, serve, session}
@@ -55,7 +55,7 @@ pub use Rattle.std.proofs.lemmas.Int.{ints}
 pub use Rattle.std.proofs.lemmas.List.{ext_get_or, get_or-replicate, get_or-set_same}
 pub use Rattle.std.proofs.lemmas.List.{get_or_append_left, get_or_default, get_or_past}
 pub use Rattle.std.proofs.lemmas.List.{length-append, length-map, length-take-le, map-append}
-pub use Rattle.std.proofs.lemmas.List.{map-set, set-get_or, set-set, set_past, take_all, take_at}
+pub use Rattle.std.proofs.lemmas.List.{map-id, map-set, set-get_or, set_past, take_all, take_at}
 pub use Rattle.std.proofs.lemmas.List.{take_more}
 pub use Rattle.std.proofs.lemmas.List.Folds.{find_at, list_any_at, list_any_none}
 pub use Rattle.std.proofs.lemmas.List.FromFn.{get_or-enumerate_from, get_or-map-range_with_len}

@@ -3,26 +3,26 @@ use Rattle.std.proofs.Common.{Bool, IsTrue, List, None, Option, Some, [], ap, ar
 use Rattle.std.proofs.Common.{get_or, if◌then◌else◌, length, map, nat_le, nat_lt, not, refl}
 use Rattle.std.proofs.Common.{replicate, rules, slice_get, sym, take, true, ℕ, ◌&&◌, ◌*◌, ◌++◌, ◌+◌}
 use Rattle.std.proofs.Common.{◌<◌, ◌==◌, ◌||◌, ◌∙◌, ◌∷◌, ◌≡◌, ◌≢◌, ◌≤◌}
-use Rattle.nit_host.proofs.Basics.{AllPass-from_list_all, AreBlank, AreGlasses, AreHollow}
-use Rattle.nit_host.proofs.Basics.{AreSheets, Area, Bare, Configuration, DesktopModel, HostModel}
-use Rattle.nit_host.proofs.Basics.{IsAreaOf, IsConfiguration, IsFreeLabel, IsFresh, IsHost}
-use Rattle.nit_host.proofs.Basics.{IsPlainOf, IsSeenBut, Member, Point, SeatPlan, SheetModel, Sight}
-use Rattle.nit_host.proofs.Basics.{State, and_parts, bare_word, blank_sheet, blank_sheets}
+use Rattle.nit_host.proofs.Basics.{AllPass-from_list_all, AreBlank, AreSheets, Area, Bare}
+use Rattle.nit_host.proofs.Basics.{Configuration, DesktopModel, HostModel, IsAreaOf}
+use Rattle.nit_host.proofs.Basics.{IsConfiguration, IsFreeLabel, IsFresh, IsHost, IsPlainOf}
+use Rattle.nit_host.proofs.Basics.{IsSeenBut, Member, Point, SeatPlan, SheetModel, Sight, State}
+use Rattle.nit_host.proofs.Basics.{and_parts, bare_word, blank_sheet, blank_sheets}
 use Rattle.nit_host.proofs.Basics.{bytes_eq-Decides, column_and_row, cond_both, enumerate_from}
 use Rattle.nit_host.proofs.Basics.{eq-eqb, ext_get_or, false_from_ne_true, false≢true, find_at}
 use Rattle.nit_host.proofs.Basics.{first_host, get_or-append_seam, get_or-enumerate_from}
 use Rattle.nit_host.proofs.Basics.{get_or-map, get_or-range_with_len, get_or-replicate}
 use Rattle.nit_host.proofs.Basics.{get_or_append_left, get_or_default, has_label, has_place}
-use Rattle.nit_host.proofs.Basics.{is_label, is_label_taken, is_screen, is_taken, is_within}
+use Rattle.nit_host.proofs.Basics.{is_label, is_label_taken, is_screen, is_taken, is_within, layer}
 use Rattle.nit_host.proofs.Basics.{length-append, length-enumerate_from, length-map}
 use Rattle.nit_host.proofs.Basics.{length-range_with_len, length-take-le, length-zeros, list_all}
 use Rattle.nit_host.proofs.Basics.{list_any_at, list_any_none, map-append, member, nat_tests}
 use Rattle.nit_host.proofs.Basics.{ne_eqb, pixel_count, planned, position_or_len_is, range_with_len}
-use Rattle.nit_host.proofs.Basics.{refused_plan, seats_of, sheet_at, sheets_of, size_at}
+use Rattle.nit_host.proofs.Basics.{refused_plan, seats_of, seen, sheet_at, sheets_of, size_at}
 use Rattle.nit_host.proofs.Basics.{slice_get-get_or, slice_get_past, source_of, table_size}
 use Rattle.nit_host.proofs.Basics.{take_more, told_words, unseated, waiting_label, waiting_member}
 use Rattle.nit_host.proofs.Basics.{zeros}
-use Rattle.nit_host.proofs.Steps.{blank_tells, sight_at, words_at}
+use Rattle.nit_host.proofs.Steps.{words_at}
 use Rattle.nit_host.specs.declared.refusal.Unseated.TheVariants as why
 
 abbrev pub no_client : Member
@@ -40,12 +40,9 @@ pub one_sheet : (P : ℕ → SheetModel → Type 0) (n : ℕ) (sheets : List She
     → AreTo P n sheets → P n sheet → AreTo P (n + 1) (sheets ++ sheet ∷ [])
 one_sheet P n sheets sheet are is = grind (arith, nat_tests, length-append, get_or_append_left, get_or-append_seam)
 
--- blank ones, with room and without
+-- a blank one, with room
 abbrev pub HasRoom : Configuration → ℕ → SheetModel → Type 0
 HasRoom config t sheet = (sheet.sight ≡ blank_sheet t (size_at config t)) × (size_at config t ≤ sheet.room)
-
-abbrev pub IsHollow : Configuration → ℕ → SheetModel → Type 0
-IsHollow config t sheet = (sheet.sight ≡ blank_sheet t (size_at config t)) × (sheet.room ≡ 0)
 
 -- the size of a seat's table
 pub sized_at : (config : Configuration) (m : Member) {clients : List Member} {seat size : ℕ}
@@ -61,9 +58,6 @@ pub blank_plain : (config : Configuration) {seat : ℕ} {sight : Sight} → sigh
 blank_plain config {seat} is = rw is (refl, length-zeros (size_at config seat))
 
 module _ {config : Configuration} {n : ℕ} {sheets : List SheetModel} (far : n ≡ length config.clients) where
-  pub all_hollow : AreTo (IsHollow config) n sheets → AreHollow config sheets
-  all_hollow are = grind (arith, nat_tests)
-
   pub all_blank : AreTo (HasRoom config) n sheets → AreBlank config sheets
   all_blank are = grind (arith, nat_tests)
 
@@ -73,14 +67,6 @@ module _ {config : Configuration} {n : ℕ} {sheets : List SheetModel} (far : n 
     plain = λ t inside. blank_plain config (are.each t (omega (arith, inside, far))).0;
     room = λ t inside. (are.each t (omega (arith, inside, far))).1;
   }
-
--- and they are glasses of the seats
-pub blank_glasses : {config : Configuration} {sheets : List SheetModel} → AreBlank config sheets
-    → AreGlasses (λ s. s.sight) config sheets
-blank_glasses {sheets = sheets} are = record {
-  each = are.count;
-  tables = λ t inside. rw (sight_at sheets t) (blank_tells (are.blank t inside));
-}
 
 -- their words are 0
 pub words_blank : (config : Configuration) (sheets : List SheetModel) → AreBlank config sheets
@@ -108,20 +94,19 @@ bare_fresh s tables raw bare is k inside = grind (arith, nat_tests, bare_source,
 -- ---- the host
 
 -- the host whose desktop is in such a state, of which nothing was seen
-pub begun : (d : DesktopModel SheetModel) {s : State} {config : Configuration} {sheets hollows : List SheetModel}
-    → AreSheets config sheets → AreHollow config hollows → d.state ≡ s → d.glasses ≡ sheets
-    → d.raw ≡ replicate (config.width * config.height) bare_word → s.config ≡ config → s.stack ≡ [] → (a : Area)
-    → ((x y : ℕ) → x < config.width → y < config.height → has_place a x y ≡ true)
+pub begun : (d : DesktopModel) {s : State} {config : Configuration} {sheets : List SheetModel} → AreSheets config sheets
+    → d.state ≡ s → d.raw ≡ replicate (config.width * config.height) bare_word → s.config ≡ config → s.stack ≡ []
+    → (a : Area) → ((x y : ℕ) → x < config.width → y < config.height → has_place a x y ≡ true)
     → IsAreaOf config.width config.height a
-    → IsHost d hollows × IsSeenBut d.state (sheets_of d.glasses) a None
+    → IsHost d sheets × IsSeenBut d.state (sheets_of sheets) a None
     × IsAreaOf d.state.config.width d.state.config.height a
-begun d are hollow is glasses raw configured bare a all on = grind (arith, nat_tests, bare_fresh, column_and_row)
+begun d are is raw configured bare a all on = grind (arith, nat_tests, bare_fresh, column_and_row)
 
-pub first_now : (s : State) (config : Configuration) (d : DesktopModel SheetModel) (sheets : List SheetModel)
-    → d.state ≡ s → d.left ≡ 4611686018427387904 → d.glasses ≡ sheets → AreBlank config sheets
-    → record { state = d.state; sheets = sheets_of d.glasses; left = d.left; last = None; seen = None }
+pub first_now : (s : State) (config : Configuration) (d : DesktopModel) (sheets : List SheetModel) → d.state ≡ s
+    → d.left ≡ 4611686018427387904 → AreBlank config sheets
+    → record { state = d.state; sheets = sheets_of sheets; left = d.left; last = None; seen = None }
     ≡ first_host s config
-first_now s config d sheets is left glasses blank = rw (is, glasses, left, words_blank config sheets blank) refl
+first_now s config d sheets is left blank = rw (is, left, words_blank config sheets blank) refl
 
 -- The first seat that passes a test, and whether another seat has a label.
 

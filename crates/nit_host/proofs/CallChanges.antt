@@ -10,8 +10,8 @@ use Rattle.nit_host.proofs.Basics.{cond_both, deliveries_of, dirty, dirty_by_cal
 use Rattle.nit_host.proofs.Basics.{false_from_ne_true, false≢true, frame_by, has_place, in_bar}
 use Rattle.nit_host.proofs.Basics.{input_after_call, is_accepted, is_inside, is_killed, kills}
 use Rattle.nit_host.proofs.Basics.{layer, list_any, nat_tests, opened, pixel, pixel_count, refusal}
-use Rattle.nit_host.proofs.Basics.{refused_reply, route, routed_as, scenery_of, serve}
-use Rattle.nit_host.proofs.Basics.{serve_refused, session, sheet_in, source_at, touch_of}
+use Rattle.nit_host.proofs.Basics.{refused_reply, route, routed_as, scenery_of, seen, serve}
+use Rattle.nit_host.proofs.Basics.{serve_refused, session, sheet_in, source_at, told, touch_of}
 use Rattle.nit_host.proofs.Basics.{touched_by, touched_over, unaccepted_state, word_from}
 use Rattle.nit_host.specs.Touch.{touched_unless}
 use Rattle.nit_journal.specs.StackAfter.{stack_after_call}
@@ -50,7 +50,7 @@ module _ (s : State) (seat : ℕ) (r : Reply) (sheets sheets' : List (List ℕ))
 
   -- the reply is the call's, and words of clean pixels stay
   abbrev Keeps : Call → Type 0
-  Keeps c = (r ≡ (serve (session s seat) c).reply) × Words s seat r sheets sheets' c
+  Keeps c = (r ≡ (serve (session s seat) c).reply) × Words s (entry.Call seat c r) sheets sheets'
 
   clean_stays : (c : Call) → Keeps c → (k : ℕ)
       → dirty s (entry.Call seat c r) (behind c) (pixel s.config.width k) ≡ false
@@ -119,7 +119,7 @@ pub seen_called : {s s' : State} {seat : ℕ} (c : Call) {r : Reply} (sheets she
     → HoldsTouched s' seat t now × IsAreaOf s'.config.width s'.config.height now → HoldsBoth a0 before a1
     → HoldsBoth a1 now a2 → IsSeenBut s sheets a0 seen → IsAreaOf s.config.width s.config.height a0
     → t ≡ touch_of s seat c → s' ≡ after s (entry.Call seat c r) → r ≡ (serve (session s seat) c).reply
-    → Words s seat r sheets sheets' c → seat < length s.sessions → KeepSources
+    → Words s (entry.Call seat c r) sheets sheets' → seat < length s.sessions → KeepSources
     → IsSeenBut s' sheets' a2 seen × IsAreaOf s'.config.width s'.config.height a2
 seen_called {s} {s'} {seat} c {r} sheets sheets' {t} {a0} {before} {now} {a2 = a2} seen old new one two known on
     touch_is is replied words inside keep =

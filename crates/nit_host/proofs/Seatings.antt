@@ -1,21 +1,19 @@
 -- What is left where a client was given a seat.
-use Rattle.std.proofs.Common.{map, List, None, Option, Some, ap, arith, false, get_or, length, refl}
-use Rattle.std.proofs.Common.{set, slice_get, sym, ℕ, ◌<◌, ◌∙◌, ◌≡◌, ◌≢◌, ◌≤◌}
-use Rattle.nit_host.proofs.Basics.{AreHollow, AreLive, AreSheets, Configuration, DesktopModel}
-use Rattle.nit_host.proofs.Basics.{Entry, HostModel, IsHost, Member, Point, SheetModel, State, View}
+use Rattle.std.proofs.Common.{List, None, Option, Some, ap, arith, false, get_or, length, map, refl}
+use Rattle.std.proofs.Common.{set, sym, ℕ, ◌<◌, ◌∙◌, ◌≡◌, ◌≢◌, ◌≤◌}
+use Rattle.nit_host.proofs.Basics.{AreLive, AreSheets, Configuration, DesktopModel, Entry}
+use Rattle.nit_host.proofs.Basics.{HostModel, IsHost, Member, Point, SheetModel, State, View}
 use Rattle.nit_host.proofs.Basics.{black_or_word, blank_sheet, buffer_size, eq-eqb, false≢true}
-use Rattle.nit_host.proofs.Basics.{get_or-map, glass_in, is_label_taken, length-set, length-zeros}
-use Rattle.nit_host.proofs.Basics.{map-set, member, nat_tests, opened, owner_of, owns_none, pixel}
-use Rattle.nit_host.proofs.Basics.{relabelled, seated, session, session_owns, set-get_or, set-set}
-use Rattle.nit_host.proofs.Basics.{sheet_in, sheets_of, shown_index, size_at, slice_get_within}
-use Rattle.nit_host.proofs.Basics.{source_at, source_of, source_under, table_size, unseated}
-use Rattle.nit_host.proofs.Basics.{word_from}
-use Rattle.nit_events.specs.declared.event.Status.TheVariants as status
+use Rattle.nit_host.proofs.Basics.{get_or-map, is_label_taken, length-set, map-set, member}
+use Rattle.nit_host.proofs.Basics.{nat_tests, opened, owner_of, owns_none, pixel, relabelled}
+use Rattle.nit_host.proofs.Basics.{seated, session, session_owns, set-get_or, sheet_in}
+use Rattle.nit_host.proofs.Basics.{sheets_of, shown_index, size_at, source_at, source_of}
+use Rattle.nit_host.proofs.Basics.{source_under, table_size, unseated, word_from}
 use Rattle.nit_screen.specs.Terms.{is_session, option_map_or}
 use Rattle.nit_host.proofs.Beginnings.{blank_plain, no_client, not_met, passed}
-use Rattle.nit_host.proofs.Steps.{blank_again_of, each_put, hollow_blank, host_model, own_room}
-use Rattle.nit_host.proofs.Steps.{put_there, rooms, same_sheets, sheets_with, sight_at, sights}
-use Rattle.nit_host.proofs.Steps.{with_sheet, words_elsewhere, words_with}
+use Rattle.nit_host.proofs.Steps.{Rest, blank_again_of, host_model, own_room, same_sheets}
+use Rattle.nit_host.proofs.Steps.{sheets_with, words_elsewhere, words_with}
+use Rattle.nit_events.specs.declared.event.Status.TheVariants as status
 
 -- ---- what it means that nothing is against it
 
@@ -49,22 +47,6 @@ module _ (config : Configuration) (seat : ℕ) (label : List ℕ) where
       → AreSheets (relabelled seat label config) sheets
   sheets_relabelled are = grind (arith, nat_tests, same_count, same_size)
 
-  hollow_relabelled : {sheets : List SheetModel} → AreHollow config sheets
-      → AreHollow (relabelled seat label config) sheets
-  hollow_relabelled are = grind (arith, nat_tests, same_count, same_size)
-
--- another hollow sheet of the seat
-hollow_with : {config : Configuration} {hollows : List SheetModel} {seat : ℕ} {sheet : SheetModel}
-    → AreHollow config hollows → sheet.sight ≡ blank_sheet seat (size_at config seat) → sheet.room ≡ 0
-    → AreHollow config (set hollows seat sheet)
-hollow_with {config} {hollows} {seat} {sheet} are is none = record {
-  count = length-set hollows seat sheet ∙ are.count;
-  blank = λ t inside. each_put (λ n g. g.sight ≡ blank_sheet n (size_at config n)) hollows seat t sheet
-      (λ e. omega (arith, e, inside, are.count)) is (are.blank t inside);
-  room = λ t inside. each_put (λ n g. g.room ≡ 0) hollows seat t sheet (λ e. omega (arith, e, inside, are.count)) none
-      (are.room t inside);
-}
-
 -- ---- pixels that are not of a session
 
 word_stays : (s : State) {seat : ℕ} (p : Point) {tables tables' : ℕ → List ℕ}
@@ -91,75 +73,51 @@ OpeningsKeep = (s : State) (sid : ℕ) (label : List ℕ) (p : Point) → AreLiv
     → source_of (opened sid label s) p ≡ source_of s p
 
 -- what an opening left of a desktop
-pub record Opens (seat : ℕ) (label : List ℕ) (blank back : SheetModel) (d d' : DesktopModel SheetModel) : Type 0 where
+pub record Opens (seat : ℕ) (label : List ℕ) (sheets sheets' : List SheetModel) (d d' : DesktopModel) : Type 0 where
   pub state : d'.state ≡ opened seat label d.state
   pub left : d'.left ≡ d.left
   pub raw : d'.raw ≡ d.raw
-  pub sights_now : sights d'.glasses ≡ set (sights d.glasses) seat blank.sight
-  pub rooms_now : rooms d'.glasses ≡ set (rooms d.glasses) seat blank.room
-  pub out : back.sight ≡ glass_in (sights d.glasses) seat
+  pub rest : Rest sheets' sheets
 
-pub record WasSeated (seat : ℕ) (label : List ℕ) (h : HostModel) (seen : Option (List ℕ))
-    (d d' : DesktopModel SheetModel) (hollows : List SheetModel) : Type 0 where
-  pub host : IsHost d' hollows
-  pub now : host_model d' None seen ≡ seated seat label h
-  pub words : (k : ℕ) → word_from (sheet_in (sheets_of d.glasses)) (source_at d.state k)
-      ≡ word_from (sheet_in (sheets_of d'.glasses)) (source_at (opened seat label d.state) k)
+pub record WasSeated (seat : ℕ) (label : List ℕ) (h : HostModel) (seen : Option (List ℕ)) (d d' : DesktopModel)
+    (sheets sheets' : List SheetModel) : Type 0 where
+  pub host : IsHost d' sheets'
+  pub now : host_model d' sheets' None seen ≡ seated seat label h
+  pub words : (k : ℕ) → word_from (sheet_in (sheets_of sheets)) (source_at d.state k)
+      ≡ word_from (sheet_in (sheets_of sheets')) (source_at (opened seat label d.state) k)
 
-module _ {d d1 d2 : DesktopModel SheetModel} {hollows : List SheetModel} {seat : ℕ} {label : List ℕ}
-    {hollow own blank back gone : SheetModel}
-    (host : IsHost d hollows) (opens : Opens seat label blank back d1 d2) (swapped : d1 ≡ with_sheet d seat hollow)
-    (at : hollow ≡ get_or hollows seat hollow) (out : slice_get d.glasses seat ≡ Some own)
-    (inside : seat < length d.state.config.clients) (live : AreLive d.state)
+module _ {d d' : DesktopModel} {sheets sheets' : List SheetModel} {seat : ℕ} {label : List ℕ} {own blank : SheetModel}
+    (host : IsHost d sheets) (opens : Opens seat label (set sheets seat blank) sheets' d d')
+    (is : own ≡ get_or sheets seat own) (inside : seat < length d.state.config.clients) (live : AreLive d.state)
     (over : (session d.state seat).status ≢ status.Live)
     (wiped : blank.sight ≡ blank_sheet own.sight.owner own.sight.size) (room : own.room ≤ blank.room)
-    (emptied : gone.sight ≡ blank_sheet back.sight.owner back.sight.size) (nothing : gone.room ≡ 0)
     (keep : OpeningsKeep) where
-  abbrev size : ℕ
-  size = size_at d.state.config seat
-
   abbrev now_all : List SheetModel
-  now_all = set d.glasses seat blank
+  now_all = set sheets seat blank
 
-  o0 : Opens seat label blank back (with_sheet d seat hollow) d2
-  o0 = rw swapped at opens
+  same : sheets' ≡ now_all
+  same = same_sheets opens.rest
 
-  glasses_now : d2.glasses ≡ now_all
-  glasses_now = grind (arith, nat_tests, same_sheets, o0, map-set, set-set)
-
-  blank_is : blank.sight ≡ blank_sheet seat size
-  blank_is = blank_again_of host.sheets out inside wiped
-
-  back_is : back.sight ≡ blank_sheet seat size
-  back_is =
-      o0.out ∙ sight_at (set d.glasses seat hollow) seat
-      ∙ ap (λ (g : SheetModel). g.sight) (put_there d.glasses seat hollow (slice_get_within d.glasses seat own out))
-      ∙ hollow_blank host.hollow at inside
-
-  gone_is : gone.sight ≡ blank_sheet seat size
-  gone_is = emptied ∙ rw back_is (ap (blank_sheet seat) (length-zeros size))
+  blank_is : blank.sight ≡ blank_sheet seat (size_at d.state.config seat)
+  blank_is = blank_again_of host.sheets is inside wiped
 
   all : AreSheets d.state.config now_all
-  all = sheets_with host.sheets (blank_plain d.state.config blank_is) (omega (arith, own_room host.sheets out inside))
+  all = sheets_with host.sheets (blank_plain d.state.config blank_is) (omega (arith, own_room host.sheets is inside))
 
-  words_now : (k : ℕ) → word_from (sheet_in (sheets_of d.glasses)) (source_at d.state k)
+  words_now : (k : ℕ) → word_from (sheet_in (sheets_of sheets)) (source_at d.state k)
       ≡ word_from (sheet_in (sheets_of now_all)) (source_at (opened seat label d.state) k)
   words_now k =
       let p : Point = pixel d.state.config.width k in
-      word_stays d.state p (words_elsewhere d.glasses seat blank) (owns_none d.state seat over live p)
+      word_stays d.state p (words_elsewhere sheets seat blank) (owns_none d.state seat over live p)
       ∙ ap (word_from (sheet_in (sheets_of now_all))) (sym (keep d.state seat label p live over))
 
-  config_now : d2.state.config ≡ relabelled seat label d.state.config
-  config_now = ap (λ (s : State). s.config) o0.state
-
-  pub was_seated : {kept : Option Entry} {seen : Option (List ℕ)} {h : HostModel} → host_model d kept seen ≡ h
-      → WasSeated seat label h seen d d2 (set hollows seat gone)
+  pub was_seated : {kept : Option Entry} {seen : Option (List ℕ)} {h : HostModel} → host_model d sheets kept seen ≡ h
+      → WasSeated seat label h seen d d' sheets sheets'
   was_seated view = rw (← view) (record {
     host = record {
-      sheets = rw (config_now, glasses_now) (sheets_relabelled d.state.config seat label all);
-      hollow = rw config_now (hollow_relabelled d.state.config seat label (hollow_with host.hollow gone_is nothing));
-      fresh = rw (o0.state, glasses_now, o0.raw) (λ k within. host.fresh k within ∙ words_now k);
+      sheets = rw (opens.state, same) (sheets_relabelled d.state.config seat label all);
+      fresh = rw (opens.state, same, opens.raw) (λ k within. host.fresh k within ∙ words_now k);
     };
-    now = rw (o0.state, o0.left, glasses_now, words_with d.glasses seat blank, blank_is) refl;
-    words = rw glasses_now words_now;
+    now = rw (opens.state, opens.left, same, words_with sheets seat blank, blank_is) refl;
+    words = rw same words_now;
   })

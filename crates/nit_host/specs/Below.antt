@@ -2,7 +2,7 @@
 pub use Rattle.nit_config.specs.Configuration.{Configuration, bar_rows, donation_of, member}
 pub use Rattle.nit_config.specs.ConfigurationRanges.{IsConfiguration, IsMember}
 pub use Rattle.nit_config.specs.declared.config.Member.{Member}
-pub use Rattle.nit_desktop.specs.Desktop.{DesktopModel, asks_view}
+pub use Rattle.nit_desktop.specs.Desktop.{DesktopModel, IsServedEntry, asks_view}
 pub use Rattle.nit_events.specs.Input.{deliveries_of, kill_button, kill_key, kill_mode, routed_as}
 pub use Rattle.nit_events.specs.Input.{xray_key, xray_mode}
 pub use Rattle.nit_events.specs.Ranges.{most_code}
@@ -43,12 +43,11 @@ pub use Rattle.nit_look.specs.Look.{AgreeIn, AgreeOutside, CoversChange, IsTouch
 pub use Rattle.nit_look.specs.Look.{place_at}
 pub use Rattle.nit_overlay.specs.Frame.{Scenery, bar_word, frame, shown}
 pub use Rattle.nit_overlay.specs.Terms.{is_some}
-pub use Rattle.nit_paint.specs.Repaint.{IsWordOfSource, no_sight}
+pub use Rattle.nit_paint.specs.Repaint.{IsWordOfSource}
 pub use Rattle.nit_rect.specs.Limits.{least_units, most_height, most_length, most_sessions}
 pub use Rattle.nit_rect.specs.Limits.{most_units, most_width}
 pub use Rattle.nit_rect.specs.Rectangle.{IsPlace, Rectangle, covers, is_rectangle, rectangle, spans}
 pub use Rattle.nit_rect.specs.declared.point.Point.{Point}
-pub use Rattle.nit_repaint.specs.Glasses.{glass_in, glasses_of_call}
 pub use Rattle.nit_repaint.specs.PixelOwners.{is_word_in}
 pub use Rattle.nit_report.specs.JournalText.{journal_text}
 pub use Rattle.nit_screen.specs.DirtyPixels.{dirty, dirty_by_call, is_killed, is_owned_by}
@@ -72,3 +71,4 @@ pub use Rattle.nit_word.specs.Zeros.{filled_up, zeros}
 pub use Rattle.std.specs.List.{enumerate_from, list_all, list_any, range_with_len}
 pub use Rattle.std.specs.Option.{option_map, option_map_or}
 pub use Rattle.std.specs.Prelude.{slice_index}
+pub use Rattle.nit_word.specs.Sights.{glass_in, no_sight}

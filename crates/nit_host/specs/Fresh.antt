@@ -1,6 +1,5 @@
 -- What holds of a host: that no word of its screen is stale.
 use Rattle.std.specs.Prelude.{◌≡◌, ℕ, ◌<◌, ◌≤◌, List, length, map, slice_index, slice_index_or}
-use Rattle.std.specs.Prelude.{None}
 use Rattle.nit_host.specs.Below.{Configuration, DesktopModel, Sight, State, member, no_sight}
 use Rattle.nit_host.specs.Below.{pixel_count, plain_sight, source_at, table_size, told_words}
 use Rattle.nit_host.specs.Below.{word_from}
@@ -30,31 +29,18 @@ pub record AreSheets (config : Configuration) (sheets : List SheetModel) : Type 
   pub plain : (t : ℕ) → t < length config.clients → IsPlainOf config t (sheet_at sheets t).sight
   pub room : (t : ℕ) → t < length config.clients → size_at config t ≤ (sheet_at sheets t).room
 
--- no sheet tells what was loaded
-abbrev pub AreQuiet : List SheetModel → Type 0
-AreQuiet sheets = (t : ℕ) → (sheet_at sheets t).sight.log ≡ None
-
 -- each seat has a sheet, all of whose words are 0
 pub record AreBlank (config : Configuration) (sheets : List SheetModel) : Type 0 where
   pub count : length sheets ≡ length config.clients
   pub blank : (t : ℕ) → t < length config.clients → (sheet_at sheets t).sight ≡ blank_sheet t
       (size_at config t)
 
--- each seat has one that takes no memory
-pub record AreHollow (config : Configuration) (sheets : List SheetModel) : Type 0 where
-  pub count : length sheets ≡ length config.clients
-  pub blank : (t : ℕ) → t < length config.clients → (sheet_at sheets t).sight ≡ blank_sheet t
-      (size_at config t)
-  pub room : (t : ℕ) → t < length config.clients → (sheet_at sheets t).room ≡ 0
-
 -- each raw word is the one that the session of its source has handed in last
 abbrev pub IsFresh : State → (ℕ → List ℕ) → List ℕ → Type 0
 IsFresh s tables raw =
     (k : ℕ) → k < pixel_count s → slice_index raw k ≡ word_from tables (source_at s k)
 
--- the seats have their sheets, and hollow ones that take their place while a client calls, and the
--- screen shows what the sheets tell
-pub record IsHost (d : DesktopModel SheetModel) (hollows : List SheetModel) : Type 0 where
-  pub sheets : AreSheets d.state.config d.glasses
-  pub hollow : AreHollow d.state.config hollows
-  pub fresh : IsFresh d.state (sheet_in (sheets_of d.glasses)) d.raw
+-- the seats have their sheets, and the screen shows what the sheets tell
+pub record IsHost (d : DesktopModel) (own : List SheetModel) : Type 0 where
+  pub sheets : AreSheets d.state.config own
+  pub fresh : IsFresh d.state (sheet_in (sheets_of own)) d.raw

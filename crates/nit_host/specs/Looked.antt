@@ -6,9 +6,9 @@ use Rattle.nit_host.specs.Fresh.{sheets_of}
 use Rattle.nit_host.specs.Host.{frame_by}
 use Rattle.nit_host.specs.Sheet.{SheetModel}
 
--- the frame that a desktop of sheets shows
-abbrev pub frame_at : DesktopModel SheetModel → List ℕ
-frame_at d = frame_by d.state (sheets_of d.glasses)
+-- the frame that a desktop shows by these sheets
+abbrev pub frame_at : DesktopModel → List SheetModel → List ℕ
+frame_at d sheets = frame_by d.state (sheets_of sheets)
 
 -- outside of the area no pixel has changed since the last look; before the first one the area is
 -- the whole screen

@@ -7,25 +7,25 @@ pub use Rattle.nit_host.specs.Below.{AgreeIn, AgreeOutside, Agrees, Answered, Ar
 pub use Rattle.nit_host.specs.Below.{AreSteps, Area, Bare, Black, Call, Configuration, CoversChange}
 pub use Rattle.nit_host.specs.Below.{Delivery, DesktopModel, Device, Entry, Flat, Gets, IsClickAt}
 pub use Rattle.nit_host.specs.Below.{IsConfiguration, IsDown, IsFrameShown, IsFreeLabel, IsInked}
-pub use Rattle.nit_host.specs.Below.{IsLive, IsLoaded, IsMember, IsPlace, IsStepOf, IsTouched}
-pub use Rattle.nit_host.specs.Below.{IsWord, IsWordOfSource, Item, Kill, KillsPointed, LiesOn}
-pub use Rattle.nit_host.specs.Below.{Member, Mode, Observation, Painted, PixelSource, PlanError}
-pub use Rattle.nit_host.specs.Below.{Point, Rectangle, Reply, Routed, Scenery, SeatPlan, Serves}
-pub use Rattle.nit_host.specs.Below.{Session, ShowsLabels, Sight, Size, Stages, State, Step}
+pub use Rattle.nit_host.specs.Below.{IsLive, IsLoaded, IsMember, IsPlace, IsServedEntry, IsStepOf}
+pub use Rattle.nit_host.specs.Below.{IsTouched, IsWord, IsWordOfSource, Item, Kill, KillsPointed}
+pub use Rattle.nit_host.specs.Below.{LiesOn, Member, Mode, Observation, Painted, PixelSource}
+pub use Rattle.nit_host.specs.Below.{PlanError, Point, Rectangle, Reply, Routed, Scenery, SeatPlan}
+pub use Rattle.nit_host.specs.Below.{Serves, Session, ShowsLabels, Sight, Size, Stages, State, Step}
 pub use Rattle.nit_host.specs.Below.{TellsFocus, TellsLeave, Touch, Unseated, Unserved, View, Word}
 pub use Rattle.nit_host.specs.Below.{Xray, after, after_accepted, after_deliveries, after_delivery}
 pub use Rattle.nit_host.specs.Below.{after_step, after_steps, among, answered, asks_view, bar_rows}
 pub use Rattle.nit_host.specs.Below.{bar_word, bare_word, black_or_word, buffer_place, buffer_size}
 pub use Rattle.nit_host.specs.Below.{covers, deliveries_of, dirty, dirty_by_call, donation_of}
 pub use Rattle.nit_host.specs.Below.{enumerate_from, filled_up, first_input, first_session}
-pub use Rattle.nit_host.specs.Below.{first_state, frame, glass_in, glasses_of_call, in_bar}
-pub use Rattle.nit_host.specs.Below.{index_at, input_after_call, is_accepted, is_between, is_button}
-pub use Rattle.nit_host.specs.Below.{is_held, is_key, is_kill, is_killed, is_label, is_mode_key}
-pub use Rattle.nit_host.specs.Below.{is_owned_by, is_rectangle, is_session, is_some, is_view}
-pub use Rattle.nit_host.specs.Below.{is_word_in, kill_button, kill_key, kill_mode, kills, layer}
-pub use Rattle.nit_host.specs.Below.{least_units, list_all, list_any, member, most_height}
-pub use Rattle.nit_host.specs.Below.{most_length, most_sessions, most_units, most_width, no_sight}
-pub use Rattle.nit_host.specs.Below.{opened, opening_of, option_map, option_map_or, owner, owner_of}
+pub use Rattle.nit_host.specs.Below.{first_state, frame, glass_in, in_bar, index_at}
+pub use Rattle.nit_host.specs.Below.{input_after_call, is_accepted, is_between, is_button, is_held}
+pub use Rattle.nit_host.specs.Below.{is_key, is_kill, is_killed, is_label, is_mode_key, is_owned_by}
+pub use Rattle.nit_host.specs.Below.{is_rectangle, is_session, is_some, is_view, is_word_in}
+pub use Rattle.nit_host.specs.Below.{kill_button, kill_key, kill_mode, kills, layer, least_units}
+pub use Rattle.nit_host.specs.Below.{list_all, list_any, member, most_height, most_length}
+pub use Rattle.nit_host.specs.Below.{most_sessions, most_units, most_width, no_sight, opened}
+pub use Rattle.nit_host.specs.Below.{opening_of, option_map, option_map_or, owner, owner_of}
 pub use Rattle.nit_host.specs.Below.{owns_either, pixel, pixel_count, place_at, plain_sight, point}
 pub use Rattle.nit_host.specs.Below.{projection, range_with_len, rectangle, refusal, relabelled}
 pub use Rattle.nit_host.specs.Below.{replies_from, replies_to, route, routed_as, scenery_of, seen}
@@ -34,14 +34,15 @@ pub use Rattle.nit_host.specs.Below.{shows_part, since_opening, slice_index, sou
 pub use Rattle.nit_host.specs.Below.{source_under, spans, table_size, to, told_words, under_pointer}
 pub use Rattle.nit_host.specs.Below.{vacant_state, view_owns, word_from, words_of, xray_key}
 pub use Rattle.nit_host.specs.Below.{xray_mode, zeros}
-pub use Rattle.nit_host.specs.Fresh.{AreBlank, AreHollow, AreQuiet, AreSheets, IsFresh, IsHost}
-pub use Rattle.nit_host.specs.Fresh.{IsPlainOf, sheet_at, sheets_of, size_at}
+pub use Rattle.nit_host.specs.Fresh.{AreBlank, AreSheets, IsFresh, IsHost, IsPlainOf, sheet_at}
+pub use Rattle.nit_host.specs.Fresh.{sheets_of, size_at}
 pub use Rattle.nit_host.specs.Handing.{CanTakeWords, IsHandedIn, after_handing, is_in_rows}
-pub use Rattle.nit_host.specs.Host.{HostModel, IsAsSeen, IsFirst, IsOneOf, blank_sheets, called}
-pub use Rattle.nit_host.specs.Host.{first_host, frame_by, frame_shown, handed, is_device, is_handed}
-pub use Rattle.nit_host.specs.Host.{lacks_handles, last_text, looked, picture, picture_from}
-pub use Rattle.nit_host.specs.Host.{refreshed, reply_to, routed_of, sheet_in, told, unserved_call}
-pub use Rattle.nit_host.specs.Host.{unserved_input, unserved_refresh, with_handed, worn_out}
+pub use Rattle.nit_host.specs.Host.{HostModel, IsAsSeen, IsFirst, IsOneOf, behind, blank_sheets}
+pub use Rattle.nit_host.specs.Host.{called, first_host, frame_by, frame_shown, handed, is_device}
+pub use Rattle.nit_host.specs.Host.{is_handed, lacks_handles, last_text, looked, picture}
+pub use Rattle.nit_host.specs.Host.{picture_from, refreshed, reply_to, routed_of, sheet_in, told}
+pub use Rattle.nit_host.specs.Host.{unserved_call, unserved_input, unserved_refresh, with_handed}
+pub use Rattle.nit_host.specs.Host.{worn_out}
 pub use Rattle.nit_host.specs.Looked.{IsSeenBut, frame_at}
 pub use Rattle.nit_host.specs.Moves.{IsClickBy, IsClickOff, IsKillClick, IsTakenByClicks}
 pub use Rattle.nit_host.specs.Moves.{SwitchesMode, TakesFocus, is_held_after}

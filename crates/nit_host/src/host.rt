@@ -25,15 +25,20 @@ use std::snapshot::Snapshot;
 /// in, the last entry, and what changed since the last look.
 #[derive(Drop)]
 pub struct Host {
-    pub(crate) desktop: Desktop<Sheet>,
-    /// For each seat a sheet of no words but 0, which takes no memory. It takes the place of the
-    /// seat's sheet while that is another's, as the client's own during a call.
-    pub(crate) hollows: Vec<Sheet>,
+    pub(crate) desktop: Desktop,
+    /// The words of each seat's client, through which the desktop loads its pixels.
+    pub(crate) sheets: Vec<Sheet>,
     pub(crate) last: Option<Entry>,
     /// Outside of it no pixel of the frame has changed since the last look.
     pub(crate) changed: Area,
-    /// The desktop at the last look, for contracts alone.
-    pub(crate) seen: Option<Snapshot<Desktop<Sheet>>>,
+    pub(crate) seen: Option<Seen>,
+}
+
+/// What the last look saw, for contracts alone.
+#[derive(Drop)]
+pub(crate) struct Seen {
+    pub(crate) desktop: Snapshot<Desktop>,
+    pub(crate) sheets: Snapshot<Vec<Sheet>>,
 }
 
 impl Model for Host {
@@ -47,15 +52,15 @@ impl Model for Host {
 
     ghost view = { λ h. record {
       state = h.desktop.state;
-      sheets = sheets_of h.desktop.glasses;
+      sheets = sheets_of h.sheets.items;
       left = h.desktop.left;
       last = h.last;
-      seen = option_map (λ s. frame_at s.value) h.seen;
+      seen = option_map (λ s. frame_at s.desktop.value s.sheets.value.items) h.seen;
     } };
 
-    ghost invariant = { λ h. IsHost h.desktop h.hollows.items
-        × IsSeenBut h.desktop.state (sheets_of h.desktop.glasses) h.changed
-        (option_map (λ s. frame_at s.value) h.seen)
+    ghost invariant = { λ h. IsHost h.desktop h.sheets.items
+        × IsSeenBut h.desktop.state (sheets_of h.sheets.items) h.changed
+        (option_map (λ s. frame_at s.desktop.value s.sheets.value.items) h.seen)
         × IsAreaOf h.desktop.state.config.width h.desktop.state.config.height h.changed };
 }
 

@@ -14,8 +14,7 @@ use std::marker::Model;
 const WORDS: u32 = 1 << 24;
 
 /// The glass of a seat. Words from the first place that was never reached on are 0 and are not
-/// kept, so that a blank sheet takes no time, and one without room takes no memory: it is nothing
-/// but a size.
+/// kept, so that a blank sheet takes no time.
 #[derive(Drop)]
 pub(crate) struct Sheet {
     owner: u32,
@@ -49,30 +48,6 @@ impl Sheet {
             size,
             reached: Vec::with_capacity(alloc, size)?,
         })
-    }
-
-    /// A sheet that is nothing but its size: its words are 0, and it has no room for others.
-    pub(crate) fn hollow(alloc: Global, owner: u32, size: usize) -> Sheet
-        ensures sight { result.sight ≡ blank_sheet owner size }
-        ensures room { result.room ≡ 0 }
-    {
-        let Ok(reached) = Vec::with_capacity(alloc, 0) else {
-            unreachable!()
-        };
-        Sheet {
-            owner,
-            size,
-            reached,
-        }
-    }
-
-    /// Each word is 0 again, and what memory it has is freed. A hollow one stays as it is.
-    pub(crate) fn hollow_out(&mut self)
-        ensures sight { self.new.sight ≡ blank_sheet self.old.sight.owner self.old.sight.size }
-        ensures room { self.new.room ≡ 0 }
-    {
-        self.reached.clear();
-        self.reached.shrink_to_fit();
     }
 
     /// Each word is 0 again.
@@ -126,11 +101,11 @@ fn set_row(words: &mut [u32], from: usize, to: usize, others: &[u32])
 }
 
 impl Glass for Sheet {
-    type Rest = usize;
+    type Rest = Sheet;
 
     ghost sight = { λ s. s.sight };
 
-    ghost rest = { λ s. s.room };
+    ghost rest = { λ s. s };
 
     fn load(&mut self, i: usize) -> u32 {
         if i < self.reached.len() {

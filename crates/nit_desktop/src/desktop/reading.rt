@@ -2,16 +2,15 @@
 
 ghost use Rattle.std.specs.Prelude.{◌≡◌, ◌<◌, ◌≤◌, ◌*◌, IfSome, IsTrue, false, length, Some};
 ghost use Rattle.std.specs.Prelude.{slice_get};
-ghost use Rattle.nit_desktop.specs.Terms.{AreGlasses, AreLive, IsConfiguration, IsFreeLabel};
-ghost use Rattle.nit_desktop.specs.Terms.{IsPlace, member, refusal, session, table_size};
+ghost use Rattle.nit_desktop.specs.Terms.{AreLive, IsConfiguration, IsFreeLabel, IsPlace, member};
+ghost use Rattle.nit_desktop.specs.Terms.{refusal, session, table_size};
 
 use crate::desktop::Desktop;
 use nit_events::{Call, Mode, Reply, Status};
 use nit_glyph::Label;
 use nit_stack::View;
-use nit_word::Glass;
 
-impl<G: Glass + Drop> Desktop<G> {
+impl Desktop {
     /// How many more entries it serves.
     pub fn left(&self) -> u64
         ensures { result ≡ self.now.left }
@@ -24,7 +23,6 @@ impl<G: Glass + Drop> Desktop<G> {
         ensures config { IsConfiguration self.now.state.config }
         ensures sessions { length self.now.state.sessions ≡ length self.now.state.config.clients }
         ensures live { AreLive self.now.state }
-        ensures glasses { AreGlasses G.sight self.now.state.config self.now.glasses }
         ensures pixels { length self.now.raw
             ≡ self.now.state.config.width * self.now.state.config.height }
     {

@@ -1,20 +1,15 @@
 //! Calls of the clients at their seats.
 
-ghost use Rattle.std.specs.Prelude.{◌≡◌, ◌-◌, ◌*◌, ◌^◌, ◌<◌, ◌≤◌, None, Some, Ok, Err, length, map};
-ghost use Rattle.std.specs.Prelude.{slice_get, slice_set, true};
-ghost use Rattle.nit_host.specs.Terms.{AreQuiet, Calls, IsPlainOf, Painted, Refreshes, Reply};
-ghost use Rattle.nit_host.specs.Terms.{Unserved, after, after_act, asks_view, called, glass_in};
-ghost use Rattle.nit_host.specs.Terms.{rectangle, refreshed, refusal, reply_to, serve, session};
+ghost use Rattle.std.specs.Prelude.{◌≡◌, ◌*◌, ◌<◌, None, Some, Ok, Err, length};
+ghost use Rattle.nit_host.specs.Terms.{Calls, Refreshes, Reply, Unserved, after_act, asks_view};
+ghost use Rattle.nit_host.specs.Terms.{called, rectangle, refreshed, refusal, reply_to, session};
 ghost use Rattle.nit_host.specs.Terms.{unserved_call, unserved_refresh, worn_out};
 ghost use Rattle.nit_events.specs.declared.call.Call.TheVariants as call;
-ghost use Rattle.nit_events.specs.declared.entry.Entry.TheVariants as entry;
 
 use crate::host::Host;
 use crate::host::handing::hand_in;
 use crate::host::touch::{touch_of, touched};
 use crate::refusal::Unserved;
-use crate::sheet::Sheet;
-use nit_desktop::Desktop;
 use nit_events::{Call, Entry, Reply};
 use nit_rect::Rect;
 use nit_screen::laws::clean_pixels_keep_their_source;
@@ -44,9 +39,7 @@ impl Host {
         self.desktop.facts();
         let touch = touch_of(&self.desktop, seat, call);
         let before = touched(&self.desktop, seat, &touch);
-        let own = &mut self.hollows[seat as usize];
-        self.desktop.exchange(seat, own);
-        let reply = serve(&mut self.desktop, seat, call, own);
+        let reply = self.desktop.call(seat, call, &mut self.sheets);
         let after = touched(&self.desktop, seat, &touch);
         self.changed = self.changed.join(&before).join(&after);
         self.last = Some(Entry::Call {
@@ -94,10 +87,8 @@ impl Host {
         let buffer = self.desktop.buffer(seat);
         let touch = touch_of(&self.desktop, seat, &call);
         let before = touched(&self.desktop, seat, &touch);
-        let own = &mut self.hollows[seat as usize];
-        self.desktop.exchange(seat, own);
-        hand_in(own, buffer, &part, words);
-        let reply = serve(&mut self.desktop, seat, &call, own);
+        hand_in(&mut self.sheets[seat as usize], buffer, &part, words);
+        let reply = self.desktop.call(seat, &call, &mut self.sheets);
         let after = touched(&self.desktop, seat, &touch);
         self.changed = self.changed.join(&before).join(&after);
         self.last = Some(Entry::Call {
@@ -170,32 +161,6 @@ fn refresh_of(place: (i32, i32), size: (u32, u32)) -> Call
     ensures { result ≡ call.Refresh place.0 place.1 size.0 size.1 }
 {
     Call::Refresh(place.0, place.1, size.0, size.1)
-}
-
-/// Serves a call of the client at a seat. Its sheet, `own`, stood in the desktop before a hollow
-/// one took its place; it is seen as the client's own, and changes places with the hollow one
-/// again.
-fn serve(desktop: &mut Desktop<Sheet>, seat: u32, call: &Call, own: &mut Sheet) -> Reply
-    requires session { seat < length desktop.old.state.sessions }
-    requires left { 1 ≤ desktop.old.left }
-    requires handles { asks_view call.now ≡ true
-        → (session desktop.old.state seat).next < 2 ^ 32 - 2 }
-    requires own { IsPlainOf desktop.old.state.config seat own.old.sight }
-    requires quiet { AreQuiet desktop.old.glasses }
-    ensures reply { result ≡ (serve (session desktop.old.state seat) call.now).reply }
-    ensures state { desktop.new.state ≡ after desktop.old.state (entry.Call seat call.now result) }
-    ensures left { desktop.new.left ≡ desktop.old.left - 1 }
-    ensures glasses { desktop.new.glasses ≡ slice_set desktop.old.glasses seat own.old }
-    ensures own { slice_get desktop.old.glasses seat ≡ Some own.new }
-    ensures painted { let sights = glass_in (map (λ g. g.sight) desktop.new.glasses) in
-        Painted desktop.old.state (entry.Call seat call.now result) desktop.new.state sights sights
-        desktop.old.raw desktop.new.raw }
-{
-    desktop.facts();
-    let reply = desktop.call(seat, call, own);
-    desktop.facts();
-    desktop.exchange(seat, own);
-    reply
 }
 
 /// Whether a call asks for a new view.

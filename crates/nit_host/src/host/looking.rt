@@ -4,8 +4,8 @@ ghost use Rattle.std.specs.Prelude.{◌≡◌, ◌*◌, ◌↔◌, None, IfOk, I
 ghost use Rattle.nit_host.specs.Terms.{AgreeIn, CoversChange, IsAsSeen, IsTouched, LiesOn, Looks};
 ghost use Rattle.nit_host.specs.Terms.{after_act, frame_shown, last_text, looked};
 
-use crate::host::Host;
 use crate::host::area::Area;
+use crate::host::{Host, Seen};
 use nit_look::look;
 use nit_rect::{NoMemory, Rect};
 use nit_report::journal_text;
@@ -40,7 +40,10 @@ impl Host {
         let part = self.changed.rect();
         let found = look(self.frame(), width as usize, height as usize, &part, out);
         self.changed = Area::none();
-        self.seen = Some(Snapshot::of(&self.desktop));
+        self.seen = Some(Seen {
+            desktop: Snapshot::of(&self.desktop),
+            sheets: Snapshot::of(&self.sheets),
+        });
         found
     }
 

@@ -1,9 +1,8 @@
 //! A host before its first step.
 
-ghost use Rattle.std.specs.Prelude.{◌≡◌, ◌≤◌, ◌<◌, IfOk, length, ℕ};
-ghost use Rattle.nit_host.specs.Terms.{AreBlank, AreHollow, AreSheets, IsConfiguration};
-ghost use Rattle.nit_host.specs.Terms.{blank_sheet, first_host, first_state, sheet_at, size_at};
-ghost use Rattle.nit_host.specs.Terms.{vacant_state};
+ghost use Rattle.std.specs.Prelude.{◌≡◌, IfOk};
+ghost use Rattle.nit_host.specs.Terms.{AreBlank, AreSheets, IsConfiguration, first_host};
+ghost use Rattle.nit_host.specs.Terms.{first_state, vacant_state};
 
 use crate::host::Host;
 use crate::host::area::Area;
@@ -22,11 +21,10 @@ impl Host {
         requires { IsConfiguration config.now }
         ensures { IfOk result (λ h. h ≡ first_host (vacant_state config.now) config.now) }
     {
-        let hollows = hollows(alloc, config)?;
-        let sheets = sheets(alloc, config)?;
+        let mut sheets = sheets(alloc, config)?;
         Ok(Host {
-            desktop: Desktop::vacant(alloc, config, sheets)?,
-            hollows,
+            desktop: Desktop::vacant(alloc, config, &mut sheets)?,
+            sheets,
             last: None,
             changed: Area::of_rows(config.width, config.height),
             seen: None,
@@ -39,11 +37,10 @@ impl Host {
         requires { IsConfiguration config.now }
         ensures { IfOk result (λ h. h ≡ first_host (first_state config.now) config.now) }
     {
-        let hollows = hollows(alloc, config)?;
         let sheets = sheets(alloc, config)?;
         Ok(Host {
-            desktop: Desktop::new(alloc, config, sheets)?,
-            hollows,
+            desktop: Desktop::new(alloc, config)?,
+            sheets,
             last: None,
             changed: Area::of_rows(config.width, config.height),
             seen: None,
@@ -64,18 +61,4 @@ fn sheets(alloc: Global, config: &Config) -> Result<Vec<Sheet>, NoMemory>
         sheets.push(Sheet::new(alloc, seat as u32, size)?)?;
     }
     Ok(sheets)
-}
-
-/// A hollow sheet for each seat, in order.
-fn hollows(alloc: Global, config: &Config) -> Result<Vec<Sheet>, NoMemory>
-    requires { IsConfiguration config.now }
-    ensures { IfOk result (λ v. AreHollow config.now v.items) }
-{
-    let clients = config.clients.as_slice();
-    let mut hollows = Vec::new(alloc);
-    'seats: for seat in 0..clients.len() {
-        let size = table_size(clients[seat].donation) as usize;
-        hollows.push(Sheet::hollow(alloc, seat as u32, size))?;
-    }
-    Ok(hollows)
 }

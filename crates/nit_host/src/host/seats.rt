@@ -31,11 +31,8 @@ impl Host {
         openings_keep_all();
         self.desktop.facts();
         let part = bar_or_screen(&self.desktop);
-        let own = &mut self.hollows[seat as usize];
-        self.desktop.exchange(seat, own);
-        own.wipe();
-        self.desktop.reopen(seat, label, own);
-        own.hollow_out();
+        self.sheets[seat as usize].wipe();
+        self.desktop.reopen(seat, label, &mut self.sheets);
         self.changed = self.changed.join(&part);
         self.last = None;
         Ok(())

@@ -8,7 +8,6 @@ ghost use Rattle.nit_host.specs.Terms.{shows_place, touch_of, touched_by, touche
 
 use crate::host::area::Area;
 use crate::host::handing::clip;
-use crate::sheet::Sheet;
 use nit_desktop::Desktop;
 use nit_events::{Call, Delivery, Item, Mode, Routed};
 use nit_rect::Rect;
@@ -33,7 +32,7 @@ pub(crate) enum Touch {
 }
 
 /// What a call of a seat's client can change.
-pub(crate) fn touch_of(desktop: &Desktop<Sheet>, seat: u32, call: &Call) -> Touch
+pub(crate) fn touch_of(desktop: &Desktop, seat: u32, call: &Call) -> Touch
     requires { seat < length desktop.now.state.sessions }
     ensures { result ≡ touch_of desktop.now.state seat call.now }
 {
@@ -101,7 +100,7 @@ fn part_touched(x: i32, y: i32, w: u32, h: u32) -> Touch
 }
 
 /// An area with all pixels of the screen that are touched as the views stand.
-pub(crate) fn touched(desktop: &Desktop<Sheet>, seat: u32, touch: &Touch) -> Area
+pub(crate) fn touched(desktop: &Desktop, seat: u32, touch: &Touch) -> Area
     ensures area { IsAreaOf desktop.now.state.config.width desktop.now.state.config.height result }
     ensures touched { HoldsTouched desktop.now.state seat touch.now result }
 {
@@ -115,7 +114,7 @@ pub(crate) fn touched(desktop: &Desktop<Sheet>, seat: u32, touch: &Touch) -> Are
 }
 
 /// An area with that of a screen and all pixels of the views that are touched.
-fn views_touched(desktop: &Desktop<Sheet>, seat: u32, touch: &Touch, bare: &Area) -> Area
+fn views_touched(desktop: &Desktop, seat: u32, touch: &Touch, bare: &Area) -> Area
     requires { IsAreaOf desktop.now.state.config.width desktop.now.state.config.height bare.now }
     ensures area { IsAreaOf desktop.now.state.config.width desktop.now.state.config.height result }
     ensures bare { (x y : ℕ) → has_place bare.now x y ≡ true → has_place result x y ≡ true }
@@ -186,7 +185,7 @@ fn bar(size: (u32, u32)) -> Area
 }
 
 /// An area with the status bar, and in the modes that draw over the whole screen with all of it.
-pub(crate) fn bar_or_screen(desktop: &Desktop<Sheet>) -> Area
+pub(crate) fn bar_or_screen(desktop: &Desktop) -> Area
     ensures { IsBarArea desktop.now.state result }
 {
     let size = desktop.size();
@@ -198,7 +197,7 @@ pub(crate) fn bar_or_screen(desktop: &Desktop<Sheet>) -> Area
 
 /// An area with all that the bar and the mode draw, which is the whole screen where a client is
 /// locked out.
-pub(crate) fn told(desktop: &Desktop<Sheet>, routed: &Routed) -> Area
+pub(crate) fn told(desktop: &Desktop, routed: &Routed) -> Area
     ensures { IsToldArea desktop.now.state (deliveries_of routed.now) result }
 {
     if locks_out(routed) {
@@ -210,7 +209,7 @@ pub(crate) fn told(desktop: &Desktop<Sheet>, routed: &Routed) -> Area
 }
 
 /// The mode, and who has the focus: what the bar tells.
-pub(crate) fn bar_tells(desktop: &Desktop<Sheet>) -> (Mode, Option<u32>)
+pub(crate) fn bar_tells(desktop: &Desktop) -> (Mode, Option<u32>)
     ensures mode { result.0 ≡ desktop.now.state.input.mode }
     ensures focus { result.1 ≡ desktop.now.state.input.focus }
 {

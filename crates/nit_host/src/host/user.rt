@@ -38,7 +38,7 @@ impl Host {
         self.desktop.facts();
         let bar = bar_tells(&self.desktop);
         let before = bar_or_screen(&self.desktop);
-        let routed = self.desktop.input(device);
+        let routed = self.desktop.input(device, &mut self.sheets);
         let after = told(&self.desktop, &routed);
         let is_same = shows_the_same(bar, bar_tells(&self.desktop), &routed);
         self.changed = self.changed.join_unless(is_same, &before, &after);

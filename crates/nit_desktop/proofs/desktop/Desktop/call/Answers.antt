@@ -1,6 +1,6 @@
-use Rattle.std.proofs.Common.{refl, sym, ◌-◌, ◌∙◌}
+use Rattle.std.proofs.Common.{refl, sym, ◌∙◌}
 use Rattle.nit_desktop.proofs.Lemmas.{Agrees, call_keeps_handles, goes_on, inks_again, raw_again}
-use Rattle.nit_desktop.proofs.Lemmas.{session, state_of, unaccepted_state}
+use Rattle.nit_desktop.proofs.Lemmas.{state_of, unaccepted_state}
 use Rattle.nit_events.specs.declared.entry.Entry.TheVariants as entry
 use Rattle.nit_desktop.proofs.desktop.Desktop.call.Goals as goal
 
@@ -26,7 +26,6 @@ returns-clause-served g c =
       left = refl;
       raw = raw_again e c.call.new.self.raw c.self.invariant c.call.ensures.state agrees _ _ c.call.ensures.painted
           c.raw_stays_raw.ensures;
-      rests = c.call.ensures.rests;
     })
 
 pub returns-clause-inked : goal.returns-clause-inked
@@ -42,4 +41,4 @@ returns-clause-refused g c = λ no_.
     let s = state_of c.self.inside.screen.serving in
     let r = c.call.ensures.refused no_ in
     let same = unaccepted_state s c.args.sid c.args.call.now c.call.result c.call.ensures.reply no_ in
-    rw (← c.self.view_is) (c.call.ensures.state ∙ sym same, r.0, r.1, r.2)
+    rw (← c.self.view_is) (c.call.ensures.state ∙ sym same, r.0, r.1)

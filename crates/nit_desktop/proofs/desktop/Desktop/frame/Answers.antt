@@ -2,7 +2,7 @@ use Rattle.nit_desktop.proofs.Lemmas.{scenery_of, state_of}
 use Rattle.nit_desktop.proofs.desktop.Desktop.frame.Goals as goal
 
 pub returns-clause-shown : goal.returns-clause-shown
-returns-clause-shown g c =
+returns-clause-shown c =
     let s = state_of c.self.inside.screen.serving in
     rw (← c.self.view_is) (record {
       frame = c.frame.ensures.frame;

@@ -1,4 +1,4 @@
-use Rattle.std.proofs.Common.{All, List, refl, subst, sym, ◌-◌}
+use Rattle.std.proofs.Common.{All, List, refl, subst, sym}
 use Rattle.nit_desktop.proofs.Lemmas.{Agrees, Delivery, IsLive, goes_on, inks_again}
 use Rattle.nit_desktop.proofs.Lemmas.{input_keeps_handles, raw_again, state_of}
 use Rattle.nit_events.specs.declared.entry.Entry.TheVariants as entry
@@ -25,7 +25,6 @@ returns-clause-served g c =
       left = refl;
       raw = raw_again e c.input.new.self.raw c.self.invariant c.input.ensures.state agrees _ _ c.input.ensures.painted
           c.raw_stays_raw.ensures;
-      rests = c.input.ensures.rests;
     })
 
 pub input-requires-clause-live : goal.input-requires-clause-live

@@ -4,7 +4,7 @@ use Rattle.nit_desktop.proofs.desktop.Desktop.vacant.Goals as goal
 
 pub invariant_of-desktop : goal.invariant_of-desktop
 invariant_of-desktop g c =
-    let state_ = ap (λ (d : DesktopModel g.row.G.Denot). d.state) c.desktop.view_is ∙ c.close_all.ensures.state in
+    let state_ = ap (λ (d : DesktopModel). d.state) c.desktop.view_is ∙ c.close_all.ensures.state in
     record {
       live = c.desktop.invariant.live;
       raw_words = c.desktop.invariant.raw_words;

@@ -9,7 +9,7 @@ returns-clause-shown c =
     let state_ : d.state ≡ c.args.self.now.state = ap (λ (h : HostModel). h.state) c.self.view_is in
     let e = c.frame.ensures.shown in
     record {
-      frame = e.frame ∙ shown_fresh d.state (sheet_in (sheets_of d.glasses)) d.raw c.self.invariant.0.fresh
+      frame = e.frame ∙ shown_fresh d.state (sheet_in (sheets_of c.self.inside.sheets.items)) d.raw c.self.invariant.0.fresh
           ∙ ap (λ (h : HostModel). frame (scenery_of h.state) (picture h)) c.self.view_is;
       labels = rw state_ at e.labels;
       words = e.words;

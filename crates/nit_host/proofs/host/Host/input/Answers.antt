@@ -1,27 +1,33 @@
-use Rattle.nit_host.proofs.Lemmas.{HostModel, Ok, WasTold, ap, frame_at, option_map, seen_input}
-use Rattle.nit_host.proofs.Lemmas.{sheets_of, sym, told, was_told, when_served, ◌∙◌}
+use Rattle.nit_host.proofs.Lemmas.{Ok, WasServed, WasTold, ap, are_glasses, frame_at, option_map, same_sheets}
+use Rattle.nit_host.proofs.Lemmas.{seen_input, sheets_of, sym, was_told, when_served, ◌∙◌}
+use Rattle.nit_events.specs.declared.entry.Entry.TheVariants as entry
 use Rattle.nit_host.proofs.host.Host.input.Goals as goal
 
+pub input-routed-requires-clause-glasses : goal.input-routed-requires-clause-glasses
+input-routed-requires-clause-glasses c = are_glasses c.self.invariant.0.sheets
+
 -- what the event left
-abbrev done : (c : goal.After-self-2-1) → WasTold c.args.device c.input-routed.result c.args.self.now
-    (option_map (λ s. frame_at s.value) c.self.inside.seen) c.input-routed.new.self c.self.inside.hollows.items
+done : (c : goal.After-self-2-1) → WasTold c.args.device c.input-routed.result c.args.self.now
+    (option_map (λ s. frame_at s.desktop.value s.sheets.value.items) c.self.inside.seen) c.input-routed.new.self
+    c.input-routed.new.glasses.items
 done c =
-    let e = c.input-routed.ensures in
-    was_told c.input-routed.new.self c.args.device c.self.invariant.0 e.routed e.served.state e.served.left
-    e.painted e.served.rests c.clean_pixels_keep_their_source.ensures c.self.view_is
+    let now : WasServed (entry.Input c.args.device c.input-routed.result) c.self.inside.desktop c.input-routed.new.self
+    c.self.inside.sheets.items c.input-routed.new.glasses.items = assumption c.input-routed.ensures in
+    was_told c.args.device c.self.invariant.0 now c.input-routed.ensures.routed
+    c.clean_pixels_keep_their_source.ensures c.self.view_is
 
 pub invariant_of-self : goal.invariant_of-self
 invariant_of-self c =
     let d = c.self.inside.desktop in
     let d2 = c.input-routed.new.self in
     let e = c.input-routed.ensures in
-    let same = ap (λ (m : HostModel). m.sheets) ((done c).now ∙ ap (told c.args.device) (sym c.self.view_is)) in
     let bar = c.bar_tells-bar.ensures in
     let bar2 = c.bar_tells.ensures in
     let quiet = c.shows_the_same-is_same.ensures in
-    let kept = seen_input d.state d2.state c.args.device c.input-routed.result (sheets_of d.glasses)
-    (sheets_of d2.glasses) c.self.inside.changed c.join_unless-self-inside.result _ e.routed
-    c.clean_pixels_keep_their_source.ensures e.served.state same c.self.invariant.1 c.shows_the_same-is_same.result
+    let kept = seen_input d.state d2.state c.args.device c.input-routed.result (sheets_of c.self.inside.sheets.items)
+    (sheets_of c.input-routed.new.glasses.items) c.self.inside.changed c.join_unless-self-inside.result _ e.routed
+    c.clean_pixels_keep_their_source.ensures e.served.state (ap sheets_of (same_sheets e.rest)) c.self.invariant.1
+    c.shows_the_same-is_same.result
     c.bar_or_screen-before.result c.told-after.result e.delivered c.bar_or_screen-before.ensures c.told-after.ensures
     quiet.told (λ t. sym bar.mode ∙ quiet.mode t ∙ bar2.mode) (λ t. sym bar.focus ∙ quiet.focus t ∙ bar2.focus)
     c.join_unless-self-inside.ensures c.self.invariant.2 in

@@ -1,47 +1,41 @@
-use Rattle.nit_host.proofs.Lemmas.{DesktopModel, Opens, SheetModel, WasSeated, ap, arith}
-use Rattle.nit_host.proofs.Lemmas.{blank_again_of, blank_tells, frame_at, free_of, hollow_blank}
-use Rattle.nit_host.proofs.Lemmas.{may_sit, nat_tests, opened, option_map, refl, seen_seated, set}
-use Rattle.nit_host.proofs.Lemmas.{sheets_of, was_seated, when_served, ◌∙◌}
+use Rattle.std.proofs.Common.{length, ◌<◌}
+use Rattle.nit_host.proofs.Lemmas.{Opens, WasSeated, are_glasses, arith, blank_again_of, blank_plain}
+use Rattle.nit_host.proofs.Lemmas.{frame_at, free_of, may_sit, nat_tests, option_map, own_room, refl}
+use Rattle.nit_host.proofs.Lemmas.{seen_seated, set, sheets_of, sheets_with, was_seated, when_served}
 use Rattle.nit_host.proofs.host.Host.seat.Goals as goal
-
-pub exchange-requires-clause-glass : goal.exchange-requires-clause-glass
-exchange-requires-clause-glass c =
-    let may = may_sit c.self.view_is c.in_default.ensures in
-    blank_tells (hollow_blank c.self.invariant.0.hollow c.index_mut-own.ensures.value
-    (omega (arith, may.inside, c.facts.ensures.sessions)))
 
 pub reopen-requires-clause-free : goal.reopen-requires-clause-free
 reopen-requires-clause-free c = grind (arith, nat_tests, may_sit, free_of)
 
-pub reopen-requires-clause-glass : goal.reopen-requires-clause-glass
-reopen-requires-clause-glass c =
+pub reopen-requires-clause-glasses : goal.reopen-requires-clause-glasses
+reopen-requires-clause-glasses c =
     let may = may_sit c.self.view_is c.in_default.ensures in
-    rw c.exchange.ensures.desktop (blank_tells (blank_again_of c.self.invariant.0.sheets c.exchange.ensures.out
-    (omega (arith, may.inside, c.facts.ensures.sessions)) c.wipe.ensures.sight))
+    let inside : c.args.seat < length c.self.inside.desktop.state.config.clients =
+    omega (arith, may.inside, c.facts.ensures.sessions) in
+    let are = c.self.invariant.0.sheets in
+    let is = c.index_mut.ensures.value in
+    are_glasses (sheets_with are (blank_plain c.self.inside.desktop.state.config (blank_again_of are is inside c.wipe.ensures.sight))
+    (omega (arith, own_room are is inside, c.wipe.ensures.room)))
 
 -- what is left
 done : (c : goal.After-self-3-1) → WasSeated c.args.seat c.args.label c.args.self.now
-    (option_map (λ s. frame_at s.value) c.self.inside.seen) c.self.inside.desktop c.reopen.new.self
-    (set c.self.inside.hollows.items c.args.seat c.hollow_out.new.self)
+    (option_map (λ s. frame_at s.desktop.value s.sheets.value.items) c.self.inside.seen) c.self.inside.desktop
+    c.reopen.new.self c.self.inside.sheets.items c.reopen.new.glasses.items
 done c =
     let may = may_sit c.self.view_is c.in_default.ensures in
-    let opens : Opens c.args.seat c.args.label c.wipe.new.self c.reopen.new.glass c.exchange.new.self
-    c.reopen.new.self = assumption c.reopen.ensures in
-    was_seated c.self.invariant.0 opens
-    c.exchange.ensures.desktop c.index_mut-own.ensures.value c.exchange.ensures.out
+    let opens : Opens c.args.seat c.args.label (set c.self.inside.sheets.items c.args.seat c.wipe.new.self)
+    c.reopen.new.glasses.items c.self.inside.desktop c.reopen.new.self = assumption c.reopen.ensures in
+    was_seated c.self.invariant.0 opens c.index_mut.ensures.value
     (omega (arith, may.inside, c.facts.ensures.sessions)) c.facts.ensures.live may.over c.wipe.ensures.sight
-    c.wipe.ensures.room c.hollow_out.ensures.sight c.hollow_out.ensures.room c.openings_keep_all.ensures.sources
-    c.self.view_is
+    c.wipe.ensures.room c.openings_keep_all.ensures.sources c.self.view_is
 
 pub invariant_of-self : goal.invariant_of-self
 invariant_of-self c =
     let d = c.self.inside.desktop in
-    let kept = seen_seated d.state c.reopen.new.self.state c.args.seat c.args.label (sheets_of d.glasses)
-    (sheets_of c.reopen.new.self.glasses) c.self.inside.changed c.bar_or_screen-part.result
-    c.join-self-inside.result _
-    (c.reopen.ensures.state ∙ ap (λ (x : DesktopModel SheetModel). opened c.args.seat c.args.label x.state)
-    c.exchange.ensures.desktop)
-    (done c).words c.bar_or_screen-part.ensures c.join-self-inside.ensures c.self.invariant.1 c.self.invariant.2 in
+    let kept = seen_seated d.state c.reopen.new.self.state c.args.seat c.args.label
+    (sheets_of c.self.inside.sheets.items) (sheets_of c.reopen.new.glasses.items) c.self.inside.changed
+    c.bar_or_screen-part.result c.join-self-inside.result _ c.reopen.ensures.state (done c).words
+    c.bar_or_screen-part.ensures c.join-self-inside.ensures c.self.invariant.1 c.self.invariant.2 in
     ((done c).host, kept.0, kept.1)
 
 pub returns-clause-seated : goal.returns-clause-seated

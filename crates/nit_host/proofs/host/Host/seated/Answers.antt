@@ -1,22 +1,16 @@
-use Rattle.nit_host.proofs.Lemmas.{DesktopModel, SheetModel, ap, arith, begun, blank_glasses}
-use Rattle.nit_host.proofs.Lemmas.{first_now, first_state, refl}
+use Rattle.nit_host.proofs.Lemmas.{DesktopModel, ap, arith, begun, first_now, first_state, refl}
 use Rattle.nit_host.proofs.host.Host.seated.Goals as goal
-
-pub new-requires-clause-glasses : goal.new-requires-clause-glasses
-new-requires-clause-glasses c = blank_glasses c.in_ok-sheets.ensures.blank
 
 pub invariant_of-result : goal.invariant_of-result
 invariant_of-result c =
     let made = c.in_ok-new.ensures in
-    begun c.in_ok-new.field-0 c.in_ok-sheets.ensures.room c.in_ok-hollows.ensures
-    (ap (λ (d : DesktopModel SheetModel). d.state) made) (ap (λ (d : DesktopModel SheetModel). d.glasses) made)
-    (ap (λ (d : DesktopModel SheetModel). d.raw) made) refl refl
-    c.of_rows.result (rw (← c.config.view_is) c.of_rows.ensures.all)
+    begun c.in_ok-new.field-0 c.in_ok-sheets.ensures.room (ap (λ (d : DesktopModel). d.state) made)
+    (ap (λ (d : DesktopModel). d.raw) made) refl refl c.of_rows.result
+    (rw (← c.config.view_is) c.of_rows.ensures.all)
     (rw (← c.config.view_is) (c.of_rows.ensures.area c.config.inside.height (omega arith)))
 
 pub returns : goal.returns
 returns c =
     let made = c.in_ok-new.ensures in
     first_now (first_state c.args.config.now) c.args.config.now c.in_ok-new.field-0 c.in_ok-sheets.sheets.items
-    (ap (λ (d : DesktopModel SheetModel). d.state) made) (ap (λ (d : DesktopModel SheetModel). d.left) made)
-    (ap (λ (d : DesktopModel SheetModel). d.glasses) made) c.in_ok-sheets.ensures.blank
+    (ap (λ (d : DesktopModel). d.state) made) (ap (λ (d : DesktopModel). d.left) made) c.in_ok-sheets.ensures.blank
