@@ -1,5 +1,5 @@
 -- What lemmas use: the words of clauses, the library's lemmas, and those of the crates below.
-pub use Rattle.nit_actor.specs.Terms.{Action, AreAlone, AreOfOneHistory, Belongs, Call, Calls}
+pub use Rattle.nit_actor.specs.Terms.{Action, AreInStep, AreOfOneHistory, Belongs, Call, Calls}
 pub use Rattle.nit_actor.specs.Terms.{CanShoot, CanTakeTurns, ClipPassModel, Configuration, Desk, Device}
 pub use Rattle.nit_actor.specs.Terms.{DidClips, Entry, File, GoTogether, InputLine, IsAtClipPhase}
 pub use Rattle.nit_actor.specs.Terms.{IsAtPhase, IsAtPhaseEnd, IsHeld, IsHeldPicture, IsHistory}

@@ -1,5 +1,5 @@
 -- What answers use: all that lemmas use, and this crate's lemmas.
-pub use Rattle.nit_actor.proofs.Basics.{All-set, AreAlone, Belongs, CanShoot, CanTakeTurns}
+pub use Rattle.nit_actor.proofs.Basics.{All-set, AreInStep, Belongs, CanShoot, CanTakeTurns}
 pub use Rattle.nit_actor.proofs.Basics.{Configuration, IsAtPhaseEnd, IsLeastOf, IsNearPicture}
 pub use Rattle.nit_actor.proofs.Basics.{IsNotBefore, IsPairIn, List, NoneIsBefore, PassModel}
 pub use Rattle.nit_actor.proofs.Basics.{RoomModel, TakesShots, UserPassModel, []}

@@ -23,7 +23,7 @@ pub record StepTogether (r : RoomModel) (p : PassModel) (u : UserPassModel) : Ty
   pub idle : drop u.next u.input ≡ idle_user (drop p.next p.script)
 
 -- the client and the user are in step, and the room's journal is not ended
-pub record AreAlone (r : RoomModel) (p : PassModel) (u : UserPassModel) : Type 0 where
+pub record AreInStep (r : RoomModel) (p : PassModel) (u : UserPassModel) : Type 0 where
   pub step : StepTogether r p u
   pub unended : IsOpen r.scene.entries
 

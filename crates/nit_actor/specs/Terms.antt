@@ -19,7 +19,7 @@ pub use Rattle.nit_actor.specs.ClipRole.{PairIsOneOn, PairIsThrough, PairRole, c
 pub use Rattle.nit_actor.specs.ClipRole.{pair_role_of}
 pub use Rattle.nit_actor.specs.Crew.{CrewCanRun, CrewHasRun, HasPlaceFor, IsSameCrew, IsStarted}
 pub use Rattle.nit_actor.specs.History.{AreOfOneHistory, IsHeldPicture, StaysClean}
-pub use Rattle.nit_actor.specs.IdleUser.{AloneOn, AreAlone, StepOn, StepTogether, actions_to_be}
+pub use Rattle.nit_actor.specs.IdleUser.{AloneOn, AreInStep, StepOn, StepTogether, actions_to_be}
 pub use Rattle.nit_actor.specs.IdleUser.{idle_user}
 pub use Rattle.nit_actor.specs.PhasesLeft.{IsLeastOf, IsNotBefore, NoneIsBefore, lesser}
 pub use Rattle.nit_actor.specs.PhasesLeft.{pair_phase_left, phase_left, phases_left}

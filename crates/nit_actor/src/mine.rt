@@ -77,7 +77,6 @@ pub(crate) fn run_turns<'a, W: UserTurns<'a>, A: Actor<W>, S: Store, R: Wait>(
             return;
         };
     }
-    unreachable!()
 }
 
 /// A turn, in the least phase of those that are not done: each actor that is in it does what is

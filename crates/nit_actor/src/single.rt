@@ -1,7 +1,7 @@
 //! A run of one client, without a lock and on the calling thread.
 
 ghost use Rattle.std.specs.Prelude.{◌≡◌, ◌+◌, ◌++◌, drop, length, map};
-ghost use Rattle.nit_actor.specs.Terms.{AloneOn, AreAlone, Belongs, Calls, IsAtLine, IsAtPhase};
+ghost use Rattle.nit_actor.specs.Terms.{AloneOn, AreInStep, Belongs, Calls, IsAtLine, IsAtPhase};
 ghost use Rattle.nit_actor.specs.Terms.{IsAtStroke, IsOpen, IsThrough, StepOn, StepTogether};
 ghost use Rattle.nit_actor.specs.Terms.{action_of, calls_in, user_role_of};
 
@@ -12,7 +12,7 @@ use nit_script::Line;
 /// else. The user ends each phase together with the client, so the pass is always ready and nothing
 /// waits. The calls of the lines are recorded, in order, and nothing else is. It takes no memory.
 pub fn run_alone<'a>(room: &mut Room<'a>, pass: &mut Pass<'a>, user: &mut UserPass<'a>)
-    requires alone { AreAlone room.old pass.old user.old }
+    requires alone { AreInStep room.old pass.old user.old }
     ensures pass { IsThrough pass.old pass.new }
     ensures user_same { user_role_of user.new ≡ user_role_of user.old }
     ensures user_done { user.new.next ≡ length user.new.input }
@@ -30,7 +30,7 @@ pub fn run_alone<'a>(room: &mut Room<'a>, pass: &mut Pass<'a>, user: &mut UserPa
 
 /// Does the client's next line, which is this one. Where it ends a phase, the user ends it too.
 fn do_line<'a>(room: &mut Room<'a>, pass: &mut Pass<'a>, user: &mut UserPass<'a>, line: &Line)
-    requires alone { AreAlone room.old pass.old user.old }
+    requires alone { AreInStep room.old pass.old user.old }
     requires next { IsAtLine line.now pass.old }
     ensures { AloneOn room.old pass.old user.old room.new pass.new user.new }
 {

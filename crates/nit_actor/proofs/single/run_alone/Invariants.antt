@@ -1,10 +1,10 @@
 use Rattle.std.proofs.Common.{length, ◌-◌, ◌≡◌}
-use Rattle.nit_actor.proofs.Lemmas.{AreAlone, actions_to_be, role_of, user_role_of}
+use Rattle.nit_actor.proofs.Lemmas.{AreInStep, actions_to_be, role_of, user_role_of}
 use Rattle.nit_actor.proofs.single.run_alone.Given as goal
 
 abbrev pub invariant-lines : goal.invariant-lines
 invariant-lines l = record {
-  alone : AreAlone l.room l.pass l.user;
+  alone : AreInStep l.room l.pass l.user;
   same : role_of l.pass ≡ role_of l.initial.pass;
   user_same : user_role_of l.user ≡ user_role_of l.initial.user;
   parts : l.room.parts ≡ l.initial.room.parts;
