@@ -4,7 +4,8 @@
 //! `nit_top_tests`.
 //!
 //! Each expected value was worked out apart from the code, and never comes from it, but for two
-//! that the folders name. The crate has nothing but tests.
+//! that the folders name. A file opens with its tests and cases, and what fails is told by a title
+//! or by the case itself. The crate has nothing but tests.
 #![tactic(auto)]
 
 #[cfg(test)]

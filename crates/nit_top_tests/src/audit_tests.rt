@@ -1,4 +1,4 @@
-//! Audits of journals by the configuration and the scripts of two clients.
+//! The command `audit`: journals, judged by the configuration and the scripts of two clients.
 
 use crate::cases::table::{Case, lines_of};
 use crate::cases::{alone, assert_cases, files, over, texts};
@@ -8,28 +8,18 @@ use std::process::Abort;
 use std::sync::Wait;
 use std::thread::Threads;
 
+#[test]
+fn audits(rt: HostRuntime) {
+    assert_cases(&rt, rt.alloc(), CASES);
+}
+
+#[test]
+fn journals_that_runs_put(rt: HostRuntime) {
+    assert_audited(&rt, rt.alloc(), "turns, two.toml");
+    assert_audited(&rt, rt.alloc(), "run, two.toml");
+}
+
 const CASES: &str = r#"
-
-text OTHER_HANDLE
-| call 0 done < buffer 4 2
-| call 0 handle 1 < view
-| call 0 done < place 1 0 0 4 2
-| call 1 done < buffer 4 2
-| call 1 handle 2 < view
-| call 1 done < place 1 0 0 4 2
-| shot 1
-| call 1 done < place 1 4 2 4 2
-| final
-
-text UNENDED
-| call 0 done < buffer 4 2
-| call 0 handle 1 < view
-| call 0 done < place 1 0 0 4 2
-| call 1 done < buffer 4 2
-| call 1 handle 1 < view
-| call 1 done < place 1 0 0 4 2
-| shot 1
-| call 1 done < place 1 4 2 4 2
 
 base audit
 words audit, two.toml, journal.txt
@@ -53,35 +43,35 @@ with audit
 file journal.txt UNENDED
 ends 9 =nitpicker: journal.txt: entry 9: not a run\n
 
-case
+case an empty journal
 with audit
 file journal.txt =
 
-case
+case the last picture alone
 with audit
 file journal.txt =final\n
 
-case
+case a call with a number too many
 with audit
 file journal.txt =call 0 done < view 1\n
 ends 8 =nitpicker: journal.txt: line 1: bad journal\n
 
-case
+case a session that no run has
 with audit
 file journal.txt =final\ncall 16 done < view\n
 ends 8 =nitpicker: journal.txt: line 2: bad journal\n
 
-case
+case a shot of number 0
 with audit
 file journal.txt =shot 0\n
 ends 8 =nitpicker: journal.txt: line 1: bad journal\n
 
-case
+case no last line feed
 with audit
 file journal.txt =shot 1\nfinal
 ends 8 =nitpicker: journal.txt: line 2: bad journal\n
 
-case four deliveries
+case an input with four deliveries
 with audit
 file journal.txt =input press 30 > 0 press 30 > 0 press 30 > 0 press 30 > 0 press 30\n
 ends 8 =nitpicker: journal.txt: line 1: bad journal\n
@@ -98,29 +88,29 @@ file journal.txt =call
 ends 6 =nitpicker: two.in: phases differ\n
 asked =two.toml a.nit b.nit two.in
 
-case the fourth call of the store reads the last script
+case the last script cannot be read
 with audit
 fails 4
 ends 3 =nitpicker: two.in: read fault\n
 asked =two.toml a.nit b.nit two.in
 
-case the fifth reads the journal
+case the journal cannot be read
 with audit
 fails 5
 ends 3 =nitpicker: journal.txt: read fault\n
 
-case the sixth is the first saying
+case the line of a run cannot be said
 with audit
 fails 6
 ends 4 =
 
-case
+case the line of a journal of no run cannot be said
 with audit
 file journal.txt UNENDED
 fails 6
 ends 9 =
 
-case
+case the line of a journal that is refused cannot be said
 with audit
 file journal.txt =call
 fails 6
@@ -137,18 +127,36 @@ asked =two.toml a.nit b.nit two.in journal.txt
 there =two.toml a.nit b.nit two.in
 entries 0
 
-"#;
+text OTHER_HANDLE
+| call 0 done < buffer 4 2
+| call 0 handle 1 < view
+| call 0 done < place 1 0 0 4 2
+| call 1 done < buffer 4 2
+| call 1 handle 2 < view
+| call 1 done < place 1 0 0 4 2
+| shot 1
+| call 1 done < place 1 4 2 4 2
+| final
 
-#[test]
-fn audits(rt: HostRuntime) {
-    assert_cases(&rt, rt.alloc(), CASES);
-}
+text UNENDED
+| call 0 done < buffer 4 2
+| call 0 handle 1 < view
+| call 0 done < place 1 0 0 4 2
+| call 1 done < buffer 4 2
+| call 1 handle 1 < view
+| call 1 done < place 1 0 0 4 2
+| shot 1
+| call 1 done < place 1 4 2 4 2
+
+"#;
 
 /// What this run puts is audited.
 fn assert_audited<R: Abort + Threads + Wait + Sync>(rt: &R, alloc: Global, words: &str) {
-    let lines = lines_of(rt, alloc, CASES, "no journal");
+    let title = "no journal";
+    let lines = lines_of(rt, alloc, CASES, title);
     let case = Case {
         table: CASES,
+        title,
         lines: &lines,
     };
     let files = files(rt, alloc, &case);
@@ -160,10 +168,4 @@ fn assert_audited<R: Abort + Threads + Wait + Sync>(rt: &R, alloc: Global, words
         &mut store,
     );
     same(rt, words, &audit.expect(rt, "an audit").status, &0);
-}
-
-#[test]
-fn journals_that_runs_put(rt: HostRuntime) {
-    assert_audited(&rt, rt.alloc(), "turns, two.toml");
-    assert_audited(&rt, rt.alloc(), "run, two.toml");
 }

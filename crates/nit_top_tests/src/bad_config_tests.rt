@@ -2,33 +2,12 @@
 
 use crate::cases::assert_cases;
 
+#[test]
+fn configurations(rt: HostRuntime) {
+    assert_cases(&rt, rt.alloc(), CASES);
+}
+
 const CASES: &str = r#"
-
-text SCREEN
-| [screen]
-| width = 8
-| height = 4
-|
-| [input]
-| script = "two.in"
-|
-
-text CLIENTS
-| [[client]]
-| label = "a"
-| donation = 65536
-| script = "a.nit"
-|
-| [[client]]
-| label = "b"
-| donation = 65536
-| script = "b.nit"
-
-text SECOND
-| [[client]]
-| label = "b"
-| donation = 65536
-| script = "b.nit"
 
 base bad
 words turns, two.toml
@@ -42,190 +21,190 @@ asked =two.toml
 there =two.toml a.nit b.nit two.in
 entries 0
 
-case
+case a bracket that is not closed
 with bad
 
-case
+case a width that is a text
 with bad
 file two.toml =[screen]\nwidth = "8"\nheight = 4\n\n[input]\nscript = "two.in"\n\n
 more two.toml CLIENTS
 ends 5 =nitpicker: two.toml: bad configuration: kind\n
 
-case
+case no height
 with bad
 file two.toml =[screen]\nwidth = 8\n\n[input]\nscript = "two.in"\n\n
 more two.toml CLIENTS
 ends 5 =nitpicker: two.toml: bad configuration: missing\n
 
-case
+case a key that no table has
 with bad
 file two.toml =[screen]\ndepth = 24\nwidth = 8\nheight = 4\n\n[input]\nscript = "two.in"\n\n
 more two.toml CLIENTS
 ends 5 =nitpicker: two.toml: bad configuration: unknown\n
 
-case
+case a donation of 255
 with bad
 file two.toml SCREEN
 more two.toml =[[client]]\nlabel = "a"\ndonation = 255\nscript = "a.nit"\n\n
 more two.toml SECOND
 ends 5 =nitpicker: two.toml: bad configuration: range\n
 
-case
+case a label with a capital letter
 with bad
 file two.toml SCREEN
 more two.toml =[[client]]\nlabel = "A"\ndonation = 65536\nscript = "a.nit"\n\n
 more two.toml SECOND
 ends 5 =nitpicker: two.toml: bad configuration: label\n
 
-case
+case two clients of one label
 with bad
 file two.toml SCREEN
 more two.toml =[[client]]\nlabel = "a"\ndonation = 65536\nscript = "a.nit"\n\n
 more two.toml =[[client]]\nlabel = "a"\ndonation = 65536\nscript = "b.nit"\n
 ends 5 =nitpicker: two.toml: bad configuration: twice\n
 
-case
+case a layer of 8
 with bad
 file two.toml SCREEN
 more two.toml =[[client]]\nlabel = "a"\nlayer = 8\ndonation = 65536\nscript = "a.nit"\n\n
 more two.toml SECOND
 ends 5 =nitpicker: two.toml: bad configuration: range\n
 
-case
+case a layer of -1
 with bad
 file two.toml SCREEN
 more two.toml =[[client]]\nlabel = "a"\nlayer = -1\ndonation = 65536\nscript = "a.nit"\n\n
 more two.toml SECOND
 ends 5 =nitpicker: two.toml: bad configuration: range\n
 
-case
+case a focus that is no word for it
 with bad
 file two.toml SCREEN
 more two.toml =[[client]]\nlabel = "a"\nfocus = "always"\ndonation = 65536\nscript = "a.nit"\n\n
 more two.toml SECOND
 ends 5 =nitpicker: two.toml: bad configuration: range\n
 
-case
+case a layer that is a text
 with bad
 file two.toml SCREEN
 more two.toml =[[client]]\nlabel = "a"\nlayer = "1"\ndonation = 65536\nscript = "a.nit"\n\n
 more two.toml SECOND
 ends 5 =nitpicker: two.toml: bad configuration: kind\n
 
-case
+case a focus that is no text
 with bad
 file two.toml SCREEN
 more two.toml =[[client]]\nlabel = "a"\nfocus = true\ndonation = 65536\nscript = "a.nit"\n\n
 more two.toml SECOND
 ends 5 =nitpicker: two.toml: bad configuration: kind\n
 
-case
+case a bar that leaves no row
 with bad
 file two.toml =[screen]\nwidth = 8\nheight = 7\nbar = true\n\n[input]\nscript = "two.in"\n\n
 more two.toml CLIENTS
 ends 5 =nitpicker: two.toml: bad configuration: range\n
 
-case
+case a bar that is a number
 with bad
 file two.toml =[screen]\nwidth = 8\nheight = 8\nbar = 1\n\n[input]\nscript = "two.in"\n\n
 more two.toml CLIENTS
 ends 5 =nitpicker: two.toml: bad configuration: kind\n
 
-case
+case a width of 0
 with bad
 file two.toml =[screen]\nwidth = 0\nheight = 4\n\n[input]\nscript = "two.in"\n\n
 more two.toml CLIENTS
 ends 5 =nitpicker: two.toml: bad configuration: range\n
 
-case
+case a width of 1025
 with bad
 file two.toml =[screen]\nwidth = 1025\nheight = 4\n\n[input]\nscript = "two.in"\n\n
 more two.toml CLIENTS
 ends 5 =nitpicker: two.toml: bad configuration: range\n
 
-case
+case a height of 769
 with bad
 file two.toml =[screen]\nwidth = 8\nheight = 769\n\n[input]\nscript = "two.in"\n\n
 more two.toml CLIENTS
 ends 5 =nitpicker: two.toml: bad configuration: range\n
 
-case
+case a donation of 8388609
 with bad
 file two.toml SCREEN
 more two.toml =[[client]]\nlabel = "a"\ndonation = 8388609\nscript = "a.nit"\n\n
 more two.toml SECOND
 ends 5 =nitpicker: two.toml: bad configuration: range\n
 
-case
+case an input script without a name
 with bad
 file two.toml =[screen]\nwidth = 8\nheight = 4\n\n[input]\nscript = ""\n\n
 more two.toml CLIENTS
 ends 5 =nitpicker: two.toml: bad configuration: range\n
 
-case
+case a script whose name has a letter outside of ASCII
 with bad
 file two.toml SCREEN
 more two.toml =[[client]]\nlabel = "a"\ndonation = 65536\nscript = "\u00e9"\n\n
 more two.toml SECOND
 ends 5 =nitpicker: two.toml: bad configuration: range\n
 
-case
+case an empty label
 with bad
 file two.toml SCREEN
 more two.toml =[[client]]\nlabel = ""\ndonation = 65536\nscript = "a.nit"\n\n
 more two.toml SECOND
 ends 5 =nitpicker: two.toml: bad configuration: label\n
 
-case of two that apply, the first by kind and not by place
+case what is missing comes before a key that no table has, and not by place
 with bad
 file two.toml =[screen]\nwidth = 8\n\n[input]\nscrip = "two.in"\n\n
 more two.toml CLIENTS
 ends 5 =nitpicker: two.toml: bad configuration: missing\n
 
-case
+case what is out of range comes before a bad label, and not by place
 with bad
 file two.toml SCREEN
 more two.toml =[[client]]\nlabel = "A"\ndonation = 255\nscript = "a.nit"\n\n
 more two.toml SECOND
 ends 5 =nitpicker: two.toml: bad configuration: range\n
 
-case
+case no input
 with bad
 file two.toml =[screen]\nwidth = 8\nheight = 4\n\n
 more two.toml CLIENTS
 ends 5 =nitpicker: two.toml: bad configuration: missing\n
 
-case no clients, and an empty file
+case no clients
 with bad
 file two.toml SCREEN
 ends 5 =nitpicker: two.toml: bad configuration: missing\n
 
-case
+case an empty file
 with bad
 file two.toml =
 ends 5 =nitpicker: two.toml: bad configuration: missing\n
 
-case more ways to be cut or doubled
+case a key that stands twice
 with bad
 file two.toml =[screen]\nwidth = 8\nwidth = 8\nheight = 4\n\n[input]\nscript = "two.in"\n\n
 more two.toml CLIENTS
 
-case
+case a key without a value
 with bad
 file two.toml =[screen]\nwidth =\nheight = 4\n\n[input]\nscript = "two.in"\n\n
 more two.toml CLIENTS
 
-case few lines
+case clients that are a number
 with bad
 file two.toml =client = 3
 ends 5 =nitpicker: two.toml: bad configuration: kind\n
 
-case
+case a screen alone
 with bad
 file two.toml =[screen]\nwidth = 8\nheight = 4\n
 ends 5 =nitpicker: two.toml: bad configuration: missing\n
 
-case
+case cut off behind a key
 with bad
 file two.toml =[screen]\nwidth =
 
@@ -257,7 +236,7 @@ there =two.toml a.nit b.nit two.in shot-1.ppm final.ppm events-a.txt events-b.tx
 picture final.ppm 8 4 FINAL
 whole JOURNAL
 
-case or just as long as it may be
+case a file just as long as it may be
 words turns, two.toml
 file two.toml CONFIG
 more two.toml =#xx
@@ -271,9 +250,30 @@ there =two.toml a.nit b.nit two.in shot-1.ppm final.ppm events-a.txt events-b.tx
 is two.toml long 1048576
 whole JOURNAL
 
-"#;
+text SCREEN
+| [screen]
+| width = 8
+| height = 4
+|
+| [input]
+| script = "two.in"
+|
 
-#[test]
-fn configurations(rt: HostRuntime) {
-    assert_cases(&rt, rt.alloc(), CASES);
-}
+text CLIENTS
+| [[client]]
+| label = "a"
+| donation = 65536
+| script = "a.nit"
+|
+| [[client]]
+| label = "b"
+| donation = 65536
+| script = "b.nit"
+
+text SECOND
+| [[client]]
+| label = "b"
+| donation = 65536
+| script = "b.nit"
+
+"#;

@@ -1,10 +1,14 @@
-//! Cases of the top call, and the language in which they are written.
+//! Cases of the top call, and the language in which they are written: this page is all of it. Where
+//! a table breaks a rule of the page, the test fails, and says which one.
 //!
-//! **A table** is a constant text of a test, which gives it to `assert_cases`. It has blocks, each
-//! with one empty line before it and behind it; behind two it is not read. A block is a head and
-//! lines. `case TITLE` is a case, with a title or without. `base NAME` has lines with which cases
-//! begin. `text NAME` is a text; those of `shared` are for all tables, and a table's own comes
-//! first.
+//! **A table** is a constant text of a test, which gives it to `assert_cases`. It has blocks, with
+//! one empty line between them. A block is a head, which no other block has, and lines:
+//!
+//! - `case TITLE`: a case. What fails is told by its title.
+//! - `base NAME`: lines with which cases begin.
+//! - `text NAME`: a text. Those of `shared` are for all tables.
+//!
+//! A table has a case, and names each of its bases and texts somewhere.
 //!
 //! **A text** has lines and pieces. Behind `|` and a blank stands a line: `| view`. Behind `=`
 //! stands a piece, once or as often as a number before it says: `=nope`, `6 =take\n`. In both `\n`
@@ -12,11 +16,11 @@
 //! itself. TEXT below is the name of a text, or one piece. A piece among several TEXT, or for ROWS,
 //! has no blank.
 //!
-//! **A case** needs `words`, `ends`, `asked` and `there`. The lines of its base come first. Of
-//! several lines with the same first word the last one counts, and of `file` the last for each
-//! name; of `more`, and of the words from `whole` to `is`, each one counts. A line whose first word
-//! is not here fails the test, as does what cannot be read. The words are done once at an open
-//! gate, and where they start no thread once more on one; both times all comes out so.
+//! **A case** has `words`, `ends`, `asked` and `there`, in lines of its own or of its base. Its own
+//! line stands in the place of the base's; in one block such a line stands once, and so does `file`
+//! for each name. What may stand more often adds up: `more`, and what is said of the journal and of
+//! single files. The words are done once at an open gate, and where they start no thread once more
+//! on one; both times all comes out so.
 //!
 //! What goes in:
 //!
@@ -33,39 +37,41 @@
 //! - `asked TEXT`: the names of all reads and puts, in order. `asked =a.nit final.ppm`
 //! - `there TEXT`: the names of the files that are there at the end: those from before, and then
 //!   the others in the order of their first put. `there =a.nit`
-//! - `entries N`: so many are in the journal. `entries 9`
+//!
+//! What comes of the journal:
+//!
+//! - `entries N`: so many are in it. `entries 9`
 //! - `whole TEXT ..`: just these are, spelled as in a journal's text. `whole PLACED DRAG_ENTRIES`
 //! - `replies SID TEXT`: what this session is answered, one reply a line, `?` where it is an event;
 //!   the journal ends with the last picture. `replies 1 REPLIES`
 //! - `sessions N`: each reply is the one that its session, of so many, gives by itself where it
 //!   refuses nothing. `sessions 3`
+//!
+//! What single files hold:
+//!
 //! - `holds NAME TEXT`: the whole file. `holds events-a.txt EVENTS`
 //! - `bytes NAME TEXT`: the same, each byte as two hexadecimal digits. `bytes a.ncap =4E 43 41 50`
-//! - `picture NAME W H ROWS`: the same, as a picture. `picture final.ppm 8 1 =RRRR....` A letter of
-//!   the text is a colour: `R`, `G`, `B` red, green, blue; `K` black; `W` white; `M` the grey of an
-//!   outline; `r`, `g`, `b` the first three at half their light; `n` the bare screen at half its
-//!   light; `t` blue that is tinted. What is none of these, as `.`, is the bare screen.
+//! - `picture NAME W H ROWS`: the same, as H rows of W letters. `picture final.ppm 8 1 =RRRR....`
+//!   A letter is a colour: `.` the bare screen; `R`, `G`, `B` red, green, blue; `K` black; `W`
+//!   white; `M` the grey of an outline; `r`, `g`, `b`, `n` red, green, blue and the bare screen at
+//!   half their light; `t` blue that is tinted.
 //! - `is NAME WANT`: less of it. WANT is `long N`, a number of bytes; `begins TEXT`, its front;
 //!   `one-of TEXT ..`, one of these as a whole; `among LETTERS`, each pixel behind a front of 13
 //!   bytes has one of these colours; `all BYTE FRONT`, each byte behind so many is this one; or
 //!   `marked N MARK`, so many bytes and their `mark` (`want`). `is g0.nit marked 33078 669A12F7`
-//!
-//! Two lines count in one test each, and say nothing elsewhere. `cut FIRST LAST` (`two_tests`): so
-//! it comes out with the second file cut to each of these lengths. `edits TEXT` (`edit_tests`): a
-//! line is an edit of `journal.txt`, behind the entry that the audit names then: `4 out 4` takes
-//! line 4 out, `2 twice 1` doubles one, `4 swapped 3` swaps it with the next, and by `9 says 8
-//! final` line 8 says so.
 
 pub mod journals;
+pub mod rules;
 mod sessions;
 mod shared;
 pub mod table;
 mod want;
 
 use crate::cases::journals::assert_journal;
-use crate::cases::table::{Case, lines, number, worded};
+use crate::cases::rules::titles;
+use crate::cases::table::{Case, lines_of, number, worded};
 use crate::cases::want::assert_file;
-use crate::checks::{fail, must, same};
+use crate::checks::{fail_by, must, same_by};
 use nit_actor::{Gate, Open};
 use nit_store::{MemoryStore, Store, have_different_names};
 use nit_top::{Done, nitpicker, nitpicker_alone, starts_threads};
@@ -144,7 +150,7 @@ fn add_to_file(rt: &impl Abort, alloc: Global, case: &Case, files: &mut Files, r
     let (name, meant) = worded(rest);
     let text = case.text(rt, alloc, meant);
     let Some(bytes) = place_of(files, name) else {
-        return fail(rt, name);
+        return fail_by(rt, case.title, name);
     };
     bytes
         .extend_from_slice(text.as_bytes())
@@ -165,26 +171,17 @@ fn place_of<'a>(files: &'a mut Files, name: &str) -> Option<&'a mut Vec<u8>> {
 
 /// The cases of a table come out so.
 pub fn assert_cases<R: Abort + Threads + Wait + Sync>(rt: &R, alloc: Global, table: &str) {
-    for block in table.split("\n\n") {
-        assert_block(rt, alloc, table, block);
+    for title in titles(rt, alloc, table).iter() {
+        assert_both(rt, alloc, table, title);
     }
 }
 
-/// A block is one of a table, and where it is a case, that comes out so.
-fn assert_block<R: Abort + Threads + Wait + Sync>(rt: &R, alloc: Global, table: &str, block: &str) {
-    let (head, _lines) = block.split_once('\n').unwrap_or((block, ""));
-    match worded(head).0 {
-        "case" => assert_both(rt, alloc, table, block),
-        "text" | "base" | "" => (),
-        _ => fail(rt, block),
-    }
-}
-
-/// The case of this block comes out so, and on one thread too where it starts none.
-fn assert_both<R: Abort + Threads + Wait + Sync>(rt: &R, alloc: Global, table: &str, block: &str) {
-    let lines = lines(rt, alloc, table, block);
+/// The case of this title comes out so, and on one thread too where it starts none.
+fn assert_both<R: Abort + Threads + Wait + Sync>(rt: &R, alloc: Global, table: &str, title: &str) {
+    let lines = lines_of(rt, alloc, table, title);
     let case = Case {
         table,
+        title,
         lines: &lines,
     };
     assert_case(rt, alloc, &case, &Open);
@@ -250,7 +247,7 @@ pub fn assert_alone(rt: &impl Abort, alloc: Global, case: &Case, files: Files) {
 /// A store with these files, of which the calls fail that the case says.
 fn store(rt: &impl Abort, alloc: Global, case: &Case, files: Files) -> MemoryStore {
     let failing = failing(rt, alloc, case);
-    must(rt, case.lines, have_different_names(&files));
+    must(rt, case.title, have_different_names(&files));
     MemoryStore::new(alloc, files, failing)
 }
 
@@ -279,7 +276,7 @@ pub fn assert_store(rt: &impl Abort, alloc: Global, case: &Case, done: &Done, st
 /// What is found is the text that is meant.
 pub fn assert_text(rt: &impl Abort, alloc: Global, case: &Case, meant: &str, found: &str) {
     let want = case.text(rt, alloc, meant);
-    same(rt, case.lines, &found, &want.as_str());
+    same_by(rt, case.title, meant, &found, &want.as_str());
 }
 
 /// The command of a case came out so, but for what was asked for.
@@ -295,17 +292,13 @@ pub fn assert_came(rt: &impl Abort, alloc: Global, case: &Case, came: &Came) {
 /// The command ends so, and says this. The journal has so many entries.
 pub fn assert_end(rt: &impl Abort, alloc: Global, case: &Case, came: &Came) {
     let (status, said) = worded(case.want(rt, "ends"));
-    same(
-        rt,
-        case.lines,
-        &(came.done.status as u64),
-        &number(rt, status),
-    );
+    let found = came.done.status as u64;
+    same_by(rt, case.title, "ends", &found, &number(rt, status));
     let found = std::str::from_utf8(came.said).expect(rt, "a text");
     assert_text(rt, alloc, case, said, found);
     if let Some(entries) = case.last("entries") {
         let count = came.done.journal.len() as u64;
-        same(rt, case.lines, &count, &number(rt, entries));
+        same_by(rt, case.title, "entries", &count, &number(rt, entries));
     }
 }
 

@@ -1,6 +1,8 @@
-//! Runs with each client on a thread of its own, at gates that see which thread has come how far.
+//! The commands `run` and `clip`, with each client on a thread of its own, at gates that see which
+//! thread has come how far.
 
 use crate::cases::assert_case;
+use crate::cases::rules::titles;
 use crate::cases::table::{Case, lines_of};
 use crate::checks::{must, same};
 use nit_actor::Gate;
@@ -10,7 +12,61 @@ use std::sync::Wait;
 use std::sync::atomic::{AtomicBool, AtomicU32, Ordering};
 use std::thread::Threads;
 
-const CASES: &str = r#"
+#[test]
+fn both_clients_at_once(rt: HostRuntime) {
+    for title in titles(&rt, rt.alloc(), MEETING).iter() {
+        assert_meets(&rt, rt.alloc(), title);
+    }
+}
+
+#[test]
+fn strokes_wait_for_their_phase(rt: HostRuntime) {
+    for title in titles(&rt, rt.alloc(), PHASES).iter() {
+        assert_waits(&rt, rt.alloc(), title);
+    }
+}
+
+#[test]
+fn each_line_passes_the_gate(rt: HostRuntime) {
+    for title in titles(&rt, rt.alloc(), ROUNDS).iter() {
+        assert_rounds(&rt, rt.alloc(), title);
+    }
+}
+
+const MEETING: &str = r#"
+
+case each of two clients waits at its first line for the other
+words run, two.toml
+file two.toml CONFIG
+file a.nit =view\n
+file b.nit =view\n
+file two.in =
+ends 0 =nitpicker: clients 2 entries 3 frames 1\n
+asked =two.toml a.nit b.nit two.in final.ppm events-a.txt events-b.txt journal.txt
+there =two.toml a.nit b.nit two.in final.ppm events-a.txt events-b.txt journal.txt
+
+"#;
+
+const PHASES: &str = r#"
+
+case a stroke waits for its phase
+words run, one.toml
+file one.toml ONE
+file a.nit =phase\nfill 0 0 1 1 FF0000\n
+file one.in =phase\n
+ends 0 =nitpicker: clients 1 entries 1 frames 1\n
+asked =one.toml a.nit one.in final.ppm events-a.txt journal.txt
+there =one.toml a.nit one.in final.ppm events-a.txt journal.txt
+
+case a stroke waits for its phase beside clip scripts
+words clip, one.toml
+file one.toml ONE
+file a.nit =phase\nfill 0 0 1 1 FF0000\n
+file one.in =phase\n
+file a.nit.clip =phase\n
+ends 0 =nitpicker: clients 1 entries 1 frames 1\n
+asked =one.toml a.nit one.in a.nit.clip final.ppm events-a.txt journal.txt clip.txt
+there =one.toml a.nit one.in a.nit.clip final.ppm events-a.txt journal.txt clip.txt
 
 text ONE
 | [screen]
@@ -25,34 +81,32 @@ text ONE
 | donation = 65536
 | script = "a.nit"
 
-case meeting
-words run, two.toml
+"#;
+
+const ROUNDS: &str = r#"
+
+base five
 file two.toml CONFIG
-file a.nit =view\n
-file b.nit =view\n
-file two.in =
-ends 0 =nitpicker: clients 2 entries 3 frames 1\n
-asked =two.toml a.nit b.nit two.in final.ppm events-a.txt events-b.txt journal.txt
-there =two.toml a.nit b.nit two.in final.ppm events-a.txt events-b.txt journal.txt
+file a.nit =view\nphase\nbuffer 1 1\nfill 0 0 1 1 FF0000\nfill 0 0 1 1 FF0000\n
+file b.nit =view\nphase\ntake\nview\nfill 0 0 1 1 0000FF\n
+file two.in =motion 1 1\nphase\nshot\nmotion 2 1\n
+ends 0 =nitpicker: clients 2 entries 9 frames 2\n
+whole ROUNDS
 
-case phases
-words run, one.toml
-file one.toml ONE
-file a.nit =phase\nfill 0 0 1 1 FF0000\n
-file one.in =phase\n
-ends 0 =nitpicker: clients 1 entries 1 frames 1\n
-asked =one.toml a.nit one.in final.ppm events-a.txt journal.txt
-there =one.toml a.nit one.in final.ppm events-a.txt journal.txt
+case each line comes to the gate once
+with five
+words run, two.toml
+asked =two.toml a.nit b.nit two.in shot-1.ppm final.ppm events-a.txt events-b.txt journal.txt
+there =two.toml a.nit b.nit two.in shot-1.ppm final.ppm events-a.txt events-b.txt journal.txt
 
-case phases with a clipboard
-words clip, one.toml
-file one.toml ONE
-file a.nit =phase\nfill 0 0 1 1 FF0000\n
-file one.in =phase\n
-file a.nit.clip =phase\n
-ends 0 =nitpicker: clients 1 entries 1 frames 1\n
-asked =one.toml a.nit one.in a.nit.clip final.ppm events-a.txt journal.txt clip.txt
-there =one.toml a.nit one.in a.nit.clip final.ppm events-a.txt journal.txt clip.txt
+case each line comes to the gate once beside clip scripts
+with five
+words clip, two.toml
+file a.nit.clip =paste\nphase\n
+file b.nit.clip =paste\nphase\n
+asked CLIPPED_ROUNDS
+there CLIPPED_ROUNDS
+holds clip.txt =clip 1 0 not-focused < paste\nclip 2 1 not-focused < paste\n
 
 text ROUNDS
 | call 0 handle 1 < view
@@ -65,34 +119,28 @@ text ROUNDS
 | input motion 2 1
 | final
 
-base five
-file two.toml CONFIG
-file a.nit =view\nphase\nbuffer 1 1\nfill 0 0 1 1 FF0000\nfill 0 0 1 1 FF0000\n
-file b.nit =view\nphase\ntake\nview\nfill 0 0 1 1 0000FF\n
-file two.in =motion 1 1\nphase\nshot\nmotion 2 1\n
-ends 0 =nitpicker: clients 2 entries 9 frames 2\n
-whole ROUNDS
-
-case rounds
-with five
-words run, two.toml
-asked =two.toml a.nit b.nit two.in shot-1.ppm final.ppm events-a.txt events-b.txt journal.txt
-there =two.toml a.nit b.nit two.in shot-1.ppm final.ppm events-a.txt events-b.txt journal.txt
-
-case rounds with a clipboard
-with five
-words clip, two.toml
-file a.nit.clip =paste\nphase\n
-file b.nit.clip =paste\nphase\n
-asked CLIPPED_ROUNDS
-there CLIPPED_ROUNDS
-holds clip.txt =clip 1 0 not-focused < paste\nclip 2 1 not-focused < paste\n
-
 text CLIPPED_ROUNDS
 =two.toml a.nit b.nit two.in a.nit.clip b.nit.clip shot-1.ppm final.ppm events-a.txt events-b.txt
 = journal.txt clip.txt
 
 "#;
+
+/// The case of this title of a table comes out so at this gate.
+fn assert_at<R: Abort + Threads + Wait + Sync, G: Gate>(
+    rt: &R,
+    alloc: Global,
+    table: &str,
+    title: &str,
+    gate: &G,
+) {
+    let lines = lines_of(rt, alloc, table, title);
+    let case = Case {
+        table,
+        title,
+        lines: &lines,
+    };
+    assert_case(rt, alloc, &case, gate);
+}
 
 // ---- both clients at once
 
@@ -140,32 +188,16 @@ impl Gate for Meeting {
     }
 }
 
-/// The case of this title comes out so at this gate.
-fn assert_at<R: Abort + Threads + Wait + Sync, G: Gate>(
-    rt: &R,
-    alloc: Global,
-    title: &str,
-    gate: &G,
-) {
-    let lines = lines_of(rt, alloc, CASES, title);
-    let case = Case {
-        table: CASES,
-        lines: &lines,
-    };
-    assert_case(rt, alloc, &case, gate);
-}
-
-/// Each of two clients waits at its first line until the other has come to its own. Clients that
-/// run one after the other do not meet.
-#[test]
-fn both_clients_at_once(rt: HostRuntime) {
+/// In the case of this title each of two clients waits at its first line until the other has come
+/// to its own. Clients that run one after the other do not meet.
+fn assert_meets<R: Abort + Threads + Wait + Sync>(rt: &R, alloc: Global, title: &str) {
     let gate = Meeting {
         first: Visit::new(),
         second: Visit::new(),
     };
-    assert_at(&rt, rt.alloc(), "meeting", &gate);
-    must(&rt, "first", gate.first.met.load(Ordering::SeqCst));
-    must(&rt, "second", gate.second.met.load(Ordering::SeqCst));
+    assert_at(rt, alloc, MEETING, title, &gate);
+    must(rt, title, gate.first.met.load(Ordering::SeqCst));
+    must(rt, title, gate.second.met.load(Ordering::SeqCst));
 }
 
 // ---- phases
@@ -204,20 +236,14 @@ fn assert_waits<R: Abort + Threads + Wait + Sync>(rt: &R, alloc: Global, title: 
         raised: AtomicBool::new(false),
         seen: AtomicBool::new(false),
     };
-    assert_at(rt, alloc, title, &gate);
+    assert_at(rt, alloc, PHASES, title, &gate);
     must(rt, title, gate.seen.load(Ordering::SeqCst));
-}
-
-#[test]
-fn strokes_wait_for_their_phase(rt: HostRuntime) {
-    assert_waits(&rt, rt.alloc(), "phases");
-    assert_waits(&rt, rt.alloc(), "phases with a clipboard");
 }
 
 // ---- each line
 
 /// How many lines the user has. The clients have one more, behind which nobody waits.
-const ROUNDS: u32 = 4;
+const LINES: u32 = 4;
 
 /// A gate at which two clients and the user do their lines by rounds: in each the clients in order,
 /// and then the user.
@@ -266,7 +292,7 @@ impl Gate for ByRounds {
         if came.swap(line, Ordering::SeqCst).saturating_add(1) != line {
             self.astray.store(true, Ordering::SeqCst);
         }
-        if line <= ROUNDS {
+        if line <= LINES {
             self.await_turn(actor, line);
         }
     }
@@ -279,7 +305,7 @@ fn assert_rounds<R: Abort + Threads + Wait + Sync>(rt: &R, alloc: Global, title:
         came: [AtomicU32::new(0), AtomicU32::new(0), AtomicU32::new(0)],
         astray: AtomicBool::new(false),
     };
-    assert_at(rt, alloc, title, &gate);
+    assert_at(rt, alloc, ROUNDS, title, &gate);
     must(rt, title, !gate.astray.load(Ordering::SeqCst));
     let [first, second, user] = &gate.came;
     let came = [
@@ -287,11 +313,5 @@ fn assert_rounds<R: Abort + Threads + Wait + Sync>(rt: &R, alloc: Global, title:
         second.load(Ordering::SeqCst),
         user.load(Ordering::SeqCst),
     ];
-    same(rt, title, &came, &[ROUNDS + 1, ROUNDS + 1, ROUNDS]);
-}
-
-#[test]
-fn each_line_passes_the_gate(rt: HostRuntime) {
-    assert_rounds(&rt, rt.alloc(), "rounds");
-    assert_rounds(&rt, rt.alloc(), "rounds with a clipboard");
+    same(rt, title, &came, &[LINES + 1, LINES + 1, LINES]);
 }

@@ -1,4 +1,5 @@
-//! Generated runs. Whatever the number, and whatever the threads do, they say the same line.
+//! The command `gen`: generated runs. Whatever the number, and whatever the threads do, they say
+//! the same line.
 
 use crate::cases::table::{Case, lines_of};
 use crate::cases::{Files, assert_cases, assert_store, over, owned};
@@ -8,7 +9,138 @@ use std::process::Abort;
 use std::sync::Wait;
 use std::thread::Threads;
 
+#[test]
+fn generated_runs(rt: HostRuntime) {
+    assert_cases(&rt, rt.alloc(), CASES);
+}
+
+/// The files that were made are run as the files of any other configuration, which are asked for in
+/// the same order.
+#[test]
+fn the_files_that_were_made(rt: HostRuntime) {
+    let made = ran(&rt, rt.alloc(), "gen, 7", Vec::new(rt.alloc()));
+    let files = made_files(&rt, rt.alloc(), &made);
+    ran(&rt, rt.alloc(), "run, gen.toml", files);
+}
+
 const CASES: &str = r#"
+
+base gen
+words gen, 7
+ends 0 =nitpicker: clients 8 entries 12260 frames 2\n
+asked NAMES
+there NAMES
+entries 0
+
+case the least number
+with gen
+words gen, 0
+entries 12260
+sessions 8
+
+case a run between, of whose first client's lines at least one of each kind is here
+with gen
+is gen.toml marked 549 850A3D75
+holds gen.toml CONFIGURATION
+is final.ppm long 230415
+is g0.nit marked 33078 669A12F7
+is g1.nit marked 33113 8C94D15D
+is g2.nit marked 33079 5818F908
+is g3.nit marked 33040 D0906836
+is g4.nit marked 33053 6E509156
+is g5.nit marked 33049 DDBBC430
+is g6.nit marked 33083 B7282874
+is g7.nit marked 33103 FFD6B93D
+is gen.in marked 2252 C21D1337
+is g0.nit begins FIRST_LINES
+is gen.in begins FIRST_INPUT
+entries 12260
+
+case the greatest number
+with gen
+words gen, 999999999
+is g7.nit marked 33048 9752ED7A
+is gen.in marked 2246 B044F24F
+entries 12260
+sessions 8
+
+case where the configuration cannot be put, no run is begun
+with gen
+fails 1
+ends 4 =nitpicker: gen.toml: write fault\n
+asked =gen.toml
+there =
+
+case where the first script cannot be put, no run is begun
+with gen
+fails 2
+ends 4 =nitpicker: g0.nit: write fault\n
+asked =gen.toml g0.nit
+there =gen.toml
+
+case where the second script cannot be put, no run is begun
+with gen
+fails 3
+ends 4 =nitpicker: g1.nit: write fault\n
+asked =gen.toml g0.nit g1.nit
+there =gen.toml g0.nit
+
+case where the third script cannot be put, no run is begun
+with gen
+fails 4
+ends 4 =nitpicker: g2.nit: write fault\n
+asked =gen.toml g0.nit g1.nit g2.nit
+there =gen.toml g0.nit g1.nit
+
+case where the fourth script cannot be put, no run is begun
+with gen
+fails 5
+ends 4 =nitpicker: g3.nit: write fault\n
+asked =gen.toml g0.nit g1.nit g2.nit g3.nit
+there =gen.toml g0.nit g1.nit g2.nit
+
+case where the fifth script cannot be put, no run is begun
+with gen
+fails 6
+ends 4 =nitpicker: g4.nit: write fault\n
+asked =gen.toml g0.nit g1.nit g2.nit g3.nit g4.nit
+there =gen.toml g0.nit g1.nit g2.nit g3.nit
+
+case where the sixth script cannot be put, no run is begun
+with gen
+fails 7
+ends 4 =nitpicker: g5.nit: write fault\n
+asked =gen.toml g0.nit g1.nit g2.nit g3.nit g4.nit g5.nit
+there =gen.toml g0.nit g1.nit g2.nit g3.nit g4.nit
+
+case where the seventh script cannot be put, no run is begun
+with gen
+fails 8
+ends 4 =nitpicker: g6.nit: write fault\n
+asked =gen.toml g0.nit g1.nit g2.nit g3.nit g4.nit g5.nit g6.nit
+there =gen.toml g0.nit g1.nit g2.nit g3.nit g4.nit g5.nit
+
+case where the eighth script cannot be put, no run is begun
+with gen
+fails 9
+ends 4 =nitpicker: g7.nit: write fault\n
+asked =gen.toml g0.nit g1.nit g2.nit g3.nit g4.nit g5.nit g6.nit g7.nit
+there =gen.toml g0.nit g1.nit g2.nit g3.nit g4.nit g5.nit g6.nit
+
+case where the input script cannot be put, no run is begun
+with gen
+fails 10
+ends 4 =nitpicker: gen.in: write fault\n
+asked =gen.toml g0.nit g1.nit g2.nit g3.nit g4.nit g5.nit g6.nit g7.nit gen.in
+there =gen.toml g0.nit g1.nit g2.nit g3.nit g4.nit g5.nit g6.nit g7.nit
+
+case the eleventh put is that of the run's first picture
+with gen
+fails 11
+ends 4 =nitpicker: shot-1.ppm: write fault\n
+asked =gen.toml g0.nit g1.nit g2.nit g3.nit g4.nit g5.nit g6.nit g7.nit gen.in shot-1.ppm
+there =gen.toml g0.nit g1.nit g2.nit g3.nit g4.nit g5.nit g6.nit g7.nit gen.in
+entries 12260
 
 text NAMES
 =gen.toml g0.nit g1.nit g2.nit g3.nit g4.nit g5.nit g6.nit g7.nit gen.in shot-1.ppm final.ppm
@@ -132,132 +264,10 @@ text FIRST_INPUT
 | wheel 1
 | motion 270 200
 
-base gen
-words gen, 7
-ends 0 =nitpicker: clients 8 entries 12260 frames 2\n
-asked NAMES
-there NAMES
-entries 0
-
-case the least number
-with gen
-words gen, 0
-entries 12260
-sessions 8
-
-case a run between, of whose first client's lines at least one of each kind is here
-with gen
-is gen.toml marked 549 850A3D75
-holds gen.toml CONFIGURATION
-is final.ppm long 230415
-is g0.nit marked 33078 669A12F7
-is g1.nit marked 33113 8C94D15D
-is g2.nit marked 33079 5818F908
-is g3.nit marked 33040 D0906836
-is g4.nit marked 33053 6E509156
-is g5.nit marked 33049 DDBBC430
-is g6.nit marked 33083 B7282874
-is g7.nit marked 33103 FFD6B93D
-is gen.in marked 2252 C21D1337
-is g0.nit begins FIRST_LINES
-is gen.in begins FIRST_INPUT
-entries 12260
-
-case the greatest number
-with gen
-words gen, 999999999
-is g7.nit marked 33048 9752ED7A
-is gen.in marked 2246 B044F24F
-entries 12260
-sessions 8
-
-case where one of the files cannot be put that are made, no run is begun
-with gen
-fails 1
-ends 4 =nitpicker: gen.toml: write fault\n
-asked =gen.toml
-there =
-
-case
-with gen
-fails 2
-ends 4 =nitpicker: g0.nit: write fault\n
-asked =gen.toml g0.nit
-there =gen.toml
-
-case
-with gen
-fails 3
-ends 4 =nitpicker: g1.nit: write fault\n
-asked =gen.toml g0.nit g1.nit
-there =gen.toml g0.nit
-
-case
-with gen
-fails 4
-ends 4 =nitpicker: g2.nit: write fault\n
-asked =gen.toml g0.nit g1.nit g2.nit
-there =gen.toml g0.nit g1.nit
-
-case
-with gen
-fails 5
-ends 4 =nitpicker: g3.nit: write fault\n
-asked =gen.toml g0.nit g1.nit g2.nit g3.nit
-there =gen.toml g0.nit g1.nit g2.nit
-
-case
-with gen
-fails 6
-ends 4 =nitpicker: g4.nit: write fault\n
-asked =gen.toml g0.nit g1.nit g2.nit g3.nit g4.nit
-there =gen.toml g0.nit g1.nit g2.nit g3.nit
-
-case
-with gen
-fails 7
-ends 4 =nitpicker: g5.nit: write fault\n
-asked =gen.toml g0.nit g1.nit g2.nit g3.nit g4.nit g5.nit
-there =gen.toml g0.nit g1.nit g2.nit g3.nit g4.nit
-
-case
-with gen
-fails 8
-ends 4 =nitpicker: g6.nit: write fault\n
-asked =gen.toml g0.nit g1.nit g2.nit g3.nit g4.nit g5.nit g6.nit
-there =gen.toml g0.nit g1.nit g2.nit g3.nit g4.nit g5.nit
-
-case
-with gen
-fails 9
-ends 4 =nitpicker: g7.nit: write fault\n
-asked =gen.toml g0.nit g1.nit g2.nit g3.nit g4.nit g5.nit g6.nit g7.nit
-there =gen.toml g0.nit g1.nit g2.nit g3.nit g4.nit g5.nit g6.nit
-
-case
-with gen
-fails 10
-ends 4 =nitpicker: gen.in: write fault\n
-asked =gen.toml g0.nit g1.nit g2.nit g3.nit g4.nit g5.nit g6.nit g7.nit gen.in
-there =gen.toml g0.nit g1.nit g2.nit g3.nit g4.nit g5.nit g6.nit g7.nit
-
-case the eleventh put is that of the run's first picture
-with gen
-fails 11
-ends 4 =nitpicker: shot-1.ppm: write fault\n
-asked =gen.toml g0.nit g1.nit g2.nit g3.nit g4.nit g5.nit g6.nit g7.nit gen.in shot-1.ppm
-there =gen.toml g0.nit g1.nit g2.nit g3.nit g4.nit g5.nit g6.nit g7.nit gen.in
-entries 12260
-
 "#;
 
 /// How many files are made.
 const MADE: usize = 10;
-
-#[test]
-fn generated_runs(rt: HostRuntime) {
-    assert_cases(&rt, rt.alloc(), CASES);
-}
 
 /// The first files of a store, as many as are made.
 fn made_files(rt: &impl Abort, alloc: Global, store: &MemoryStore) -> Files {
@@ -277,21 +287,14 @@ fn ran<R: Abort + Threads + Wait + Sync>(
     words: &str,
     files: Files,
 ) -> MemoryStore {
-    let lines = lines_of(rt, alloc, CASES, "the least number");
+    let title = "the least number";
+    let lines = lines_of(rt, alloc, CASES, title);
     let case = Case {
         table: CASES,
+        title,
         lines: &lines,
     };
     let (done, store) = over(rt, alloc, &case, words, files);
     assert_store(rt, alloc, &case, &done, &store);
     store
-}
-
-/// The files that were made are run as the files of any other configuration, which are asked for in
-/// the same order.
-#[test]
-fn the_files_that_were_made(rt: HostRuntime) {
-    let made = ran(&rt, rt.alloc(), "gen, 7", Vec::new(rt.alloc()));
-    let files = made_files(&rt, rt.alloc(), &made);
-    ran(&rt, rt.alloc(), "run, gen.toml", files);
 }

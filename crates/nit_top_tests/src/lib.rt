@@ -2,10 +2,12 @@
 //! journal of given words and files, and the order in which lines are done.
 //!
 //! Each expected value stands in a case as it was worked out by hand, and never comes from the
-//! program. `cases` has the language in which cases are written, on one page, and runs them.
+//! program. `cases` has the language in which cases are written, on one page, and runs them. What
+//! fails is told by the title of its case.
 //!
 //! The tests are listed below in three groups: what is refused, what each command does, and what
-//! clients and users do to a scene, by whole runs.
+//! clients and users do to a scene, by whole runs. A file opens with its tests and cases, and then
+//! has the texts and the code that they use.
 //!
 //! The crate has nothing but tests; those of the crates below are in `nit_tests`.
 #![tactic(auto)]
@@ -15,11 +17,11 @@ mod cases;
 #[cfg(test)]
 mod checks;
 
-// What is refused: words, configurations, scripts and clip scripts, and calls of a store that fail.
-#[cfg(test)]
-mod bad_clip_tests;
+// What is refused: words, configurations, scripts and clip scripts; and calls of a store that fail.
 #[cfg(test)]
 mod bad_config_tests;
+#[cfg(test)]
+mod clip_refused_tests;
 #[cfg(test)]
 mod failing_tests;
 #[cfg(test)]
@@ -27,16 +29,13 @@ mod refused_tests;
 #[cfg(test)]
 mod usage_tests;
 
-// What each command does, and in which order lines are done: `two_tests` are those of `turns`;
-// `gate_tests` and `desk_tests` are of `run`, and `edit_tests` of `audit`.
+// What each command does, by its name; and in which order lines are done.
 #[cfg(test)]
 mod audit_tests;
 #[cfg(test)]
 mod capture_tests;
 #[cfg(test)]
 mod clip_tests;
-#[cfg(test)]
-mod desk_tests;
 #[cfg(test)]
 mod edit_tests;
 #[cfg(test)]
@@ -48,11 +47,13 @@ mod nested_tests;
 #[cfg(test)]
 mod round_tests;
 #[cfg(test)]
+mod run_largest_tests;
+#[cfg(test)]
 mod run_tests;
 #[cfg(test)]
 mod still_tests;
 #[cfg(test)]
-mod two_tests;
+mod turns_tests;
 
 // What clients and users do: replies, views, modes and the bar, deliveries, events that are taken.
 #[cfg(test)]
@@ -62,6 +63,6 @@ mod mode_tests;
 #[cfg(test)]
 mod reply_tests;
 #[cfg(test)]
-mod taking_tests;
+mod take_tests;
 #[cfg(test)]
 mod view_tests;

@@ -2,7 +2,105 @@
 
 use crate::cases::assert_cases;
 
+#[test]
+fn modes(rt: HostRuntime) {
+    assert_cases(&rt, rt.alloc(), CASES);
+}
+
 const CASES: &str = r#"
+
+base xray
+words turns, xray.toml
+file xray.toml XRAY
+file xa.nit XA
+file xb.nit NARROW
+file xray.in =phase\nphase\npress 70\nshot\n
+ends 0 =nitpicker: clients 2 entries 9 frames 2\n
+asked =xray.toml xa.nit xb.nit xray.in shot-1.ppm final.ppm events-ab.txt events-b.txt journal.txt
+there =xray.toml xa.nit xb.nit xray.in shot-1.ppm final.ppm events-ab.txt events-b.txt journal.txt
+
+case the first client's label fills what is seen of its view, and the second has no room for its own
+with xray
+picture shot-1.ppm 12 7 LABELLED
+picture final.ppm 12 7 LABELLED
+
+case neither label has room
+with xray
+file xb.nit WIDE
+picture shot-1.ppm 12 7 UNLABELLED
+picture final.ppm 12 7 UNLABELLED
+
+case in kill mode the label stands there too, the rings are red, and the words are tinted
+with xray
+file xray.in =phase\nphase\npress 99\nshot\n
+picture shot-1.ppm 12 7 TINTED
+picture final.ppm 12 7 TINTED
+
+case the view of the client with the focus has its own words, and a white ring
+with xray
+file xb.nit WIDE
+file xray.in =phase\nphase\nmotion 9 3\npress 272\nrelease 272\npress 70\nshot\n
+ends 0 =nitpicker: clients 2 entries 12 frames 2\n
+picture shot-1.ppm 12 7 OWN_WORDS
+picture final.ppm 12 7 OWN_WORDS
+
+case a refresh shows its part of the words that are new, and the last picture all of them
+with xray
+file xa.nit REFRESHING
+file xb.nit WIDE_AND_PHASES
+file xray.in =phase\nphase\npress 70\nphase\nphase\nshot\n
+ends 0 =nitpicker: clients 2 entries 10 frames 2\n
+picture shot-1.ppm 12 7 REFRESHED
+picture final.ppm 12 7 ALL_REFRESHED
+
+base kill
+words turns, kill.toml
+file kill.toml KILL
+file ka.nit LEFT
+more ka.nit =take\nview\nclose\n
+file kb.nit RIGHT
+more kb.nit =take\n
+file kill.in KILLING
+asked =kill.toml ka.nit kb.nit kill.in final.ppm events-a.txt events-b.txt journal.txt
+there =kill.toml ka.nit kb.nit kill.in final.ppm events-a.txt events-b.txt journal.txt
+replies 1 REPLIES
+
+case the first client is killed, and goes on
+with kill
+ends 0 =nitpicker: clients 2 entries 17 frames 1\n
+picture final.ppm 8 4 KILLED
+whole PLACED KILLED_ENTRIES
+
+case behind a kill the focus is nobody's
+with kill
+file kill.in KILLING_AND_KEY
+ends 0 =nitpicker: clients 2 entries 18 frames 1\n
+whole PLACED KILLED_AND_KEY_ENTRIES
+
+case where the first client does nothing, the second is answered the same
+with kill
+file ka.nit =phase\nphase\n
+ends 0 =nitpicker: clients 2 entries 11 frames 1\n
+
+case after a click the bar has `flat` and the label of the client with the focus, as `flat:a`
+words turns, bar.toml
+file bar.toml WIDE_BAR
+file a.nit UNDER_WIDE
+file bar.in =phase\nmotion 1 7\npress 272\n
+ends 0 =nitpicker: clients 1 entries 6 frames 1\n
+asked =bar.toml a.nit bar.in final.ppm events-a.txt journal.txt
+there =bar.toml a.nit bar.in final.ppm events-a.txt journal.txt
+picture final.ppm 25 8 FOCUSED
+
+case the bar has as much of `flat` as there is room for, and hides what the client shows there
+words turns, bar.toml
+file bar.toml NARROW_BAR
+file a.nit UNDER_NARROW
+file no.in =
+ends 0 =nitpicker: clients 1 entries 4 frames 1\n
+asked =bar.toml a.nit no.in final.ppm events-a.txt journal.txt
+there =bar.toml a.nit no.in final.ppm events-a.txt journal.txt
+picture final.ppm 12 12 UNFOCUSED
 
 text XRAY
 | [screen]
@@ -242,102 +340,4 @@ text UNFOCUSED
 | RRRRRRRRRRRR
 | RRRRRRRRRRRR
 
-base xray
-words turns, xray.toml
-file xray.toml XRAY
-file xa.nit XA
-file xb.nit NARROW
-file xray.in =phase\nphase\npress 70\nshot\n
-ends 0 =nitpicker: clients 2 entries 9 frames 2\n
-asked =xray.toml xa.nit xb.nit xray.in shot-1.ppm final.ppm events-ab.txt events-b.txt journal.txt
-there =xray.toml xa.nit xb.nit xray.in shot-1.ppm final.ppm events-ab.txt events-b.txt journal.txt
-
-case the first client's label fills what is seen of its view, and the second has no room for its own
-with xray
-picture shot-1.ppm 12 7 LABELLED
-picture final.ppm 12 7 LABELLED
-
-case neither label has room
-with xray
-file xb.nit WIDE
-picture shot-1.ppm 12 7 UNLABELLED
-picture final.ppm 12 7 UNLABELLED
-
-case in kill mode the label stands there too, the rings are red, and the words are tinted
-with xray
-file xray.in =phase\nphase\npress 99\nshot\n
-picture shot-1.ppm 12 7 TINTED
-picture final.ppm 12 7 TINTED
-
-case the view of the client with the focus has its own words, and a white ring
-with xray
-file xb.nit WIDE
-file xray.in =phase\nphase\nmotion 9 3\npress 272\nrelease 272\npress 70\nshot\n
-ends 0 =nitpicker: clients 2 entries 12 frames 2\n
-picture shot-1.ppm 12 7 OWN_WORDS
-picture final.ppm 12 7 OWN_WORDS
-
-case a refresh shows its part of the words that are new, and the last picture all of them
-with xray
-file xa.nit REFRESHING
-file xb.nit WIDE_AND_PHASES
-file xray.in =phase\nphase\npress 70\nphase\nphase\nshot\n
-ends 0 =nitpicker: clients 2 entries 10 frames 2\n
-picture shot-1.ppm 12 7 REFRESHED
-picture final.ppm 12 7 ALL_REFRESHED
-
-base kill
-words turns, kill.toml
-file kill.toml KILL
-file ka.nit LEFT
-more ka.nit =take\nview\nclose\n
-file kb.nit RIGHT
-more kb.nit =take\n
-file kill.in KILLING
-asked =kill.toml ka.nit kb.nit kill.in final.ppm events-a.txt events-b.txt journal.txt
-there =kill.toml ka.nit kb.nit kill.in final.ppm events-a.txt events-b.txt journal.txt
-replies 1 REPLIES
-
-case the first client is killed, and goes on
-with kill
-ends 0 =nitpicker: clients 2 entries 17 frames 1\n
-picture final.ppm 8 4 KILLED
-whole PLACED KILLED_ENTRIES
-
-case and the focus is nobody's then
-with kill
-file kill.in KILLING_AND_KEY
-ends 0 =nitpicker: clients 2 entries 18 frames 1\n
-whole PLACED KILLED_AND_KEY_ENTRIES
-
-case where it does nothing, the second client is answered the same
-with kill
-file ka.nit =phase\nphase\n
-ends 0 =nitpicker: clients 2 entries 11 frames 1\n
-
-case after a click the bar has `flat` and the label of the client with the focus, as `flat:a`
-words turns, bar.toml
-file bar.toml WIDE_BAR
-file a.nit UNDER_WIDE
-file bar.in =phase\nmotion 1 7\npress 272\n
-ends 0 =nitpicker: clients 1 entries 6 frames 1\n
-asked =bar.toml a.nit bar.in final.ppm events-a.txt journal.txt
-there =bar.toml a.nit bar.in final.ppm events-a.txt journal.txt
-picture final.ppm 25 8 FOCUSED
-
-case the bar has as much of `flat` as there is room for, and hides what the client shows there
-words turns, bar.toml
-file bar.toml NARROW_BAR
-file a.nit UNDER_NARROW
-file no.in =
-ends 0 =nitpicker: clients 1 entries 4 frames 1\n
-asked =bar.toml a.nit no.in final.ppm events-a.txt journal.txt
-there =bar.toml a.nit no.in final.ppm events-a.txt journal.txt
-picture final.ppm 12 12 UNFOCUSED
-
 "#;
-
-#[test]
-fn modes(rt: HostRuntime) {
-    assert_cases(&rt, rt.alloc(), CASES);
-}

@@ -6,16 +6,12 @@ use nit_script::{Client, parse_client, parse_input};
 use std::alloc::Global;
 use std::process::Abort;
 
-const USER: u32 = 99;
-
-/// A round: what is special about it, the scripts of clients and of the user, and the turns that
-/// come: whose line it is, and its number.
-type Round = (
-    &'static str,
-    &'static [&'static str],
-    &'static str,
-    &'static [(u32, usize)],
-);
+#[test]
+fn rounds(rt: HostRuntime) {
+    for round in &ROUNDS {
+        assert_round(&rt, rt.alloc(), round);
+    }
+}
 
 static ROUNDS: [Round; 4] = [
     (
@@ -74,13 +70,23 @@ static ROUNDS: [Round; 4] = [
     ("no lines", &[""], "", &[]),
 ];
 
-/// The turn of a client's line, or of the user's.
-fn turn(who: u32, line: usize) -> Turn {
-    if who == USER {
-        Turn::User { line }
-    } else {
-        Turn::Client { sid: who, line }
-    }
+/// A round: what is special about it, the scripts of clients and of the user, and the turns that
+/// come: whose line it is, and its number.
+type Round = (
+    &'static str,
+    &'static [&'static str],
+    &'static str,
+    &'static [(u32, usize)],
+);
+
+const USER: u32 = 99;
+
+fn assert_round(rt: &impl Abort, alloc: Global, round: &Round) {
+    let (case, scripts, user, want) = *round;
+    let clients = clients(rt, alloc, scripts);
+    let input = parse_input(alloc, user.as_bytes()).expect(rt, "an input");
+    must(rt, case, clients.len() <= 16);
+    assert_turns(rt, &mut Turns::new(&clients, &input), case, want);
 }
 
 /// These turns come, and then none any more.
@@ -91,6 +97,15 @@ fn assert_turns(rt: &impl Abort, turns: &mut Turns, case: &str, want: &[(u32, us
     same(rt, case, &(turns.next(), turns.next()), &(None, None));
 }
 
+/// The turn of a client's line, or of the user's.
+fn turn(who: u32, line: usize) -> Turn {
+    if who == USER {
+        Turn::User { line }
+    } else {
+        Turn::Client { sid: who, line }
+    }
+}
+
 fn clients(rt: &impl Abort, alloc: Global, texts: &[&str]) -> Vec<Client> {
     let mut all = Vec::new(alloc);
     for text in texts {
@@ -98,19 +113,4 @@ fn clients(rt: &impl Abort, alloc: Global, texts: &[&str]) -> Vec<Client> {
         all.push(client).expect(rt, "memory");
     }
     all
-}
-
-fn assert_round(rt: &impl Abort, alloc: Global, round: &Round) {
-    let (case, scripts, user, want) = *round;
-    let clients = clients(rt, alloc, scripts);
-    let input = parse_input(alloc, user.as_bytes()).expect(rt, "an input");
-    must(rt, case, clients.len() <= 16);
-    assert_turns(rt, &mut Turns::new(&clients, &input), case, want);
-}
-
-#[test]
-fn rounds(rt: HostRuntime) {
-    for round in &ROUNDS {
-        assert_round(&rt, rt.alloc(), round);
-    }
 }

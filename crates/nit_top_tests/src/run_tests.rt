@@ -3,27 +3,20 @@
 
 use crate::cases::assert_cases;
 
+#[test]
+fn puts_beside_each_other(rt: HostRuntime) {
+    assert_cases(&rt, rt.alloc(), PUTS);
+}
+
+/// Twenty times, whatever the threads do.
+#[test]
+fn rounds(rt: HostRuntime) {
+    for _round in 0..20 {
+        assert_cases(&rt, rt.alloc(), ROUNDS);
+    }
+}
+
 const PUTS: &str = r#"
-
-text LONGER_NAMES
-=two.toml a.nit b.nit two.in shot-1.ppm shot-2.ppm final.ppm events-a.txt events-b.txt
-= journal.txt
-
-text MANY
-| [screen]
-| width = 16
-| height = 1
-|
-| [input]
-| script = "many.in"
-16 =\n[[client]]\nlabel = "c{0+1}"\ndonation = 65536\nscript = "c{0+1}.nit"\n
-
-text SIXTEEN_NAMES
-=many.toml c0.nit c1.nit c2.nit c3.nit c4.nit c5.nit c6.nit c7.nit c8.nit c9.nit c10.nit c11.nit
-= c12.nit c13.nit c14.nit c15.nit many.in final.ppm events-c0.txt events-c1.txt events-c2.txt
-= events-c3.txt events-c4.txt events-c5.txt events-c6.txt events-c7.txt events-c8.txt
-= events-c9.txt events-c10.txt events-c11.txt events-c12.txt events-c13.txt events-c14.txt
-= events-c15.txt journal.txt
 
 base run
 words run, two.toml
@@ -49,28 +42,28 @@ picture shot-1.ppm 8 4 SHOT
 picture shot-2.ppm 8 4 FINAL
 picture final.ppm 8 4 FINAL
 
-case a put is refused
+case the shot cannot be put
 with run
 fails 5
 ends 4 =nitpicker: shot-1.ppm: write fault\n
 asked =two.toml a.nit b.nit two.in shot-1.ppm
 there =two.toml a.nit b.nit two.in
 
-case
+case the last picture cannot be put
 with run
 fails 6
 ends 4 =nitpicker: final.ppm: write fault\n
 asked =two.toml a.nit b.nit two.in shot-1.ppm final.ppm
 there =two.toml a.nit b.nit two.in shot-1.ppm
 
-case
+case the first client's events cannot be put
 with run
 fails 7
 ends 4 =nitpicker: events-a.txt: write fault\n
 asked =two.toml a.nit b.nit two.in shot-1.ppm final.ppm events-a.txt
 there =two.toml a.nit b.nit two.in shot-1.ppm final.ppm
 
-case
+case the journal cannot be put
 with run
 fails 9
 ends 4 =nitpicker: journal.txt: write fault\n
@@ -103,45 +96,29 @@ there SIXTEEN_NAMES
 entries 49
 picture final.ppm 16 1 =RRRRRRRRRRRRRRRR
 
+text LONGER_NAMES
+=two.toml a.nit b.nit two.in shot-1.ppm shot-2.ppm final.ppm events-a.txt events-b.txt
+= journal.txt
+
+text MANY
+| [screen]
+| width = 16
+| height = 1
+|
+| [input]
+| script = "many.in"
+16 =\n[[client]]\nlabel = "c{0+1}"\ndonation = 65536\nscript = "c{0+1}.nit"\n
+
+text SIXTEEN_NAMES
+=many.toml c0.nit c1.nit c2.nit c3.nit c4.nit c5.nit c6.nit c7.nit c8.nit c9.nit c10.nit c11.nit
+= c12.nit c13.nit c14.nit c15.nit many.in final.ppm events-c0.txt events-c1.txt events-c2.txt
+= events-c3.txt events-c4.txt events-c5.txt events-c6.txt events-c7.txt events-c8.txt
+= events-c9.txt events-c10.txt events-c11.txt events-c12.txt events-c13.txt events-c14.txt
+= events-c15.txt journal.txt
+
 "#;
 
 const ROUNDS: &str = r#"
-
-text STORM_CONFIG
-| [screen]
-| width = 64
-| height = 48
-|
-| [input]
-| script = "storm.in"
-|
-| [[client]]
-| label = "a"
-| donation = 65536
-| script = "a.nit"
-|
-| [[client]]
-| label = "b"
-| donation = 65536
-| script = "b.nit"
-
-text PAINTER
-| buffer 64 48
-| view
-| place 1 0 0 64 48
-2000 =fill 0 0 64 48 FF0000\nfill 1 0 1 1 00FF00\nfill 0 0 64 48 0000FF\n
-
-text CALLER
-| buffer 1 1
-| view
-| place 1 0 0 1 1
-1000 =front 1\nback 1\n
-
-text STORM_NAMES
-=storm.toml a.nit b.nit storm.in shot-1.ppm shot-2.ppm shot-3.ppm shot-4.ppm shot-5.ppm
-= shot-6.ppm shot-7.ppm shot-8.ppm shot-9.ppm shot-10.ppm shot-11.ppm shot-12.ppm shot-13.ppm
-= shot-14.ppm shot-15.ppm shot-16.ppm shot-17.ppm shot-18.ppm shot-19.ppm shot-20.ppm final.ppm
-= events-a.txt events-b.txt journal.txt
 
 case in each phase one actor acts, so the run has the journal and the files of the run by turns
 words run, two.toml
@@ -162,35 +139,6 @@ holds events-a.txt EVENTS
 holds events-b.txt EVENTS
 holds journal.txt JOURNAL
 whole JOURNAL
-
-text LAYERED
-| [screen]
-| width = 4
-| height = 1
-|
-| [input]
-| script = "two.in"
-|
-| [[client]]
-| label = "a"
-| donation = 65536
-| layer = 1
-| script = "a.nit"
-|
-| [[client]]
-| label = "b"
-| donation = 65536
-| script = "b.nit"
-
-text DRAWN_OVER
-| buffer 2 1
-| view
-| place 1 0 0 2 1
-| fill 0 0 2 1 FF0000
-| refresh 0 0 2 1
-| fill 0 0 2 1 0000FF
-| phase
-| phase
 
 case what is drawn over in a phase that is over does not come back where another view is taken away
 words run, two.toml
@@ -261,17 +209,69 @@ is final.ppm long 9229
 is final.ppm among G
 sessions 2
 
+text STORM_CONFIG
+| [screen]
+| width = 64
+| height = 48
+|
+| [input]
+| script = "storm.in"
+|
+| [[client]]
+| label = "a"
+| donation = 65536
+| script = "a.nit"
+|
+| [[client]]
+| label = "b"
+| donation = 65536
+| script = "b.nit"
+
+text PAINTER
+| buffer 64 48
+| view
+| place 1 0 0 64 48
+2000 =fill 0 0 64 48 FF0000\nfill 1 0 1 1 00FF00\nfill 0 0 64 48 0000FF\n
+
+text CALLER
+| buffer 1 1
+| view
+| place 1 0 0 1 1
+1000 =front 1\nback 1\n
+
+text STORM_NAMES
+=storm.toml a.nit b.nit storm.in shot-1.ppm shot-2.ppm shot-3.ppm shot-4.ppm shot-5.ppm
+= shot-6.ppm shot-7.ppm shot-8.ppm shot-9.ppm shot-10.ppm shot-11.ppm shot-12.ppm shot-13.ppm
+= shot-14.ppm shot-15.ppm shot-16.ppm shot-17.ppm shot-18.ppm shot-19.ppm shot-20.ppm final.ppm
+= events-a.txt events-b.txt journal.txt
+
+text LAYERED
+| [screen]
+| width = 4
+| height = 1
+|
+| [input]
+| script = "two.in"
+|
+| [[client]]
+| label = "a"
+| donation = 65536
+| layer = 1
+| script = "a.nit"
+|
+| [[client]]
+| label = "b"
+| donation = 65536
+| script = "b.nit"
+
+text DRAWN_OVER
+| buffer 2 1
+| view
+| place 1 0 0 2 1
+| fill 0 0 2 1 FF0000
+| refresh 0 0 2 1
+| fill 0 0 2 1 0000FF
+| phase
+| phase
+
 "#;
-
-#[test]
-fn puts_beside_each_other(rt: HostRuntime) {
-    assert_cases(&rt, rt.alloc(), PUTS);
-}
-
-/// Twenty times, whatever the threads do.
-#[test]
-fn rounds(rt: HostRuntime) {
-    for _round in 0..20 {
-        assert_cases(&rt, rt.alloc(), ROUNDS);
-    }
-}

@@ -1,5 +1,6 @@
-//! Pictures of scripts that are taken.
+//! The command `still`: pictures of scripts that are taken.
 
+use crate::cases::rules::titles;
 use crate::cases::table::{Case, lines_of};
 use crate::cases::{Came, alone, assert_came, assert_cases, assert_end, files, words};
 use crate::checks::must;
@@ -8,18 +9,30 @@ use nit_top::Done;
 use std::alloc::Global;
 use std::process::Abort;
 
+#[test]
+fn pictures(rt: HostRuntime) {
+    assert_cases(&rt, rt.alloc(), CASES);
+}
+
+#[test]
+fn stores_that_never_fail(rt: HostRuntime) {
+    assert_unfailing(&rt, rt.alloc(), CASES, RED_RECTANGLE);
+    for title in titles(&rt, rt.alloc(), UNFAILING).iter() {
+        assert_unfailing(&rt, rt.alloc(), UNFAILING, title);
+    }
+}
+
+/// A top call that always answers 7 is refused by the case of the red rectangle.
+#[test]
+#[should_panic(expected = "left: 7")]
+fn giving_up_is_no_red_rectangle(rt: HostRuntime) {
+    give_up(&rt, rt.alloc());
+}
+
+/// The title of the case that three tests take.
+const RED_RECTANGLE: &str = "the red rectangle";
+
 const CASES: &str = r#"
-
-text RED
-| ........
-| .RRRR...
-| .RRRR...
-| ........
-
-text FAR_VIEWS
-64 =view\n
-32 =place {1+1} 32767 32767 32767 32767\n
-32 =place {33+1} -32768 -32768 32767 32767\n
 
 base still
 words still, 8, 4, a.nit
@@ -100,6 +113,17 @@ with still
 file a.nit =buffer 4 4\ncheck 1 1 3 3 FF0000 00FF00\nview\nplace 1 0 0 4 4\n
 picture final.ppm 8 4 =KKKK....\nKRGR....\nKGRG....\nKRGR....
 
+text RED
+| ........
+| .RRRR...
+| .RRRR...
+| ........
+
+text FAR_VIEWS
+64 =view\n
+32 =place {1+1} 32767 32767 32767 32767\n
+32 =place {33+1} -32768 -32768 32767 32767\n
+
 "#;
 
 const UNFAILING: &str = r#"
@@ -114,42 +138,12 @@ whole =final\n
 
 "#;
 
-#[test]
-fn pictures(rt: HostRuntime) {
-    assert_cases(&rt, rt.alloc(), CASES);
-}
-
-/// A top call that always answers 7.
-fn give_up(rt: &impl Abort, alloc: Global) {
-    let lines = lines_of(rt, alloc, CASES, "the red rectangle");
-    let case = Case {
-        table: CASES,
-        lines: &lines,
-    };
-    let done = Done {
-        status: 7,
-        journal: Vec::new(alloc),
-    };
-    let came = Came {
-        done: &done,
-        said: b"",
-        files: &[],
-    };
-    assert_end(rt, alloc, &case, &came);
-}
-
-/// It is refused by the case of the red rectangle.
-#[test]
-#[should_panic(expected = "left: 7")]
-fn giving_up_is_no_red_rectangle(rt: HostRuntime) {
-    give_up(&rt, rt.alloc());
-}
-
 /// Over a store that never fails the case of this title comes out so.
 fn assert_unfailing(rt: &impl Abort, alloc: Global, table: &str, title: &str) {
     let lines = lines_of(rt, alloc, table, title);
     let case = Case {
         table,
+        title,
         lines: &lines,
     };
     let files = files(rt, alloc, &case);
@@ -169,8 +163,22 @@ fn assert_over(rt: &impl Abort, alloc: Global, case: &Case, store: NeverFails) {
     assert_came(rt, alloc, case, &came);
 }
 
-#[test]
-fn stores_that_never_fail(rt: HostRuntime) {
-    assert_unfailing(&rt, rt.alloc(), CASES, "the red rectangle");
-    assert_unfailing(&rt, rt.alloc(), UNFAILING, "a name that is not there");
+/// A top call that always answers 7.
+fn give_up(rt: &impl Abort, alloc: Global) {
+    let lines = lines_of(rt, alloc, CASES, RED_RECTANGLE);
+    let case = Case {
+        table: CASES,
+        title: RED_RECTANGLE,
+        lines: &lines,
+    };
+    let done = Done {
+        status: 7,
+        journal: Vec::new(alloc),
+    };
+    let came = Came {
+        done: &done,
+        said: b"",
+        files: &[],
+    };
+    assert_end(rt, alloc, &case, &came);
 }

@@ -2,7 +2,84 @@
 
 use crate::cases::assert_cases;
 
+#[test]
+fn views(rt: HostRuntime) {
+    assert_cases(&rt, rt.alloc(), CASES);
+}
+
 const CASES: &str = r#"
+
+base offset
+words still, 8, 4, a.nit
+file a.nit COLOURED
+ends 0 =nitpicker: clients 1 entries 5 frames 1\n
+asked =a.nit final.ppm
+there =a.nit final.ppm
+
+case the buffer lies where the view does
+with offset
+ends 0 =nitpicker: clients 1 entries 4 frames 1\n
+picture final.ppm 8 4 =........\n.RGBW...\n.Mrbn...\n........
+
+case a buffer moved by one column: the view's first column is black, and it shows three columns
+with offset
+more a.nit =offset 1 1 0\n
+picture final.ppm 8 4 =........\n.KRGB...\n.KMrb...\n........
+
+case a buffer moved up and to the left: its last row and its last three columns are shown
+with offset
+more a.nit =offset 1 -1 -1\n
+picture final.ppm 8 4 =........\n.rbnK...\n.KKKK...\n........
+
+case of three views the first comes above the last, above itself, and to the back
+words turns, order.toml
+file order.toml ORDER
+file a.nit THREE_VIEWS
+file order.in =phase\nshot\nphase\nphase\nshot\nphase\nphase\nshot\nphase\n
+ends 0 =nitpicker: clients 1 entries 16 frames 4\n
+asked =order.toml a.nit order.in shot-1.ppm shot-2.ppm shot-3.ppm final.ppm events-a.txt journal.txt
+there =order.toml a.nit order.in shot-1.ppm shot-2.ppm shot-3.ppm final.ppm events-a.txt journal.txt
+picture shot-1.ppm 5 1 =RGBBB
+picture shot-2.ppm 5 1 =RRRBB
+picture shot-3.ppm 5 1 =RRRBB
+picture final.ppm 5 1 =RGBBB
+
+case views of a layer behind and of one in front, at the front and at the back of their own
+words turns, layers.toml
+file layers.toml LAYERS
+file a.nit BEHIND
+file b.nit BEFORE
+file layers.in =phase\nphase\nphase\nshot\nphase\nphase\nshot\nphase\n
+ends 0 =nitpicker: clients 2 entries 17 frames 3\n
+asked LAYERED
+there LAYERED
+picture shot-1.ppm 7 1 =RGGBBB.
+picture shot-2.ppm 7 1 =RRRBBB.
+picture final.ppm 7 1 =RRWBBBW
+
+case a view of a layer behind comes to the front of its own layer alone
+words turns, pair.toml
+file pair.toml LAYER_PAIR
+file pa.nit PA
+more pa.nit =front 1\n
+file pb.nit COVERING
+file pair.in =phase\n
+ends 0 =nitpicker: clients 2 entries 8 frames 1\n
+asked =pair.toml pa.nit pb.nit pair.in final.ppm events-a.txt events-b.txt journal.txt
+there =pair.toml pa.nit pb.nit pair.in final.ppm events-a.txt events-b.txt journal.txt
+picture final.ppm 8 4 =BBBB....\nBBBB....\nBBBB....\nBBBB....
+
+case a view of the last layer comes to the front of its own layer alone
+words turns, pair.toml
+file pair.toml SEVENTH
+file pa.nit PA
+more pa.nit =front 1\n
+file pb.nit COVERING
+file pair.in =phase\n
+ends 0 =nitpicker: clients 2 entries 8 frames 1\n
+asked =pair.toml pa.nit pb.nit pair.in final.ppm events-a.txt events-b.txt journal.txt
+there =pair.toml pa.nit pb.nit pair.in final.ppm events-a.txt events-b.txt journal.txt
+picture final.ppm 8 4 =BBBB....\nBBBB....\nBBBB....\nBBBB....
 
 text COLOURED
 | buffer 4 2
@@ -157,81 +234,4 @@ text COVERING
 | place 1 0 0 4 4
 | phase
 
-base offset
-words still, 8, 4, a.nit
-file a.nit COLOURED
-ends 0 =nitpicker: clients 1 entries 5 frames 1\n
-asked =a.nit final.ppm
-there =a.nit final.ppm
-
-case the buffer lies where the view does
-with offset
-ends 0 =nitpicker: clients 1 entries 4 frames 1\n
-picture final.ppm 8 4 =........\n.RGBW...\n.Mrbn...\n........
-
-case moved by one column: the view's first column is black, and it shows three columns
-with offset
-more a.nit =offset 1 1 0\n
-picture final.ppm 8 4 =........\n.KRGB...\n.KMrb...\n........
-
-case moved up and to the left: its last row and its last three columns are shown
-with offset
-more a.nit =offset 1 -1 -1\n
-picture final.ppm 8 4 =........\n.rbnK...\n.KKKK...\n........
-
-case of three views the first comes above the last, above itself, and to the back
-words turns, order.toml
-file order.toml ORDER
-file a.nit THREE_VIEWS
-file order.in =phase\nshot\nphase\nphase\nshot\nphase\nphase\nshot\nphase\n
-ends 0 =nitpicker: clients 1 entries 16 frames 4\n
-asked =order.toml a.nit order.in shot-1.ppm shot-2.ppm shot-3.ppm final.ppm events-a.txt journal.txt
-there =order.toml a.nit order.in shot-1.ppm shot-2.ppm shot-3.ppm final.ppm events-a.txt journal.txt
-picture shot-1.ppm 5 1 =RGBBB
-picture shot-2.ppm 5 1 =RRRBB
-picture shot-3.ppm 5 1 =RRRBB
-picture final.ppm 5 1 =RGBBB
-
-case views of a layer behind and of one in front, at the front and at the back of their own
-words turns, layers.toml
-file layers.toml LAYERS
-file a.nit BEHIND
-file b.nit BEFORE
-file layers.in =phase\nphase\nphase\nshot\nphase\nphase\nshot\nphase\n
-ends 0 =nitpicker: clients 2 entries 17 frames 3\n
-asked LAYERED
-there LAYERED
-picture shot-1.ppm 7 1 =RGGBBB.
-picture shot-2.ppm 7 1 =RRRBBB.
-picture final.ppm 7 1 =RRWBBBW
-
-case a view of a layer behind comes to the front of its own layer alone
-words turns, pair.toml
-file pair.toml LAYER_PAIR
-file pa.nit PA
-more pa.nit =front 1\n
-file pb.nit COVERING
-file pair.in =phase\n
-ends 0 =nitpicker: clients 2 entries 8 frames 1\n
-asked =pair.toml pa.nit pb.nit pair.in final.ppm events-a.txt events-b.txt journal.txt
-there =pair.toml pa.nit pb.nit pair.in final.ppm events-a.txt events-b.txt journal.txt
-picture final.ppm 8 4 =BBBB....\nBBBB....\nBBBB....\nBBBB....
-
-case the same of the layer that is the last
-words turns, pair.toml
-file pair.toml SEVENTH
-file pa.nit PA
-more pa.nit =front 1\n
-file pb.nit COVERING
-file pair.in =phase\n
-ends 0 =nitpicker: clients 2 entries 8 frames 1\n
-asked =pair.toml pa.nit pb.nit pair.in final.ppm events-a.txt events-b.txt journal.txt
-there =pair.toml pa.nit pb.nit pair.in final.ppm events-a.txt events-b.txt journal.txt
-picture final.ppm 8 4 =BBBB....\nBBBB....\nBBBB....\nBBBB....
-
 "#;
-
-#[test]
-fn views(rt: HostRuntime) {
-    assert_cases(&rt, rt.alloc(), CASES);
-}

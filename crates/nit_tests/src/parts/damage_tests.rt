@@ -11,6 +11,41 @@ use nit_stack::Stack;
 use std::alloc::Global;
 use std::process::Abort;
 
+#[test]
+fn pieces(rt: HostRuntime) {
+    for case in CASES {
+        assert_pieces(&rt, rt.alloc(), case);
+    }
+}
+
+/// A name, the rows of the bar, what the cutter begins with, and the picture.
+type Case = (&'static str, u32, Pixels, &'static str);
+
+const CASES: &[Case] = &[
+    ("all", 7, All, ALL),
+    ("all without a bar", 0, All, ALL_WITHOUT_A_BAR),
+    ("owned", 7, Owned(2, (2, 9, 3, 3)), OWNED),
+    ("moved", 7, Moved(1, (2, 8, 4, 3)), MOVED),
+    ("gone", 7, Gone((4, 6, 6, 6), 1), GONE),
+    ("bare", 7, Bare((4, 6, 6, 6)), BARE),
+];
+
+/// The pixels that a cutter begins with.
+#[derive(Clone, Copy)]
+enum Pixels {
+    All,
+    /// What the view at this place owns of a rectangle.
+    Owned(u32, Numbers),
+    /// The view at this place, which was in a rectangle before.
+    Moved(u32, Numbers),
+    /// What of a rectangle no view in front of this place covers.
+    Gone(Numbers, u32),
+    /// What of a rectangle no view covers.
+    Bare(Numbers),
+}
+
+use Pixels::{All, Bare, Gone, Moved, Owned};
+
 /// View 0 lies behind, view 1 before it and under the bar, view 2 in front and beyond the screen's
 /// edges. The screen is 12 by 12.
 const VIEWS: [Numbers; 3] = [(0, 8, 8, 3), (4, 6, 4, 4), (6, 9, 10, 9)];
@@ -99,33 +134,19 @@ const BARE: &str = "____________\
         ____________\
         ____..______";
 
-/// The pixels that a cutter begins with.
-#[derive(Clone, Copy)]
-enum Pixels {
-    All,
-    /// What the view at this place owns of a rectangle.
-    Owned(u32, Numbers),
-    /// The view at this place, which was in a rectangle before.
-    Moved(u32, Numbers),
-    /// What of a rectangle no view in front of this place covers.
-    Gone(Numbers, u32),
-    /// What of a rectangle no view covers.
-    Bare(Numbers),
+/// What was to come before a begin is dropped, and nothing comes behind the picture.
+fn assert_pieces(rt: &impl Abort, alloc: Global, case: &Case) {
+    let (name, bar, how, want) = case;
+    let stack = three_views(rt, alloc, [12, 12, *bar], VIEWS);
+    let mut cutter = Cutter::with_room(alloc, 3).expect(rt, "memory");
+    must(rt, name, stack.len() == 3);
+    cutter.begin_all(&stack);
+    must(rt, name, cutter.next(&stack).is_some());
+    begin(rt, &mut cutter, &stack, *how);
+    let found = picture(rt, &mut cutter, &stack);
+    same(rt, name, &found.as_slice(), &want.as_bytes());
+    must(rt, name, cutter.next(&stack).is_none());
 }
-
-use Pixels::{All, Bare, Gone, Moved, Owned};
-
-/// A name, the rows of the bar, what the cutter begins with, and the picture.
-type Case = (&'static str, u32, Pixels, &'static str);
-
-const CASES: &[Case] = &[
-    ("all", 7, All, ALL),
-    ("all without a bar", 0, All, ALL_WITHOUT_A_BAR),
-    ("owned", 7, Owned(2, (2, 9, 3, 3)), OWNED),
-    ("moved", 7, Moved(1, (2, 8, 4, 3)), MOVED),
-    ("gone", 7, Gone((4, 6, 6, 6), 1), GONE),
-    ("bare", 7, Bare((4, 6, 6, 6)), BARE),
-];
 
 /// Begins with these pixels of a stack of three views.
 fn begin(rt: &impl Abort, cutter: &mut Cutter, stack: &Stack, begin: Pixels)
@@ -148,26 +169,5 @@ fn begin(rt: &impl Abort, cutter: &mut Cutter, stack: &Stack, begin: Pixels)
             cutter.begin_gone(stack, rect(rt, part), Some(stack.at(place)));
         }
         Bare(part) => cutter.begin_gone(stack, rect(rt, part), None),
-    }
-}
-
-/// What was to come before a begin is dropped, and nothing comes behind the picture.
-fn assert_pieces(rt: &impl Abort, alloc: Global, case: &Case) {
-    let (name, bar, how, want) = case;
-    let stack = three_views(rt, alloc, [12, 12, *bar], VIEWS);
-    let mut cutter = Cutter::with_room(alloc, 3).expect(rt, "memory");
-    must(rt, name, stack.len() == 3);
-    cutter.begin_all(&stack);
-    must(rt, name, cutter.next(&stack).is_some());
-    begin(rt, &mut cutter, &stack, *how);
-    let found = picture(rt, &mut cutter, &stack);
-    same(rt, name, &found.as_slice(), &want.as_bytes());
-    must(rt, name, cutter.next(&stack).is_none());
-}
-
-#[test]
-fn pieces(rt: HostRuntime) {
-    for case in CASES {
-        assert_pieces(&rt, rt.alloc(), case);
     }
 }

@@ -3,18 +3,6 @@
 use nit_events::{Call, Entry, Reply};
 use nit_ledger::{Book, HasRaw};
 
-/// A screen of one pixel. Contracts see its raw word behind an entry.
-#[derive(Drop)]
-struct OnePixel {
-    word: u32,
-}
-
-impl HasRaw for OnePixel {
-    ghost use Rattle.std.specs.Prelude.{[], ◌∷◌};
-
-    ghost raw = { λ s. s.word ∷ [] };
-}
-
 #[test]
 fn two_shares_append_count_and_meet(rt: HostRuntime) {
     let mut book = Book::new(rt.alloc()).expect(&rt, "memory");
@@ -39,6 +27,18 @@ fn two_shares_append_count_and_meet(rt: HostRuntime) {
     book.meet(&mut second);
     can_be_sent(&first);
     can_be_sent(&book);
+}
+
+/// A screen of one pixel. Contracts see its raw word behind an entry.
+#[derive(Drop)]
+struct OnePixel {
+    word: u32,
+}
+
+impl HasRaw for OnePixel {
+    ghost use Rattle.std.specs.Prelude.{[], ◌∷◌};
+
+    ghost raw = { λ s. s.word ∷ [] };
 }
 
 /// Compiles for what can be sent to another thread.

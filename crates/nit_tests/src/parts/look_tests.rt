@@ -3,10 +3,30 @@
 ghost use Rattle.nit_rect.specs.Rectangle.{rectangle};
 ghost use Rattle.nit_look.specs.Look.{LiesOn};
 
+use crate::checks::must;
 use nit_look::look;
 use nit_rect::Rect;
 use std::process::Abort;
 use std::rt::HostRuntime;
+
+#[test]
+fn the_least_rectangle_is_found(rt: HostRuntime) {
+    let all = part(&rt, 0, 0, 4, 3);
+    let two = (Rect::new(1, 1, 3, 2), &TWO);
+    expect(&rt, "two pixels in two rows", &TWO, &all, two);
+    let corners = (Rect::new(0, 0, 4, 3), &CORNERS);
+    expect(&rt, "two corners", &CORNERS, &all, corners);
+    expect(&rt, "nothing differs", &BEFORE, &all, (None, &BEFORE));
+}
+
+#[test]
+fn a_part_alone_is_looked_at(rt: HostRuntime) {
+    let corner = part(&rt, 2, 1, 2, 2);
+    let last = (Rect::new(3, 2, 1, 1), &LAST);
+    expect(&rt, "one of two corners", &CORNERS, &corner, last);
+    let middle = part(&rt, 1, 0, 2, 3);
+    expect(&rt, "neither corner", &CORNERS, &middle, (None, &BEFORE));
+}
 
 const BEFORE: [u32; 12] = [
     1, 1, 1, 1, //
@@ -35,19 +55,20 @@ const LAST: [u32; 12] = [
     1, 1, 1, 2,
 ];
 
-#[test]
-fn the_least_rectangle_is_found(rt: HostRuntime) {
-    let all = part(&rt, 0, 0, 4, 3);
-    expect(&rt, &TWO, &all, &TWO, Rect::new(1, 1, 3, 2));
-    expect(&rt, &CORNERS, &all, &CORNERS, Rect::new(0, 0, 4, 3));
-    expect(&rt, &BEFORE, &all, &BEFORE, None);
-}
+/// What a look finds, and what it leaves.
+type Want<'a> = (Option<Rect>, &'a [u32; 12]);
 
-#[test]
-fn a_part_alone_is_looked_at(rt: HostRuntime) {
-    let corner = part(&rt, 2, 1, 2, 2);
-    expect(&rt, &CORNERS, &corner, &LAST, Rect::new(3, 2, 1, 1));
-    expect(&rt, &CORNERS, &part(&rt, 1, 0, 2, 3), &BEFORE, None);
+/// Looks twice at the part of a picture. The second time nothing differs.
+fn expect(rt: &impl Abort, title: &str, now: &[u32; 12], part: &Rect, want: Want)
+    requires { LiesOn 4 3 part.now }
+{
+    let (rect, left) = want;
+    let mut out = BEFORE;
+    let found = look(now, 4, 3, part, &mut out);
+    must(rt, title, found == rect);
+    let again = look(now, 4, 3, part, &mut out);
+    must(rt, title, again.is_none());
+    must(rt, title, out == *left);
 }
 
 /// A part of a picture.
@@ -56,16 +77,4 @@ fn part(rt: &impl Abort, x: i32, y: i32, w: u32, h: u32) -> Rect
     ensures { LiesOn 4 3 result }
 {
     Rect::new(x, y, w, h).expect(rt, "numbers in range")
-}
-
-/// Looks twice at the part of a picture. The second time nothing differs.
-fn expect(rt: &impl Abort, now: &[u32; 12], part: &Rect, left: &[u32; 12], want: Option<Rect>)
-    requires { LiesOn 4 3 part.now }
-{
-    let mut out = BEFORE;
-    let found = look(now, 4, 3, part, &mut out);
-    assert!(rt; found == want);
-    let again = look(now, 4, 3, part, &mut out);
-    assert!(rt; again.is_none());
-    assert!(rt; out == *left);
 }

@@ -13,21 +13,28 @@ use nit_stack::{Stack, ViewRef};
 use std::alloc::Global;
 use std::process::Abort;
 
+/// The pixels outside of a rectangle stay as they were.
+#[test]
+fn part_of_a_picture(rt: HostRuntime) {
+    let out = part_on_blue(&rt, rt.alloc(), rect(&rt, (2, 9, 3, 2)));
+    #[rattlefmt::skip]
+    let want = &[
+        B, B, B, B, B, B, B, B, B, B, B, B,
+        B, B, R, R, R, B, B, B, B, B, B, B,
+        B, B, R, R, R, B, B, B, B, B, B, B,
+        B, B, B, B, B, B, B, B, B, B, B, B,
+    ];
+    same(
+        &rt,
+        "rows 8 to 11",
+        &out.get(96..144),
+        &Some(want.as_slice()),
+    );
+}
+
 const R: u32 = 0xFF0000;
 
 const B: u32 = 0x0000FF;
-
-/// One view that has all of a screen of 12 by 12 with a bar.
-fn barred_view(rt: &impl Abort, alloc: Global, all: Rect) -> Stack
-    ensures sessions { length result.sizes ≡ 1 }
-    ensures screen { (result.width ≡ 12) × (result.height ≡ 12) }
-{
-    let mut stack = Stack::new(alloc, 12, 12, 1, 1).expect(rt, "memory");
-    stack.set_bar(7);
-    stack.push_front(ViewRef(0), 0, 1);
-    stack.place(ViewRef(0), all);
-    stack
-}
 
 /// A red screen, of which a part is put on a blue one, in mode Flat.
 fn part_on_blue(rt: &impl Abort, alloc: Global, part: Rect) -> Vec<u32> {
@@ -46,21 +53,14 @@ fn part_on_blue(rt: &impl Abort, alloc: Global, part: Rect) -> Vec<u32> {
     out
 }
 
-/// The pixels outside of a rectangle stay as they were.
-#[test]
-fn part_of_a_picture(rt: HostRuntime) {
-    let out = part_on_blue(&rt, rt.alloc(), rect(&rt, (2, 9, 3, 2)));
-    #[rattlefmt::skip]
-    let want = &[
-        B, B, B, B, B, B, B, B, B, B, B, B,
-        B, B, R, R, R, B, B, B, B, B, B, B,
-        B, B, R, R, R, B, B, B, B, B, B, B,
-        B, B, B, B, B, B, B, B, B, B, B, B,
-    ];
-    same(
-        &rt,
-        "rows 8 to 11",
-        &out.get(96..144),
-        &Some(want.as_slice()),
-    );
+/// One view that has all of a screen of 12 by 12 with a bar.
+fn barred_view(rt: &impl Abort, alloc: Global, all: Rect) -> Stack
+    ensures sessions { length result.sizes ≡ 1 }
+    ensures screen { (result.width ≡ 12) × (result.height ≡ 12) }
+{
+    let mut stack = Stack::new(alloc, 12, 12, 1, 1).expect(rt, "memory");
+    stack.set_bar(7);
+    stack.push_front(ViewRef(0), 0, 1);
+    stack.place(ViewRef(0), all);
+    stack
 }

@@ -11,25 +11,11 @@ use nit_stack::{Stack, ViewRef};
 use std::alloc::Global;
 use std::process::Abort;
 
-const BACK: ViewRef = ViewRef(0);
-
-const LEFT: ViewRef = ViewRef(1);
-
-const RIGHT: ViewRef = ViewRef(2);
-
-/// A view without columns and rows.
-const NOTHING: Numbers = (0, 0, 0, 0);
-
-/// A view, the width and the height of a label, and its place.
-type Row = (ViewRef, [u32; 2], Option<Point>);
-
-/// The width, the height and the bar of a screen, its views from the back to the front, and where
-/// labels stand.
-struct Case {
-    name: &'static str,
-    size: [u32; 3],
-    views: [Numbers; 3],
-    rows: &'static [Row],
+#[test]
+fn places(rt: HostRuntime) {
+    for of in CASES {
+        assert_places(&rt, rt.alloc(), of);
+    }
 }
 
 /// A label stands with its corner there.
@@ -155,6 +141,35 @@ const CASES: &[Case] = &[
     },
 ];
 
+/// The width, the height and the bar of a screen, its views from the back to the front, and where
+/// labels stand.
+struct Case {
+    name: &'static str,
+    size: [u32; 3],
+    views: [Numbers; 3],
+    rows: &'static [Row],
+}
+
+/// A view, the width and the height of a label, and its place.
+type Row = (ViewRef, [u32; 2], Option<Point>);
+
+const BACK: ViewRef = ViewRef(0);
+
+const LEFT: ViewRef = ViewRef(1);
+
+const RIGHT: ViewRef = ViewRef(2);
+
+/// A view without columns and rows.
+const NOTHING: Numbers = (0, 0, 0, 0);
+
+/// Each label of a screen stands where it is to.
+fn assert_places(rt: &impl Abort, alloc: Global, of: &Case) {
+    let stack = three_views(rt, alloc, of.size, of.views);
+    for (view, size, want) in of.rows {
+        same(rt, of.name, &place(rt, &stack, *view, *size), want);
+    }
+}
+
 /// Where the label of a view stands, which is one of the three.
 fn place(rt: &impl Abort, stack: &Stack, view: ViewRef, size: [u32; 2]) -> Option<Point>
     requires back { has_slot 0 stack.now.views ≡ true }
@@ -166,20 +181,5 @@ fn place(rt: &impl Abort, stack: &Stack, view: ViewRef, size: [u32; 2]) -> Optio
         BACK => place_label(stack, BACK, w, h),
         LEFT => place_label(stack, LEFT, w, h),
         _ => place_label(stack, RIGHT, w, h),
-    }
-}
-
-/// Each label of a screen stands where it is to.
-fn assert_places(rt: &impl Abort, alloc: Global, of: &Case) {
-    let stack = three_views(rt, alloc, of.size, of.views);
-    for (view, size, want) in of.rows {
-        same(rt, of.name, &place(rt, &stack, *view, *size), want);
-    }
-}
-
-#[test]
-fn places(rt: HostRuntime) {
-    for of in CASES {
-        assert_places(&rt, rt.alloc(), of);
     }
 }

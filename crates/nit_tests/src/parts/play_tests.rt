@@ -9,16 +9,11 @@ use nit_capture::{Played, Player};
 use std::alloc::Global;
 use std::process::Abort;
 
-/// So many of a stream's bytes, the width and height, what they play at one call after the other,
-/// and the words that stand in the frame behind the first calls: so many that are equal, and then
-/// others.
-struct Play {
-    name: &'static str,
-    stream: &'static [u8],
-    length: usize,
-    size: (u32, u32),
-    calls: &'static [Played],
-    words: &'static [(usize, u32)],
+#[test]
+fn plays(rt: HostRuntime) {
+    for of in PLAYS {
+        assert_play(&rt, rt.alloc(), of);
+    }
 }
 
 const PLAYS: &[Play] = &[
@@ -58,6 +53,36 @@ const PLAYS: &[Play] = &[
     },
 ];
 
+/// So many of a stream's bytes, the width and height, what they play at one call after the other,
+/// and the words that stand in the frame behind the first calls: so many that are equal, and then
+/// others.
+struct Play {
+    name: &'static str,
+    stream: &'static [u8],
+    length: usize,
+    size: (u32, u32),
+    calls: &'static [Played],
+    words: &'static [(usize, u32)],
+}
+
+/// The first words are these.
+fn assert_play(rt: &impl Abort, alloc: Global, of: &Play) {
+    let bytes = of.stream.get(..of.length).expect(rt, "so many bytes");
+    let mut player = Player::new(bytes).expect(rt, "a film");
+    let (width, height) = player.size();
+    same(rt, of.name, &(width, height), &of.size);
+    let mut frame = black(rt, alloc, width, height);
+    let mut words = Vec::new(alloc);
+    play_all(rt, &mut player, &mut frame, of, &mut words);
+    let want = spread(rt, alloc, of.words);
+    same(
+        rt,
+        of.name,
+        &words.get(..want.len()),
+        &Some(want.as_slice()),
+    );
+}
+
 /// The words that stand in the black frame behind calls that play so.
 fn play_all(
     rt: &impl Abort,
@@ -83,29 +108,4 @@ fn spread(rt: &impl Abort, alloc: Global, runs: &[(usize, u32)]) -> Vec<u32> {
         }
     }
     words
-}
-
-/// The first words are these.
-fn assert_play(rt: &impl Abort, alloc: Global, of: &Play) {
-    let bytes = of.stream.get(..of.length).expect(rt, "so many bytes");
-    let mut player = Player::new(bytes).expect(rt, "a film");
-    let (width, height) = player.size();
-    same(rt, of.name, &(width, height), &of.size);
-    let mut frame = black(rt, alloc, width, height);
-    let mut words = Vec::new(alloc);
-    play_all(rt, &mut player, &mut frame, of, &mut words);
-    let want = spread(rt, alloc, of.words);
-    same(
-        rt,
-        of.name,
-        &words.get(..want.len()),
-        &Some(want.as_slice()),
-    );
-}
-
-#[test]
-fn plays(rt: HostRuntime) {
-    for of in PLAYS {
-        assert_play(&rt, rt.alloc(), of);
-    }
 }

@@ -4,12 +4,13 @@ use crate::checks::same;
 use nit_events::{Event, Queue};
 use std::process::Abort;
 
-/// An event of this number.
-fn event(number: u16) -> Event {
-    match number {
-        1 => Event::Wheel(-1),
-        _ => Event::Press(number),
-    }
+#[test]
+fn full_queue(rt: HostRuntime) {
+    let mut queue = Queue::new(rt.alloc()).expect(&rt, "memory");
+    assert_filled(&rt, &mut queue);
+    same(&rt, "length", &queue.len(), &64);
+    assert_emptied(&rt, &mut queue);
+    same(&rt, "empty", &queue.take(), &None);
 }
 
 /// The first 64 events find room, and the next one is refused.
@@ -27,11 +28,10 @@ fn assert_emptied(rt: &impl Abort, queue: &mut Queue) {
     }
 }
 
-#[test]
-fn full_queue(rt: HostRuntime) {
-    let mut queue = Queue::new(rt.alloc()).expect(&rt, "memory");
-    assert_filled(&rt, &mut queue);
-    same(&rt, "length", &queue.len(), &64);
-    assert_emptied(&rt, &mut queue);
-    same(&rt, "empty", &queue.take(), &None);
+/// An event of this number.
+fn event(number: u16) -> Event {
+    match number {
+        1 => Event::Wheel(-1),
+        _ => Event::Press(number),
+    }
 }

@@ -5,24 +5,6 @@ use crate::parts::screens::{Numbers, rect, three_views};
 use nit_stack::ViewRef;
 use std::process::Abort;
 
-/// A rectangle, another one, and whether that covers all of it.
-const ROWS: [(Numbers, Numbers, bool); 8] = [
-    ((1, 1, 2, 2), (0, 0, 4, 4), true),
-    ((0, 0, 4, 4), (0, 0, 4, 4), true),
-    ((0, 0, 4, 4), (1, 1, 2, 2), false),
-    ((3, 1, 2, 2), (0, 0, 4, 4), false),
-    ((1, 3, 2, 2), (0, 0, 4, 4), false),
-    ((-1, 0, 2, 2), (0, 0, 4, 4), false),
-    ((0, -1, 2, 2), (0, 0, 4, 4), false),
-    ((9, 9, 0, 5), (0, 0, 4, 4), true),
-];
-
-fn assert_inside(rt: &impl Abort, row: &(Numbers, Numbers, bool)) {
-    let (inner, outer, want) = *row;
-    let found = rect(rt, inner).inside(&rect(rt, outer));
-    same(rt, "inside", &(inner, outer, found), &(inner, outer, want));
-}
-
 #[test]
 fn rectangles_inside_others(rt: HostRuntime) {
     for row in &ROWS {
@@ -43,4 +25,24 @@ fn from_the_front_to_the_back(rt: HostRuntime) {
     ];
     let want = [Some(ViewRef(2)), Some(ViewRef(1)), Some(ViewRef(0)), None];
     same(&rt, "first and next", &found, &want);
+}
+
+/// A title, a rectangle, another one, and whether that covers all of it.
+type Row = (&'static str, Numbers, Numbers, bool);
+
+const ROWS: [Row; 8] = [
+    ("in the middle", (1, 1, 2, 2), (0, 0, 4, 4), true),
+    ("the same", (0, 0, 4, 4), (0, 0, 4, 4), true),
+    ("around it", (0, 0, 4, 4), (1, 1, 2, 2), false),
+    ("beyond the right edge", (3, 1, 2, 2), (0, 0, 4, 4), false),
+    ("beyond the lower edge", (1, 3, 2, 2), (0, 0, 4, 4), false),
+    ("beyond the left edge", (-1, 0, 2, 2), (0, 0, 4, 4), false),
+    ("beyond the upper edge", (0, -1, 2, 2), (0, 0, 4, 4), false),
+    ("without columns", (9, 9, 0, 5), (0, 0, 4, 4), true),
+];
+
+fn assert_inside(rt: &impl Abort, row: &Row) {
+    let (title, inner, outer, want) = *row;
+    let found = rect(rt, inner).inside(&rect(rt, outer));
+    same(rt, title, &found, &want);
 }

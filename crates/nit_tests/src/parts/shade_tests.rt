@@ -8,6 +8,20 @@ use nit_word::{dim, dim_row, tint, tint_row};
 use std::alloc::Global;
 use std::process::Abort;
 
+#[test]
+fn words_by_hand(rt: HostRuntime) {
+    let found = [dim(0xFF8040), tint(0xFF8040), dim(0)];
+    same(&rt, "dim, tint, black", &found, &[0x7F4020, 0xFF4020, 0]);
+}
+
+#[test]
+fn rows_as_their_words(rt: HostRuntime) {
+    for count in 0..=MOST {
+        let words = scattered_words(&rt, rt.alloc(), count, count);
+        assert_shaded(&rt, rt.alloc(), &words);
+    }
+}
+
 /// The most words that a row has here.
 const MOST: u32 = 40;
 
@@ -46,19 +60,5 @@ fn assert_darker(rt: &impl Abort, words: &[u32], dimmed: &[u32], tinted: &[u32])
             &(k, dimmed.get(k), tinted.get(k)),
             &want,
         );
-    }
-}
-
-#[test]
-fn words_by_hand(rt: HostRuntime) {
-    let found = [dim(0xFF8040), tint(0xFF8040), dim(0)];
-    same(&rt, "dim, tint, black", &found, &[0x7F4020, 0xFF4020, 0]);
-}
-
-#[test]
-fn rows_as_their_words(rt: HostRuntime) {
-    for count in 0..=MOST {
-        let words = scattered_words(&rt, rt.alloc(), count, count);
-        assert_shaded(&rt, rt.alloc(), &words);
     }
 }

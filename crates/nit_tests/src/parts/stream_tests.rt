@@ -12,6 +12,44 @@ use nit_capture::{Played, Player};
 use std::alloc::Global;
 use std::process::Abort;
 
+#[test]
+fn streams(rt: HostRuntime) {
+    for of in STREAMS {
+        assert_whole(&rt, of);
+        assert_fronts(&rt, rt.alloc(), of);
+        assert_changes(&rt, rt.alloc(), of);
+    }
+}
+
+const STREAMS: &[Stream] = &[
+    Stream {
+        name: "part at the top left",
+        bytes: &LEFT,
+        fronts: &FRONTS_LEFT,
+        changes: &CHANGED_LEFT,
+    },
+    Stream {
+        name: "part at the top right",
+        bytes: &RIGHT,
+        fronts: &FRONTS_RIGHT,
+        changes: &CHANGED_RIGHT,
+    },
+    Stream {
+        name: "tiles that are cut off",
+        bytes: &CUT,
+        fronts: &FRONTS_CUT,
+        changes: &CHANGED_CUT,
+    },
+];
+
+/// A stream, and what its fronts and its changes play.
+struct Stream {
+    name: &'static str,
+    bytes: &'static [u8],
+    fronts: &'static [Front],
+    changes: &'static [Change],
+}
+
 /// What bytes play to their end: so many pictures, and then `End` or `Bad`; or nothing, where they
 /// do not begin as a film.
 type Course = Option<(u32, Played)>;
@@ -261,74 +299,12 @@ const CHANGED_CUT: [Change; 102] = [
     (58, 1, 255, BAD_2),
 ];
 
-/// A stream, and what its fronts and its changes play.
-struct Stream {
-    name: &'static str,
-    bytes: &'static [u8],
-    fronts: &'static [Front],
-    changes: &'static [Change],
-}
-
-const STREAMS: &[Stream] = &[
-    Stream {
-        name: "part at the top left",
-        bytes: &LEFT,
-        fronts: &FRONTS_LEFT,
-        changes: &CHANGED_LEFT,
-    },
-    Stream {
-        name: "part at the top right",
-        bytes: &RIGHT,
-        fronts: &FRONTS_RIGHT,
-        changes: &CHANGED_RIGHT,
-    },
-    Stream {
-        name: "tiles that are cut off",
-        bytes: &CUT,
-        fronts: &FRONTS_CUT,
-        changes: &CHANGED_CUT,
-    },
-];
-
-/// A black picture.
-pub fn black(rt: &impl Abort, alloc: Global, w: u32, h: u32) -> Vec<u32>
-    requires { IsPictureSize w h }
-    ensures { IsPicture w h result.items }
-{
-    repeated(rt, alloc, 0, (w * h) as usize)
-}
-
-/// Plays to the end, and at most 100 pictures.
-fn play(player: &mut Player<'_>, frame: &mut [u32]) -> (u32, Played)
-    requires { IsPicture player.old.width player.old.height frame.old }
-{
-    for pictures in 0..100 {
-        let now = player.next(frame);
-        if now != Played::Frame {
-            return (pictures, now);
-        }
-    }
-    (100, Played::Frame)
-}
-
-/// What bytes play.
-fn played(rt: &impl Abort, alloc: Global, bytes: &[u8]) -> Course {
-    let Some(mut player) = Player::new(bytes) else {
-        return None;
-    };
-    let (width, height) = player.size();
-    let mut frame = black(rt, alloc, width, height);
-    Some(play(&mut player, &mut frame))
-}
-
-/// Fronts of these lengths play so.
-fn assert_front(rt: &impl Abort, alloc: Global, of: &Stream, row: &Front) {
-    let (from, to, course) = *row;
-    for length in from..=to {
-        let front = of.bytes.get(..length).expect(rt, "so many bytes");
-        let found = (length, played(rt, alloc, front));
-        same(rt, of.name, &found, &(length, course));
-    }
+/// Each front of a stream is in a row, and each of the 255 other bytes in each place.
+fn assert_whole(rt: &impl Abort, of: &Stream) {
+    let length = of.bytes.len();
+    let found = (fronts(of.fronts), changes(of.changes));
+    let want = (length.saturating_add(1), length.saturating_mul(255));
+    same(rt, of.name, &found, &want);
 }
 
 /// How many fronts the rows are of.
@@ -353,17 +329,26 @@ fn changes(rows: &[Change]) -> usize {
     count
 }
 
-/// Each front of a stream is in a row, and each of the 255 other bytes in each place.
-fn assert_whole(rt: &impl Abort, of: &Stream) {
-    let length = of.bytes.len();
-    let found = (fronts(of.fronts), changes(of.changes));
-    let want = (length.saturating_add(1), length.saturating_mul(255));
-    same(rt, of.name, &found, &want);
-}
-
 fn assert_fronts(rt: &impl Abort, alloc: Global, of: &Stream) {
     for row in of.fronts {
         assert_front(rt, alloc, of, row);
+    }
+}
+
+/// Fronts of these lengths play so.
+fn assert_front(rt: &impl Abort, alloc: Global, of: &Stream, row: &Front) {
+    let (from, to, course) = *row;
+    for length in from..=to {
+        let front = of.bytes.get(..length).expect(rt, "so many bytes");
+        let found = (length, played(rt, alloc, front));
+        same(rt, of.name, &found, &(length, course));
+    }
+}
+
+fn assert_changes(rt: &impl Abort, alloc: Global, of: &Stream) {
+    for row in of.changes {
+        let mut copy = of.bytes.to_vec(alloc).expect(rt, "memory");
+        assert_change(rt, alloc, of.name, &mut copy, row);
     }
 }
 
@@ -377,18 +362,33 @@ fn assert_change(rt: &impl Abort, alloc: Global, name: &str, copy: &mut [u8], ro
     }
 }
 
-fn assert_changes(rt: &impl Abort, alloc: Global, of: &Stream) {
-    for row in of.changes {
-        let mut copy = of.bytes.to_vec(alloc).expect(rt, "memory");
-        assert_change(rt, alloc, of.name, &mut copy, row);
-    }
+/// What bytes play.
+fn played(rt: &impl Abort, alloc: Global, bytes: &[u8]) -> Course {
+    let Some(mut player) = Player::new(bytes) else {
+        return None;
+    };
+    let (width, height) = player.size();
+    let mut frame = black(rt, alloc, width, height);
+    Some(play(&mut player, &mut frame))
 }
 
-#[test]
-fn streams(rt: HostRuntime) {
-    for of in STREAMS {
-        assert_whole(&rt, of);
-        assert_fronts(&rt, rt.alloc(), of);
-        assert_changes(&rt, rt.alloc(), of);
+/// Plays to the end, and at most 100 pictures.
+fn play(player: &mut Player<'_>, frame: &mut [u32]) -> (u32, Played)
+    requires { IsPicture player.old.width player.old.height frame.old }
+{
+    for pictures in 0..100 {
+        let now = player.next(frame);
+        if now != Played::Frame {
+            return (pictures, now);
+        }
     }
+    (100, Played::Frame)
+}
+
+/// A black picture.
+pub fn black(rt: &impl Abort, alloc: Global, w: u32, h: u32) -> Vec<u32>
+    requires { IsPictureSize w h }
+    ensures { IsPicture w h result.items }
+{
+    repeated(rt, alloc, 0, (w * h) as usize)
 }

@@ -4,6 +4,22 @@ use crate::checks::same;
 use nit_glyph::{Label, Title, label_text};
 use std::process::Abort;
 
+#[test]
+fn titles_and_labels(rt: HostRuntime) {
+    assert_titles(&rt, TITLES, true);
+    assert_titles(&rt, NO_TITLES, false);
+    assert_labels(&rt, LABELS, true);
+    assert_labels(&rt, NO_LABELS, false);
+}
+
+#[test]
+fn texts_of_views(rt: HostRuntime) {
+    assert_text(&rt, "terminal", "tab 1", "terminal:tab 1");
+    assert_text(&rt, "b", "", "b");
+    let longest = "abcdefghijklmnopqrst:abcdefghijkl";
+    assert_text(&rt, "abcdefghijklmnopqrst", "abcdefghijkl", longest);
+}
+
 /// Titles, with `|` between them.
 const TITLES: &str = "|log 2|abcdefghijkl|0-9._ z| ";
 
@@ -25,26 +41,10 @@ fn assert_labels(rt: &impl Abort, texts: &str, want: bool) {
     }
 }
 
-#[test]
-fn titles_and_labels(rt: HostRuntime) {
-    assert_titles(&rt, TITLES, true);
-    assert_titles(&rt, NO_TITLES, false);
-    assert_labels(&rt, LABELS, true);
-    assert_labels(&rt, NO_LABELS, false);
-}
-
 /// The text of a view that has this label and title.
 fn assert_text(rt: &impl Abort, label: &str, title: &str, want: &str) {
     let label = Label::new(label.as_bytes()).expect(rt, "a label");
     let title = Title::new(title.as_bytes()).expect(rt, "a title");
     let text = label_text(&label, &title);
     same(rt, want, &text.as_bytes(), &want.as_bytes());
-}
-
-#[test]
-fn texts_of_views(rt: HostRuntime) {
-    assert_text(&rt, "terminal", "tab 1", "terminal:tab 1");
-    assert_text(&rt, "b", "", "b");
-    let longest = "abcdefghijklmnopqrst:abcdefghijkl";
-    assert_text(&rt, "abcdefghijklmnopqrst", "abcdefghijkl", longest);
 }

@@ -18,10 +18,22 @@ use std::alloc::Global;
 use std::cell::Cell;
 use std::process::Abort;
 
-/// Two clients on a screen of 12 by 7.
-const LABELS: &str = "[screen]\nwidth = 12\nheight = 7\n\n[input]\nscript = \"i\"\n\n\
-                      [[client]]\nlabel = \"ab\"\ndonation = 65536\nscript = \"a\"\n\n\
-                      [[client]]\nlabel = \"b\"\ndonation = 65536\nscript = \"b\"\n";
+#[test]
+fn worked_run_in_xray_mode(rt: HostRuntime) {
+    let alloc = rt.alloc();
+    let loads = [Cell::new(0), Cell::new(0)];
+    let mut stage = set_up(&rt, alloc, LABELS, &loads);
+    for step in STEPS.lines() {
+        stage.serve(&rt, step.as_bytes().get(4..).unwrap_or(b""));
+        assert_anew(&rt, alloc, &stage, step);
+    }
+    same(
+        &rt,
+        "row 1",
+        &stage.frame().get(12..24),
+        &Some(LAST_ROW.as_slice()),
+    );
+}
 
 /// The steps of the run. In front of each stand a letter for each view that has a rectangle after
 /// it, and one for the mode.
@@ -35,11 +47,64 @@ abF 1 place 1 0 0 3 7
 abX press 70
 ";
 
+/// Two clients on a screen of 12 by 7.
+const LABELS: &str = "[screen]\nwidth = 12\nheight = 7\n\n[input]\nscript = \"i\"\n\n\
+                      [[client]]\nlabel = \"ab\"\ndonation = 65536\nscript = \"a\"\n\n\
+                      [[client]]\nlabel = \"b\"\ndonation = 65536\nscript = \"b\"\n";
+
+/// Row 1 of the last frame: the ring and the dimmed words of the front view, and the label of the
+/// other one, which fills the rest.
+const LAST_ROW: [u32; 12] = [
+    0x808080, 0x00007F, 0x808080, 0, 0, 0xFFFFFF, 0, 0, 0xFFFFFF, 0xFFFFFF, 0, 0,
+];
+
+/// The stage keeps the frame that is made anew, where the views of these letters have a rectangle.
+fn assert_anew(rt: &impl Abort, alloc: Global, stage: &Stage<Counting>, step: &str) {
+    let [back, front, mode, b' ', ..] = step.as_bytes() else {
+        panic!(rt; "no letters");
+    };
+    let back = rect(rt, *back == b'a', 12);
+    let front = rect(rt, *front == b'b', 3);
+    let mode = if *mode == b'X' {
+        Mode::Xray
+    } else {
+        Mode::Flat
+    };
+    let anew = made_anew(rt, alloc, back, front, mode);
+    same(rt, step, &stage.frame(), &anew.as_slice());
+}
+
 const PIXELS: usize = 84;
 
 const BACK: ViewRef = ViewRef(0);
 
 const FRONT: ViewRef = ViewRef(1);
+
+/// The frame of the screen on which the views have these rectangles. Of their labels the first is
+/// `ab`, whose picture has 9 columns, and the second `b`, whose picture has 5.
+fn made_anew(rt: &impl Abort, alloc: Global, back: Rect, front: Rect, mode: Mode) -> [u32; PIXELS] {
+    let stack = screen(rt, alloc, back, front);
+    let raw = raw_words(&stack);
+    must(rt, "words", are_words(&raw));
+    let labels = [
+        Label::new(b"ab").expect(rt, "a label"),
+        Label::new(b"b").expect(rt, "a label"),
+    ];
+    let places = [
+        place_label(&stack, BACK, 9, 7),
+        place_label(&stack, FRONT, 5, 7),
+    ];
+    let look = Look {
+        stack: &stack,
+        labels: &labels,
+        mode,
+        focus: None,
+        places: &places,
+    };
+    let mut frame = [0; PIXELS];
+    frame_into(&look, &raw, &mut frame);
+    frame
+}
 
 /// A screen with both views, each of which has a buffer and this rectangle.
 fn screen(rt: &impl Abort, alloc: Global, back: Rect, front: Rect) -> Stack
@@ -102,69 +167,4 @@ fn are_words(words: &[u32]) -> bool
     ensures { IsTrue result → All IsWord words.now }
 {
     words.iter().all(|word| *word < 0x100_0000)
-}
-
-/// The frame of the screen on which the views have these rectangles. Of their labels the first is
-/// `ab`, whose picture has 9 columns, and the second `b`, whose picture has 5.
-fn made_anew(rt: &impl Abort, alloc: Global, back: Rect, front: Rect, mode: Mode) -> [u32; PIXELS] {
-    let stack = screen(rt, alloc, back, front);
-    let raw = raw_words(&stack);
-    must(rt, "words", are_words(&raw));
-    let labels = [
-        Label::new(b"ab").expect(rt, "a label"),
-        Label::new(b"b").expect(rt, "a label"),
-    ];
-    let places = [
-        place_label(&stack, BACK, 9, 7),
-        place_label(&stack, FRONT, 5, 7),
-    ];
-    let look = Look {
-        stack: &stack,
-        labels: &labels,
-        mode,
-        focus: None,
-        places: &places,
-    };
-    let mut frame = [0; PIXELS];
-    frame_into(&look, &raw, &mut frame);
-    frame
-}
-
-/// The stage keeps the frame that is made anew, where the views of these letters have a rectangle.
-fn assert_anew(rt: &impl Abort, alloc: Global, stage: &Stage<Counting>, step: &str) {
-    let [back, front, mode, b' ', ..] = step.as_bytes() else {
-        panic!(rt; "no letters");
-    };
-    let back = rect(rt, *back == b'a', 12);
-    let front = rect(rt, *front == b'b', 3);
-    let mode = if *mode == b'X' {
-        Mode::Xray
-    } else {
-        Mode::Flat
-    };
-    let anew = made_anew(rt, alloc, back, front, mode);
-    same(rt, step, &stage.frame(), &anew.as_slice());
-}
-
-/// Row 1 of the last frame: the ring and the dimmed words of the front view, and the label of the
-/// other one, which fills the rest.
-const LAST_ROW: [u32; 12] = [
-    0x808080, 0x00007F, 0x808080, 0, 0, 0xFFFFFF, 0, 0, 0xFFFFFF, 0xFFFFFF, 0, 0,
-];
-
-#[test]
-fn worked_run_in_xray_mode(rt: HostRuntime) {
-    let alloc = rt.alloc();
-    let loads = [Cell::new(0), Cell::new(0)];
-    let mut stage = set_up(&rt, alloc, LABELS, &loads);
-    for step in STEPS.lines() {
-        stage.serve(&rt, step.as_bytes().get(4..).unwrap_or(b""));
-        assert_anew(&rt, alloc, &stage, step);
-    }
-    same(
-        &rt,
-        "row 1",
-        &stage.frame().get(12..24),
-        &Some(LAST_ROW.as_slice()),
-    );
 }

@@ -10,6 +10,49 @@ use std::alloc::Global;
 use std::cell::Cell;
 use std::process::Abort;
 
+#[test]
+fn slots_views_and_sessions(rt: HostRuntime) {
+    let alloc = rt.alloc();
+    let want = Counts {
+        reserved: 4,
+        used: 2,
+        sessions: 1,
+    };
+    same(&rt, "one client", &counts_of_one(&rt, alloc), &want);
+    let loads = [Cell::new(0), Cell::new(0)];
+    let mut stage = set_up(&rt, alloc, TWO, &loads);
+    for step in DRAG.lines() {
+        stage.serve(&rt, step.as_bytes());
+    }
+    let want = Counts {
+        reserved: 128,
+        used: 2,
+        sessions: 2,
+    };
+    same(&rt, "two clients", &stage.counts(), &want);
+}
+
+/// The uncovered row is loaded through the scene's own glass, in which one word was drawn.
+#[test]
+fn words_of_a_scene(rt: HostRuntime) {
+    let loads = [Cell::new(0), Cell::new(0)];
+    let mut stage = set_up_drawn(&rt, rt.alloc(), TWO, &loads);
+    for step in COVERED.lines() {
+        stage.serve(&rt, step.as_bytes());
+    }
+    #[rattlefmt::skip]
+    let want = [
+        0x000000, 0xFF0000, 0xFF0000, 0xFF0000, 0x000020, 0x000020, 0x000020, 0x000020,
+        0xFF0000, 0xFF0000, 0xFF0000, 0xFF0000, 0x000020, 0x000020, 0x000020, 0x000020,
+    ];
+    same(
+        &rt,
+        "rows 0 and 1",
+        &stage.frame().get(..16),
+        &Some(want.as_slice()),
+    );
+}
+
 /// A client whose donation is enough for two views, and could be raised to be enough for four.
 const ONE: &str = "[screen]\nwidth = 8\nheight = 4\n\n[input]\nscript = \"i\"\n\n\
                    [[client]]\nlabel = \"a\"\ndonation = 512\nscript = \"a\"\n";
@@ -53,47 +96,4 @@ fn counts_of_one(rt: &impl Abort, alloc: Global) -> Counts {
     let mut own = glass(rt, alloc, &config, 0, 0xFF0000);
     let _refused = scene.call(0, &Call::View, &mut own);
     scene.counts()
-}
-
-#[test]
-fn slots_views_and_sessions(rt: HostRuntime) {
-    let alloc = rt.alloc();
-    let want = Counts {
-        reserved: 4,
-        used: 2,
-        sessions: 1,
-    };
-    same(&rt, "one client", &counts_of_one(&rt, alloc), &want);
-    let loads = [Cell::new(0), Cell::new(0)];
-    let mut stage = set_up(&rt, alloc, TWO, &loads);
-    for step in DRAG.lines() {
-        stage.serve(&rt, step.as_bytes());
-    }
-    let want = Counts {
-        reserved: 128,
-        used: 2,
-        sessions: 2,
-    };
-    same(&rt, "two clients", &stage.counts(), &want);
-}
-
-/// The uncovered row is loaded through the scene's own glass, in which one word was drawn.
-#[test]
-fn words_of_a_scene(rt: HostRuntime) {
-    let loads = [Cell::new(0), Cell::new(0)];
-    let mut stage = set_up_drawn(&rt, rt.alloc(), TWO, &loads);
-    for step in COVERED.lines() {
-        stage.serve(&rt, step.as_bytes());
-    }
-    #[rattlefmt::skip]
-    let want = [
-        0x000000, 0xFF0000, 0xFF0000, 0xFF0000, 0x000020, 0x000020, 0x000020, 0x000020,
-        0xFF0000, 0xFF0000, 0xFF0000, 0xFF0000, 0x000020, 0x000020, 0x000020, 0x000020,
-    ];
-    same(
-        &rt,
-        "rows 0 and 1",
-        &stage.frame().get(..16),
-        &Some(want.as_slice()),
-    );
 }

@@ -5,31 +5,19 @@ use std::alloc::Global;
 use std::cell::Cell;
 use std::process::Abort;
 
-/// Two clients on a screen of 12 by 7.
-const LABELS: &str = "[screen]\nwidth = 12\nheight = 7\n\n[input]\nscript = \"i\"\n\n\
-                      [[client]]\nlabel = \"ab\"\ndonation = 65536\nscript = \"a\"\n\n\
-                      [[client]]\nlabel = \"b\"\ndonation = 65536\nscript = \"b\"\n";
-
-/// Two clients on a screen of 40 by 16 with the status bar.
-const BAR: &str = "[screen]\nwidth = 40\nheight = 16\nbar = true\n\n[input]\nscript = \"i\"\n\n\
-                   [[client]]\nlabel = \"ab\"\ndonation = 65536\nscript = \"a\"\n\n\
-                   [[client]]\nlabel = \"b\"\ndonation = 65536\nscript = \"b\"\n";
-
-/// The frame that a scene keeps after so many steps is the one that is made anew.
-fn assert_steps(rt: &impl Abort, alloc: Global, text: &str, steps: &str, count: usize) {
-    let loads = [Cell::new(0), Cell::new(0)];
-    let mut stage = set_up(rt, alloc, text, &loads);
-    for step in steps.lines().take(count) {
-        stage.serve(rt, step.as_bytes());
-    }
-    stage.finish(rt, alloc);
+#[test]
+fn run_with_a_kill(rt: HostRuntime) {
+    assert_run(&rt, rt.alloc(), TWO, KILL_STEPS);
 }
 
-/// It is so before the first step of a run and after each.
-fn assert_run(rt: &impl Abort, alloc: Global, text: &str, steps: &str) {
-    for count in 0..=steps.lines().count() {
-        assert_steps(rt, alloc, text, steps, count);
-    }
+#[test]
+fn run_in_xray_mode(rt: HostRuntime) {
+    assert_run(&rt, rt.alloc(), LABELS, XRAY_STEPS);
+}
+
+#[test]
+fn run_with_the_bar(rt: HostRuntime) {
+    assert_run(&rt, rt.alloc(), BAR, BAR_STEPS);
 }
 
 /// A client is locked out, and the other stays.
@@ -109,17 +97,29 @@ press 70
 1 close
 ";
 
-#[test]
-fn run_with_a_kill(rt: HostRuntime) {
-    assert_run(&rt, rt.alloc(), TWO, KILL_STEPS);
+/// Two clients on a screen of 12 by 7.
+const LABELS: &str = "[screen]\nwidth = 12\nheight = 7\n\n[input]\nscript = \"i\"\n\n\
+                      [[client]]\nlabel = \"ab\"\ndonation = 65536\nscript = \"a\"\n\n\
+                      [[client]]\nlabel = \"b\"\ndonation = 65536\nscript = \"b\"\n";
+
+/// Two clients on a screen of 40 by 16 with the status bar.
+const BAR: &str = "[screen]\nwidth = 40\nheight = 16\nbar = true\n\n[input]\nscript = \"i\"\n\n\
+                   [[client]]\nlabel = \"ab\"\ndonation = 65536\nscript = \"a\"\n\n\
+                   [[client]]\nlabel = \"b\"\ndonation = 65536\nscript = \"b\"\n";
+
+/// It is so before the first step of a run and after each.
+fn assert_run(rt: &impl Abort, alloc: Global, text: &str, steps: &str) {
+    for count in 0..=steps.lines().count() {
+        assert_steps(rt, alloc, text, steps, count);
+    }
 }
 
-#[test]
-fn run_in_xray_mode(rt: HostRuntime) {
-    assert_run(&rt, rt.alloc(), LABELS, XRAY_STEPS);
-}
-
-#[test]
-fn run_with_the_bar(rt: HostRuntime) {
-    assert_run(&rt, rt.alloc(), BAR, BAR_STEPS);
+/// The frame that a scene keeps after so many steps is the one that is made anew.
+fn assert_steps(rt: &impl Abort, alloc: Global, text: &str, steps: &str, count: usize) {
+    let loads = [Cell::new(0), Cell::new(0)];
+    let mut stage = set_up(rt, alloc, text, &loads);
+    for step in steps.lines().take(count) {
+        stage.serve(rt, step.as_bytes());
+    }
+    stage.finish(rt, alloc);
 }

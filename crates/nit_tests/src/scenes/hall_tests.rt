@@ -25,42 +25,28 @@ use std::process::Abort;
 use std::sync::Wait;
 use std::thread::Threads;
 
-/// Both clients of the drag, with a further phase.
-const PAIR: &str = "[screen]\nwidth = 8\nheight = 4\n\n[input]\nscript = \"pair.in\"\n\n\
-                    [[client]]\nlabel = \"a\"\ndonation = 65536\nscript = \"pa.nit\"\n\n\
-                    [[client]]\nlabel = \"b\"\ndonation = 65536\nscript = \"pb.nit\"\n";
+#[test]
+fn two_clients_through_a_hall(rt: HostRuntime) {
+    serve_row(&rt, rt.alloc(), &TWO_CLIENTS, Way::OneByOne);
+}
 
-/// The first client alone.
-const ONE: &str = "[screen]\nwidth = 8\nheight = 4\n\n[input]\nscript = \"one.in\"\n\n\
-                   [[client]]\nlabel = \"a\"\ndonation = 65536\nscript = \"pa.nit\"\n";
+#[test]
+fn one_client_through_a_hall(rt: HostRuntime) {
+    serve_row(&rt, rt.alloc(), &ONE_CLIENT, Way::OneByOne);
+}
 
-const LEFT: &str = "buffer 4 4\nfill 0 0 4 4 FF0000\nview\nplace 1 0 0 4 4\nphase\nphase\n";
+#[test]
+fn all_clip_calls_of_a_client(rt: HostRuntime) {
+    serve_row(&rt, rt.alloc(), &ONE_CLIENT, Way::ClipsHere);
+    serve_row(&rt, rt.alloc(), &ONE_CLIENT, Way::ClipsThere);
+}
 
-const RIGHT: &str = "buffer 4 4\nfill 0 0 4 4 0000FF\nview\nplace 1 4 0 4 4\nphase\nphase\n";
-
-const RED: &str = "buffer 4 2\nfill 0 0 4 2 FF0000\nview\nplace 1 0 0 4 2\nphase\nphase\nphase\n";
-
-const BLUE: &str = "phase\nbuffer 4 2\nfill 0 0 4 2 0000FF\nview\nplace 1 0 0 4 2\n\
-                    phase\nphase\nplace 1 4 2 4 2\n";
-
-/// A click on the left half.
-const CLICK: &str = "phase\nmotion 1 1\npress 272\nrelease 272\nphase\n";
-
-/// How many phases there are.
-const PHASES: u32 = 3;
-
-/// Asks once, in the last phase.
-const LATE: &str = "phase\nphase\npaste\n";
-
-/// Texts of a run, and the text of its clip list at the end, or of its journal where its lines are
-/// not done one by one.
-#[derive(Drop)]
-struct Row {
-    config: &'static str,
-    scripts: &'static [&'static str],
-    input: &'static str,
-    clips: &'static [&'static str],
-    wanted: &'static str,
+/// Whichever client has a thread, and where none has, it comes out so.
+#[test]
+fn all_lines_of_an_actor(rt: HostRuntime) {
+    serve_row(&rt, rt.alloc(), &IN_TURN, Way::Neither);
+    serve_row(&rt, rt.alloc(), &IN_TURN, Way::First);
+    serve_row(&rt, rt.alloc(), &IN_TURN, Way::Second);
 }
 
 /// The first asks without the focus, and then copies and pastes with it; the second never has it.
@@ -100,29 +86,43 @@ static IN_TURN: Row = Row {
         call 1 done < place 1 4 2 4 2\n",
 };
 
-#[test]
-fn two_clients_through_a_hall(rt: HostRuntime) {
-    serve_row(&rt, rt.alloc(), &TWO_CLIENTS, Way::OneByOne);
+/// Texts of a run, and the text of its clip list at the end, or of its journal where its lines are
+/// not done one by one.
+#[derive(Drop)]
+struct Row {
+    config: &'static str,
+    scripts: &'static [&'static str],
+    input: &'static str,
+    clips: &'static [&'static str],
+    wanted: &'static str,
 }
 
-#[test]
-fn one_client_through_a_hall(rt: HostRuntime) {
-    serve_row(&rt, rt.alloc(), &ONE_CLIENT, Way::OneByOne);
-}
+/// Both clients of the drag, with a further phase.
+const PAIR: &str = "[screen]\nwidth = 8\nheight = 4\n\n[input]\nscript = \"pair.in\"\n\n\
+                    [[client]]\nlabel = \"a\"\ndonation = 65536\nscript = \"pa.nit\"\n\n\
+                    [[client]]\nlabel = \"b\"\ndonation = 65536\nscript = \"pb.nit\"\n";
 
-#[test]
-fn all_clip_calls_of_a_client(rt: HostRuntime) {
-    serve_row(&rt, rt.alloc(), &ONE_CLIENT, Way::ClipsHere);
-    serve_row(&rt, rt.alloc(), &ONE_CLIENT, Way::ClipsThere);
-}
+/// The first client alone.
+const ONE: &str = "[screen]\nwidth = 8\nheight = 4\n\n[input]\nscript = \"one.in\"\n\n\
+                   [[client]]\nlabel = \"a\"\ndonation = 65536\nscript = \"pa.nit\"\n";
 
-/// Whichever client has a thread, and where none has, it comes out so.
-#[test]
-fn all_lines_of_an_actor(rt: HostRuntime) {
-    serve_row(&rt, rt.alloc(), &IN_TURN, Way::Neither);
-    serve_row(&rt, rt.alloc(), &IN_TURN, Way::First);
-    serve_row(&rt, rt.alloc(), &IN_TURN, Way::Second);
-}
+const LEFT: &str = "buffer 4 4\nfill 0 0 4 4 FF0000\nview\nplace 1 0 0 4 4\nphase\nphase\n";
+
+const RIGHT: &str = "buffer 4 4\nfill 0 0 4 4 0000FF\nview\nplace 1 4 0 4 4\nphase\nphase\n";
+
+const RED: &str = "buffer 4 2\nfill 0 0 4 2 FF0000\nview\nplace 1 0 0 4 2\nphase\nphase\nphase\n";
+
+const BLUE: &str = "phase\nbuffer 4 2\nfill 0 0 4 2 0000FF\nview\nplace 1 0 0 4 2\n\
+                    phase\nphase\nplace 1 4 2 4 2\n";
+
+/// A click on the left half.
+const CLICK: &str = "phase\nmotion 1 1\npress 272\nrelease 272\nphase\n";
+
+/// Asks once, in the last phase.
+const LATE: &str = "phase\nphase\npaste\n";
+
+/// How many phases there are.
+const PHASES: u32 = 3;
 
 /// Reads all texts, serves them through a hall, and looks at the clip list that is wanted.
 fn serve_row<R: Abort + Threads + Wait + Sync>(rt: &R, alloc: Global, row: &Row, way: Way) {

@@ -6,6 +6,20 @@ use std::alloc::Global;
 use std::cell::Cell;
 use std::process::Abort;
 
+/// Each pixel that a call makes dirty and that shows a word is loaded once, and nothing else is.
+/// The last picture loads all that is shown.
+#[test]
+fn loads_by_entry(rt: HostRuntime) {
+    let alloc = rt.alloc();
+    let loads = [Cell::new(0), Cell::new(0)];
+    let mut stage = set_up(&rt, alloc, TWO, &loads);
+    for line in LINES.lines() {
+        assert_loads(&rt, alloc, &mut stage, &loads, line);
+    }
+    stage.finish(&rt, alloc);
+    same(&rt, "last", &taken(&loads), b"88");
+}
+
 /// Lines of the clients, and a shot. In front of each stands how many words it loads of the first
 /// session, and how many of the second.
 const LINES: &str = "\
@@ -38,18 +52,4 @@ fn assert_loads(
         stage.serve(rt, words);
     }
     same(rt, line, &taken(loads), &[*first, *second]);
-}
-
-/// Each pixel that a call makes dirty and that shows a word is loaded once, and nothing else is.
-/// The last picture loads all that is shown.
-#[test]
-fn loads_by_entry(rt: HostRuntime) {
-    let alloc = rt.alloc();
-    let loads = [Cell::new(0), Cell::new(0)];
-    let mut stage = set_up(&rt, alloc, TWO, &loads);
-    for line in LINES.lines() {
-        assert_loads(&rt, alloc, &mut stage, &loads, line);
-    }
-    stage.finish(&rt, alloc);
-    same(&rt, "last", &taken(&loads), b"88");
 }

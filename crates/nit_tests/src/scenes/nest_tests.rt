@@ -9,49 +9,6 @@ use nit_script::{Client, parse_client, print_client};
 use std::alloc::Global;
 use std::process::Abort;
 
-const RED: u32 = 0xFF0000;
-
-const BLUE: u32 = 0x0000FF;
-
-const BARE: u32 = 0x000020;
-
-/// The left upper quarter is blue.
-const FIRST: [u32; 32] = [
-    BLUE, BLUE, BLUE, BLUE, BARE, BARE, BARE, BARE, BLUE, BLUE, BLUE, BLUE, BARE, BARE, BARE, BARE,
-    BARE, BARE, BARE, BARE, BARE, BARE, BARE, BARE, BARE, BARE, BARE, BARE, BARE, BARE, BARE, BARE,
-];
-
-/// The left upper quarter is red, and the right lower one is blue.
-const SECOND: [u32; 32] = [
-    RED, RED, RED, RED, BARE, BARE, BARE, BARE, RED, RED, RED, RED, BARE, BARE, BARE, BARE, BARE,
-    BARE, BARE, BARE, BLUE, BLUE, BLUE, BLUE, BARE, BARE, BARE, BARE, BLUE, BLUE, BLUE, BLUE,
-];
-
-/// Adds a frame, whose words are all colours.
-fn add(rt: &impl Abort, nest: &mut Nest, words: &[u32])
-    requires { length words.now ≡ nest.old.w * nest.old.h }
-    ensures wide { nest.new.w ≡ nest.old.w }
-    ensures tall { nest.new.h ≡ nest.old.h }
-{
-    must(rt, "colours", are_colours(words));
-    nest.frame(words).expect(rt, "a frame");
-}
-
-fn are_colours(words: &[u32]) -> bool
-    ensures { IsTrue result → All FitsColour words.now }
-{
-    words.iter().all(|word| *word < 0x100_0000)
-}
-
-/// The script of a client with one view that shows the two frames of a run of two clients.
-fn script_of_two(rt: &impl Abort, alloc: Global) -> Client {
-    let mut nest = Nest::new(alloc, 8, 4);
-    add(rt, &mut nest, &FIRST);
-    add(rt, &mut nest, &SECOND);
-    let own = parse_client(alloc, b"view\nplace 1 0 0 8 4\nphase\n").expect(rt, "a script");
-    nest.script(&own).expect(rt, "a script of frames")
-}
-
 #[test]
 fn two_frames(rt: HostRuntime) {
     let script = script_of_two(&rt, rt.alloc());
@@ -67,4 +24,47 @@ fn two_frames(rt: HostRuntime) {
         fill 0 2 4 1 000020\nfill 4 2 4 1 0000FF\n\
         fill 0 3 4 1 000020\nfill 4 3 4 1 0000FF\nrefresh 0 0 8 4\n";
     same(&rt, want, &printed.as_slice(), &want.as_bytes());
+}
+
+/// The script of a client with one view that shows the two frames of a run of two clients.
+fn script_of_two(rt: &impl Abort, alloc: Global) -> Client {
+    let mut nest = Nest::new(alloc, 8, 4);
+    add(rt, &mut nest, &FIRST);
+    add(rt, &mut nest, &SECOND);
+    let own = parse_client(alloc, b"view\nplace 1 0 0 8 4\nphase\n").expect(rt, "a script");
+    nest.script(&own).expect(rt, "a script of frames")
+}
+
+/// The left upper quarter is blue.
+const FIRST: [u32; 32] = [
+    BLUE, BLUE, BLUE, BLUE, BARE, BARE, BARE, BARE, BLUE, BLUE, BLUE, BLUE, BARE, BARE, BARE, BARE,
+    BARE, BARE, BARE, BARE, BARE, BARE, BARE, BARE, BARE, BARE, BARE, BARE, BARE, BARE, BARE, BARE,
+];
+
+/// The left upper quarter is red, and the right lower one is blue.
+const SECOND: [u32; 32] = [
+    RED, RED, RED, RED, BARE, BARE, BARE, BARE, RED, RED, RED, RED, BARE, BARE, BARE, BARE, BARE,
+    BARE, BARE, BARE, BLUE, BLUE, BLUE, BLUE, BARE, BARE, BARE, BARE, BLUE, BLUE, BLUE, BLUE,
+];
+
+const RED: u32 = 0xFF0000;
+
+const BLUE: u32 = 0x0000FF;
+
+const BARE: u32 = 0x000020;
+
+/// Adds a frame, whose words are all colours.
+fn add(rt: &impl Abort, nest: &mut Nest, words: &[u32])
+    requires { length words.now ≡ nest.old.w * nest.old.h }
+    ensures wide { nest.new.w ≡ nest.old.w }
+    ensures tall { nest.new.h ≡ nest.old.h }
+{
+    must(rt, "colours", are_colours(words));
+    nest.frame(words).expect(rt, "a frame");
+}
+
+fn are_colours(words: &[u32]) -> bool
+    ensures { IsTrue result → All FitsColour words.now }
+{
+    words.iter().all(|word| *word < 0x100_0000)
 }

@@ -16,25 +16,6 @@ use std::marker::Brand;
 use std::process::Abort;
 use std::thread::join;
 
-const RED: u32 = 0xFF0000;
-
-const BLUE: u32 = 0x0000FF;
-
-/// What the session opens with: its table has 4,096 words.
-const DONATION: u32 = 16_384;
-
-const WORDS: usize = 4_096;
-
-/// One word is drawn, and then cleared.
-const DOT: &str = "buffer 2 2\nfill 1 0 1 1 FF0000\nbuffer 2 2\n";
-
-/// A board of two colours is drawn and cleared, again and again.
-const BOARD: &str = "buffer 64 64\ncheck 0 0 64 64 FF0000 0000FF\nbuffer 64 64\n\
-                     check 0 0 64 64 FF0000 0000FF\nbuffer 64 64\n\
-                     check 0 0 64 64 FF0000 0000FF\nbuffer 64 64\n\
-                     check 0 0 64 64 FF0000 0000FF\nbuffer 64 64\n\
-                     check 0 0 64 64 FF0000 0000FF\n";
-
 #[test]
 fn a_reader_sees_what_was_drawn(rt: HostRuntime) {
     let client = script(&rt, rt.alloc(), DOT);
@@ -81,6 +62,25 @@ fn a_watching_reader_sees_what_was_agreed_on(rt: HostRuntime) {
     clear_watched::<Brand>(&mut canvas, &mut lens);
     same(&rt, "word 1", &[drawn, lens.load(1)], &[RED, 0]);
 }
+
+const RED: u32 = 0xFF0000;
+
+const BLUE: u32 = 0x0000FF;
+
+/// What the session opens with: its table has 4,096 words.
+const DONATION: u32 = 16_384;
+
+const WORDS: usize = 4_096;
+
+/// One word is drawn, and then cleared.
+const DOT: &str = "buffer 2 2\nfill 1 0 1 1 FF0000\nbuffer 2 2\n";
+
+/// A board of two colours is drawn and cleared, again and again.
+const BOARD: &str = "buffer 64 64\ncheck 0 0 64 64 FF0000 0000FF\nbuffer 64 64\n\
+                     check 0 0 64 64 FF0000 0000FF\nbuffer 64 64\n\
+                     check 0 0 64 64 FF0000 0000FF\nbuffer 64 64\n\
+                     check 0 0 64 64 FF0000 0000FF\nbuffer 64 64\n\
+                     check 0 0 64 64 FF0000 0000FF\n";
 
 /// The script that the text spells.
 fn script(rt: &impl Abort, alloc: Global, text: &str) -> Client {

@@ -8,6 +8,27 @@ use std::alloc::Global;
 use std::fmt::Write;
 use std::process::Abort;
 
+#[test]
+fn journals(rt: HostRuntime) {
+    assert_text(&rt, rt.alloc(), &TWO_ENTRIES, TWO);
+    assert_text(&rt, rt.alloc(), &MOVED, MOVED_TEXT);
+}
+
+#[test]
+fn journal_read_again(rt: HostRuntime) {
+    assert_entries(&rt, rt.alloc(), TWO, &TWO_ENTRIES);
+}
+
+#[test]
+fn refused_configurations(rt: HostRuntime) {
+    let mut texts = String::new(rt.alloc());
+    for refusal in &REFUSALS {
+        write!(texts, "{refusal}\n").expect(&rt, "memory");
+    }
+    let want = "syntax\nkind\nmissing\nunknown\ntoo many\nrange\nlabel\ntwice\nno memory\n";
+    same(&rt, "texts", &texts.as_str(), &want);
+}
+
 /// A call of a session, with its answer.
 macro_rules! call {
     ($sid:expr, $call:expr, $reply:expr) => {
@@ -66,33 +87,6 @@ const MOVED: [Entry; 2] = [
 
 const MOVED_TEXT: &str = "input motion 6 1 > 0 leave > 1 motion 6 1\ninput motion 1 1\n";
 
-/// The journal of these entries has this text.
-fn assert_text(rt: &impl Abort, alloc: Global, entries: &[Entry], want: &str) {
-    let text = journal_text(alloc, entries).expect(rt, "memory for a text");
-    same(rt, want, &text.as_slice(), &want.as_bytes());
-}
-
-#[test]
-fn journals(rt: HostRuntime) {
-    assert_text(&rt, rt.alloc(), &TWO_ENTRIES, TWO);
-    assert_text(&rt, rt.alloc(), &MOVED, MOVED_TEXT);
-}
-
-/// The most bytes of a journal.
-const MOST: usize = 134_217_728;
-
-/// The text of these entries is read as them.
-fn assert_entries(rt: &impl Abort, alloc: Global, text: &str, want: &[Entry]) {
-    must(rt, text, text.len() <= MOST);
-    let entries = parse_journal(alloc, text.as_bytes()).expect(rt, "a journal");
-    same(rt, text, &entries.as_slice(), &want);
-}
-
-#[test]
-fn journal_read_again(rt: HostRuntime) {
-    assert_entries(&rt, rt.alloc(), TWO, &TWO_ENTRIES);
-}
-
 /// All that a configuration may be refused for.
 const REFUSALS: [ConfigError; 9] = [
     ConfigError::Syntax,
@@ -106,12 +100,18 @@ const REFUSALS: [ConfigError; 9] = [
     ConfigError::NoMemory,
 ];
 
-#[test]
-fn refused_configurations(rt: HostRuntime) {
-    let mut texts = String::new(rt.alloc());
-    for refusal in &REFUSALS {
-        write!(texts, "{refusal}\n").expect(&rt, "memory");
-    }
-    let want = "syntax\nkind\nmissing\nunknown\ntoo many\nrange\nlabel\ntwice\nno memory\n";
-    same(&rt, "texts", &texts.as_str(), &want);
+/// The journal of these entries has this text.
+fn assert_text(rt: &impl Abort, alloc: Global, entries: &[Entry], want: &str) {
+    let text = journal_text(alloc, entries).expect(rt, "memory for a text");
+    same(rt, want, &text.as_slice(), &want.as_bytes());
 }
+
+/// The text of these entries is read as them.
+fn assert_entries(rt: &impl Abort, alloc: Global, text: &str, want: &[Entry]) {
+    must(rt, text, text.len() <= MOST);
+    let entries = parse_journal(alloc, text.as_bytes()).expect(rt, "a journal");
+    same(rt, text, &entries.as_slice(), &want);
+}
+
+/// The most bytes of a journal.
+const MOST: usize = 134_217_728;

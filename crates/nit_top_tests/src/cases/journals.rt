@@ -3,7 +3,7 @@
 use crate::cases::sessions::assert_sessions;
 use crate::cases::table::{Case, number, worded};
 use crate::cases::{assert_text, owned};
-use crate::checks::{must, same};
+use crate::checks::{must, same_by};
 use nit_events::{Entry, Reply};
 use nit_report::parse_journal;
 use std::alloc::Global;
@@ -25,7 +25,7 @@ pub fn assert_journal(rt: &impl Abort, alloc: Global, case: &Case, journal: &[En
 /// The session is answered this, as `1 TEXT`.
 fn assert_replies(rt: &impl Abort, alloc: Global, case: &Case, journal: &[Entry], want: &str) {
     let (session, want) = worded(want);
-    same(rt, case.lines, &journal.last(), &Some(&Entry::Final));
+    same_by(rt, case.title, want, &journal.last(), &Some(&Entry::Final));
     let found = replies(rt, alloc, journal, number(rt, session));
     assert_text(rt, alloc, case, want, &found);
 }
@@ -38,7 +38,7 @@ fn assert_entries(rt: &impl Abort, alloc: Global, case: &Case, found: &[Entry], 
         text.push_str(&named).expect(rt, "memory");
     }
     let want = entries(rt, alloc, &text);
-    same(rt, case.lines, &found, &want.as_slice());
+    same_by(rt, case.title, names, &found, &want.as_slice());
 }
 
 /// The entries that a text spells, by the reader of journals.

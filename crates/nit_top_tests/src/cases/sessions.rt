@@ -94,7 +94,7 @@ fn assert_entry(rt: &impl Abort, case: &Case, all: &mut [Session], entry: &Entry
     match *entry {
         Entry::Call { sid, call, reply } => {
             let own = session_of(rt, all, sid).answer(&call);
-            same(rt, case.lines, &own, &reply);
+            same(rt, case.title, &own, &reply);
         }
         Entry::Input { routed, .. } => {
             deliver(rt, all, routed.a);

@@ -1,17 +1,18 @@
-//! Tables, as text: their blocks and texts. `cases` has the language.
+//! Tables, as text: their blocks and texts. `cases` has the language, and `rules` its rules.
 //!
 //! Where a table cannot be read so, the test fails, and says what it is that it cannot read.
 
 use crate::cases::shared::TEXTS;
-use crate::checks::found;
+use crate::checks::{found, found_in};
 use std::alloc::Global;
 use std::fmt::Write;
 use std::process::Abort;
 
-/// A case: the table that its texts stand in, and all its lines.
+/// A case: the table that its texts stand in, its title, and all its lines.
 #[derive(Clone, Copy)]
 pub struct Case<'a> {
     pub table: &'a str,
+    pub title: &'a str,
     pub lines: &'a str,
 }
 
@@ -23,7 +24,7 @@ impl<'a> Case<'a> {
 
     /// What stands behind this word in the last line that begins with it, which each case has.
     pub fn want(&self, rt: &impl Abort, word: &str) -> &'a str {
-        found(rt, word, self.last(word))
+        found_in(rt, self.title, word, self.last(word))
     }
 
     /// The text that is meant: a number of times what stands behind `=`, or the one of this name.
@@ -39,7 +40,8 @@ impl<'a> Case<'a> {
     /// The lines of the text of this name, in the table or among those that tables share.
     fn named(&self, rt: &impl Abort, alloc: Global, name: &str) -> &'a str {
         let head = head(rt, alloc, "text", name);
-        found(rt, &head, block(self.table, &head).or(block(TEXTS, &head)))
+        let lines = block(self.table, &head).or(block(TEXTS, &head));
+        found_in(rt, self.title, &head, lines)
     }
 }
 
@@ -48,7 +50,8 @@ pub fn worded(line: &str) -> (&str, &str) {
     line.split_once(' ').unwrap_or((line, ""))
 }
 
-fn last<'a>(lines: &'a str, word: &str) -> Option<&'a str> {
+/// What stands behind this word in the last of these lines that begins with it.
+pub fn last<'a>(lines: &'a str, word: &str) -> Option<&'a str> {
     let mut found = None;
     for line in lines.lines() {
         let (first, rest) = worded(line);
@@ -60,7 +63,7 @@ fn last<'a>(lines: &'a str, word: &str) -> Option<&'a str> {
 }
 
 /// The head of a block of this kind and name, with the empty line in front of it.
-fn head(rt: &impl Abort, alloc: Global, kind: &str, name: &str) -> String {
+pub fn head(rt: &impl Abort, alloc: Global, kind: &str, name: &str) -> String {
     format!(in alloc; "\n\n{kind} {name}\n").expect(rt, "memory")
 }
 
@@ -78,8 +81,9 @@ fn block_of<'a>(rt: &impl Abort, alloc: Global, table: &'a str, kind: &str, name
     found(rt, &head, block(table, &head))
 }
 
-/// All lines of the case of this block.
-pub fn lines(rt: &impl Abort, alloc: Global, table: &str, case: &str) -> String {
+/// All lines of the case of this title: those of its base, and then its own.
+pub fn lines_of(rt: &impl Abort, alloc: Global, table: &str, title: &str) -> String {
+    let case = block_of(rt, alloc, table, "case", title);
     let lines = match last(case, "with") {
         Some(name) => {
             let base = block_of(rt, alloc, table, "base", name);
@@ -88,11 +92,6 @@ pub fn lines(rt: &impl Abort, alloc: Global, table: &str, case: &str) -> String 
         None => format!(in alloc; "{case}"),
     };
     lines.expect(rt, "memory")
-}
-
-/// All lines of the case of this title.
-pub fn lines_of(rt: &impl Abort, alloc: Global, table: &str, title: &str) -> String {
-    lines(rt, alloc, table, block_of(rt, alloc, table, "case", title))
 }
 
 /// The lines of a text.
@@ -127,7 +126,12 @@ fn push_times(rt: &impl Abort, text: &mut String, times: &str, piece: &str) {
 
 /// A number.
 pub fn number(rt: &impl Abort, digits: &str) -> u64 {
-    found(rt, digits, digits.parse().ok())
+    found(rt, digits, parsed(digits))
+}
+
+/// The number of these digits, where they are one.
+pub fn parsed(digits: &str) -> Option<u64> {
+    digits.parse().ok()
 }
 
 /// A piece, in which `{3+20}` is 3 at the first time, and then rises by 20.

@@ -2,7 +2,7 @@
 
 use crate::cases::bytes_of;
 use crate::cases::table::{Case, number, worded};
-use crate::checks::{fail, found, same};
+use crate::checks::{fail, found_in, rule, same_by};
 use std::alloc::Global;
 use std::process::Abort;
 
@@ -16,12 +16,13 @@ pub fn assert_file(
 ) {
     let (word, rest) = worded(line);
     let (name, want) = worded(rest);
-    let found = found(rt, name, bytes_of(files, name));
+    let found = found_in(rt, case.title, name, bytes_of(files, name));
     if word == "is" {
-        same(rt, case.lines, &is_so(rt, alloc, case, found, want), &true);
+        let is_so = is_so(rt, alloc, case, found, want);
+        same_by(rt, case.title, line, &is_so, &true);
     } else {
         let want = bytes(rt, alloc, case, word, want);
-        same(rt, case.lines, &found, &want.as_slice());
+        same_by(rt, case.title, line, &found, &want.as_slice());
     }
 }
 
@@ -43,7 +44,7 @@ fn is_so(rt: &impl Abort, alloc: Global, case: &Case, found: &[u8], want: &str) 
     let (word, want) = worded(want);
     match word {
         "long" => found.len() as u64 == number(rt, want),
-        "among" => is_among(found, want),
+        "among" => is_among(rt, case, found, want),
         "all" => is_all(rt, found, want),
         "begins" => found.starts_with(case.text(rt, alloc, want).as_bytes()),
         "marked" => is_marked(rt, found, want),
@@ -69,25 +70,39 @@ fn hexadecimal(rt: &impl Abort, alloc: Global, text: &str) -> Vec<u8> {
 fn picture(rt: &impl Abort, alloc: Global, case: &Case, want: &str) -> Vec<u8> {
     let (size, rows) = want.rsplit_once(' ').expect(rt, "a size and rows");
     let rows = case.text(rt, alloc, rows);
+    assert_shape(rt, case, size, &rows);
     let head = format!(in alloc; "P6\n{size}\n255\n").expect(rt, "memory");
     let mut bytes = head.into_bytes();
-    push_rows(rt, &mut bytes, &rows);
+    push_rows(rt, case, &mut bytes, &rows);
     bytes
 }
 
-fn push_rows(rt: &impl Abort, bytes: &mut Vec<u8>, rows: &str) {
+/// The rows are as many as the size W H says, of as many letters.
+fn assert_shape(rt: &impl Abort, case: &Case, size: &str, rows: &str) {
+    let (width, height) = worded(size);
+    let width = number(rt, width);
+    let mut count: u64 = 0;
+    for row in rows.lines() {
+        let is_whole = row.len() as u64 == width;
+        rule(rt, "a row has W letters", case.title, is_whole);
+        count = count.saturating_add(1);
+    }
+    let is_whole = count == number(rt, height);
+    rule(rt, "a picture has H rows", case.title, is_whole);
+}
+
+fn push_rows(rt: &impl Abort, case: &Case, bytes: &mut Vec<u8>, rows: &str) {
     for letter in rows.as_bytes() {
         if *letter != b'\n' {
-            let pixel = colour(*letter);
+            let pixel = found_in(rt, case.title, "a colour", colour(*letter));
             bytes.extend_from_slice(&pixel).expect(rt, "memory");
         }
     }
 }
 
-/// R is red, G is green, B is blue, K is black, W is white, M is the grey of an outline, r, b and n
-/// are red, blue and the bare screen of half the light, g is green of half the light, and t is blue
-/// that is tinted.
-const COLOURS: [(u8, [u8; 3]); 11] = [
+/// The letters, and the red, green and blue of each.
+const COLOURS: [(u8, [u8; 3]); 12] = [
+    (b'.', [0x00, 0x00, 0x20]),
     (b'R', [0xFF, 0x00, 0x00]),
     (b'G', [0x00, 0xFF, 0x00]),
     (b'B', [0x00, 0x00, 0xFF]),
@@ -101,18 +116,19 @@ const COLOURS: [(u8, [u8; 3]); 11] = [
     (b't', [0x80, 0x00, 0x7F]),
 ];
 
-/// The colour of a letter. What is none of these is bare.
-fn colour(letter: u8) -> [u8; 3] {
+/// The colour of a letter.
+fn colour(letter: u8) -> Option<[u8; 3]> {
     for (of, colour) in &COLOURS {
         if *of == letter {
-            return *colour;
+            return Some(*colour);
         }
     }
-    [0x00, 0x00, 0x20]
+    None
 }
 
 /// Whether each pixel of a picture, whose front has 13 bytes, has one of these colours.
-fn is_among(picture: &[u8], letters: &str) -> bool {
+fn is_among(rt: &impl Abort, case: &Case, picture: &[u8], letters: &str) -> bool {
+    assert_letters(rt, case, letters);
     let pixels = picture.get(13..).unwrap_or(&[]);
     !pixels.is_empty()
         && pixels
@@ -120,10 +136,22 @@ fn is_among(picture: &[u8], letters: &str) -> bool {
             .all(|pixel| has_colour(pixel, letters.as_bytes()))
 }
 
+/// Each of these letters is a colour.
+fn assert_letters(rt: &impl Abort, case: &Case, letters: &str) {
+    for letter in letters.as_bytes() {
+        let _pixel = found_in(rt, case.title, "a colour", colour(*letter));
+    }
+}
+
 fn has_colour(pixel: &[u8], letters: &[u8]) -> bool {
-    letters
-        .iter()
-        .any(|letter| pixel == colour(*letter).as_slice())
+    letters.iter().any(|letter| is_colour(pixel, *letter))
+}
+
+fn is_colour(pixel: &[u8], letter: u8) -> bool {
+    match colour(letter) {
+        Some(colour) => pixel == colour.as_slice(),
+        None => false,
+    }
 }
 
 /// Whether the bytes behind so many are all this one.

@@ -1,15 +1,57 @@
-//! The desk of three clients on a screen of 1024 by 768, each on a thread of its own.
+//! The command `run` on the largest screen, of 1024 by 768, with three clients, each on a thread of
+//! its own.
 
-use crate::cases::table::{Case, lines};
+use crate::cases::table::{Case, lines_of};
 use crate::cases::{assert_cases, bytes_of, files, over};
 use crate::checks::{found, must, same};
-use nit_store::MemoryStore;
 use std::alloc::Global;
 use std::process::Abort;
 use std::sync::Wait;
 use std::thread::Threads;
 
+#[test]
+fn three_clients(rt: HostRuntime) {
+    assert_cases(&rt, rt.alloc(), CASES);
+}
+
+/// In layers no thread changes what stands in front, and the last picture is that of the run by
+/// turns.
+#[test]
+fn three_clients_as_by_turns(rt: HostRuntime) {
+    let beside = last_picture(&rt, rt.alloc(), "run, desk.toml");
+    let by_turns = last_picture(&rt, rt.alloc(), "turns, desk.toml");
+    must(&rt, "the same picture", beside == by_turns);
+}
+
 const CASES: &str = r#"
+
+case all clients in one layer
+words run, desk.toml
+file desk.toml TOGETHER
+file term.nit TERMINAL
+file web.nit BROWSER
+file stat.nit STATUS
+file desk.in USER
+ends 0 =nitpicker: clients 3 entries 245 frames 3\n
+asked NAMES
+there NAMES
+entries 245
+is final.ppm long 2359312
+is final.ppm all 64 2236432
+sessions 3
+
+case each client in a layer of its own
+words run, desk.toml
+file desk.toml APART
+file term.nit TERMINAL
+file web.nit BROWSER
+file stat.nit STATUS
+file desk.in USER
+ends 0 =nitpicker: clients 3 entries 245 frames 3\n
+asked NAMES
+there NAMES
+entries 245
+sessions 3
 
 text TOGETHER
 | [screen]
@@ -108,40 +150,15 @@ text APART
 | script = "stat.nit"
 | layer = 0
 
-case
-words run, desk.toml
-file desk.toml TOGETHER
-file term.nit TERMINAL
-file web.nit BROWSER
-file stat.nit STATUS
-file desk.in USER
-ends 0 =nitpicker: clients 3 entries 245 frames 3\n
-asked NAMES
-there NAMES
-entries 245
-is final.ppm long 2359312
-is final.ppm all 64 2236432
-sessions 3
-
-base layers
-file desk.toml APART
-file term.nit TERMINAL
-file web.nit BROWSER
-file stat.nit STATUS
-file desk.in USER
-
 "#;
-
-#[test]
-fn desk_beside_each_other(rt: HostRuntime) {
-    assert_cases(&rt, rt.alloc(), CASES);
-}
 
 /// The last picture of this run, where each client has a layer of its own.
 fn last_picture<R: Abort + Threads + Wait + Sync>(rt: &R, alloc: Global, words: &str) -> Vec<u8> {
-    let lines = lines(rt, alloc, CASES, "with layers");
+    let title = "each client in a layer of its own";
+    let lines = lines_of(rt, alloc, CASES, title);
     let case = Case {
         table: CASES,
+        title,
         lines: &lines,
     };
     let files = files(rt, alloc, &case);
@@ -149,12 +166,4 @@ fn last_picture<R: Abort + Threads + Wait + Sync>(rt: &R, alloc: Global, words: 
     same(rt, words, &done.status, &0);
     let picture = found(rt, words, bytes_of(store.files(), "final.ppm"));
     picture.to_vec(alloc).expect(rt, "memory")
-}
-
-/// There no thread changes what stands in front, and the last picture is that of the run by turns.
-#[test]
-fn desk_in_layers(rt: HostRuntime) {
-    let beside = last_picture(&rt, rt.alloc(), "run, desk.toml");
-    let by_turns = last_picture(&rt, rt.alloc(), "turns, desk.toml");
-    must(&rt, "the same picture", beside == by_turns);
 }
