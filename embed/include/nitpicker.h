@@ -203,16 +203,18 @@ struct nit_seat_state {
 /* ---- Opening and closing a server */
 
 /* A seat, as long as the server stands. Whoever sits there may use `donation` units, and as many
- * again by nit_upgrade, but never more than 8,388,608. Its views stand in `layer`. */
+ * again by nit_upgrade, but never more than 8,388,608, or 268,435,456 where the donation is over
+ * 8,388,608 itself. Its views stand in `layer`. A buffer of W by H costs 8 * W * H units; a seat
+ * takes some `donation` bytes of memory at opening. */
 struct nit_seat_plan {
-    uint32_t donation;        /* 256..8,388,608 units */
+    uint32_t donation;        /* 256..268,435,456 units */
     uint32_t layer;           /* 0..7; 0 is the front-most */
     uint32_t clicks;          /* 1: a click on a view gives its client the focus; 0: none does */
 };
 
 /* A server. */
 struct nit_plan {
-    uint32_t width, height;   /* of the screen: 1..1024 and 1..768 pixels */
+    uint32_t width, height;   /* of the screen: 1..4096 pixels each */
     uint32_t bar;             /* 1: the 7 topmost rows are a status bar (height 8 or more); or 0 */
     uint32_t count;           /* of the seats, 1..16 */
     const struct nit_seat_plan *seats;

@@ -83,9 +83,9 @@ static uint32_t with_seat(uint32_t donation, uint32_t layer, uint32_t clicks)
 
 static void screens(void)
 {
-    CHECK(with_screen(1, 1, 0) == NIT_DONE && with_screen(1024, 768, 1) == NIT_DONE);
-    CHECK(with_screen(0, 1, 0) == NIT_BAD_PLAN && with_screen(1025, 1, 0) == NIT_BAD_PLAN);
-    CHECK(with_screen(1, 0, 0) == NIT_BAD_PLAN && with_screen(1, 769, 0) == NIT_BAD_PLAN);
+    CHECK(with_screen(1, 1, 0) == NIT_DONE && with_screen(4096, 4096, 1) == NIT_DONE);
+    CHECK(with_screen(0, 1, 0) == NIT_BAD_PLAN && with_screen(4097, 1, 0) == NIT_BAD_PLAN);
+    CHECK(with_screen(1, 0, 0) == NIT_BAD_PLAN && with_screen(1, 4097, 0) == NIT_BAD_PLAN);
     CHECK(with_screen(UINT32_MAX, UINT32_MAX, 0) == NIT_BAD_PLAN);
     CHECK(with_screen(1, 8, 1) == NIT_DONE && with_screen(1, 7, 1) == NIT_BAD_PLAN);
     CHECK(with_screen(8, 8, 2) == NIT_BAD_PLAN && with_screen(8, 8, 256) == NIT_BAD_PLAN);
@@ -93,8 +93,8 @@ static void screens(void)
 
 static void seats_of_plans(void)
 {
-    CHECK(with_seat(256, 0, 0) == NIT_DONE && with_seat(8388608, 7, 1) == NIT_DONE);
-    CHECK(with_seat(255, 0, 0) == NIT_BAD_PLAN && with_seat(8388609, 0, 0) == NIT_BAD_PLAN);
+    CHECK(with_seat(256, 0, 0) == NIT_DONE && with_seat(268435456, 7, 1) == NIT_DONE);
+    CHECK(with_seat(255, 0, 0) == NIT_BAD_PLAN && with_seat(268435457, 0, 0) == NIT_BAD_PLAN);
     CHECK(with_seat(0, 0, 0) == NIT_BAD_PLAN && with_seat(UINT32_MAX, 0, 0) == NIT_BAD_PLAN);
     CHECK(with_seat(256, 8, 0) == NIT_BAD_PLAN && with_seat(256, 256, 0) == NIT_BAD_PLAN);
     CHECK(with_seat(256, 0, 2) == NIT_BAD_PLAN && with_seat(256, 0, 256) == NIT_BAD_PLAN);

@@ -11,7 +11,7 @@ use crate::handle::NitServer;
 use crate::numbers::{
     BAD_PLAN, CONFIG_TOO_LONG, DONE, IS_OPEN, NO_MEMORY, NO_SERVER, config_number,
 };
-use nit_config::{Config, read_config};
+use nit_config::{Config, read_config, run_is_configured};
 use nit_host::{Host, PlanError, SeatPlan, plan};
 use nit_rect::NoMemory;
 use std::alloc::Global;
@@ -143,6 +143,7 @@ fn configured(alloc: Global, text: &[u8]) -> Result<Box<Host, Global>, u32>
         (λ b. IsRead text.now (Some b.value) 1)
         (λ why. IsRead text.now None why) }
 {
+    run_is_configured();
     let config = match read_config(alloc, text) {
         Ok(config) => config,
         Err(error) => return Err(config_number(error)),
@@ -153,10 +154,10 @@ fn configured(alloc: Global, text: &[u8]) -> Result<Box<Host, Global>, u32>
     }
 }
 
-/// Opens a server whose seats are all free. The screen has this width, 1..=1024, and height,
-/// 1..=768, and a status bar where `bar` is 1 and not 0. `seats` has three words for each of 1 to
-/// 16 seats: its donation, 256..=8,388,608, its layer, 0..=7, and 1 where a click moves the focus,
-/// or 0.
+/// Opens a server whose seats are all free. The screen has this width, 1..=4096, and height,
+/// 1..=4096, and a status bar where `bar` is 1 and not 0. `seats` has three words for each of 1 to
+/// 16 seats: its donation, 256..=268,435,456, its layer, 0..=7, and 1 where a click moves the
+/// focus, or 0.
 #[unsafe(no_mangle)]
 pub extern "C" fn nit_open_seats(
     alloc: Global,

@@ -17,9 +17,9 @@ use std::alloc::Global;
 pub struct NitState {
     /// The kind of the answer.
     pub kind: u32,
-    /// The width of the screen, 1..=1024, in pixels.
+    /// The width of the screen, 1..=4096, in pixels.
     pub width: u32,
-    /// Its height, 1..=768.
+    /// Its height, 1..=4096.
     pub height: u32,
     /// How many seats there are, 1..=16.
     pub seats: u32,

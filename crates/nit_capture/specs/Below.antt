@@ -1,7 +1,7 @@
 -- The words of the library and of the crates below that are used here, and the crate's plain types.
 pub use Rattle.nit_capture.specs.declared.player.Played.TheVariants.{Bad, End, Frame}
 pub use Rattle.nit_rect.specs.Intersection.{HasPixels, LiesIn}
-pub use Rattle.nit_rect.specs.Limits.{most_height, most_width}
+pub use Rattle.nit_rect.specs.Limits.{most_run_height, most_run_width}
 pub use Rattle.nit_rect.specs.Options.{Gives}
 pub use Rattle.nit_rect.specs.Rectangle.{IsPlace, Rectangle, covers, rectangle, spans}
 pub use Rattle.nit_word.specs.Channels.{blue, channels, green, red, word_of}

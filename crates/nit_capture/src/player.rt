@@ -5,7 +5,7 @@ ghost use Rattle.nit_capture.specs.Terms.{Bad, End, Frame, IsPicture, IsPictureS
 
 use crate::grid::Grid;
 use crate::reading::take_record;
-use nit_rect::{MOST_HEIGHT, MOST_WIDTH};
+use nit_rect::{MOST_RUN_HEIGHT, MOST_RUN_WIDTH};
 use std::marker::Model;
 
 /// What playing on gave.
@@ -54,9 +54,9 @@ impl<'a> Player<'a> {
         let width = *w0 as usize + *w1 as usize * 256;
         let height = *h0 as usize + *h1 as usize * 256;
         if 1 <= width
-            && width <= MOST_WIDTH as usize
+            && width <= MOST_RUN_WIDTH as usize
             && 1 <= height
-            && height <= MOST_HEIGHT as usize
+            && height <= MOST_RUN_HEIGHT as usize
         {
             Some(Player {
                 width,

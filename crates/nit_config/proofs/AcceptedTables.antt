@@ -2,7 +2,8 @@
 use Rattle.nit_config.proofs.Basics.{All, All-cons, All-nil, AllByRecursion, AllPairs}
 use Rattle.nit_config.proofs.Basics.{AllPairs-cons, AllZip, Bool, ConfigError, Configuration, Data}
 use Rattle.nit_config.proofs.Basics.{Err, HoldsClient, HoldsTable, IfOk, IsConfigAnswer}
-use Rattle.nit_config.proofs.Basics.{IsConfiguration, IsConfigurationOf, IsMember, IsUtf8}
+use Rattle.nit_config.proofs.Basics.{All-weaker, IsConfiguration, IsConfigurationOf, IsMember}
+use Rattle.nit_config.proofs.Basics.{IsRunConfiguration, IsRunMember, IsUtf8}
 use Rattle.nit_config.proofs.Basics.{IsUtf8-from_ascii, IsUtf8-from_is_utf8, List, MeetsRefusal}
 use Rattle.nit_config.proofs.Basics.{Member, Members, NoMemory, None, Ok, Option, ReadsTable}
 use Rattle.nit_config.proofs.Basics.{Result, Some, Syntax, [], and_parts, ap, arith, as_integer}
@@ -239,7 +240,7 @@ judged bytes =
 -- ---- a configuration that holds the values of an accepted table is within the ranges of the format
 
 member_within : (t : Members) (m : Member) → HoldsClient t m → has_bad_value t ≡ false → has_bad_label t ≡ false
-    → IsMember m
+    → IsRunMember m
 unfolding has_bad_value
 member_within t m held value label =
     let all = or_parts _ (has_bad_focus t) value in
@@ -253,12 +254,12 @@ member_within t m held value label =
     }
 
 members_within : (ts : List Members) (ms : List Member) → AllZip HoldsClient ts ms → list_any has_bad_value ts ≡ false
-    → list_any has_bad_label ts ≡ false → All IsMember ms
-members_within [] [] held values labels = All-nil IsMember
+    → list_any has_bad_label ts ≡ false → All IsRunMember ms
+members_within [] [] held values labels = All-nil IsRunMember
 members_within (t ∷ ts) (m ∷ ms) held values labels =
     let v = or_parts (has_bad_value t) (list_any has_bad_value ts) values in
     let l = or_parts (has_bad_label t) (list_any has_bad_label ts) labels in
-    All-cons IsMember m ms (member_within t m held.0 v.0 l.0) (members_within ts ms held.1 v.1 l.1)
+    All-cons IsRunMember m ms (member_within t m held.0 v.0 l.0) (members_within ts ms held.1 v.1 l.1)
 members_within ts ms held values labels = absurd held
 
 labels_held : (ts : List Members) (ms : List Member) → AllZip HoldsClient ts ms
@@ -277,7 +278,7 @@ labels_differ (m ∷ ms) none =
     ∙ list_any_at (λ n. bytes_eq m.label n.label) ms k d lt ((bytes_eq-Decides _ _).1 same)))
     (labels_differ ms behind)
 
-table_within : (top : Members) (c : Configuration) → IsAccepted top → HoldsTable top c → IsConfiguration c
+table_within : (top : Members) (c : Configuration) → IsAccepted top → HoldsTable top c → IsRunConfiguration c
 unfolding has_label_twice
 table_within top c a held =
     let labels = labels_held _ _ held.clients in
@@ -292,16 +293,16 @@ table_within top c a held =
       labels = labels_differ c.clients (rw labels at a.differ);
     }
 
-pub configured : (bytes : List ℕ) (c : Configuration) → IsConfigurationOf bytes c → IsConfiguration c
+pub configured : (bytes : List ℕ) (c : Configuration) → IsConfigurationOf bytes c → IsRunConfiguration c
 configured bytes c h = table_within h.top c (accepted h.top h.accepted) h.holds
 
 pub answer_configured : (bytes : List ℕ) (r : Result Configuration ConfigError) → IsConfigAnswer bytes r
-    → IfOk r (λ c. IsConfiguration c)
+    → IfOk r (λ c. IsRunConfiguration c)
 answer_configured bytes (Ok c) a = configured bytes c a
 answer_configured bytes (Err e) a = tt
 
 pub still_configured : (width height : ℕ) → 1 ≤ width → width ≤ 1024 → 1 ≤ height → height ≤ 768
-    → IsConfiguration (still_configuration width height)
+    → IsRunConfiguration (still_configuration width height)
 still_configured width height some few tall short =
     record {
       width = (some, few);
@@ -309,8 +310,29 @@ still_configured width height some few tall short =
       bar = λ there. absurd (false≢true there);
       input = refl;
       count = (omega arith, omega arith);
-      clients = All-cons IsMember _ []
+      clients = All-cons IsRunMember _ []
           (record { label = refl; donation = (omega arith, omega arith); script = refl; layer = omega arith })
-          (All-nil IsMember);
+          (All-nil IsRunMember);
       labels = λ i j d less one. absurd (omega arith);
     }
+
+-- ---- what is within the ranges of a run is within those of a server
+
+run_member : (m : Member) → IsRunMember m → IsMember m
+run_member m is = record {
+  label = is.label;
+  donation = (is.donation.0, omega (arith, is.donation.1));
+  script = is.script;
+  layer = is.layer;
+}
+
+pub run_configured : (c : Configuration) → IsRunConfiguration c → IsConfiguration c
+run_configured c is = record {
+  width = (is.width.0, omega (arith, is.width.1));
+  height = (is.height.0, omega (arith, is.height.1));
+  bar = is.bar;
+  input = is.input;
+  count = is.count;
+  clients = All-weaker IsRunMember IsMember run_member c.clients is.clients;
+  labels = is.labels;
+}

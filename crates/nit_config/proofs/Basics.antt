@@ -3,6 +3,7 @@ pub use Rattle.nit_config.specs.Terms.{AllByRecursion, AllZip, ConfigError, Conf
 pub use Rattle.nit_config.specs.Terms.{Err, HasNoTable, HasRefusedTable, HoldsClient, HoldsTable}
 pub use Rattle.nit_config.specs.Terms.{IfOk, IsConfigAnswer, IsConfiguration, IsConfigurationOf}
 pub use Rattle.nit_config.specs.Terms.{IsMember, IsUtf8, KeyRow, MeetsRefusal, Member, Members}
+pub use Rattle.nit_config.specs.Terms.{IsRunConfiguration, IsRunMember}
 pub use Rattle.nit_config.specs.Terms.{NoMemory, None, Option, ReadsTable, Some, Syntax, TableKey}
 pub use Rattle.nit_config.specs.Terms.{UnlessMemory, Value, as_integer, as_str, as_table}
 pub use Rattle.nit_config.specs.Terms.{boolean_at, bytes_eq, client_rows, client_tables}
@@ -22,7 +23,7 @@ pub use Rattle.std.proofs.lemmas.Bool.{and_parts, cases_Bool, false≢true, not-
 pub use Rattle.std.proofs.lemmas.Bool.Decides.{nat_tests}
 pub use Rattle.std.proofs.lemmas.List.{length-map, map_more, take_rest}
 pub use Rattle.std.proofs.lemmas.List.Folds.{list_any_at}
-pub use Rattle.std.proofs.lemmas.List.Elements.{All-cons, All-nil}
+pub use Rattle.std.proofs.lemmas.List.Elements.{All-cons, All-nil, All-weaker}
 pub use Rattle.std.proofs.lemmas.List.Kept.{AllPairs-cons}
 pub use Rattle.std.proofs.lemmas.Option.{same_Some}
 pub use Rattle.std.proofs.lemmas.Slice.Eq.{bytes_eq-Decides}

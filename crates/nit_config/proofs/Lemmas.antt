@@ -9,7 +9,8 @@ pub use Rattle.nit_config.proofs.AcceptedTables.{accepted, answer_configured, at
 pub use Rattle.nit_config.proofs.AcceptedTables.{configured, file_name_length, file_name_utf8}
 pub use Rattle.nit_config.proofs.AcceptedTables.{integer_there, judged, label_is_label}
 pub use Rattle.nit_config.proofs.AcceptedTables.{label_length, refused_answers, refused_by}
-pub use Rattle.nit_config.proofs.AcceptedTables.{script_is_name, still_configured, string_there}
+pub use Rattle.nit_config.proofs.AcceptedTables.{run_configured, script_is_name, still_configured}
+pub use Rattle.nit_config.proofs.AcceptedTables.{string_there}
 pub use Rattle.nit_config.proofs.AcceptedTables.{wider}
 pub use Rattle.nit_config.proofs.Elements.{built_more, labels_of, members_of_values, on_clients}
 pub use Rattle.nit_config.proofs.Elements.{on_members, on_rows, twice_compared}

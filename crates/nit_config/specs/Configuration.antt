@@ -1,7 +1,7 @@
 -- A configuration, as a value.
 use Rattle.std.specs.Prelude.{ℕ, Bool, true, false, ◌&&◌, nat_le, List, [], ◌∷◌, length}
 use Rattle.std.specs.Prelude.{slice_index_or, codes, if◌then◌else◌}
-use Rattle.nit_config.specs.Below.{first_printable, last_printable, list_all, most_units}
+use Rattle.nit_config.specs.Below.{first_printable, last_printable, list_all, most_run_units}
 use Rattle.nit_config.specs.declared.config.Member.{Member}
 
 -- the screen's size, whether it has a status bar, the name of the input script, and the clients in
@@ -47,7 +47,7 @@ still_configuration width height =
       input = codes "still";
       clients = record {
         label = codes "still";
-        donation = most_units;
+        donation = most_run_units;
         script = codes "still";
         layer = 0;
         clicks = true;

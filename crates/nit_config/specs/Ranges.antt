@@ -1,8 +1,8 @@
 -- The ranges of the values, each where nothing else is wrong with its key.
 -- Where a required key is not there, the value that stands in for it is out of its range.
 use Rattle.std.specs.Prelude.{ℕ, ℤ, pos, Bool, false, not, ◌&&◌, ◌||◌, List, [], codes, bytes_eq}
-use Rattle.nit_config.specs.Below.{Members, int_lt, is_label, least_units, most_height, most_units}
-use Rattle.nit_config.specs.Below.{most_width}
+use Rattle.nit_config.specs.Below.{Members, int_lt, is_label, least_units, most_run_height}
+use Rattle.nit_config.specs.Below.{most_run_units, most_run_width}
 use Rattle.nit_config.specs.Configuration.{is_file_name}
 use Rattle.nit_config.specs.Tree.{integer_at, string_at, boolean_at}
 
@@ -13,8 +13,8 @@ is_outside low high z = int_lt z low || int_lt high z
 -- the width or the height is outside its range, or the bar does not fit
 unfoldable pub has_bad_size : Members → Bool
 has_bad_size screen =
-    (is_outside (pos 1) (pos most_width) (integer_at (codes "width") (pos 0) screen)
-    || is_outside (pos 1) (pos most_height) (integer_at (codes "height") (pos 0) screen))
+    (is_outside (pos 1) (pos most_run_width) (integer_at (codes "width") (pos 0) screen)
+    || is_outside (pos 1) (pos most_run_height) (integer_at (codes "height") (pos 0) screen))
     || (boolean_at (codes "bar") false screen
     && int_lt (integer_at (codes "height") (pos 0) screen) (pos 8))
 
@@ -31,7 +31,8 @@ has_bad_focus client =
 -- a value of the client is outside its range
 unfoldable pub has_bad_value : Members → Bool
 has_bad_value client =
-    ((is_outside (pos least_units) (pos most_units) (integer_at (codes "donation") (pos 0) client)
+    ((is_outside (pos least_units) (pos most_run_units)
+    (integer_at (codes "donation") (pos 0) client)
     || is_outside (pos 0) (pos 7) (integer_at (codes "layer") (pos 0) client))
     || has_bad_script client)
     || has_bad_focus client

@@ -6,11 +6,14 @@ pub use Rattle.nit_config.specs.Below.{Range, Some, Syntax, TooMany, Twice, Unkn
 pub use Rattle.nit_config.specs.Below.{as_integer, as_str, as_table, boolean, bytes_eq, datetime}
 pub use Rattle.nit_config.specs.Below.{first_printable, float, get_member, int_lt, integer}
 pub use Rattle.nit_config.specs.Below.{is_label, is_utf8, items_view, keys, keys_of, last_printable}
-pub use Rattle.nit_config.specs.Below.{list_all, list_any, map, members_view, most_height}
-pub use Rattle.nit_config.specs.Below.{most_units, most_width, no_members, option_and_then}
+pub use Rattle.nit_config.specs.Below.{list_all, list_any, map, members_view, most_run_height}
+pub use Rattle.nit_config.specs.Below.{most_run_units, most_run_width, no_members}
+pub use Rattle.nit_config.specs.Below.{option_and_then}
 pub use Rattle.nit_config.specs.Below.{parse_document, string, table, table_view, view}
 pub use Rattle.nit_config.specs.Configuration.{Configuration, is_file_name, still_configuration}
 pub use Rattle.nit_config.specs.ConfigurationRanges.{IsConfiguration, IsMember}
+pub use Rattle.nit_config.specs.ConfigurationRanges.{IsMemberWithin, IsRunConfiguration}
+pub use Rattle.nit_config.specs.ConfigurationRanges.{IsRunMember}
 pub use Rattle.nit_config.specs.ConfigurationText.{HasNoTable, HasRefusedTable, HoldsClient}
 pub use Rattle.nit_config.specs.ConfigurationText.{HoldsTable, IsConfigAnswer, IsConfigurationOf}
 pub use Rattle.nit_config.specs.ConfigurationText.{MeetsRefusal, UnlessMemory}

@@ -4,7 +4,7 @@ ghost use Rattle.std.specs.Prelude.{◌≡◌, ◌≤◌, ℕ, length, Some, Non
 ghost use Rattle.nit_config.specs.Terms.{AllZip, HoldsClient, HoldsTable, IfOk, first_refusal};
 ghost use Rattle.nit_config.specs.Terms.{get_member, has_bad_label, has_bad_script, has_bad_value};
 ghost use Rattle.nit_config.specs.Terms.{integer, integer_at, is_outside, list_any, members_of};
-ghost use Rattle.nit_config.specs.Terms.{most_units, no_members, string, string_at, table_view};
+ghost use Rattle.nit_config.specs.Terms.{most_run_units, no_members, string, string_at, table_view};
 ghost use Rattle.nit_config.specs.Terms.{view};
 
 use crate::config::{Config, Member};
@@ -17,7 +17,7 @@ use toml::{Table, Value};
 
 /// The integer at a key, or another. It is in the widest of the ranges, 0 to 8,388,608.
 fn number_at(table: &Table, key: &str, other: u32) -> u32
-    requires { is_outside (pos 0) (pos most_units)
+    requires { is_outside (pos 0) (pos most_run_units)
         (integer_at key.now (pos other) (table_view table.now))
         ≡ false }
     ensures { pos result ≡ integer_at key.now (pos other) (table_view table.now) }
@@ -27,7 +27,7 @@ fn number_at(table: &Table, key: &str, other: u32) -> u32
 
 /// The integer at a key that is not 0, and so is there.
 fn required_at(table: &Table, key: &str) -> u32
-    requires { is_outside (pos 1) (pos most_units)
+    requires { is_outside (pos 1) (pos most_run_units)
         (integer_at key.now (pos 0) (table_view table.now))
         ≡ false }
     ensures { get_member key.now (table_view table.now) ≡ Some (integer (pos result)) }

@@ -6,7 +6,7 @@ use std::marker::Model;
 #[derive(Drop)]
 pub struct Member {
     pub label: Label,
-    /// The opening donation in units: 256..=8,388,608.
+    /// The opening donation in units: 256..=268,435,456, of a run at most 8,388,608.
     pub donation: u32,
     /// The client's script.
     pub script: FileName,
@@ -19,9 +19,9 @@ pub struct Member {
 /// What a run is made of.
 #[derive(Drop)]
 pub struct Config {
-    /// The screen's width in pixels: 1..=1024.
+    /// The screen's width in pixels: 1..=4096, of a run at most 1024.
     pub width: u32,
-    /// The screen's height in pixels: 1..=768.
+    /// The screen's height in pixels: 1..=4096, of a run at most 768.
     pub height: u32,
     /// Whether the seven topmost rows of the screen are the status bar.
     pub bar: bool,

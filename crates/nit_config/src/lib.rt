@@ -24,7 +24,8 @@
 //! whole of it. Each text has one configuration or meets one refusal, and not both
 //! ([`configuration_is_one`], [`refusal_is_one`], [`each_text_is_judged`]). What is read is within
 //! the ranges above, which
-//! `IsConfigured` says in the contracts.
+//! `IsRunConfiguration` says in the contracts; a server can be opened with more
+//! (`IsConfiguration`).
 //!
 //! The tests are `scripts/text_tests` of `nit_tests`, and by whole runs `bad_config_tests` of
 //! `nit_top_tests`.
@@ -43,6 +44,9 @@ mod tree;
 
 pub use config::{Config, Member};
 pub use error::ConfigError;
-pub use laws::{configuration_is_one, each_text_is_judged, refusal_is_one, still_is_configured};
+pub use laws::{
+    configuration_is_one, each_text_is_judged, refusal_is_one, run_is_configured,
+    still_is_configured,
+};
 pub use name::FileName;
 pub use read::read_config;

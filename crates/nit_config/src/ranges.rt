@@ -7,7 +7,9 @@ ghost use Rattle.nit_config.specs.Terms.{is_outside, label_of_table, last_printa
 ghost use Rattle.nit_config.specs.Terms.{table_view};
 
 use crate::tree::{boolean_at, integer_at, string_at};
-use nit_rect::{FIRST_PRINTABLE, LAST_PRINTABLE, LEAST_UNITS, MOST_HEIGHT, MOST_UNITS, MOST_WIDTH};
+use nit_rect::{
+    FIRST_PRINTABLE, LAST_PRINTABLE, LEAST_UNITS, MOST_RUN_HEIGHT, MOST_RUN_UNITS, MOST_RUN_WIDTH,
+};
 use toml::Table;
 
 /// The most bytes of a file's name.
@@ -40,8 +42,8 @@ pub(crate) fn has_bad_size(screen: &Table) -> bool
 {
     let width = integer_at(screen, "width", 0);
     let height = integer_at(screen, "height", 0);
-    is_outside(1, i64::from(MOST_WIDTH), width)
-        || is_outside(1, i64::from(MOST_HEIGHT), height)
+    is_outside(1, i64::from(MOST_RUN_WIDTH), width)
+        || is_outside(1, i64::from(MOST_RUN_HEIGHT), height)
         || (boolean_at(screen, "bar", false) && height < 8)
 }
 
@@ -67,7 +69,7 @@ pub(crate) fn has_bad_value(client: &Table) -> bool
     ensures { result ≡ has_bad_value (table_view client.now) }
 {
     let donation = integer_at(client, "donation", 0);
-    is_outside(i64::from(LEAST_UNITS), i64::from(MOST_UNITS), donation)
+    is_outside(i64::from(LEAST_UNITS), i64::from(MOST_RUN_UNITS), donation)
         || is_outside(0, 7, integer_at(client, "layer", 0))
         || has_bad_script(client)
         || has_bad_focus(client)

@@ -2,7 +2,7 @@
 
 ghost use Rattle.std.specs.Prelude.{◌≡◌, Ok, Err, IfOk};
 ghost use Rattle.nit_config.specs.Terms.{ConfigError, Configuration, IsConfigAnswer};
-ghost use Rattle.nit_config.specs.Terms.{IsConfiguration, IsConfigurationOf, MeetsRefusal};
+ghost use Rattle.nit_config.specs.Terms.{IsConfigurationOf, IsRunConfiguration, MeetsRefusal};
 ghost use Rattle.nit_config.specs.Terms.{UnlessMemory};
 
 use crate::build::configuration;
@@ -21,7 +21,7 @@ use toml::Table;
 pub fn read_config(alloc: Global, bytes: &[u8]) -> Result<Config, ConfigError>
     // What is read is the bytes' configuration, and a refusal is the one that they meet.
     ensures answer { IsConfigAnswer bytes.now result }
-    ensures configured { IfOk result (λ config. IsConfiguration config) }
+    ensures configured { IfOk result (λ config. IsRunConfiguration config) }
 
     // And where the bytes are a configuration or meet a refusal, that is the answer, unless memory
     // runs out.

@@ -37,8 +37,8 @@ impl Model for Focus {
 }
 
 impl Focus {
-    /// Before the user has done anything, on a screen of 1..=1024 by 1..=768 pixels. A click on any
-    /// session moves the focus. It takes no memory.
+    /// Before the user has done anything, on a screen of 1..=4096 by 1..=4096 pixels. A click on
+    /// any session moves the focus. It takes no memory.
     pub fn new(width: u32, height: u32) -> Focus
         requires narrowest { 1 ≤ width }
         requires widest { width ≤ most_width }

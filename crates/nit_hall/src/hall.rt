@@ -94,7 +94,7 @@ impl<'a, N: Name> Hall<'a, N> {
         }
     }
 
-    /// The width and the height of the screen in pixels, at most 1024 and 768. It takes no lock.
+    /// The width and the height of the screen in pixels, at most 4096 each. It takes no lock.
     pub fn size(&self) -> (u32, u32)
         ensures size { result ≡ (N.parts.config.width, N.parts.config.height) }
         ensures screen { (result.0 ≤ most_width) × (result.1 ≤ most_height) }

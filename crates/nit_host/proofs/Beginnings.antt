@@ -24,6 +24,7 @@ use Rattle.nit_host.proofs.Basics.{take_more, told_words, unseated, waiting_labe
 use Rattle.nit_host.proofs.Basics.{zeros}
 use Rattle.nit_host.proofs.Steps.{words_at}
 use Rattle.nit_host.specs.declared.refusal.Unseated.TheVariants as why
+use Rattle.nit_rect.specs.Limits.{least_units, most_height, most_units, most_width}
 
 abbrev pub no_client : Member
 no_client = record { label = []; donation = 0; script = []; layer = 0; clicks = false }
@@ -211,7 +212,7 @@ one_more {A} {B} f xs i x d made b inside here so is =
 pub record IsPlan (width height : ℕ) (bar : Bool) (seats : List SeatPlan) : Type 0 where
   pub screen : is_screen width height bar ≡ true
   pub count : is_within 1 16 (length seats) ≡ true
-  pub donations : list_all (λ s. is_within 256 8388608 s.donation) seats ≡ true
+  pub donations : list_all (λ s. is_within least_units most_units s.donation) seats ≡ true
   pub layers : list_all (λ s. nat_le s.layer 7) seats ≡ true
 
 within : (first last n : ℕ) → is_within first last n ≡ true → (first ≤ n) × (n ≤ last)
@@ -262,8 +263,8 @@ module _ (width height : ℕ) (bar : Bool) (seats : List SeatPlan) (none : refus
         let size = and_parts _ _ screen.0 in
         let s : SeatPlan = record { donation = 0; layer = 0; clicks = false } in
         record {
-          width = within 1 1024 width size.0;
-          height = within 1 768 height size.1;
+          width = within 1 most_width width size.0;
+          height = within 1 most_height height size.1;
           bar = bar_fits bar height screen.1;
           input = refl;
           count = rw long (within 1 16 (length seats) is.count);
@@ -272,8 +273,8 @@ module _ (width height : ℕ) (bar : Bool) (seats : List SeatPlan) (none : refus
               let few_layers = AllPass-from_list_all (λ (p : SeatPlan). nat_le p.layer 7) seats is.layers k s there in
               rw (client_at k m s there) (record {
                 label = hex_label k (omega (arith, there, few));
-                donation = within 256 8388608 _ (AllPass-from_list_all
-                    (λ (p : SeatPlan). is_within 256 8388608 p.donation) seats is.donations k s there);
+                donation = within least_units most_units _ (AllPass-from_list_all
+                    (λ (p : SeatPlan). is_within least_units most_units p.donation) seats is.donations k s there);
                 script = refl;
                 layer = grind (arith, nat_tests, few_layers);
               });

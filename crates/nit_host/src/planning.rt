@@ -16,7 +16,7 @@ use std::alloc::Global;
 /// What a seat gives to whoever sits there.
 #[derive(Clone, Copy, Debug, PartialEq, Eq)]
 pub struct SeatPlan {
-    /// The donation in units: 256..=8,388,608. It pays for views and for the words of the buffer.
+    /// The donation in units: 256..=268,435,456. It pays for views and for the words of the buffer.
     pub donation: u32,
     /// The layer of the client's views: 0..=7, of which 0 is the front-most.
     pub layer: u32,
@@ -24,7 +24,7 @@ pub struct SeatPlan {
     pub clicks: bool,
 }
 
-/// The configuration of a screen of `width`, 1..=1024, by `height`, 1..=768, pixels, whose seven
+/// The configuration of a screen of `width`, 1..=4096, by `height`, 1..=4096, pixels, whose seven
 /// topmost rows are the status bar where there is one, with these seats, 1 to 16 of them. At a seat
 /// waits a label, `.0` to `.f`, until a client brings another. The scripts are named `-`.
 ///

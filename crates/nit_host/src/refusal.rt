@@ -31,12 +31,12 @@ pub enum Unseated {
 pub enum PlanError {
     /// Memory ran out.
     NoMemory,
-    /// The screen is not 1..=1024 pixels wide and 1..=768 high, or has a bar with fewer than 8
+    /// The screen is not 1..=4096 pixels wide and 1..=4096 high, or has a bar with fewer than 8
     /// rows.
     Screen,
     /// There are not 1 to 16 seats.
     Seats,
-    /// A donation is not 256..=8,388,608 units.
+    /// A donation is not 256..=268,435,456 units.
     Donation,
     /// A layer is over 7.
     Layer,

@@ -14,7 +14,7 @@ use nit_rect::Rect;
 /// rows, and gives the least rectangle of the screen outside of which nothing was written. None
 /// exactly where nothing was. In the part `out` then is the frame, and outside of it as before.
 ///
-/// The width is 1..=1024 and the height at most 768, and the part lies on the screen. Both lists
+/// The width is 1..=4096 and the height at most 4096, and the part lies on the screen. Both lists
 /// have a word for each pixel, row by row from the top. Where nothing differs each word of the part
 /// is compared once. In each other row only the words from the first to the last that differ are
 /// written. No word outside of the part is looked at.

@@ -24,6 +24,7 @@ use Rattle.nit_perform.proofs.Basics.{state_now, sum_by-cons, table_size, tables
 use Rattle.nit_perform.proofs.Basics.{take-append_seam, text_files, told_word, unrefused}
 use Rattle.nit_perform.proofs.Basics.{user_actions_to_do, word_from, words_after, ℤ}
 use Rattle.nit_events.specs.declared.entry.Entry.TheVariants as entry
+use Rattle.nit_rect.specs.Limits.{most_units}
 
 -- What is made for each client, in order, of its session, its script and its donation.
 
@@ -56,7 +57,7 @@ inked of are words =
 -- ---- all of them
 
 abbrev pub WordsLaw : Type 0
-WordsLaw = (script : List Line) (donation k : ℕ) → donation ≤ 8388608 → length (words_after script donation k)
+WordsLaw = (script : List Line) (donation k : ℕ) → donation ≤ most_units → length (words_after script donation k)
     ≡ table_size donation
 
 -- the glass of a session, with no line done
@@ -83,7 +84,8 @@ pub blank_glass : WordsLaw → {config : Configuration} {scripts : List (List Li
     → IsGlass config t (glass_in (map (λ g. g) glasses) t)
 blank_glass law {config = config} {scripts = scripts} of are t inside =
     let there : t < length scripts = rw of.each inside in
-    let words = law (script_in scripts t) (donation_of config t) 0 (of.configured.clients t _ inside).donation.1 in
+    let few : donation_of config t ≤ 8388608 = (of.configured.clients t _ inside).donation.1 in
+    let words = law (script_in scripts t) (donation_of config t) 0 (omega (arith, few)) in
     rw (map-id, are, blank_at config scripts t there) (refl, words)
 
 -- ---- at the end
@@ -100,8 +102,9 @@ can_take_last law {config = config} {scripts = scripts} opened run = record {
       let there : t < length scripts = rw (← run.owns_each) inside in
       let member_there : t < length config.clients = rw (← opened.scripts_each.each) there in
       let script = script_in scripts t in
-      let words = law script (donation_of config t) (length script)
+      let few : donation_of config t ≤ 8388608 =
       (opened.scripts_each.configured.clients t _ member_there).donation.1 in
+      let words = law script (donation_of config t) (length script) (omega (arith, few)) in
       rw (run.config, opened.configuration, run.words t there)
       (refl, rw (opened.configuration, ← take_all (length script) script (omega arith)) words);
 }

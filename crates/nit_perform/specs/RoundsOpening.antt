@@ -1,18 +1,18 @@
 -- A run before its first round.
 use Rattle.std.specs.Prelude.{◌≡◌, ◌+◌, ◌≤◌, List, [], All, length, map}
-use Rattle.nit_perform.specs.Below.{Configuration, InputLine, IsConfiguration, IsSetUp, IsWord}
+use Rattle.nit_perform.specs.Below.{Configuration, InputLine, IsRunConfiguration, IsSetUp, IsWord}
 use Rattle.nit_perform.specs.Below.{Line, OpenedRounds, PlanModel, Sight, actions_of_turns}
 use Rattle.nit_perform.specs.Below.{donation_of, glass_after, picture_length, plan_of_script}
 use Rattle.nit_perform.specs.Below.{range_with_len, rounds, script_in}
 
 -- there is a script for each client of the configuration
 pub record AreScriptsOf (config : Configuration) (scripts : List (List Line)) : Type 0 where
-  pub configured : IsConfiguration config
+  pub configured : IsRunConfiguration config
   pub each : length scripts ≡ length config.clients
 
 -- there is a plan for each client of the configuration, and its ink is of words below 2^24
 pub record AreInkedPlans (config : Configuration) (plans : List PlanModel) : Type 0 where
-  pub configured : IsConfiguration config
+  pub configured : IsRunConfiguration config
   pub each : length plans ≡ length config.clients
   pub words : All (λ p. All IsWord p.ink) plans
 

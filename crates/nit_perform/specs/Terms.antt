@@ -4,7 +4,7 @@ pub use Rattle.nit_perform.specs.Below.{AreDoneClips, AreFirstClipPasses, AreRou
 pub use Rattle.nit_perform.specs.Below.{AskedAtMost, Bad, Bare, Belongs, ByUser, CaptureModel}
 pub use Rattle.nit_perform.specs.Below.{ClipLine, ClipPassModel, ClipRole, Configuration, Desk}
 pub use Rattle.nit_perform.specs.Below.{Drawing, End, Entry, File, Global, HaveTables, IfOk}
-pub use Rattle.nit_perform.specs.Below.{InputLine, IsConfiguration, IsDonation, IsDoneClip}
+pub use Rattle.nit_perform.specs.Below.{InputLine, IsRunConfiguration, IsDonation, IsDoneClip}
 pub use Rattle.nit_perform.specs.Below.{IsDoneUser, IsGlass, IsHistory, IsJournal, IsLegal}
 pub use Rattle.nit_perform.specs.Below.{IsNearPicture, IsOpen, IsOpening, IsPairIn, IsPictureAmong}
 pub use Rattle.nit_perform.specs.Below.{IsPlanOf, IsPut, IsRoundsRun, IsRunnable, IsSetUp}

@@ -2,7 +2,7 @@
 //! thread.
 
 ghost use Rattle.std.specs.Prelude.{IfOk, vec_len, ◌≡◌, map};
-ghost use Rattle.nit_perform.specs.Terms.{AreBuffers, AreScriptsOf, IsConfiguration, IsMemory};
+ghost use Rattle.nit_perform.specs.Terms.{AreBuffers, AreScriptsOf, IsRunConfiguration, IsMemory};
 
 use crate::opening::{blank_frame, blank_text};
 use nit_config::Config;
@@ -26,7 +26,7 @@ pub struct Memory<T> {
 impl<T: Drop> Memory<T> {
     /// Takes what a run of this configuration needs besides its opening.
     pub fn new(alloc: Global, config: &Config) -> Result<Memory<T>, NoMemory>
-        requires { IsConfiguration config.now }
+        requires { IsRunConfiguration config.now }
         ensures { IfOk result (λ m. IsMemory config.now m) }
     {
         let clients = config.clients.len();

@@ -1,11 +1,12 @@
 //! The memory of a run, all of which is taken before its first round.
 
 ghost use Rattle.std.specs.Prelude.{◌≡◌, ◌+◌, IfOk, length, All, List, ◌≤◌, ◌*◌};
-ghost use Rattle.nit_perform.specs.Terms.{AreInkedPlans, AreScriptsOf, IsConfiguration, IsDonation};
+ghost use Rattle.nit_perform.specs.Terms.{AreInkedPlans, AreScriptsOf, IsRunConfiguration};
+ghost use Rattle.nit_perform.specs.Terms.{IsDonation};
 ghost use Rattle.nit_perform.specs.Terms.{IsPlanOf, IsRoundsOpening, IsWord, Line, glass_after};
 ghost use Rattle.nit_perform.specs.Terms.{glasses_of, picture_length, plans_of};
 
-use nit_config::Config;
+use nit_config::{Config, run_is_configured};
 use nit_hall::line_count;
 use nit_plan::laws::{buffer_within_table, one_more_line};
 use nit_plan::{Plan, plan_of};
@@ -41,6 +42,7 @@ pub fn open(
 {
     each_line_once();
     buffer_within_table();
+    run_is_configured();
     let plans = plans_of(alloc, config, scripts)?;
     let owns = glasses_of(alloc, config, scripts, &plans)?;
     let glasses = glasses_of(alloc, config, scripts, &plans)?;
@@ -103,7 +105,7 @@ fn glass(alloc: Global, sid: u32, plan: &Plan, donation: u32) -> Result<Inked, N
 
 /// A word for each pixel of the screen.
 pub fn blank_frame(alloc: Global, config: &Config) -> Result<Vec<u32>, NoMemory>
-    requires { IsConfiguration config.now }
+    requires { IsRunConfiguration config.now }
     ensures { IfOk result (λ v. length v.items ≡ config.now.width * config.now.height) }
 {
     let pixels = config.width as usize * config.height as usize;
@@ -112,7 +114,7 @@ pub fn blank_frame(alloc: Global, config: &Config) -> Result<Vec<u32>, NoMemory>
 
 /// A byte for each of a picture of the screen.
 pub fn blank_text(alloc: Global, config: &Config) -> Result<Vec<u8>, NoMemory>
-    requires { IsConfiguration config.now }
+    requires { IsRunConfiguration config.now }
     ensures { IfOk result (λ v. length v.items
         ≡ picture_length config.now.width config.now.height) }
 {

@@ -1,7 +1,8 @@
 -- The words that clauses use: those that come from outside, and those of this crate.
 pub use Rattle.nit_pixels.specs.Below.{AllByRecursion, Allows, FitsLine, HasStage, HaveWords}
-pub use Rattle.nit_pixels.specs.Below.{Identity, IsAmong, IsDonation, IsInked, Joins, List, MayHold}
-pub use Rattle.nit_pixels.specs.Below.{None, PixelView, Some, Splits, Stages, [], keeps, most_words}
+pub use Rattle.nit_pixels.specs.Below.{Identity, IsAmong, IsInked, IsRunDonation, Joins, List}
+pub use Rattle.nit_pixels.specs.Below.{MayHold, None, PixelView, Some, Splits, Stages, [], keeps}
+pub use Rattle.nit_pixels.specs.Below.{most_run_words}
 pub use Rattle.nit_pixels.specs.Below.{opening, option_map, step, stored, table_size, told_words}
 pub use Rattle.nit_pixels.specs.Below.{with_stages, zeros}
 pub use Rattle.nit_pixels.specs.End.{End, new_sight, reader_sight}

@@ -1,6 +1,6 @@
 //! A buffer of pixel words, and the right to be its owner.
 ghost use Rattle.std.specs.Prelude.{◌≡◌, IfOk};
-ghost use Rattle.nit_pixels.specs.Terms.{IsDonation, new_sight};
+ghost use Rattle.nit_pixels.specs.Terms.{IsRunDonation, new_sight};
 
 use crate::canvas::Canvas;
 use crate::steps::{Identity, PixelRule, PixelView};
@@ -61,7 +61,7 @@ impl PixelBuffer {
         script: &Client,
         donation: u32,
     ) -> Result<(PixelBuffer, Key), NoMemory>
-        requires { IsDonation donation }
+        requires { IsRunDonation donation }
         ensures sight { IfOk result (λ made. made.1.sight ≡ new_sight owner script.now donation) }
         ensures key { IfOk result (λ made. made.1.stand.buffer ≡ made.0) }
     {

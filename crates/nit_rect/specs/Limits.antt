@@ -13,10 +13,17 @@ most_edge = 65535
 
 -- the columns and the rows of a screen
 abbrev pub most_width : ℕ
-most_width = 1024
+most_width = 4096
 
 abbrev pub most_height : ℕ
-most_height = 768
+most_height = 4096
+
+-- those of the screen of a run, and of the pictures of a film
+abbrev pub most_run_width : ℕ
+most_run_width = 1024
+
+abbrev pub most_run_height : ℕ
+most_run_height = 768
 
 -- the columns and the rows of a buffer
 abbrev pub most_side : ℕ
@@ -38,11 +45,18 @@ abbrev pub least_units : ℕ
 least_units = 256
 
 abbrev pub most_units : ℕ
-most_units = 8388608
+most_units = 268435456
 
--- words that a session can pay for
+-- what a session of a run ever has at most, and each that opens with no more
+abbrev pub most_run_units : ℕ
+most_run_units = 8388608
+
+-- words that a session can pay for, and a session of a run
 abbrev pub most_words : ℕ
-most_words = 1048576
+most_words = 33554432
+
+abbrev pub most_run_words : ℕ
+most_run_words = 1048576
 
 -- ---- texts
 

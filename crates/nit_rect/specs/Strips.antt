@@ -5,7 +5,7 @@ use Rattle.nit_rect.specs.Below.{Point}
 use Rattle.nit_rect.specs.declared.strips.Strips.{Strips}
 use Rattle.nit_rect.specs.Limits.{most_width, most_height}
 
--- it lies in the box from (0, 0) to below (1024, 768)
+-- it lies in the box from (0, 0) to below (4096, 4096)
 pub record IsScreenRectangle (r : Rectangle) : Type 0 where
   pub left : pos 0 ≤ℤ r.x
   pub top : pos 0 ≤ℤ r.y

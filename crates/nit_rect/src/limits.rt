@@ -10,10 +10,16 @@ pub const LAST_PLACE: i32 = 32_767;
 pub const MOST_LENGTH: u32 = 32_767;
 
 /// The columns of the widest screen.
-pub const MOST_WIDTH: u32 = 1024;
+pub const MOST_WIDTH: u32 = 4096;
 
 /// The rows of the highest screen.
-pub const MOST_HEIGHT: u32 = 768;
+pub const MOST_HEIGHT: u32 = 4096;
+
+/// The columns of the widest screen of a run, and of the widest film.
+pub const MOST_RUN_WIDTH: u32 = 1024;
+
+/// The rows of the highest screen of a run, and of the highest film.
+pub const MOST_RUN_HEIGHT: u32 = 768;
 
 /// The longest side of a buffer, in words.
 pub const MOST_SIDE: u32 = 4096;
@@ -25,7 +31,10 @@ pub const MOST_SESSIONS: usize = 16;
 pub const LEAST_UNITS: u32 = 256;
 
 /// What a session ever has at most, in units.
-pub const MOST_UNITS: u32 = 8_388_608;
+pub const MOST_UNITS: u32 = 268_435_456;
+
+/// What a session of a run ever has at most, in units, and each session that opens with no more.
+pub const MOST_RUN_UNITS: u32 = 8_388_608;
 
 /// The first byte of printable ASCII.
 pub const FIRST_PRINTABLE: u8 = 0x20;

@@ -111,8 +111,8 @@ impl Rect {
     }
 
     /// What is left of this rectangle where `cut` is taken out: with the cut, the four strips have
-    /// each of its pixels once. This rectangle lies on a screen of 1024 by 768, and the cut lies in
-    /// it and has pixels.
+    /// each of its pixels once. This rectangle lies on a screen of 4096 by 4096, and the cut lies
+    /// in it and has pixels.
     pub fn strips(&self, cut: &Rect) -> Strips
         requires screen { IsScreenRectangle self.now }
         requires inside { LiesIn cut.now self.now }

@@ -6,8 +6,8 @@ pub use Rattle.nit_report.specs.Terms.{Closed, Delivery, Device, Draw, Draws, En
 pub use Rattle.nit_report.specs.Terms.{FitsCall, FitsDelivery, FitsDevice, FitsEntry, FitsEvent}
 pub use Rattle.nit_report.specs.Terms.{FitsInputLine, FitsInt, FitsItem, FitsLine, FitsNat}
 pub use Rattle.nit_report.specs.Terms.{FitsReply, FitsRouted, FitsSession, FitsShot, HasOneReading}
-pub use Rattle.nit_report.specs.Terms.{IfOk, InputLine, IsConfiguration, IsFirstBadEntry}
-pub use Rattle.nit_report.specs.Terms.{IsJournalAnswer, IsMember, IsOkAnd, Item, JournalError}
+pub use Rattle.nit_report.specs.Terms.{IfOk, InputLine, IsRunConfiguration, IsFirstBadEntry}
+pub use Rattle.nit_report.specs.Terms.{IsJournalAnswer, IsRunMember, IsOkAnd, Item, JournalError}
 pub use Rattle.nit_report.specs.Terms.{Killed, Line, Live, Member, NoMemory, ReadsClient}
 pub use Rattle.nit_report.specs.Terms.{ReadsJournal, Reply, Routed, UnlessNoMemory, at_both}
 pub use Rattle.nit_report.specs.Terms.{at_kind, at_made, backdrop, buffer_lines, busy, busy_lines}

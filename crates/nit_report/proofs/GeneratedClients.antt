@@ -1,7 +1,7 @@
 -- Digits, titles, and that the configuration of a generated run is within the ranges of the format.
 use Rattle.std.proofs.Common.{IsTrue, [], ap, arith, drop, get_or, le-leb, length, length-append}
 use Rattle.std.proofs.Common.{map, refl, true, ℕ, ◌%◌, ◌+◌, ◌/◌, ◌<◌, ◌^◌, ◌∷◌, ◌≡◌, ◌≢◌, ◌≤◌}
-use Rattle.nit_report.proofs.Basics.{IsConfiguration, IsMember, Member, cases_lt, decimal}
+use Rattle.nit_report.proofs.Basics.{IsRunConfiguration, IsRunMember, Member, cases_lt, decimal}
 use Rattle.nit_report.proofs.Basics.{decimal_digit, decimal_injective, decimal_step, false≢true}
 use Rattle.nit_report.proofs.Basics.{generated_member, get_or-map-range_with_len, is_printable}
 use Rattle.nit_report.proofs.Basics.{is_text, length-decimal-le, range_with_len}
@@ -29,7 +29,7 @@ is_title v few = grind (arith, cases_lt v 10, decimal_digit, decimal_step, digit
 
 -- ---- the configuration of a generated run is within the ranges of the format
 
-member_configured : (c : ℕ) → c < 8 → IsMember (generated_member c)
+member_configured : (c : ℕ) → c < 8 → IsRunMember (generated_member c)
 member_configured c few = record {
   label = rw (decimal_digit c (omega arith)) (grind (arith, le-leb));
   donation = (omega arith, omega arith);
@@ -41,7 +41,7 @@ member_configured c few = record {
 client_at : (k : ℕ) (d : Member) → k < 8 → get_or (map generated_member (range_with_len 0 8)) k d ≡ generated_member k
 client_at k d few = get_or-map-range_with_len generated_member 0 8 k k d few (omega arith)
 
-pub generated_is_configured : IsConfiguration generated_configuration
+pub generated_is_configured : IsRunConfiguration generated_configuration
 unfolding generated_configuration
 generated_is_configured = record {
   width = (omega arith, omega arith);

@@ -1,6 +1,6 @@
 -- The words of the library and of the crates below that are used here, and the crate's plain types.
 pub use Rattle.nit_config.specs.Configuration.{Configuration}
-pub use Rattle.nit_config.specs.ConfigurationRanges.{IsConfiguration, IsMember}
+pub use Rattle.nit_config.specs.ConfigurationRanges.{IsRunConfiguration, IsRunMember}
 pub use Rattle.nit_config.specs.declared.config.Member.{Member}
 pub use Rattle.nit_events.specs.Input.{deliveries_of, delivery, routed_as}
 pub use Rattle.nit_events.specs.Ranges.{IsCode, IsWheel, most_read}

@@ -2,7 +2,8 @@
 pub use Rattle.nit_report.specs.Below.{AllByRecursion, AllZip, Bad, Begins, Call, Closed, Delivery}
 pub use Rattle.nit_report.specs.Below.{Device, Entry, Event, FitsCall, FitsDevice, FitsInputLine}
 pub use Rattle.nit_report.specs.Below.{FitsInt, FitsLine, FitsNat, Gives, HasOneReading, IfOk}
-pub use Rattle.nit_report.specs.Below.{InputLine, IsConfiguration, IsMember, IsOkAnd, IsWord, Item}
+pub use Rattle.nit_report.specs.Below.{InputLine, IsRunConfiguration, IsRunMember, IsOkAnd, IsWord}
+pub use Rattle.nit_report.specs.Below.{Item}
 pub use Rattle.nit_report.specs.Below.{JournalError, Killed, Line, Live, Member, NoMemory}
 pub use Rattle.nit_report.specs.Below.{ReadsClient, ReadsInput, Reply, Routed, at_both, at_kind}
 pub use Rattle.nit_report.specs.Below.{at_made, call_at, call_spelling, channels, codes, decimal}

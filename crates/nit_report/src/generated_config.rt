@@ -1,7 +1,8 @@
 //! The configuration of a generated run, as a value and as a text.
 
 ghost use Rattle.std.specs.Prelude.{◌≡◌, ◌+◌, ◌≤◌, [], ◌∷◌, ◌++◌, IsTrue, IfOk, OnOk};
-ghost use Rattle.nit_report.specs.Terms.{IsConfiguration, client_block, client_label, config_text};
+ghost use Rattle.nit_report.specs.Terms.{IsRunConfiguration, client_block, client_label};
+ghost use Rattle.nit_report.specs.Terms.{config_text};
 ghost use Rattle.nit_report.specs.Terms.{decimal, generated_configuration, generated_member};
 ghost use Rattle.nit_report.specs.Terms.{is_label, script_name};
 
@@ -21,7 +22,7 @@ const DONATION: u32 = 262_144;
 #[tactic(auto, unfolding(crate::specs::Generator::generated_configuration))]
 pub fn gen_config(alloc: Global) -> Result<Config, NoMemory>
     ensures config { IfOk result (λ config. config ≡ generated_configuration) }
-    ensures configured { IfOk result (λ config. IsConfiguration config) }
+    ensures configured { IfOk result (λ config. IsRunConfiguration config) }
 {
     let mut clients = Vec::with_capacity(alloc, CLIENTS as usize)?;
     for client in 0..CLIENTS {

@@ -19,6 +19,7 @@ use Rattle.nit_rounds.proofs.DrawingLemmas.{but_none, with_glass_of}
 use Rattle.nit_events.specs.declared.entry.Entry.TheVariants as entry
 use Rattle.nit_script.specs.declared.line.InputLine.TheVariants as input
 use Rattle.nit_script.specs.declared.line.Line.TheVariants as line
+use Rattle.nit_rect.specs.Limits.{most_units}
 
 -- ---- an event of the scene
 
@@ -124,7 +125,7 @@ shot_moved old new number spare is =
 
 -- what the laws of scripts, plans and buffers say
 abbrev pub AreLong : Type 0
-AreLong = (script : List Line) (donation k : ℕ) → donation ≤ 8388608 → length (words_after script donation k)
+AreLong = (script : List Line) (donation k : ℕ) → donation ≤ most_units → length (words_after script donation k)
     ≡ table_size donation
 
 abbrev pub StayElsewhere : Type 0
@@ -139,7 +140,7 @@ HaveSteps = (script : List Line) (donation k : ℕ) (l : Line) → slice_get scr
     ≡ Some (step_of (static script donation k) (static script donation (k + 1)) l)
 
 abbrev Within : (List Line → ℕ → ℕ → ℕ) → (ℕ → ℕ) → Type 0
-Within f most = (script : List Line) (donation k : ℕ) → donation ≤ 8388608 → f script donation k ≤ most donation
+Within f most = (script : List Line) (donation k : ℕ) → donation ≤ most_units → f script donation k ≤ most donation
 
 module _ {s : SceneModel Sight} {part : ClientPart} {k : ℕ} {stale : Option Stale} {own : Sight} (long : AreLong)
     (can : CanDraw s part k stale own) where

@@ -12,7 +12,7 @@ pub use Rattle.nit_clip.specs.declared.call.ClipEntry.{ClipEntry}
 pub use Rattle.nit_clip.specs.declared.line.ClipLine.{ClipLine}
 pub use Rattle.nit_config.specs.Configuration.{Configuration, bar_rows, donation_of, member}
 pub use Rattle.nit_config.specs.Configuration.{still_configuration}
-pub use Rattle.nit_config.specs.ConfigurationRanges.{IsConfiguration}
+pub use Rattle.nit_config.specs.ConfigurationRanges.{IsRunConfiguration}
 pub use Rattle.nit_events.specs.Input.{InputState, Routing, deliveries_of, first_press, focusing}
 pub use Rattle.nit_events.specs.Input.{forget, hovering, ignored, is_button, is_held, is_same}
 pub use Rattle.nit_events.specs.Input.{kill_button, kill_key, kill_mode, killing, leaving}

@@ -2,7 +2,7 @@
 use Rattle.std.specs.Prelude.{◌≡◌, ◌⊎◌, ℕ, ◌≤◌, Bool, false, true, List, [], ◌∷◌, ◌++◌, length, map}
 use Rattle.std.specs.Prelude.{codes, Option, None}
 use Rattle.nit_run.specs.Below.{AllByRecursion, ClipLine, Configuration, File, FitsInputLine}
-use Rattle.nit_run.specs.Below.{FitsLine, InputLine, IsConfiguration, Line, client_script}
+use Rattle.nit_run.specs.Below.{FitsLine, InputLine, IsRunConfiguration, Line, client_script}
 use Rattle.nit_run.specs.Below.{client_text, clip_phases, config_text, generated_configuration}
 use Rattle.nit_run.specs.Below.{idle_user, input_phases, most_lines, phases, range_with_len}
 use Rattle.nit_run.specs.Below.{script_name, still_configuration, user_script, user_text}
@@ -96,7 +96,7 @@ AreClipsOf scripts wanted clips = (clips ≡ [])
 -- Clip
 -- scripts have as many phases too, and where there are some there is one for each client.
 pub record IsRunnable (s : Setup) : Type 0 where
-  pub configured : IsConfiguration s.config
+  pub configured : IsRunConfiguration s.config
   pub scripts : length s.scripts ≡ length s.config.clients
   pub phases : AllByRecursion (λ lines. phases lines ≡ input_phases s.input) s.scripts
   pub lines : AllByRecursion (AreLines FitsLine) s.scripts

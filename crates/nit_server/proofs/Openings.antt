@@ -16,6 +16,7 @@ use Rattle.nit_server.proofs.Basics.{map-map, map-set, map-set_same, member, nat
 use Rattle.nit_server.proofs.Basics.{relabelled, server_of, session_in, size_of_buffer}
 use Rattle.nit_server.proofs.Basics.{slots_of_all, splat_is_map, sum_by-replicate, view_slots}
 use Rattle.nit_server.proofs.Basics.{with_opened, without_handle}
+use Rattle.nit_server.specs.Below.{most_units}
 
 -- no slot is taken
 abbrev pub none_taken : ℕ → SlotsModel
@@ -69,7 +70,7 @@ opened_is config c few = record {
       ∙ sym (map-map (λ (m : KeptSessionModel). size_of_buffer m.session) first_kept_session config.clients);
   clients = λ t l.
       let range = (All-get_or IsMember config.clients t no_client (rw same_length at l) c.clients).donation in
-      let least : (member config t).donation ≤ 8388608 = range.1 in
+      let least : (member config t).donation ≤ most_units = range.1 in
       rw (opened_at config t) (record {
         sum = omega (arith, least);
         paid = record { used = omega arith; bounded = omega (arith, least) };
@@ -218,7 +219,7 @@ opened_parts : {config : Configuration} {stack : StackModel} {members : List Kep
 opened_parts {config} {stack} {members} sid h there bare none =
     let d = (member config sid).donation in
     let own = h.clients sid there in
-    let range : (256 ≤ d) × (d ≤ 8388608) =
+    let range : (256 ≤ d) × (d ≤ most_units) =
     (All-get_or IsMember config.clients sid no_client (rw h.each at there) h.configured.clients).donation in
     repaid h there (record {
       pairs = sym bare;

@@ -26,7 +26,7 @@ session_of_parts account table status w h queue lost =
     }
 
 -- what its views and its buffer use is within its donation; donation and reserve are at most
--- 8388608 together
+-- 268435456 together
 pub record IsPaid (s : Session) : Type 0 where
   pub used : 256 * length s.handles + 8 * (s.bw * s.bh) ≤ s.donation
   pub bounded : s.donation + s.reserve ≤ most_units

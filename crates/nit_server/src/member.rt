@@ -49,7 +49,7 @@ impl Model for KeptSession {
 }
 
 impl KeptSession {
-    /// A session that opens with this donation, 256..=8388608 units. All memory that it will ever
+    /// A session that opens with this donation, 256..=268435456 units. All memory that it will ever
     /// use is taken here.
     pub(crate) fn new(alloc: Global, donation: u32) -> Result<KeptSession, NoMemory>
         requires { IsDonation donation }
@@ -220,7 +220,7 @@ impl KeptSession {
         self.height = 0;
     }
 
-    /// The session is the first one of this donation again, 256..=8388608 units, once it has no
+    /// The session is the first one of this donation again, 256..=268435456 units, once it has no
     /// view.
     pub(crate) fn open(&mut self, donation: u32)
         requires donation { IsDonation donation }

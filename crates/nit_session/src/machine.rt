@@ -54,7 +54,7 @@ impl Model for Machine {
 }
 
 impl Machine {
-    /// A session that opens with this donation, 256..=8388608 units. All memory that it will ever
+    /// A session that opens with this donation, 256..=268435456 units. All memory that it will ever
     /// use is taken here.
     ///
     /// # Errors

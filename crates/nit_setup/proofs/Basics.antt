@@ -15,9 +15,10 @@ pub use Rattle.nit_setup.specs.Terms.{FirstFiles, FitsClipLine, FitsInputLine, F
 pub use Rattle.nit_setup.specs.Terms.{HasOneReading, HasRead, HasVerdict, HaveSamePhases, IfNone}
 pub use Rattle.nit_setup.specs.Terms.{IfSome, InnerFiles, InputLine, IsClientFault, IsClientScript}
 pub use Rattle.nit_setup.specs.Terms.{IsClipFault, IsClipScript, IsConfig, IsConfigFault}
-pub use Rattle.nit_setup.specs.Terms.{IsConfiguration, IsFaulty, IsFirstClipFault, IsFirstFault}
+pub use Rattle.nit_setup.specs.Terms.{IsRunConfiguration, IsFaulty, IsFirstClipFault, IsFirstFault}
 pub use Rattle.nit_setup.specs.Terms.{IsFirstOuterFault, IsGood, IsInputFault, IsInputsFault}
-pub use Rattle.nit_setup.specs.Terms.{IsJournalFault, IsJournalText, IsLoaded, IsMember, IsNameOf}
+pub use Rattle.nit_setup.specs.Terms.{IsJournalFault, IsJournalText, IsLoaded, IsRunMember}
+pub use Rattle.nit_setup.specs.Terms.{IsNameOf}
 pub use Rattle.nit_setup.specs.Terms.{IsNoJournalText, IsOuterFault, IsOuterInputFault}
 pub use Rattle.nit_setup.specs.Terms.{IsOuterLoaded, IsOuterScript, IsOuterSetupFault}
 pub use Rattle.nit_setup.specs.Terms.{IsPhasedFault, IsRunnable, IsScript, IsSetupFault, IsSetupOf}

@@ -7,7 +7,7 @@ use Rattle.nit_setup.proofs.Basics.{AreClipScripts, AreClipsRead, AreFirstClips,
 use Rattle.nit_setup.proofs.Basics.{Audit, Clip, ClipLine, Command, Configuration, End, Fault}
 use Rattle.nit_setup.proofs.Basics.{FitsInputLine, FitsLine, HaveSamePhases, IfSome, IfSome_then}
 use Rattle.nit_setup.proofs.Basics.{InputLine, IsClientFault, IsClientScript, IsClipFault}
-use Rattle.nit_setup.proofs.Basics.{IsConfiguration, IsJournalFault, IsNoJournalText, IsRunnable}
+use Rattle.nit_setup.proofs.Basics.{IsRunConfiguration, IsJournalFault, IsNoJournalText, IsRunnable}
 use Rattle.nit_setup.proofs.Basics.{Line, NoFile, ReadsTo, Setup, Still, Stop, StoppedAt}
 use Rattle.nit_setup.proofs.Basics.{StoppedAtClip, StoppedReading, StoreModel, asking_all}
 use Rattle.nit_setup.proofs.Basics.{asking_both, asking_none, bytes_of, clip_name, clip_names}
@@ -42,7 +42,7 @@ all_phases (first ∷ rest) lines some same right =
 
 -- the setup of a configuration
 pub run_runnable : (beside : Bool) (config : Configuration) (scripts : List (List Line)) (lines : List InputLine)
-    → IsConfiguration config → length scripts ≡ length (script_names config)
+    → IsRunConfiguration config → length scripts ≡ length (script_names config)
     → AllByRecursion (AreLines FitsLine) scripts → HaveSamePhases scripts
     → AreLines FitsInputLine lines → wrong_input (wanted_by scripts) lines ≡ None
     → IsRunnable (setup_of config scripts lines true beside)

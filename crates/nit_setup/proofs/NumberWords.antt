@@ -2,7 +2,8 @@
 use Rattle.std.proofs.Common.{All, IsTrue, List, None, Option, Some, [], arith, get_or, length, map}
 use Rattle.std.proofs.Common.{refl, suc, sym, zero, ℕ, ◌++◌, ◌+◌, ◌<◌, ◌^◌, ◌∷◌, ◌≡◌, ◌≤◌}
 use Rattle.nit_setup.proofs.Basics.{All-get_or, All-head, All-tail, AllByRecursion, Configuration}
-use Rattle.nit_setup.proofs.Basics.{IfNone, IfSome, IsConfiguration, IsMember, Member, and_parts}
+use Rattle.nit_setup.proofs.Basics.{IfNone, IfSome, IsRunConfiguration, IsRunMember, Member}
+use Rattle.nit_setup.proofs.Basics.{and_parts}
 use Rattle.nit_setup.proofs.Basics.{bytes_eq, bytes_eq-Decides, decimal, nat_tests}
 use Rattle.nit_setup.proofs.Basics.{decimal_injective, find, first_other, is_file_name, leb-true}
 use Rattle.nit_setup.proofs.Basics.{names_in, none-some, range_with_len}
@@ -48,18 +49,18 @@ pub short_name : (text : List ℕ) → IsTrue (is_file_name text) → length tex
 short_name text is = leb-true (length text) 255 (and_parts _ _ (and_parts _ _ is).0).1
 
 -- so is that of a client's script
-pub short_script : (clients : List Member) (i : ℕ) {m : Member} {name : List ℕ} → All IsMember clients
+pub short_script : (clients : List Member) (i : ℕ) {m : Member} {name : List ℕ} → All IsRunMember clients
     → i < length clients → m ≡ get_or clients i m → name ≡ m.script → length name ≤ 255
 short_script clients i {m = m} all lt is named =
-    rw (named, is) (short_name _ (All-get_or IsMember clients i m lt all).script)
+    rw (named, is) (short_name _ (All-get_or IsRunMember clients i m lt all).script)
 
 -- and so are all names
-names_short : (clients : List Member) (input : List ℕ) → All IsMember clients → IsTrue (is_file_name input)
+names_short : (clients : List Member) (input : List ℕ) → All IsRunMember clients → IsTrue (is_file_name input)
     → AllByRecursion (λ (n : List ℕ). length n ≤ 255) (map (λ (m : Member). m.script) clients ++ input ∷ [])
 names_short [] input all is = (short_name input is, tt)
 names_short (m ∷ clients) input all is = (
-  short_name m.script (All-head IsMember m clients all).script,
-  names_short clients input (All-tail IsMember m clients all) is,
+  short_name m.script (All-head IsRunMember m clients all).script,
+  names_short clients input (All-tail IsRunMember m clients all) is,
 )
 
 other_among : (wanted : ℕ) (names : List (List ℕ)) (counts : List ℕ) (name : List ℕ)
@@ -70,7 +71,7 @@ other_among wanted (m ∷ names) (n ∷ counts) name all is =
 other_among wanted names counts name all is = absurd (none-some name is)
 
 -- that of a script that has another number of phases
-pub other_short : (config : Configuration) (wanted : ℕ) (counts : List ℕ) (name : List ℕ) → IsConfiguration config
+pub other_short : (config : Configuration) (wanted : ℕ) (counts : List ℕ) (name : List ℕ) → IsRunConfiguration config
     → first_other wanted (names_in config) counts ≡ Some name → length name ≤ 255
 other_short config wanted counts name configured is = other_among wanted (names_in config) counts name
     (names_short config.clients config.input configured.clients configured.input) is

@@ -7,7 +7,7 @@ use Rattle.nit_setup.proofs.Basics.{ConfigRead, Configuration, Fault, File, File
 use Rattle.nit_setup.proofs.Basics.{FitsLine, HasRead, HaveSamePhases, IfSome, IfSome_then}
 use Rattle.nit_setup.proofs.Basics.{InnerFiles, IsFirstFault, IsFirstOuterFault}
 use Rattle.nit_setup.proofs.Basics.{IsClientFault, IsConfig, IsConfigFault}
-use Rattle.nit_setup.proofs.Basics.{IsConfiguration, IsInputFault, IsLoaded, IsOuterFault}
+use Rattle.nit_setup.proofs.Basics.{IsRunConfiguration, IsInputFault, IsLoaded, IsOuterFault}
 use Rattle.nit_setup.proofs.Basics.{IsOuterLoaded, IsOuterSetupFault, IsSetupFault, IsSetupOf}
 use Rattle.nit_setup.proofs.Basics.{IsValid, Judged, Line, Loaded, MayShowFrames, Nested, NoFile}
 use Rattle.nit_setup.proofs.Basics.{OuterFiles, OuterRunRead, ReadsTo, Refused, Region, Run}
@@ -29,7 +29,7 @@ pub record ReadsRun (Right : List (List Line) → Type 0) (Refuses : List ℕ �
   pub start_names : front ≡ names_read c start
   pub start_next : next_name c start ≡ Some name
   pub further : Configuration → List (List Line) → FilesRead
-  pub further_read : (config : Configuration) (scripts : List (List Line)) → IsConfiguration config
+  pub further_read : (config : Configuration) (scripts : List (List Line)) → IsRunConfiguration config
       → AllByRecursion (AreLines FitsLine) scripts → Right scripts
       → IfSome old.files (λ files. IsConfig (bytes_of name files) config
       × (SpellScripts files (first_names config scripts) scripts × Right scripts))

@@ -1,6 +1,6 @@
 -- What the words ask for, as the code has it.
 use Rattle.std.specs.Prelude.{◌<◌, ◌≡◌, ◌≤◌, true, false, IfNone, IfSome, Option, Some, None}
-use Rattle.nit_setup.specs.Below.{Asked, IsRegionWords, most_height, most_width, number_end}
+use Rattle.nit_setup.specs.Below.{Asked, IsRegionWords, most_run_height, most_run_width, number_end}
 use Rattle.nit_setup.specs.Command.{Command, Still, Run, Gen, Audit, Clip, Capture, Nested}
 use Rattle.nit_setup.specs.Command.{NoCommand}
 use Rattle.nit_setup.specs.declared.words.Asked.TheVariants as asked
@@ -24,8 +24,8 @@ command_of (Some asked) = asks_for asked
 -- the size of a picture, the number of a generated run, and the numbers of a region are within
 -- their ranges
 abbrev pub IsAskedInRange : Asked → Type 0
-IsAskedInRange (asked.Still width height script) = (0 < width) × (width ≤ most_width) × (0 < height)
-    × (height ≤ most_height)
+IsAskedInRange (asked.Still width height script) = (0 < width) × (width ≤ most_run_width)
+    × (0 < height) × (height ≤ most_run_height)
 IsAskedInRange (asked.Gen number) = number < number_end
 IsAskedInRange (asked.Capture config region) = IsRegionWords region
 IsAskedInRange other = Unit {0}

@@ -8,13 +8,13 @@ pub use Rattle.nit_clip.specs.ClipSpelling.{FitsClipLine, clip_line_spelling}
 pub use Rattle.nit_clip.specs.declared.line.ClipLine.{ClipLine}
 pub use Rattle.nit_config.specs.Configuration.{Configuration, is_file_name, most_file_name}
 pub use Rattle.nit_config.specs.Configuration.{still_configuration}
-pub use Rattle.nit_config.specs.ConfigurationRanges.{IsConfiguration, IsMember}
+pub use Rattle.nit_config.specs.ConfigurationRanges.{IsRunConfiguration, IsRunMember}
 pub use Rattle.nit_config.specs.ConfigurationText.{IsConfigurationOf}
 pub use Rattle.nit_config.specs.declared.config.Member.{Member}
 pub use Rattle.nit_events.specs.declared.entry.Entry.{Entry}
 pub use Rattle.nit_nested.specs.FrameScript.{first_forbidden}
 pub use Rattle.nit_plan.specs.Calls.{calls_to_make, user_actions_to_do}
-pub use Rattle.nit_rect.specs.Limits.{most_height, most_width}
+pub use Rattle.nit_rect.specs.Limits.{most_run_height, most_run_width}
 pub use Rattle.nit_report.specs.Generator.{client_script, client_text, generated, is_shot_line}
 pub use Rattle.nit_report.specs.Generator.{user_script}
 pub use Rattle.nit_report.specs.JournalText.{IsFirstBadEntry, ReadsJournal}

@@ -1,7 +1,8 @@
 -- What the words of the command line ask for.
 use Rattle.std.specs.Prelude.{ℕ, Bool, true, false, List, [], ◌∷◌, map, find, codes, Option, Some}
 use Rattle.std.specs.Prelude.{None, String, if◌then◌else◌}
-use Rattle.nit_setup.specs.Below.{Region, bytes_eq, decimal, most_height, most_width, number_end}
+use Rattle.nit_setup.specs.Below.{Region, bytes_eq, decimal, most_run_height, most_run_width}
+use Rattle.nit_setup.specs.Below.{number_end}
 use Rattle.nit_setup.specs.Below.{range_with_len, string_bytes}
 
 -- the words as lists of bytes
@@ -85,8 +86,8 @@ pair_of verb first second =
 -- `still`, a width of 1 up to 1024, a height of 1 up to 768, and the name of a script
 abbrev pub still_of : List ℕ → List ℕ → List ℕ → List ℕ → Command
 still_of verb width height script =
-    if bytes_eq verb (codes "still") then still (number_up_to most_width width)
-    (number_up_to most_height height) script else NoCommand
+    if bytes_eq verb (codes "still") then still (number_up_to most_run_width width)
+    (number_up_to most_run_height height) script else NoCommand
 
 -- `capture`, the name of a configuration, and the four numbers of a region
 abbrev pub capture_command : List ℕ → List ℕ → List ℕ → List ℕ → List ℕ → List ℕ → Command

@@ -2,7 +2,7 @@
 use Rattle.std.specs.Prelude.{◌≡◌, ℕ, ◌≤◌, true, List, [], ◌∷◌, ◌++◌, length, take, slice_get}
 use Rattle.std.specs.Prelude.{Option, Some, None, IfSome}
 use Rattle.nit_setup.specs.Below.{AllByRecursion, AreLines, Configuration, File, FirstShows}
-use Rattle.nit_setup.specs.Below.{FitsInputLine, FitsLine, HaveSamePhases, IsConfiguration}
+use Rattle.nit_setup.specs.Below.{FitsInputLine, FitsLine, HaveSamePhases, IsRunConfiguration}
 use Rattle.nit_setup.specs.Below.{IsRunnable, Line, RunFiles, Setup, by_turns, bytes_of}
 use Rattle.nit_setup.specs.Below.{clip_phases, generated_setup, input_phases, nest_of, nested_setup}
 use Rattle.nit_setup.specs.Below.{still_setup}
@@ -93,7 +93,7 @@ next_name c (BothFiles o i) = None
 pub record AreFirstFiles (configuration : List ℕ) (told : Option (List File))
     (config : Configuration)
     (scripts : List (List Line)) : Type 0 where
-  pub configured : IsConfiguration config
+  pub configured : IsRunConfiguration config
   pub lines : AllByRecursion (AreLines FitsLine) scripts
   pub phases : HaveSamePhases scripts
   pub valid : IfSome told (λ files. IsConfig (bytes_of configuration files) config
@@ -104,7 +104,7 @@ pub record AreFirstFiles (configuration : List ℕ) (told : Option (List File))
 -- store tells its files, these are the outer configuration and the first scripts that it names.
 pub record AreFirstOuterFiles (outer : List ℕ) (told : Option (List File))
     (config : Configuration) (scripts : List (List Line)) : Type 0 where
-  pub configured : IsConfiguration config
+  pub configured : IsRunConfiguration config
   pub lines : AllByRecursion (AreLines FitsLine) scripts
   pub may : MayShowFrames scripts
   pub valid : IfSome told (λ files. IsConfig (bytes_of outer files) config
@@ -113,7 +113,7 @@ pub record AreFirstOuterFiles (outer : List ℕ) (told : Option (List File))
 -- The configuration is within its ranges, and there is a script for each client. All scripts are
 -- within the grammar, and the first holds no line that may not stand there.
 pub record IsOuter (o : RunFiles) : Type 0 where
-  pub configured : IsConfiguration o.config
+  pub configured : IsRunConfiguration o.config
   pub count : length o.scripts ≡ length o.config.clients
   pub lines : AllByRecursion (AreLines FitsLine) o.scripts
   pub input_lines : AreLines FitsInputLine o.input

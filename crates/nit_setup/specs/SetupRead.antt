@@ -1,7 +1,7 @@
 -- Reading all files of a command: what was read, or the file that it stopped at.
 use Rattle.std.specs.Prelude.{◌≡◌, ◌⊎◌, ℕ, ◌≤◌, Bool, true, false, List, length, Some, Result, Ok}
 use Rattle.std.specs.Prelude.{Err, IfSome}
-use Rattle.nit_setup.specs.Below.{Configuration, IsConfiguration, IsRunnable, Loaded, OneScript}
+use Rattle.nit_setup.specs.Below.{Configuration, IsRunConfiguration, IsRunnable, Loaded, OneScript}
 use Rattle.nit_setup.specs.Below.{RunFiles, Setup, Stop, StopName, StoreModel, TwoRuns, WithClips}
 use Rattle.nit_setup.specs.Below.{WithJournal, asking_all, bytes_of, idle_user, run_files, setup_of}
 use Rattle.nit_setup.specs.Below.{still_configuration, still_setup, with_asked}
@@ -96,7 +96,7 @@ BothRead outer inner old new (Err stop) = StoppedReading (Nested outer inner) ol
 pub record ConfigRead (name : List ℕ) (old : StoreModel) (config : Configuration)
     (now : StoreModel) : Type 0 where
   pub asked : now ≡ with_asked old name
-  pub configured : IsConfiguration config
+  pub configured : IsRunConfiguration config
   pub valid : IfSome old.files (λ files. IsConfig (bytes_of name files) config)
 
 -- and its scripts were read, and can be run

@@ -3,7 +3,8 @@ pub use Rattle.nit_setup.specs.Asked.{IsReadAs, asks_for}
 pub use Rattle.nit_setup.specs.Below.{AllByRecursion, AllZip, AreLines, ClipLine, Configuration}
 pub use Rattle.nit_setup.specs.Below.{End, Entry, Fault, File, FitsClipLine, FitsInputLine}
 pub use Rattle.nit_setup.specs.Below.{FitsLine, HasOneReading, HaveSamePhases, IfNone, IfSome}
-pub use Rattle.nit_setup.specs.Below.{InputLine, IsConfiguration, IsGood, IsMember, IsRunnable}
+pub use Rattle.nit_setup.specs.Below.{InputLine, IsRunConfiguration, IsGood, IsRunMember}
+pub use Rattle.nit_setup.specs.Below.{IsRunnable}
 pub use Rattle.nit_setup.specs.Below.{Line, Loaded, Member, ReadsClient, ReadsInput, Region}
 pub use Rattle.nit_setup.specs.Below.{RunFiles, Setup, Stop, StopName, StoreModel, asking_all}
 pub use Rattle.nit_setup.specs.Below.{by_turns, bytes_eq, bytes_of, calls_to_make, client_script}
@@ -11,8 +12,8 @@ pub use Rattle.nit_setup.specs.Below.{client_text, clip_line_spelling, clip_phas
 pub use Rattle.nit_setup.specs.Below.{decimal, false, find, first_forbidden, frames_of, generated}
 pub use Rattle.nit_setup.specs.Below.{idle_user, input_phases, input_spelling, is_clip_phase}
 pub use Rattle.nit_setup.specs.Below.{is_file_name, is_input_phase, is_phase, is_shot_line, is_some}
-pub use Rattle.nit_setup.specs.Below.{is_too_long, line_spelling, most_file_name, most_height}
-pub use Rattle.nit_setup.specs.Below.{most_lines, most_width, nest_of, number_end, option_map}
+pub use Rattle.nit_setup.specs.Below.{is_too_long, line_spelling, most_file_name, most_run_height}
+pub use Rattle.nit_setup.specs.Below.{most_lines, most_run_width, nest_of, number_end, option_map}
 pub use Rattle.nit_setup.specs.Below.{phases, phases_by, range_with_len, run_files, setup_of}
 pub use Rattle.nit_setup.specs.Below.{slice_get, still_configuration, still_setup}
 pub use Rattle.nit_setup.specs.Below.{user_actions_to_do, user_script, with_asked}

@@ -1,7 +1,8 @@
 //! Reading clip scripts, and judging them.
 
 ghost use Rattle.std.specs.Prelude.{map, ◌≡◌, ◌≤◌, length, All, None, IfOk, string_bytes};
-ghost use Rattle.nit_setup.specs.Terms.{FileJudged, IsClipFault, IsClipScript, IsMember, IsNameOf};
+ghost use Rattle.nit_setup.specs.Terms.{FileJudged, IsClipFault, IsClipScript, IsRunMember};
+ghost use Rattle.nit_setup.specs.Terms.{IsNameOf};
 ghost use Rattle.nit_setup.specs.Terms.{LoadedClips, clip_name, most_file_name, wrong_clip};
 
 use crate::load::load_lines;
@@ -20,7 +21,7 @@ pub fn load_clips<S: Store>(
     clients: &[Member],
     wanted: Option<usize>,
 ) -> Result<Vec<ClipScript>, Stop>
-    requires { All IsMember clients.now }
+    requires { All IsRunMember clients.now }
     ensures { LoadedClips wanted (S.shown store.old) (map (λ m. m.script) clients.now)
         (S.shown store.new) result }
 {

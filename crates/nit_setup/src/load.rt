@@ -2,7 +2,7 @@
 
 ghost use Rattle.nit_setup.specs.Terms.{AreLines, FileJudged, FitsInputLine, FitsLine};
 ghost use Rattle.nit_setup.specs.Terms.{IsClientFault, IsClientScript, IsConfig, IsConfigFault};
-ghost use Rattle.nit_setup.specs.Terms.{IsConfiguration, IsInputFault, IsInputScript};
+ghost use Rattle.nit_setup.specs.Terms.{IsRunConfiguration, IsInputFault, IsInputScript};
 ghost use Rattle.nit_setup.specs.Terms.{IsJournalText, IsNoJournalText, IsPhasedFault};
 ghost use Rattle.nit_setup.specs.Terms.{IsPhasedScript, JudgedBytes, ReadFor, end_of_journal};
 ghost use Rattle.nit_setup.specs.Terms.{end_of_script, most_bytes, most_journal_bytes, most_lines};
@@ -41,7 +41,7 @@ pub fn read<S: Store>(store: &mut S, name: &str, max: usize, long: Fault) -> Res
 pub fn load_config<S: Store>(alloc: Global, store: &mut S, name: &str) -> Result<Config, End>
     ensures loaded { FileJudged IsConfig IsConfigFault (S.shown store.old) name.now
         (S.shown store.new) result }
-    ensures configured { IfOk result (λ config. IsConfiguration config) }
+    ensures configured { IfOk result (λ config. IsRunConfiguration config) }
 {
     let bytes = match read(store, name, MAX_FILE, Fault::LongConfig) {
         Ok(bytes) => bytes,
@@ -127,7 +127,7 @@ pub fn load_journal<S: Store>(alloc: Global, store: &mut S, name: &str) -> Resul
 fn judge_config(alloc: Global, bytes: &[u8]) -> Result<Config, End>
     requires { length bytes.now ≤ most_bytes }
     ensures judged { JudgedBytes IsConfig IsConfigFault bytes.now result }
-    ensures configured { IfOk result (λ config. IsConfiguration config) }
+    ensures configured { IfOk result (λ config. IsRunConfiguration config) }
 {
     match read_config(alloc, bytes) {
         Ok(config) => Ok(config),

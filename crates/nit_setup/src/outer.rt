@@ -1,7 +1,8 @@
 //! Reading the scripts of a configuration whose first client is to show frames.
 
 ghost use Rattle.std.specs.Prelude.{None, All, IfOk, map, ◌≡◌};
-ghost use Rattle.nit_setup.specs.Terms.{AreLines, FileJudged, FitsLine, IsConfiguration, IsMember};
+ghost use Rattle.nit_setup.specs.Terms.{AreLines, FileJudged, FitsLine, IsRunConfiguration};
+ghost use Rattle.nit_setup.specs.Terms.{IsRunMember};
 ghost use Rattle.nit_setup.specs.Terms.{IsOuter, IsOuterFault, IsOuterScript, OuterLoaded};
 ghost use Rattle.nit_setup.specs.Terms.{ReadOuter, run_files, wrong_outer};
 
@@ -18,7 +19,7 @@ use std::alloc::Global;
 /// is read. The first client's is to hold no line that may not stand there. Phases are not
 /// compared.
 pub fn read_outer<S: Store>(alloc: Global, store: &mut S, config: &Config) -> Result<Scripts, Stop>
-    requires { IsConfiguration config.now }
+    requires { IsRunConfiguration config.now }
     ensures read { ReadOuter config.now (S.shown store.old) (S.shown store.new) result }
     ensures outer { IfOk result (λ s. IsOuter
         (run_files config.now s.clients.items s.input)) }
@@ -40,7 +41,7 @@ fn load_outer<S: Store>(
     store: &mut S,
     clients: &[Member],
 ) -> Result<Vec<Client>, Stop>
-    requires { All IsMember clients.now }
+    requires { All IsRunMember clients.now }
     ensures { OuterLoaded (S.shown store.old) (map (λ m. m.script) clients.now)
         (S.shown store.new) result }
 {

@@ -3,7 +3,7 @@
 ghost use Rattle.std.specs.Prelude.{Bool, true, ◌<◌, ◌≤◌};
 ghost use Rattle.nit_setup.specs.Terms.{AuditRead, BothRead, Capture, ClipSetupRead, IsLoaded};
 ghost use Rattle.nit_setup.specs.Terms.{IsOuterLoaded, PictureRead, Region, Run, SetupRead};
-ghost use Rattle.nit_setup.specs.Terms.{most_height, most_width};
+ghost use Rattle.nit_setup.specs.Terms.{most_run_height, most_run_width};
 
 use crate::clips::load_clips;
 use crate::load::{load_client, load_config, load_journal};
@@ -64,7 +64,7 @@ pub fn read_still<S: Store>(
     height: u32,
     script: &str,
 ) -> Result<OneScript, Stop>
-    requires { (0 < width) × (width ≤ most_width) × (0 < height) × (height ≤ most_height) }
+    requires { (0 < width) × (width ≤ most_run_width) × (0 < height) × (height ≤ most_run_height) }
     ensures { PictureRead width height script.now (S.shown store.old) (S.shown store.new) result }
 {
     let client = match load_client(alloc, store, script, None) {

@@ -1,7 +1,7 @@
 //! Reading the scripts of a configuration.
 
 ghost use Rattle.std.specs.Prelude.{true, All, Bool, IfOk, map, ◌≡◌};
-ghost use Rattle.nit_setup.specs.Terms.{IsConfiguration, IsMember, IsRunnable, LoadedAll};
+ghost use Rattle.nit_setup.specs.Terms.{IsRunConfiguration, IsRunMember, IsRunnable, LoadedAll};
 ghost use Rattle.nit_setup.specs.Terms.{ReadScripts, phases, setup_of, wanted_by};
 
 use crate::load::{load_client, load_input};
@@ -18,7 +18,7 @@ pub fn read_scripts<S: Store>(
     store: &mut S,
     config: &Config,
 ) -> Result<Scripts, Stop>
-    requires { IsConfiguration config.now }
+    requires { IsRunConfiguration config.now }
     ensures read { ReadScripts config.now (S.shown store.old) (S.shown store.new) result }
     ensures runnable { IfOk result (λ s. (beside : Bool)
         → IsRunnable (setup_of config.now s.clients.items s.input true beside)) }
@@ -42,7 +42,7 @@ pub fn load_scripts<S: Store>(
     store: &mut S,
     clients: &[Member],
 ) -> Result<Vec<Client>, Stop>
-    requires { All IsMember clients.now }
+    requires { All IsRunMember clients.now }
     ensures { LoadedAll (S.shown store.old) (map (λ m. m.script) clients.now)
         (S.shown store.new) result }
 {

@@ -5,7 +5,7 @@ ghost use Rattle.nit_setup.specs.Terms.{idle_user, most_lines, still_configurati
 
 use nit_config::{Config, FileName, Member};
 use nit_glyph::Label;
-use nit_rect::NoMemory;
+use nit_rect::{MOST_RUN_UNITS, NoMemory};
 use nit_script::{Input, InputLine, Line, phase_lines};
 use std::alloc::Global;
 
@@ -33,7 +33,7 @@ fn still_member(alloc: Global) -> Result<Member, NoMemory>
     };
     Ok(Member {
         label,
-        donation: 8_388_608,
+        donation: MOST_RUN_UNITS,
         script: FileName::new(alloc, b"still")?,
         layer: 0,
         clicks: true,

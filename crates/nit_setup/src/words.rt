@@ -2,11 +2,12 @@
 
 ghost use Rattle.std.specs.Prelude.{◌<◌, ◌≡◌, IfSome, ◌≤◌};
 ghost use Rattle.nit_setup.specs.Terms.{IsReadAs, asks_for, capture, capture_command, command};
-ghost use Rattle.nit_setup.specs.Terms.{first_name, gen, most_height, most_width, natural_of};
+ghost use Rattle.nit_setup.specs.Terms.{first_name, gen, most_run_height, most_run_width};
+ghost use Rattle.nit_setup.specs.Terms.{natural_of};
 ghost use Rattle.nit_setup.specs.Terms.{number_end, number_up_to, pair_of, run_of, second_name};
 ghost use Rattle.nit_setup.specs.Terms.{still, still_of, texts};
 
-use nit_rect::{MOST_HEIGHT, MOST_WIDTH};
+use nit_rect::{MOST_RUN_HEIGHT, MOST_RUN_WIDTH};
 use nit_run::Region;
 use nit_script::natural;
 
@@ -179,11 +180,11 @@ fn capture_of<'a>(
 
 /// A picture of the size that these words spell, made of this script.
 fn still<'a>(width: &str, height: &str, script: &'a str) -> Option<Asked<'a>>
-    ensures { IsReadAs (still (number_up_to most_width width.now)
-        (number_up_to most_height height.now) script.entry.now) result }
+    ensures { IsReadAs (still (number_up_to most_run_width width.now)
+        (number_up_to most_run_height height.now) script.entry.now) result }
 {
-    let width = size(width, MOST_WIDTH)?;
-    let height = size(height, MOST_HEIGHT)?;
+    let width = size(width, MOST_RUN_WIDTH)?;
+    let height = size(height, MOST_RUN_HEIGHT)?;
     Some(Asked::Still {
         width,
         height,
@@ -225,7 +226,7 @@ fn whole_number(word: &str) -> Option<u32>
 
 /// The number of 1 up to `most` that the word spells.
 fn size(word: &str, most: u32) -> Option<u32>
-    requires { most ≤ most_width }
+    requires { most ≤ most_run_width }
     ensures size { result ≡ number_up_to most word.now }
     ensures range { IfSome result (λ n. (0 < n) × (n ≤ most)) }
 {

@@ -1,7 +1,7 @@
 -- What a session has, what it uses, and what a request needs and has left. All in units but views
 -- and words.
-use Rattle.std.specs.Prelude.{◌≡◌, ℕ, ◌+◌, ◌-◌, ◌*◌, ◌/◌, ◌<◌, ◌≤◌, min}
-use Rattle.nit_slots.specs.Below.{Need, least_units, most_units}
+use Rattle.std.specs.Prelude.{◌≡◌, ℕ, ◌+◌, ◌-◌, ◌*◌, ◌/◌, ◌<◌, ◌≤◌, max, min}
+use Rattle.nit_slots.specs.Below.{Need, least_units, most_run_units, most_units}
 
 -- the donation, the reserve, the number of views and the number of the buffer's words
 pub record AccountModel : Type 0 where
@@ -14,13 +14,22 @@ abbrev pub account_model : ℕ → ℕ → ℕ → ℕ → AccountModel
 account_model donation reserve views words =
     record { donation = donation; reserve = reserve; views = views; words = words }
 
--- a session opens with 256 to 8388608 units
+-- a session opens with 256 to 268435456 units
 abbrev pub IsDonation : ℕ → Type 0
 IsDonation d = (least_units ≤ d) × (d ≤ most_units)
 
--- the most that a session of this donation can ever have: twice the donation, at most 8388608
+-- that of a run with 256 to 8388608
+abbrev pub IsRunDonation : ℕ → Type 0
+IsRunDonation d = (least_units ≤ d) × (d ≤ most_run_units)
+
+-- over this a session of this donation never comes: 8388608, and 268435456 where the donation is
+-- over 8388608 itself, as what it is over, so many times, is 0 or more than that
+abbrev pub ceiling : ℕ → ℕ
+ceiling d = max most_run_units (min most_units (most_units * (d - most_run_units)))
+
+-- the most that a session of this donation can ever have: twice the donation, at most the ceiling
 abbrev pub room : ℕ → ℕ
-room d = min (2 * d) most_units
+room d = min (2 * d) (ceiling d)
 
 -- what a view costs, and so what a new one needs
 abbrev pub view_need : ℕ
@@ -51,7 +60,7 @@ abbrev pub used : ℕ → ℕ → ℕ
 used views words = view_need * views + word_need * words
 
 -- what is used is within the donation, and the donation and the reserve together are at most
--- 8388608
+-- 268435456
 pub record IsAccount (b : AccountModel) : Type 0 where
   pub paid : used b.views b.words ≤ b.donation
   pub bounded : b.donation + b.reserve ≤ most_units

@@ -1,10 +1,11 @@
 ghost use Rattle.std.specs.Prelude.{◌≡◌, ◌+◌, ◌-◌, ◌*◌, ◌<◌, ◌≤◌, OnOk, IfErr};
 ghost use Rattle.nit_slots.specs.Terms.{IsAccount, IsDonation, IsShort, buffer_left, buffer_need};
+ghost use Rattle.nit_slots.specs.Terms.{ceiling};
 ghost use Rattle.nit_slots.specs.Terms.{first_account, most_side, most_views, most_words, room};
 ghost use Rattle.nit_slots.specs.Terms.{table_size, upgraded, view_left, view_need, view_slots};
 
 use crate::need::Need;
-use nit_rect::MOST_UNITS;
+use nit_rect::{MOST_RUN_UNITS, MOST_UNITS};
 use std::marker::Model;
 
 /// The most views that a session has slots for.
@@ -16,13 +17,26 @@ const VIEW_UNITS: u32 = 256;
 /// The cost of a word of the buffer, in units.
 const WORD_UNITS: u32 = 8;
 
+/// What a session of this opening donation never comes over, in units: 8388608, and 268435456 where
+/// the donation is over 8388608 itself.
+fn ceiling(donation: u32) -> u32
+    ensures { result ≡ ceiling donation }
+{
+    if donation <= MOST_RUN_UNITS {
+        MOST_RUN_UNITS
+    } else {
+        MOST_UNITS
+    }
+}
+
 /// The most that a session of this opening donation can ever have, in units: twice the donation, at
-/// most 8388608. A session opens with 256..=8388608 units.
+/// most 8388608, or 268435456 where the donation is over 8388608. A session opens with
+/// 256..=268435456 units.
 pub fn room(donation: u32) -> u32
     requires { IsDonation donation }
     ensures { result ≡ room donation }
 {
-    (2 * donation).min(MOST_UNITS)
+    (2 * donation).min(ceiling(donation))
 }
 
 /// The number of slots that a session of this opening donation gets for its views: one for each 256
@@ -35,7 +49,7 @@ pub fn view_slots(donation: u32) -> u32
 }
 
 /// The number of words that a session of this opening donation can ever pay for, one for each 8
-/// units of its room: 64..=1048576.
+/// units of its room: 64..=33554432.
 pub fn table_size(donation: u32) -> u32
     requires { IsDonation donation }
     ensures size { result ≡ table_size donation }
@@ -72,7 +86,7 @@ impl Model for Account {
 }
 
 impl Account {
-    /// The account of a session that opens with this donation, 256..=8388608 units. Nothing is
+    /// The account of a session that opens with this donation, 256..=268435456 units. Nothing is
     /// used.
     pub fn new(donation: u32) -> Account
         requires { IsDonation donation }

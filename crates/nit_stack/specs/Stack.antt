@@ -167,7 +167,7 @@ IsBufferSize z = (z.w ≤ most_side) × (z.h ≤ most_side)
 abbrev pub IsBar : ℕ → ℕ → Type 0
 IsBar rows height = ((rows ≡ 0) ⊎ (rows ≡ 7)) × (rows < height)
 
--- the screen is 1..=1024 by 1..=768
+-- the screen is 1..=4096 by 1..=4096
 abbrev pub IsScreenSize : ℕ → ℕ → Type 0
 IsScreenSize width height = (1 ≤ width) × (width ≤ most_width) × (1 ≤ height)
     × (height ≤ most_height)

@@ -28,7 +28,8 @@ pub use Rattle.nit_top.specs.Terms.{HasDifferentNames, HasFilmed, HasPixels, Has
 pub use Rattle.nit_top.specs.Terms.{HasValidFiles, HaveOneScreen, HaveSameEvents, Headline}
 pub use Rattle.nit_top.specs.Terms.{HoldsAtEnd, IfNone, IfSome, InputLine, IsAfterNested}
 pub use Rattle.nit_top.specs.Terms.{IsAfterRun, IsAudit, IsAuditEnd, IsAudited, IsBothRead}
-pub use Rattle.nit_top.specs.Terms.{IsCommandRun, IsConfiguration, IsCutShort, IsEarly, IsInnerEnd}
+pub use Rattle.nit_top.specs.Terms.{IsCommandRun, IsRunConfiguration, IsCutShort, IsEarly}
+pub use Rattle.nit_top.specs.Terms.{IsInnerEnd}
 pub use Rattle.nit_top.specs.Terms.{IsInnerJournal, IsJournal, IsJournalFault, IsJournalText}
 pub use Rattle.nit_top.specs.Terms.{IsLastRead, IsLegal, IsMadeBefore, IsMadeInPart, IsMadeUpTo}
 pub use Rattle.nit_top.specs.Terms.{IsNearPicture, IsNotBegun, IsOuter, IsOutside, IsPicture}

@@ -3,7 +3,7 @@ use Rattle.nit_top.proofs.Basics.{AllByRecursion, AllZip, AreAllFiles, AreAllOut
 use Rattle.nit_top.proofs.Basics.{AreAllScripts, AreOutputs, BothFiles, Command, Configuration}
 use Rattle.nit_top.proofs.Basics.{Course, End, Ends, Entry, Fault, File, FirstShows, FitsInputLine}
 use Rattle.nit_top.proofs.Basics.{FitsLine, Gen, HasRun, Headline, IfSome, InputLine, IsAfterRun}
-use Rattle.nit_top.proofs.Basics.{IsConfiguration, IsInnerEnd, IsJournal, IsMadeUpTo, IsRunnable}
+use Rattle.nit_top.proofs.Basics.{IsRunConfiguration, IsInnerEnd, IsJournal, IsMadeUpTo, IsRunnable}
 use Rattle.nit_top.proofs.Basics.{Line, Nested, NoFile, NotBegun, Performed, PerformedNested}
 use Rattle.nit_top.proofs.Basics.{PutAll, PutError, PutFault, PutFiles, PutRefusal, PutState}
 use Rattle.nit_top.proofs.Basics.{PutUntil, PutsAll, ReadsClient, RunFiles, Setup, StoreModel}
@@ -51,7 +51,7 @@ clients_fit (t ∷ texts) (s ∷ scripts) reads = (reads.0.0, clients_fit texts 
 pub generated_runnable : (n : ℕ) → ((c : ℕ) → length (client_script n c) ≡ 1996)
     → ((c : ℕ) → phases (client_script n c) ≡ 3) → length (user_script n) ≡ 205 → input_phases (user_script n) ≡ 3
     → (texts : List (List ℕ)) → AllZip ReadsClient texts (scripts_of n) → AllByRecursion FitsInputLine (user_script n)
-    → {config : Configuration} → config ≡ generated_configuration → IsConfiguration config
+    → {config : Configuration} → config ≡ generated_configuration → IsRunConfiguration config
     → IsRunnable (generated_setup n)
 unfolding generated_configuration
 generated_runnable n lines phases_are input_lines input_phases_are texts reads input_fits is configured =

@@ -5,7 +5,8 @@ use Rattle.std.proofs.Common.{refl, subst, suc, sym, take, true, zero, ℕ, ◌+
 use Rattle.std.proofs.Common.{◌≡◌, ◌≢◌, ◌≤◌, ◌⊎◌}
 use Rattle.nit_top.proofs.Basics.{Apart, AreAdded, AreOutputs, Audit, Begin, BeginOther, Capture}
 use Rattle.nit_top.proofs.Basics.{Clip, Command, Configuration, Entry, File, FrontsLaw, Gen}
-use Rattle.nit_top.proofs.Basics.{HasDifferentNames, IsCommandRun, IsConfiguration, IsInnerJournal}
+use Rattle.nit_top.proofs.Basics.{HasDifferentNames, IsCommandRun, IsRunConfiguration}
+use Rattle.nit_top.proofs.Basics.{IsInnerJournal}
 use Rattle.nit_top.proofs.Basics.{IsJournal, IsNearPicture, IsRunnable, IsSetupOf, Member, Nested}
 use Rattle.nit_top.proofs.Basics.{NoCommand, Numbered, OtherThan, PutError, RunFiles, SayingRefused}
 use Rattle.nit_top.proofs.Basics.{Says, Setup, ShotsLaw, Still, StoreModel, actions_few, all_append}
@@ -85,7 +86,7 @@ more_other added more other c i =
 abbrev no_member : Member
 no_member = record { label = []; donation = 0; script = []; layer = 0; clicks = false }
 
-events_apart : (config : Configuration) → IsConfiguration config → (i j : ℕ) → i < j → j < length config.clients
+events_apart : (config : Configuration) → IsRunConfiguration config → (i j : ℕ) → i < j → j < length config.clients
     → events_name (member config i).label ≢ events_name (member config j).label
 events_apart config is i j before inside same =
     is.labels i j no_member before inside
@@ -93,7 +94,7 @@ events_apart config is i j before inside same =
     (append_cancel_left (codes "events-") ((member config i).label ++ codes ".txt")
     ((member config j).label ++ codes ".txt") same))
 
-module _ (config : Configuration) (is : IsConfiguration config) (journal : List Entry) where
+module _ (config : Configuration) (is : IsRunConfiguration config) (journal : List Entry) where
   later_events : (i first count : ℕ) → i < first → first + count ≤ length config.clients
       → OtherThan (events_name (member config i).label) (map (events_file config journal) (range_with_len first count))
   later_events i first zero before inside = tt

@@ -9,7 +9,7 @@ pub use Rattle.nit_clip.specs.ClipSpelling.{clip_text}
 pub use Rattle.nit_clip.specs.declared.call.ClipEntry.{ClipEntry}
 pub use Rattle.nit_config.specs.Configuration.{Configuration, donation_of, member}
 pub use Rattle.nit_config.specs.Configuration.{still_configuration}
-pub use Rattle.nit_config.specs.ConfigurationRanges.{IsConfiguration}
+pub use Rattle.nit_config.specs.ConfigurationRanges.{IsRunConfiguration}
 pub use Rattle.nit_config.specs.declared.config.Member.{Member}
 pub use Rattle.nit_config.specs.declared.error.ConfigError.{ConfigError}
 pub use Rattle.nit_events.specs.declared.call.Call.{Call}
@@ -44,7 +44,7 @@ pub use Rattle.nit_plan.specs.Calls.{calls_in, calls_to_make, user_actions_from,
 pub use Rattle.nit_plan.specs.ScriptWords.{static, words_left}
 pub use Rattle.nit_plan.specs.SessionLists.{script_in}
 pub use Rattle.nit_rect.specs.Intersection.{HasPixels, LiesIn}
-pub use Rattle.nit_rect.specs.Limits.{most_height, most_width}
+pub use Rattle.nit_rect.specs.Limits.{most_run_height, most_run_width}
 pub use Rattle.nit_rect.specs.Rectangle.{Rectangle, rectangle, spans}
 pub use Rattle.nit_rect.specs.declared.point.Point.{Point}
 pub use Rattle.nit_report.specs.EntrySpelling.{event_spelling}

@@ -13,7 +13,7 @@ pub use Rattle.nit_top.specs.Below.{FirstShows, FitsInputLine, FitsLine, Gen, Ge
 pub use Rattle.nit_top.specs.Below.{HasDifferentNames, HasFilmed, HasPicture, HasPixels, HasRead}
 pub use Rattle.nit_top.specs.Below.{HasRun, HaveOneScreen, HaveSameEvents, Headline, HoldsAtEnd}
 pub use Rattle.nit_top.specs.Below.{HoldsInner, IfNone, IfSome, InputLine, IsAlwaysToldSo}
-pub use Rattle.nit_top.specs.Below.{IsAskedInRange, IsClipList, IsConfiguration, IsInnerJournal}
+pub use Rattle.nit_top.specs.Below.{IsAskedInRange, IsClipList, IsRunConfiguration, IsInnerJournal}
 pub use Rattle.nit_top.specs.Below.{IsJournal, IsJournalFault, IsJournalText, IsLegal}
 pub use Rattle.nit_top.specs.Below.{IsNearPicture, IsOuter, IsPicture, IsRefusedWith, IsRegionWords}
 pub use Rattle.nit_top.specs.Below.{IsRunnable, IsSameClient, IsSetupOf, IsSomeAnd, IsTrue, IsValid}
@@ -43,8 +43,9 @@ pub use Rattle.nit_top.specs.Below.{frames_behind, frames_of, generated, generat
 pub use Rattle.nit_top.specs.Below.{generated_setup, idle_user, index_at, inner_journal_name}
 pub use Rattle.nit_top.specs.Below.{input_phases, is_accepted, is_off_screen, is_shot_line, is_some}
 pub use Rattle.nit_top.specs.Below.{is_too_long, journal_file, journal_text, label_text, last_frame}
-pub use Rattle.nit_top.specs.Below.{lines_of_frames, list_any, member, misfit, most_height}
-pub use Rattle.nit_top.specs.Below.{most_journal_bytes, most_width, name_text, names_in, names_read}
+pub use Rattle.nit_top.specs.Below.{lines_of_frames, list_any, member, misfit, most_run_height}
+pub use Rattle.nit_top.specs.Below.{most_journal_bytes, most_run_width, name_text, names_in}
+pub use Rattle.nit_top.specs.Below.{names_read}
 pub use Rattle.nit_top.specs.Below.{nest_of, nest_script, nested_setup, next_frame, next_name}
 pub use Rattle.nit_top.specs.Below.{number_end, opening_drawing, option_map, output_name, owner_of}
 pub use Rattle.nit_top.specs.Below.{phase_counts, phases, picture, picture_header, picture_name}

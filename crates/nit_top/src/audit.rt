@@ -6,7 +6,7 @@ ghost use Rattle.nit_top.specs.Terms.{setup_of};
 
 use crate::report::finish::{Worked, ended_before_run};
 use nit_audit::{Verdict, audit};
-use nit_config::Config;
+use nit_config::{Config, run_is_configured};
 use nit_events::Entry;
 use nit_run::Scripts;
 use nit_setup::{End, Fault, at_second, read_audit};
@@ -35,6 +35,7 @@ fn audit_end(alloc: Global, config: &Config, scripts: &Scripts, entries: &[Entry
         (setup_of config.now scripts.now.clients.items scripts.now.input true false)
         entries.now result }
 {
+    run_is_configured();
     match audit(alloc, config, &scripts.clients, &scripts.input, entries) {
         Ok(Verdict::Yes) => End::Audited(entries.len() as u32),
         Ok(Verdict::No { entry }) => End::Refused(Fault::NotARun(entry)),

@@ -57,8 +57,8 @@ pub use seat::{Seat, SeatState, Status, View};
 /// A seat of a plan, as long as the server stands.
 #[derive(Clone, Copy, Debug, PartialEq, Eq)]
 pub struct SeatPlan {
-    /// 256..=8388608 units. Whoever sits there may use these, and as many again by
-    /// [`Seat::upgrade`], but never more than 8388608.
+    /// 256..=268435456 units. Whoever sits there may use these, and as many again by
+    /// [`Seat::upgrade`], but never more than 8388608, or 268435456 where they are over 8388608.
     pub donation: u32,
     /// 0..=7; 0 is the front-most.
     pub layer: u32,
@@ -69,9 +69,9 @@ pub struct SeatPlan {
 /// A server that is to be opened.
 #[derive(Clone, Copy, Debug)]
 pub struct Plan<'a> {
-    /// The width of the screen, 1..=1024 pixels.
+    /// The width of the screen, 1..=4096 pixels.
     pub width: u32,
-    /// The height of the screen, 1..=768 pixels.
+    /// The height of the screen, 1..=4096 pixels.
     pub height: u32,
     /// Whether the seven topmost rows are the status bar; then there are at least eight.
     pub bar: bool,

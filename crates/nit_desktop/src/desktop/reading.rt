@@ -151,7 +151,7 @@ impl Desktop {
         self.screen.server().pointer()
     }
 
-    /// The width, 1..=1024, and the height, 1..=768, of the screen, in pixels.
+    /// The width and the height of the screen, each 1..=4096 pixels.
     pub fn size(&self) -> (u32, u32)
         ensures { result ≡ (self.now.state.config.width, self.now.state.config.height) }
     {

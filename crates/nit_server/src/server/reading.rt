@@ -60,7 +60,7 @@ impl Server {
         self.members[sid as usize].status()
     }
 
-    /// The width, 1..=1024, and the height, 1..=768, of the screen, in pixels.
+    /// The width and the height of the screen, each 1..=4096 pixels.
     pub fn size(&self) -> (u32, u32)
         ensures size { result ≡ (self.now.config.width, self.now.config.height) }
         ensures facts { IsServer self.now }

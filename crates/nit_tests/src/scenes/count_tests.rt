@@ -3,7 +3,7 @@
 use crate::checks::{must, same};
 use crate::scenes::glasses::glass;
 use crate::scenes::stage::{TWO, set_up, set_up_drawn};
-use nit_config::read_config;
+use nit_config::{read_config, run_is_configured};
 use nit_events::Call;
 use nit_scene::{Counts, Scene};
 use std::alloc::Global;
@@ -84,6 +84,7 @@ const COVERED: &str = "\
 
 /// The counts of a scene with one client, after it has asked for a third view.
 fn counts_of_one(rt: &impl Abort, alloc: Global) -> Counts {
+    run_is_configured();
     let config = read_config(alloc, ONE.as_bytes()).expect(rt, "a configuration");
     must(rt, ONE, config.clients.len() == 1);
     let mut all = Vec::with_capacity(alloc, 1).expect(rt, "memory for a glass");

@@ -2,7 +2,7 @@
 
 ghost use Rattle.std.specs.Prelude.{◌≡◌, All, IfOk, length, map};
 ghost use Rattle.nit_word.specs.Inks.{IsWord};
-ghost use Rattle.nit_config.specs.ConfigurationRanges.{IsConfiguration};
+ghost use Rattle.nit_config.specs.ConfigurationRanges.{IsRunConfiguration};
 ghost use Rattle.nit_hall.specs.Opening.{AreBlank, IsSetting};
 
 use nit_config::Config;
@@ -14,7 +14,7 @@ use std::alloc::Global;
 
 /// The plan of each client's script.
 pub fn plans_of(alloc: Global, config: &Config, scripts: &[Client]) -> Result<Vec<Plan>, NoMemory>
-    requires configured { IsConfiguration config.now }
+    requires configured { IsRunConfiguration config.now }
     requires each { length scripts.now ≡ length config.now.clients }
     ensures setting { IfOk result (λ v. IsSetting config.now scripts.now v.items) }
     ensures each { IfOk result (λ v. length v.items ≡ length config.now.clients) }
@@ -34,7 +34,7 @@ pub fn buffers_of(
     config: &Config,
     scripts: &[Client],
 ) -> Result<(Vec<PixelBuffer>, Vec<Key>), NoMemory>
-    requires configured { IsConfiguration config.now }
+    requires configured { IsRunConfiguration config.now }
     requires each { length scripts.now ≡ length config.now.clients }
     ensures own { IfOk result
         (λ made. map (λ key. key.stand.buffer) made.1.items ≡ made.0.items) }

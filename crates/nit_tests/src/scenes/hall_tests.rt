@@ -6,7 +6,7 @@ ghost use Rattle.std.specs.Prelude.{◌≡◌, All};
 ghost use Rattle.std.specs.List.{AllZip};
 ghost use Rattle.nit_script.specs.Phases.{phases};
 ghost use Rattle.nit_clip.specs.ClipGrammar.{clip_phases};
-ghost use Rattle.nit_config.specs.ConfigurationRanges.{IsConfiguration};
+ghost use Rattle.nit_config.specs.ConfigurationRanges.{IsRunConfiguration};
 ghost use Rattle.nit_hall.specs.Pass.{Belongs, UserBelongs};
 ghost use Rattle.nit_hall.specs.ClipPass.{ClipBelongs};
 ghost use Rattle.nit_tests.specs.HallOpening.{IsOpenRoom};
@@ -16,7 +16,7 @@ use crate::scenes::acting::{Way, act, act_clips};
 use crate::scenes::actors::{Client, User, clients};
 use crate::scenes::hall_opening::{buffers_of, canvases_of, plans_of};
 use nit_clip::{ClipEntry, ClipReply, ClipScript, clip_text, parse_clip};
-use nit_config::{Config, read_config};
+use nit_config::{Config, read_config, run_is_configured};
 use nit_hall::{ClipOpened, ClipPass, Hall, Name, Opened, Parts, Pass, UserPass, open, open_clips};
 use nit_script::{Client as ClientScript, Input, parse_client, parse_input, phases};
 use std::alloc::Global;
@@ -170,8 +170,9 @@ fn serve_texts<R: Abort + Threads + Wait + Sync>(
     read: &Read,
     wanted: (Way, &[u8]),
 )
-    requires configured { IsConfiguration config.now }
+    requires configured { IsRunConfiguration config.now }
 {
+    run_is_configured();
     let clients = read.scripts.as_slice();
     let clips = read.clips.as_slice();
     must(rt, "scripts", clients.len() == config.clients.len());

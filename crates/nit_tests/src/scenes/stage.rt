@@ -10,7 +10,7 @@ ghost use Rattle.nit_scene.specs.Screen.{IsGlass};
 use crate::checks::{found, must, same};
 use crate::scenes::glasses::glass;
 use crate::words::repeated;
-use nit_config::{Config, read_config};
+use nit_config::{Config, read_config, run_is_configured};
 use nit_events::{Call, Device};
 use nit_scene::{Counts, Scene};
 use nit_script::{take_call, take_device};
@@ -110,6 +110,7 @@ fn two_clients(rt: &impl Abort, alloc: Global, text: &str) -> Config
     ensures config { IsConfiguration result }
     ensures two { length result.clients ≡ 2 }
 {
+    run_is_configured();
     let config = read_config(alloc, text.as_bytes()).expect(rt, "a configuration");
     must(rt, text, config.clients.len() == 2);
     config

@@ -2,7 +2,7 @@
 
 ghost use Rattle.std.specs.Prelude.{◌<◌, ◌≤◌, false, true};
 ghost use Rattle.nit_top.specs.Terms.{Ends, Gen, IsRunnable, Performed, Run, Still, generated};
-ghost use Rattle.nit_top.specs.Terms.{most_height, most_width, number_end, setup_of};
+ghost use Rattle.nit_top.specs.Terms.{most_run_height, most_run_width, number_end, setup_of};
 
 use crate::report::finish::{Worked, ended_before_run, stop_after};
 use nit_actor::Gate;
@@ -27,7 +27,7 @@ pub fn still<S: Store>(
     height: u32,
     script: &str,
 ) -> Worked
-    requires { (0 < width) × (width ≤ most_width) × (0 < height) × (height ≤ most_height) }
+    requires { (0 < width) × (width ≤ most_run_width) × (0 < height) × (height ≤ most_run_height) }
     ensures { Ends (Still width height script.now) (S.shown store.old)
         (S.shown store.new) result }
 {

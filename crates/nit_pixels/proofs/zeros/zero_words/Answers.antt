@@ -1,3 +1,4 @@
+use Rattle.std.proofs.Common.{arith, ◌≤◌}
 use Rattle.nit_pixels.proofs.Lemmas.{ap, take-replicate, ◌∙◌}
 use Rattle.nit_word.specs.Zeros.{zeros}
 use lib.ListN.{take}
@@ -8,4 +9,5 @@ unfolding zeros
 returns c =
     let count = c.table_size-count.result in
     let size = c.table_size-count.ensures in
-    ap (take count) c.all.ensures ∙ take-replicate count 1048576 0 size.range.1 ∙ ap zeros size.size
+    let few : count ≤ 1048576 = omega (arith, size.size) in
+    ap (take count) c.all.ensures ∙ take-replicate count 1048576 0 few ∙ ap zeros size.size

@@ -1,10 +1,13 @@
-use Rattle.nit_screen.proofs.Lemmas.{arith, clean_call, clean_shown, nat_tests, refl}
-use Rattle.nit_screen.proofs.Lemmas.{state_of, unpainted}
+use Rattle.nit_screen.proofs.Lemmas.{clean_call, clean_shown, state_of, unpainted}
 use Rattle.nit_events.specs.declared.entry.Entry.TheVariants as entry
 use Rattle.nit_screen.proofs.screen.Screen.serve_clean.Goals as goal
 
 pub invariant_of-self : goal.invariant_of-self
-invariant_of-self c = grind (arith, nat_tests, clean_shown)
+invariant_of-self c =
+    let can = rw (← c.self.view_is) at c.requires.can in
+    (clean_shown c.self.inside.pixels c.facts.ensures c.facts-2.ensures can c.accept-reply.ensures
+    c.self.invariant c.show_views.new.self c.requires.clean c.show_views.ensures.flat
+    c.show_views.ensures.labelled).pixels
 
 pub returns : goal.returns
 returns c =
