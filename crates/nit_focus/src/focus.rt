@@ -127,6 +127,22 @@ impl Focus {
         self.state.pointer()
     }
 
+    /// The codes that are held, in the order in which they went down.
+    pub fn held(&self) -> &[u16]
+        ensures { result.now ≡ self.now.input.held }
+    {
+        self.state.held()
+    }
+
+    /// The session that gets what is pressed and released while a code is held, below 16; none
+    /// where no session does.
+    pub fn receiver(&self) -> Option<u32>
+        ensures received { result ≡ self.now.input.receiver }
+        ensures known { IfSome result (λ s. s < most_sessions) }
+    {
+        self.state.receiver()
+    }
+
     /// The session that the pointer was last told to, below 16; none where it is over no session.
     pub fn hover(&self) -> Option<u32>
         ensures hovered { result ≡ self.now.input.hover }

@@ -35,6 +35,13 @@ impl Held {
         }
     }
 
+    /// The codes that are held, in the order in which they went down.
+    pub(crate) fn codes(&self) -> &[u16]
+        ensures { result.now ≡ self.now }
+    {
+        self.codes.as_slice()
+    }
+
     /// Whether nothing is held.
     pub(crate) fn is_empty(&self) -> bool
         ensures { IsTrue result ↔ (self.now ≡ []) }

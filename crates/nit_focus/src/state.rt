@@ -94,6 +94,20 @@ impl State {
         self.focus
     }
 
+    /// The codes that are held, in the order in which they went down.
+    pub(crate) fn held(&self) -> &[u16]
+        ensures { result.now ≡ self.now.held }
+    {
+        self.held.codes()
+    }
+
+    /// The session that gets what is pressed and released.
+    pub(crate) fn receiver(&self) -> Option<u32>
+        ensures { result ≡ self.now.receiver }
+    {
+        self.receiver
+    }
+
     /// The pointer's column and row after a device event, on a screen of this size.
     pub(crate) fn place_after(&self, width: u16, height: u16, dev: Device) -> (u16, u16)
         requires { (1 ≤ width) × (1 ≤ height) }

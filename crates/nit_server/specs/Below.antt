@@ -54,6 +54,6 @@ pub use Rattle.nit_stack.specs.ViewNames.{IsNamedBy, MeanSame, name_in, name_of,
 pub use Rattle.nit_stack.specs.ViewNames.{views_of}
 pub use Rattle.nit_stack.specs.declared.view.View.{View}
 pub use Rattle.std.specs.List.{AllByRecursion, AllPairs, list_any}
-pub use Rattle.std.specs.Option.{is_some, option_map_or}
+pub use Rattle.std.specs.Option.{is_some, option_map, option_map_or}
 pub use Rattle.std.specs.Prelude.{IfNone, IsSomeAnd, List, [], int_le, length, map, nat_le, negsuc}
 pub use Rattle.std.specs.Prelude.{pos, replicate, slice_set, sum, ℕ, ℤ}

@@ -20,7 +20,8 @@ pub use Rattle.nit_server.specs.Below.{is_of_session, is_place, is_rectangle, is
 pub use Rattle.nit_server.specs.Below.{is_some, is_taken, is_view, kills, layer, layer_of, list_any}
 pub use Rattle.nit_server.specs.Below.{member, most_sessions, most_side, most_slots, most_views}
 pub use Rattle.nit_server.specs.Below.{most_waiting, moved, moved_above, name_in, name_of, nat_le}
-pub use Rattle.nit_server.specs.Below.{negsuc, no_size, on_view, option_map_or, owner, owner_in}
+pub use Rattle.nit_server.specs.Below.{negsuc, no_size, on_view, option_map, option_map_or, owner}
+pub use Rattle.nit_server.specs.Below.{owner_in, point}
 pub use Rattle.nit_server.specs.Below.{pointer, pointer_after, pos, put_above, put_again, put_back}
 pub use Rattle.nit_server.specs.Below.{put_front, put_own_back, put_own_front, queued, receive}
 pub use Rattle.nit_server.specs.Below.{rectangle, refusal, relabelled, reserved, room, route}

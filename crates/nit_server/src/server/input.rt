@@ -6,7 +6,8 @@ ghost use Rattle.nit_server.specs.Terms.{IsConfiguration, IsDevice, IsForgottenI
 ghost use Rattle.nit_server.specs.Terms.{IsServerInput, MayLose, client_in, deliveries_of};
 ghost use Rattle.nit_server.specs.Terms.{delivery, first_input, is_kill, killed_in, kills};
 ghost use Rattle.nit_server.specs.Terms.{most_sessions, pointed_by, route, routed_as, routing_of};
-ghost use Rattle.nit_server.specs.Terms.{session, with_delivered, with_routed};
+ghost use Rattle.nit_server.specs.Terms.{bar_rows, option_map, owner, point, session, state_of};
+ghost use Rattle.nit_server.specs.Terms.{with_delivered, with_routed};
 ghost use Rattle.nit_events.specs.declared.event.Item.TheVariants as item;
 
 use crate::server::Server;
@@ -20,6 +21,22 @@ impl Server {
         ensures { result ≡ self.now.input.mode }
     {
         self.focus.mode()
+    }
+
+    /// The codes that are held, in the order in which they went down.
+    pub fn held(&self) -> &[u16]
+        ensures { result.now ≡ self.now.input.held }
+    {
+        self.focus.held()
+    }
+
+    /// The session that gets what is pressed and released while a code is held. None where no
+    /// session does.
+    pub fn receiver(&self) -> Option<u32>
+        ensures receiver { result ≡ self.now.input.receiver }
+        ensures known { IfSome result (λ sid. sid < length self.now.sessions) }
+    {
+        self.focus.receiver()
     }
 
     /// The session that has the focus. None where no session has it.
@@ -69,6 +86,14 @@ impl Server {
             Some(v) => Some(self.stack.view(v).sid),
             None => None,
         }
+    }
+
+    /// The session of the view that owns the pixel under the pointer. None where no view does.
+    pub fn under_pointer(&self) -> Option<u32>
+        ensures { let s = state_of self.now in result
+            ≡ option_map (λ v. v.sid) (owner (bar_rows s.config) s.stack (point s.input.x s.input.y)) }
+    {
+        self.pointed(Device::Release(0))
     }
 
     /// The sessions get what is delivered to them, in order. None is locked out.
