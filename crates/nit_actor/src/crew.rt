@@ -144,7 +144,7 @@ fn run_rest<
             crew.unstarted.waiting.push_reserved(pass);
             let own = run_rest(scope, rt, shared, crew, own);
             let Some(pass) = crew.unstarted.waiting.pop() else {
-                return own;
+                unreachable!()
             };
             crew.passes.push_reserved(pass);
             own

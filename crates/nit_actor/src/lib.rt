@@ -22,7 +22,7 @@
 //! [`run_alone`] does the lines of one client, on a room without a lock. The user only ends phases
 //! with it.
 //!
-//! The tests are `scenes/hall_tests` of `nit_tests`, and `gate_tests` of `nit_top_tests`.
+//! The tests are in `nit_tests`: `scenes`, and by whole runs in `nit_top_tests`.
 #![tactic(auto)]
 
 mod actor;

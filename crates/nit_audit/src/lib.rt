@@ -11,7 +11,7 @@
 //! front first, and have no slots. So a mistake of the server's stack or slots does not show in
 //! both. Each session is a [`nit_session::Machine`], which knows neither.
 //!
-//! The tests are in `nit_top_tests`: `audit_tests`, `edit_tests`.
+//! The tests are in `nit_top_tests`.
 #![tactic(auto)]
 
 mod auditing;

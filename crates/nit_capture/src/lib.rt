@@ -12,7 +12,7 @@
 //! So a film has one stream, and a stream no second film. A film of a rectangle tells of the pixels
 //! inside it alone: pictures that agree there have the same stream ([`film_tells_no_more`]).
 //!
-//! The tests are in `nit_tests`: `parts/play_tests`, `parts/stream_tests`.
+//! The tests are in `nit_tests`: `parts`.
 #![tactic(auto)]
 
 mod capture;

@@ -11,8 +11,7 @@
 //! The clipboard is no part of the server's state: a journal has no entry of it. A clip list stands
 //! beside a journal, and each of its entries says how many entries of the journal stand before it.
 //!
-//! The tests are `scenes/hall_tests` of `nit_tests`, and by whole runs `clip_tests` of
-//! `nit_top_tests`.
+//! The tests are in `nit_tests`: `scenes`, and by whole runs in `nit_top_tests`.
 #![tactic(auto)]
 
 mod call;

@@ -27,8 +27,7 @@
 //! `IsRunConfiguration` says in the contracts; a server can be opened with more
 //! (`IsConfiguration`).
 //!
-//! The tests are `scripts/text_tests` of `nit_tests`, and by whole runs `bad_config_tests` of
-//! `nit_top_tests`.
+//! The tests are in `nit_tests`: `scripts`, and by whole runs in `nit_top_tests`.
 #![tactic(auto)]
 
 mod build;

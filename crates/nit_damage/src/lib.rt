@@ -14,7 +14,7 @@
 //! it round each cut as further rectangles. All room is taken by [`Cutter::with_room`]; no other
 //! call takes memory.
 //!
-//! The tests are in `nit_tests`: `parts/damage_tests`.
+//! The tests are in `nit_tests`: `parts`.
 #![tactic(auto)]
 
 mod cutter;

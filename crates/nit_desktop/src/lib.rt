@@ -12,7 +12,7 @@
 //!
 //! All memory is taken by [`Desktop::new`]. A refused call changes nothing.
 //!
-//! The tests are those of a host in `nit_tests`: `scenes/host_tests`.
+//! The tests are in `nit_tests`: `scenes`.
 #![tactic(auto)]
 
 mod desktop;

@@ -15,7 +15,7 @@
 //! All types but [`Queue`] are plain values. A queue keeps the events that wait for a session; it
 //! takes memory once, in [`Queue::new`].
 //!
-//! The tests are in `nit_tests`: `parts/queue_tests`.
+//! The tests are in `nit_tests`: `parts`.
 #![tactic(auto)]
 
 mod call;

@@ -19,7 +19,7 @@
 //!
 //! Codes are at most 767, sessions are below 16, and no call takes memory.
 //!
-//! The tests are those of whole runs in `nit_top_tests`: `input_tests`, `mode_tests`.
+//! The tests are in `nit_top_tests`.
 #![tactic(auto)]
 
 mod focus;

@@ -14,7 +14,7 @@
 //! are the same ([`pictures_tell_texts`]). This holds of all texts of the 41 glyphs, and so of each
 //! text that the server writes ([`texts_have_glyphs`]).
 //!
-//! The tests are in `nit_tests`: `parts/text_tests`.
+//! The tests are in `nit_tests`: `parts`.
 #![tactic(auto)]
 
 mod characters;

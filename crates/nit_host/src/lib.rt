@@ -12,7 +12,7 @@
 //!
 //! All memory is taken at opening. A call that is not served changes nothing.
 //!
-//! The tests are in `nit_tests`: `scenes/host_tests`; those of `embed/tests` run all of it.
+//! The tests are in `nit_tests`: `scenes`; those of `embed/tests` run all of it.
 #![tactic(auto)]
 
 mod host;

@@ -4,8 +4,7 @@
 //! [`refusing`] has the reasons for which a session's machine refuses a call, for every crate that
 //! keeps a session.
 //!
-//! The tests are `scripts/text_tests` of `nit_tests`, and by audits `edit_tests` of
-//! `nit_top_tests`.
+//! The tests are in `nit_tests`: `scripts`, and by audits in `nit_top_tests`.
 #![tactic(auto)]
 
 mod journal;

@@ -10,7 +10,7 @@
 //! Contracts alone know entries, counts and `seen`: neither a book nor a share keeps any of them in
 //! memory. Only [`Book::new`] takes memory, and no call waits for another thread.
 //!
-//! The tests are in `nit_tests`: `parts/ledger_tests`.
+//! The tests are in `nit_tests`: `parts`.
 #![tactic(auto)]
 
 mod book;

@@ -3,7 +3,7 @@
 //! [`look`] brings an old copy of a picture up to date, and tells the least rectangle that has all
 //! pixels at which the two differed.
 //!
-//! The tests are in `nit_tests`: `parts/look_tests`.
+//! The tests are in `nit_tests`: `parts`.
 #![tactic(auto)]
 
 mod edges;

@@ -6,8 +6,7 @@
 //! first line that may not stand in the other script, since it would change the buffer or its
 //! words.
 //!
-//! The tests are `scenes/nest_tests` of `nit_tests`, and by whole runs `nested_tests` of
-//! `nit_top_tests`.
+//! The tests are in `nit_tests`: `scenes`, and by whole runs in `nit_top_tests`.
 #![tactic(auto)]
 
 mod error;

@@ -33,7 +33,7 @@
 //! owner or none, and each piece is painted as such an area. So the stack is searched once for each
 //! piece of a row, and not for each pixel.
 //!
-//! The tests are in `nit_tests`: `parts/overlay_tests`.
+//! The tests are in `nit_tests`: `parts`.
 #![tactic(auto)]
 
 mod area;

@@ -9,7 +9,7 @@
 //! has what follows of it alone: how two parts of a screen that are painted one after the other
 //! make one.
 //!
-//! The tests are in `nit_tests`: `parts/paint_tests`.
+//! The tests are in `nit_tests`: `parts`.
 #![tactic(auto)]
 
 mod block;

@@ -15,7 +15,7 @@
 //! Each load and each store is one atomic step on one word. Only [`PixelBuffer::new`] takes memory,
 //! and no call waits for another thread.
 //!
-//! The tests are in `nit_tests`: `scripts/pixel_tests`.
+//! The tests are in `nit_tests`: `scripts`.
 #![tactic(auto)]
 
 mod buffer;

@@ -8,7 +8,7 @@
 //! [`labels_apart`] says that labels of two views share no pixel, and [`least_place`] that the
 //! place is the least one. Both speak of the definition of a label's place in `nit_stack`.
 //!
-//! The tests are in `nit_tests`: `parts/place_tests`.
+//! The tests are in `nit_tests`: `parts`.
 #![tactic(auto)]
 
 mod laws;

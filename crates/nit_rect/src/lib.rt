@@ -5,7 +5,7 @@
 //! `x <= px < x + w` and `y <= py < y + h`. Rectangles meet, lie in one another and are cut as
 //! these sets.
 //!
-//! The tests are in `nit_tests`: `parts/row_tests`.
+//! The tests are in `nit_tests`: `parts`.
 #![tactic(auto)]
 
 mod limits;

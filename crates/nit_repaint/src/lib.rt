@@ -27,7 +27,7 @@
 //!
 //! Nothing is known here of sessions' rights, of the journal or of input. No call takes memory.
 //!
-//! The tests are those of scenes in `nit_tests`: `scenes/load_tests`.
+//! The tests are in `nit_tests`: `scenes`.
 #![tactic(auto)]
 
 mod buffers;

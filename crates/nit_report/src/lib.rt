@@ -19,7 +19,7 @@
 //! `closed` or `killed`. An item is an event or `kill`. An event is a device's line or `leave`,
 //! `focus-enter` or `focus-leave`.
 //!
-//! The tests are in `nit_tests`: `scripts/text_tests`, `scripts/generated_tests`.
+//! The tests are in `nit_tests`: `scripts`.
 #![tactic(auto)]
 
 mod drawn_lines;

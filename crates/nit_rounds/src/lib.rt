@@ -17,7 +17,7 @@
 //! Nothing here waits. What actors do on threads of their own is in `nit_actor`, whose user puts
 //! its shots by a desk too.
 //!
-//! The tests are in `nit_top_tests`: `round_tests`.
+//! The tests are in `nit_top_tests`.
 #![tactic(auto)]
 
 mod copying;

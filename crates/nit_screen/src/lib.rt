@@ -12,7 +12,7 @@
 //!
 //! All memory is taken by [`Screen::new`]. A refused call changes nothing.
 //!
-//! The tests are those of scenes in `nit_tests`: `scenes/anew_tests`, `scenes/load_tests`.
+//! The tests are in `nit_tests`: `scenes`.
 #![tactic(auto)]
 
 pub mod laws;

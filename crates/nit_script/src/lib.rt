@@ -21,8 +21,7 @@
 //! `motion NAT NAT` with places of at most 65535, `wheel INT` with a turn of -127..=127, `shot` and
 //! `phase`. A line with a number past its bound has no reading.
 //!
-//! The tests are `scripts/print_tests` of `nit_tests`, and by whole runs `refused_tests` of
-//! `nit_top_tests`.
+//! The tests are in `nit_tests`: `scripts`, and by whole runs in `nit_top_tests`.
 #![tactic(auto)]
 
 mod bytes;

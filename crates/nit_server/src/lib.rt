@@ -9,8 +9,7 @@
 //! All memory is taken by [`Server::new`]. What a caller has to know is asked for by
 //! [`Server::refused`]: a call that it names no refusal for is accepted.
 //!
-//! The tests are `scenes/count_tests` of `nit_tests`, and by whole runs `reply_tests` of
-//! `nit_top_tests`.
+//! The tests are in `nit_tests`: `scenes`, and by whole runs in `nit_top_tests`.
 #![tactic(auto)]
 
 mod member;

@@ -9,8 +9,7 @@
 //! free slot of the [`Slots`] that all tables share. A slot is used again, a handle never. Only
 //! [`Slots::new`] and [`Table::new`] take memory.
 //!
-//! The tests are those of plans and scenes in `nit_tests`: `scripts/plan_tests`,
-//! `scenes/count_tests`.
+//! The tests are in `nit_tests`: `scripts`, `scenes`.
 #![tactic(auto)]
 
 mod account;

@@ -17,8 +17,7 @@
 //! [`slots_and_names`] and [`seats_and_views`] say so. A view's place is how many views stand in
 //! front of it ([`Stack::place_of`]).
 //!
-//! The tests are `parts/row_tests` of `nit_tests`, and by whole runs `view_tests` of
-//! `nit_top_tests`.
+//! The tests are in `nit_tests`: `parts`, and by whole runs in `nit_top_tests`.
 #![tactic(auto)]
 
 mod laws;

@@ -8,7 +8,7 @@
 //! [`MemoryStore`] fails at chosen calls, [`NeverFails`] at none, and [`DiskStore`] is the real
 //! files and the standard output.
 //!
-//! The tests are those of stores that fail, in `nit_top_tests`: `failing_tests`.
+//! The tests are in `nit_top_tests`.
 #![tactic(auto)]
 
 mod disk_store;

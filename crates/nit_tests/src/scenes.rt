@@ -8,8 +8,8 @@
 
 mod acting;
 mod actors;
-mod anew_tests;
 mod count_tests;
+mod frame_sources_tests;
 mod frame_tests;
 mod glasses;
 mod hall_opening;

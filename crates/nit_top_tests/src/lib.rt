@@ -19,17 +19,19 @@ mod checks;
 
 // What is refused: words, configurations, scripts and clip scripts; and calls of a store that fail.
 #[cfg(test)]
-mod bad_config_tests;
-#[cfg(test)]
 mod clip_refused_tests;
 #[cfg(test)]
-mod failing_tests;
+mod config_refused_tests;
 #[cfg(test)]
-mod refused_tests;
+mod failing_store_tests;
+#[cfg(test)]
+mod script_refused_tests;
 #[cfg(test)]
 mod usage_tests;
 
 // What each command does, by its name; and in which order lines are done.
+#[cfg(test)]
+mod audit_edited_tests;
 #[cfg(test)]
 mod audit_tests;
 #[cfg(test)]
@@ -37,15 +39,13 @@ mod capture_tests;
 #[cfg(test)]
 mod clip_tests;
 #[cfg(test)]
-mod edit_tests;
-#[cfg(test)]
-mod gate_tests;
-#[cfg(test)]
 mod gen_tests;
 #[cfg(test)]
 mod nested_tests;
 #[cfg(test)]
 mod round_tests;
+#[cfg(test)]
+mod run_gate_tests;
 #[cfg(test)]
 mod run_largest_tests;
 #[cfg(test)]

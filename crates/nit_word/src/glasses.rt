@@ -1,4 +1,5 @@
 //! The words of all sessions, each loaded by its session's number.
+
 ghost use Rattle.std.specs.Prelude.{◌≡◌, ℕ, ◌+◌, ◌^◌, ◌<◌, ◌≤◌, length, map};
 ghost use Rattle.nit_word.specs.Terms.{IsLoadedRow, Sight, glass_in, loads_in_row, seen};
 

@@ -8,7 +8,7 @@
 //! [`dim`] darkens a word, as X-ray mode shows what is not in focus, and [`tint`] reddens it, as
 //! kill mode shows every view. [`dim_row`] and [`tint_row`] do the same to each word of a row.
 //!
-//! The tests are in `nit_tests`: `parts/shade_tests`.
+//! The tests are in `nit_tests`: `parts`.
 #![tactic(auto)]
 
 mod glass;

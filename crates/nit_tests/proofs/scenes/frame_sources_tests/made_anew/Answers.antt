@@ -1,7 +1,7 @@
 use Rattle.std.proofs.Common.{rules, ◌≡◌, ℕ, List, ◌∷◌, [], length, refl, ap, subst}
 use Rattle.std.specs.Prelude.{IfSome, Option}
 use Rattle.nit_tests.proofs.LookLemmas.{look_of_two}
-use Rattle.nit_tests.proofs.scenes.anew_tests.made_anew.Goals as goal
+use Rattle.nit_tests.proofs.scenes.frame_sources_tests.made_anew.Goals as goal
 
 pub frame_into-requires : goal.frame_into-requires
 frame_into-requires g c =
