@@ -233,7 +233,7 @@ left_more h xs i x a b c inside at next both is =
     rw (both, next, take_more xs i x inside, filter_map-append, ← at)
     (least_more (filter_map h (take i xs)) a (h x) is)
 
--- the user behind all clients
+-- the user after all clients
 pub left_in_all : {X : Type 0} (h : X → Option ℕ) (xs : List X) (u : UserPassModel) (i : ℕ) (a b c : Option ℕ)
     → length xs ≤ i → b ≡ user_phase_left u → c ≡ lesser a b
     → IsLeastOf a (filter_map h (take i xs)) → IsLeastOf c (phases_left h xs u)

@@ -5,12 +5,12 @@ use Rattle.nit_actor.specs.Below.{AreShotsOf, Configuration, Entry, File, InputL
 use Rattle.nit_actor.specs.Below.{is_dirtied, slice_index_or}
 use Rattle.nit_actor.specs.Pictures.{IsNearPicture}
 
--- none of these entries, which stand behind this front of a journal, makes the pixel dirty
+-- none of these entries, which stand after this front of a journal, makes the pixel dirty
 abbrev pub StaysClean : Configuration → List Entry → List Entry → ℕ → Type 0
 StaysClean config front between k = (before : List Entry) (e : Entry) (more : List Entry)
     → between ≡ before ++ e ∷ more → is_dirtied config (front ++ before) e k ≡ false
 
--- the bytes are a picture that these entries allow, by the words that are held behind them
+-- the bytes are a picture that these entries allow, by the words that are held after them
 abbrev pub IsHeldPicture : (ℕ → ℕ → ℕ) → Configuration → List (List Line) → List InputLine
     → List Entry → List ℕ → Type 0
 IsHeldPicture held config scripts input entries bytes =

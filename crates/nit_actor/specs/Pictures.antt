@@ -21,7 +21,7 @@ AreNearShots config scripts input journal files =
     AreShotsOf (IsNearPicture config scripts input) journal files
 
 -- so it is by the one of these lists of raw words that has as many in front of it as there are
--- entries: the words behind the next entry, which is the shot
+-- entries: the words after the next entry, which is the shot
 abbrev pub IsPictureAmong : List (List ℕ) → Configuration → List (List Line) → List InputLine
     → List Entry → List ℕ → Type 0
 IsPictureAmong raws config scripts input entries bytes =
@@ -35,7 +35,7 @@ pub record GrowsQuietly (before after' : List Entry) : Type 0 where
   pub quiet : shots more ≡ 0
 
 -- There are further entries now, and the pictures of the shots among them were put, in order, until
--- a put was refused. Each is by the raw words behind its shot.
+-- a put was refused. Each is by the raw words after its shot.
 pub record PutsShotsBehind (parts : OpeningParts) (before after' : List Entry)
     (raws : List (List ℕ)) (old new : PutState) : Type 0 where
   pub more : List Entry

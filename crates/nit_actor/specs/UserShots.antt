@@ -31,7 +31,7 @@ pub record CanTakeTurns {P S : Type 0} (parts : OpeningParts) (IsIn : P → Type
   pub user : CanShoot parts u d
 
 -- The user is in its role, and the pictures of the shots that it came to know were put by the desk,
--- in order, until a put was refused. It knows the raw words behind these shots, and those that it
+-- in order, until a put was refused. It knows the raw words after these shots, and those that it
 -- knew.
 pub record TakesShots {S : Type 0} (shown : S → StoreModel) (parts : OpeningParts)
     (u u' : UserPassModel) (d d' : Desk S) : Type 0 where

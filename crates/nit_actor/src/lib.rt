@@ -15,7 +15,7 @@
 //!
 //! [`run_clips`], [`run_mine_clips`] and [`run_beside_clips`] do the same where each client has a
 //! clip script too. They do a client's clip calls of a phase when its own next line ends the phase,
-//! or behind its last line.
+//! or after its last line.
 //!
 //! # Alone
 //!

@@ -37,7 +37,7 @@ pub fn run_mine<'a, N: Name, G: Gate, S: Store, R: Wait>(
 
 /// Does all lines of these pairs, of their clip scripts and of the user that are left, by turns, as
 /// [`run_mine`] does those of passes and of the user. The clip calls of a phase are done in the
-/// turn in which the pass's own next line ends the phase, or behind its last line; they pass no
+/// turn in which the pass's own next line ends the phase, or after its last line; they pass no
 /// gate. Of each pair the pass and the clip pass are of this opening, of one client and in one
 /// phase, and its two scripts have as many phases; so it is again when all are done.
 #[tactic(auto, using(crate::proofs::Roles::pairs_fit, crate::proofs::Roles::pairs_done))]

@@ -90,7 +90,7 @@ fn run_pair<'a, N: Name, K: Checkpoint, R: Wait>(
 }
 
 /// Does the next line of the pass, which is this one. Where it ends a phase, the clip calls of the
-/// phase are done before it, and the clip script's line `phase` behind it.
+/// phase are done before it, and the clip script's line `phase` after it.
 #[tactic(auto, using(crate::proofs::Roles::line_together))]
 fn do_pair_line<'a, N: Name, K: Checkpoint, R: Wait>(
     rt: &R,
@@ -148,7 +148,7 @@ fn do_phase_clips<'a, N: Name, R: Wait>(
     let _after = (pass.phase(), clip.phase(), clip.done());
 }
 
-/// Does the clip calls that are left behind the last line of the pass.
+/// Does the clip calls that are left after the last line of the pass.
 #[tactic(auto, using(crate::proofs::Roles::clip_done_too))]
 fn do_last_clips<'a, N: Name, R: Wait>(
     rt: &R,

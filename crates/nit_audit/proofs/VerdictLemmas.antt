@@ -61,7 +61,7 @@ front_bad G n e rest none bad = (1, refl, inl (record { within = omega arith; ba
     before zero lt = none
     before (suc i) lt = absurd (omega (arith, lt))
 
--- an entry stands behind the last picture
+-- an entry stands after the last picture
 pub final_behind : (G : List Entry → Type 0) (n : ℕ) (e : Entry) (rest : List Entry) → G [] → G (entry.Final ∷ [])
     → (G (entry.Final ∷ e ∷ []) → ⊥) → IsVerdictFrom G n (entry.Final ∷ e ∷ rest) (verdict.No (n + 2))
 final_behind G n e rest none good bad = (2, refl, inl (record { within = omega arith; bad = bad; before = before }))
@@ -142,7 +142,7 @@ whole config clients user entries g ended =
 
 -- ---- a legal and whole journal is good
 
--- nothing stands behind the last picture of legal entries
+-- nothing stands after the last picture of legal entries
 last_of : (s : State) (taken : ℕ) (front rest : List Entry) → LegalFrom s taken (front ++ entry.Final ∷ rest)
     → rest ≡ []
 last_of s taken [] rest legal = legal

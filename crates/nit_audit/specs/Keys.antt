@@ -65,7 +65,7 @@ pub record IsFirstPlace (f : ℕ → Bool) (keys : List ℕ) (i : ℕ) : Type 0 
   pub place : i ≡ position_or_len f keys
   pub within : i ≤ length keys
 
--- the place behind the last key of this number or a lower one; the first place where none is
+-- the place after the last key of this number or a lower one; the first place where none is
 pub record IsBackPlace (on : ℕ → ℕ) (high : ℕ) (keys : List ℕ) (i : ℕ) : Type 0 where
   pub place : (v : ℕ) → insert keys i v ≡ put_back on high v keys
   pub within : i ≤ length keys

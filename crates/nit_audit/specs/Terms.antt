@@ -31,7 +31,7 @@ pub use Rattle.nit_audit.specs.Keys.{AllHaveViews, HasView, IsBackPlace, IsFirst
 pub use Rattle.nit_audit.specs.Keys.{changed_if, has_key, is_meant, swept, taken_if, view_or}
 pub use Rattle.nit_audit.specs.Keys.{view_under, views_at, with_change}
 pub use Rattle.nit_audit.specs.Underway.{AreInputLines, Audited, BeginsWithCall, BeginsWithAction}
-pub use Rattle.nit_audit.specs.Underway.{IsAtCall, IsAtAction, IsCourseAnswer, IsDue, IsGoodFrom}
+pub use Rattle.nit_audit.specs.Underway.{IsRestAtCall, IsAtAction, IsCourseAnswer, IsDue, IsGoodFrom}
 pub use Rattle.nit_audit.specs.Underway.{IsMatched, IsNext, IsNothingLeft, MayFollow, first_audited}
 pub use Rattle.nit_audit.specs.Underway.{followed}
 pub use Rattle.nit_audit.specs.Verdict.{IsEnded, IsLeastBad, IsVerdict, IsVerdictFrom}

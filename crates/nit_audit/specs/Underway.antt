@@ -26,7 +26,7 @@ abbrev pub first_audited : Configuration → List (List (ℕ × Call)) → List 
 first_audited config clients user =
     record { state = first_state config; taken = 0; clients = clients; user = user; phase = 0 }
 
--- these entries are good behind those so far
+-- these entries are good after those so far
 pub record IsGoodFrom (a : Audited) (entries : List Entry) : Type 0 where
   pub legal : LegalFrom a.state a.taken entries
   pub calls : (sid : ℕ) → sid < length a.clients
@@ -66,7 +66,7 @@ IsDue a (entry.Input dev routed) = IsNext a.phase (Does dev) a.user
 IsDue a (entry.Shot number) = IsNext a.phase Shoots a.user
 IsDue a entry.Final = IsNothingLeft a.clients a.user
 
--- the entry is good behind those so far
+-- the entry is good after those so far
 pub record MayFollow (a : Audited) (e : Entry) : Type 0 where
   pub due : IsDue a e
   pub agrees : Agrees a.state a.taken e
@@ -105,7 +105,7 @@ BeginsWithAction (input.Phase ∷ rest) = ⊥
 BeginsWithAction (other ∷ rest) = Unit {0}
 
 -- the rest of a client's lines, from its next call on, and the phase that it is in
-pub record IsAtCall (phase : ℕ) (lines : List Line) (at : ℕ) (rest : List Line) : Type 0 where
+pub record IsRestAtCall (phase : ℕ) (lines : List Line) (at : ℕ) (rest : List Line) : Type 0 where
   pub calls : calls_from at rest ≡ calls_from phase lines
   pub begins : BeginsWithCall rest
   pub few : at + length rest ≤ most_lines

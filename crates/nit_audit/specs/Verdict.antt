@@ -14,7 +14,7 @@ pub record IsLeastBad (Good : List Entry → Type 0) (entries : List Entry) (k :
   pub bad : Good (take k entries) → ⊥
   pub before : (j : ℕ) → j < k → Good (take j entries)
 
--- all are good, the last picture is not there, and k is the place behind them
+-- all are good, the last picture is not there, and k is the place after them
 pub record IsUnended (Good : List Entry → Type 0) (entries : List Entry) (k : ℕ) : Type 0 where
   pub behind : k ≡ length entries + 1
   pub good : Good entries
@@ -25,7 +25,7 @@ abbrev pub IsVerdict : (List Entry → Type 0) → List Entry → Verdict → Ty
 IsVerdict Good entries verdict.Yes = Good entries × IsEnded entries
 IsVerdict Good entries (verdict.No k) = IsLeastBad Good entries k ⊎ IsUnended Good entries k
 
--- the verdict on entries that stand behind n others
+-- the verdict on entries that stand after n others
 abbrev pub IsVerdictFrom : (List Entry → Type 0) → ℕ → List Entry → Verdict → Type 0
 IsVerdictFrom Good n entries verdict.Yes = Good entries × IsEnded entries
 IsVerdictFrom Good n entries (verdict.No k) =

@@ -26,7 +26,7 @@ pub enum Verdict {
     /// They are good, and the last one is the last picture.
     Yes,
     /// The first entry, counted from 1, with which they are not good. Where they are good and the
-    /// last picture is lacking, it is the place behind them.
+    /// last picture is lacking, it is the place after them.
     No { entry: u32 },
 }
 

@@ -1,7 +1,7 @@
 //! What a client's script has still to do.
 
 ghost use Rattle.std.specs.Prelude.{◌≡◌, ◌↔◌, ◌+◌, ◌≤◌, [], IsTrue, length};
-ghost use Rattle.nit_audit.specs.Terms.{IsAtCall, IsCourseAnswer, calls_to_make, most_lines};
+ghost use Rattle.nit_audit.specs.Terms.{IsRestAtCall, IsCourseAnswer, calls_to_make, most_lines};
 
 use crate::same::Same;
 use nit_events::Call;
@@ -70,7 +70,7 @@ impl<'a> ClientCourse<'a> {
 /// it are passed by.
 fn next_call(lines: &[Line], phase: u32) -> (u32, &[Line])
     requires { phase + length lines.now ≤ most_lines }
-    ensures { IsAtCall phase lines.now result.0 result.1.now }
+    ensures { IsRestAtCall phase lines.now result.0 result.1.now }
 {
     let mut rest = lines;
     let mut at = phase;

@@ -5,7 +5,7 @@
 //! lines never fall, and the last picture comes only when all is done. [`audit`] answers
 //! [`Verdict::Yes`] exactly where the entries are good and the last one is the last picture.
 //! Otherwise it names the first entry with which they are not good, counted from 1, or the place
-//! behind them where only the last picture is lacking.
+//! after them where only the last picture is lacking.
 //!
 //! The audit is independent of the server's stack and slots: the views stand in a plain list here,
 //! front first, and have no slots. So a mistake of the server's stack or slots does not show in

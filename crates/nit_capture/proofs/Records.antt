@@ -64,7 +64,7 @@ tile_text : (w h t : ℕ) (p : List ℕ) → tile_bytes w h p t ≡ two_bytes t 
 unfolding tile_bytes
 tile_text w h t p = refl
 
--- the tiles behind tile t do not see what was read into it
+-- the tiles after tile t do not see what was read into it
 later_changed : (w h t count : ℕ) (frame q p : List ℕ) → 1 ≤ w → t + suc count ≡ tile_count w h
     → IsButFor w h t 0 frame q → rest_changed w h (t + 1) count frame p ≡ rest_changed w h (t + 1) count q p
 later_changed w h t count frame q p some sum others =
@@ -202,7 +202,7 @@ pub tiles_few : (w h : ℕ) → IsPictureSize w h → tile_count w h ≤ 3072
 unfolding tile_count tiles_along
 tiles_few w h s = mul-le ((w + 15) / 16) ((h + 15) / 16) 64 48 (omega (arith, s.columns)) (omega (arith, s.rows))
 
--- what is appended behind a first part
+-- what is appended after a first part
 pub appends_behind : {T E : Type 0} (r : Result T E) (start front middle more whole now : List ℕ)
     → Appends r middle more now → middle ≡ start ++ front → whole ≡ front ++ more → Appends r start whole now
 appends_behind (Ok x) start front middle more whole now a m e = rw (a, m, e) (append_assoc start front more)
@@ -279,7 +279,7 @@ pub next_pixel : (w t n k more word : ℕ) (new : Bool) (frame bytes : List ℕ)
 unfolding pixels_at
 next_pixel w t n k more word new frame bytes lt = grind (arith, nat_tests)
 
--- what is read behind the last pixel
+-- what is read after the last pixel
 pub last_pixel : (w t n k more word : ℕ) (new : Bool) (frame bytes : List ℕ) → n ≤ k
     → pixels_at w t (n - k) k more word new frame bytes ≡ cond (more == 0) (cond new (Some (frame, bytes)) None) None
 unfolding pixels_at
@@ -292,7 +292,7 @@ pub next_tile : (w h n t left : ℕ) (frame bytes : List ℕ) → t < n
 unfolding tiles_at
 next_tile w h n t left frame bytes lt = grind (arith, nat_tests)
 
--- what is read behind the last tile
+-- what is read after the last tile
 pub last_tile : (w h n t left : ℕ) (frame bytes : List ℕ) → n ≤ t
     → tiles_at w h (n - t) t left frame bytes ≡ cond (left == 0) (Some (frame, bytes)) None
 unfolding tiles_at

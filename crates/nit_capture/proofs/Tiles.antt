@@ -175,7 +175,7 @@ same_picture w h a b some size_a size_b same = ext_get_or 0 a b (cc) (λ i below
 
 -- ---- pixels that stand side by side in a row
 
--- a part that ends so far behind its start is so long
+-- a part that ends so far after its start is so long
 pub span_is : (at wide : ℕ) → at + wide - at ≡ wide
 span_is at wide = omega arith
 
@@ -255,7 +255,7 @@ place_small w h s = mul-le w h 1024 768 s.columns s.rows
 
 -- ---- a row that was copied
 
--- A row was written behind the rows before it.
+-- A row was written after the rows before it.
 pub row_put : (f g : ℕ → ℕ) (row wide k : ℕ) (words part : List ℕ) → row * wide + wide ≤ length words
     → take (row * wide) words ≡ map f (range_with_len 0 (row * wide))
     → part ≡ map g (range_with_len 0 wide) → ((j : ℕ) → j < wide → f (row * wide + j) ≡ g j)
@@ -274,7 +274,7 @@ pub picture_set : (w h : ℕ) (frame : List ℕ) (at word : ℕ) → IsPicture w
 picture_set w h frame at word p fits =
     record { size = length-set _ _ _ ∙ p.size; words = All-set IsWord frame at word fits p.words }
 
--- every word that a picture has, and 0 behind its end
+-- every word that a picture has, and 0 after its end
 pub words_fit : (p : List ℕ) → All IsWord p → (i : ℕ) → slice_index p i < 2 ^ 24
 words_fit p all i = grind (arith, nat_tests, get_or_past)
 

@@ -32,7 +32,7 @@ pub runs_one : (word : ℕ) → runs (word ∷ []) ≡ (0, word) ∷ []
 unfolding runs joined
 runs_one word = refl
 
--- how many of the first words are this one, and those behind them
+-- how many of the first words are this one, and those after them
 abbrev pub front : ℕ → List ℕ → ℕ
 front word words = prefix_len (λ x. x == word) words
 
@@ -142,7 +142,7 @@ pub others_stay : (w h t : ℕ) (frame p : List ℕ) → 1 ≤ w → t < tile_co
     → (u : ℕ) → u < tile_count w h → (u ≡ t → ⊥) → SameTile w h u frame p
 others_stay w h t frame p some below_t b u below_u ne k below = grind (arith, nat_tests, same_place)
 
--- Pixel k of a tile was set to x, and then the pixels behind it.
+-- Pixel k of a tile was set to x, and then the pixels after it.
 record IsSet (w h t k left x : ℕ) (frame : List ℕ) : Type 0 where
   here : Frame w h (slice_set frame (place w t k) x)
   mine : (p : List ℕ) → IsButFor w h t (k + 1) (slice_set frame (place w t k) x) p → slice_index p (place w t k) ≡ x

@@ -36,7 +36,7 @@ cropped c frame = crop c.width c.rect frame
 abbrev pub cropped_bytes : CaptureModel → List ℕ → List ℕ
 cropped_bytes c bytes = crop_bytes c.width c.height c.rect bytes
 
--- the record of what was taken, behind the last picture
+-- the record of what was taken, after the last picture
 abbrev pub next_record : CaptureModel → List ℕ → List ℕ
 next_record c now = record_of c.rect.w c.rect.h c.before now
 

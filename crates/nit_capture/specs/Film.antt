@@ -35,13 +35,13 @@ tile_bytes w h picture t = two_bytes t ++ flat_map run_bytes (runs (tile w h pic
 abbrev pub changed_tiles : ℕ → ℕ → List ℕ → List ℕ → List ℕ
 changed_tiles w h before now = filter (differs w h before now) (range_with_len 0 (tile_count w h))
 
--- the record of a picture behind another one: 1, how many tiles differ, and these tiles
+-- the record of a picture after another one: 1, how many tiles differ, and these tiles
 unfoldable pub record_of : ℕ → ℕ → List ℕ → List ℕ → List ℕ
 record_of w h before now =
     1 ∷ two_bytes (length (changed_tiles w h before now))
     ++ flat_map (tile_bytes w h now) (changed_tiles w h before now)
 
--- the records of pictures, each behind the one before it
+-- the records of pictures, each after the one before it
 abbrev pub records : ℕ → ℕ → List ℕ → List (List ℕ) → List ℕ
 records w h before [] = []
 records w h before (now ∷ more) = record_of w h before now ++ records w h now more
@@ -61,7 +61,7 @@ pub record HasHeader (bytes : List ℕ) (w h : ℕ) (rest : List ℕ) : Type 0 w
   pub bytes_are : bytes ≡ film_header w h ++ rest
   pub size : IsPictureSize w h
 
--- bytes begin with the record of picture `now` behind `before`, and the rest follows
+-- bytes begin with the record of picture `now` after `before`, and the rest follows
 pub record HasRecord (w h : ℕ) (before bytes now rest : List ℕ) : Type 0 where
   pub bytes_are : bytes ≡ record_of w h before now ++ rest
   pub picture : IsPicture w h now

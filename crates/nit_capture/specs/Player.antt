@@ -12,7 +12,7 @@ pub record PlayerModel : Type 0 where
 abbrev pub BeginsFilm : List ℕ → PlayerModel → Type 0
 BeginsFilm bytes p = HasHeader bytes p.width p.height p.rest
 
--- what is still to be played begins with the record of picture `now` behind `before`, and the rest
+-- what is still to be played begins with the record of picture `now` after `before`, and the rest
 -- follows
 abbrev pub GoesOn : PlayerModel → List ℕ → List ℕ → List ℕ → Type 0
 GoesOn p before now rest = HasRecord p.width p.height before p.rest now rest

@@ -28,7 +28,7 @@ pixels_at w t (suc left) k more word new frame bytes =
     (new || not (slice_index frame (place w t k) == x.0))
     (slice_set frame (place w t k) x.0) x.1.1)
 
--- the picture and the rest behind the runs of tile t
+-- the picture and the rest after the runs of tile t
 abbrev pub tile_at : ℕ → ℕ → ℕ → List ℕ → List ℕ → Option (List ℕ × List ℕ)
 tile_at w h t frame bytes = pixels_at w t (area w h t) 0 0 no_word false frame bytes
 
@@ -59,7 +59,7 @@ tiles_at w h zero t (suc left) frame bytes = None
 tiles_at w h (suc count) t left frame bytes =
     turn_at w h t left frame bytes >>= (λ x. tiles_at w h count (t + 1) x.1.0 x.0 x.1.1)
 
--- the picture and the rest behind a record
+-- the picture and the rest after a record
 abbrev pub record_at : ℕ → ℕ → List ℕ → List ℕ → Option (List ℕ × List ℕ)
 record_at w h frame (one ∷ low ∷ high ∷ rest) =
     if one == 1 then tiles_at w h (tile_count w h) 0 (low + high * 256) frame rest else None

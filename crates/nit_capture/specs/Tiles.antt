@@ -8,7 +8,7 @@ pub record IsPicture (w h : ℕ) (picture : List ℕ) : Type 0 where
   pub size : length picture ≡ w * h
   pub words : All IsWord picture
 
--- two pictures of one size, the second behind the first
+-- two pictures of one size, the second after the first
 pub record ArePictures (w h : ℕ) (first next : List ℕ) : Type 0 where
   pub before : IsPicture w h first
   pub now : IsPicture w h next

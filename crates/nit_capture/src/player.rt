@@ -79,7 +79,7 @@ impl<'a> Player<'a> {
     /// Plays the next picture into the frame. The frame has a word below 2^24 for each pixel, by
     /// rows. It has the picture before, and is black (all 0) at first.
     ///
-    /// `Frame` comes exactly where the bytes that are left begin with a record behind that picture;
+    /// `Frame` comes exactly where the bytes that are left begin with a record after that picture;
     /// then the record's picture is in the frame. `End` comes exactly where the one byte 0 is left,
     /// and then comes again. In all other cases `Bad` comes, and from then on: the frame may then
     /// have a part of a picture.

@@ -23,7 +23,7 @@ pub fn write_runs(words: &[u32], bytes: &mut [u8]) -> usize
     end
 }
 
-/// How many pixels behind the first one have its word, before the first that has another.
+/// How many pixels after the first one have its word, before the first that has another.
 fn more_of(words: &[u32]) -> usize
     requires { 0 < length words.now }
     ensures value { result ≡ prefix_len (λ x. x == slice_index words.now 0) (drop 1 words.now) }

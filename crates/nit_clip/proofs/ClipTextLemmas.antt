@@ -45,7 +45,7 @@ text_lacks t fits = printable_lack t (and_parts _ _ fits).1
 
 -- ---- a line
 
--- what stands behind the numbers
+-- what stands after the numbers
 abbrev behind : ClipReply → ClipCall → List ℕ
 behind r c = clip_reply_spelling r ++ (codes " < " ++ clip_call_spelling c)
 

@@ -12,7 +12,7 @@ ReadsClip = Reads FitsClipLine clip_line_spelling
 abbrev pub IsFirstBadClip : List ℕ → ℕ → Type 0
 IsFirstBadClip = IsFirstBad FitsClipLine clip_line_spelling
 
--- Bytes stand behind 65,536 lines with a reading.
+-- Bytes stand after 65,536 lines with a reading.
 abbrev pub IsTooLongClip : List ℕ → Type 0
 IsTooLongClip = IsTooLong FitsClipLine clip_line_spelling
 

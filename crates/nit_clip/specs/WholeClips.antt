@@ -37,7 +37,7 @@ clip_calls_of s (e ∷ rest) =
 abbrev pub calls_up_to : ℕ → List (ℕ × Call) → List (ℕ × Call)
 calls_up_to phase calls = filter (λ t. nat_le t.0 phase) calls
 
--- A clip call of this phase stands behind all calls that its client makes in the phases up to this
+-- A clip call of this phase stands after all calls that its client makes in the phases up to this
 -- one, and before every entry of a later phase.
 pub record IsInPhase (clients : List (List (ℕ × Call))) (user : List (ℕ × UserAction))
     (journal : List Entry) (phase : ℕ) (e : ClipEntry) : Type 0 where
@@ -57,7 +57,7 @@ AreInPhases clients user journal scripts (e ∷ rest) =
     IsInPhase clients user journal (next_phase (clips_to_do scripts e.sid)) e
     × AreInPhases clients user journal (one_clip_done scripts e.sid) rest
 
--- what each client is still to do with the clipboard behind these entries
+-- what each client is still to do with the clipboard after these entries
 abbrev pub left_after :
     List (List (ℕ × ClipCall)) → List ClipEntry → List (List (ℕ × ClipCall))
 left_after scripts [] = scripts

@@ -72,7 +72,7 @@ pub fn one_more_entry()
         → IsLegalClips config journal clips → IsLegalClips config (journal ++ e ∷ []) clips }
 {}
 
-/// One more clip call, behind all entries of a journal whose last picture was not taken yet: its
+/// One more clip call, after all entries of a journal whose last picture was not taken yet: its
 /// place is not below that of the last one, and the list stays legal where the call is one of a
 /// session, has the focus of the journal's state, and the answer by that.
 pub fn one_more_clip()
@@ -119,7 +119,7 @@ pub fn one_more_placed()
         → AreInPhases clients user journal scripts (clips ++ c ∷ []) }
 {}
 
-/// What a client is still to do with the clipboard stands behind as many clip calls as it has made.
+/// What a client is still to do with the clipboard stands after as many clip calls as it has made.
 pub fn left_to_do()
     ensures { (scripts : List (List (ℕ × ClipCall))) (clips : List ClipEntry) (sid : ℕ)
         → clips_to_do (left_after scripts clips) sid

@@ -5,7 +5,7 @@ use Rattle.nit_events.proofs.Basics.{first_input, nat_lt, pointer_after, routing
 use Rattle.nit_events.specs.declared.event.Event.TheVariants as event
 use Rattle.nit_events.specs.declared.event.Item.TheVariants as item
 
--- a screen of 8 by 4: session 0 owns the columns 0 to 3, and session 1 those behind
+-- a screen of 8 by 4: session 0 owns the columns 0 to 3, and session 1 those after
 abbrev pointed : InputState → Option ℕ
 pointed i = if nat_lt i.x 4 then Some 0 else Some 1
 

@@ -17,11 +17,11 @@ most_text = 40
 abbrev pub is_text : List ℕ → Bool
 is_text bytes = nat_le (length bytes) most_text && list_all is_printable bytes
 
--- bytes, and behind them as many that are 0 as a text has room for
+-- bytes, and after them as many that are 0 as a text has room for
 abbrev pub with_zeros : List ℕ → List ℕ
 with_zeros bytes = bytes ++ replicate (most_text - length bytes) 0
 
--- behind its first `len` bytes, an array of 40 is filled with 0
+-- after its first `len` bytes, an array of 40 is filled with 0
 pub record HasZerosBehind (bytes : List ℕ) (len : ℕ) : Type 0 where
   pub fits : len ≤ length bytes
   pub zeros : drop len bytes ≡ replicate (most_text - len) 0

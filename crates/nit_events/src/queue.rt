@@ -39,7 +39,7 @@ impl Queue {
         Ok(Queue { events })
     }
 
-    /// Puts the event behind all others. False exactly where 64 wait already; the queue is then
+    /// Puts the event after all others. False exactly where 64 wait already; the queue is then
     /// unchanged.
     pub fn offer(&mut self, e: Event) -> bool
         ensures room { IsTrue result ↔ (length self.old < most_waiting) }

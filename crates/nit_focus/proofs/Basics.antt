@@ -3,7 +3,7 @@ pub use Rattle.arrayvec.proofs.ArrayVecLemmas.{filter-from_retain}
 pub use Rattle.nit_events.proofs.ForCallers.{either}
 pub use Rattle.nit_focus.specs.Terms.{All, AllByRecursion, AllOfInput, Delivery, Device, Event}
 pub use Rattle.nit_focus.specs.Terms.{Flat, FocusModel, HasForgotten, IfSome, InputState, IsDevice}
-pub use Rattle.nit_focus.specs.Terms.{IsFocus, IsForgottenIfKilled, IsHeld, IsItem, IsWithinReach}
+pub use Rattle.nit_focus.specs.Terms.{IsFocus, IsForgottenIfKilled, AreHeldCodes, IsItem, IsWithinReach}
 pub use Rattle.nit_focus.specs.Terms.{Item, Kill, Mode, Routing, Xray, clicks_on_list}
 pub use Rattle.nit_focus.specs.Terms.{deliveries_of, eqb, list_any, nat_eq_equiv, outcome}
 pub use Rattle.nit_focus.specs.Terms.{pointer_after, routing_at, with_pointer}

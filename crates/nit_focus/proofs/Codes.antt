@@ -3,7 +3,7 @@ use Rattle.std.proofs.Common.{Bool, List, [], arith, false, filter, length, refl
 use Rattle.std.proofs.Common.{◌<◌, ◌==◌, ◌∙◌, ◌∷◌, ◌≡◌, ◌≤◌, if◌then◌else◌}
 use Rattle.nit_focus.proofs.Basics.{All-contains, All-filter, All-from_recursion, All-nil, All-push}
 use Rattle.nit_focus.proofs.Basics.{AllByRecursion, Contains-from_any, IsDistinct-cons}
-use Rattle.nit_focus.proofs.Basics.{IsDistinct-head, IsDistinct-push, IsDistinct-tail, IsHeld, eqb}
+use Rattle.nit_focus.proofs.Basics.{IsDistinct-head, IsDistinct-push, IsDistinct-tail, AreHeldCodes, eqb}
 use Rattle.nit_focus.proofs.Basics.{eqb-true, length-le_from_distinct_below, length_push, list_any}
 use Rattle.nit_focus.proofs.Basics.{nat_eq_equiv, recursion_from_All}
 use Rattle.std.specs.List.{IsDistinct}
@@ -14,7 +14,7 @@ from_either_side [] k = refl
 from_either_side (j ∷ codes) k = rw (nat_eq_equiv.symm k j, from_either_side codes k) refl
 
 -- there are no more held codes than codes
-few_held : (codes : List ℕ) → IsHeld codes → length codes ≤ 768
+few_held : (codes : List ℕ) → AreHeldCodes codes → length codes ≤ 768
 few_held codes h =
     length-le_from_distinct_below codes 768 h.different (λ q found.
     let known : q ≤ 767 = All-contains (λ k. k ≤ 767) codes q h.known
@@ -22,15 +22,15 @@ few_held codes h =
     omega arith)
 
 -- a code goes down that was not held
-pub held_more : (codes : List ℕ) (k : ℕ) → IsHeld codes → k ≤ 767 → list_any (λ j. j == k) codes ≡ false
-    → IsHeld (codes ++ k ∷ [])
+pub held_more : (codes : List ℕ) (k : ℕ) → AreHeldCodes codes → k ≤ 767 → list_any (λ j. j == k) codes ≡ false
+    → AreHeldCodes (codes ++ k ∷ [])
 held_more codes k h known up = record {
   known = All-push (λ j. j ≤ 767) codes k h.known known;
   different = IsDistinct-push nat_eq_equiv codes k h.different (from_either_side codes k ∙ up);
 }
 
 -- so there is room for it
-pub held_room : (codes : List ℕ) (k : ℕ) → IsHeld codes → k ≤ 767 → list_any (λ j. j == k) codes ≡ false
+pub held_room : (codes : List ℕ) (k : ℕ) → AreHeldCodes codes → k ≤ 767 → list_any (λ j. j == k) codes ≡ false
     → length codes < 768
 held_room codes k h known up =
     omega (arith, few_held (codes ++ k ∷ []) (held_more codes k h known up), length_push codes k)
@@ -49,13 +49,13 @@ different_filter test (k ∷ codes) d =
     ]
 
 -- codes go up
-pub held_less : (test : ℕ → Bool) (codes : List ℕ) → IsHeld codes → IsHeld (filter test codes)
+pub held_less : (test : ℕ → Bool) (codes : List ℕ) → AreHeldCodes codes → AreHeldCodes (filter test codes)
 held_less test codes h = record {
   known = All-filter test (λ j. j ≤ 767) codes h.known;
   different = different_filter test codes h.different;
 }
 
 -- nothing is held
-pub held_none : (codes : List ℕ) → codes ≡ [] → IsHeld codes
+pub held_none : (codes : List ℕ) → codes ≡ [] → AreHeldCodes codes
 unfolding IsDistinct
 held_none codes e = rw e (record { known = All-nil (λ j. j ≤ 767); different = tt })

@@ -6,6 +6,6 @@ pub use Rattle.nit_focus.specs.Below.{most_sessions, most_width, nat_eq_equiv, p
 pub use Rattle.nit_focus.specs.Below.{routed_as, to}
 pub use Rattle.nit_focus.specs.Focus.{AllOfInput, FocusModel, IsFocus, clicks_on_list, first_focus}
 pub use Rattle.nit_focus.specs.Focus.{pointer, routing_at, with_pointer}
-pub use Rattle.nit_focus.specs.Held.{IsHeld}
+pub use Rattle.nit_focus.specs.Held.{AreHeldCodes}
 pub use Rattle.nit_focus.specs.Outcome.{outcome}
 pub use Rattle.nit_focus.specs.Reach.{HasForgotten, IsForgottenIfKilled, IsItem, IsWithinReach}

@@ -16,13 +16,13 @@ pub(crate) struct Held {
 
 impl Model for Held {
     ghost use Rattle.std.specs.Prelude.{ℕ, List};
-    ghost use Rattle.nit_focus.specs.Held.{IsHeld};
+    ghost use Rattle.nit_focus.specs.Held.{AreHeldCodes};
 
     ghost Value = { List ℕ };
 
     ghost view = { λ h. h.codes.items };
 
-    ghost invariant = { λ h. IsHeld h.codes.items };
+    ghost invariant = { λ h. AreHeldCodes h.codes.items };
 }
 
 impl Held {

@@ -60,7 +60,7 @@ impl Told {
         }
     }
 
-    /// A delivery behind all others.
+    /// A delivery after all others.
     pub(crate) fn add(&mut self, delivery: Delivery)
         requires { length self.old ≤ 2 }
         ensures told { self.new ≡ self.old ++ delivery ∷ [] }

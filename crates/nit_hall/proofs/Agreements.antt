@@ -50,7 +50,7 @@ can_agree {r = r} {p = p} spare room of is buffers =
       spare_fits = (is.spare_owner, rw (room.config, ← of.donation) (is.spare_size ∙ is.painted.size));
     }
 
--- and behind a call, in which the two agreed on these stages
+-- and after a call, in which the two agreed on these stages
 pub can_agree_again : {scene called : SceneModel End} {sid : ℕ} {canvas canvas' spare : End} (stages : List (List ℕ))
     → CanAgree scene sid canvas spare → called.config ≡ scene.config
     → map (λ (e : End). e.stand) called.glasses ≡ map (λ (e : End). e.stand) (with_end_stages sid stages scene.glasses)

@@ -8,7 +8,7 @@ pub use Rattle.nit_hall.specs.Terms.{ClipModel, ClipPassModel, ClipReply, Colour
 pub use Rattle.nit_hall.specs.Terms.{Device, End, Entry, EntryLaws, FitsDevice, Follows}
 pub use Rattle.nit_hall.specs.Terms.{FollowsClips, HasActed, HasLoaded, HasMet, HasStretch}
 pub use Rattle.nit_hall.specs.Terms.{HaveInks, InputLine, IsAdded, IsAmong, IsAtClip, IsAtPhaseEnd}
-pub use Rattle.nit_hall.specs.Terms.{IsClipPass, IsDevice, IsDoneClip, IsDonePass, IsFirst}
+pub use Rattle.nit_hall.specs.Terms.{IsClipPass, IsDevice, IsDoneClip, IsDonePass, IsFirstPass}
 pub use Rattle.nit_hall.specs.Terms.{IsHistory, IsInPhase, IsKnownPass, IsLastDirtied, IsLegal}
 pub use Rattle.nit_hall.specs.Terms.{IsLegalClips, IsLoaded, IsNearBy, IsNonDecreasing, IsOpen}
 pub use Rattle.nit_hall.specs.Terms.{IsPaintedTo, IsPass, IsRoom, IsServedPhase, IsThere}

@@ -29,12 +29,12 @@ without-append (other ∷ es) fs = ap (λ gs. other ∷ gs) (without-append es f
 
 -- ---- entries of a list
 
--- one entry of a list stands behind another
+-- one entry of a list stands after another
 abbrev Behind : List Entry → Entry → List Entry → List Entry → Entry → List Entry → Type 0
 Behind front e rest other_front other other_rest =
     (between : List Entry) × (rest ≡ between ++ other ∷ other_rest) × (other_front ≡ front ++ e ∷ between)
 
--- how two entries of one list stand to each other: they are one, or the other one is behind it, or before it
+-- how two entries of one list stand to each other: they are one, or the other one is after it, or before it
 abbrev Places : List Entry → Entry → List Entry → List Entry → Entry → List Entry → Type 0
 Places front e rest other_front other other_rest = ((front ≡ other_front) × (e ≡ other) × (rest ≡ other_rest))
     ⊎ (Behind front e rest other_front other other_rest ⊎ Behind other_front other other_rest front e rest)
@@ -46,7 +46,7 @@ places [] e rest (y ∷ ys) other other_rest h = grind arith
 places (x ∷ xs) e rest [] other other_rest h = grind arith
 places (x ∷ xs) e rest (y ∷ ys) other other_rest h = grind (arith, places xs e rest ys other other_rest)
 
--- nothing stands behind the last entry
+-- nothing stands after the last entry
 pub none_behind : (front : List Entry) (e : Entry) (rest : List Entry) → [] ≡ front ++ e ∷ rest → ⊥
 none_behind [] e rest h = cc
 none_behind (x ∷ xs) e rest h = cc
@@ -64,7 +64,7 @@ not_both b is not = cc
 
 module _ (config : Configuration) (journal : List Entry) (e : Entry) (k : ℕ) (front : List Entry) (f : Entry)
     (rest : List Entry) where
-  -- where an entry makes the pixel dirty it is the last one behind which nothing stands
+  -- where an entry makes the pixel dirty it is the last one after which nothing stands
   pub last_is_last : is_dirtied config journal e k ≡ true
       → IsLastDirtied config (journal ++ e ∷ []) k front f rest → (front ≡ journal) × (f ≡ e)
   last_is_last is last =
@@ -144,7 +144,7 @@ one_last config journal k front other_front e other rest other_rest a b =
     let places_are = places front e rest other_front other other_rest (sym a.split ∙ b.split) in
     grind (arith, places_are, a.clean_behind, b.clean_behind)
 
--- ---- the words behind so many entries
+-- ---- the words after so many entries
 
 behind_front : (raws more : List (List ℕ)) (n k : ℕ) → n ≤ length raws
     → raw_behind (raws ++ more) n k ≡ raw_behind raws n k
@@ -195,7 +195,7 @@ module _ (config : Configuration) (entries : List Entry) (e : Entry) (raws : Lis
 
 -- ---- a room
 
--- these raw words behind each entry are a history for a scene
+-- these raw words after each entry are a history for a scene
 pub record GoesOn (config : Configuration) (scene : SceneModel End) (raws : List (List ℕ)) : Type 0 where
   pub history : IsHistory config (without_final scene.entries) raws
   pub ends : IsOpen scene.entries → AreLast config raws scene.raw

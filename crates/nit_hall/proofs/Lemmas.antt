@@ -2,7 +2,7 @@
 pub use Rattle.nit_hall.proofs.Agreements.{IsMet, can_agree, can_agree_again, room_admitted}
 pub use Rattle.nit_hall.proofs.Agreements.{room_and_pass_met, room_arrived, waiting_others}
 pub use Rattle.nit_hall.proofs.Basics.{AllServed, CanAgree, ClipPassModel, Configuration, End}
-pub use Rattle.nit_hall.proofs.Basics.{InputLine, IsAdded, IsFirst, IsKnownPass, IsLegal}
+pub use Rattle.nit_hall.proofs.Basics.{InputLine, IsAdded, IsFirstPass, IsKnownPass, IsLegal}
 pub use Rattle.nit_hall.proofs.Basics.{IsLegalClips, IsOpen, IsPaintedTo, IsRoom, List}
 pub use Rattle.nit_hall.proofs.Basics.{OpeningParts, Painted, PassModel, RoomModel, SceneModel, ap}
 pub use Rattle.nit_hall.proofs.Basics.{arith, bare_word, buffers_of, calls_in, calls_of}

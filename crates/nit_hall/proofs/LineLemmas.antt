@@ -68,7 +68,7 @@ pub no_more_calls : (script : List Line) (k : ℕ) (l : Line) → slice_get scri
     → calls_in (take (k + 1) script) ≡ calls_in (take k script)
 no_more_calls script k l at none = rw (calls_line script k l at, none) (append-nil (calls_in (take k script)))
 
--- the line behind so many calls is the one that was counted
+-- the line after so many calls is the one that was counted
 pub line_counted : (script : List Line) (k : ℕ) (c : Call) → slice_get script k ≡ Some (line.Call c)
     → lines_to_call (length (calls_in (take k script)) + 1) script ≡ k + 1
 line_counted [] k c at = absurd cc
@@ -148,7 +148,7 @@ pub rises : (xs : List ℕ) (p q : ℕ) → p ≤ q → IsNonDecreasing (xs ++ p
 rises xs p q up old i j d le inside =
     let a = old i j d le in let b = old i (length xs) d in grind (arith, common_steps, a, b)
 
--- and may stand again behind itself
+-- and may stand again after itself
 pub again : (xs : List ℕ) (p : ℕ) → IsNonDecreasing (xs ++ p ∷ []) → IsNonDecreasing ((xs ++ p ∷ []) ++ p ∷ [])
 again xs p old = IsNonDecreasingBy-push (λ (x : ℕ). x) (xs ++ p ∷ []) p old
     (λ d some. let last : length (xs ++ p ∷ []) - 1 ≡ length xs = omega (arith, length-append xs (p ∷ [])) in
@@ -175,7 +175,7 @@ stretch_same script k n from to =
     rw (rw here at (take-add k (n - k) script))
     (rw (calls_append, silent.0, append-nil), omega (arith, silent.1, count))
 
--- behind a stroke it ends where it did before
+-- after a stroke it ends where it did before
 ends_behind : (script : List Line) (k : ℕ) (s : Stroke) → slice_get script k ≡ Some (line.Stroke s)
     → stretch_end script k ≡ stretch_end script (k + 1)
 ends_behind script k s at =

@@ -103,12 +103,12 @@ pub all_inks : (config : Configuration) (scripts : List (List Line)) (glasses : 
     → AreInks config scripts (glass_in glasses)
 all_inks config scripts glasses long inked t = grind (arith, nat_tests, get_or_past, ink_behind)
 
--- what was loaded was left by lines that the session may have done behind these entries
+-- what was loaded was left by lines that the session may have done after these entries
 abbrev pub WasLeft : Configuration → List (List Line) → ℕ → ℕ → List Entry → ℕ → ℕ → Type 0
 WasLeft config scripts ended t entries i w = (n : ℕ) × MayHaveDone scripts ended t entries n
     × (w ≡ slice_index (words_after (script_in scripts t) (donation_of config t) n) i)
 
--- what is loaded through a session's glass behind the next entry was left by lines that it may have done
+-- what is loaded through a session's glass after the next entry was left by lines that it may have done
 abbrev pub ShowsThen : Configuration → List (List Line) → ℕ → List Entry → Entry → (ℕ → Sight) → Type 0
 ShowsThen config scripts ended journal e glasses = (t : ℕ) → t < length scripts
     → (i w : ℕ) → IsLoaded (glasses t) i w → WasLeft config scripts ended t (journal ++ e ∷ []) i w
@@ -231,9 +231,9 @@ word_session s p t i is = elim (cases_lt t (length s.sessions)) [
       absurd (no_word (buffer_size s.sessions) p (owner_of s p) t i none is)
 ]
 
--- ---- what is shown of a session behind the next entry
+-- ---- what is shown of a session after the next entry
 
--- through the reader's end of a session, behind an entry that is no call of it
+-- through the reader's end of a session, after an entry that is no call of it
 pub lens_shows : (config : Configuration) (scripts : List (List Line)) (ended : ℕ) (entries : List Entry) (e : Entry)
     (t : ℕ) (g : Sight)
     → KnowsStretch (script_in scripts t) (donation_of config t) (length (calls_of t entries)) ended g

@@ -1,4 +1,4 @@
--- The counts of a book in two parts, the clients' and the user's and those behind them, and the room by its book.
+-- The counts of a book in two parts, the clients' and the user's and those after them, and the room by its book.
 use Rattle.nit_hall.proofs.Basics.{Belongs, BookModel, End, Entry, IsAdded, IsPass, IsUserPass}
 use Rattle.nit_hall.proofs.Basics.{Line, OpeningParts, PassModel, RoomModel, SceneModel, ShareModel}
 use Rattle.nit_hall.proofs.Basics.{UserPassModel, buffers_of, drop-set-add, nat_tests, raised}
@@ -13,11 +13,11 @@ use Rattle.nit_hall.proofs.EntryLemmas.{raws_more}
 pub front_raised : (n i : ℕ) (cs : List ℕ) → i < n → take n (raised cs i) ≡ raised (take n cs) i
 front_raised n i cs h = rw (get_or-take n cs i 0 h) (take-set-lt n cs i (slice_index cs i + 1) h)
 
--- a count behind it has
+-- a count after it has
 pub back_raised : (n i j : ℕ) (cs : List ℕ) → j ≡ n + i → drop n (raised cs j) ≡ raised (drop n cs) i
 back_raised n i j cs at = rw (at, drop-set-add, get_or-drop)
 
--- as many counts as the first so many, and none behind them
+-- as many counts as the first so many, and none after them
 pub parts_long : (n : ℕ) (cs : List ℕ) → length (take n cs) ≡ n → length (drop n cs) ≡ 0 → length cs ≡ n
 parts_long n cs front back = omega (arith, front, back, length-take n cs, length-drop n cs)
 

@@ -2,7 +2,7 @@
 use Rattle.nit_hall.proofs.Basics.{AreAgreed, AreBegun, AreBlank, AreListedGlasses, AreNear, AreSplitOff}
 use Rattle.nit_hall.proofs.Basics.{AreWatching, BookModel, ClipLine, ClipModel, ClipPassModel}
 use Rattle.nit_hall.proofs.Basics.{Configuration, End, Entry, Follows, FollowsClips, HaveInks}
-use Rattle.nit_hall.proofs.Basics.{InputLine, IsFirst, IsLegalClips, IsNonDecreasingBy-short}
+use Rattle.nit_hall.proofs.Basics.{InputLine, IsFirstPass, IsLegalClips, IsNonDecreasingBy-short}
 use Rattle.nit_hall.proofs.Basics.{IsRoom, Line, Member, OpeningParts, PassModel, RoomModel, Sight}
 use Rattle.nit_hall.proofs.Basics.{bare_everywhere, bare_word, buffers_of, cases_eq, clip_script_in}
 use Rattle.nit_hall.proofs.Basics.{common_steps, donation_of, entries_in, first_pass}
@@ -51,7 +51,7 @@ pub get_seam : {A : Type 0} (xs ys : List A) (y : A) (k : ℕ) → k ≡ length 
     ≡ Some y
 get_seam xs ys y k e = grind (arith, common_steps, gets)
 
--- what holds of each element, and of the one behind them, holds of each then
+-- what holds of each element, and of the one after them, holds of each then
 pub each_more : {A : Type 0} (P : ℕ → A → Type 0) (xs ys : List A) (k : ℕ) (x : A) → ys ≡ xs ++ x ∷ [] → length xs ≡ k
     → P k x → ((j : ℕ) (y : A) → slice_get xs j ≡ Some y → P j y) → (j : ℕ) (y : A) → slice_get ys j ≡ Some y → P j y
 each_more P xs ys k x pushed long here all j y e = grind (arith, nat_tests, get_push)
@@ -213,7 +213,7 @@ all_agree config scripts k before now lenses all so = grind (arith, nat_tests, s
 
 -- the pass of a canvas that has agreed is the one of the canvas before that
 pub first_before : (parts : OpeningParts) (before after' : List End) (k : ℕ) (p : PassModel)
-    → AreAgreed parts.config parts.scripts before after' → IsFirst parts after' k p → IsFirst parts before k p
+    → AreAgreed parts.config parts.scripts before after' → IsFirstPass parts after' k p → IsFirstPass parts before k p
 first_before parts before after' k p are first =
     let (canvas, at) = item_there before k (omega (arith, are.each, slice_get_within after' k first.0 first.1)) in
     (canvas, at, rw first.2 (ap (first_pass parts k) (are.agreed k canvas first.0 at first.1)))

@@ -16,7 +16,7 @@ use Rattle.nit_hall.proofs.NearLemmas.{lens_shows, near_more, sights_of, word_se
 use Rattle.nit_hall.proofs.ClipLineLemmas.{clips_then}
 use Rattle.nit_hall.proofs.ScriptsFollowed.{entries_within}
 
--- the room with this scene, these raw words behind each entry and these counts, in this phase
+-- the room with this scene, these raw words after each entry and these counts, in this phase
 abbrev pub room_then : RoomModel → SceneModel End → List (List ℕ) → List ℕ → ℕ → ℕ → RoomModel
 room_then r scene raws counts phase arrived =
     record r {

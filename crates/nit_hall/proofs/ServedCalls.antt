@@ -94,7 +94,7 @@ pub record CallDid (old new : SceneModel End) (sid : ℕ) (c : Call) (r : Reply)
 abbrev pub scene_with : SceneModel End → ℕ → List (List ℕ) → SceneModel End
 scene_with scene sid stages = record scene { glasses = with_end_stages sid stages scene.glasses }
 
--- The client's end knows the stages of the line before the call, and those of the stretch behind it afterwards.
+-- The client's end knows the stages of the line before the call, and those of the stretch after it afterwards.
 module _ (laws : EntryLaws) {r : RoomModel} {called : SceneModel End} {sid next : ℕ} {script : List Line} {c : Call}
     {rep : Reply} {own own' : Sight} (stages : List (List ℕ)) (room : IsRoom r)
     (at : IsNext r.parts.scripts r.counts sid next script (line.Call c))
@@ -236,7 +236,7 @@ pub record Found (r : RoomModel) (p : PassModel) (l : Line) : Type 0 where
 
 -- ---- what serving a call leaves, by what the scene's call did
 
--- what the room promises of it, with this scene and this sight of the pass behind it
+-- what the room promises of it, with this scene and this sight of the pass after it
 pub record ServedClauses (r : RoomModel) (p : PassModel) (scene' : SceneModel End) (sight' : Sight) (reply : Reply)
     : Type 0 where
   pub reply_is : reply ≡ (serve (session (state_now r.scene) p.sid) (next_call p)).reply

@@ -106,7 +106,7 @@ user_ready is f = rw (← f.ready, ← f.input_is) is.phase
 
 -- ---- what an action leaves
 
--- the user's pass behind a line that its share counted
+-- the user's pass after a line that its share counted
 abbrev pub user_with : UserPassModel → ShareModel → UserPassModel
 user_with u share = record u {
   number = share.number;
@@ -116,7 +116,7 @@ user_with u share = record u {
   raws = raws_in share.seen;
 }
 
--- the room and the user's pass at an action, and the scene, the book and the share behind it
+-- the room and the user's pass at an action, and the scene, the book and the share after it
 pub record IsAction (r : RoomModel) (u : UserPassModel) (new : SceneModel End) (book book' : BookModel)
     (share share' : ShareModel) (l : InputLine) (e : Entry) : Type 0 where
   pub room : IsRoom (room_of r r.scene book)

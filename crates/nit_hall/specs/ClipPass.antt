@@ -56,7 +56,7 @@ IsAtClipPhase q = slice_get q.script q.next ≡ Some line.Phase
 abbrev pub clip_script_in : List (List ClipLine) → ℕ → List ClipLine
 clip_script_in clips sid = slice_index_or clips sid []
 
--- the number of the share of a client's clip pass: it stands behind the shares of all clients'
+-- the number of the share of a client's clip pass: it stands after the shares of all clients'
 -- passes and of the user's
 abbrev pub clip_number : OpeningParts → ℕ → ℕ
 clip_number parts sid = length parts.scripts + 1 + sid

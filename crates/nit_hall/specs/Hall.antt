@@ -10,7 +10,7 @@ abbrev pub Tells : List Entry → Entry → List Entry → Type 0
 Tells before e after = (between : List Entry) × (after ≡ (before ++ between) ++ e ∷ [])
 
 -- A shot was added so, and these words are a frame of the journal in front of it. The raw words
--- behind each entry were told so too: behind the shot they are those by which the frame is.
+-- after each entry were told so too: after the shot they are those by which the frame is.
 pub record TellsShot (parts : OpeningParts) (before : List Entry) (before_raws : List (List ℕ))
     (number : ℕ) (after : List Entry) (raws : List (List ℕ)) (words : List ℕ) : Type 0 where
   pub between : List Entry

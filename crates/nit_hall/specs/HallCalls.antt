@@ -37,8 +37,8 @@ pub record CanClip (parts : OpeningParts) (p : PassModel) (q : ClipPassModel) : 
 -- ---- what it leaves
 
 -- A client's call was served with this reply: the last entry that the pass knows is the call, all
--- that it knows is legal, and it has loaded some of its words behind the line. It and the room's
--- end of its words agree on the strokes behind the line.
+-- that it knows is legal, and it has loaded some of its words after the line. It and the room's
+-- end of its words agree on the strokes after the line.
 pub record ServedCall (parts : OpeningParts) (p : PassModel) (reply : Reply) (p' : PassModel)
     : Type 0 where
   pub told : Tells p.seen (call_entry p reply) p'.seen
@@ -70,7 +70,7 @@ pub record Admitted (parts : OpeningParts) (p p' : PassModel) : Type 0 where
     sight = with_stages (stretch_from p p.next) p.sight;
   }
 
--- A clip call was answered by the focus that is there behind all that the passes know now.
+-- A clip call was answered by the focus that is there after all that the passes know now.
 pub record ServedClip (parts : OpeningParts) (p : PassModel) (q : ClipPassModel) (reply : ClipReply)
     (p' : PassModel) (q' : ClipPassModel) : Type 0 where
   pub answer : IsClipAnswer (replay parts.config p'.seen).input.focus q.sid (next_clip q) reply
@@ -103,7 +103,7 @@ pub record UserEndedPhase (parts : OpeningParts) (u u' : UserPassModel) : Type 0
       ≡ record u { next = u.next + 1; phase = u.phase + 1; seen = u'.seen; raws = u'.raws }
 
 -- A shot with this number was taken, and these words are its picture. The raw words that the user
--- knows, behind the shot too, are one history.
+-- knows, after the shot too, are one history.
 pub record DoneShot (parts : OpeningParts) (u : UserPassModel) (number : ℕ) (u' : UserPassModel)
     (words : List ℕ) : Type 0 where
   pub told : TellsShot parts u.seen u.raws number u'.seen u'.raws words

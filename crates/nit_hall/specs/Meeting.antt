@@ -19,7 +19,7 @@ pub record HasMet (r : RoomModel) (p : PassModel) (r' : RoomModel) (p' : PassMod
   pub inked : p.sight.ink ≡ script_ink p.script p.donation
   pub told : p.sight.words ≡ Some (words_after p.script p.donation p.next)
 
--- so of the user's pass, which knows the raw words behind its entries too
+-- so of the user's pass, which knows the raw words after its entries too
 pub record UserHasMet (r : RoomModel) (u : UserPassModel) (r' : RoomModel) (u' : UserPassModel)
     : Type 0 where
   pub room : r' ≡ r

@@ -13,13 +13,13 @@ use Rattle.nit_hall.specs.ServedLines.{lines_to_call, phases_before}
 
 -- ---- which entry made a pixel dirty last
 
--- the entry behind this front of a journal makes the pixel dirty
+-- the entry after this front of a journal makes the pixel dirty
 abbrev pub is_dirtied : Configuration → List Entry → Entry → ℕ → Bool
 is_dirtied config front e k =
     let s = replay config front in dirty s e (after s e) (pixel s.config.width k)
 
 -- Of the journal's entries that make the pixel dirty this is the last. These stand in front of it,
--- and those behind it.
+-- and those after it.
 pub record IsLastDirtied (config : Configuration) (journal : List Entry) (k : ℕ)
     (front : List Entry) (e : Entry) (rest : List Entry) : Type 0 where
   pub split : journal ≡ front ++ e ∷ rest
@@ -29,7 +29,7 @@ pub record IsLastDirtied (config : Configuration) (journal : List Entry) (k : �
 
 -- ---- the words
 
--- how many lines of its script a session has done with the call that it makes next behind this
+-- how many lines of its script a session has done with the call that it makes next after this
 -- front
 abbrev pub lines_at_call : List (List Line) → ℕ → List Entry → ℕ
 lines_at_call scripts t front =
@@ -45,7 +45,7 @@ abbrev pub IsLeftAt : Configuration → List (List Line) → ℕ → ℕ → ℕ
 IsLeftAt config scripts t i w =
     (n : ℕ) × (w ≡ slice_index (words_after (script_in scripts t) (donation_of config t) n) i)
 
--- the phase in which an entry is put behind this front of a journal: that of the session's next
+-- the phase in which an entry is put after this front of a journal: that of the session's next
 -- call in its script, or that of the next device event or shot in the input script
 abbrev pub phase_of_entry : List (List Line) → List InputLine → List Entry → Entry → ℕ
 phase_of_entry scripts input front (entry.Call t call r) =
@@ -64,7 +64,7 @@ pub record MayHaveDone (scripts : List (List Line)) (phase t : ℕ) (entries : L
 
 -- The session's script has left w at place i of its table after a number of lines that it may have
 -- done when the last entry was put that made the pixel dirty. That entry is `last`, and these stand
--- in front of it and behind it.
+-- in front of it and after it.
 pub record IsLeftThen (config : Configuration) (scripts : List (List Line)) (input : List InputLine)
     (journal : List Entry) (k t i w : ℕ) : Type 0 where
   pub front : List Entry

@@ -104,8 +104,8 @@ first_user parts =
     }
 
 -- the pass is the first of this number, with its canvas
-abbrev pub IsFirst : OpeningParts → List End → ℕ → PassModel → Type 0
-IsFirst parts canvases k p =
+abbrev pub IsFirstPass : OpeningParts → List End → ℕ → PassModel → Type 0
+IsFirstPass parts canvases k p =
     (canvas : End) × (slice_get canvases k ≡ Some canvas) × (p ≡ first_pass parts k canvas)
 
 -- each reader's end is one of the canvas at its number, with nothing loaded yet, and knows the
@@ -140,5 +140,5 @@ pub record IsOpening (config : Configuration) (scripts : List (List Line)) (plan
   pub room : IsFirstRoom
       (parts_of r.parts.name config scripts plans (buffers_of canvases) input) canvases r
   pub each : length ps ≡ length scripts
-  pub passes : (k : ℕ) (p : PassModel) → slice_get ps k ≡ Some p → IsFirst r.parts canvases k p
+  pub passes : (k : ℕ) (p : PassModel) → slice_get ps k ≡ Some p → IsFirstPass r.parts canvases k p
   pub user : u ≡ first_user r.parts

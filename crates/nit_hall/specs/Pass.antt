@@ -33,7 +33,7 @@ pub record PassModel : Type 0 where
 
 -- The user's pass: its number, which is the number of clients; how many lines of the input script
 -- are done, and how many phases; the name of its room's book, the input script, and the entries
--- that it knows, with the raw words behind each of them.
+-- that it knows, with the raw words after each of them.
 pub record UserPassModel : Type 0 where
   pub number : ℕ
   pub next : ℕ

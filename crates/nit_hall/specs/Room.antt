@@ -19,7 +19,7 @@ use Rattle.nit_hall.specs.RoomClips.{FollowsClips}
 -- What the room was opened with; its scene, whose glasses are the readers' ends of the clients'
 -- words; how many lines were served for each client in order, and last for the user; the phase that
 -- is served, and how many actors have ended it; the clip list, and how many clip calls were served
--- for each client in order, where there are clip scripts; and the raw words behind each entry but
+-- for each client in order, where there are clip scripts; and the raw words after each entry but
 -- the last picture. Phases count from 0.
 pub record RoomModel : Type 0 where
   pub parts : OpeningParts
@@ -42,7 +42,7 @@ stands scene = map (λ (e : End). e.stand) scene.glasses
 -- ---- the room after a line
 
 -- The room after a line of this actor that put an entry into the journal, with these raw words and
--- readers' ends, and the raw words stand behind it. All else is as before.
+-- readers' ends, and the raw words stand after it. All else is as before.
 abbrev pub with_entry : RoomModel → ℕ → Entry → List ℕ → List End → RoomModel
 with_entry r actor e raw glasses =
     record r {
@@ -95,7 +95,7 @@ arrived_one r actor = record r {
   arrived = (after_arrival (length r.parts.scripts) r.phase r.arrived).1;
 }
 
--- the entry of a client's next clip call with this reply: it stands behind all entries that there
+-- the entry of a client's next clip call with this reply: it stands after all entries that there
 -- are, with the focus that is there
 abbrev pub clip_entry : RoomModel → ClipPassModel → ClipReply → ClipEntry
 clip_entry r q reply =
@@ -160,7 +160,7 @@ pub record IsServedPhase (phase arrived : ℕ) (ended : List ℕ) : Type 0 where
   pub counted : arrived ≡ count_by (λ n. n == phase + 1) ended
   pub some_left : arrived < length ended
 
--- the ink of the session of this number is its script's; behind the last session there is none
+-- the ink of the session of this number is its script's; after the last session there is none
 abbrev pub ink_in : Configuration → List (List Line) → ℕ → Ink
 ink_in config scripts t =
     if nat_lt t (length scripts)
@@ -185,7 +185,7 @@ AreWatching scripts config entries phase_of ends =
 -- served and in the one that the client is in, which may wait for the next; each raw word is one
 -- that its pixel may hold; there is room for an entry of each line and for the last picture,
 -- which comes only when all lines were served; the phase that is served is the one that the last of
--- its actors are in; the clip list follows the clip scripts; and the raw words behind each entry
+-- its actors are in; the clip list follows the clip scripts; and the raw words after each entry
 -- are one history, which goes up to the raw words now as long as the journal is not ended.
 pub record IsRoom (r : RoomModel) : Type 0 where
   pub config : r.scene.config ≡ r.parts.config

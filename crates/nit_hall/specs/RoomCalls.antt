@@ -32,7 +32,7 @@ pub record UserIsReadyAt (parts : OpeningParts) (phase : ℕ) (IsAt : UserPassMo
 
 -- The room has served the pass its call. The pass knew a front of the journal, and now knows all of
 -- it, which is legal and not ended; its lines before this one were counted; and it has loaded some
--- of its words behind the line.
+-- of its words after the line.
 pub record HasServed (r : RoomModel) (p : PassModel) (r' : RoomModel) (p' : PassModel)
     : Type 0 where
   pub pass : p' ≡ record p {
@@ -62,8 +62,8 @@ pub record HasAdmitted (r : RoomModel) (p : PassModel) (r' : RoomModel) (p' : Pa
   pub counted : slice_index r.counts p.sid ≡ length (served (take p.next p.script))
   pub legal : IsLegal r.parts.config r.scene.entries
 
--- So for the user, which has done a device event or a shot. It knew the raw words behind the
--- entries that it knew, and now knows those behind all, which are one history.
+-- So for the user, which has done a device event or a shot. It knew the raw words after the
+-- entries that it knew, and now knows those after all, which are one history.
 pub record HasActed (r : RoomModel) (u : UserPassModel) (r' : RoomModel) (u' : UserPassModel)
     : Type 0 where
   pub user : u' ≡ record u { next = u.next + 1; seen = r'.scene.entries; raws = r'.raws }
@@ -91,7 +91,7 @@ pub record HasArrived (r : RoomModel) (p : PassModel) (r' : RoomModel) (p' : Pas
   pub legal : IsLegal r.parts.config r.scene.entries
   pub unended : IsOpen r.scene.entries
 
--- so for the user's pass, which now knows the raw words behind all entries too
+-- so for the user's pass, which now knows the raw words after all entries too
 pub record UserHasArrived (r : RoomModel) (u : UserPassModel) (r' : RoomModel) (u' : UserPassModel)
     : Type 0 where
   pub room : r' ≡ arrived_one r (length r.parts.scripts)

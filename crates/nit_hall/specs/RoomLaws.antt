@@ -29,8 +29,8 @@ pub record EntryLaws : Type 0 where
       → FollowsClips parts counts (entries ++ e ∷ []) clips
 
 -- What they say of one more clip call: it is one more among those of its script; its phase is the
--- one that its script is in; the next call of a script is the one behind those that were made; no
--- clip call of a legal list stands behind all entries; and the list stays legal with one more, and
+-- one that its script is in; the next call of a script is the one after those that were made; no
+-- clip call of a legal list stands after all entries; and the list stays legal with one more, and
 -- in its phases.
 pub record CallLaws : Type 0 where
   pub call : (lines : List ClipLine) (k : ℕ) (c : ClipCall)

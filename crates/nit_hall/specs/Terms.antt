@@ -40,7 +40,7 @@ pub use Rattle.nit_hall.specs.Meeting.{ClipHasMet, HasMet, UserHasMet}
 pub use Rattle.nit_hall.specs.NearWords.{AreNear, IsLastDirtied, IsNear, IsNearBy, IsNearFrame}
 pub use Rattle.nit_hall.specs.NearWords.{IsWordOfScripts, MayHaveDone, is_dirtied, phase_of_entry}
 pub use Rattle.nit_hall.specs.NearWords.{words_at_call}
-pub use Rattle.nit_hall.specs.Opening.{AreAgreed, AreBegun, AreBlank, AreSplitOff, CanOpen, IsFirst}
+pub use Rattle.nit_hall.specs.Opening.{AreAgreed, AreBegun, AreBlank, AreSplitOff, CanOpen, IsFirstPass}
 pub use Rattle.nit_hall.specs.Opening.{IsOpening, IsSetting, buffers_of, first_pass, parts_of}
 pub use Rattle.nit_hall.specs.OpeningParts.{OpeningParts}
 pub use Rattle.nit_hall.specs.Pass.{AreDone, Belongs, HasLoaded, IsAtCall, IsAtDevice, IsAtPhase}

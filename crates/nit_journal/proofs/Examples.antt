@@ -100,7 +100,7 @@ clicked_has_the_focus : (replay (still_configuration 8 4) clicked).input.focus �
 unfolding serve stack_after_call route
 clicked_has_the_focus = refl
 
--- a key, the two mode keys, a button, and a code behind the buttons
+-- a key, the two mode keys, a button, and a code after the buttons
 which_are_keys : map is_key (30 ∷ 70 ∷ 99 ∷ 272 ∷ 280 ∷ []) ≡ true ∷ false ∷ false ∷ false ∷ true ∷ []
 which_are_keys = refl
 

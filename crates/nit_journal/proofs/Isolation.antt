@@ -49,7 +49,7 @@ served_entry s taken other x agrees lt = (refl, refl)
 
 -- ---- entry after entry
 
--- the session's machine is this one behind the entries, and their replies are its
+-- the session's machine is this one after the entries, and their replies are its
 abbrev pub IsAlone : ℕ → Session → State → List Entry → Type 0
 IsAlone x m s done = (x < length s.sessions) × Served m (projection x done) (replies_to x done) (session s x)
 

@@ -22,7 +22,7 @@ counted_more : (taken : ℕ) (e : Entry) (rest : List Entry) → counted taken e
 counted_more taken (entry.Shot n) rest = omega arith
 counted_more taken other rest = refl
 
--- the first entry agrees, and what follows is legal behind it
+-- the first entry agrees, and what follows is legal after it
 pub legal_first : (s : State) (taken : ℕ) (e : Entry) (rest : List Entry) → LegalFrom s taken (e ∷ rest)
     → Agrees s taken e × LegalFrom (after s e) (counted taken e) rest
 legal_first s taken entry.Final rest legal = (tt, rw legal tt)

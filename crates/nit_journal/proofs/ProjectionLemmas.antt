@@ -1,4 +1,4 @@
--- What one session sees of two journals, one behind the other.
+-- What one session sees of two journals, one after the other.
 use Rattle.std.proofs.lemmas.Bool.Decides.{nat_tests}
 use Rattle.std.proofs.Common.{List, [], append-nil, append_assoc, drop, get_or-set_other}
 use Rattle.std.proofs.Common.{get_or-set_same, inl, inr, length, refl, set, suc, sym, zero, ℕ, ◌++◌}
@@ -75,7 +75,7 @@ Todo = List (List (ℕ × Call))
 abbrev one_done : Todo → ℕ → Todo
 one_done clients s = set clients s (left (to_do clients s))
 
--- the clients behind these entries
+-- the clients after these entries
 abbrev clients_after : Todo → List Entry → Todo
 clients_after clients [] = clients
 clients_after clients (entry.Call s c r ∷ es) = clients_after (one_done clients s) es

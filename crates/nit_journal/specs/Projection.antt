@@ -48,7 +48,7 @@ after_observations s [] = s
 after_observations s (Calls call ∷ rest) = after_observations (serve s call).session rest
 after_observations s (Gets i ∷ rest) = after_observations (receive s i) rest
 
--- the machine that serves one session alone, behind these moments
+-- the machine that serves one session alone, after these moments
 abbrev pub alone_machine : ℕ → List Observation → Session
 alone_machine donation moments = after_observations (first_session donation) moments
 

@@ -66,7 +66,7 @@ abbrev pub is_opening : ℕ → Step → Bool
 is_opening x (Serves e) = false
 is_opening x (Opens sid label) = sid == x
 
--- what was done since the session last opened, behind what was done before
+-- what was done since the session last opened, after what was done before
 abbrev pub since : ℕ → List Entry → List Step → List Entry
 since x done [] = done
 since x done (Serves e ∷ rest) = since x (done ++ e ∷ []) rest

@@ -36,7 +36,7 @@ pub fn one_more_entry()
         → Agrees (replay_from s journal) (taken + shots journal) e }
 {}
 
-/// A front of a legal journal is legal. Where an entry stands behind it, the last picture was not
+/// A front of a legal journal is legal. Where an entry stands after it, the last picture was not
 /// taken in it, and that entry agrees with the state that the front leads to and with its shots.
 pub fn fronts_are_legal()
     ensures legal { (config : Configuration) (front rest : List Entry)
@@ -148,7 +148,7 @@ pub fn isolation()
         → replies_to s journal ≡ alone (donation_of config s) (projection s journal) }
 {}
 
-/// The machine of each session, behind a legal journal, is the one that serves it alone: what it
+/// The machine of each session, after a legal journal, is the one that serves it alone: what it
 /// lost, what is still queued and whether it is served come from its donation, its own calls and
 /// the items that were routed to it.
 pub fn machines_stand_alone()

@@ -90,7 +90,7 @@ by_number holder views m to n hit miss = elim (cases_eq n m) [
   | inr e ↦ rw (moved_else holder m to n e) (miss e)
 ]
 
--- the book's view is at its seat after a step of that seat, where a view is put behind the others
+-- the book's view is at its seat after a step of that seat, where a view is put after the others
 booked_push : (views : List BookView) (id : ℕ) (v w : BookView) (es : List Recorded) (cs : List ℕ)
     (taken : Option Token) → get_elem? views id ≡ some v
     → IsBookAt (set views id (OfBook es cs taken) ++ w ∷ []) id es cs

@@ -16,11 +16,11 @@ BookName = TableId
 abbrev pub entries_in : List Recorded → List Entry
 entries_in recorded = map (λ (r : Recorded). r.entry) recorded
 
--- the raw words behind each, in order
+-- the raw words after each, in order
 abbrev pub raws_in : List Recorded → List (List ℕ)
 raws_in recorded = map (λ (r : Recorded). r.raw) recorded
 
--- A book: its name, its entries, each with the raw words behind it, and the count of each share
+-- A book: its name, its entries, each with the raw words after it, and the count of each share
 -- that it has made.
 pub record BookModel : Type 0 where
   pub name : BookName

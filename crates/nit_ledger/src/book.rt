@@ -13,14 +13,14 @@ use std::alloc::Global;
 use std::marker::{Brand, Model};
 
 /// What has raw words: a list of them that contracts alone know. An entry is added with those
-/// behind it.
+/// after it.
 pub trait HasRaw {
     ghost use Rattle.std.specs.Prelude.{ℕ, List};
 
     ghost raw: { Self → List ℕ };
 }
 
-/// Entries that only grow, each with the raw words behind it, and a count for each share. It is
+/// Entries that only grow, each with the raw words after it, and a count for each share. It is
 /// seen as its name, the list of its entries and the list of its counts, one for each share that it
 /// has made.
 #[derive(Drop)]
@@ -67,7 +67,7 @@ impl Book {
         }
     }
 
-    /// Adds an entry, which the share counts, with the raw words of `shown` behind it. The share is
+    /// Adds an entry, which the share counts, with the raw words of `shown` after it. The share is
     /// of this book. After it the share has seen all entries.
     pub fn append<R: HasRaw>(&mut self, share: &mut Share, e: &Entry, shown: &R)
         requires { share.old.name ≡ self.old.name }

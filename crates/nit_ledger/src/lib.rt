@@ -1,4 +1,4 @@
-//! A book of journal entries that only grows, each with the raw words of the screen behind it, and
+//! A book of journal entries that only grows, each with the raw words of the screen after it, and
 //! shares of it that go to other threads.
 //!
 //! A [`Book`] stands behind a lock. Each actor holds a [`Share`], which remembers its number, how

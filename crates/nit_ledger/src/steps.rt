@@ -55,7 +55,7 @@ impl<D: Deed> Play<(), BookView> for Does<D> {
     ghost then = { StepDone D.added D.risen };
 }
 
-/// An entry, and the raw words behind it. Each call that adds one picks both.
+/// An entry, and the raw words after it. Each call that adds one picks both.
 pub(crate) trait AddedEntry {
     ghost use Rattle.std.specs.Prelude.{ℕ, List};
     ghost use Rattle.nit_events.specs.declared.entry.Entry.{Entry};

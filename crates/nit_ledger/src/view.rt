@@ -7,7 +7,7 @@ use std::collections::LinkedList;
 /// The table of a book: one word, which never changes, and a view for the book and for each share.
 pub(crate) type Pages = Table<(), BookView, (), BookRule, Global>;
 
-/// An entry of a book: one of the journal, and the raw words of the screen behind it. No value of
+/// An entry of a book: one of the journal, and the raw words of the screen after it. No value of
 /// it is made.
 pub struct Recorded {
     pub entry: Entry,

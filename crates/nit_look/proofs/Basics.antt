@@ -1,7 +1,7 @@
 -- What lemmas use: the words of clauses, the library's lemmas, and those of the crates below.
 pub use Rattle.nit_look.specs.Terms.{AgreeIn, AgreeOutside, AreEdges, Bound, CoversChange, Differs}
 pub use Rattle.nit_look.specs.Terms.{DiffersWhere, Edges, IsBetween, IsMerged, IsSpan, IsTouched}
-pub use Rattle.nit_look.specs.Terms.{LiesOn, None, Span, Spans, drop, is_among, is_in_rows}
+pub use Rattle.nit_look.specs.Terms.{LiesOn, None, Span, Spans, drop, is_in_span, is_in_rows}
 pub use Rattle.nit_look.specs.Terms.{picture_row, place_at, pos, rectangle_between, slice_index}
 pub use Rattle.nit_look.specs.Terms.{take}
 pub use Rattle.std.proofs.Common.{Bool, IfSome, List, Option, Some, ap, arith, cond, false, inl}

@@ -1,6 +1,6 @@
 -- A row into which some columns were copied.
 use Rattle.nit_look.proofs.Basics.{Bool, Differs, IsMerged, List, Span, Spans, arith, cases_eq}
-use Rattle.nit_look.proofs.Basics.{cond, drop, ext_get_or, inl, inr, is_among, length, nat_tests}
+use Rattle.nit_look.proofs.Basics.{cond, drop, ext_get_or, inl, inr, is_in_span, length, nat_tests}
 use Rattle.nit_look.proofs.Basics.{places, refl, take}
 use Rattle.std.proofs.Common.{ltb, rules, slice_index, ℕ, ◌+◌, ◌-◌, ◌<◌, ◌≡◌, ◌≤◌}
 use borrow.Rule.Slice.PartMut.{put_mid}
@@ -12,7 +12,7 @@ by_test test a b merged k there is known = rw known at (is k)
 
 pub row_merged : (now out part : List ℕ) (from to wide : ℕ) → wide ≡ to - from → from ≤ to → to ≤ length now
     → length out ≡ length now → part ≡ take wide (drop from now)
-    → IsMerged (is_among from to) now out (put_mid from wide out part)
+    → IsMerged (is_in_span from to) now out (put_mid from wide out part)
 row_merged now out part from to wide so order fits long is k = grind (arith, places, nat_tests, is)
 
 -- a row into which the part that differs was copied
@@ -37,7 +37,7 @@ pub differs_in : (a b : List ℕ) (from wide j : ℕ) → Differs (take wide (dr
 differs_in a b from wide j differs = grind (arith, nat_tests, word_in a from wide j, word_in b from wide j)
 
 pub span_shifted : (now out new : List ℕ) (from to wide : ℕ) → wide ≡ to - from → from ≤ to
-    → IsMerged (is_among from to) now out new → (s : Span)
+    → IsMerged (is_in_span from to) now out new → (s : Span)
     → Spans (take wide (drop from now)) (take wide (drop from out)) s
     → Spans new out (record { first = from + s.first; last = from + s.last })
 span_shifted now out new from to wide so order is s spans = record {

@@ -1,6 +1,6 @@
 -- A picture, some columns of some rows of which were copied.
 use Rattle.nit_look.proofs.Basics.{AreEdges, Edges, IsMerged, IsSpan, List, Option, Span, arith}
-use Rattle.nit_look.proofs.Basics.{cases_lt, div-mul-add, ext_get_or, inl, inr, is_among}
+use Rattle.nit_look.proofs.Basics.{cases_lt, div-mul-add, ext_get_or, inl, inr, is_in_span}
 use Rattle.nit_look.proofs.Basics.{is_in_rows, le-div_iff_mul-le, nat_tests, picture_row, places}
 use Rattle.std.proofs.Common.{length, slice_index, ℕ, ◌*◌, ◌+◌, ◌-◌, ◌<◌, ◌≡◌, ◌≤◌}
 use Rattle.nit_look.proofs.Merging.{word_in}
@@ -17,7 +17,7 @@ module _ (width left right top row wide : ℕ) (frame old out part : List ℕ) (
     (so : wide ≡ width) (room : (row + 1) * width ≤ length frame) (long : length out ≡ length frame)
     (long_old : length old ≡ length frame) (held : length part ≡ width)
     (known : IsMerged (is_in_rows width left right top row) frame old out)
-    (here : IsMerged (is_among left right) (picture_row width row frame) (picture_row width row out) part) where
+    (here : IsMerged (is_in_span left right) (picture_row width row frame) (picture_row width row out) part) where
   next : (row + 1) * width ≡ row * width + width
   next = omega arith
 

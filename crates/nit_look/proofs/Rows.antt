@@ -6,7 +6,7 @@ use Rattle.nit_look.proofs.Basics.{picture_row, refl, slice_index}
 use Rattle.std.proofs.Common.{sym, ℕ, ◌%◌, ◌*◌, ◌+◌, ◌-◌, ◌/◌, ◌<◌, ◌∙◌, ◌≡◌, ◌≤◌}
 use Rattle.nit_look.proofs.Merging.{differs_in, word_in}
 
--- where a pixel lies of the row behind so many rows
+-- where a pixel lies of the row after so many rows
 pub record InRow (width row k : ℕ) : Type 0 where
   pub below : k - row * width < width
   pub is : row * width + (k - row * width) ≡ k

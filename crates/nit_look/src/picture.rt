@@ -45,7 +45,7 @@ pub fn look(
     rectangle_of(copy(frame, width, columns, rows, out)?)
 }
 
-/// The first of the `long` places from `from` on, and the first one behind them.
+/// The first of the `long` places from `from` on, and the first one after them.
 fn range(from: i32, long: u32) -> (usize, usize)
     requires { pos 0 ≤ℤ from }
     ensures from { pos result.0 ≡ from }

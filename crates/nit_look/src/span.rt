@@ -1,7 +1,7 @@
 //! The places at which two rows differ.
 
 ghost use Rattle.std.specs.Prelude.{◌≡◌, ◌≢◌, ◌≤◌, ◌<◌, ℕ, length, true, false};
-ghost use Rattle.nit_look.specs.Terms.{Differs, IsMerged, IsSpan, is_among};
+ghost use Rattle.nit_look.specs.Terms.{Differs, IsMerged, IsSpan, is_in_span};
 
 /// The first and the last place at which two rows differ.
 #[derive(Clone, Copy)]
@@ -16,7 +16,7 @@ pub(crate) fn copy_columns(now: &[u32], out: &mut [u32], columns: (usize, usize)
     requires long { length out.old ≡ length now.now }
     requires order { columns.0 ≤ columns.1 }
     requires fits { columns.1 ≤ length now.now }
-    ensures copied { IsMerged (is_among columns.0 columns.1) now.now out.old out.new }
+    ensures copied { IsMerged (is_in_span columns.0 columns.1) now.now out.old out.new }
     ensures span { IsSpan out.new out.old result }
 {
     let (from, to) = columns;

@@ -49,7 +49,7 @@ may_stand n (l ∷ own) none = grind (arith, nat_tests, may_stand (n + 1) own)
 abbrev at_end : ℕ → Painting → List Line → Painting
 at_end k p lines = painted_from p (take (lines_before_end k lines) lines)
 
--- behind a frame
+-- after a frame
 behind_frame : (k w h : ℕ) (frame : List ℕ) (more : List Line) (p : Painting)
     → at_end k p (frame_lines w h frame ++ more) ≡ at_end k (painted_from p (frame_lines w h frame)) more
 behind_frame k w h frame more p =
@@ -136,7 +136,7 @@ one_still (line.Call (Buffer w h)) may = absurd cc
 one_still (line.Call Close) may = absurd cc
 one_still other may = tt
 
--- the lines behind the `buffer` line
+-- the lines after the `buffer` line
 behind_buffer : (w h : ℕ) (frames : List (List ℕ)) (own : List Line) → first_forbidden 1 own ≡ None
     → AreStill (next_frame (map (frame_lines w h) frames) ++ woven (frames_behind (map (frame_lines w h) frames)) own)
 behind_buffer w h frames own none =

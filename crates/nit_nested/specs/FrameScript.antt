@@ -11,7 +11,7 @@ count_lines frames = sum_by length frames
 
 -- ---- the script
 
--- the lines of the next frame; and the frames behind it
+-- the lines of the next frame; and the frames after it
 abbrev pub next_frame : List (List Line) → List Line
 next_frame [] = []
 next_frame (f ∷ rest) = f

@@ -107,7 +107,7 @@ row_loaded source at count m sid from g g' raw row long all fits is loaded saw =
     (λ t. ap (λ xs. seen (g t) (loads_in_row sid from xs t)) (take_all (length row) row (le_refl (length row)))
     ∙ sym (saw t)) done)))
 
--- one run behind another
+-- one run after another
 runs_both : (source : ℕ → PixelSource) (at a b n : ℕ) (before mid after : ℕ → Sight) (raw first last : List ℕ)
     → Repainted source (in_run at a) n before mid raw first
     → Repainted source (in_run (at + a) b) n mid after first last

@@ -30,7 +30,7 @@ at_end [] a b (suc j) e = absurd (some-ne-none b (sym e))
 at_end (x ∷ xs) a b zero e = inl e
 at_end (x ∷ xs) a b (suc j) e = elim (at_end xs a b j e) [ inl p ↦ inl p | inr q ↦ inr (ap suc q.0, q.1) ]
 
--- the same where one view becomes two, the second of which stands behind all others
+-- the same where one view becomes two, the second of which stands after all others
 pub over_split : (K : ℕ → PixelView → Type 0) (views : List PixelView) (id : ℕ) (left right : PixelView) → K id left
     → K (length (set views id left)) right
     → ((j : ℕ) (v : PixelView) → j ≢ id → get_elem? views j ≡ some v → K j v)

@@ -24,8 +24,8 @@ abbrev pub end_of : PixelSeat → End
 end_of s = record { sight = sight_of s; stand = record { buffer = s.table_id; seat = s.id } }
 
 -- the seat is of this table, which has a word
-abbrev pub IsSeatOf : TableId → PixelSeat → Type 0
-IsSeatOf table s = (s.table_id ≡ table) × (0 < table.words)
+abbrev pub IsPixelSeatOf : TableId → PixelSeat → Type 0
+IsPixelSeatOf table s = (s.table_id ≡ table) × (0 < table.words)
 
 -- an owner's seat: there is a word, and its view tells all of them
 abbrev pub IsOwners : PixelSeat → Type 0
@@ -33,7 +33,7 @@ IsOwners s =
     (0 < s.table_id.words)
     × (option_map (λ words. length words) s.me.0.words ≡ Some s.table_id.words) × (s.me.1 ≡ [])
 
--- of the words that the seat's view tells, those behind this place are 0
+-- of the words that the seat's view tells, those after this place are 0
 abbrev pub IsZeroBehind : ℕ → PixelSeat → Type 0
 IsZeroBehind last s = IfSome s.me.0.words (λ words. (i : ℕ) → last < i → slice_index words i ≡ 0)
 

@@ -10,4 +10,4 @@ pub use Rattle.nit_pixels.specs.PixelRule.{AgreesAt, IsPixelRule, IsViewOf, IsWa
 pub use Rattle.nit_pixels.specs.PixelRule.{SeatState, StoreStep, agreeing, agreeing_as, owner_view}
 pub use Rattle.nit_pixels.specs.PixelRule.{owners_script, reader_view, stages_of, unagreed}
 pub use Rattle.nit_pixels.specs.PixelRule.{view_loaded, view_stored, watching_view}
-pub use Rattle.nit_pixels.specs.PixelSeat.{IsOwners, IsSeatOf, IsZeroBehind, PixelSeat, sight_of}
+pub use Rattle.nit_pixels.specs.PixelSeat.{IsOwners, IsPixelSeatOf, IsZeroBehind, PixelSeat, sight_of}

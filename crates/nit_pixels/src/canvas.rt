@@ -18,7 +18,7 @@ use std::marker::{Brand, Model};
 pub struct Canvas<'a> {
     pub(crate) words: &'a Words,
     pub(crate) seat: Seat<(), PixelView>,
-    /// The words behind this place were never set.
+    /// The words after this place were never set.
     pub(crate) last_set: usize,
 }
 

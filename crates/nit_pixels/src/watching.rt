@@ -1,6 +1,7 @@
 //! Stages that the owner's end and one reader's end agree on, and the steps by which they agree.
 ghost use Rattle.std.specs.Prelude.{◌≡◌, [], IsSome, None};
-ghost use Rattle.nit_pixels.specs.Terms.{HaveWords, IsSeatOf, IsWatching, agreeing, agreeing_as};
+ghost use Rattle.nit_pixels.specs.Terms.{HaveWords, IsPixelSeatOf, IsWatching, agreeing};
+ghost use Rattle.nit_pixels.specs.Terms.{agreeing_as};
 ghost use Rattle.nit_pixels.specs.Terms.{reader_view, told_words, unagreed, watching_view};
 
 use crate::steps::{BeginsWatch, EndsWatch, LaysDown, PixelView, Remains, TakesUp, Words};
@@ -26,7 +27,7 @@ pub(crate) fn begin_watch<X: Stages>(
     words: &Words,
     seat: &mut Seat<(), PixelView>,
 ) -> Seat<(), PixelView>
-    requires table { IsSeatOf words.now.table_id seat.old }
+    requires table { IsPixelSeatOf words.now.table_id seat.old }
     requires owner { IsSome seat.old.me.0.words }
     requires unwatched { seat.old.me.0.agreed ≡ None }
     requires held { HaveWords X.stages (told_words seat.old.me.0.words) }
@@ -40,7 +41,7 @@ pub(crate) fn begin_watch<X: Stages>(
 
 /// Splits a seat off a reader's that knows its stages, and the reader's knows none.
 pub(crate) fn lay_down(words: &Words, seat: &mut Seat<(), PixelView>) -> Seat<(), PixelView>
-    requires table { IsSeatOf words.now.table_id seat.old }
+    requires table { IsPixelSeatOf words.now.table_id seat.old }
     requires watches { IsWatching seat.old.me.0 }
     ensures table { (seat.new.table_id ≡ seat.old.table_id) × (seat.new.id ≡ seat.old.id)
         × (result.table_id ≡ seat.old.table_id) }
@@ -56,7 +57,8 @@ pub(crate) fn end_watch<R: Remains>(
     seat: &mut Seat<(), PixelView>,
     part: Seat<(), PixelView>,
 )
-    requires table { IsSeatOf words.now.table_id seat.old × (part.table_id ≡ seat.old.table_id) }
+    requires table { IsPixelSeatOf words.now.table_id seat.old
+        × (part.table_id ≡ seat.old.table_id) }
     requires owner { IsSome seat.old.me.0.words }
     requires watches { IsWatching part.me.0 × (part.me.1 ≡ []) }
     requires remains { R.view ≡ reader_view seat.old.me.0 }
@@ -72,7 +74,8 @@ pub(crate) fn take_up<R: Remains>(
     seat: &mut Seat<(), PixelView>,
     part: Seat<(), PixelView>,
 )
-    requires table { IsSeatOf words.now.table_id seat.old × (part.table_id ≡ seat.old.table_id) }
+    requires table { IsPixelSeatOf words.now.table_id seat.old
+        × (part.table_id ≡ seat.old.table_id) }
     requires reader { seat.old.me.0.words ≡ None }
     requires watches { IsWatching part.me.0 × (part.me.1 ≡ []) }
     requires remains { R.view ≡ reader_view seat.old.me.0 }

@@ -13,11 +13,11 @@ pub use Rattle.nit_plan.specs.Terms.{after_line, blank, buffer_left, buffer_need
 pub use Rattle.nit_plan.specs.Terms.{by_refusal, by_status, calls_from, calls_in, calls_to_make}
 pub use Rattle.nit_plan.specs.Terms.{colours, donation_of, done, enumerate_from, first_session}
 pub use Rattle.nit_plan.specs.Terms.{in_turn, ink, is_accepted, is_between, is_set_by, is_side}
-pub use Rattle.nit_plan.specs.Terms.{is_stroked, is_within, list_any, option_map, painted_from}
+pub use Rattle.nit_plan.specs.Terms.{is_stroked, is_in_stretch, list_any, option_map, painted_from}
 pub use Rattle.nit_plan.specs.Terms.{place_colour, plan_of_script, range_with_len, refusal, room}
 pub use Rattle.nit_plan.specs.Terms.{script_ink, serve, session, session_after, session_size}
 pub use Rattle.nit_plan.specs.Terms.{set_where, slice_get, slice_index, stages_from, stages_within}
-pub use Rattle.nit_plan.specs.Terms.{static, step_of, steps_from, stroke_colour, stroked}
+pub use Rattle.nit_plan.specs.Terms.{static, step_of_line, steps_from, stroke_colour, stroked}
 pub use Rattle.nit_plan.specs.Terms.{table_size, take, taking, unless, view_left, with_words}
 pub use Rattle.nit_plan.specs.Terms.{word_after_stroke, words_after, words_after_call}
 pub use Rattle.nit_plan.specs.Terms.{words_by_step, words_left, zeros, ℕ}

@@ -2,7 +2,7 @@
 pub use Rattle.nit_plan.proofs.Basics.{IfSome_then, Step, ap, arith, as_its_calls_have_it}
 pub use Rattle.nit_plan.proofs.Basics.{common_steps, donation_of, first_session, in_turn, ink}
 pub use Rattle.nit_plan.proofs.Basics.{is_between, mul-le-mul_right, next_between, none_between}
-pub use Rattle.nit_plan.proofs.Basics.{place_colour, refl, set_where, static, step_of, steps_from}
+pub use Rattle.nit_plan.proofs.Basics.{place_colour, refl, set_where, static, step_of_line, steps_from}
 pub use Rattle.nit_plan.proofs.Basics.{sym, take_all, turn_there, with_words, words_after, ℕ, ◌∙◌}
 pub use Rattle.nit_plan.proofs.Stages.{colours_inked, has_stages, ink_fits, left_by_some}
 pub use Rattle.nit_plan.proofs.Stages.{left_inked, line_fits, stage_fits, stage_within, within_only}

@@ -28,13 +28,13 @@ expected s (line.Call c) = expected_of c s.status (serve s c).reply
 expected s other = expect.Nothing
 
 -- the step of a line, by the sessions before and after it
-abbrev pub step_of : Session → Session → Line → Step
-step_of before after l = record { w = after.bw; h = after.bh; expect = expected before l }
+abbrev pub step_of_line : Session → Session → Line → Step
+step_of_line before after l = record { w = after.bw; h = after.bh; expect = expected before l }
 
 -- the steps of the lines, from this session on
 abbrev pub steps_from : Session → List Line → List Step
 steps_from s [] = []
-steps_from s (l ∷ rest) = step_of s (session_after s l) l ∷ steps_from (session_after s l) rest
+steps_from s (l ∷ rest) = step_of_line s (session_after s l) l ∷ steps_from (session_after s l) rest
 
 -- one step for each line of a script, and the colours that the script names
 pub record PlanModel : Type 0 where

@@ -16,13 +16,13 @@ pub use Rattle.nit_plan.specs.Below.{unless, view_left, with_words, zeros, ℕ, 
 pub use Rattle.nit_plan.specs.Calls.{calls_from, calls_in, calls_to_make}
 pub use Rattle.nit_plan.specs.Plan.{IsLineInked, IsPlanOf, PlanModel, accepts, expected_of}
 pub use Rattle.nit_plan.specs.Plan.{is_set_by}
-pub use Rattle.nit_plan.specs.Plan.{plan_of_script, session_after, step_of, steps_from}
+pub use Rattle.nit_plan.specs.Plan.{plan_of_script, session_after, step_of_line, steps_from}
 pub use Rattle.nit_plan.specs.Plan.{words_by_step}
 pub use Rattle.nit_plan.specs.ScriptWords.{HasStages, script_ink, stages_from, stages_within}
 pub use Rattle.nit_plan.specs.ScriptWords.{Painting, after_line, blank, colours, ink, painted_from}
 pub use Rattle.nit_plan.specs.ScriptWords.{session_size, static, table_size}
 pub use Rattle.nit_plan.specs.ScriptWords.{words_after, words_after_call, words_left}
-pub use Rattle.nit_plan.specs.Strokes.{IsStrokeInked, cleared, is_in_area, is_stroked, is_within}
+pub use Rattle.nit_plan.specs.Strokes.{IsStrokeInked, cleared, is_in_area, is_stroked, is_in_stretch}
 pub use Rattle.nit_plan.specs.Strokes.{place_colour}
 pub use Rattle.nit_plan.specs.Strokes.{stroke_colour, stroked, word_after_stroke}
 pub use Rattle.nit_plan.specs.Surface.{AreZeroBetween, IsPaintedTo}

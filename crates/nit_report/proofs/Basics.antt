@@ -24,7 +24,7 @@ pub use Rattle.nit_report.specs.Terms.{kinds, leave_at, line_spelling, nat, nat_
 pub use Rattle.nit_report.specs.Terms.{one_in_front, phase_end, phases, placed, places, plain_at}
 pub use Rattle.nit_report.specs.Terms.{range_with_len, reply_spelling, routed_as, script_name}
 pub use Rattle.nit_report.specs.Terms.{second_phase, seed, session_field, shifted, shot_field}
-pub use Rattle.nit_report.specs.Terms.{spelled, taken, titled, titles, told, user_phase_end}
+pub use Rattle.nit_report.specs.Terms.{spelled, taken, titled, titles, event_told, user_phase_end}
 pub use Rattle.nit_report.specs.Terms.{user_phases, views, xray_shot, ◌>>=◌}
 pub use Rattle.nit_script.proofs.ForCallers.{Exact, IsKind, IsReader, Takes, begins_more, both}
 pub use Rattle.nit_script.proofs.ForCallers.{call_again, call_takes, device_again, device_takes}

@@ -16,7 +16,7 @@ use Rattle.nit_report.proofs.Basics.{leave_at, made_takes, nat, nat_field, nat_f
 use Rattle.nit_report.proofs.Basics.{no_reading, nothing, nothing_at, nothing_spelled, one_in_front}
 use Rattle.nit_report.proofs.Basics.{one_reading, plain_at, reads_begins, reply_spelling, routed_as}
 use Rattle.nit_report.proofs.Basics.{same_lines, same_read, session_field, shot_field}
-use Rattle.nit_report.proofs.Basics.{some_pair_parts, spaced, spelled, stops, tested, told}
+use Rattle.nit_report.proofs.Basics.{some_pair_parts, spaced, spelled, stops, tested, event_told}
 use Rattle.nit_script.specs.InputReaders.{device_at, motion_at, press_at, release_at, wheel_at}
 use Rattle.nit_report.specs.EntryReaders.{entry_at, answered_at, bad_at, behind_reply_at}
 use Rattle.nit_report.specs.EntryReaders.{delivery_at, done_at, entry_front_at, event_at}
@@ -43,7 +43,7 @@ shots = tested nat_fields is_shot_number FitsShot (λ n h. grind (arith, nat_tes
 
 -- ---- events
 
-told_as : (d : Device) → (device_spelling d ≡ event_spelling (told d)) × (FitsDevice d → FitsEvent (told d))
+told_as : (d : Device) → (device_spelling d ≡ event_spelling (event_told d)) × (FitsDevice d → FitsEvent (event_told d))
 told_as (device.Press k) = (refl, λ h. h)
 told_as other = (refl, λ h. h)
 
@@ -65,8 +65,8 @@ event_again other rest fits ok = refl
 events : Exact event_at event_spelling FitsEvent stops
 unfolding event_at
 events = record {
-  takes = first_takes (at_made told device_at) _ _ _
-      (made_takes device_at device_spelling FitsDevice told _ _ device_takes (λ d. (told_as d).0) (λ d. (told_as d).1))
+  takes = first_takes (at_made event_told device_at) _ _ _
+      (made_takes device_at device_spelling FitsDevice event_told _ _ device_takes (λ d. (told_as d).0) (λ d. (told_as d).1))
       (first_takes leave_at _ _ _ (plain_takes event_spelling FitsEvent (codes "leave") event.Leave refl tt)
       (first_takes focus_enter_at focus_leave_at _ _
       (plain_takes event_spelling FitsEvent (codes "focus-enter") event.FocusEnter refl tt)
@@ -189,11 +189,11 @@ plain_or : (w : List ℕ) (r : Reply) {g : List ℕ → Option (Reply × List �
 plain_or w r {g} is fits more =
     first_takes (plain_at w r) g reply_spelling FitsReply (plain_takes reply_spelling FitsReply w r is fits) more
 
--- two numbers, each behind a space
+-- two numbers, each after a space
 two_numbers : Exact (at_both nat_field nat_field) (λ p. nat p.0 ++ nat p.1) (λ p. FitsNat p.0 × FitsNat p.1) stops
 two_numbers = both nat_fields nat_fields (λ _ _ _. refl)
 
--- a reply of a word and what stands behind it, or what is read else
+-- a reply of a word and what stands after it, or what is read else
 held_or : {A : Type 0} {f : List ℕ → Option (A × List ℕ)} {t : A → List ℕ} {F : A → Type 0}
     {g : List ℕ → Option (Reply × List ℕ)}
     → Exact f t F stops → (w : List ℕ) (make : A → Reply) → ((x : A) → F x ≡ FitsReply (make x))

@@ -19,7 +19,7 @@ below m s = (following s / 65536 % m, following s)
 abbrev pub just : {A : Type 0} → A → Draw A
 just x s = (x, s)
 
--- a draw, and behind it the draw that its value asks for
+-- a draw, and after it the draw that its value asks for
 infixl 10 ◌>>=◌
 abbrev pub ◌>>=◌ : {A B : Type 0} → Draw A → (A → Draw B) → Draw B
 (d >>= f) s = f (d s).0 (d s).1
@@ -40,7 +40,7 @@ for_each first count draws = flat_map draws (range_with_len first count)
 abbrev pub Draws : {A : Type 0} → Draw A → ℕ → A → ℕ → Type 0
 Draws d s x after = (x ≡ (d s).0) × (after ≡ (d s).1)
 
--- The draws were made in turn, and their values stand behind those that were there.
+-- The draws were made in turn, and their values stand after those that were there.
 pub record AppendsDraws {A : Type 0} (draws : List (Draw A)) (s : ℕ) (before : List A) (after : ℕ)
     (now : List A) : Type 0 where
   pub values : now ≡ before ++ (draws_in_turn draws s).0

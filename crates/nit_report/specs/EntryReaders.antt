@@ -21,22 +21,22 @@ is_session_number n = nat_le n 15
 abbrev pub is_shot_number : ℕ → Bool
 is_shot_number n = nat_le 1 n && nat_le n most_lines
 
--- a session's number behind a space
+-- a session's number after a space
 abbrev pub session_field : List ℕ → Option (ℕ × List ℕ)
 session_field = at_tested is_session_number nat_field
 
--- a shot's number behind a space
+-- a shot's number after a space
 abbrev pub shot_field : List ℕ → Option (ℕ × List ℕ)
 shot_field = at_tested is_shot_number nat_field
 
 -- ---- events and items
 
 -- what a session is told of a device
-abbrev pub told : Device → Event
-told (device.Press k) = event.Press k
-told (device.Release k) = event.Release k
-told (device.Motion x y) = event.Motion x y
-told (device.Wheel n) = event.Wheel n
+abbrev pub event_told : Device → Event
+event_told (device.Press k) = event.Press k
+event_told (device.Release k) = event.Release k
+event_told (device.Motion x y) = event.Motion x y
+event_told (device.Wheel n) = event.Wheel n
 
 -- `leave`
 abbrev pub leave_at : List ℕ → Option (Event × List ℕ)
@@ -53,7 +53,7 @@ focus_leave_at = at_kind (codes "focus-leave") nothing_at (λ _. event.FocusLeav
 -- any event
 unfoldable pub event_at : List ℕ → Option (Event × List ℕ)
 event_at bytes =
-    first_of (at_made told device_at bytes)
+    first_of (at_made event_told device_at bytes)
     (first_of (leave_at bytes) (first_of (focus_enter_at bytes) (focus_leave_at bytes)))
 
 -- `kill`
@@ -70,7 +70,7 @@ delivery_at =
     at_kind (codes " >") (at_both session_field (at_spaced item_at))
     (λ p. record { sid = p.0; item = p.1 })
 
--- one more in front of what is read behind it, where it is there
+-- one more in front of what is read after it, where it is there
 abbrev pub one_in_front : Option (Delivery × List ℕ) → (List ℕ → List Delivery × List ℕ) → List ℕ
     → List Delivery × List ℕ
 one_in_front (Some (d, rest)) behind bytes = (d ∷ (behind rest).0, (behind rest).1)
@@ -144,7 +144,7 @@ reply_at bytes = first_of (done_at bytes) (first_of (bad_at bytes) (holding_at b
 
 -- ---- entries
 
--- the call behind its reply
+-- the call after its reply
 unfoldable pub behind_reply_at : List ℕ → Option (Call × List ℕ)
 behind_reply_at = at_kind (codes " < ") call_at (λ c. c)
 

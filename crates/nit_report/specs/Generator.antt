@@ -224,7 +224,7 @@ client_label c = codes "g" ++ decimal c
 abbrev pub script_name : ℕ → List ℕ
 script_name c = client_label c ++ codes ".nit"
 
--- a client in the text of the configuration, behind an empty line
+-- a client in the text of the configuration, after an empty line
 abbrev pub client_block : ℕ → List ℕ
 client_block c =
     codes "\n[[client]]\nlabel = \"" ++ client_label c

@@ -21,7 +21,7 @@ pub use Rattle.nit_report.specs.EntryReaders.{focus_leave_at, handle_at, holding
 pub use Rattle.nit_report.specs.EntryReaders.{is_session_number, is_shot_number, item_at, leave_at}
 pub use Rattle.nit_report.specs.EntryReaders.{no_view_at, one_in_front, plain_at, quota_at}
 pub use Rattle.nit_report.specs.EntryReaders.{reply_at, reserve_at, routed_at, session_field}
-pub use Rattle.nit_report.specs.EntryReaders.{shot_entry_at, shot_field, told}
+pub use Rattle.nit_report.specs.EntryReaders.{shot_entry_at, shot_field, event_told}
 pub use Rattle.nit_report.specs.EntrySpelling.{delivery_spelling, entry_spelling, event_spelling}
 pub use Rattle.nit_report.specs.EntrySpelling.{item_spelling, reply_spelling}
 pub use Rattle.nit_report.specs.EventsText.{ending_text, events_text, status_spelling, taken}

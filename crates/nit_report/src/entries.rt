@@ -50,7 +50,7 @@ fn answered(bytes: &[u8]) -> Option<(Entry, &[u8])>
     Some((Entry::Call { sid, call, reply }, rest))
 }
 
-/// The call behind its reply.
+/// The call after its reply.
 #[tactic(auto, unfolding(crate::specs::EntryReaders::behind_reply_at))]
 fn behind_reply(bytes: &[u8]) -> Option<(Call, &[u8])>
     ensures { Gives (λ x. (x.0, x.1.now)) result (behind_reply_at bytes.now) }

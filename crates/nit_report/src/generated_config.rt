@@ -102,7 +102,7 @@ pub fn config_text(alloc: Global) -> Result<Vec<u8>, NoMemory>
     Ok(out)
 }
 
-/// Writes a client, behind an empty line.
+/// Writes a client, after an empty line.
 fn put_block(out: &mut Vec<u8>, client: u32) -> Result<(), NoMemory>
     requires { client ≤ 7 }
     ensures { OnOk result (out.new.items ≡ out.old.items ++ client_block client) }

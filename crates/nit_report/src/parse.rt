@@ -10,7 +10,7 @@ use nit_events::Entry;
 use std::alloc::Global;
 
 /// The entries that the bytes spell, of which there are at most 2^27. `Bad` comes exactly where a
-/// line spells no entry, and names the first such line, from 1; bytes behind the last line feed are
+/// line spells no entry, and names the first such line, from 1; bytes after the last line feed are
 /// a line that spells none. Otherwise the entries are read, unless memory runs out.
 pub fn parse_journal(alloc: Global, bytes: &[u8]) -> Result<Vec<Entry>, JournalError>
     requires { length bytes.now ≤ most_read }

@@ -51,7 +51,7 @@ fn write_header(out: &mut [u8], w: u32, h: u32) -> usize
     text(out, at, b"\n255\n")
 }
 
-/// Writes the channels of each word behind the first `at` bytes.
+/// Writes the channels of each word after the first `at` bytes.
 fn write_pixels(out: &mut [u8], at: usize, frame: &[u32])
     requires room { at + 3 * length frame.now ≤ length out.old }
     requires words { All IsWord frame.now }

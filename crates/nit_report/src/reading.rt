@@ -2,7 +2,7 @@
 
 ghost use Rattle.std.specs.Prelude.{◌≡◌, Some};
 ghost use Rattle.nit_report.specs.Terms.{Gives, delivery_at, event_at, item_at, routed_at};
-ghost use Rattle.nit_report.specs.Terms.{session_field, shot_field, told};
+ghost use Rattle.nit_report.specs.Terms.{event_told, session_field, shot_field};
 
 use nit_events::{Delivery, Device, Event, Item, Routed};
 use nit_script::{natural_field, take_byte, take_device, take_word};
@@ -13,7 +13,7 @@ const MAX_SESSION: u32 = 15;
 /// The highest number of a shot.
 const MAX_SHOT: u32 = 65_536;
 
-/// A session's number behind a space.
+/// A session's number after a space.
 pub fn session_field(bytes: &[u8]) -> Option<(u32, &[u8])>
     ensures { Gives (λ x. (x.0, x.1.now)) result (session_field bytes.now) }
 {
@@ -25,7 +25,7 @@ pub fn session_field(bytes: &[u8]) -> Option<(u32, &[u8])>
     }
 }
 
-/// A shot's number behind a space.
+/// A shot's number after a space.
 pub fn shot_field(bytes: &[u8]) -> Option<(u32, &[u8])>
     ensures { Gives (λ x. (x.0, x.1.now)) result (shot_field bytes.now) }
 {
@@ -43,7 +43,7 @@ pub fn take_event(bytes: &[u8]) -> Option<(Event, &[u8])>
     ensures { Gives (λ x. (x.0, x.1.now)) result (event_at bytes.now) }
 {
     if let Some((device, rest)) = take_device(bytes) {
-        return Some((told(device), rest));
+        return Some((event_told(device), rest));
     }
     if let Some(rest) = take_word(bytes, b"leave") {
         return Some((Event::Leave, rest));
@@ -56,8 +56,8 @@ pub fn take_event(bytes: &[u8]) -> Option<(Event, &[u8])>
 }
 
 /// What a session is told of a device.
-fn told(device: Device) -> Event
-    ensures { result ≡ told device }
+fn event_told(device: Device) -> Event
+    ensures { result ≡ event_told device }
 {
     match device {
         Device::Press(code) => Event::Press(code),

@@ -3,7 +3,7 @@
 ghost use Rattle.std.specs.Prelude.{◌≡◌, ◌+◌, ◌≤◌, ◌++◌, length, take, drop};
 ghost use Rattle.nit_report.specs.Terms.{decimal};
 
-/// Writes a text behind the first `at` bytes, and answers where it ends. All other bytes stay.
+/// Writes a text after the first `at` bytes, and answers where it ends. All other bytes stay.
 pub fn text(out: &mut [u8], at: usize, text: &[u8]) -> usize
     requires { at + length text.now ≤ length out.old }
     ensures end { result ≡ at + length text.now }
@@ -15,7 +15,7 @@ pub fn text(out: &mut [u8], at: usize, text: &[u8]) -> usize
     end
 }
 
-/// Writes a number in decimal behind the first `at` bytes, and answers where it ends. All other
+/// Writes a number in decimal after the first `at` bytes, and answers where it ends. All other
 /// bytes stay.
 pub fn number(out: &mut [u8], at: usize, n: u32) -> usize
     requires { at + length (decimal n) ≤ length out.old }

@@ -40,7 +40,7 @@ pub use Rattle.nit_rounds.specs.Terms.{range_with_len, replay, replay_from, rest
 pub use Rattle.nit_rounds.specs.Terms.{rounds, route, routed_as, script_in, script_of, seen, serve}
 pub use Rattle.nit_rounds.specs.Terms.{session, set_where, settled, shoots, shot_file, shot_name}
 pub use Rattle.nit_rounds.specs.Terms.{shots, shots_after, shots_of, slice_get, slice_index_or}
-pub use Rattle.nit_rounds.specs.Terms.{source_under, state_after, state_now, static, step_of}
+pub use Rattle.nit_rounds.specs.Terms.{source_under, state_after, state_now, static, step_of_line}
 pub use Rattle.nit_rounds.specs.Terms.{stepped, table_size, tables_after, take, takes_place, to_do}
 pub use Rattle.nit_rounds.specs.Terms.{told_at, turn_by, turn_of, turns_before, turns_from}
 pub use Rattle.nit_rounds.specs.Terms.{turns_left, turns_of, user_actions_from, user_actions_of}

@@ -11,7 +11,7 @@ use Rattle.nit_rounds.proofs.Basics.{get_or-set_same, get_or_from_slice_get, gla
 use Rattle.nit_rounds.proofs.Basics.{glasses_of_call, inl, inr, is_in_area, is_number_in, is_set_by}
 use Rattle.nit_rounds.proofs.Basics.{is_stale, length, length-map, mul-le-mul_right, nat_tests}
 use Rattle.nit_rounds.proofs.Basics.{ne_eqb, no_sight, or_parts, plan_of_script, refl, same_Some}
-use Rattle.nit_rounds.proofs.Basics.{seen, shots, slice_index, state_now, static, step_of, subst}
+use Rattle.nit_rounds.proofs.Basics.{seen, shots, slice_index, state_now, static, step_of_line, subst}
 use Rattle.nit_rounds.proofs.Basics.{sym, table_size, with_words, word_inked, words_after}
 use Rattle.std.proofs.Common.{IfSome, length-append, length-set, map, map-id, set, slice_get, ℕ}
 use Rattle.std.proofs.Common.{◌%◌, ◌*◌, ◌++◌, ◌+◌, ◌-◌, ◌/◌, ◌<◌, ◌||◌, ◌∙◌, ◌∷◌, ◌≡◌, ◌≢◌, ◌≤◌}
@@ -130,14 +130,14 @@ AreLong = (script : List Line) (donation k : ℕ) → donation ≤ most_units �
 
 abbrev pub StayElsewhere : Type 0
 StayElsewhere = (script : List Line) (donation k n : ℕ) (l : Line) → slice_get script k ≡ Some l
-    → let step = step_of (static script donation k) (static script donation (k + 1)) l in is_set_by l step (n % step.w)
+    → let step = step_of_line (static script donation k) (static script donation (k + 1)) l in is_set_by l step (n % step.w)
     (n / step.w) ≡ false
     → slice_index (words_after script donation (k + 1)) n ≡ slice_index (words_after script donation k) n
 
 abbrev HaveSteps : Type 0
 HaveSteps = (script : List Line) (donation k : ℕ) (l : Line) → slice_get script k ≡ Some l
     → slice_get (plan_of_script script donation).steps k
-    ≡ Some (step_of (static script donation k) (static script donation (k + 1)) l)
+    ≡ Some (step_of_line (static script donation k) (static script donation (k + 1)) l)
 
 abbrev Within : (List Line → ℕ → ℕ → ℕ) → (ℕ → ℕ) → Type 0
 Within f most = (script : List Line) (donation k : ℕ) → donation ≤ most_units → f script donation k ≤ most donation
@@ -152,7 +152,7 @@ module _ {s : SceneModel Sight} {part : ClientPart} {k : ℕ} {stale : Option St
 
   -- what the line's step is
   abbrev IsStep : Step → Line → Type 0
-  IsStep step l = step ≡ step_of (static script donation k) (static script donation (k + 1)) l
+  IsStep step l = step ≡ step_of_line (static script donation k) (static script donation (k + 1)) l
 
   pub painted_to : IsPaintedTo script donation part.plan.now k own
   painted_to = rw can.own (assumption (can, word_inked script donation, long script donation k can.donation.1))

@@ -200,7 +200,7 @@ module _ {scripts : List (List Line)} {input : List InputLine} {at : Places} {b 
 
 -- ---- the present actor does its line
 
--- the actors stand behind a move that was done
+-- the actors stand after a move that was done
 pub record IsBehind (scripts : List (List Line)) (input : List InputLine) (at now : Places) (m : LineTurn) : Type 0
   where
     pub kept : ArePlaces scripts input now

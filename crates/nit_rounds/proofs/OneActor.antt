@@ -233,7 +233,7 @@ take_one : (b : ℕ) (all : List (List LineTurn)) (m : LineTurn) (rest : List Li
     → get_or all b [] ≡ m ∷ rest → rest_of_phase b all ≡ m ∷ rest_of_phase (b + 1) (set all b rest)
 take_one b all m rest inside has = grind (arith, nat_tests, drop_more, drop-set-lt, take_more_set, append_assoc)
 
--- ---- the phases behind it
+-- ---- the phases after it
 
 -- the move taken was in no later phase
 same_phase : (q b : ℕ) (all : List (List LineTurn)) (m : LineTurn) (rest : List LineTurn) → get_or all b [] ≡ m ∷ rest

@@ -17,7 +17,7 @@ use Rattle.nit_rounds.proofs.OneActor.{taken_silent}
 
 -- ---- the script of each actor
 
--- what holds of each client's script, by its number, of the user's behind them, and of none behind that, holds of each
+-- what holds of each client's script, by its number, of the user's after them, and of none after that, holds of each
 -- actor's script
 each_script : (P : ℕ → List ActorLine → Type 0) (sid : ℕ) (scripts : List (List Line)) (input : List InputLine)
     → ((k : ℕ) → k < length scripts → P k (map (ByClient (sid + k)) (get_or scripts k [])))

@@ -59,7 +59,7 @@ no_files Pic front [] none = refl
 no_files Pic front (entry.Shot n ∷ more) none = absurd (omega (arith, none))
 no_files Pic front (e ∷ more) none = no_files Pic (front ++ e ∷ []) more none
 
--- those of some entries, and then those of the ones behind these
+-- those of some entries, and then those of the ones after these
 pub files_both : (Pic : Picturing) (front es fs : List Entry) (files more : List File)
     → ShotsBehind Pic front es files → ShotsBehind Pic (front ++ es) fs more
     → ShotsBehind Pic front (es ++ fs) (files ++ more)
@@ -112,7 +112,7 @@ abbrev pub PutBy : ℕ → ActorLine → List Entry → Type 0
 PutBy taken (ByUser input.Shot) put = put ≡ entry.Shot (taken + 1) ∷ []
 PutBy taken other put = shots put ≡ 0
 
--- What a line puts into a journal, and what stands behind that: it is legal from the state after the line.
+-- What a line puts into a journal, and what stands after that: it is legal from the state after the line.
 pub record Behind (s : State) (taken : ℕ) (doing : ActorLine) (journal : List Entry) (left : List Action) : Type 0 where
   pub put : List Entry
   pub rest : List Entry

@@ -148,7 +148,7 @@ record Ahead (clients : List (List (ℕ × Call))) (user : List (ℕ × UserActi
   calls : (s : ℕ) → to_do clients s ≡ flat_map (calls_in s) ms
   actions : user ≡ flat_map actions_in ms
 
--- the journal, with the last picture behind it, is what these moves have been done as
+-- the journal, with the last picture after it, is what these moves have been done as
 record Follows (clients : List (List (ℕ × Call))) (user : List (ℕ × UserAction)) (ms : List LineTurn)
     (js : List Entry) : Type 0 where
   phases : phases_along clients user (js ++ entry.Final ∷ []) ≡ flat_map act_phases ms

@@ -19,7 +19,7 @@ pub use Rattle.nit_overlay.specs.Frame.{frame}
 pub use Rattle.nit_paint.specs.Repaint.{IsWordOfSource}
 pub use Rattle.nit_plan.specs.Calls.{calls_from, calls_to_make, user_actions_from}
 pub use Rattle.nit_plan.specs.Calls.{user_actions_to_do}
-pub use Rattle.nit_plan.specs.Plan.{IsPlanOf, PlanModel, is_set_by, plan_of_script, step_of}
+pub use Rattle.nit_plan.specs.Plan.{IsPlanOf, PlanModel, is_set_by, plan_of_script, step_of_line}
 pub use Rattle.nit_plan.specs.ScriptWords.{ink, static, table_size, words_after, words_left}
 pub use Rattle.nit_plan.specs.SessionLists.{plan_in, script_in}
 pub use Rattle.nit_plan.specs.Strokes.{is_in_area}

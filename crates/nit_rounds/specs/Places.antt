@@ -33,7 +33,7 @@ rest_of_phase actor all =
     flat_map (take 1) (drop actor all)
     ++ all_rounds (take actor all ++ map (drop 1) (drop actor all))
 
--- what is left of the present phase, and the phases behind it
+-- what is left of the present phase, and the phases after it
 unfoldable pub left_from : ℕ → ℕ → ℕ → List (List LineTurn) → List LineTurn
 left_from count phase actor all =
     rest_of_phase actor (map (in_phase phase) all)
@@ -44,7 +44,7 @@ abbrev pub turns_left : List (List Line) → List InputLine → Places → List 
 turns_left scripts input at =
     left_from (phase_count scripts input) at.phase at.actor (lefts at.places (actors scripts input))
 
--- an actor of at most 17: a client, or the user behind them
+-- an actor of at most 17: a client, or the user after them
 pub record IsActorOf (scripts : List (List Line)) (actor : ℕ) : Type 0 where
   pub few : length scripts ≤ most_sessions
   pub among : actor ≤ length scripts
@@ -57,7 +57,7 @@ script_of scripts input actor = slice_index_or (actors scripts input) actor []
 abbrev pub is_active : ℕ → LinePlace → List ActorLine → Bool
 is_active phase place doings = (place.phase == phase) && nat_lt place.line (length doings)
 
--- the place behind a line, which ends a phase or does not
+-- the place after a line, which ends a phase or does not
 abbrev pub stepped : LinePlace → Bool → LinePlace
 stepped place ends =
     record { line = place.line + 1; phase = if ends then place.phase + 1 else place.phase }

@@ -9,7 +9,7 @@ use Rattle.nit_rounds.specs.Rounds.{rounds}
 use Rattle.nit_rounds.specs.RoundsRun.{shot_name}
 use Rattle.nit_rounds.specs.Drawing.{Drawing, drawn, picture_of}
 
--- The files are those of the shots among some entries, in order, where these stand behind others:
+-- The files are those of the shots among some entries, in order, where these stand after others:
 -- each is named by the shot's number, and is a picture that the entries before the shot allow.
 abbrev pub ShotsBehind : (List Entry → List ℕ → Type 0) → List Entry → List Entry → List File
     → Type 0
@@ -31,14 +31,14 @@ abbrev pub shoots : ActorLine → Bool
 shoots (ByUser input.Shot) = true
 shoots other = false
 
--- the moves before the shot that stands behind so many others
+-- the moves before the shot that stands after so many others
 abbrev pub turns_before : ℕ → List LineTurn → List LineTurn
 turns_before taken [] = []
 turns_before zero (m ∷ rest) = if shoots m.doing then [] else m ∷ turns_before zero rest
 turns_before (suc taken) (m ∷ rest) =
     m ∷ turns_before (if shoots m.doing then taken else suc taken) rest
 
--- what the rounds have drawn when the shot is taken that stands behind so many others
+-- what the rounds have drawn when the shot is taken that stands after so many others
 abbrev pub drawn_by_shot : Configuration → List (List Line) → List InputLine → ℕ → Drawing
 drawn_by_shot config scripts lines taken =
     drawn config scripts (turns_before taken (rounds scripts lines))

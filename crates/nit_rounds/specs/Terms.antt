@@ -21,7 +21,7 @@ pub use Rattle.nit_rounds.specs.Below.{phases_along, picture, picture_length, pi
 pub use Rattle.nit_rounds.specs.Below.{plan_in, plan_of_script, range_with_len, replay, replay_from}
 pub use Rattle.nit_rounds.specs.Below.{route, routed_as, script_in, seen, serve, session, set_where}
 pub use Rattle.nit_rounds.specs.Below.{shots, slice_get, slice_index_or, slice_set, source_under}
-pub use Rattle.nit_rounds.specs.Below.{state_now, static, step_of, sum, table_size, take, to_do}
+pub use Rattle.nit_rounds.specs.Below.{state_now, static, step_of_line, sum, table_size, take, to_do}
 pub use Rattle.nit_rounds.specs.Below.{told_at, unrefused, user_actions_from, user_actions_of}
 pub use Rattle.nit_rounds.specs.Below.{user_actions_to_do, with_words, words_after, zeros}
 pub use Rattle.nit_rounds.specs.Desks.{KeepsFrame}

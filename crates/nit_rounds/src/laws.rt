@@ -67,7 +67,7 @@ pub fn drawn_as_replayed()
 /// The pictures of a run by rounds. There are as many as shots in its journal, and the file of a
 /// shot is the picture of the state that the entries before it lead to, where each pixel holds what
 /// the rounds have drawn there by then. The last clause says the same along the journal, with the
-/// last picture behind it.
+/// last picture after it.
 pub fn shots_as_replayed()
     ensures count { (config : Configuration) (scripts : List (List Line)) (input : List InputLine)
         (journal : List Entry) → IsLegal config journal → AreRoundsOf journal scripts input

@@ -70,7 +70,7 @@ fn ends_at(scripts: &[Client], input: &Input, actor: usize, line: usize) -> bool
 }
 
 impl LinePlace {
-    /// The place of the line behind this one, which ends a phase or does not.
+    /// The place of the line after this one, which ends a phase or does not.
     fn after(self, ends: bool) -> LinePlace
         requires line { self.line < most_lines }
         requires phase { self.phase ≤ self.line }

@@ -168,7 +168,7 @@ device_takes =
     (word_made (both places_in_range places_in_range (λ _ _ _. refl)) _ _ (codes "motion") _ (λ p h. (refl, h)))
     (word_made turns_in_range _ _ (codes "wheel") Wheel (λ z h. (refl, h)))))
 
--- what is spelled as a device event is read so, where no digit stands behind it
+-- what is spelled as a device event is read so, where no digit stands after it
 pub device_again : (d : Device) (rest : List ℕ) → FitsDevice d → stops rest ≡ true
     → device_at (device_spelling d ++ rest) ≡ Some (d, rest)
 unfolding device_at press_at release_at motion_at wheel_at

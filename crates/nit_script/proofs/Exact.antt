@@ -37,7 +37,7 @@ pub record IsKind {A L : Type 0} (at : List ℕ → Option (L × List ℕ)) (spe
   pub again : (x : A) (rest : List ℕ) → Fits (make x) → stop rest ≡ true
       → at (spelling (make x) ++ rest) ≡ Some (make x, rest)
 
--- what was read before the step behind it
+-- what was read before the step after it
 through : {A B P : Type 0} (o : Option A) (f : A → Option B) (y : B) → (o >>= f) ≡ Some y
     → ((x : A) → o ≡ Some x → f x ≡ Some y → P) → P
 through (Some x) f y e next = next x refl e
@@ -113,7 +113,7 @@ module _ {A : Type 0} {f : List ℕ → Option (A × List ℕ)} {t : A → List 
     again = λ x rest fits ok. let (fits, passes) = back x fits in rw (inner.again x rest fits ok, passes);
   }
 
-  -- a word, and what is made of the fields behind it
+  -- a word, and what is made of the fields after it
   pub word_made : {L : Type 0} (spelling : L → List ℕ) (Fits : L → Type 0) (w : List ℕ) (make : A → L)
       → ((x : A) → F x → (w ++ t x ≡ spelling (make x)) × Fits (make x)) → Takes (at_kind w f make) spelling Fits
   word_made spelling Fits w make there bytes l rest e =

@@ -18,7 +18,7 @@ six_digits c =
 
 pub ruleset sixes = (six_digits)
 
--- bytes with more behind them are kept
+-- bytes with more after them are kept
 pub keeps_more : (xs ys zs : List ℕ) → zs ≡ xs ++ ys → KeepsBytes xs zs
 keeps_more xs ys zs more = rw more (take-append_seam xs ys)
 

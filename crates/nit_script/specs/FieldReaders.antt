@@ -52,7 +52,7 @@ at_tested test f bytes = do
   x ← f bytes
   if test x.0 then Some (x.0, x.1) else None
 
--- a word, and what is made of the fields behind it
+-- a word, and what is made of the fields after it
 abbrev pub at_kind : {A L : Type 0} → List ℕ → (List ℕ → Option (A × List ℕ)) → (A → L) → List ℕ
     → Option (L × List ℕ)
 at_kind w f make bytes = do
@@ -60,7 +60,7 @@ at_kind w f make bytes = do
   x ← f fields
   Some (make x.0, x.1)
 
--- a value with a line feed behind it
+-- a value with a line feed after it
 abbrev pub at_ended : {L : Type 0} → (List ℕ → Option (L × List ℕ)) → List ℕ → Option (L × List ℕ)
 at_ended f bytes = do
   x ← f bytes
@@ -142,15 +142,15 @@ text_at bytes =
 
 -- ---- fields of a line
 
--- a number behind a space
+-- a number after a space
 abbrev pub nat_field : List ℕ → Option (ℕ × List ℕ)
 nat_field = at_spaced nat_at
 
--- a number with a sign behind a space
+-- a number with a sign after a space
 abbrev pub int_field : List ℕ → Option (ℤ × List ℕ)
 int_field = at_spaced int_at
 
--- a colour behind a space
+-- a colour after a space
 abbrev pub colour_field : List ℕ → Option (ℕ × List ℕ)
 colour_field = at_spaced colour_at
 

@@ -13,7 +13,7 @@ most_lines = 65536
 abbrev pub spelled : {L : Type 0} → (L → List ℕ) → L → List ℕ
 spelled spelling l = spelling l ++ 10 ∷ []
 
--- The bytes are the spellings of the lines, each with one line feed behind it, and each line fits.
+-- The bytes are the spellings of the lines, each with one line feed after it, and each line fits.
 abbrev pub Reads : {L : Type 0} → (L → Type 0) → (L → List ℕ) → List ℕ → List L → Type 0
 Reads Fits spelling bytes lines =
     AllByRecursion Fits lines × (bytes ≡ flat_map (spelled spelling) lines)
@@ -43,7 +43,7 @@ IsFirstBad {L = L} Fits spelling bytes number =
     (lines : List L) × (rest : List ℕ) × Begins Fits spelling bytes lines rest × (rest ≢ [])
     × HasNoReading Fits spelling rest × (length lines + 1 ≡ number) × (number ≤ most_lines)
 
--- There are 65,536 lines with a reading, and a byte stands behind them.
+-- There are 65,536 lines with a reading, and a byte stands after them.
 abbrev pub IsTooLong : {L : Type 0} → (L → Type 0) → (L → List ℕ) → List ℕ → Type 0
 IsTooLong {L = L} Fits spelling bytes =
     (lines : List L) × (rest : List ℕ) × Begins Fits spelling bytes lines rest × (rest ≢ [])
@@ -63,7 +63,7 @@ ReadsClient = Reads FitsLine line_spelling
 abbrev pub IsFirstBadClient : List ℕ → ℕ → Type 0
 IsFirstBadClient = IsFirstBad FitsLine line_spelling
 
--- Bytes stand behind 65,536 lines with a reading.
+-- Bytes stand after 65,536 lines with a reading.
 abbrev pub IsTooLongClient : List ℕ → Type 0
 IsTooLongClient = IsTooLong FitsLine line_spelling
 
@@ -77,7 +77,7 @@ ReadsInput = Reads FitsInputLine input_spelling
 abbrev pub IsFirstBadInput : List ℕ → ℕ → Type 0
 IsFirstBadInput = IsFirstBad FitsInputLine input_spelling
 
--- Bytes stand behind 65,536 lines with a reading.
+-- Bytes stand after 65,536 lines with a reading.
 abbrev pub IsTooLongInput : List ℕ → Type 0
 IsTooLongInput = IsTooLong FitsInputLine input_spelling
 

@@ -18,15 +18,15 @@ is_pointer_place n = nat_le n most_pointer
 abbrev pub is_wheel : ℤ → Bool
 is_wheel z = int_le least_turn z && int_le z most_turn
 
--- a code behind a space
+-- a code after a space
 abbrev pub code_field : List ℕ → Option (ℕ × List ℕ)
 code_field = at_tested is_code nat_field
 
--- a column or row behind a space
+-- a column or row after a space
 abbrev pub pointer_field : List ℕ → Option (ℕ × List ℕ)
 pointer_field = at_tested is_pointer_place nat_field
 
--- a turn behind a space
+-- a turn after a space
 abbrev pub wheel_field : List ℕ → Option (ℤ × List ℕ)
 wheel_field = at_tested is_wheel int_field
 

@@ -10,7 +10,7 @@ use std::fmt;
 pub enum ScriptError {
     /// The first line without a reading, counted from 1. It is one of the first 65,536.
     Bad { line: u32 },
-    /// Each of the first 65,536 lines has a reading, and a byte stands behind them.
+    /// Each of the first 65,536 lines has a reading, and a byte stands after them.
     TooLong,
     /// Memory ran out.
     NoMemory,

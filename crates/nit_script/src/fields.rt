@@ -9,28 +9,28 @@ use crate::bytes::take_byte;
 use crate::numbers::{take_integer, take_natural};
 use nit_events::Text;
 
-/// A number behind a space.
+/// A number after a space.
 pub fn natural_field(bytes: &[u8]) -> Option<(u32, &[u8])>
     ensures { Gives (λ x. (x.0, x.1.now)) result (nat_field bytes.now) }
 {
     take_natural(take_byte(bytes, b' ')?)
 }
 
-/// A number that may have a minus, behind a space.
+/// A number that may have a minus, after a space.
 pub fn integer_field(bytes: &[u8]) -> Option<(i32, &[u8])>
     ensures { Gives (λ x. (x.0, x.1.now)) result (int_field bytes.now) }
 {
     take_integer(take_byte(bytes, b' ')?)
 }
 
-/// A colour behind a space.
+/// A colour after a space.
 pub fn colour_field(bytes: &[u8]) -> Option<(u32, &[u8])>
     ensures { Gives (λ x. (x.0, x.1.now)) result (colour_field bytes.now) }
 {
     take_colour(take_byte(bytes, b' ')?)
 }
 
-/// A text behind an equals sign.
+/// A text after an equals sign.
 pub fn text_field(bytes: &[u8]) -> Option<(Text, &[u8])>
     ensures { Gives (λ x. (x.0, x.1.now)) result (text_field bytes.now) }
 {

@@ -37,7 +37,7 @@ pub fn first_bad_is_one<L: ScriptLine>()
     L::one_in_front();
 }
 
-/// A script of no lines has one phase, and each line behind it that ends a phase makes one more.
+/// A script of no lines has one phase, and each line after it that ends a phase makes one more.
 pub fn phases_count<L: ScriptLine>()
     ensures first { phases_by L.ends_phase [] ≡ 1 }
     ensures more { (lines : List L) (line : L) → phases_by L.ends_phase (lines ++ line ∷ [])

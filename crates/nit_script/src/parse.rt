@@ -15,9 +15,9 @@ use std::alloc::Global;
 pub const MOST_LINES: u32 = 65_536;
 
 /// The client's script that the bytes spell. `Bad` comes exactly where one of the first 65,536
-/// lines has no reading, and names the first such line, from 1; bytes behind the last line feed are
+/// lines has no reading, and names the first such line, from 1; bytes after the last line feed are
 /// a line without a reading. `TooLong` comes exactly where each of these has a reading and a byte
-/// stands behind them. Otherwise the script is read, unless memory runs out.
+/// stands after them. Otherwise the script is read, unless memory runs out.
 pub fn parse_client(alloc: Global, bytes: &[u8]) -> Result<Client, ScriptError>
     // What is read is spelled so, and what is spelled so is read, unless memory runs out.
     ensures read { IfOk result (λ c. ReadsClient bytes.now c × (length c ≤ most_lines)) }
@@ -31,7 +31,7 @@ pub fn parse_client(alloc: Global, bytes: &[u8]) -> Result<Client, ScriptError>
     ensures is_bad { (line : ℕ) → IsFirstBadClient bytes.now line →
         UnlessMemory result (result ≡ Err (ScriptError.Bad line)) }
 
-    // Exactly where bytes stand behind 65,536 lines.
+    // Exactly where bytes stand after 65,536 lines.
     ensures long { result ≡ Err ScriptError.TooLong → IsTooLongClient bytes.now }
     ensures is_long { IsTooLongClient bytes.now
         → UnlessMemory result (result ≡ Err ScriptError.TooLong) }
@@ -57,7 +57,7 @@ pub fn parse_input(alloc: Global, bytes: &[u8]) -> Result<Input, ScriptError>
     ensures is_bad { (line : ℕ) → IsFirstBadInput bytes.now line →
         UnlessMemory result (result ≡ Err (ScriptError.Bad line)) }
 
-    // Exactly where bytes stand behind 65,536 lines.
+    // Exactly where bytes stand after 65,536 lines.
     ensures long { result ≡ Err ScriptError.TooLong → IsTooLongInput bytes.now }
     ensures is_long { IsTooLongInput bytes.now
         → UnlessMemory result (result ≡ Err ScriptError.TooLong) }
@@ -84,7 +84,7 @@ pub fn parse_lines<L: ScriptLine>(alloc: Global, bytes: &[u8]) -> Result<Vec<L>,
     ensures is_bad { (line : ℕ) → IsFirstBad L.Fits L.spelling bytes.now line →
         UnlessMemory result (result ≡ Err (ScriptError.Bad line)) }
 
-    // Exactly where bytes stand behind 65,536 lines.
+    // Exactly where bytes stand after 65,536 lines.
     ensures long { result ≡ Err ScriptError.TooLong → IsTooLong L.Fits L.spelling bytes.now }
     ensures is_long { IsTooLong L.Fits L.spelling bytes.now
         → UnlessMemory result (result ≡ Err ScriptError.TooLong) }

@@ -62,7 +62,7 @@ pub fn put_input_line(alloc: Global, out: &mut Vec<u8>, line: &InputLine) -> Res
     }
 }
 
-/// Writes a call behind `out` as a script spells it, without a line feed. It can be refused for
+/// Writes a call after `out` as a script spells it, without a line feed. It can be refused for
 /// want of memory alone, and `out` has then the bytes that it had.
 #[tactic(auto, using(crate::proofs::LinePieces::ends))]
 pub fn put_call(alloc: Global, out: &mut Vec<u8>, call: &Call) -> Result<(), NoMemory>
@@ -121,7 +121,7 @@ fn put_stroke(alloc: Global, out: &mut Vec<u8>, stroke: &Stroke) -> Result<(), N
     }
 }
 
-/// Writes what the user does behind `out` as an input script spells it, without a line feed. It can
+/// Writes what the user does after `out` as an input script spells it, without a line feed. It can
 /// be refused for want of memory alone, and `out` has then the bytes that it had.
 #[tactic(auto, using(crate::proofs::LinePieces::ends))]
 pub fn put_device(alloc: Global, out: &mut Vec<u8>, device: &Device) -> Result<(), NoMemory>

@@ -25,7 +25,7 @@ pub trait ScriptLine: Drop {
         ensures { MatchOption result (HasNoReading Fits spelling bytes.now)
             (λ x. BeginsWith Fits spelling bytes.now x.0 x.1.now) };
 
-    /// Writes the line behind `out`, without a line feed. It can be refused for want of memory
+    /// Writes the line after `out`, without a line feed. It can be refused for want of memory
     /// alone.
     fn put(&self, alloc: Global, out: &mut Vec<u8>) -> Result<(), NoMemory>
         ensures { OnOk result (out.new.items ≡ out.old.items ++ spelling self.now) };

@@ -17,9 +17,9 @@ pub use Rattle.nit_server.specs.Terms.{buffer_left, buffer_need, by_life, by_ref
 pub use Rattle.nit_server.specs.Terms.{clicks_on, clicks_on_list, client_in, delivered}
 pub use Rattle.nit_server.specs.Terms.{deliveries_of, delivery, ended, first_kept_session}
 pub use Rattle.nit_server.specs.Terms.{first_session, first_stack, forget, fresh, fresh_in}
-pub use Rattle.nit_server.specs.Terms.{has_handle, has_slot, input_after_call, is_among, is_label}
+pub use Rattle.nit_server.specs.Terms.{has_handle, has_slot, input_after_call, is_slot_among, is_label}
 pub use Rattle.nit_server.specs.Terms.{is_length, is_named, is_of_session, is_place, is_rectangle}
-pub use Rattle.nit_server.specs.Terms.{is_slot, is_taken, is_view, kept_session_at, layer, layer_of}
+pub use Rattle.nit_server.specs.Terms.{is_slot, is_slot_taken, is_view, kept_session_at, layer, layer_of}
 pub use Rattle.nit_server.specs.Terms.{list_any, member, moved, moved_above, name_in, name_of}
 pub use Rattle.nit_server.specs.Terms.{no_kept_session, no_size, on_view, option_map_or, owner}
 pub use Rattle.nit_server.specs.Terms.{owner_in, pairs_of, pointed_by, pointer, pointer_after}

@@ -5,7 +5,7 @@ use Rattle.nit_server.proofs.Basics.{IsServerInput, IsSessionOfClient, IsStack, 
 use Rattle.nit_server.proofs.Basics.{MeanSame, Member, Reply, ServerModel, Size, SlotView}
 use Rattle.nit_server.proofs.Basics.{SlotsModel, StackModel, accepted, any-filter_same, get_or-map}
 use Rattle.nit_server.proofs.Basics.{get_or-set_at, get_or_default, has-name, has_handle}
-use Rattle.nit_server.proofs.Basics.{input_after_call, is_among, kept_session_at, layer, layer_of}
+use Rattle.nit_server.proofs.Basics.{input_after_call, is_slot_among, kept_session_at, layer, layer_of}
 use Rattle.nit_server.proofs.Basics.{length-map, map-map, map-set, map-set_same, member, name_in}
 use Rattle.nit_server.proofs.Basics.{nat_tests, no_kept_session, pairs_of, refusal, serve}
 use Rattle.nit_server.proofs.Basics.{serve_accepted, server_of, session_in, size_of_buffer, slot_of}
@@ -36,12 +36,12 @@ slot_of-none [] h none = refl
 slot_of-none (p ∷ pairs) h none = grind (arith, slot_of-none pairs h)
 
 -- one slot more
-pub among_more : (slots : List ℕ) (k j : ℕ) → is_among (with_slot slots k) j ≡ ((k == j) || is_among slots j)
+pub among_more : (slots : List ℕ) (k j : ℕ) → is_slot_among (with_slot slots k) j ≡ ((k == j) || is_slot_among slots j)
 among_more [] k j = refl
 among_more (s ∷ rest) k j = grind (arith, among_more rest k j)
 
 -- one slot less
-pub among_less : (slots : List ℕ) (k j : ℕ) → is_among (without_slot slots k) j ≡ (not (j == k) && is_among slots j)
+pub among_less : (slots : List ℕ) (k j : ℕ) → is_slot_among (without_slot slots k) j ≡ (not (j == k) && is_slot_among slots j)
 among_less slots k j = grind (arith, nat_tests, any-filter_same, eqb-true)
 
 -- ---- the tables of all sessions

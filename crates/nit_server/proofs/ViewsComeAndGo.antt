@@ -6,7 +6,7 @@ use Rattle.nit_server.proofs.Basics.{ServerModel, Session, SlotView, SlotsModel,
 use Rattle.nit_server.proofs.Basics.{accepted, agree_by, count_by-le-length, ended, first_session}
 use Rattle.nit_server.proofs.Basics.{forget, found_in_slot, found_passes, found_some, fresh}
 use Rattle.nit_server.proofs.Basics.{fresh_in, has-name, has-put_front, has-without, has_handle}
-use Rattle.nit_server.proofs.Basics.{has_slot, is_named, is_of_session, is_slot, is_taken, is_view}
+use Rattle.nit_server.proofs.Basics.{has_slot, is_named, is_of_session, is_slot, is_slot_taken, is_view}
 use Rattle.nit_server.proofs.Basics.{keeps_push, keeps_remove, keeps_size, kept_session_at}
 use Rattle.nit_server.proofs.Basics.{layer_of, length-filter, length-map, list_any, map-set}
 use Rattle.nit_server.proofs.Basics.{map-without, name-put_front, name-without, name_has_slot}
@@ -64,7 +64,7 @@ pub record IsNewView (slots : SlotsModel) (old new : KeptSessionModel) (handle k
   pub next : handle ≡ old.session.next
   pub unheld : has_handle old.pairs handle ≡ false
   pub below : k < slots.total
-  pub free : is_taken slots k ≡ false
+  pub free : is_slot_taken slots k ≡ false
   pub counted : length (with_slot slots.taken k) ≡ length slots.taken + 1
 
 module _ {config : Configuration} {stack : StackModel} {members : List KeptSessionModel} {slots : SlotsModel}

@@ -37,7 +37,7 @@ pub use Rattle.nit_rect.specs.Rectangle.{rectangle}
 pub use Rattle.nit_rect.specs.declared.point.Point.{Point}
 pub use Rattle.nit_slots.specs.Account.{AccountModel, IsDonation, buffer_left, buffer_need}
 pub use Rattle.nit_slots.specs.Account.{most_views, room, table_size, view_slots}
-pub use Rattle.nit_slots.specs.Slots.{SlotsModel, is_among, is_taken, spare, with_slot}
+pub use Rattle.nit_slots.specs.Slots.{SlotsModel, is_slot_among, is_slot_taken, spare, with_slot}
 pub use Rattle.nit_slots.specs.Slots.{without_slot}
 pub use Rattle.nit_slots.specs.Table.{IsTable, TableModel, has_handle, slot_of, without_handle}
 pub use Rattle.nit_stack.specs.LabelPlaces.{is_view}

@@ -5,7 +5,7 @@ use Rattle.std.specs.Prelude.{slice_index_or, Some}
 use Rattle.nit_server.specs.Below.{AllOfInput, Call, Configuration, InputState, IsConfiguration}
 use Rattle.nit_server.specs.Below.{IsNamedBy, IsStack, MeanSame, Reply, Session, Size, SlotView}
 use Rattle.nit_server.specs.Below.{SlotsModel, StackModel, State, after, bar_rows, first_session}
-use Rattle.nit_server.specs.Below.{has_slot, is_taken, member, name_in, room, serve, session}
+use Rattle.nit_server.specs.Below.{has_slot, is_slot_taken, member, name_in, room, serve, session}
 use Rattle.nit_server.specs.Below.{session_in, slot_of, table_size, view_slots, views_of}
 use Rattle.nit_events.specs.declared.entry.Entry.TheVariants as entry
 use Rattle.nit_server.specs.KeptSession.{IsPaid, KeptSessionModel}
@@ -83,7 +83,7 @@ pub record AreSlotsNamed (pairs : ℕ → List (ℕ × ℕ)) (count : ℕ) (view
       ≡ Some (t, handle)
   pub kept : (t handle k : ℕ) → name_in k views ≡ Some (t, handle) → (t < count) ×
       (slot_of (pairs t) handle ≡ Some k)
-  pub taken : (k : ℕ) → is_taken slots k ≡ has_slot k views
+  pub taken : (k : ℕ) → is_slot_taken slots k ≡ has_slot k views
 
 -- the account of a session is the one of its client, and it has places for the views that its
 -- client may ever have

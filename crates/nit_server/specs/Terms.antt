@@ -14,10 +14,10 @@ pub use Rattle.nit_server.specs.Below.{by_call, by_handle, by_life, by_quota, by
 pub use Rattle.nit_server.specs.Below.{changed, clicks_on, clicks_on_list, delivered, deliveries_of}
 pub use Rattle.nit_server.specs.Below.{delivery, donation_of, ended, first_input, first_session}
 pub use Rattle.nit_server.specs.Below.{first_state, forget, fresh, fresh_in, has_handle, has_slot}
-pub use Rattle.nit_server.specs.Below.{has_view, input_after_call, int_le, is_accepted, is_among}
+pub use Rattle.nit_server.specs.Below.{has_view, input_after_call, int_le, is_accepted, is_slot_among}
 pub use Rattle.nit_server.specs.Below.{is_file_name, is_kill, is_label, is_length, is_named}
 pub use Rattle.nit_server.specs.Below.{is_of_session, is_place, is_rectangle, is_side, is_slot}
-pub use Rattle.nit_server.specs.Below.{is_some, is_taken, is_view, kills, layer, layer_of, list_any}
+pub use Rattle.nit_server.specs.Below.{is_some, is_slot_taken, is_view, kills, layer, layer_of, list_any}
 pub use Rattle.nit_server.specs.Below.{member, most_sessions, most_side, most_slots, most_views}
 pub use Rattle.nit_server.specs.Below.{most_waiting, moved, moved_above, name_in, name_of, nat_le}
 pub use Rattle.nit_server.specs.Below.{negsuc, no_size, on_view, option_map, option_map_or, owner}

@@ -4,7 +4,8 @@ ghost use Rattle.std.specs.Prelude.{◌≡◌, ◌+◌, ◌-◌, ◌*◌, ◌^�
 ghost use Rattle.std.specs.Prelude.{true, None, IfOk, IfSome, IsNone, IsSomeAnd, length, map};
 ghost use Rattle.nit_server.specs.Terms.{Buffer, Destroy, IsDonation, IsPaid, IsTable, Take};
 ghost use Rattle.nit_server.specs.Terms.{Upgrade, accepted, by_call, by_handle, ended};
-ghost use Rattle.nit_server.specs.Terms.{first_session, has_handle, has_view, is_taken, most_side};
+ghost use Rattle.nit_server.specs.Terms.{first_session, has_handle, has_view, is_slot_taken};
+ghost use Rattle.nit_server.specs.Terms.{most_side};
 ghost use Rattle.nit_server.specs.Terms.{most_views, most_waiting, queued, receive, refusal};
 ghost use Rattle.nit_server.specs.Terms.{slot_of, spare, view_slots, with_slot, without_handle};
 ghost use Rattle.nit_server.specs.Terms.{without_slot};
@@ -141,7 +142,7 @@ impl KeptSession {
         ensures most { self.new.most ≡ self.old.most }
         ensures was_not_held { has_handle self.old.pairs result.0 ≡ false }
         ensures below { result.1 < slots.old.total }
-        ensures was_free { is_taken slots.old result.1 ≡ false }
+        ensures was_free { is_slot_taken slots.old result.1 ≡ false }
         ensures slots { slots.new
             ≡ record slots.old { taken = with_slot slots.old.taken result.1 } }
         ensures more_taken { length slots.new.taken ≡ length slots.old.taken + 1 }
@@ -161,7 +162,8 @@ impl KeptSession {
 
     /// The view is gone, and its slot is free.
     pub(crate) fn destroy(&mut self, slots: &mut Slots, h: u32)
-        requires { IsSomeAnd (slot_of self.old.pairs h) (λ slot. is_taken slots.old slot ≡ true) }
+        requires { IsSomeAnd (slot_of self.old.pairs h)
+            (λ slot. is_slot_taken slots.old slot ≡ true) }
         ensures session { self.new.session ≡ (accepted self.old.session (Destroy h)).session }
         ensures pairs { self.new.pairs ≡ without_handle self.old.pairs h }
         ensures most { self.new.most ≡ self.old.most }

@@ -1,6 +1,6 @@
 -- What lemmas use: the words of clauses, the library's lemmas, and those of the crates below.
 pub use Rattle.nit_slots.specs.Terms.{AreSlots, Differ, IsFreeList, IsStrictlyIncreasing, IsTable}
-pub use Rattle.nit_slots.specs.Terms.{Rises, has_handle, is_among, list_any, range_with_len}
+pub use Rattle.nit_slots.specs.Terms.{Rises, has_handle, is_slot_among, list_any, range_with_len}
 pub use Rattle.nit_slots.specs.Terms.{slot_of, taken_beside, with_slot, without_handle}
 pub use Rattle.nit_slots.specs.Terms.{without_slot}
 pub use Rattle.std.proofs.Common.{ap, arith, length, refl}

@@ -1,7 +1,7 @@
 -- The numbers of a range that pass a test, and one of them more or less.
 use Rattle.std.proofs.Common.{All, Bool, List, [], arith, false, filter, inl, inr, length, refl}
 use Rattle.std.proofs.Common.{suc, true, zero, ℕ, ◌+◌, ◌<◌, ◌∷◌, ◌≡◌, ◌≢◌, ◌≤◌}
-use Rattle.nit_slots.proofs.Basics.{IsStrictlyIncreasing, cases_lt, get_or-range_with_len, is_among}
+use Rattle.nit_slots.proofs.Basics.{IsStrictlyIncreasing, cases_lt, get_or-range_with_len, is_slot_among}
 use Rattle.nit_slots.proofs.Basics.{length-range_with_len, nat_tests, range_with_len, with_slot}
 use Rattle.nit_slots.proofs.Basics.{without_slot}
 
@@ -48,7 +48,7 @@ filter_without p q k out same (x ∷ xs) =
     grind (arith, nat_tests, same x)
 
 -- what stands among those that pass lies in the range and passes
-pub among_range : (p : ℕ → Bool) (k a n : ℕ) → is_among (filter p (range_with_len a n)) k ≡ true
+pub among_range : (p : ℕ → Bool) (k a n : ℕ) → is_slot_among (filter p (range_with_len a n)) k ≡ true
     → (p k ≡ true) × (k < a + n)
 among_range p k a zero h = cc
 among_range p k a (suc n) h = grind (arith, nat_tests, among_range p k (a + 1) n)

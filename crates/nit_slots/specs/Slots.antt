@@ -9,12 +9,12 @@ pub record SlotsModel : Type 0 where
   pub taken : List ℕ
 
 -- the slot is among these
-abbrev pub is_among : List ℕ → ℕ → Bool
-is_among slots k = list_any (λ s. s == k) slots
+abbrev pub is_slot_among : List ℕ → ℕ → Bool
+is_slot_among slots k = list_any (λ s. s == k) slots
 
 -- the slot is taken
-abbrev pub is_taken : SlotsModel → ℕ → Bool
-is_taken o k = is_among o.taken k
+abbrev pub is_slot_taken : SlotsModel → ℕ → Bool
+is_slot_taken o k = is_slot_among o.taken k
 
 -- how many slots are not taken
 abbrev pub spare : SlotsModel → ℕ

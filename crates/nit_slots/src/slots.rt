@@ -1,6 +1,6 @@
 ghost use Rattle.std.specs.Prelude.{◌≡◌, ◌+◌, ◌<◌, ◌≤◌, true, false, [], IfOk, length};
 ghost use Rattle.std.specs.Prelude.{vec_capacity};
-ghost use Rattle.nit_slots.specs.Terms.{AreSlots, is_taken, most_slots, range_with_len, spare};
+ghost use Rattle.nit_slots.specs.Terms.{AreSlots, is_slot_taken, most_slots, range_with_len, spare};
 ghost use Rattle.nit_slots.specs.Terms.{with_slot, without_slot};
 
 use nit_rect::NoMemory;
@@ -52,7 +52,7 @@ impl Slots {
     pub(crate) fn take(&mut self) -> u32
         requires { 0 < spare self.old }
         ensures below { result < self.old.total }
-        ensures free { is_taken self.old result ≡ false }
+        ensures free { is_slot_taken self.old result ≡ false }
         ensures taken { self.new ≡ record self.old { taken = with_slot self.old.taken result } }
         ensures more { length self.new.taken ≡ length self.old.taken + 1 }
     {
@@ -61,7 +61,7 @@ impl Slots {
 
     /// Makes a taken slot free.
     pub(crate) fn give_back(&mut self, slot: u32)
-        requires { is_taken self.old slot ≡ true }
+        requires { is_slot_taken self.old slot ≡ true }
         ensures taken { self.new ≡ record self.old { taken = without_slot self.old.taken slot } }
         ensures fewer { length self.new.taken + 1 ≡ length self.old.taken }
     {

@@ -1,7 +1,8 @@
 ghost use Rattle.std.specs.Prelude.{◌≡◌, ◌+◌, ◌-◌, ◌^◌, ◌<◌, ◌≤◌, ◌↔◌, true, false, [], ◌∷◌, ◌++◌};
 ghost use Rattle.std.specs.Prelude.{IfOk, IsSome, IsNone, IfSome, IsSomeAnd, All, length};
 ghost use Rattle.std.specs.Prelude.{vec_capacity};
-ghost use Rattle.nit_slots.specs.Terms.{IsTable, has_handle, is_taken, last_handle, most_views};
+ghost use Rattle.nit_slots.specs.Terms.{IsTable, has_handle, is_slot_taken, last_handle};
+ghost use Rattle.nit_slots.specs.Terms.{most_views};
 ghost use Rattle.nit_slots.specs.Terms.{slot_of, spare, with_slot, without_handle, without_slot};
 
 use crate::slots::Slots;
@@ -71,7 +72,7 @@ impl Table {
         ensures handle { result.0 ≡ self.old.next }
         ensures was_not_held { has_handle self.old.pairs result.0 ≡ false }
         ensures below { result.1 < slots.old.total }
-        ensures was_free { is_taken slots.old result.1 ≡ false }
+        ensures was_free { is_slot_taken slots.old result.1 ≡ false }
         ensures table { self.new
             ≡ record self.old { pairs = self.old.pairs ++ result ∷ []; next = self.old.next + 1 } }
         ensures slots { slots.new
@@ -96,7 +97,8 @@ impl Table {
     /// Takes h out of the table and makes its slot free. The handle h is held, and its slot is
     /// taken in `slots`.
     pub fn destroy(&mut self, slots: &mut Slots, h: u32)
-        requires { IsSomeAnd (slot_of self.old.pairs h) (λ slot. is_taken slots.old slot ≡ true) }
+        requires { IsSomeAnd (slot_of self.old.pairs h)
+            (λ slot. is_slot_taken slots.old slot ≡ true) }
         ensures table { self.new ≡ record self.old { pairs = without_handle self.old.pairs h } }
         ensures slots { IsSomeAnd (slot_of self.old.pairs h) (λ slot.
             slots.new ≡ record slots.old { taken = without_slot slots.old.taken slot }) }

@@ -138,7 +138,7 @@ pub put_last : (fs : List Stored) (name bytes : List ℕ) (y : Stored) → posit
 put_last fs name bytes y none named same =
     put_behind fs name bytes y y (nowhere fs name y none) (λ j. (named j, same j))
 
--- ---- files that are put one after the other: one more, more, and none behind a refusal
+-- ---- files that are put one after the other: one more, more, and none after a refusal
 
 pub puts_both : (front back : List File) (old mid new : PutState) → PutsAll front old mid → PutsAll back mid new
     → PutsAll (front ++ back) old new

@@ -12,7 +12,7 @@ files_of files = map (λ f. (string_bytes f.0, f.1.items)) files
 abbrev pub names_of : List (String Global) → List (List ℕ)
 names_of names = map (λ name. string_bytes name) names
 
--- whether no file has the name of one that stands behind it
+-- whether no file has the name of one that stands after it
 abbrev pub have_different_names : List File → Bool
 have_different_names [] = true
 have_different_names (f ∷ fs) = is_none (file_at f.0 fs) && have_different_names fs

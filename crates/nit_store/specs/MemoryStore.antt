@@ -36,7 +36,7 @@ memory_store_shown m = record {
   asked = Some m.asked;
 }
 
--- the next call is one of those that are to fail; a call behind the last value of a counter is not,
+-- the next call is one of those that are to fail; a call after the last value of a counter is not,
 -- since no number in the list is greater
 abbrev pub FailsNext : MemoryStoreModel → Type 0
 FailsNext m = Contains m.failing (m.calls + 1)

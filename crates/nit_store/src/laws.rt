@@ -4,7 +4,7 @@ ghost use Rattle.std.specs.Prelude.{◌≡◌, ◌++◌, ◌∷◌, [], List, So
 ghost use Rattle.nit_store.specs.Terms.{File, PutRefusal, PutState, PutsAll, PutsNext};
 
 /// Files are put one after the other, until a put is refused. One more file, or more files, may be
-/// put behind them, and behind a refusal nothing changes.
+/// put after them, and after a refusal nothing changes.
 pub fn puts_go_on()
     ensures next { (files : List File) (file : File) (old mid new : PutState)
         → PutsAll files old mid → PutsNext file mid new → PutsAll (files ++ file ∷ []) old new }

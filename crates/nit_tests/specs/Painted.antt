@@ -17,7 +17,7 @@ one_view rect ox oy =
 
 -- Two views of two sessions on a screen of 12 by 7: these rectangles, with buffers of 12 by 7 and
 -- of
--- 4 by 7 behind them.
+-- 4 by 7 after them.
 abbrev pub two_views : Rectangle → Rectangle → StackModel
 two_views back front =
     record (empty_stack 12 7 2 2) {

@@ -24,7 +24,7 @@ between_inked ink from to c words now new old is =
     rw is (all_inked ink (is_between from to) c words
     (λ k inside. new k (grind (arith, nat_tests)) (grind (arith, nat_tests))) old)
 
--- a word behind the last one is 0
+-- a word after the last one is 0
 pub at_any : (ink others : List ℕ) (k : ℕ) → All (IsOfColours ink) others → IsOfColours ink (get_or others k 0)
 at_any ink others k all = elim (cases_lt k (length others)) [
   | inl inside ↦ all k 0 inside

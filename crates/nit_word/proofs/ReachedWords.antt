@@ -1,4 +1,4 @@
--- Words that are kept as far as they were reached, and are 0 behind.
+-- Words that are kept as far as they were reached, and are 0 from there on.
 use Rattle.std.proofs.Common.{Bool, List, ap, append-nil, append_assoc, arith, false, inl, inr}
 use Rattle.std.proofs.Common.{length, length-set, min, refl, replicate, slice_set, sym, take, true}
 use Rattle.std.proofs.Common.{ℕ, ◌++◌, ◌+◌, ◌-◌, ◌<◌, ◌∙◌, ◌≡◌, ◌≤◌}
@@ -43,7 +43,7 @@ pub same_filled : (size count : ℕ) (words more : List ℕ) → count ≤ size 
 same_filled size count words more room few is =
     rw (is, append_assoc, zeros_joined, length-append, length-zeros) (ap (λ n. words ++ zeros n) (omega arith))
 
--- words that are set as far as they are reached, where those behind are set to 0 if at all
+-- words that are set as far as they are reached, where those after are set to 0 if at all
 set_filled : (p : ℕ → Bool) (c : ℕ → ℕ) (size : ℕ) (words : List ℕ) → length words ≤ size
     → ((k : ℕ) → length words ≤ k → p k ≡ true → c k ≡ 0)
     → filled_up size (set_where p c words) ≡ set_where p c (filled_up size words)
@@ -114,7 +114,7 @@ none_wiped from to n end words counted least none =
 pub none_past : (from to k : ℕ) → to ≤ k → is_between from to k ≡ false
 none_past from to k past = grind (arith, nat_tests)
 
--- what is kept of them where some were copied, as far as the others are kept, and those behind are 0
+-- what is kept of them where some were copied, as far as the others are kept, and those after are 0
 pub copied_in : (from to end n size : ℕ) (others whole words more now rest back : List ℕ) → filled_up size words ≡ whole
     → length words ≤ size → from ≤ to → to ≤ length whole → from ≤ length others → end ≡ min to (length others)
     → more ≡ words ++ zeros (end - length words) → now ≡ set_where (is_between from end) (slice_index others) more

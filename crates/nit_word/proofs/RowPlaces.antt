@@ -1,4 +1,4 @@
--- Places among rows, one behind the other: the column and the row of each.
+-- Places among rows, one after the other: the column and the row of each.
 use Rattle.std.proofs.Common.{arith, ℕ, ◌%◌, ◌*◌, ◌+◌, ◌/◌, ◌<◌, ◌≤◌}
 use Rattle.nit_word.proofs.Basics.{div-add-mod', div-lt_iff_lt-mul, mod_below, mul-le-mul_right}
 

@@ -29,7 +29,7 @@ pub left_at : {G R : Type 0} (f : G → R) (gs : List G) (g g' : G) (t : ℕ) �
     → map f (set gs t g') ≡ map f gs
 left_at f gs g g' t is e = map-set_same f gs t g' g (e ∙ ap f is)
 
--- behind the last glass there is none
+-- after the last glass there is none
 pub none_listed : {G : Type 0} (f : G → Sight) (gs : List G) (sid : ℕ) → length gs ≤ sid
     → glass_in (map f gs) sid ≡ no_sight
 none_listed f gs sid l = get_or_past (map f gs) sid no_sight (rw length-map l)

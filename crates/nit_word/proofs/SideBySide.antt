@@ -77,7 +77,7 @@ some_copied from to others words order known =
     ∙ both_set (is_between from end) (is_between end to) (is_between from to) (slice_index others) words
     (λ k. grind (arith, nat_tests))
 
--- a row of the words from one number on, and of 0 behind the last of them
+-- a row of the words from one number on, and of 0 after the last of them
 pub row_read : (from known : ℕ) (words row part now : List ℕ) → known ≡ min (length row) (length words - from)
     → from < length words → part ≡ take (from + known - from) (drop from words)
     → now ≡ set_where (is_between known (length row)) (λ n. 0) (part ++ drop known row) → (j : ℕ) → j < length row

@@ -8,7 +8,7 @@ pub length-zeros : (n : ℕ) → length (zeros n) ≡ n
 unfolding zeros
 length-zeros n = length-replicate n 0
 
--- the word at any place is 0, also behind the last one
+-- the word at any place is 0, also after the last one
 pub zero_at : (n i : ℕ) → slice_index (zeros n) i ≡ 0
 unfolding zeros
 zero_at n i = elim (cases_lt i n) [

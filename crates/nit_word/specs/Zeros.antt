@@ -5,7 +5,7 @@ use Rattle.std.specs.Prelude.{ℕ, ◌-◌, List, ◌++◌, length, replicate, �
 unfoldable pub zeros : ℕ → List ℕ
 zeros n = replicate n 0
 
--- these words, and behind them as many that are 0 as it takes for so many in all
+-- these words, and after them as many that are 0 as it takes for so many in all
 abbrev pub filled_up : ℕ → List ℕ → List ℕ
 filled_up size words = words ++ zeros (size - length words)
 

@@ -42,7 +42,7 @@ impl Inked {
     }
 
     /// A glass over so many words, which are 0, of these colours. Each is below 2^24. No call on
-    /// the glass takes memory, and words behind the last one that was set take no time.
+    /// the glass takes memory, and words after the last one that was set take no time.
     ///
     /// # Errors
     ///

@@ -41,7 +41,7 @@ pub(crate) fn copy_words(words: &mut [u32], from: usize, to: usize, others: &[u3
     words[from..to].copy_from_slice(&others[from..to]);
 }
 
-/// Sets a row to the words from the number `from` on, and to 0 behind the last of them.
+/// Sets a row to the words from the number `from` on, and to 0 after the last of them.
 pub(crate) fn read_words(words: &[u32], from: usize, row: &mut [u32])
     ensures count { length row.new ≡ length row.old }
     ensures words { (j : ℕ) → j < length row.old

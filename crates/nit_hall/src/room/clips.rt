@@ -16,7 +16,7 @@ use nit_clip::laws::{calls_of_a_clip_script, left_to_do, one_more_clip, one_more
 use nit_clip::{ClipEntry, ClipReply};
 
 impl<'a> Room<'a> {
-    /// Serves the next line of the clip pass, which is a clip call: it stands behind all entries of
+    /// Serves the next line of the clip pass, which is a clip call: it stands after all entries of
     /// the journal, with the focus that is there. The two passes are of one client of this room's
     /// opening and in one phase, which is served; the client's pass is done, or its next line ends
     /// the phase; and the journal is not ended.

@@ -19,7 +19,7 @@ impl<'a> Room<'a> {
     /// Takes the last picture: loads every pixel again through the passes, one for each client in
     /// order, sets `out`, which has a word for each pixel, to the frame, and ends the journal. All
     /// passes and the user's are of this room's opening and done, and the journal is not ended. The
-    /// user's knows the raw words behind all entries, which are one history.
+    /// user's knows the raw words after all entries, which are one history.
     pub fn finish(&mut self, passes: &mut [Pass<'a>], user: &mut UserPass<'a>, out: &mut [u32])
         requires passes { AreDone self.old.parts passes.old }
         requires user { IsDoneUser self.old.parts user.old }

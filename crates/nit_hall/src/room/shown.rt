@@ -4,7 +4,7 @@ use nit_ledger::HasRaw;
 use nit_pixels::Lens;
 use nit_scene::Scene;
 
-/// A scene whose raw words stand behind an entry of the book. Contracts alone know them.
+/// A scene whose raw words stand after an entry of the book. Contracts alone know them.
 #[derive(Drop)]
 pub(crate) struct Shown<'s, 'a> {
     pub(crate) scene: &'s Scene<Lens<'a>>,

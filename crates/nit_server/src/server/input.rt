@@ -91,7 +91,8 @@ impl Server {
     /// The session of the view that owns the pixel under the pointer. None where no view does.
     pub fn under_pointer(&self) -> Option<u32>
         ensures { let s = state_of self.now in result
-            ≡ option_map (λ v. v.sid) (owner (bar_rows s.config) s.stack (point s.input.x s.input.y)) }
+            ≡ option_map (λ v. v.sid)
+            (owner (bar_rows s.config) s.stack (point s.input.x s.input.y)) }
     {
         self.pointed(Device::Release(0))
     }

@@ -29,7 +29,7 @@ fn two_shares_append_count_and_meet(rt: HostRuntime) {
     can_be_sent(&book);
 }
 
-/// A screen of one pixel. Contracts see its raw word behind an entry.
+/// A screen of one pixel. Contracts see its raw word after an entry.
 #[derive(Drop)]
 struct OnePixel {
     word: u32,

@@ -54,7 +54,7 @@ const PLAYS: &[Play] = &[
 ];
 
 /// So many of a stream's bytes, the width and height, what they play at one call after the other,
-/// and the words that stand in the frame behind the first calls: so many that are equal, and then
+/// and the words that stand in the frame after the first calls: so many that are equal, and then
 /// others.
 struct Play {
     name: &'static str,
@@ -83,7 +83,7 @@ fn assert_play(rt: &impl Abort, alloc: Global, of: &Play) {
     );
 }
 
-/// The words that stand in the black frame behind calls that play so.
+/// The words that stand in the black frame after calls that play so.
 fn play_all(
     rt: &impl Abort,
     player: &mut Player<'_>,

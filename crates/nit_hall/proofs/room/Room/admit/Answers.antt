@@ -22,7 +22,7 @@ agree_on_stretch-requires-clause-can c = rw (c.at_line-at.ensures.client, ← c.
 abbrev stages_at : (c : After-agree_on_stretch) → List (List ℕ)
 stages_at c = stretch c.pass.inside.script.now c.pass.inside.donation c.pass.inside.next
 
--- the scene behind it
+-- the scene after it
 scene_at : (c : After-agree_on_stretch) → c.agree_on_stretch.new.scene
     ≡ (with_room_stages (left_of c.self.view_is) c.pass.inside.sid (stages_at c)).scene
 scene_at c = grind (arith, nat_tests)
