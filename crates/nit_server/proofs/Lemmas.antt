@@ -12,7 +12,8 @@ pub use Rattle.nit_server.proofs.Basics.{without_slot, without_views}
 pub use Rattle.nit_server.proofs.Openings.{begun, handles_without, has_as_held, none_of, one_more}
 pub use Rattle.nit_server.proofs.Openings.{opened_server, seat_holds, seat_leaves}
 pub use Rattle.nit_server.proofs.ServerInputLemmas.{attends_less, each_one, is_client, is_few}
-pub use Rattle.nit_server.proofs.ServerInputLemmas.{may_lose, no_owner, pointed_is, routed_is}
+pub use Rattle.nit_server.proofs.ServerInputLemmas.{may_lose, no_owner, owned_at, pointed_is}
+pub use Rattle.nit_server.proofs.ServerInputLemmas.{routed_is}
 pub use Rattle.nit_server.proofs.ViewsComeAndGo.{IsGoneView, IsNewView, closed, created, destroyed}
 pub use Rattle.nit_server.proofs.ViewsComeAndGo.{fewer, new_name, no_view_left, none_left, one_less}
 pub use Rattle.nit_server.proofs.ViewsComeAndGo.{session_ends, session_over, stands, view_comes}

@@ -4,7 +4,8 @@ use Rattle.nit_server.proofs.Basics.{Delivery, Device, Entry, Event, FocusModel,
 use Rattle.nit_server.proofs.Basics.{InputState, IsServerInput, Item, KeptSessionModel, MayLose}
 use Rattle.nit_server.proofs.Basics.{Point, Routed, ServerModel, Session, SlotView, SlotsModel}
 use Rattle.nit_server.proofs.Basics.{StackModel, State, Status, Take, View, accepted, after}
-use Rattle.nit_server.proofs.Basics.{all_kept, at_most_one, by_life, clicks_on, clicks_on_list}
+use Rattle.nit_server.proofs.Basics.{all_kept, at_most_one, bar_rows, by_life, clicks_on}
+use Rattle.nit_server.proofs.Basics.{clicks_on_list}
 use Rattle.nit_server.proofs.Basics.{delivered, deliveries_of, delivery, first_session, forget}
 use Rattle.nit_server.proofs.Basics.{known_after, length-map, nat_tests, owner, owner_in}
 use Rattle.nit_server.proofs.Basics.{owner_of_views, pointed_by, pointer, pointer_after, receive}
@@ -55,6 +56,17 @@ owner_session rows views p a e = grind (arith, nat_tests, owner_of_views)
 pub no_owner : (o : Option SlotView) → None ≡ option_map view_ref o → o ≡ None
 no_owner None e = refl
 no_owner (Some a) e = cc
+
+-- the view that owns a pixel, by its slot
+pub owned_at : {config : Configuration} {stack : StackModel} {members : List KeptSessionModel} {slots : SlotsModel}
+    {input : InputState} {now : ServerModel} → AreServerParts config stack members slots
+    → server_of config stack members input ≡ now → (p : Point) (a : Option SlotView)
+    → owner_in (λ s. s.view) stack.bar stack.views p ≡ a
+    → option_map (λ s. s.view) a ≡ owner (bar_rows now.config) (views_of now.stack.views) p
+owned_at {stack = stack} h is p a owned =
+    ap (option_map (λ (s : SlotView). s.view)) (sym owned) ∙ sym (owner_of_views stack.bar stack.views p)
+    ∙ ap (λ b. owner b (views_of stack.views) p) h.screen.2
+    ∙ ap (λ (z : ServerModel). owner (bar_rows z.config) (views_of z.stack.views) p) is
 
 module _ {config : Configuration} {stack : StackModel} {members : List KeptSessionModel} {slots : SlotsModel}
     {focus : FocusModel} {now : ServerModel} (h : AreServerParts config stack members slots)

@@ -277,6 +277,13 @@ impl KeptSession {
         self.account.views()
     }
 
+    /// What the session has been donated, and what its reserve still has, in units.
+    pub(crate) fn units(&self) -> (u32, u32)
+        ensures { result ≡ (self.now.session.donation, self.now.session.reserve) }
+    {
+        (self.account.donation(), self.account.reserve())
+    }
+
     /// How many events were lost.
     pub(crate) fn lost(&self) -> u64
         ensures { result ≡ self.now.session.lost }

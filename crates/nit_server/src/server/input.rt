@@ -14,6 +14,8 @@ use crate::server::Server;
 use nit_config::Config;
 use nit_events::{Delivery, Device, Event, Item, Mode, Routed};
 use nit_focus::Focus;
+use nit_rect::Point;
+use nit_stack::View;
 
 impl Server {
     /// The mode of the user's input.
@@ -84,6 +86,16 @@ impl Server {
     {
         match self.stack.owner(self.focus.clamp(dev)) {
             Some(v) => Some(self.stack.view(v).sid),
+            None => None,
+        }
+    }
+
+    /// The view that owns the pixel. None where no view does.
+    pub fn owner(&self, p: Point) -> Option<View>
+        ensures { let s = state_of self.now in result ≡ owner (bar_rows s.config) s.stack p }
+    {
+        match self.stack.owner(p) {
+            Some(v) => Some(self.stack.view(v)),
             None => None,
         }
     }

@@ -36,6 +36,15 @@ impl Server {
         }
     }
 
+    /// What the session `sid` has been donated, and what its reserve still has, in units.
+    pub fn units(&self, sid: u32) -> (u32, u32)
+        requires { sid < length self.now.sessions }
+        ensures donation { result.0 ≡ (session_in self.now.sessions sid).donation }
+        ensures reserve { result.1 ≡ (session_in self.now.sessions sid).reserve }
+    {
+        self.members[sid as usize].units()
+    }
+
     /// How many events the session `sid` has lost, since its queue held 64.
     pub fn lost(&self, sid: u32) -> u64
         requires { sid < length self.now.sessions }

@@ -43,6 +43,15 @@ impl Server {
         self.config.clients[sid as usize].label
     }
 
+    /// The layer of the views of the session `sid`, 0..=7.
+    pub fn layer(&self, sid: u32) -> u32
+        requires { sid < length self.now.sessions }
+        ensures { result ≡ (member self.now.config sid).layer }
+    {
+        self.facts();
+        self.config.clients[sid as usize].layer
+    }
+
     /// Whether no session but `sid` has this label.
     pub fn is_free(&self, sid: u32, label: &Label) -> bool
         ensures free { IsTrue result → IsFreeLabel self.now.config sid label.now }
