@@ -22,6 +22,8 @@ pub use Rattle.nit_journal.specs.StackAfter.{is_accepted}
 pub use Rattle.nit_journal.specs.State.{State, after, first_state, input_after_call, layer, route}
 pub use Rattle.nit_journal.specs.State.{session, session_in}
 pub use Rattle.nit_journal.specs.Steps.{IsFreeLabel, opened, vacant_state}
+pub use Rattle.nit_journal.specs.Terms.{under_pointer}
+pub use Rattle.nit_rect.specs.Limits.{most_slots}
 pub use Rattle.nit_rect.specs.Rectangle.{IsPlace}
 pub use Rattle.nit_screen.specs.DirtyPixels.{dirty}
 pub use Rattle.nit_screen.specs.FrameLabels.{IsFrameShown, ShowsLabels}

@@ -2,8 +2,9 @@
 
 ghost use Rattle.std.specs.Prelude.{◌≡◌, ◌<◌, ◌≤◌, ◌*◌, IfSome, IsTrue, false, length, Some};
 ghost use Rattle.std.specs.Prelude.{slice_get};
-ghost use Rattle.nit_desktop.specs.Terms.{AreLive, IsConfiguration, IsFreeLabel, IsPlace, member};
-ghost use Rattle.nit_desktop.specs.Terms.{refusal, session, table_size};
+ghost use Rattle.nit_desktop.specs.Terms.{AreLive, IsConfiguration, IsFreeLabel, IsPlace};
+ghost use Rattle.nit_desktop.specs.Terms.{bar_rows, member, most_slots, refusal, session};
+ghost use Rattle.nit_desktop.specs.Terms.{table_size, under_pointer};
 
 use crate::desktop::Desktop;
 use nit_events::{Call, Mode, Reply, Status};
@@ -104,9 +105,10 @@ impl Desktop {
         self.screen.server().stack().buffer(sid)
     }
 
-    /// How many views there are.
+    /// How many views there are, at most 1,024.
     pub fn views(&self) -> u32
-        ensures { result ≡ length self.now.state.stack }
+        ensures count { result ≡ length self.now.state.stack }
+        ensures most { result ≤ most_slots }
     {
         self.screen.server().stack().len()
     }
@@ -126,6 +128,22 @@ impl Desktop {
         ensures { result ≡ self.now.state.input.mode }
     {
         self.screen.server().mode()
+    }
+
+    /// The codes that are held, in the order in which they went down.
+    pub fn held(&self) -> &[u16]
+        ensures { result.now ≡ self.now.state.input.held }
+    {
+        self.screen.server().held()
+    }
+
+    /// The session that gets what is pressed and released while a code is held. None where no
+    /// session does.
+    pub fn receiver(&self) -> Option<u32>
+        ensures receiver { result ≡ self.now.state.input.receiver }
+        ensures known { IfSome result (λ sid. sid < length self.now.state.sessions) }
+    {
+        self.screen.server().receiver()
     }
 
     /// The session that has the focus. None where no session has it.
@@ -149,6 +167,21 @@ impl Desktop {
         ensures { result ≡ (self.now.state.input.x, self.now.state.input.y) }
     {
         self.screen.server().pointer()
+    }
+
+    /// The session of the view that owns the pixel under the pointer. None where no view does.
+    pub fn under_pointer(&self) -> Option<u32>
+        ensures { result ≡ under_pointer self.now.state }
+    {
+        self.screen.server().under_pointer()
+    }
+
+    /// The rows of the status bar, none or 7.
+    pub fn bar(&self) -> u32
+        ensures rows { result ≡ bar_rows self.now.state.config }
+        ensures few { result ≤ 7 }
+    {
+        self.screen.server().stack().bar()
     }
 
     /// The width and the height of the screen, each 1..=4096 pixels.
