@@ -1,13 +1,13 @@
 -- What a host serves are steps: calls, device events and refreshes.
 use Rattle.std.proofs.Common.{List, None, Option, Some, [], ap, false, get_or, length, refl, set}
-use Rattle.std.proofs.Common.{subst, sym, ℕ, ℤ, ◌++◌, ◌-◌, ◌<◌, ◌∙◌, ◌∷◌, ◌≡◌, ◌≢◌, ◌≤◌}
+use Rattle.std.proofs.Common.{subst, sym, ℕ, ℤ, ◌++◌, ◌<◌, ◌∙◌, ◌∷◌, ◌≡◌, ◌≢◌, ◌≤◌}
 use Rattle.nit_host.proofs.Basics.{Act, Answered, AreSheets, Call, Calls, Comes, Configuration}
 use Rattle.nit_host.proofs.Basics.{DesktopModel, Device, Does, Entry, HostModel, IsHost, IsPlainOf}
-use Rattle.nit_host.proofs.Basics.{IsServedEntry, IsStepOf, Looks, Painted, PixelSource, Rectangle}
+use Rattle.nit_host.proofs.Basics.{IsStepOf, Looks, PixelSource, Rectangle}
 use Rattle.nit_host.proofs.Basics.{Refreshes, Reply, Routed, Serves, Session, SheetModel, Sight}
 use Rattle.nit_host.proofs.Basics.{State, Step, Word, after, after_act, after_acts, after_handing}
 use Rattle.nit_host.proofs.Basics.{after_step, and_right, arith, behind, called, cases_eq}
-use Rattle.nit_host.proofs.Basics.{cond_both, dirty, eq-eqb, fold-append, get_or-set_same, glass_in}
+use Rattle.nit_host.proofs.Basics.{cond_both, dirty, eq-eqb, fold-append, get_or-set_same}
 use Rattle.nit_host.proofs.Basics.{handed, is_accepted, is_handed, is_word_in, low_bytes, nat_tests}
 use Rattle.nit_host.proofs.Basics.{pixel, plain_sight, rectangle, refreshed, refusal, refused_reply}
 use Rattle.nit_host.proofs.Basics.{reply_to, route, routed_as, routed_of, serve, serve_accepted}
@@ -17,11 +17,12 @@ use Rattle.nit_host.proofs.Basics.{unless_for, unserved_input, word_from}
 use Rattle.nit_host.proofs.Seatings.{may_sit}
 use Rattle.nit_host.proofs.Beginnings.{is_seat}
 use Rattle.nit_journal.specs.Steps.{AreSteps, after_steps}
-use Rattle.nit_host.proofs.Steps.{KeepSources, Rest, WasServed, Words, behind_now, host_model}
+use Rattle.nit_host.proofs.Steps.{KeepSources, WasServed, Words, behind_now, host_model}
 use Rattle.nit_host.proofs.Steps.{host_now, own_plain, own_room, own_words, put_there, same_sheets}
-use Rattle.nit_host.proofs.Steps.{same_words, sheets_with, sights, words_at, words_elsewhere}
+use Rattle.nit_host.proofs.Steps.{same_words, sheets_with, words_at, words_elsewhere}
 use Rattle.nit_host.proofs.Steps.{words_with}
 use Rattle.nit_host.proofs.HandedWords.{not_here}
+use Rattle.nit_host.specs.Shown.{LastLook}
 use Rattle.nit_events.specs.declared.call.Call.TheVariants as call
 use Rattle.nit_events.specs.declared.entry.Entry.TheVariants as entry
 
@@ -64,7 +65,7 @@ all_acts h (act ∷ rest) = grind (arith, nat_tests, all_acts (after_act h act) 
 -- ---- what a device event leaves
 
 -- what a device event left of a host
-pub record WasTold (dev : Device) (routed : Routed) (h : HostModel) (seen : Option (List ℕ)) (d : DesktopModel)
+pub record WasTold (dev : Device) (routed : Routed) (h : HostModel) (seen : LastLook) (d : DesktopModel)
     (sheets : List SheetModel) : Type 0 where
   pub host : IsHost d sheets
   pub routed_now : routed ≡ routed_of h dev
@@ -73,7 +74,7 @@ pub record WasTold (dev : Device) (routed : Routed) (h : HostModel) (seen : Opti
 pub was_told : {d d' : DesktopModel} {sheets sheets' : List SheetModel} (dev : Device) {routed : Routed} → IsHost d sheets
     → WasServed (entry.Input dev routed) d d' sheets sheets'
     → routed ≡ routed_as (route d.state.config d.state.input d.state.stack dev).deliveries → KeepSources
-    → {kept : Option Entry} {seen : Option (List ℕ)} {h : HostModel} → host_model d sheets kept seen ≡ h
+    → {kept : Option Entry} {seen : LastLook} {h : HostModel} → host_model d sheets kept seen ≡ h
     → WasTold dev routed h seen d' sheets'
 was_told dev {routed} host now is keep {kept} {seen} view = rw (← view) (record {
   host = host_now now host host.sheets refl is keep (λ k clean. refl);
@@ -108,7 +109,7 @@ handed_plain config seat columns rows part words own own' plain is = (
     as_many (Some r) = set_long (is_handed columns rows r) (low_bytes words) (told_words own.sight.words)
 
 -- what a call left of a host
-pub record WasCalled (seat : ℕ) (call : Call) (r : Reply) (host now : HostModel) (seen : Option (List ℕ))
+pub record WasCalled (seat : ℕ) (call : Call) (r : Reply) (host now : HostModel) (seen : LastLook)
     (d d' : DesktopModel) (sheets sheets' : List SheetModel) : Type 0 where
   pub is_host : IsHost d' sheets'
   pub replied : r ≡ reply_to host seat call
@@ -119,7 +120,7 @@ pub record WasCalled (seat : ℕ) (call : Call) (r : Reply) (host now : HostMode
 pub was_called : {d d' : DesktopModel} {sheets sheets' : List SheetModel} {seat : ℕ} {call : Call} {r : Reply}
     → IsHost d sheets → WasServed (entry.Call seat call r) d d' sheets sheets'
     → r ≡ (serve (session d.state seat) call).reply → seat < length d.state.sessions → KeepSources
-    → {kept : Option Entry} {seen : Option (List ℕ)} {h : HostModel} → host_model d sheets kept seen ≡ h
+    → {kept : Option Entry} {seen : LastLook} {h : HostModel} → host_model d sheets kept seen ≡ h
     → WasCalled seat call r h (called seat call h) seen d d' sheets sheets'
 was_called {d} {d'} {sheets} {sheets'} {seat} {call} {r} host now reply inside keep {kept} {seen} view =
     subst (λ (m : HostModel). WasCalled seat call r m (called seat call m) seen d d' sheets sheets') view (record {
@@ -190,7 +191,7 @@ module _ {d d' : DesktopModel} {sheets sheets' : List SheetModel} {seat : ℕ} {
   all = sheets_with host.sheets (handed_plain d.state.config seat s.bw s.bh found words own own'
       (own_plain host.sheets is client) in_) (omega (arith, own_room host.sheets is client))
 
-  pub was_refreshed : {kept : Option Entry} {seen : Option (List ℕ)} {h0 : HostModel}
+  pub was_refreshed : {kept : Option Entry} {seen : LastLook} {h0 : HostModel}
       → host_model d sheets kept seen ≡ h0
       → WasCalled seat asked r h0 (refreshed seat x y w h words h0) seen d d' sheets sheets'
   was_refreshed {kept} {seen} view =

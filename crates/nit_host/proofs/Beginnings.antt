@@ -13,16 +13,18 @@ use Rattle.nit_host.proofs.Basics.{eq-eqb, ext_get_or, false_from_ne_true, false
 use Rattle.nit_host.proofs.Basics.{first_host, get_or-append_seam, get_or-enumerate_from}
 use Rattle.nit_host.proofs.Basics.{get_or-map, get_or-range_with_len, get_or-replicate}
 use Rattle.nit_host.proofs.Basics.{get_or_append_left, get_or_default, has_label, has_place}
-use Rattle.nit_host.proofs.Basics.{is_label, is_label_taken, is_screen, is_taken, is_within, layer}
+use Rattle.nit_host.proofs.Basics.{is_label, is_label_taken, is_screen, is_taken, is_within}
 use Rattle.nit_host.proofs.Basics.{length-append, length-enumerate_from, length-map}
 use Rattle.nit_host.proofs.Basics.{length-range_with_len, length-take-le, length-zeros, list_all}
 use Rattle.nit_host.proofs.Basics.{list_any_at, list_any_none, map-append, member, nat_tests}
 use Rattle.nit_host.proofs.Basics.{ne_eqb, pixel_count, planned, position_or_len_is, range_with_len}
-use Rattle.nit_host.proofs.Basics.{refused_plan, seats_of, seen, sheet_at, sheets_of, size_at}
+use Rattle.nit_host.proofs.Basics.{refused_plan, seats_of, sheet_at, sheets_of, size_at}
 use Rattle.nit_host.proofs.Basics.{slice_get-get_or, slice_get_past, source_of, table_size}
 use Rattle.nit_host.proofs.Basics.{take_more, told_words, unseated, waiting_label, waiting_member}
 use Rattle.nit_host.proofs.Basics.{zeros}
 use Rattle.nit_host.proofs.Steps.{words_at}
+use Rattle.nit_host.specs.Shown.{no_look}
+use Rattle.nit_host.specs.declared.host.shown.Shown.{Shown}
 use Rattle.nit_host.specs.declared.refusal.Unseated.TheVariants as why
 use Rattle.nit_rect.specs.Limits.{least_units, most_height, most_units, most_width}
 
@@ -103,11 +105,16 @@ pub begun : (d : DesktopModel) {s : State} {config : Configuration} {sheets : Li
     × IsAreaOf d.state.config.width d.state.config.height a
 begun d are is raw configured bare a all on = grind (arith, nat_tests, bare_fresh, column_and_row)
 
-pub first_now : (s : State) (config : Configuration) (d : DesktopModel) (sheets : List SheetModel) → d.state ≡ s
-    → d.left ≡ 4611686018427387904 → AreBlank config sheets
-    → record { state = d.state; sheets = sheets_of sheets; left = d.left; last = None; seen = None }
-    ≡ first_host s config
-first_now s config d sheets is left blank = rw (is, left, words_blank config sheets blank) refl
+pub first_now : (s : State) (config : Configuration) (d : DesktopModel) (sheets : List SheetModel) (views : List Shown)
+    → views ≡ [] → d.state ≡ s → d.left ≡ 4611686018427387904 → AreBlank config sheets
+    → record {
+      state = d.state;
+      sheets = sheets_of sheets;
+      left = d.left;
+      last = None;
+      seen = record no_look { views = views };
+    } ≡ first_host s config
+first_now s config d sheets views none is left blank = rw (is, left, words_blank config sheets blank, none) refl
 
 -- The first seat that passes a test, and whether another seat has a label.
 

@@ -21,7 +21,6 @@ use Rattle.nit_host.proofs.Frames.{whole_stays}
 use Rattle.nit_events.specs.declared.call.Call.TheVariants as call
 use Rattle.nit_events.specs.declared.device.Mode.TheVariants as mode
 use Rattle.nit_events.specs.declared.entry.Entry.TheVariants as entry
-use Rattle.nit_events.specs.declared.event.Item.TheVariants as item
 
 -- ---- a call
 

@@ -16,9 +16,8 @@ use Rattle.nit_host.proofs.Basics.{shows_part, shows_place, slice_get_within, so
 use Rattle.nit_host.proofs.Basics.{source_under, spans, touched_by, word_from}
 use Rattle.std.proofs.Common.{Bool, List, None, Option, Some, ap, cond, false, find, length, negsuc}
 use Rattle.std.proofs.Common.{pos, refl, slice_get, slice_index, subst, sym, true, ℕ, ℤ, ◌%◌, ◌&&◌}
-use Rattle.std.proofs.Common.{◌*◌, ◌+ℤ◌, ◌+◌, ◌-ℤ◌, ◌-◌, ◌/◌, ◌<◌, ◌==◌, ◌∙◌, ◌≡◌}
+use Rattle.std.proofs.Common.{◌*◌, ◌+ℤ◌, ◌-ℤ◌, ◌/◌, ◌<◌, ◌==◌, ◌∙◌, ◌≡◌}
 use Rattle.std.specs.List.{position_or_len}
-use Rattle.nit_events.specs.declared.call.Call.TheVariants as call
 use Rattle.nit_events.specs.declared.device.Mode.TheVariants as mode
 use Rattle.nit_host.specs.declared.host.touch.Touch.TheVariants as touch
 

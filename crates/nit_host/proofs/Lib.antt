@@ -7,6 +7,9 @@ mod Frames
 mod CallChanges
 mod UserMoves
 mod ActMoves
+mod LockOuts
+mod Clicks
+mod RefusedClicks
 mod SeatsFound
 pub mod Basics
 pub mod Lemmas

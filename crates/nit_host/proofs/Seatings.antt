@@ -1,6 +1,6 @@
 -- What is left where a client was given a seat.
 use Rattle.std.proofs.Common.{List, None, Option, Some, ap, arith, false, get_or, length, map, refl}
-use Rattle.std.proofs.Common.{set, sym, ℕ, ◌<◌, ◌∙◌, ◌≡◌, ◌≢◌, ◌≤◌}
+use Rattle.std.proofs.Common.{set, sym, true, ℕ, ◌<◌, ◌∙◌, ◌≡◌, ◌≢◌, ◌≤◌}
 use Rattle.nit_host.proofs.Basics.{AreLive, AreSheets, Configuration, DesktopModel, Entry}
 use Rattle.nit_host.proofs.Basics.{HostModel, IsHost, Member, Point, SheetModel, State, View}
 use Rattle.nit_host.proofs.Basics.{black_or_word, blank_sheet, buffer_size, eq-eqb, false≢true}
@@ -13,6 +13,7 @@ use Rattle.nit_screen.specs.Terms.{is_session, option_map_or}
 use Rattle.nit_host.proofs.Beginnings.{blank_plain, no_client, not_met, passed}
 use Rattle.nit_host.proofs.Steps.{Rest, blank_again_of, host_model, own_room, same_sheets}
 use Rattle.nit_host.proofs.Steps.{sheets_with, words_elsewhere, words_with}
+use Rattle.nit_host.specs.Shown.{LastLook}
 use Rattle.nit_events.specs.declared.event.Status.TheVariants as status
 
 -- ---- what it means that nothing is against it
@@ -79,10 +80,10 @@ pub record Opens (seat : ℕ) (label : List ℕ) (sheets sheets' : List SheetMod
   pub raw : d'.raw ≡ d.raw
   pub rest : Rest sheets' sheets
 
-pub record WasSeated (seat : ℕ) (label : List ℕ) (h : HostModel) (seen : Option (List ℕ)) (d d' : DesktopModel)
+pub record WasSeated (seat : ℕ) (label : List ℕ) (h : HostModel) (seen : LastLook) (d d' : DesktopModel)
     (sheets sheets' : List SheetModel) : Type 0 where
   pub host : IsHost d' sheets'
-  pub now : host_model d' sheets' None seen ≡ seated seat label h
+  pub now : host_model d' sheets' None (record seen { came = set seen.came seat true }) ≡ seated seat label h
   pub words : (k : ℕ) → word_from (sheet_in (sheets_of sheets)) (source_at d.state k)
       ≡ word_from (sheet_in (sheets_of sheets')) (source_at (opened seat label d.state) k)
 
@@ -111,7 +112,7 @@ module _ {d d' : DesktopModel} {sheets sheets' : List SheetModel} {seat : ℕ} {
       word_stays d.state p (words_elsewhere sheets seat blank) (owns_none d.state seat over live p)
       ∙ ap (word_from (sheet_in (sheets_of now_all))) (sym (keep d.state seat label p live over))
 
-  pub was_seated : {kept : Option Entry} {seen : Option (List ℕ)} {h : HostModel} → host_model d sheets kept seen ≡ h
+  pub was_seated : {kept : Option Entry} {seen : LastLook} {h : HostModel} → host_model d sheets kept seen ≡ h
       → WasSeated seat label h seen d d' sheets sheets'
   was_seated view = rw (← view) (record {
     host = record {

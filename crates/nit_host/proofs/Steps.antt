@@ -9,6 +9,7 @@ use Rattle.nit_host.proofs.Basics.{length-set, length-zeros, map-id, map-set, na
 use Rattle.nit_host.proofs.Basics.{pixel, pixel_count, plain_sight, same_frame, scenery_of, seen}
 use Rattle.nit_host.proofs.Basics.{set-get_or, sheet_at, sheet_in, sheets_of, size_at, source_at}
 use Rattle.nit_host.proofs.Basics.{source_of, told_words, word_from, words_of}
+use Rattle.nit_host.specs.Shown.{LastLook}
 use Rattle.std.proofs.Common.{List, Option, Some, [], ap, false, get_or, get_or-set_other}
 use Rattle.std.proofs.Common.{get_or-set_same, inl, inr, length, map, refl, set, slice_index, sym}
 use Rattle.std.proofs.Common.{ℕ, ◌<◌, ◌∙◌, ◌≡◌, ◌≢◌, ◌≤◌}
@@ -154,7 +155,7 @@ Words s e sheets sheets' =
     → word_from (sheet_in sheets) (source_at (after s e) k) ≡ word_from (sheet_in sheets') (source_at (after s e) k)
 
 -- the host of a desktop and sheets, with this last entry, that was last seen so
-abbrev pub host_model : DesktopModel → List SheetModel → Option Entry → Option (List ℕ) → HostModel
+abbrev pub host_model : DesktopModel → List SheetModel → Option Entry → LastLook → HostModel
 host_model d sheets last seen =
     record { state = d.state; sheets = sheets_of sheets; left = d.left; last = last; seen = seen }
 
@@ -191,6 +192,6 @@ module _ {e : Entry} {d d' : DesktopModel} {sheets sheets' : List SheetModel} (n
                   (sym (at ∙ keep d.state 0 e (pixel d.state.config.width k) agrees is)) ∙ stays k is
             ]
 
-    pub behind_now : (kept : Option Entry) (seen : Option (List ℕ))
+    pub behind_now : (kept : Option Entry) (seen : LastLook)
         → host_model d' sheets' (Some e) seen ≡ behind e (host_model d sheets kept seen)
     behind_now kept seen = rw (now.served.state, now.served.left, same_sheets now.rest) refl

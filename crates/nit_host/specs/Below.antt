@@ -45,7 +45,7 @@ pub use Rattle.nit_overlay.specs.Frame.{Scenery, bar_word, frame, shown}
 pub use Rattle.nit_overlay.specs.Terms.{is_some}
 pub use Rattle.nit_paint.specs.Repaint.{IsWordOfSource}
 pub use Rattle.nit_rect.specs.Limits.{least_units, most_height, most_length, most_sessions}
-pub use Rattle.nit_rect.specs.Limits.{most_units, most_width}
+pub use Rattle.nit_rect.specs.Limits.{most_slots, most_units, most_width}
 pub use Rattle.nit_rect.specs.Rectangle.{IsPlace, Rectangle, covers, is_rectangle, rectangle, spans}
 pub use Rattle.nit_rect.specs.declared.point.Point.{Point}
 pub use Rattle.nit_repaint.specs.PixelOwners.{is_word_in}

@@ -11,17 +11,18 @@ use Rattle.nit_events.specs.declared.call.Call.TheVariants as call
 use Rattle.nit_events.specs.declared.device.Device.TheVariants as device
 use Rattle.nit_events.specs.declared.entry.Entry.TheVariants as entry
 use Rattle.nit_host.specs.Sheet.{low_bytes}
+use Rattle.nit_host.specs.Shown.{LastLook, is_moved, no_look, nobody_came, shown_views}
 use Rattle.nit_host.specs.declared.refusal.Unserved.TheVariants as unserved
 
 -- the state; the words that each seat's client handed in, by their places in its buffer; how many
--- more entries are served; the last entry, where the last step was one; and the frame of the last
--- look, where there was one
+-- more entries are served; the last entry, where the last step was one; and what is remembered of
+-- the last look
 pub record HostModel : Type 0 where
   pub state : State
   pub sheets : List (List ℕ)
   pub left : ℕ
   pub last : Option Entry
-  pub seen : Option (List ℕ)
+  pub seen : LastLook
 
 -- the words of a seat
 abbrev pub sheet_in : List (List ℕ) → ℕ → List ℕ
@@ -56,7 +57,7 @@ first_host s config =
       sheets = blank_sheets config;
       left = 2 ^ 62;
       last = None;
-      seen = None;
+      seen = no_look;
     }
 
 -- a host as it opens by a configuration: its seats are all free, or all taken
@@ -151,6 +152,7 @@ is_device (device.Motion x y) = true
 abbrev pub unserved_input : HostModel → Device → Option Unserved
 unserved_input h dev =
     if not (is_device dev) then Some unserved.BadDevice
+    else if is_moved h.seen h.state dev then Some unserved.Moved
     else worn_out h
 
 -- who is told what of a device event
@@ -170,8 +172,16 @@ IsOneOf (Some seen) out = out ≡ seen
 
 -- the words are as the last look left them, or no look was yet
 abbrev pub IsAsSeen : HostModel → List ℕ → Type 0
-IsAsSeen h out = IsOneOf h.seen out
+IsAsSeen h out = IsOneOf h.seen.frame out
 
 -- the host behind a look: all that changes is what was seen
 abbrev pub looked : HostModel → HostModel
-looked h = record h { seen = Some (frame_shown h) }
+looked h =
+    record h {
+      seen =
+          record {
+            frame = Some (frame_shown h);
+            views = shown_views h.state.stack;
+            came = nobody_came;
+          };
+    }

@@ -1,5 +1,6 @@
 pub mod Sheet
 pub mod Plan
+pub mod Shown
 pub mod Host
 pub mod Handing
 pub mod Words
@@ -7,6 +8,7 @@ pub mod Seats
 pub mod Fresh
 pub mod Acts
 pub mod Moves
+pub mod Clicks
 pub mod Area
 pub mod Touch
 pub mod Looked

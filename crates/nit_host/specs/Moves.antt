@@ -39,6 +39,11 @@ pub record IsKillClick (s : State) (dev : Device) (seat : ℕ) : Type 0 where
   pub mode : s.input.mode ≡ Kill
   pub on : under_pointer s ≡ Some seat
 
+-- the act is the click that locks this seat's client out
+abbrev pub IsKillBy : Act → State → ℕ → Type 0
+IsKillBy (Does dev) s seat = IsKillClick s dev seat
+IsKillBy other s seat = ⊥
+
 -- the act takes the focus from this seat's client: it leaves, the user clicks elsewhere, or locks
 -- it out
 abbrev pub TakesFocus : Act → State → ℕ → Type 0

@@ -35,14 +35,15 @@ unseated h seat label =
     else if is_label_taken h.state seat label then Some why.LabelTaken
     else None
 
--- the host after a client was given a seat: the seat's session is a first one under the label, and
--- its words are 0
+-- the host after a client was given a seat: the seat's session is a first one under the label, its
+-- words are 0, and a client has come to it since the last look
 abbrev pub seated : ℕ → List ℕ → HostModel → HostModel
 seated seat label h =
     record h {
       state = opened seat label h.state;
       sheets = slice_set h.sheets seat (zeros (table_size (donation_of h.state.config seat)));
       last = None;
+      seen = record h.seen { came = slice_set h.seen.came seat true };
     }
 
 -- ---- the seat for a label

@@ -45,7 +45,7 @@ pub use Rattle.nit_host.specs.Host.{unserved_call, unserved_input, unserved_refr
 pub use Rattle.nit_host.specs.Host.{worn_out}
 pub use Rattle.nit_host.specs.Looked.{IsSeenBut, frame_at}
 pub use Rattle.nit_host.specs.Moves.{IsClickBy, IsClickOff, IsKillClick, IsTakenByClicks}
-pub use Rattle.nit_host.specs.Moves.{SwitchesMode, TakesFocus, is_held_after}
+pub use Rattle.nit_host.specs.Moves.{IsKillBy, SwitchesMode, TakesFocus, is_held_after}
 pub use Rattle.nit_host.specs.Plan.{hex_digit, is_screen, is_within, no_script, planned}
 pub use Rattle.nit_host.specs.Plan.{refused_plan, waiting_label, waiting_member}
 pub use Rattle.nit_host.specs.Seats.{has_label, is_label_taken, is_live, is_taken, seat_for, seated}
@@ -55,3 +55,10 @@ pub use Rattle.nit_host.specs.Touch.{HoldsBar, HoldsBarIn, HoldsTouched, IsBarAr
 pub use Rattle.nit_host.specs.Touch.{is_touched, part_touched, shows_place, touch_of, touched_by}
 pub use Rattle.nit_host.specs.Touch.{touched_in, touched_over, touched_unless}
 pub use Rattle.nit_host.specs.Words.{IsInPart, word_of}
+pub use Rattle.nit_host.specs.Below.{most_slots}
+pub use Rattle.nit_host.specs.Clicks.{CameSince, HasNoLook, IsLockedOut, IsNoLook, TakesClick}
+pub use Rattle.nit_host.specs.Clicks.{WasShown, after_look, owner_then}
+pub use Rattle.nit_host.specs.Shown.{LastLook, holds_nothing, is_as_shown, is_moved, is_same_client}
+pub use Rattle.nit_host.specs.Shown.{no_look, nobody_came, seat_covering, seat_shown}
+pub use Rattle.nit_host.specs.Shown.{shown_under_pointer, shown_view, shown_views}
+pub use Rattle.nit_host.specs.declared.host.shown.Shown.{Shown}

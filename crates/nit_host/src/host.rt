@@ -11,18 +11,21 @@ mod looking;
 mod opening;
 mod reading;
 mod seats;
+mod shown;
 mod touch;
 mod user;
 
 use crate::host::area::Area;
+use crate::host::shown::Shown;
 use crate::sheet::Sheet;
 use nit_desktop::Desktop;
 use nit_events::Entry;
+use nit_rect::MOST_SESSIONS;
 use std::marker::Model;
 use std::snapshot::Snapshot;
 
 /// A display server that a host program drives: its seats with the words that their clients handed
-/// in, the last entry, and what changed since the last look.
+/// in, the last entry, what the last look showed, and what changed since.
 #[derive(Drop)]
 pub struct Host {
     pub(crate) desktop: Desktop,
@@ -31,6 +34,10 @@ pub struct Host {
     pub(crate) last: Option<Entry>,
     /// Outside of it no pixel of the frame has changed since the last look.
     pub(crate) changed: Area,
+    /// The views that the last look showed, front first, with room for all that there may be.
+    pub(crate) shown: Vec<Shown>,
+    /// For each seat, whether a client has come to it since the last look.
+    pub(crate) came: [bool; MOST_SESSIONS],
     pub(crate) seen: Option<Seen>,
 }
 
@@ -42,11 +49,12 @@ pub(crate) struct Seen {
 }
 
 impl Model for Host {
-    ghost use Rattle.std.specs.Prelude.{option_map};
+    ghost use Rattle.std.specs.Prelude.{option_map, ◌≤◌, vec_capacity};
     ghost use Rattle.nit_host.specs.Area.{IsAreaOf};
     ghost use Rattle.nit_host.specs.Fresh.{IsHost, sheets_of};
     ghost use Rattle.nit_host.specs.Host.{HostModel};
     ghost use Rattle.nit_host.specs.Looked.{IsSeenBut, frame_at};
+    ghost use Rattle.nit_host.specs.Terms.{most_slots};
 
     ghost Value = { HostModel };
 
@@ -55,13 +63,18 @@ impl Model for Host {
       sheets = sheets_of h.sheets.items;
       left = h.desktop.left;
       last = h.last;
-      seen = option_map (λ s. frame_at s.desktop.value s.sheets.value.items) h.seen;
+      seen = record {
+        frame = option_map (λ s. frame_at s.desktop.value s.sheets.value.items) h.seen;
+        views = h.shown.items;
+        came = h.came;
+      };
     } };
 
     ghost invariant = { λ h. IsHost h.desktop h.sheets.items
         × IsSeenBut h.desktop.state (sheets_of h.sheets.items) h.changed
         (option_map (λ s. frame_at s.desktop.value s.sheets.value.items) h.seen)
-        × IsAreaOf h.desktop.state.config.width h.desktop.state.config.height h.changed };
+        × IsAreaOf h.desktop.state.config.width h.desktop.state.config.height h.changed
+        × (most_slots ≤ vec_capacity h.shown) };
 }
 
 impl Host {

@@ -17,6 +17,9 @@ ghost use Rattle.nit_host.specs.Terms.{reply_to, routed_of, session, sheet_in, s
 ghost use Rattle.nit_host.specs.Terms.{source_at, steps_of, to, under_pointer, unseated};
 ghost use Rattle.nit_host.specs.Terms.{unserved_input, unserved_refresh, word_of, xray_key};
 ghost use Rattle.nit_host.specs.Terms.{xray_mode};
+ghost use Rattle.nit_host.specs.Terms.{CameSince, HasNoLook, IsKillBy, IsLockedOut, TakesClick};
+ghost use Rattle.nit_host.specs.Terms.{WasShown, after_look, most_sessions, no_look, owner_then};
+ghost use Rattle.nit_host.specs.declared.refusal.Unserved.TheVariants as why;
 ghost use Rattle.nit_journal.specs.Terms.{AreLive, Call, Delivery, Device, owner_of};
 ghost use Rattle.nit_events.specs.declared.call.Call.TheVariants as call;
 ghost use Rattle.nit_events.specs.declared.device.Device.TheVariants as device;
@@ -147,6 +150,49 @@ pub fn modes_are_the_users()
         → unserved_input h (device.Press kill_button) ≡ None → h.state.input.held ≡ []
         → h.state.input.mode ≡ Kill
         → (after_act h (Does (device.Press kill_button))).state.input.mode ≡ Flat }
+{}
+
+/// A click goes to the client that the user saw there.
+///
+/// Let a host have been asked `acts`, then looked, then been asked `rest`, without another look.
+/// Where it serves the press of a button while nothing is held, the seat whose client has the pixel
+/// under the pointer is the one whose client had it as the host looked, or it is nobody's in both;
+/// and nobody has come to that seat since, so that it is the same client. So only the client that
+/// the look showed there gets the focus by a click, or is locked out by one; and nobody is locked
+/// out by anything else. Before the first look no client is clicked.
+///
+/// No other press is refused for it: what is refused is a button, while nothing is held, where the
+/// pixel is another's now, or its seat has another client.
+pub fn clicks_go_where_the_user_saw()
+    ensures seat { (h : HostModel) (acts rest : List Act) (k : ℕ) → HasNoLook rest
+        → let now = after_look h acts rest in TakesClick now k
+        → owner_then (after_acts h acts).state now.state ≡ under_pointer now.state }
+    ensures client { (h : HostModel) (acts rest : List Act) (k seat : ℕ) → HasNoLook rest
+        → let now = after_look h acts rest in TakesClick now k
+        → under_pointer now.state ≡ Some seat → CameSince h acts rest seat → ⊥ }
+    ensures focus { (h : HostModel) (acts rest : List Act) (act : Act) (seat : ℕ)
+        → HasNoLook rest → let now = after_look h acts rest in
+        (after_act now act).state.input.focus ≡ Some seat
+        → (now.state.input.focus ≡ Some seat)
+        ⊎ (IsClickBy act now.state seat × WasShown h acts rest seat) }
+    ensures locked { (h : HostModel) (acts rest : List Act) (act : Act) (seat : ℕ)
+        → HasNoLook rest → let now = after_look h acts rest in
+        IsLockedOut (after_act now act).state seat
+        → IsLockedOut now.state seat ⊎ (IsKillBy act now.state seat × WasShown h acts rest seat) }
+    ensures first { (h : HostModel) (acts : List Act) (k : ℕ) → h.seen ≡ no_look
+        → HasNoLook acts → let now = after_acts h acts in TakesClick now k
+        → under_pointer now.state ≡ None }
+    ensures unseen { (h : HostModel) (acts : List Act) (act : Act) (seat : ℕ) → h.seen ≡ no_look
+        → HasNoLook acts → let now = after_acts h acts in
+        ((after_act now act).state.input.focus ≡ Some seat → now.state.input.focus ≡ Some seat)
+        × (IsLockedOut (after_act now act).state seat → IsLockedOut now.state seat) }
+    ensures refused { (h : HostModel) (dev : Device) → unserved_input h dev ≡ Some why.Moved
+        → (k : ℕ) × (dev ≡ device.Press k) × (is_button k ≡ true) × (h.state.input.held ≡ []) }
+    ensures moved { (h : HostModel) (acts rest : List Act) (dev : Device) → HasNoLook rest
+        → let now = after_look h acts rest in unserved_input now dev ≡ Some why.Moved
+        → owner_then (after_acts h acts).state now.state ≡ under_pointer now.state
+        → (seat : ℕ) × (under_pointer now.state ≡ Some seat)
+        × (seat < most_sessions → CameSince h acts rest seat) }
 {}
 
 /// A code is held from its press to its release, but a mode key never, whoever comes and goes

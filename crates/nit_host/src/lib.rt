@@ -5,10 +5,11 @@
 //! ([`Host::input`]), and so is a look at what of the frame changed ([`Host::look`]).
 //!
 //! What contracts see of a host is a value of its own, [`HostModel`](specs::Host): the state, the
-//! words that each seat's client handed in, the last entry, and the frame of the last look. Each
-//! call answers and leaves what the definitions say of it, and nothing else. The frame is a
-//! function of that value: each pixel shows, as the mode has it, the word that its session handed
-//! in last for the place, so that no word is ever stale.
+//! words that each seat's client handed in, the last entry, and what is remembered of the last
+//! look, which is its frame, its views, and who came since. Each call answers and leaves what the
+//! definitions say of it, and nothing else. The frame is a function of that value: each pixel
+//! shows, as the mode has it, the word that its session handed in last for the place, so that no
+//! word is ever stale.
 //!
 //! All memory is taken at opening. A call that is not served changes nothing.
 //!

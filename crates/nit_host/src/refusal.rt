@@ -11,6 +11,8 @@ pub enum Unserved {
     ShortWords,
     /// The client asks for a view, and has had 2^32 - 3 of them: its handles are used up.
     HandlesUsedUp,
+    /// A button would go to another client than the last look showed under the pointer.
+    Moved,
     /// The host has served 2^62 entries.
     WornOut,
 }

@@ -5,9 +5,10 @@ ghost use Rattle.nit_host.specs.Terms.{AgreeIn, CoversChange, IsAsSeen, IsTouche
 ghost use Rattle.nit_host.specs.Terms.{after_act, frame_shown, last_text, looked};
 
 use crate::host::area::Area;
+use crate::host::shown::remember;
 use crate::host::{Host, Seen};
 use nit_look::look;
-use nit_rect::{NoMemory, Rect};
+use nit_rect::{MOST_SESSIONS, NoMemory, Rect};
 use nit_report::journal_text;
 use std::alloc::Global;
 use std::snapshot::Snapshot;
@@ -40,6 +41,8 @@ impl Host {
         let part = self.changed.rect();
         let found = look(self.frame(), width as usize, height as usize, &part, out);
         self.changed = Area::none();
+        remember(&self.desktop, &mut self.shown);
+        self.came = [false; MOST_SESSIONS];
         self.seen = Some(Seen {
             desktop: Snapshot::of(&self.desktop),
             sheets: Snapshot::of(&self.sheets),

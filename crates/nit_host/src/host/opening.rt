@@ -9,9 +9,12 @@ use crate::host::area::Area;
 use crate::sheet::Sheet;
 use nit_config::Config;
 use nit_desktop::Desktop;
-use nit_rect::NoMemory;
+use nit_rect::{MOST_SESSIONS, NoMemory};
 use nit_slots::table_size;
 use std::alloc::Global;
+
+/// How many views there are at most, of all clients.
+const MOST_VIEWS: usize = 1024;
 
 impl Host {
     /// A host whose seats are all free. A seat has the donation, the layer and the setting on
@@ -22,11 +25,14 @@ impl Host {
         ensures { IfOk result (λ h. h ≡ first_host (vacant_state config.now) config.now) }
     {
         let mut sheets = sheets(alloc, config)?;
+        let shown = Vec::with_capacity(alloc, MOST_VIEWS)?;
         Ok(Host {
             desktop: Desktop::vacant(alloc, config, &mut sheets)?,
             sheets,
             last: None,
             changed: Area::of_rows(config.width, config.height),
+            shown,
+            came: [false; MOST_SESSIONS],
             seen: None,
         })
     }
@@ -38,11 +44,14 @@ impl Host {
         ensures { IfOk result (λ h. h ≡ first_host (first_state config.now) config.now) }
     {
         let sheets = sheets(alloc, config)?;
+        let shown = Vec::with_capacity(alloc, MOST_VIEWS)?;
         Ok(Host {
             desktop: Desktop::new(alloc, config)?,
             sheets,
             last: None,
             changed: Area::of_rows(config.width, config.height),
+            shown,
+            came: [false; MOST_SESSIONS],
             seen: None,
         })
     }

@@ -91,6 +91,22 @@ impl Host {
         self.desktop.mode()
     }
 
+    /// The codes of the keys and buttons that are held, in the order in which they went down.
+    pub fn held(&self) -> &[u16]
+        ensures { result.now ≡ self.now.state.input.held }
+    {
+        self.desktop.held()
+    }
+
+    /// The seat whose client gets what is pressed and released while a code is held. `None` where
+    /// none does.
+    pub fn receiver(&self) -> Option<u32>
+        ensures receiver { result ≡ self.now.state.input.receiver }
+        ensures known { IfSome result (λ seat. seat < length self.now.state.sessions) }
+    {
+        self.desktop.receiver()
+    }
+
     /// The seat whose client has the focus. `None` where none has it.
     pub fn focus(&self) -> Option<u32>
         ensures focus { result ≡ self.now.state.input.focus }

@@ -34,6 +34,7 @@ impl Host {
         self.sheets[seat as usize].wipe();
         self.desktop.reopen(seat, label, &mut self.sheets);
         self.changed = self.changed.join(&part);
+        self.came[seat as usize] = true;
         self.last = None;
         Ok(())
     }

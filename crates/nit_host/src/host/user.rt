@@ -2,16 +2,25 @@
 
 ghost use Rattle.std.specs.Prelude.{◌≡◌, None, Some, Ok, Err};
 ghost use Rattle.nit_host.specs.Terms.{Does, Unserved, after_act, is_device, routed_of, told};
+ghost use Rattle.nit_host.specs.Terms.{holds_nothing, is_as_shown, is_button, is_moved};
 ghost use Rattle.nit_host.specs.Terms.{unserved_input};
 
 use crate::host::Host;
+use crate::host::shown::{is_same_client, seat_shown};
 use crate::host::touch::{bar_or_screen, bar_tells, shows_the_same, told};
 use crate::refusal::Unserved;
 use nit_events::{Device, Entry, Routed};
+use nit_rect::Point;
 use nit_screen::laws::clean_pixels_keep_their_source;
 
 /// The greatest code of a key or a button.
 const MOST_CODE: u16 = 767;
+
+/// The first code of a button.
+const FIRST_BUTTON: u16 = 272;
+
+/// The last code of a button.
+const LAST_BUTTON: u16 = 279;
 
 /// The furthest that a wheel may turn back.
 const LEAST_TURN: i8 = -127;
@@ -21,9 +30,13 @@ impl Host {
     /// client, which takes it by the call `Take`, or is locked out. An event that is not served
     /// changes nothing.
     ///
+    /// A button that is pressed while nothing is held is served only where the client under the
+    /// pointer is the one that the last look showed there. Where it is not, look again, so that the
+    /// user sees what a click would hit.
+    ///
     /// # Errors
     ///
-    /// `BadDevice` and `WornOut`, the first of them that applies.
+    /// `BadDevice`, `Moved` and `WornOut`, the first of them that applies.
     pub fn input(&mut self, device: Device) -> Result<Routed, Unserved>
         ensures served { unserved_input self.old device ≡ None
             → (result ≡ Ok (routed_of self.old device)) × (self.new ≡ told device self.old) }
@@ -55,10 +68,51 @@ impl Host {
     {
         if !is_device(device) {
             Some(Unserved::BadDevice)
+        } else if self.is_moved(device) {
+            Some(Unserved::Moved)
         } else {
             self.worn_out()
         }
     }
+
+    /// Whether a button would go to another client than the user saw.
+    fn is_moved(&self, device: Device) -> bool
+        ensures { result ≡ is_moved self.now.seen self.now.state device }
+    {
+        match device {
+            Device::Press(code) => {
+                is_button(code) && self.holds_nothing() && !self.is_as_shown()
+            }
+            Device::Release(_) | Device::Wheel(_) | Device::Motion(..) => false,
+        }
+    }
+
+    /// Whether no code is held.
+    fn holds_nothing(&self) -> bool
+        ensures { result ≡ holds_nothing self.now.state.input.held }
+    {
+        self.held().is_empty()
+    }
+
+    /// Whether the client under the pointer is the one that the last look showed there.
+    fn is_as_shown(&self) -> bool
+        ensures { result ≡ is_as_shown self.now.seen self.now.state }
+    {
+        let (x, y) = self.pointer();
+        let p = Point {
+            x: x as i32,
+            y: y as i32,
+        };
+        let seen = seat_shown(self.shown.as_slice(), self.desktop.bar(), p);
+        is_same_client(&self.came, seen, self.desktop.under_pointer())
+    }
+}
+
+/// Whether the code is a button's.
+fn is_button(code: u16) -> bool
+    ensures { result ≡ is_button code }
+{
+    FIRST_BUTTON <= code && code <= LAST_BUTTON
 }
 
 /// Whether the numbers of a device event are in range.

@@ -1,4 +1,4 @@
-use Rattle.std.proofs.Common.{Ok, ap, arith, length, ◌<◌, ◌∙◌}
+use Rattle.std.proofs.Common.{Ok, ap, length, ◌<◌}
 use Rattle.nit_host.proofs.Lemmas.{WasCalled, WasServed, are_glasses, called, frame_at, is_seat}
 use Rattle.nit_host.proofs.Lemmas.{option_map, seen_called, sheets_of, was_called, when_served}
 use Rattle.nit_events.specs.declared.entry.Entry.TheVariants as entry
@@ -13,7 +13,11 @@ known c = is_seat c.args.seat _ _ c.self.view_is c.in_default.ensures
 -- what the call left
 done : (c : goal.After-self-3-1) → WasCalled c.args.seat c.args.call.now c.call-reply.result c.args.self.now
     (called c.args.seat c.args.call.now c.args.self.now)
-    (option_map (λ s. frame_at s.desktop.value s.sheets.value.items) c.self.inside.seen) c.self.inside.desktop
+    (record {
+      frame = option_map (λ s. frame_at s.desktop.value s.sheets.value.items) c.self.inside.seen;
+      views = c.self.inside.shown.items;
+      came = c.self.inside.came;
+    }) c.self.inside.desktop
     c.call-reply.new.self c.self.inside.sheets.items c.call-reply.new.glasses.items
 done c =
     let now : WasServed (entry.Call c.args.seat c.args.call.now c.call-reply.result) c.self.inside.desktop
@@ -28,7 +32,7 @@ invariant_of-self c =
     (c.touched-after.ensures.touched, c.touched-after.ensures.area) c.join.ensures c.join-self-inside.ensures
     c.self.invariant.1 c.self.invariant.2 c.touch_of-touch.ensures c.call-reply.ensures.served.state
     c.call-reply.ensures.reply (done c).shown (known c) c.clean_pixels_keep_their_source.ensures in
-    ((done c).is_host, kept.0, kept.1)
+    ((done c).is_host, kept.0, kept.1, c.self.invariant.3)
 
 pub returns-clause-served : goal.returns-clause-served
 returns-clause-served c = λ _. (ap Ok (done c).replied, (done c).now_is)

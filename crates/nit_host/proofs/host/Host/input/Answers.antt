@@ -8,7 +8,11 @@ input-routed-requires-clause-glasses c = are_glasses c.self.invariant.0.sheets
 
 -- what the event left
 done : (c : goal.After-self-2-1) → WasTold c.args.device c.input-routed.result c.args.self.now
-    (option_map (λ s. frame_at s.desktop.value s.sheets.value.items) c.self.inside.seen) c.input-routed.new.self
+    (record {
+      frame = option_map (λ s. frame_at s.desktop.value s.sheets.value.items) c.self.inside.seen;
+      views = c.self.inside.shown.items;
+      came = c.self.inside.came;
+    }) c.input-routed.new.self
     c.input-routed.new.glasses.items
 done c =
     let now : WasServed (entry.Input c.args.device c.input-routed.result) c.self.inside.desktop c.input-routed.new.self
@@ -31,7 +35,7 @@ invariant_of-self c =
     c.bar_or_screen-before.result c.told-after.result e.delivered c.bar_or_screen-before.ensures c.told-after.ensures
     quiet.told (λ t. sym bar.mode ∙ quiet.mode t ∙ bar2.mode) (λ t. sym bar.focus ∙ quiet.focus t ∙ bar2.focus)
     c.join_unless-self-inside.ensures c.self.invariant.2 in
-    ((done c).host, kept.0, kept.1)
+    ((done c).host, kept.0, kept.1, c.self.invariant.3)
 
 pub returns-clause-served : goal.returns-clause-served
 returns-clause-served c = λ _. (ap Ok (done c).routed_now, (done c).now)

@@ -1,6 +1,6 @@
 use Rattle.std.proofs.Common.{ap, subst, sym, ℕ, ◌∙◌, ◌≡◌}
 use Rattle.nit_host.proofs.Lemmas.{AgreeOutside, agree_outside, frame_by, frame_shown}
-use Rattle.nit_host.proofs.Lemmas.{seen_now, sheets_of}
+use Rattle.nit_host.proofs.Lemmas.{arith, seen_now, sheets_of}
 use Rattle.nit_host.proofs.host.Host.look.Goals as goal
 
 pub invariant_of-self : goal.invariant_of-self
@@ -10,6 +10,7 @@ invariant_of-self c =
       rw (c.of.ensures, c.of-2.ensures) (seen_now d.state (sheets_of c.self.inside.sheets.items)
           c.none-self-inside.result),
       c.none-self-inside.ensures.area d.state.config.width d.state.config.height,
+      omega (arith, c.remember.ensures.room, c.self.invariant.3),
     )
 
 pub returns-clause-frame : goal.returns-clause-frame

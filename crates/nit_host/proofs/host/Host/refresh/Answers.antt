@@ -49,7 +49,11 @@ asked c = call.Refresh c.args.place.0 c.args.place.1 c.args.size.0 c.args.size.1
 -- what the refresh left
 done : (c : goal.After-self-3-1) → WasCalled c.args.seat (asked c) c.call-reply.result c.args.self.now
     (refreshed c.args.seat c.args.place.0 c.args.place.1 c.args.size.0 c.args.size.1 c.args.words.now c.args.self.now)
-    (option_map (λ s. frame_at s.desktop.value s.sheets.value.items) c.self.inside.seen) c.self.inside.desktop
+    (record {
+      frame = option_map (λ s. frame_at s.desktop.value s.sheets.value.items) c.self.inside.seen;
+      views = c.self.inside.shown.items;
+      came = c.self.inside.came;
+    }) c.self.inside.desktop
     c.call-reply.new.self c.self.inside.sheets.items c.call-reply.new.glasses.items
 done c =
     let d = c.self.inside.desktop in
@@ -78,7 +82,7 @@ invariant_of-self c =
     (e.served.state ∙ ap (λ (k : Call). after d.state (entry.Call c.args.seat k c.call-reply.result)) call_is)
     (e.reply ∙ ap (λ (k : Call). (serve (session d.state c.args.seat) k).reply) call_is)
     (done c).shown (known c) c.clean_pixels_keep_their_source.ensures in
-    ((done c).is_host, kept.0, kept.1)
+    ((done c).is_host, kept.0, kept.1, c.self.invariant.3)
 
 pub returns-clause-served : goal.returns-clause-served
 returns-clause-served c = λ _. rw c.refresh_of-call.ensures (ap Ok (done c).replied, (done c).now_is)

@@ -19,7 +19,11 @@ reopen-requires-clause-glasses c =
 
 -- what is left
 done : (c : goal.After-self-3-1) → WasSeated c.args.seat c.args.label c.args.self.now
-    (option_map (λ s. frame_at s.desktop.value s.sheets.value.items) c.self.inside.seen) c.self.inside.desktop
+    (record {
+      frame = option_map (λ s. frame_at s.desktop.value s.sheets.value.items) c.self.inside.seen;
+      views = c.self.inside.shown.items;
+      came = c.self.inside.came;
+    }) c.self.inside.desktop
     c.reopen.new.self c.self.inside.sheets.items c.reopen.new.glasses.items
 done c =
     let may = may_sit c.self.view_is c.in_default.ensures in
@@ -36,7 +40,7 @@ invariant_of-self c =
     (sheets_of c.self.inside.sheets.items) (sheets_of c.reopen.new.glasses.items) c.self.inside.changed
     c.bar_or_screen-part.result c.join-self-inside.result _ c.reopen.ensures.state (done c).words
     c.bar_or_screen-part.ensures c.join-self-inside.ensures c.self.invariant.1 c.self.invariant.2 in
-    ((done c).host, kept.0, kept.1)
+    ((done c).host, kept.0, kept.1, c.self.invariant.3)
 
 pub returns-clause-seated : goal.returns-clause-seated
 returns-clause-seated c = λ _. (refl, (done c).now)

@@ -4,13 +4,15 @@ use Rattle.nit_host.proofs.host.Host.seated.Goals as goal
 pub invariant_of-result : goal.invariant_of-result
 invariant_of-result c =
     let made = c.in_ok-new.ensures in
-    begun c.in_ok-new.field-0 c.in_ok-sheets.ensures.room (ap (λ (d : DesktopModel). d.state) made)
+    let first = begun c.in_ok-new.field-0 c.in_ok-sheets.ensures.room (ap (λ (d : DesktopModel). d.state) made)
     (ap (λ (d : DesktopModel). d.raw) made) refl refl c.of_rows.result
     (rw (← c.config.view_is) c.of_rows.ensures.all)
-    (rw (← c.config.view_is) (c.of_rows.ensures.area c.config.inside.height (omega arith)))
+    (rw (← c.config.view_is) (c.of_rows.ensures.area c.config.inside.height (omega arith))) in
+    (first.0, first.1, first.2, omega (arith, c.in_ok-shown.ensures))
 
 pub returns : goal.returns
 returns c =
     let made = c.in_ok-new.ensures in
     first_now (first_state c.args.config.now) c.args.config.now c.in_ok-new.field-0 c.in_ok-sheets.sheets.items
-    (ap (λ (d : DesktopModel). d.state) made) (ap (λ (d : DesktopModel). d.left) made) c.in_ok-sheets.ensures.blank
+    c.in_ok-shown.shown.items c.in_ok-shown.ensures.items (ap (λ (d : DesktopModel). d.state) made)
+    (ap (λ (d : DesktopModel). d.left) made) c.in_ok-sheets.ensures.blank

@@ -1,4 +1,4 @@
-use Rattle.nit_host.proofs.Lemmas.{DesktopModel, SheetModel, ap, are_glasses, arith, begun}
+use Rattle.nit_host.proofs.Lemmas.{DesktopModel, ap, are_glasses, arith, begun}
 use Rattle.nit_host.proofs.Lemmas.{first_now, refl, same_sheets, vacant_state}
 use Rattle.nit_host.proofs.host.Host.vacant.Goals as goal
 
@@ -8,15 +8,16 @@ vacant-requires-clause-glasses c = are_glasses c.in_ok-sheets.ensures.room
 pub invariant_of-result : goal.invariant_of-result
 invariant_of-result c =
     let made = c.in_ok-vacant.ensures.desktop in
-    rw (same_sheets c.in_ok-vacant.ensures.rest)
-    (begun c.in_ok-vacant.field-0 c.in_ok-sheets.ensures.room
+    let first = begun c.in_ok-vacant.field-0 c.in_ok-sheets.ensures.room
     (ap (λ (d : DesktopModel). d.state) made) (ap (λ (d : DesktopModel). d.raw) made) refl refl c.of_rows.result
     (rw (← c.config.view_is) c.of_rows.ensures.all)
-    (rw (← c.config.view_is) (c.of_rows.ensures.area c.config.inside.height (omega arith))))
+    (rw (← c.config.view_is) (c.of_rows.ensures.area c.config.inside.height (omega arith))) in
+    rw (same_sheets c.in_ok-vacant.ensures.rest) (first.0, first.1, first.2, omega (arith, c.in_ok-shown.ensures))
 
 pub returns : goal.returns
 returns c =
     let made = c.in_ok-vacant.ensures.desktop in
     rw (same_sheets c.in_ok-vacant.ensures.rest)
     (first_now (vacant_state c.args.config.now) c.args.config.now c.in_ok-vacant.field-0 c.in_ok-sheets.sheets.items
-    (ap (λ (d : DesktopModel). d.state) made) (ap (λ (d : DesktopModel). d.left) made) c.in_ok-sheets.ensures.blank)
+    c.in_ok-shown.shown.items c.in_ok-shown.ensures.items (ap (λ (d : DesktopModel). d.state) made)
+    (ap (λ (d : DesktopModel). d.left) made) c.in_ok-sheets.ensures.blank)

@@ -1,0 +1,16 @@
+use Rattle.nit_host.proofs.Clicks.{clicks_client, clicks_first, clicks_focus, clicks_locked}
+use Rattle.nit_host.proofs.Clicks.{clicks_seat, clicks_unseen}
+use Rattle.nit_host.proofs.RefusedClicks.{clicks_moved, clicks_refused}
+use Rattle.nit_host.proofs.laws.clicks_go_where_the_user_saw.Goals as goal
+
+pub returns : goal.returns
+returns c = record {
+  seat = clicks_seat;
+  client = clicks_client;
+  focus = clicks_focus;
+  locked = clicks_locked;
+  first = clicks_first;
+  unseen = clicks_unseen;
+  refused = clicks_refused;
+  moved = clicks_moved;
+}
