@@ -29,8 +29,10 @@
  *      opening needs less than 64 KB, and any other call less than 16 KB.
  *   6. The header and the archive are of one version, and the machine is an x86-64 one.
  *   7. The words of nit_look are as the last look left them; before the first one they may be any.
- *   8. While nit_state says NIT_MODE_KILL no call of a client but nit_take is served, and no client
- *      sits down. So what the user points at stays where it is until the click.
+ *   8. What nit_look puts is shown to the user before the next nit_press of a button: a click goes
+ *      to the client that the last look showed under the pointer, or is refused (NIT_MOVED). While
+ *      nit_state says NIT_MODE_KILL it is well to serve no call of a client but nit_take, and to
+ *      seat none: then no click there is refused behind a look.
  *   9. What speaks for a client calls for that client's seat alone. From nit_leave and NIT_KILL on
  *      it calls for none, and what it still has under way is dropped: the next client of the seat
  *      has its number, and its views count from 1 again.
@@ -38,10 +40,10 @@
  *      (its window lost the keyboard, a device went) is made up; that of a code which is not held
  *      does nothing, so one of each code from 0 to 767 lets go of all.
  * Where one of 1 to 6 is not kept, anything may happen. Where one of the others is not, each call
- * does what it says, but: without 7 the words are not what the screen shows; without 8 the click
- * may lock out another client than the user meant; without 9 a client calls as the next one of its
- * seat, and is told what is that one's; without 10 all keys, clicks and motions go on to whoever
- * got the press, the focus stays, and the mode keys do nothing.
+ * does what it says, but: without 7 the words are not what the screen shows; without 8 a click may
+ * go to another client than the user saw, or lock it out; without 9 a client calls as the next one
+ * of its seat, and is told what is that one's; without 10 all keys, clicks and motions go on to
+ * whoever got the press, the focus stays, and the mode keys do nothing.
  */
 #ifndef NITPICKER_H
 #define NITPICKER_H
@@ -109,6 +111,7 @@ enum nit_answer {
     NIT_NO_MEMORY = 42,       /* malloc answered NULL */
     NIT_IS_OPEN = 43,         /* the handle has a server */
     NIT_BAD_PLAN = 44,        /* a number of the plan is out of range */
+    NIT_MOVED = 45,           /* nit_press alone: the last look showed another client there */
 
     /* Refusals of the text of a configuration, in the order of docs/FORMATS.md. */
     NIT_CONFIG_TOO_LONG = 64, /* over 1,048,576 bytes */
@@ -162,7 +165,7 @@ struct nit_delivery {
  * out; unless 64 wait there already: then it is lost, and stands here all the same. Behind NIT_KILL
  * the seat is free: what speaks for its client speaks for nobody any more. */
 struct nit_routed {
-    uint32_t kind;            /* NIT_DONE, NIT_NO_SERVER, NIT_BAD_DEVICE, NIT_WORN_OUT */
+    uint32_t kind;            /* NIT_DONE, NIT_NO_SERVER, NIT_BAD_DEVICE, NIT_MOVED, NIT_WORN_OUT */
     uint32_t count;           /* 0..3 */
     struct nit_delivery to[3];
 };
@@ -340,10 +343,16 @@ struct nit_reply nit_refresh(struct nit_server *server, uint32_t seat, int32_t x
 
 /* ---- The user
  *
- * Each answers the first that applies of NIT_NO_SERVER, NIT_BAD_DEVICE, NIT_WORN_OUT; else it is a
- * step, NIT_DONE. 70 is the X-ray key and 99 the kill key; codes 272..279 are buttons. */
+ * Each answers the first that applies of NIT_NO_SERVER, NIT_BAD_DEVICE, NIT_MOVED (of nit_press),
+ * NIT_WORN_OUT; else it is a step, NIT_DONE. 70 is the X-ray key and 99 the kill key; codes
+ * 272..279 are buttons. */
 
-/* A key or a button goes down; 0..767. */
+/* A key or a button goes down; 0..767.
+ * NIT_MOVED: a button, while nothing is held, where the client under the pointer is not the one
+ * that the last look showed there; before the first look none was shown. So a click goes to the
+ * client that the user saw, in each mode. Look again and show that, and let the user click again;
+ * the release of the first click does nothing. A client that may stand in front of another can
+ * have the clicks on that one refused again and again, but not while no client is served. */
 struct nit_routed nit_press(struct nit_server *server, uint32_t code);
 
 /* It goes up. */

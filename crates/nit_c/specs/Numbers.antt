@@ -18,6 +18,7 @@ unserved_number unserved.NoSeat = 32
 unserved_number unserved.BadDevice = 37
 unserved_number unserved.ShortWords = 38
 unserved_number unserved.HandlesUsedUp = 40
+unserved_number unserved.Moved = 45
 unserved_number unserved.WornOut = 41
 
 -- why a client is not given a seat

@@ -93,6 +93,9 @@ pub(crate) const IS_OPEN: u32 = 43;
 /// A number of a plan is out of range.
 pub(crate) const BAD_PLAN: u32 = 44;
 
+/// The client under the pointer is not the one that the last look showed there.
+pub(crate) const MOVED: u32 = 45;
+
 // Refusals of the text of a configuration.
 
 /// It is too long.
@@ -198,6 +201,7 @@ pub(crate) fn unserved_number(why: Unserved) -> u32
         Unserved::BadDevice => BAD_DEVICE,
         Unserved::ShortWords => SHORT_WORDS,
         Unserved::HandlesUsedUp => HANDLES_USED_UP,
+        Unserved::Moved => MOVED,
         Unserved::WornOut => WORN_OUT,
     }
 }

@@ -59,6 +59,9 @@ pub enum Refusal {
     WrongFrame,
     /// The client asks for a view, and has made 4,294,967,293 of them.
     HandlesUsedUp,
+    /// A button, while nothing is held, and the client under the pointer is not the one that the
+    /// last look showed there.
+    Moved,
     /// The server has done its 2^62 steps.
     WornOut,
     /// There was no memory.
@@ -132,6 +135,7 @@ impl Refusal {
             raw::SHORT_WORDS => Refusal::ShortWords,
             raw::WRONG_FRAME => Refusal::WrongFrame,
             raw::HANDLES_USED_UP => Refusal::HandlesUsedUp,
+            raw::MOVED => Refusal::Moved,
             raw::WORN_OUT => Refusal::WornOut,
             raw::NO_MEMORY => Refusal::NoMemory,
             raw::BAD_PLAN => Refusal::BadPlan,
@@ -173,6 +177,7 @@ impl Refusal {
             Refusal::ShortWords => "there are fewer words than the buffer has",
             Refusal::WrongFrame => "the words are not as many as the pixels",
             Refusal::HandlesUsedUp => "the client has made all views that it ever may",
+            Refusal::Moved => "another client is under the pointer than was shown",
             Refusal::WornOut => "the server has no step left",
             Refusal::NoMemory => "there is no memory",
             Refusal::BadPlan => "a number of the plan is out of range",

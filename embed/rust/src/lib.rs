@@ -37,10 +37,9 @@
 //!
 //! It cannot be copied either, and a seat borrows it as long as it is used. So of the duties that
 //! the header lists these are left to a host: the thread has stack enough, and the archive that is
-//! linked is of this version; the words of [`Server::look`] are as the last look left them; while
-//! the mode is [`Mode::Kill`] no call of a client but [`Seat::take`] is served, and none sits down;
-//! what speaks for a client calls for its own seat alone, and for none once that client has left or
-//! was locked out; and each press has its release.
+//! linked is of this version; the words of [`Server::look`] are as the last look left them, and are
+//! shown before the next press of a button; what speaks for a client calls for its own seat alone,
+//! and for none once that client has left or was locked out; and each press has its release.
 //!
 //! ```compile_fail
 //! fn copy<T: Clone>() {}
@@ -232,8 +231,12 @@ impl Server {
 
     /// A key or a button goes down: 0..=767, as in Linux's `input-event-codes.h`.
     ///
+    /// A button that is pressed while nothing is held goes to the client that the last look showed
+    /// under the pointer, or is refused with [`Refusal::Moved`]: then look again and show that, and
+    /// let the user click again. Before the first look no client was shown.
+    ///
     /// # Errors
-    /// [`Refusal::BadDevice`], [`Refusal::WornOut`].
+    /// [`Refusal::BadDevice`], [`Refusal::Moved`], [`Refusal::WornOut`].
     pub fn press(&mut self, code: u32) -> Reply<Deliveries> {
         // SAFETY: the handle is ours.
         Deliveries::of(&unsafe { raw::nit_press(&mut self.raw, code) })

@@ -27,6 +27,7 @@ pub const HANDLES_USED_UP: u32 = 40;
 pub const WORN_OUT: u32 = 41;
 pub const NO_MEMORY: u32 = 42;
 pub const BAD_PLAN: u32 = 44;
+pub const MOVED: u32 = 45;
 
 pub const CONFIG_TOO_LONG: u32 = 64;
 pub const CONFIG_SYNTAX: u32 = 65;

@@ -42,6 +42,11 @@ fn told(seat: u32, event: Event) -> Delivery {
     }
 }
 
+/// The user sees what the screen shows. Nobody reads the words.
+fn shown(server: &mut Server) {
+    server.look(&mut [0; 32 * 24]).unwrap();
+}
+
 #[test]
 fn plans_are_refused_by_name() {
     for (width, height, bar, count) in [
@@ -128,6 +133,7 @@ fn input_goes_where_the_user_sends_it() {
     let mut server = two();
     let motion = server.motion(3, 4).unwrap();
     assert_eq!(*motion, [told(0, Event::Motion(3, 4))]);
+    shown(&mut server);
     let press = server.press(272).unwrap();
     assert_eq!(
         *press,
@@ -146,11 +152,30 @@ fn input_goes_where_the_user_sends_it() {
 }
 
 #[test]
+fn a_click_goes_to_the_client_that_was_shown() {
+    let mut server = two();
+    server.motion(20, 4).unwrap();
+    assert_eq!(server.press(272).unwrap_err(), Refusal::Moved);
+    shown(&mut server);
+    let mut seat = server.seat(0);
+    let cover = seat.view().unwrap();
+    seat.place(cover, 16, 0, 16, 24).unwrap();
+    assert_eq!(server.press(272).unwrap_err(), Refusal::Moved);
+    assert_eq!(server.state().focus, None);
+    shown(&mut server);
+    server.press(272).unwrap();
+    assert_eq!(server.state().focus, Some(0));
+    server.seat(0).destroy(cover).unwrap();
+    assert_eq!(*server.press(273).unwrap(), [told(0, Event::Press(273))]);
+}
+
+#[test]
 fn the_user_locks_a_client_out() {
     let mut server = two();
     server.motion(20, 4).unwrap();
     assert_eq!(*server.press(99).unwrap(), [told(1, Event::Leave)]);
     assert_eq!(server.state().mode, Mode::Kill);
+    shown(&mut server);
     let kill = Delivery {
         seat: 1,
         item: Item::Kill,
