@@ -28,7 +28,8 @@
  *   5. A call has stack enough. Nothing bounds it by proof; by measure (embed/tests/stack.c) an
  *      opening needs less than 64 KB, and any other call less than 16 KB.
  *   6. The header and the archive are of one version, and the machine is an x86-64 one.
- *   7. The words of nit_look are as the last look left them; before the first one they may be any.
+ *   7. The words of nit_look are as the last look left them; before the first one, and those of
+ *      nit_look_anew, they may be any.
  *   8. What nit_look puts is shown to the user before the next nit_press of a button: a click goes
  *      to the client that the last look showed under the pointer, or is refused (NIT_MOVED). While
  *      nit_state says NIT_MODE_KILL it is well to serve no call of a client but nit_take, and to
@@ -38,7 +39,7 @@
  *      has its number, and its views count from 1 again.
  *  10. Each press has its release. The release of a key or a button that the host has lost sight of
  *      (its window lost the keyboard, a device went) is made up; that of a code which is not held
- *      does nothing, so one of each code from 0 to 767 lets go of all.
+ *      does nothing. nit_held tells what is held, and nit_release_all lets go of it.
  * Where one of 1 to 6 is not kept, anything may happen. Where one of the others is not, each call
  * does what it says, but: without 7 the words are not what the screen shows; without 8 a click may
  * go to another client than the user saw, or lock it out; without 9 a client calls as the next one
@@ -58,8 +59,8 @@ extern "C" {
 /* ---- The handle */
 
 /* A server, or none. Where `mark` is not the library's own, it is none. Then each call but the two
- * that open leaves it as it is, and answers NIT_NO_SERVER; nit_seat_for answers NIT_NONE, and
- * nit_entry 0. */
+ * that open leaves it as it is, and answers NIT_NO_SERVER; nit_seat_for and nit_held answer
+ * NIT_NONE, and nit_entry, nit_label and nit_title_at 0. */
 struct nit_server {
     void *at;
     uint64_t mark;
@@ -76,8 +77,8 @@ struct nit_server {
 
 /* ---- Answers */
 
-/* What a call answers, in the field `kind` or by itself. But nit_seat_for answers a seat, and
- * nit_entry a length. */
+/* What a call answers, in the field `kind` or by itself. But nit_seat_for answers a seat,
+ * nit_held a code, and nit_entry, nit_label and nit_title_at a length. */
 enum nit_answer {
     NIT_NO_SERVER = 0,        /* the handle is closed, or was never one of a server */
 
@@ -188,6 +189,8 @@ struct nit_state {
     uint32_t focus;           /* the seat that has the focus, or NIT_NONE */
     uint32_t hover;           /* the seat that gets `leave` when the pointer goes, or NIT_NONE */
     uint32_t x, y;            /* the pointer's place on the screen */
+    uint32_t receiver;        /* the seat that gets what goes down and up while a code is held, or
+                                 NIT_NONE */
 };
 
 /* Whether a client sits on a seat. */
@@ -201,6 +204,24 @@ struct nit_seat_state {
     uint32_t waiting;         /* how many events wait, 0..64 */
     uint32_t zero;            /* 0 */
     uint64_t lost;            /* how many were lost since the seat was taken */
+};
+
+/* What a seat's client has. All but `kind` is 0 where there is none. */
+struct nit_account {
+    uint32_t kind;            /* NIT_DONE, NIT_NO_SERVER, NIT_NO_SEAT */
+    uint32_t layer;           /* of its views, 0..7 */
+    uint32_t donation;        /* in units: 256 go to each view, 8 to each word of the buffer */
+    uint32_t reserve;         /* in units: what nit_upgrade may still add */
+    uint32_t width, height;   /* of its buffer, in words: 0 before it has one */
+};
+
+/* A view. All but `kind` is 0 where there is none. */
+struct nit_view_state {
+    uint32_t kind;            /* NIT_DONE, NIT_NO_SERVER, NIT_NO_SUCH_VIEW */
+    uint32_t seat, view;      /* whose it is, and its handle */
+    int32_t x, y;             /* its rectangle, which may reach beyond the screen */
+    uint32_t w, h;
+    int32_t offset_x, offset_y;
 };
 
 /* ---- Opening and closing a server */
@@ -377,11 +398,49 @@ struct nit_routed nit_wheel(struct nit_server *server, int32_t turn);
  * shows its frame in two places copies it there. A look at a wrong number of words is none. */
 struct nit_rect nit_look(struct nit_server *server, uint32_t *out, size_t count);
 
+/* A look at words that may be any: of a host that has lost what the last look left. They are what
+ * the screen shows then, and the rectangle is the least outside of which none was another. */
+struct nit_rect nit_look_anew(struct nit_server *server, uint32_t *out, size_t count);
+
 /* What can be read of the server. */
 struct nit_state nit_state(struct nit_server *server);
 
 /* What can be read of a seat. */
 struct nit_seat_state nit_seat_state(struct nit_server *server, uint32_t seat);
+
+/* What a seat's client has, and what is left. What it has of the donation is
+ * donation - 256 * views - 8 * width * height. */
+struct nit_account nit_account(struct nit_server *server, uint32_t seat);
+
+/* Puts the label of a seat's client, or at a free seat the one that waits there, at the head of
+ * `out`, where its `room` bytes hold it, and answers how many bytes it has, 1..20. Where they do
+ * not, nothing is put. 0 where there is no server or no seat. */
+size_t nit_label(struct nit_server *server, uint32_t seat, char *out, size_t room);
+
+/* The view at a place among all, 0 the front-most one. So a host that asks until it is told
+ * NIT_NO_SUCH_VIEW has the views of each client, from front to rear. */
+struct nit_view_state nit_view_at(struct nit_server *server, uint32_t place);
+
+/* The title of that view, put and counted as a label is: 0..12 bytes, 0 where there is no view. */
+size_t nit_title_at(struct nit_server *server, uint32_t place, char *out, size_t room);
+
+/* The view that owns the pixel in this column and row, as the server stands: the front-most one
+ * that covers it. None has a pixel of the bar, or one that is not on the screen. It shows the word
+ * of its client's buffer in column x - view.x - offset_x and row y - view.y - offset_y. */
+struct nit_view_state nit_owner(struct nit_server *server, uint32_t x, uint32_t y);
+
+/* The code at a place among those that are held, 0 the one that went down first; NIT_NONE where no
+ * more are held. */
+uint32_t nit_held(struct nit_server *server, uint32_t place);
+
+/* Lets go of all that is held, each by a step of its own: when the host has lost sight of them. */
+static inline void nit_release_all(struct nit_server *server)
+{
+    uint32_t code;
+    while ((code = nit_held(server, 0)) != NIT_NONE
+           && nit_release(server, code).kind == NIT_DONE) {
+    }
+}
 
 /* Puts the last step as a line of docs/FORMATS.md's journal, with its line feed, at the head of
  * `out`, where its `room` bytes hold it, and answers how many bytes the line has. Where they do
@@ -402,8 +461,10 @@ NIT_BYTES(struct nit_reply, 40);
 NIT_BYTES(struct nit_delivery, 20);
 NIT_BYTES(struct nit_routed, 68);
 NIT_BYTES(struct nit_rect, 20);
-NIT_BYTES(struct nit_state, 36);
+NIT_BYTES(struct nit_state, 40);
 NIT_BYTES(struct nit_seat_state, 24);
+NIT_BYTES(struct nit_account, 24);
+NIT_BYTES(struct nit_view_state, 36);
 NIT_BYTES(struct nit_seat_plan, 12);
 NIT_BYTES(struct nit_plan, 24);
 #undef NIT_BYTES

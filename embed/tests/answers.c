@@ -114,7 +114,7 @@ static void plans(void)
     struct nit_server server = NIT_CLOSED;
     CHECK(nit_open(&server, &plan) == NIT_DONE);
     STATE(nit_state(&server), .kind = NIT_DONE, .width = 9, .height = 8, .seats = 1,
-          .focus = NIT_NONE, .hover = NIT_NONE);
+          .focus = NIT_NONE, .hover = NIT_NONE, .receiver = NIT_NONE);
     SEAT(nit_seat_state(&server, 0), .kind = NIT_DONE, .status = NIT_SEAT_CLOSED);
     SEAT(nit_seat_state(&server, 1), .kind = NIT_NO_SEAT);
     struct nit_server before = server;
@@ -363,6 +363,7 @@ int main(void)
     calls_answer();
     screen_answers();
     refreshes_read();
+    views_answer();
     input_answers();
     puts("answers: each call and each refusal is as the rules say");
     return 0;

@@ -13,6 +13,9 @@ void screen_answers(void);
 /* Which words a refresh reads: answers_reads.c. */
 void refreshes_read(void);
 
+/* What can be read of views, seats and held codes: answers_views.c. */
+void views_answer(void);
+
 /* Where input goes: answers_input.c. */
 void input_answers(void);
 

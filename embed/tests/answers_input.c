@@ -24,10 +24,14 @@ static void begin(void)
     sits(2, "c", 40);
 }
 
+/* The seat that gets what goes down and up, while a code is held. */
+static uint32_t receiver = NIT_NONE;
+
 static void state_is(uint32_t mode, uint32_t focus, uint32_t hover, uint32_t x, uint32_t y)
 {
     STATE(nit_state(&server), .kind = NIT_DONE, .width = 64, .height = 32, .seats = 3,
-          .mode = mode, .focus = focus, .hover = hover, .x = x, .y = y);
+          .mode = mode, .focus = focus, .hover = hover, .x = x, .y = y,
+          .receiver = receiver);
 }
 
 /* ---- The pointer. */
@@ -63,6 +67,7 @@ static void first_click(void)
     ROUTED(nit_release(&server, 30), NOBODY);
     ROUTED(nit_motion(&server, 5, 5), MOTION(0, 5, 5));
     ROUTED(nit_press(&server, 272), TOLD(0, NIT_FOCUS_ENTER), PRESS(0, 272));
+    receiver = 0;
     state_is(NIT_MODE_FLAT, 0, 0, 5, 5);
     ROUTED(nit_motion(&server, 25, 5), MOTION(0, 25, 5));
     state_is(NIT_MODE_FLAT, 0, 0, 25, 5);
@@ -73,6 +78,7 @@ static void first_click(void)
     ROUTED(nit_release(&server, 272), RELEASE(0, 272));
     ROUTED(nit_release(&server, 30), RELEASE(0, 30));
     ROUTED(nit_release(&server, 30), NOBODY);
+    receiver = NIT_NONE;
     state_is(NIT_MODE_FLAT, 0, 0, 25, 5);
 }
 

@@ -79,8 +79,9 @@ void same_rect(struct nit_rect got, struct nit_rect want, const char *file, int 
 
 static void state_text(char *out, size_t room, const struct nit_state *s)
 {
-    snprintf(out, room, "kind %u, %u by %u, seats %u, mode %u, focus %u, hover %u, at %u %u",
-             s->kind, s->width, s->height, s->seats, s->mode, s->focus, s->hover, s->x, s->y);
+    snprintf(out, room, "kind %u, %u by %u, seats %u, mode %u, focus %u, hover %u, at %u %u, receiver %u",
+             s->kind, s->width, s->height, s->seats, s->mode, s->focus, s->hover, s->x, s->y,
+             s->receiver);
 }
 
 void same_state(struct nit_state got, struct nit_state want, const char *file, int line)

@@ -380,5 +380,6 @@ struct nit_state nit_state(struct nit_server *server)
 {
     (void)server;
     return (struct nit_state){ .kind = NIT_DONE, .width = width, .height = height,
-                               .seats = SEATS, .focus = focus, .x = column, .y = row };
+                               .seats = SEATS, .focus = focus, .x = column, .y = row,
+                               .receiver = NIT_NONE };
 }

@@ -1,12 +1,14 @@
 -- The words of the library and of the crates below that are used here, and the crate's plain types.
 pub use Rattle.nit_c.specs.declared.looking.NitRect.{NitRect}
+pub use Rattle.nit_c.specs.declared.reading.NitAccount.{NitAccount}
 pub use Rattle.nit_c.specs.declared.reading.NitSeatState.{NitSeatState}
 pub use Rattle.nit_c.specs.declared.reading.NitState.{NitState}
 pub use Rattle.nit_c.specs.declared.reply.NitEvent.{NitEvent}
 pub use Rattle.nit_c.specs.declared.reply.NitReply.{NitReply}
 pub use Rattle.nit_c.specs.declared.routed.NitDelivery.{NitDelivery}
 pub use Rattle.nit_c.specs.declared.routed.NitRouted.{NitRouted}
-pub use Rattle.nit_config.specs.Configuration.{Configuration}
+pub use Rattle.nit_c.specs.declared.viewing.NitViewState.{NitViewState}
+pub use Rattle.nit_config.specs.Configuration.{Configuration, member}
 pub use Rattle.nit_config.specs.ConfigurationText.{IsConfigAnswer, IsConfigurationOf, MeetsRefusal}
 pub use Rattle.nit_config.specs.ConfigurationText.{UnlessMemory}
 pub use Rattle.nit_config.specs.declared.error.ConfigError.{ConfigError}
@@ -22,12 +24,14 @@ pub use Rattle.nit_events.specs.declared.event.Item.{Item}
 pub use Rattle.nit_events.specs.declared.event.Routed.{Routed}
 pub use Rattle.nit_events.specs.declared.event.Status.{Status}
 pub use Rattle.nit_glyph.specs.Texts.{is_label}
-pub use Rattle.nit_host.specs.Host.{HostModel, IsAsSeen, called, first_host, frame_shown, looked}
+pub use Rattle.nit_host.specs.Host.{HostModel, IsAsSeen, called, first_host, forgotten}
+pub use Rattle.nit_host.specs.Host.{frame_shown, looked}
 pub use Rattle.nit_host.specs.Host.{refreshed, reply_to, routed_of, told, unserved_call}
 pub use Rattle.nit_host.specs.Host.{unserved_input, unserved_refresh}
 pub use Rattle.nit_host.specs.Plan.{planned, refused_plan}
 pub use Rattle.nit_host.specs.Seats.{seat_for, seated, unseated}
 pub use Rattle.nit_host.specs.Terms.{IsConfiguration, last_text}
+pub use Rattle.nit_host.specs.Viewing.{owner_on}
 pub use Rattle.nit_host.specs.contracts.host.Host.{the_row}
 pub use Rattle.nit_host.specs.declared.planning.SeatPlan.{SeatPlan}
 pub use Rattle.nit_host.specs.declared.refusal.PlanError.{PlanError}
@@ -39,6 +43,7 @@ pub use Rattle.nit_look.specs.Look.{AgreeIn, CoversChange, IsTouched, LiesOn}
 pub use Rattle.nit_rect.specs.Rectangle.{Rectangle, rectangle}
 pub use Rattle.nit_screen.specs.FrameLabels.{ShowsLabels}
 pub use Rattle.nit_screen.specs.StateScenery.{scenery_of}
+pub use Rattle.nit_stack.specs.declared.view.View.{View}
 pub use Rattle.std.specs.Box.Ownership.{box_owns}
 pub use Rattle.std.specs.List.{list_all, range_with_len}
 pub use Rattle.std_heap.specs.contracts.GlobalAllocator.TheImpl.{dict, ghosts}

@@ -7,6 +7,7 @@ pub mod Routing
 pub mod Seating
 pub mod Reading
 pub mod Looking
+pub mod Viewing
 pub mod Opening
 pub mod Below
 pub mod Terms

@@ -2,7 +2,8 @@
 use Rattle.std.specs.Prelude.{◌≡◌, ◌≢◌, ◌*◌, ◌≤◌, ◌<◌, ◌-◌, ◌^◌, ◌++◌, ◌⊎◌, ℕ, pos, List, length}
 use Rattle.std.specs.Prelude.{drop, Option, Some, None, IfSome}
 use Rattle.nit_c.specs.Below.{AgreeIn, CoversChange, HostModel, IsAsSeen, IsTouched, LiesOn}
-use Rattle.nit_c.specs.Below.{NitRect, Rectangle, ShowsLabels, frame_shown, looked, rectangle}
+use Rattle.nit_c.specs.Below.{NitRect, Rectangle, ShowsLabels, forgotten, frame_shown, looked}
+use Rattle.nit_c.specs.Below.{rectangle}
 use Rattle.nit_c.specs.Below.{scenery_of}
 use Rattle.nit_host.specs.Host.{last_text}
 use Rattle.nit_c.specs.declared.handle.NitServer.{NitServer}
@@ -48,11 +49,23 @@ pub record IsLooked (h g : HostModel) (before now : List ℕ) (answer : NitRect)
   pub refused : length before ≢ h.state.config.width * h.state.config.height
       → (now ≡ before) × (answer ≡ only_rect 39) × (g ≡ h)
 
--- a look by a handle
+-- A look by words that may be any: so the host is looked at as if it had forgotten what it showed.
+pub record IsLookedAnew (h g : HostModel) (before now : List ℕ) (answer : NitRect) : Type 0 where
+  pub copied : length before ≡ h.state.config.width * h.state.config.height
+      → ShowsFrame (forgotten h) before now answer × (g ≡ looked h)
+  pub refused : length before ≢ h.state.config.width * h.state.config.height
+      → (now ≡ before) × (answer ≡ only_rect 39) × (g ≡ h)
+
+-- a look by a handle, and one by words that may be any
 abbrev pub IsLookedBy : NitServer → NitServer → List ℕ → List ℕ → NitRect → Type 0
 IsLookedBy old new before now answer =
     Steps old new ((now ≡ before) × (answer ≡ only_rect 0))
     (λ h g. IsLooked h g before now answer)
+
+abbrev pub IsLookedAnewBy : NitServer → NitServer → List ℕ → List ℕ → NitRect → Type 0
+IsLookedAnewBy old new before now answer =
+    Steps old new ((now ≡ before) × (answer ≡ only_rect 0))
+    (λ h g. IsLookedAnew h g before now answer)
 
 -- ---- the last step
 

@@ -7,10 +7,10 @@ use Rattle.nit_events.specs.declared.event.Status.TheVariants as status
 use Rattle.nit_host.specs.declared.refusal.Unseated.TheVariants as unseated
 use Rattle.nit_host.specs.declared.refusal.Unserved.TheVariants as unserved
 
--- a seat, or the number of none
-abbrev pub seat_number : Option ℕ → ℕ
-seat_number (Some seat) = seat
-seat_number None = 2 ^ 32 - 1
+-- a number, or that of none
+abbrev pub number_or_none : Option ℕ → ℕ
+number_or_none (Some n) = n
+number_or_none None = 2 ^ 32 - 1
 
 -- why a call is not served
 abbrev pub unserved_number : Unserved → ℕ

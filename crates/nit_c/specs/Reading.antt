@@ -1,7 +1,7 @@
 -- What can be read of a server, as C reads it.
 use Rattle.std.specs.Prelude.{◌≡◌, ℕ, nat_lt, length, if◌then◌else◌}
-use Rattle.nit_c.specs.Below.{HostModel, NitSeatState, NitState, session}
-use Rattle.nit_c.specs.Numbers.{mode_number, seat_number, status_number}
+use Rattle.nit_c.specs.Below.{HostModel, NitAccount, NitSeatState, NitState, member, session}
+use Rattle.nit_c.specs.Numbers.{mode_number, number_or_none, status_number}
 use Rattle.nit_c.specs.declared.handle.NitServer.{NitServer}
 use Rattle.nit_c.specs.Steps.{Steps}
 
@@ -17,6 +17,7 @@ no_state = record {
   hover = 0;
   x = 0;
   y = 0;
+  receiver = 0;
 }
 
 abbrev pub c_state : HostModel → NitState
@@ -26,10 +27,11 @@ c_state h = record {
   height = h.state.config.height;
   seats = length h.state.sessions;
   mode = mode_number h.state.input.mode;
-  focus = seat_number h.state.input.focus;
-  hover = seat_number h.state.input.hover;
+  focus = number_or_none h.state.input.focus;
+  hover = number_or_none h.state.input.hover;
   x = h.state.input.x;
   y = h.state.input.y;
+  receiver = number_or_none h.state.input.receiver;
 }
 
 -- a seat's state that is its kind alone
@@ -59,3 +61,35 @@ IsStateOf old new answer =
 abbrev pub IsSeatStateOf : NitServer → NitServer → ℕ → NitSeatState → Type 0
 IsSeatStateOf old new seat answer =
     Steps old new (answer ≡ no_seat_state 0) (λ h g. (g ≡ h) × (answer ≡ c_seat_state h seat))
+
+-- an account that is its kind alone
+abbrev pub no_account : ℕ → NitAccount
+no_account kind = record {
+  kind = kind;
+  layer = 0;
+  donation = 0;
+  reserve = 0;
+  width = 0;
+  height = 0;
+}
+
+-- what a seat's client has, and the layer of its views
+abbrev pub c_account : HostModel → ℕ → NitAccount
+c_account h seat =
+    let s = session h.state seat in
+    if nat_lt seat (length h.state.sessions)
+    then
+    record {
+      kind = 1;
+      layer = (member h.state.config seat).layer;
+      donation = s.donation;
+      reserve = s.reserve;
+      width = s.bw;
+      height = s.bh;
+    }
+    else no_account 32
+
+-- a seat's account is read, by a handle
+abbrev pub IsAccountOf : NitServer → NitServer → ℕ → NitAccount → Type 0
+IsAccountOf old new seat answer =
+    Steps old new (answer ≡ no_account 0) (λ h g. (g ≡ h) × (answer ≡ c_account h seat))

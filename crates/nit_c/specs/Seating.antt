@@ -2,7 +2,7 @@
 use Rattle.std.specs.Prelude.{◌≡◌, ◌≢◌, ℕ, not, nat_lt, List, length, Option, Some, None}
 use Rattle.std.specs.Prelude.{if◌then◌else◌}
 use Rattle.nit_c.specs.Below.{HostModel, Unseated, is_label, seat_for, seated, unseated}
-use Rattle.nit_c.specs.Numbers.{seat_number, unseated_number}
+use Rattle.nit_c.specs.Numbers.{number_or_none, unseated_number}
 use Rattle.nit_c.specs.declared.handle.NitServer.{NitServer}
 use Rattle.nit_c.specs.Steps.{Steps, Unless}
 
@@ -36,11 +36,11 @@ IsSeatedBy old new seat label answer =
 -- The answer is the seat that takes a new client of this label. So nit_seat on it is done; and
 -- where it is none, nit_seat is done on no seat.
 pub record IsSought (h : HostModel) (label : List ℕ) (answer : ℕ) : Type 0 where
-  pub seat : answer ≡ seat_number (seat_of h label)
-  pub takes : answer ≢ seat_number None → refused_seat h answer label ≡ None
-  pub none : answer ≡ seat_number None → (seat : ℕ) → refused_seat h seat label ≢ None
+  pub seat : answer ≡ number_or_none (seat_of h label)
+  pub takes : answer ≢ number_or_none None → refused_seat h answer label ≡ None
+  pub none : answer ≡ number_or_none None → (seat : ℕ) → refused_seat h seat label ≢ None
 
 -- a seat is looked for, by a handle
 abbrev pub IsSeatFor : NitServer → NitServer → List ℕ → ℕ → Type 0
 IsSeatFor old new label answer =
-    Steps old new (answer ≡ seat_number None) (λ h g. (g ≡ h) × IsSought h label answer)
+    Steps old new (answer ≡ number_or_none None) (λ h g. (g ≡ h) × IsSought h label answer)

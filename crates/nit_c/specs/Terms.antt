@@ -1,16 +1,17 @@
 -- The words that clauses use: those that come from outside, and those of this crate.
 pub use Rattle.nit_c.specs.Below.{HostModel, IsConfiguration, NitReply, box_owns, dict, ghosts}
-pub use Rattle.nit_c.specs.Below.{last_text, list_all, range_with_len}
+pub use Rattle.nit_c.specs.Below.{last_text, list_all, owner_on, range_with_len}
 pub use Rattle.nit_c.specs.HeapToken.{heap_token}
 pub use Rattle.nit_c.specs.Held.{IsClosed, held_owns, kept_row, live_mark, nothing_kept}
-pub use Rattle.nit_c.specs.Looking.{IsEntry, IsLineOrNone, IsLooked, IsLookedBy, IsRect, only_rect}
-pub use Rattle.nit_c.specs.Numbers.{config_number, mode_number, seat_number, status_number}
+pub use Rattle.nit_c.specs.Looking.{IsEntry, IsLine, IsLineOrNone, IsLooked, IsLookedAnew}
+pub use Rattle.nit_c.specs.Looking.{IsLookedAnewBy, IsLookedBy, IsRect, only_rect}
+pub use Rattle.nit_c.specs.Numbers.{config_number, mode_number, number_or_none, status_number}
 pub use Rattle.nit_c.specs.Numbers.{unseated_number, unserved_number}
 pub use Rattle.nit_c.specs.Opening.{IsMadeByPlan, IsOpened, IsOpenedBy, IsRead, IsShut, are_seats}
 pub use Rattle.nit_c.specs.Opening.{has_click, have_clicks, plan_number, planned_config}
 pub use Rattle.nit_c.specs.Opening.{refused_words, seat_at, seat_count, seats_in}
-pub use Rattle.nit_c.specs.Reading.{IsSeatStateOf, IsStateOf, c_seat_state, c_state, no_seat_state}
-pub use Rattle.nit_c.specs.Reading.{no_state}
+pub use Rattle.nit_c.specs.Reading.{IsAccountOf, IsSeatStateOf, IsStateOf, c_account, c_seat_state}
+pub use Rattle.nit_c.specs.Reading.{c_state, no_account, no_seat_state, no_state}
 pub use Rattle.nit_c.specs.Replies.{IsCalled, IsRedrawn, IsRefreshed, IsTitled, IsUntitled}
 pub use Rattle.nit_c.specs.Replies.{c_answer, c_event, c_reply, no_event, only_kind, untitled}
 pub use Rattle.nit_c.specs.Routing.{IsInput, IsTold, c_delivery, c_item, c_routed, c_told, moved_to}
@@ -18,5 +19,7 @@ pub use Rattle.nit_c.specs.Routing.{one_of, only_routed, pressed, released, turn
 pub use Rattle.nit_c.specs.Seating.{IsSeatFor, IsSeated, IsSeatedBy, IsSought, refused_seat}
 pub use Rattle.nit_c.specs.Seating.{seat_of}
 pub use Rattle.nit_c.specs.Steps.{ByServer, host_of, host_where, server_of}
+pub use Rattle.nit_c.specs.Viewing.{IsHeldBy, IsLabelOf, IsOwnerOf, IsTitleOf, IsViewOf, c_view}
+pub use Rattle.nit_c.specs.Viewing.{c_view_of, label_at, no_view, title_at}
 pub use Rattle.nit_c.specs.contracts.handle.NitServer.{the_type}
 pub use Rattle.nit_c.specs.declared.handle.NitServer.{NitServer}

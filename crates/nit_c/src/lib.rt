@@ -19,3 +19,4 @@ mod reading;
 mod reply;
 mod routed;
 mod seats;
+mod viewing;

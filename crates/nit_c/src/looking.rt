@@ -1,8 +1,8 @@
 //! A look at the screen, and at the last step.
 
 ghost use Rattle.std.specs.Prelude.{◌≡◌, ◌≤ℤ◌, IfSome, pos};
-ghost use Rattle.nit_c.specs.Terms.{IsEntry, IsLineOrNone, IsLooked, IsLookedBy, IsRect, last_text};
-ghost use Rattle.nit_c.specs.Terms.{only_rect};
+ghost use Rattle.nit_c.specs.Terms.{IsEntry, IsLine, IsLineOrNone, IsLooked, IsLookedAnew};
+ghost use Rattle.nit_c.specs.Terms.{IsLookedAnewBy, IsLookedBy, IsRect, last_text, only_rect};
 
 use crate::handle::NitServer;
 use crate::numbers::{DONE, NO_SERVER, WRONG_FRAME};
@@ -71,17 +71,35 @@ fn show(host: &mut Host, out: &mut [u32]) -> NitRect
     }
 }
 
+/// Brings `out` up to date, whatever its words are, where it has as many as the screen has pixels.
+fn show_anew(host: &mut Host, out: &mut [u32]) -> NitRect
+    ensures { IsLookedAnew host.old host.new out.old out.new result }
+{
+    if host.frame().len() == out.len() {
+        rect_of(&host.look_anew(out))
+    } else {
+        only_rect(WRONG_FRAME)
+    }
+}
+
 /// Puts the line of the last step at the head of `out`, where it fits there, and answers how many
 /// bytes it has.
 fn put_entry(alloc: Global, host: &Host, out: &mut [u8]) -> usize
     ensures { IsLineOrNone (last_text host.now.last) out.old out.new result }
 {
-    let Ok(text) = host.entry_text(alloc) else {
-        return NO_ROOM;
-    };
+    match host.entry_text(alloc) {
+        Ok(text) => put(&text, out),
+        Err(_) => NO_ROOM,
+    }
+}
+
+/// Puts a text at the head of `out`, where it fits there, and answers how many bytes it has.
+pub(crate) fn put(text: &[u8], out: &mut [u8]) -> usize
+    ensures { IsLine text.now out.old out.new result }
+{
     let count = text.len();
     if count <= out.len() {
-        out[..count].copy_from_slice(&text);
+        out[..count].copy_from_slice(text);
     }
     count
 }
@@ -97,6 +115,21 @@ pub extern "C" fn nit_look(alloc: Global, server: &mut NitServer, out: &mut [u32
     }
     let mut host = server.take(alloc);
     let rect = show(host.as_mut(), out);
+    *server = NitServer::of(host);
+    rect
+}
+
+/// Brings `out`, which has `width * height` words that may be any, up to date with what the screen
+/// shows. Answers the least rectangle outside of which nothing was written.
+#[unsafe(no_mangle)]
+pub extern "C" fn nit_look_anew(alloc: Global, server: &mut NitServer, out: &mut [u32]) -> NitRect
+    ensures { IsLookedAnewBy server.old server.new out.old out.new result }
+{
+    if !server.is_live() {
+        return only_rect(NO_SERVER);
+    }
+    let mut host = server.take(alloc);
+    let rect = show_anew(host.as_mut(), out);
     *server = NitServer::of(host);
     rect
 }

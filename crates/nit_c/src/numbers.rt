@@ -1,7 +1,7 @@
 //! The numbers by which C is told what a call answers.
 
 ghost use Rattle.std.specs.Prelude.{◌≡◌};
-ghost use Rattle.nit_c.specs.Terms.{config_number, mode_number, seat_number, status_number};
+ghost use Rattle.nit_c.specs.Terms.{config_number, mode_number, number_or_none, status_number};
 ghost use Rattle.nit_c.specs.Terms.{unseated_number, unserved_number};
 
 use nit_config::ConfigError;
@@ -183,8 +183,8 @@ pub(crate) const SEAT_KILLED: u32 = 3;
 const NO_SEAT_AT_ALL: u32 = u32::MAX;
 
 /// The number of a seat, or of none.
-pub(crate) fn seat_number(seat: Option<u32>) -> u32
-    ensures { result ≡ seat_number seat }
+pub(crate) fn number_or_none(seat: Option<u32>) -> u32
+    ensures { result ≡ number_or_none seat }
 {
     match seat {
         Some(seat) => seat,

@@ -1,12 +1,12 @@
 //! What can be read of a server.
 
 ghost use Rattle.std.specs.Prelude.{◌≡◌};
-ghost use Rattle.nit_c.specs.Terms.{IsSeatStateOf, IsStateOf, c_seat_state, c_state, no_seat_state};
-ghost use Rattle.nit_c.specs.Terms.{no_state};
+ghost use Rattle.nit_c.specs.Terms.{IsAccountOf, IsSeatStateOf, IsStateOf, c_account, c_seat_state};
+ghost use Rattle.nit_c.specs.Terms.{c_state, no_account, no_seat_state, no_state};
 
 use crate::handle::NitServer;
 use crate::numbers::{
-    DONE, NO_SEAT, NO_SERVER, SEAT_NONE, mode_number, seat_number, status_number,
+    DONE, NO_SEAT, NO_SERVER, SEAT_NONE, mode_number, number_or_none, status_number,
 };
 use nit_host::Host;
 use std::alloc::Global;
@@ -33,6 +33,9 @@ pub struct NitState {
     pub x: u32,
     /// The pointer's row.
     pub y: u32,
+    /// The seat that gets what goes down and up while a code is held. 4,294,967,295 where none
+    /// does.
+    pub receiver: u32,
 }
 
 /// What can be read of a seat. All but `kind` is 0 where there is none.
@@ -51,6 +54,24 @@ pub struct NitSeatState {
     pub lost: u64,
 }
 
+/// What a seat's client has, and the layer of its views. All but `kind` is 0 where there is none.
+#[repr(C)]
+#[derive(Clone, Copy)]
+pub struct NitAccount {
+    /// The kind of the answer.
+    pub kind: u32,
+    /// The layer, 0..=7.
+    pub layer: u32,
+    /// What the client has been donated, in units.
+    pub donation: u32,
+    /// What its reserve still has, in units.
+    pub reserve: u32,
+    /// The width of its buffer, in words: 0 before it has one.
+    pub width: u32,
+    /// The height of its buffer.
+    pub height: u32,
+}
+
 /// The state of no server.
 fn no_state() -> NitState
     ensures { result ≡ no_state }
@@ -65,6 +86,7 @@ fn no_state() -> NitState
         hover: 0,
         x: 0,
         y: 0,
+        receiver: 0,
     }
 }
 
@@ -80,10 +102,11 @@ fn state_of(host: &Host) -> NitState
         height,
         seats: host.seats(),
         mode: mode_number(host.mode()),
-        focus: seat_number(host.focus()),
-        hover: seat_number(host.hover()),
+        focus: number_or_none(host.focus()),
+        hover: number_or_none(host.hover()),
         x: u32::from(x),
         y: u32::from(y),
+        receiver: number_or_none(host.receiver()),
     }
 }
 
@@ -115,6 +138,39 @@ fn seat_state_of(host: &Host, seat: u32) -> NitSeatState
     }
 }
 
+/// An account that is its kind alone.
+fn no_account(kind: u32) -> NitAccount
+    ensures { result ≡ no_account kind }
+{
+    NitAccount {
+        kind,
+        layer: 0,
+        donation: 0,
+        reserve: 0,
+        width: 0,
+        height: 0,
+    }
+}
+
+/// What a seat's client has, and the layer of its views.
+fn account_of(host: &Host, seat: u32) -> NitAccount
+    ensures { result ≡ c_account host.now seat }
+{
+    if host.seats() <= seat {
+        return no_account(NO_SEAT);
+    }
+    let (donation, reserve) = host.units(seat);
+    let (width, height) = host.buffer(seat);
+    NitAccount {
+        kind: DONE,
+        layer: host.layer(seat),
+        donation,
+        reserve,
+        width,
+        height,
+    }
+}
+
 /// What can be read of the server.
 #[unsafe(no_mangle)]
 pub extern "C" fn nit_state(alloc: Global, server: &mut NitServer) -> NitState
@@ -141,4 +197,18 @@ pub extern "C" fn nit_seat_state(alloc: Global, server: &mut NitServer, seat: u3
     let state = seat_state_of(host.as_ref(), seat);
     *server = NitServer::of(host);
     state
+}
+
+/// What a seat's client has of its donation, its reserve and its buffer.
+#[unsafe(no_mangle)]
+pub extern "C" fn nit_account(alloc: Global, server: &mut NitServer, seat: u32) -> NitAccount
+    ensures { IsAccountOf server.old server.new seat result }
+{
+    if !server.is_live() {
+        return no_account(NO_SERVER);
+    }
+    let host = server.take(alloc);
+    let account = account_of(host.as_ref(), seat);
+    *server = NitServer::of(host);
+    account
 }

@@ -5,7 +5,7 @@ ghost use Rattle.nit_c.specs.Terms.{IsSeatFor, IsSeated, IsSeatedBy, IsSought, r
 ghost use Rattle.nit_c.specs.Terms.{seat_of};
 
 use crate::handle::NitServer;
-use crate::numbers::{BAD_LABEL, DONE, NO_SEAT, NO_SERVER, seat_number, unseated_number};
+use crate::numbers::{BAD_LABEL, DONE, NO_SEAT, NO_SERVER, number_or_none, unseated_number};
 use nit_glyph::Label;
 use nit_host::Host;
 use std::alloc::Global;
@@ -32,7 +32,7 @@ fn sought(host: &Host, label: &[u8]) -> u32
 {
     // No seat has the number of none.
     let _seats = host.seats();
-    seat_number(seat_of(host, label))
+    number_or_none(seat_of(host, label))
 }
 
 /// The seat that takes a new client of this label. None also where the bytes are no label.
@@ -68,7 +68,7 @@ pub extern "C" fn nit_seat_for(alloc: Global, server: &mut NitServer, label: &[u
     ensures { IsSeatFor server.old server.new label.now result }
 {
     if !server.is_live() {
-        return seat_number(None);
+        return number_or_none(None);
     }
     let host = server.take(alloc);
     let answer = sought(host.as_ref(), label);

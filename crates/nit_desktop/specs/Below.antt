@@ -20,7 +20,7 @@ pub use Rattle.nit_journal.specs.Session.{Answered, Session, accepted, by_refusa
 pub use Rattle.nit_journal.specs.Session.{first_session, refusal, serve}
 pub use Rattle.nit_journal.specs.StackAfter.{is_accepted}
 pub use Rattle.nit_journal.specs.State.{State, after, first_state, input_after_call, layer, route}
-pub use Rattle.nit_journal.specs.State.{session, session_in}
+pub use Rattle.nit_journal.specs.State.{owner_of, session, session_in}
 pub use Rattle.nit_journal.specs.Steps.{IsFreeLabel, opened, vacant_state}
 pub use Rattle.nit_journal.specs.Terms.{under_pointer}
 pub use Rattle.nit_rect.specs.Limits.{most_slots}

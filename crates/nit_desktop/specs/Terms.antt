@@ -10,7 +10,8 @@ pub use Rattle.nit_desktop.specs.Below.{Title, Upgrade, View, accepted, after, b
 pub use Rattle.nit_desktop.specs.Below.{by_refusal, deliveries_of, dirty, donation_of, ended}
 pub use Rattle.nit_desktop.specs.Below.{first_input, first_session, first_state, in_bar}
 pub use Rattle.nit_desktop.specs.Below.{input_after_call, is_accepted, is_session, kills, layer}
-pub use Rattle.nit_desktop.specs.Below.{member, opened, option_map_or, pixel, pixel_count, refusal}
+pub use Rattle.nit_desktop.specs.Below.{member, opened, option_map_or, owner_of, pixel}
+pub use Rattle.nit_desktop.specs.Below.{pixel_count, refusal}
 pub use Rattle.nit_desktop.specs.Below.{route, routed_as, scenery_of, serve, session, session_in}
 pub use Rattle.nit_desktop.specs.Below.{most_slots, under_pointer}
 pub use Rattle.nit_desktop.specs.Below.{source_at, state_of, table_size, vacant_state, ℕ}

@@ -96,6 +96,11 @@ bare_fresh s tables raw bare is k inside = grind (arith, nat_tests, bare_source,
 
 -- ---- the host
 
+-- nothing was seen, and the area is the whole screen
+pub seen_none : (s : State) (sheets : List (List ℕ)) (a : Area)
+    → ((x y : ℕ) → x < s.config.width → y < s.config.height → has_place a x y ≡ true) → IsSeenBut s sheets a None
+seen_none s sheets a all = grind (arith, nat_tests, column_and_row)
+
 -- the host whose desktop is in such a state, of which nothing was seen
 pub begun : (d : DesktopModel) {s : State} {config : Configuration} {sheets : List SheetModel} → AreSheets config sheets
     → d.state ≡ s → d.raw ≡ replicate (config.width * config.height) bare_word → s.config ≡ config → s.stack ≡ []

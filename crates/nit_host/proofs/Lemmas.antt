@@ -18,6 +18,7 @@ pub use Rattle.nit_host.proofs.Basics.{sheet_in, sheets_of, slice_get_within, sl
 pub use Rattle.nit_host.proofs.Basics.{subst, sym, take_all, told, told_words, touch_of}
 pub use Rattle.nit_host.proofs.Basics.{true_from_ne_false, vacant_state, waiting_member, ◌∙◌}
 pub use Rattle.nit_host.proofs.Beginnings.{AreTo, HasRoom, all_blank, all_sheets, begun}
+pub use Rattle.nit_host.proofs.Beginnings.{seen_none}
 pub use Rattle.nit_host.proofs.Beginnings.{blank_plain, first_now, first_seat, free_not_taken}
 pub use Rattle.nit_host.proofs.Beginnings.{free_of, is_seat, label_decides, no_seat, one_more}
 pub use Rattle.nit_host.proofs.Beginnings.{one_sheet, plan_configured, sized_at}

@@ -185,3 +185,7 @@ looked h =
             came = nobody_came;
           };
     }
+
+-- the host, where the words that the last look left may be any
+abbrev pub forgotten : HostModel → HostModel
+forgotten h = record h { seen = record h.seen { frame = None } }

@@ -12,5 +12,6 @@ pub mod Clicks
 pub mod Area
 pub mod Touch
 pub mod Looked
+pub mod Viewing
 pub mod Below
 pub mod Terms

@@ -38,7 +38,7 @@ pub use Rattle.nit_host.specs.Fresh.{AreBlank, AreSheets, IsFresh, IsHost, IsPla
 pub use Rattle.nit_host.specs.Fresh.{sheets_of, size_at}
 pub use Rattle.nit_host.specs.Handing.{CanTakeWords, IsHandedIn, after_handing, is_in_rows}
 pub use Rattle.nit_host.specs.Host.{HostModel, IsAsSeen, IsFirst, IsOneOf, behind, blank_sheets}
-pub use Rattle.nit_host.specs.Host.{called, first_host, frame_by, frame_shown, handed, is_device}
+pub use Rattle.nit_host.specs.Host.{called, first_host, forgotten, frame_by, frame_shown, handed, is_device}
 pub use Rattle.nit_host.specs.Host.{is_handed, lacks_handles, last_text, looked, picture}
 pub use Rattle.nit_host.specs.Host.{picture_from, refreshed, reply_to, routed_of, sheet_in, told}
 pub use Rattle.nit_host.specs.Host.{unserved_call, unserved_input, unserved_refresh, with_handed}
@@ -54,6 +54,7 @@ pub use Rattle.nit_host.specs.Sheet.{SheetModel, blank_sheet, handed_over, low_b
 pub use Rattle.nit_host.specs.Touch.{HoldsBar, HoldsBarIn, HoldsTouched, IsBarArea, IsToldArea}
 pub use Rattle.nit_host.specs.Touch.{is_touched, part_touched, shows_place, touch_of, touched_by}
 pub use Rattle.nit_host.specs.Touch.{touched_in, touched_over, touched_unless}
+pub use Rattle.nit_host.specs.Viewing.{owner_on}
 pub use Rattle.nit_host.specs.Words.{IsInPart, word_of}
 pub use Rattle.nit_host.specs.Below.{most_slots}
 pub use Rattle.nit_host.specs.Clicks.{CameSince, HasNoLook, IsLockedOut, IsNoLook, TakesClick}

@@ -14,6 +14,7 @@ mod seats;
 mod shown;
 mod touch;
 mod user;
+mod viewing;
 
 use crate::host::area::Area;
 use crate::host::shown::Shown;

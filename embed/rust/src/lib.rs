@@ -49,9 +49,11 @@
 mod answer;
 mod raw;
 mod seat;
+mod viewing;
 
 pub use answer::{ConfigRefusal, Deliveries, Delivery, Event, Item, Refusal, Reply};
-pub use seat::{Seat, SeatState, Status, View};
+pub use seat::{Account, Seat, SeatState, Status, View};
+pub use viewing::ViewState;
 
 /// A seat of a plan, as long as the server stands.
 #[derive(Clone, Copy, Debug, PartialEq, Eq)]
@@ -106,6 +108,8 @@ pub struct State {
     pub hover: Option<u32>,
     /// The pointer's column and row.
     pub pointer: (u32, u32),
+    /// The seat that gets what goes down and up while a code is held.
+    pub receiver: Option<u32>,
 }
 
 /// A part of the screen.
@@ -119,6 +123,17 @@ pub struct Rect {
     pub w: u32,
     /// How many rows.
     pub h: u32,
+}
+
+impl Rect {
+    /// The part that a look answers, where it is not refused.
+    fn of(part: raw::Rect) -> Reply<Option<Self>> {
+        let (x, y, w, h) = (part.x, part.y, part.w, part.h);
+        match part.kind {
+            raw::DONE => Ok((w > 0).then_some(Rect { x, y, w, h })),
+            other => Err(Refusal::of(other)),
+        }
+    }
 }
 
 /// A server. Dropping it frees all of it.
@@ -280,12 +295,17 @@ impl Server {
     /// [`Refusal::WrongFrame`].
     pub fn look(&mut self, out: &mut [u32]) -> Reply<Option<Rect>> {
         // SAFETY: the handle is ours, and the words are so many that nobody else has.
-        let part = unsafe { raw::nit_look(&mut self.raw, out.as_mut_ptr(), out.len()) };
-        let (x, y, w, h) = (part.x, part.y, part.w, part.h);
-        match part.kind {
-            raw::DONE => Ok((w > 0).then_some(Rect { x, y, w, h })),
-            other => Err(Refusal::of(other)),
-        }
+        Rect::of(unsafe { raw::nit_look(&mut self.raw, out.as_mut_ptr(), out.len()) })
+    }
+
+    /// A look at words that may be any: of a host that has lost what the last look left. They are
+    /// what the screen shows then.
+    ///
+    /// # Errors
+    /// [`Refusal::WrongFrame`].
+    pub fn look_anew(&mut self, out: &mut [u32]) -> Reply<Option<Rect>> {
+        // SAFETY: the handle is ours, and the words are so many that nobody else has.
+        Rect::of(unsafe { raw::nit_look_anew(&mut self.raw, out.as_mut_ptr(), out.len()) })
     }
 
     /// What can be read of the server.
@@ -304,6 +324,7 @@ impl Server {
             focus: some_seat(state.focus),
             hover: some_seat(state.hover),
             pointer: (state.x, state.y),
+            receiver: some_seat(state.receiver),
         }
     }
 

@@ -119,6 +119,7 @@ pub struct State {
     pub hover: u32,
     pub x: u32,
     pub y: u32,
+    pub receiver: u32,
 }
 
 #[repr(C)]
@@ -129,6 +130,31 @@ pub struct SeatState {
     pub waiting: u32,
     pub zero: u32,
     pub lost: u64,
+}
+
+#[repr(C)]
+#[derive(Clone, Copy)]
+pub struct Account {
+    pub kind: u32,
+    pub layer: u32,
+    pub donation: u32,
+    pub reserve: u32,
+    pub width: u32,
+    pub height: u32,
+}
+
+#[repr(C)]
+#[derive(Clone, Copy)]
+pub struct ViewState {
+    pub kind: u32,
+    pub seat: u32,
+    pub view: u32,
+    pub x: i32,
+    pub y: i32,
+    pub w: u32,
+    pub h: u32,
+    pub offset_x: i32,
+    pub offset_y: i32,
 }
 
 extern "C" {
@@ -185,7 +211,14 @@ extern "C" {
     pub fn nit_motion(server: *mut Server, x: u32, y: u32) -> Routed;
     pub fn nit_wheel(server: *mut Server, turn: i32) -> Routed;
     pub fn nit_look(server: *mut Server, out: *mut u32, count: usize) -> Rect;
+    pub fn nit_look_anew(server: *mut Server, out: *mut u32, count: usize) -> Rect;
     pub fn nit_state(server: *mut Server) -> State;
     pub fn nit_seat_state(server: *mut Server, seat: u32) -> SeatState;
+    pub fn nit_account(server: *mut Server, seat: u32) -> Account;
+    pub fn nit_label(server: *mut Server, seat: u32, out: *mut c_char, room: usize) -> usize;
+    pub fn nit_view_at(server: *mut Server, place: u32) -> ViewState;
+    pub fn nit_title_at(server: *mut Server, place: u32, out: *mut c_char, room: usize) -> usize;
+    pub fn nit_owner(server: *mut Server, x: u32, y: u32) -> ViewState;
+    pub fn nit_held(server: *mut Server, place: u32) -> u32;
     pub fn nit_entry(server: *mut Server, out: *mut c_char, room: usize) -> usize;
 }

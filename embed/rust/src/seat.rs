@@ -29,6 +29,19 @@ pub struct SeatState {
     pub lost: u64,
 }
 
+/// What a seat's client has.
+#[derive(Clone, Copy, Debug, PartialEq, Eq)]
+pub struct Account {
+    /// The layer of its views, 0..=7.
+    pub layer: u32,
+    /// In units: 256 go to each view, 8 to each word of the buffer.
+    pub donation: u32,
+    /// In units: what [`Seat::upgrade`] may still add.
+    pub reserve: u32,
+    /// The width and the height of its buffer, in words: 0 by 0 before it has one.
+    pub buffer: (u32, u32),
+}
+
 /// A seat of a server. Its methods are the calls of the client that sits there; they go by the
 /// rules of `docs/RULES.md`.
 ///
@@ -71,6 +84,29 @@ impl<'a> Seat<'a> {
             waiting: state.waiting,
             lost: state.lost,
         })
+    }
+
+    /// What its client has; none where the server has no such seat.
+    pub fn account(&mut self) -> Option<Account> {
+        // SAFETY: the handle is that of a `Server`.
+        let account = unsafe { raw::nit_account(self.server, self.number) };
+        (account.kind == raw::DONE).then_some(Account {
+            layer: account.layer,
+            donation: account.donation,
+            reserve: account.reserve,
+            buffer: (account.width, account.height),
+        })
+    }
+
+    /// The label of its client, or at a free seat the one that waits there; empty where the server
+    /// has no such seat.
+    pub fn label(&mut self) -> String {
+        let mut label = vec![0u8; 20];
+        let (out, room) = (label.as_mut_ptr().cast(), label.len());
+        // SAFETY: the handle is that of a `Server`, and the bytes are so many that nobody else has.
+        let length = unsafe { raw::nit_label(self.server, self.number, out, room) };
+        label.truncate(length);
+        String::from_utf8_lossy(&label).into_owned()
     }
 
     /// The client's buffer has this width and height, in words, each 1..=4096. A word stays by its

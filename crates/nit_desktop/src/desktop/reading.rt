@@ -3,12 +3,13 @@
 ghost use Rattle.std.specs.Prelude.{◌≡◌, ◌<◌, ◌≤◌, ◌*◌, IfSome, IsTrue, false, length, Some};
 ghost use Rattle.std.specs.Prelude.{slice_get};
 ghost use Rattle.nit_desktop.specs.Terms.{AreLive, IsConfiguration, IsFreeLabel, IsPlace};
-ghost use Rattle.nit_desktop.specs.Terms.{bar_rows, member, most_slots, refusal, session};
-ghost use Rattle.nit_desktop.specs.Terms.{table_size, under_pointer};
+ghost use Rattle.nit_desktop.specs.Terms.{bar_rows, member, most_slots, owner_of, refusal};
+ghost use Rattle.nit_desktop.specs.Terms.{session, table_size, under_pointer};
 
 use crate::desktop::Desktop;
 use nit_events::{Call, Mode, Reply, Status};
 use nit_glyph::Label;
+use nit_rect::Point;
 use nit_stack::View;
 
 impl Desktop {
@@ -69,6 +70,15 @@ impl Desktop {
         self.screen.server().lost(sid)
     }
 
+    /// What the session `sid` has been donated, and what its reserve still has, in units.
+    pub fn units(&self, sid: u32) -> (u32, u32)
+        requires { sid < length self.now.state.sessions }
+        ensures donation { result.0 ≡ (session self.now.state sid).donation }
+        ensures reserve { result.1 ≡ (session self.now.state sid).reserve }
+    {
+        self.screen.server().units(sid)
+    }
+
     /// The handle of the next view of the session `sid`, from 1.
     pub fn next_handle(&self, sid: u32) -> u32
         requires { sid < length self.now.state.sessions }
@@ -83,6 +93,14 @@ impl Desktop {
         ensures { result ≡ (member self.now.state.config sid).label }
     {
         self.screen.server().label(sid)
+    }
+
+    /// The layer of the views of the session `sid`, 0..=7.
+    pub fn layer(&self, sid: u32) -> u32
+        requires { sid < length self.now.state.sessions }
+        ensures { result ≡ (member self.now.state.config sid).layer }
+    {
+        self.screen.server().layer(sid)
     }
 
     /// Whether no session but `sid` has this label.
@@ -121,6 +139,13 @@ impl Desktop {
     {
         let stack = self.screen.server().stack();
         stack.view(stack.at(i))
+    }
+
+    /// The view that owns the pixel. None where no view does.
+    pub fn owner(&self, p: Point) -> Option<View>
+        ensures { result ≡ owner_of self.now.state p }
+    {
+        self.screen.server().owner(p)
     }
 
     /// The mode of the user's input.

@@ -2,7 +2,7 @@
 
 ghost use Rattle.std.specs.Prelude.{◌≡◌, ◌*◌, ◌↔◌, None, IfOk, IfSome, length};
 ghost use Rattle.nit_host.specs.Terms.{AgreeIn, CoversChange, IsAsSeen, IsTouched, LiesOn, Looks};
-ghost use Rattle.nit_host.specs.Terms.{after_act, frame_shown, last_text, looked};
+ghost use Rattle.nit_host.specs.Terms.{after_act, forgotten, frame_shown, last_text, looked};
 
 use crate::host::area::Area;
 use crate::host::shown::remember;
@@ -48,6 +48,35 @@ impl Host {
             sheets: Snapshot::of(&self.sheets),
         });
         found
+    }
+
+    /// Brings `out`, which has a word for each pixel and may be any words, up to date, and answers
+    /// as a look does. So a host looks that has lost the words of the last look.
+    pub fn look_anew(&mut self, out: &mut [u32]) -> Option<Rect>
+        requires { length out.old ≡ self.old.state.config.width * self.old.state.config.height }
+        ensures frame { out.new ≡ frame_shown self.old }
+        ensures none { result ≡ None ↔ out.old ≡ out.new }
+        ensures screen { let config = self.old.state.config in
+            IfSome result (λ r. LiesOn config.width config.height r) }
+        ensures inside { let config = self.old.state.config in
+            IfSome result (λ r. CoversChange config.width out.new out.old r) }
+        ensures least { let config = self.old.state.config in
+            IfSome result (λ r. IsTouched config.width out.new out.old r) }
+        ensures host { self.new ≡ looked self.old }
+        ensures act { self.new ≡ after_act self.old Looks }
+    {
+        self.forget();
+        self.look(out)
+    }
+
+    /// The words of the last look are forgotten: those of the next one may be any.
+    fn forget(&mut self)
+        ensures { self.new ≡ forgotten self.old }
+    {
+        self.facts();
+        let (width, height) = self.size();
+        self.changed = Area::of_rows(width, height);
+        self.seen = None;
     }
 
     /// The last step as a line of the journal's text, where it was an entry: no text where the last

@@ -55,6 +55,23 @@ impl Host {
         self.desktop.lost(seat)
     }
 
+    /// What a seat's client has been donated, and what its reserve still has, in units.
+    pub fn units(&self, seat: u32) -> (u32, u32)
+        requires { seat < length self.now.state.sessions }
+        ensures donation { result.0 ≡ (session self.now.state seat).donation }
+        ensures reserve { result.1 ≡ (session self.now.state seat).reserve }
+    {
+        self.desktop.units(seat)
+    }
+
+    /// The layer of a seat's views, 0..=7.
+    pub fn layer(&self, seat: u32) -> u32
+        requires { seat < length self.now.state.sessions }
+        ensures { result ≡ (member self.now.state.config seat).layer }
+    {
+        self.desktop.layer(seat)
+    }
+
     /// The width and the height of the buffer of a seat's client, in words: 0 by 0 before it has
     /// one. The seat has at least as many words.
     pub fn buffer(&self, seat: u32) -> (u32, u32)
