@@ -75,6 +75,22 @@ struct nit_server {
 /* So many bytes hold the line that nit_entry puts, whatever the step was. */
 #define NIT_LINE 128
 
+/* ---- Limits. Those of a configuration's text are lower: docs/FORMATS.md. */
+
+/* The columns and the rows of a screen: 1 to so many. */
+#define NIT_MOST_WIDTH 4096
+#define NIT_MOST_HEIGHT 4096
+
+/* The seats of a server: 1 to so many. */
+#define NIT_MOST_SEATS 16
+
+/* The units of a donation. */
+#define NIT_LEAST_UNITS 256
+#define NIT_MOST_UNITS 268435456
+
+/* The views of a client. */
+#define NIT_MOST_VIEWS 64
+
 /* ---- Answers */
 
 /* What a call answers, in the field `kind` or by itself. But nit_seat_for answers a seat,
@@ -227,9 +243,9 @@ struct nit_view_state {
 /* ---- Opening and closing a server */
 
 /* A seat, as long as the server stands. Whoever sits there may use `donation` units, and as many
- * again by nit_upgrade, but never more than 8,388,608, or 268,435,456 where the donation is over
- * 8,388,608 itself. Its views stand in `layer`. A buffer of W by H costs 8 * W * H units; a seat
- * takes some `donation` bytes of memory at opening. */
+ * again by nit_upgrade, but in all never more than 8,388,608, or 268,435,456 where the donation is
+ * over 8,388,608 itself: so a donation of just 8,388,608 cannot be upgraded. A buffer of W by H
+ * costs 8 * W * H units. Its views stand in `layer`. */
 struct nit_seat_plan {
     uint32_t donation;        /* 256..268,435,456 units */
     uint32_t layer;           /* 0..7; 0 is the front-most */
@@ -245,8 +261,14 @@ struct nit_plan {
 };
 
 /* Opens a server whose seats are all free. `seats` has three words for each seat: donation, layer,
- * clicks; so `words` is three times their number. All memory that the server will ever use is
- * taken here, but for nit_entry's.
+ * clicks; so `words` is three times their number.
+ *
+ * All memory that the server will ever use is taken here, but for nit_entry's: some 55 KB; for
+ * each pixel of the screen 8 bytes, of which 4 are written at once, and 4 where X-ray or kill mode
+ * first begins; and for each seat as many as its donation has units, at most 4 MiB, or 128 MiB
+ * where that is over 8,388,608: these are written as far as clients hand in words. So it is at most
+ * 2,176 MiB and these 55 KB.
+ *
  * Answers NIT_DONE; and the first that applies of NIT_IS_OPEN, NIT_BAD_PLAN, NIT_NO_MEMORY: then
  * the handle is as it was before. */
 uint32_t nit_open_seats(struct nit_server *server, uint32_t width, uint32_t height, uint32_t bar,

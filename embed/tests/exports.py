@@ -58,10 +58,11 @@ def snake(name):
 
 
 class Header:
-    """Functions as (answer, [(type, name)]), structs as [(type, name, count)], and constants."""
+    """Functions as (answer, [(type, name)]), structs as [(type, name, count)], and numbers."""
 
     def __init__(self, text):
         text = re.sub(r"/\*.*?\*/", " ", text, flags=re.S)
+        self.defined = {k: int(value) for k, value in re.findall(r"#define (\w+) (\d+)\n", text)}
         text = re.sub(r"^\s*#.*$", "", text, flags=re.M)
         text = re.sub(r"static inline .*?\n}", "", text, flags=re.S)
         self.structs = {name: self.fields(body) for name, body in
@@ -291,9 +292,9 @@ def missing_constants(header, sources):
 
 def constant_faults(header, sources):
     pairs = {f"NIT_{name}": value for name, value in sources.constants.items()}
-    return [f"{name} is {header.constants[name]} and not {pairs[name]}"
-            for name in sorted(header.constants.keys() & pairs.keys())
-            if header.constants[name] != pairs[name]]
+    ours = {**header.defined, **header.constants}
+    return [f"{name} is {ours[name]} and not {pairs[name]}"
+            for name in sorted(ours.keys() & pairs.keys()) if ours[name] != pairs[name]]
 
 
 def symbol_faults(header, what, words, ignored=""):

@@ -2,6 +2,7 @@
 
 HEADER = """#include <stddef.h>
 #include <stdint.h>
+#define NIT_MOST 4096
 struct nit_server { void *at; uint64_t mark; };
 enum nit_answer { NIT_DONE = 1, /* done */ NIT_LATE = 32 };
 struct nit_pair { uint16_t x, y; int32_t turn; };
@@ -92,6 +93,7 @@ OBJECTS = [
 # What the Rust crate declares of it, and what is changed there.
 BINDING = """
 pub const DONE: u32 = 1;
+pub const MOST: u32 = 4_096;
 #[repr(C)]
 pub struct Server {
     pub at: *mut c_void,
@@ -130,4 +132,5 @@ BINDINGS = [
     ("    pub mark: u64,\n", "", "raw.rs: struct nit_server is"),
     ("    pub fn nit_put", "    pub fn nit_get", "raw.rs: function nit_put: in the header alone"),
     ("DONE: u32 = 1", "DONE: u32 = 2", "raw.rs: NIT_DONE is 1 and not 2"),
+    ("4_096", "4_097", "raw.rs: NIT_MOST is 4096 and not 4097"),
 ]

@@ -55,6 +55,19 @@ pub use answer::{ConfigRefusal, Deliveries, Delivery, Event, Item, Refusal, Repl
 pub use seat::{Account, Seat, SeatState, Status, View};
 pub use viewing::ViewState;
 
+/// The columns of the widest screen.
+pub const MOST_WIDTH: u32 = raw::MOST_WIDTH;
+/// The rows of the highest screen.
+pub const MOST_HEIGHT: u32 = raw::MOST_HEIGHT;
+/// The most seats of a server.
+pub const MOST_SEATS: u32 = raw::MOST_SEATS;
+/// The smallest donation, in units.
+pub const LEAST_UNITS: u32 = raw::LEAST_UNITS;
+/// The largest donation, in units.
+pub const MOST_UNITS: u32 = raw::MOST_UNITS;
+/// The most views of a client.
+pub const MOST_VIEWS: u32 = raw::MOST_VIEWS;
+
 /// A seat of a plan, as long as the server stands.
 #[derive(Clone, Copy, Debug, PartialEq, Eq)]
 pub struct SeatPlan {

@@ -55,6 +55,13 @@ pub const SEAT_CLOSED: u32 = 2;
 
 pub const NONE: u32 = u32::MAX;
 
+pub const MOST_WIDTH: u32 = 4096;
+pub const MOST_HEIGHT: u32 = 4096;
+pub const MOST_SEATS: u32 = 16;
+pub const LEAST_UNITS: u32 = 256;
+pub const MOST_UNITS: u32 = 268_435_456;
+pub const MOST_VIEWS: u32 = 64;
+
 #[repr(C)]
 #[derive(Debug)]
 pub struct Server {

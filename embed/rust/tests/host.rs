@@ -51,8 +51,8 @@ fn shown(server: &mut Server) {
 fn plans_are_refused_by_name() {
     for (width, height, bar, count) in [
         (0, 8, false, 1),
-        (1025, 8, false, 1),
-        (8, 769, false, 1),
+        (nitpicker::MOST_WIDTH + 1, 8, false, 1),
+        (8, nitpicker::MOST_HEIGHT + 1, false, 1),
         (8, 7, true, 1),
         (8, 8, false, 0),
         (8, 8, false, 17),
