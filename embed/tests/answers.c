@@ -81,9 +81,18 @@ static uint32_t with_seat(uint32_t donation, uint32_t layer, uint32_t clicks)
     return opened(8, 8, 0, (const uint32_t[]){ 256, 7, 1, donation, layer, clicks }, 6);
 }
 
+/* The numbers of the header are those that the next tests stand on. */
+static void limits(void)
+{
+    CHECK(NIT_MOST_WIDTH == 4096 && NIT_MOST_HEIGHT == 4096);
+    CHECK(NIT_MOST_SEATS == 16 && NIT_MOST_VIEWS == 64);
+    CHECK(NIT_LEAST_UNITS == 256 && NIT_MOST_UNITS == 268435456);
+}
+
 static void screens(void)
 {
     CHECK(with_screen(1, 1, 0) == NIT_DONE && with_screen(4096, 4096, 1) == NIT_DONE);
+    CHECK(with_screen(4096, 1, 0) == NIT_DONE && with_screen(1, 4096, 0) == NIT_DONE);
     CHECK(with_screen(0, 1, 0) == NIT_BAD_PLAN && with_screen(4097, 1, 0) == NIT_BAD_PLAN);
     CHECK(with_screen(1, 0, 0) == NIT_BAD_PLAN && with_screen(1, 4097, 0) == NIT_BAD_PLAN);
     CHECK(with_screen(UINT32_MAX, UINT32_MAX, 0) == NIT_BAD_PLAN);
@@ -94,6 +103,7 @@ static void screens(void)
 static void seats_of_plans(void)
 {
     CHECK(with_seat(256, 0, 0) == NIT_DONE && with_seat(268435456, 7, 1) == NIT_DONE);
+    CHECK(with_seat(8388608, 0, 0) == NIT_DONE && with_seat(8388609, 0, 0) == NIT_DONE);
     CHECK(with_seat(255, 0, 0) == NIT_BAD_PLAN && with_seat(268435457, 0, 0) == NIT_BAD_PLAN);
     CHECK(with_seat(0, 0, 0) == NIT_BAD_PLAN && with_seat(UINT32_MAX, 0, 0) == NIT_BAD_PLAN);
     CHECK(with_seat(256, 8, 0) == NIT_BAD_PLAN && with_seat(256, 256, 0) == NIT_BAD_PLAN);
@@ -152,6 +162,21 @@ static uint32_t configured(const char *screen, const char *clients)
     return answer;
 }
 
+/* The same by its size and a donation: the format allows less than a plan. */
+static uint32_t sized(uint32_t width, uint32_t height, uint32_t donation)
+{
+    struct nit_server server = NIT_CLOSED;
+    char text[300];
+    int length = snprintf(text, sizeof text, "[screen]\nwidth = %u\nheight = %u\n[input]\n"
+                          "script = \"i\"\n[[client]]\nlabel = \"a\"\nscript = \"s\"\n"
+                          "donation = %u\n", width, height, donation);
+    CHECK(length > 0 && (size_t)length < sizeof text);
+    uint32_t answer = nit_open_config(&server, text, (size_t)length);
+    if (answer == NIT_DONE)
+        close_plain(&server);
+    return answer;
+}
+
 static void long_configurations(void)
 {
     struct nit_server server = NIT_CLOSED;
@@ -184,6 +209,8 @@ static void refused_configurations(void)
     CHECK(configured("", "[[client]]\nlabel = \"a\"\n") == NIT_CONFIG_MISSING);
     CHECK(configured("depth = 24", CLIENT("a")) == NIT_CONFIG_UNKNOWN);
     CHECK(configured("", CLIENT("a") "layer = 8\n") == NIT_CONFIG_RANGE);
+    CHECK(sized(1024, 768, 8388608) == NIT_DONE && sized(1025, 768, 256) == NIT_CONFIG_RANGE);
+    CHECK(sized(1024, 769, 256) == NIT_CONFIG_RANGE && sized(9, 9, 8388609) == NIT_CONFIG_RANGE);
     CHECK(configured("", CLIENT("a") "focus = \"no\"\n") == NIT_CONFIG_RANGE);
     CHECK(configured("", CLIENT("A")) == NIT_CONFIG_LABEL);
     CHECK(configured("", CLIENT("a") CLIENT("a")) == NIT_CONFIG_TWICE);
@@ -351,6 +378,7 @@ static void longest_entries(void)
 int main(void)
 {
     handles_that_are_none();
+    limits();
     screens();
     seats_of_plans();
     plans();

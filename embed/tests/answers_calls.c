@@ -79,18 +79,56 @@ static void units_of_the_next(void)
     close_plain(&server);
 }
 
-/* The largest donation has no reserve, and pays for a buffer of a million words. */
-static void the_most_units(void)
+/* What can be upgraded of a donation: itself, but in all no more than 8,388,608 units, or
+ * 268,435,456 where it is over 8,388,608. */
+static void reserves(void)
+{
+    static const uint32_t each[][2] = {
+        { 256, 256 }, { 4194304, 4194304 }, { 4194305, 4194303 }, { 8388607, 1 }, { 8388608, 0 },
+        { 8388609, 8388609 }, { 134217728, 134217728 }, { 134217729, 134217727 },
+        { 268435455, 1 }, { 268435456, 0 } };
+    for (size_t k = 0; k < sizeof each / sizeof *each; k++) {
+        uint32_t reserve = each[k][1];
+        begin(each[k][0]);
+        CHECK(room_of(each[k][0]) == each[k][0] + reserve);
+        REPLY(nit_upgrade(&server, 0, reserve + 1), .kind = NIT_NO_RESERVE, .need = reserve + 1,
+              .left = reserve);
+        done(nit_upgrade(&server, 0, reserve));
+        REPLY(nit_upgrade(&server, 0, 1), .kind = NIT_NO_RESERVE, .need = 1, .left = 0);
+        close_plain(&server);
+    }
+}
+
+/* A donation of 8,388,608 pays for a buffer of a million words. */
+static void units_of_a_million_words(void)
 {
     begin(8388608);
-    REPLY(nit_upgrade(&server, 0, 1), .kind = NIT_NO_RESERVE, .need = 1, .left = 0);
     REPLY(nit_buffer(&server, 0, 4096, 257), .kind = NIT_OUT_OF_QUOTA, .need = 8421376,
           .left = 8388608);
     done(nit_buffer(&server, 0, 4096, 256));
     REPLY(nit_view(&server, 0), .kind = NIT_OUT_OF_QUOTA, .need = 256, .left = 0);
     close_plain(&server);
-    begin(8388607);
-    REPLY(nit_upgrade(&server, 0, 2), .kind = NIT_NO_RESERVE, .need = 2, .left = 1);
+    begin(8388609);
+    done(nit_upgrade(&server, 0, 8388609));
+    done(nit_buffer(&server, 0, 4096, 512));
+    REPLY(nit_view(&server, 0), .kind = NIT_OUT_OF_QUOTA, .need = 256, .left = 2);
+    close_plain(&server);
+}
+
+/* The largest buffer is below the largest donation. */
+static void units_of_the_largest_buffer(void)
+{
+    begin(134217727);
+    REPLY(nit_buffer(&server, 0, 4096, 4096), .kind = NIT_OUT_OF_QUOTA, .need = 134217728,
+          .left = 134217727);
+    done(nit_upgrade(&server, 0, 1));
+    done(nit_buffer(&server, 0, 4096, 4096));
+    REPLY(nit_view(&server, 0), .kind = NIT_OUT_OF_QUOTA, .need = 256, .left = 0);
+    close_plain(&server);
+    begin(268435456);
+    done(nit_buffer(&server, 0, 4096, 4096));
+    handle(nit_view(&server, 0), 1);
+    REPLY(nit_buffer(&server, 0, 4097, 4096), .kind = NIT_BAD_SIZE);
     close_plain(&server);
 }
 
@@ -251,7 +289,9 @@ void calls_answer(void)
     units();
     units_of_a_view();
     units_of_the_next();
-    the_most_units();
+    reserves();
+    units_of_a_million_words();
+    units_of_the_largest_buffer();
     sizes();
     rectangles();
     views();

@@ -267,6 +267,30 @@ static void taken_again(void)
     close_plain(&server);
 }
 
+/* ---- The largest screen, to its last pixel, of the largest buffer. */
+
+static void largest(void)
+{
+    enum { SIDE = 4096, COUNT = SIDE * SIDE, LAST = COUNT - 1 };
+    uint32_t *words = guarded_words(COUNT), *out = guarded_words(COUNT);
+    open_plain(&server, SIDE, SIDE, 1, 134217728 + 256);
+    CHECK(nit_seat(&server, 0, TEXT("a")) == NIT_DONE);
+    REPLY(nit_buffer(&server, 0, SIDE, SIDE), .kind = NIT_DONE);
+    REPLY(nit_view(&server, 0), .kind = NIT_HANDLE, .handle = 1);
+    REPLY(nit_place(&server, 0, 1, 0, 0, SIDE, SIDE), .kind = NIT_DONE);
+    words[LAST] = 0x123456;
+    REPLY(nit_refresh(&server, 0, SIDE - 1, SIDE - 1, 1, 1, words, COUNT), .kind = NIT_DONE);
+    CHECK(nit_look(&server, out, COUNT).kind == NIT_DONE);
+    CHECK(out[0] == 0 && out[LAST - 1] == 0 && out[LAST] == 0x123456);
+    words[LAST - SIDE + 1] = 0xABCDEF;
+    REPLY(nit_refresh(&server, 0, 0, SIDE - 1, 1, 1, words, COUNT), .kind = NIT_DONE);
+    RECT(nit_look(&server, out, COUNT - 1), .kind = NIT_WRONG_FRAME);
+    RECT(nit_look(&server, out, COUNT), .kind = NIT_DONE, .y = SIDE - 1, .w = 1, .h = 1);
+    CHECK(out[LAST - SIDE + 1] == 0xABCDEF && out[LAST] == 0x123456);
+    ROUTED(nit_motion(&server, 65535, 65535), MOTION(0, SIDE - 1, SIDE - 1));
+    close_plain(&server);
+}
+
 void screen_answers(void)
 {
     looks();
@@ -275,4 +299,5 @@ void screen_answers(void)
     views_above();
     modes();
     taken_again();
+    largest();
 }

@@ -154,6 +154,12 @@ void open_plain(struct nit_server *server, uint32_t width, uint32_t height, uint
     CHECK(nit_open(server, &plan) == NIT_DONE);
 }
 
+uint32_t room_of(uint32_t donation)
+{
+    uint32_t most = donation <= 8388608 ? 8388608 : 268435456;
+    return donation <= most / 2 ? 2 * donation : most;
+}
+
 void close_plain(struct nit_server *server)
 {
     CHECK(nit_close(server) == NIT_DONE);

@@ -67,6 +67,9 @@ char *guarded_text(size_t count);
 void open_plain(struct nit_server *server, uint32_t width, uint32_t height, uint32_t seats,
                 uint32_t donation);
 
+/* The most units that a client may ever have on a seat of this donation. */
+uint32_t room_of(uint32_t donation);
+
 /* Closes it, which has to be done. */
 void close_plain(struct nit_server *server);
 

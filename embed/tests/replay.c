@@ -291,7 +291,7 @@ static void add_seat(struct run *run, const char *line)
                   run->label[run->count]) != 4)
         wrong(run, line, "no seat");
     struct drawing *d = &run->drawing[run->count++];
-    d->room = (seat->donation < 4194304 ? 2 * (size_t)seat->donation : 8388608) / 8;
+    d->room = room_of(seat->donation) / 8;
     d->words = guarded_words(d->room);
 }
 
