@@ -5,7 +5,9 @@
  *
  * So many calls are made, 1,000,000 where no number is given, with the random numbers of the seed,
  * 1 where none is given. Words that are read and frames that are written end where memory ends. In
- * a million calls each reply has to come up. */
+ * a million calls each reply has to come up. Each eighth server, the first one too, may have a
+ * screen of up to 4096 by 4096 pixels, and then stands for fewer calls; each eighth donation may be
+ * any. */
 #include "storm.h"
 
 enum { LABELS = 8, GOOD = 5 };
@@ -38,15 +40,21 @@ static void reads(struct storm *s)
     }
 }
 
+/* Outside of the part each word is as it was; and all are below 2^24. */
 static void is_outside_the_same(const struct storm *s, struct nit_rect part, const uint32_t *was)
 {
-    for (uint32_t y = 0; y < s->height; y++)
-        for (uint32_t x = 0; x < s->width; x++) {
-            uint32_t k = y * s->width + x;
-            if (x - part.x >= part.w || y - part.y >= part.h)
-                CHECK(s->frame[k] == was[k]);
-            CHECK(s->frame[k] <= 0xFFFFFF);
-        }
+    uint32_t bits = 0;
+    for (uint32_t y = 0; y < s->height; y++) {
+        const uint32_t *now = s->frame + (size_t)y * s->width;
+        uint32_t left = y - part.y < part.h ? part.x : s->width;
+        uint32_t right = y - part.y < part.h ? part.x + part.w : s->width;
+        CHECK(memcmp(now, was, 4 * (size_t)left) == 0);
+        CHECK(memcmp(now + right, was + right, 4 * (size_t)(s->width - right)) == 0);
+        for (uint32_t x = 0; x < s->width; x++)
+            bits |= now[x];
+        was += s->width;
+    }
+    CHECK(bits <= 0xFFFFFF);
 }
 
 /* A look tells where something changed, and leaves words at which a second look finds nothing. */
@@ -123,29 +131,72 @@ static void takes_seat(struct storm *s)
 
 /* ---- The host. */
 
+/* A number of pixels from `least` to 64, or to a power of 2 up to 4096. */
+static uint32_t any_length(struct storm *s, uint32_t least, bool is_large)
+{
+    uint32_t most = is_large ? (uint32_t)SIDE << below(s, 7) : SIDE;
+    return is_large && below(s, 2) == 0 ? most : least + below(s, most - least + 1);
+}
+
+/* Mostly few units, but one donation in eight is at an edge or of any size. */
+static uint32_t any_donation(struct storm *s)
+{
+    static const uint32_t edges[] = { 256, 4194304, 4194305, 8388608, 8388609, 134217728,
+                                      NIT_MOST_UNITS };
+    uint32_t what = below(s, 16);
+    if (what == 0)
+        return edges[below(s, sizeof edges / sizeof *edges)];
+    return 256 + below(s, what == 1 ? NIT_MOST_UNITS - 255 : 32512);
+}
+
+/* The size of the next server, and the memory that it is lent. The first one is the largest. */
+static void sizes(struct storm *s)
+{
+    bool is_large = s->servers % 8 == 0, is_first = s->servers++ == 0;
+    uint32_t *end = s->frame + (size_t)s->width * s->height;
+    s->width = is_first ? NIT_MOST_WIDTH : any_length(s, 1, is_large);
+    s->height = is_first ? NIT_MOST_HEIGHT : any_length(s, 8, is_large);
+    s->frame = end - (size_t)s->width * s->height;
+    s->side = s->width > s->height ? s->width : s->height;
+    s->side = s->side < SIDE ? SIDE : s->side;
+}
+
 /* Opens a server of random size. A plan with a number too much is refused. */
 static void opens(struct storm *s)
 {
     struct nit_seat_plan seats[16];
-    s->width = 1 + below(s, SIDE);
-    s->height = 8 + below(s, SIDE - 8);
+    sizes(s);
     s->seats = 1 + below(s, 4);
+    s->room = 0;
     for (uint32_t k = 0; k < s->seats; k++) {
-        seats[k] = (struct nit_seat_plan){ 256 + below(s, 32512), below(s, 3), below(s, 2) };
+        seats[k] = (struct nit_seat_plan){ any_donation(s), below(s, 3), below(s, 2) };
+        uint32_t words = room_of(seats[k].donation) / 8;
+        s->room = words > s->room ? words : s->room;
         s->label[k] = -1;
     }
+    s->room = s->room < MOST_WORDS ? s->room : MOST_WORDS;
     struct nit_plan plan = { s->width, s->height, 2 + any(s) % 9, s->seats, seats };
     CHECK(nit_open(&s->server, &plan) == NIT_BAD_PLAN);
     plan.bar = below(s, 2);
     CHECK(nit_open(&s->server, &plan) == NIT_DONE);
     CHECK(nit_open(&s->server, &plan) == NIT_IS_OPEN);
     s->length = 0;
+    for (int k = 0; k < 8 && s->side > SIDE; k++)
+        takes_seat(s);
+}
+
+/* A server stands for 20,000 calls on average, and a large one for fewer, by its pixels. */
+static bool is_over(struct storm *s)
+{
+    uint32_t calls = (uint32_t)(20000ull * SIDE * SIDE / ((uint64_t)s->width * s->height));
+    return below(s, calls < 64 ? 64 : calls < 20000 ? calls : 20000) == 0;
 }
 
 static void does(struct storm *s)
 {
     uint32_t what = below(s, 20000);
-    if (what == 0) {
+    if (is_over(s)) {
+        looks(s);
         close_plain(&s->server);
         CHECK(nit_view(&s->server, 0).kind == NIT_NO_SERVER);
         opens(s);
@@ -167,9 +218,9 @@ int main(int count, char **words)
     static struct storm s;
     uint64_t calls = count > 1 ? number_in(words[1]) : 1000000;
     s.random.at = count > 2 ? number_in(words[2]) : 1;
-    s.words = guarded_words(ROOM);
-    s.frame = guarded_words(SIDE * SIDE);
-    s.other = guarded_words(SIDE * SIDE);
+    s.words = guarded_words(MOST_WORDS) + MOST_WORDS;
+    s.frame = guarded_words(MOST_WORDS) + MOST_WORDS;
+    s.other = guarded_words(MOST_WORDS);
     opens(&s);
     for (uint64_t k = 0; k < calls; k++)
         does(&s);

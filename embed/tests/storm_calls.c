@@ -11,18 +11,19 @@ uint32_t below(struct storm *s, uint32_t most)
 uint32_t any(struct storm *s)
 {
     static const uint32_t edges[] = { 0, 1, 255, 256, 272, 767, 768, 4096, 4097, 32767, 32768,
-                                      65535, 65536, 8388608, INT32_MAX, 1u << 31, UINT32_MAX };
+                                      65535, 65536, 8388608, 8388609, NIT_MOST_UNITS, INT32_MAX,
+                                      1u << 31, UINT32_MAX };
     switch (below(s, 16)) {
     case 0: return edges[below(s, sizeof edges / sizeof *edges)];
     case 1: return (uint32_t)(draw(&s->random, 1ull << 32) >> below(s, 32));
     case 2: return 0 - below(s, 70000);
-    default: return below(s, SIDE);
+    default: return below(s, s->side);
     }
 }
 
 static int32_t any_place(struct storm *s)
 {
-    uint32_t number = below(s, 4) == 0 ? 0 - below(s, SIDE) : any(s);
+    uint32_t number = below(s, 4) == 0 ? 0 - below(s, s->side) : any(s);
     return (int32_t)number;
 }
 
@@ -113,10 +114,10 @@ static void is_reply(struct storm *s, uint32_t seat, uint32_t status, struct nit
 
 static struct nit_reply refresh(struct storm *s, uint32_t seat)
 {
-    size_t count = below(s, 3) == 0 ? below(s, ROOM + 1) : ROOM;
-    const uint32_t *words = s->words + ROOM - count;
-    s->words[below(s, ROOM)] = (uint32_t)draw(&s->random, 1ull << 32);
-    return nit_refresh(&s->server, seat, any_place(s), any_place(s), any(s), any(s), words, count);
+    size_t count = below(s, 3) == 0 ? below(s, s->room + 1) : s->room;
+    s->words[-1 - (ptrdiff_t)below(s, s->room)] = (uint32_t)draw(&s->random, 1ull << 32);
+    return nit_refresh(&s->server, seat, any_place(s), any_place(s), any(s), any(s),
+                       s->words - count, count);
 }
 
 static struct nit_reply title(struct storm *s, uint32_t seat)
