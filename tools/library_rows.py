@@ -17,10 +17,11 @@ class NoTimes(Exception):
 
 
 def times_of(program):
-    """What one run says: the nanoseconds of each work."""
+    """What one run says: the numbers of each work. The first one is that of nanoseconds, and the
+    second one, where there is one, that of kilobytes that are resident then."""
     ended = subprocess.run([program], check=False, capture_output=True, text=True)
     lines = [line.split("\t") for line in ended.stdout.splitlines()]
-    times = {line[0]: float(line[1]) for line in lines if len(line) == 2}
+    times = {line[0]: tuple(map(float, line[1:])) for line in lines if len(line) in (2, 3)}
     if ended.returncode != 0 or not MOST_RATIO.keys() | MOST_TIME.keys() <= times.keys():
         said = (ended.stdout + ended.stderr).strip()
         raise NoTimes(f"{program.name}: status {ended.returncode}, said: {said}")
@@ -28,7 +29,7 @@ def times_of(program):
 
 
 def least_of(programs):
-    """Of each work the least time of each program, which run in turn."""
+    """Of each work the numbers of each program where it took least; the programs run in turn."""
     rounds = [[times_of(program) for program in programs] for _ in range(ROUNDS)]
     return {work: [min(times[k][work] for times in rounds) for k in range(len(programs))]
             for work in rounds[0][0]}
@@ -37,11 +38,11 @@ def least_of(programs):
 def beyond_limits(least):
     """What takes longer than it may."""
     for work, most in MOST_RATIO.items():
-        ours, theirs = least[work]
+        ours, theirs = (numbers[0] for numbers in least[work])
         if ours > most * theirs:
             yield f"{work}: over {most} times the plain compositor's time"
     for work, most in MOST_TIME.items():
-        if least[work][0] > most:
+        if least[work][0][0] > most:
             yield f"{work}: over {most} ns"
 
 
@@ -56,8 +57,12 @@ def main():
         print(f"Not as it should be:\n\n- {why}")
         return 1
     print("\n".join(heading([0, 1], "the library, µs", "a plain compositor, µs")))
-    for work, times in least.items():
-        print(f"| {work} | {cells([time / 1000 for time in times], '{:,.2f}'.format)} |")
+    for work, numbers in least.items():
+        print(f"| {work} | {cells([it[0] / 1000 for it in numbers], '{:,.2f}'.format)} |")
+    print("\n" + "\n".join(heading([0, 1], "the library, MB", "a plain compositor, MB")))
+    for work, numbers in least.items():
+        if len(numbers[0]) > 1:
+            print(f"| {work} | {cells([it[1] / 1024 for it in numbers], '{:,.1f}'.format)} |")
     notes = list(beyond_limits(least))
     if notes:
         print("\nNot as it should be:\n\n" + "\n".join(f"- {note}" for note in notes))

@@ -6,7 +6,7 @@
 #include <stdlib.h>
 #include <string.h>
 
-enum { SEATS = 16, VIEWS = 1024, QUEUE = 64, MOST_WORDS = 1048576, BARE = 0x20 };
+enum { SEATS = 16, VIEWS = 1024, QUEUE = 64, BARE = 0x20 };
 
 struct view {
     uint32_t seat, handle, w, h;
@@ -18,6 +18,7 @@ struct seat {
     uint32_t w, h, handles, first, waiting;
     struct nit_event events[QUEUE];
     uint32_t *words;
+    size_t most; /* words that the donation pays for */
 };
 
 /* What was changed since the last look: columns and rows from the first to before the last. */
@@ -87,10 +88,12 @@ static void drop(uint32_t at)
 uint32_t nit_open_seats(struct nit_server *server, uint32_t w, uint32_t h, uint32_t bar,
                         const uint32_t *plan, size_t words)
 {
-    (void)server, (void)bar, (void)plan, (void)words;
-    for (int seat = 0; seat < SEATS; seat++)
-        if (!(seats[seat].words = calloc(MOST_WORDS, sizeof(uint32_t))))
+    (void)server, (void)bar;
+    for (size_t seat = 0; seat < words / 3 && seat < SEATS; seat++) {
+        seats[seat].most = plan[3 * seat] / 8;
+        if (!(seats[seat].words = calloc(seats[seat].most, sizeof(uint32_t))))
             return NIT_NO_MEMORY;
+    }
     width = w;
     height = h;
     hurt(0, 0, (int32_t)w, (int32_t)h);
@@ -100,8 +103,13 @@ uint32_t nit_open_seats(struct nit_server *server, uint32_t w, uint32_t h, uint3
 uint32_t nit_close(struct nit_server *server)
 {
     (void)server;
-    for (int seat = 0; seat < SEATS; seat++)
+    for (int seat = 0; seat < SEATS; seat++) {
         free(seats[seat].words);
+        seats[seat] = (struct seat){ 0 };
+    }
+    count = 0;
+    focus = hover = NIT_NONE;
+    damage = (struct damage){ 0, 0, 0, 0 };
     return NIT_DONE;
 }
 
@@ -111,7 +119,7 @@ uint32_t nit_seat(struct nit_server *server, uint32_t seat, const char *label, s
     if (seats[seat].taken)
         return NIT_SEAT_TAKEN;
     uint32_t *words = seats[seat].words;
-    seats[seat] = (struct seat){ .taken = true, .words = words };
+    seats[seat] = (struct seat){ .taken = true, .words = words, .most = seats[seat].most };
     return NIT_DONE;
 }
 
@@ -137,7 +145,7 @@ struct nit_reply nit_leave(struct nit_server *server, uint32_t seat)
 struct nit_reply nit_buffer(struct nit_server *server, uint32_t seat, uint32_t w, uint32_t h)
 {
     (void)server;
-    if (w == 0 || h == 0 || (uint64_t)w * h > MOST_WORDS)
+    if (w == 0 || h == 0 || (uint64_t)w * h > seats[seat].most)
         return reply(NIT_BAD_SIZE);
     seats[seat].w = w;
     seats[seat].h = h;

@@ -1,6 +1,7 @@
 /* How long what a host does takes: the processor's time in nanoseconds, one line for each kind of
- * work, `NAME<tab>NANOSECONDS`, the least of many times. Linked with plain.c in the place of the
- * archive it times a plain compositor instead.
+ * work, `NAME<tab>NANOSECONDS`, the least of many times; and for an opening one more field, the
+ * kilobytes that are resident then, of which each program has some 2,000 by itself. Linked with
+ * plain.c in the place of the archive it times a plain compositor instead.
  *
  * usage: speed */
 #include "nitpicker.h"
@@ -8,12 +9,12 @@
 #include <stdlib.h>
 #include <time.h>
 
-enum { WIDTH = 1024, HEIGHT = 768, TIMES = 40, SIDE = 1024, VIEWS = 64 };
+enum { MOST = 3840 * 2160, TIMES = 40, VIEWS = 64 };
 
 static struct nit_server server;
-static uint32_t frame[WIDTH * HEIGHT];
+static uint32_t width, height, frame[MOST];
 /* What a client draws by turns, so that each refresh changes each pixel. */
-static uint32_t words[2][SIDE * HEIGHT];
+static uint32_t words[2][MOST];
 static uint32_t turn;
 
 static void must(int holds, const char *what)
@@ -33,16 +34,22 @@ static double now(void)
 
 static void look(uint32_t w, uint32_t h)
 {
-    struct nit_rect part = nit_look(&server, frame, WIDTH * HEIGHT);
+    struct nit_rect part = nit_look(&server, frame, (size_t)width * height);
     must(part.kind == NIT_DONE && part.w == w && part.h == h, "another part changed");
 }
 
 /* ---- The works. Each is one step of a host, with what follows it. */
 
+static void hand_in(uint32_t seat, uint32_t x, uint32_t y, uint32_t w, uint32_t h)
+{
+    must(nit_refresh(&server, seat, (int32_t)x, (int32_t)y, w, h, words[turn % 2],
+                     (size_t)width * height).kind == NIT_DONE, "refused");
+}
+
 static void refresh(uint32_t w, uint32_t h)
 {
-    const uint32_t *drawn = words[++turn % 2];
-    must(nit_refresh(&server, 0, 0, 0, w, h, drawn, SIDE * HEIGHT).kind == NIT_DONE, "refused");
+    turn++;
+    hand_in(0, 0, 0, w, h);
     look(w, h);
 }
 
@@ -56,6 +63,20 @@ static void large_refresh(void)
     refresh(1000, 700);
 }
 
+static void whole_refresh(void)
+{
+    refresh(width, height);
+}
+
+/* The first and the last pixel change, and nothing between. */
+static void corners(void)
+{
+    turn++;
+    hand_in(0, 0, 0, 1, 1);
+    hand_in(0, width - 1, height - 1, 1, 1);
+    look(width, height);
+}
+
 static void no_event(void)
 {
     must(nit_take(&server, 0).kind == NIT_NO_EVENT, "an event");
@@ -67,74 +88,155 @@ static void moved_view(void)
     uint32_t at = turn++ % VIEWS, by = turn / VIEWS % 2;
     must(nit_place(&server, 1, at + 1, (int32_t)(at % 8 * 120 + by), (int32_t)(at / 8 * 90 + 8),
                    60, 60).kind == NIT_DONE, "not placed");
-    must(nit_look(&server, frame, WIDTH * HEIGHT).kind == NIT_DONE, "no look");
+    must(nit_look(&server, frame, (size_t)width * height).kind == NIT_DONE, "no look");
 }
 
-struct work {
-    const char *name;
-    void (*step)(void);
-    uint32_t steps;
-};
-
-static const struct work works[] = {
-    { "one of 64 views moved, and a look", moved_view, 1000 },
-    { "a refresh of 1000 by 700, and a look", large_refresh, 5 },
-    { "a refresh of 200 by 200, and a look", small_refresh, 50 },
-    { "a call that changes nothing", no_event, 2000 },
-};
-
-static void tell(const struct work *work)
+static void tell(const char *name, void (*step)(void), uint32_t steps)
 {
     double least = 1e18;
-    work->step();
+    step();
     for (int k = 0; k < TIMES; k++) {
         double begun = now();
-        for (uint32_t step = 0; step < work->steps; step++)
-            work->step();
-        double took = (now() - begun) / work->steps;
+        for (uint32_t at = 0; at < steps; at++)
+            step();
+        double took = (now() - begun) / steps;
         least = took < least ? took : least;
     }
-    printf("%s\t%.1f\n", work->name, least);
+    printf("%s\t%.1f\n", name, least);
 }
 
-/* ---- The screen: one client's large view, and another one's 64 small ones behind it. */
+/* ---- Screens: one client's large view, and another one's 64 small ones behind it. */
 
-static void open_screen(void)
+static void close_screen(void)
 {
-    struct nit_seat_plan seats[] = { { 8388608, 0, 1 }, { 8388608, 1, 1 } };
-    struct nit_plan plan = { .width = WIDTH, .height = HEIGHT, .bar = 1, .count = 2,
-                             .seats = seats };
+    must(nit_close(&server) == NIT_DONE, "not closed");
+}
+
+static void open_screen(uint32_t w, uint32_t h, uint32_t bar)
+{
+    uint32_t donation = w * h > 1048576 ? 1u << 26 : 1u << 23;
+    struct nit_seat_plan seats[] = { { donation, 0, 1 }, { donation, 1, 1 } };
+    struct nit_plan plan = { .width = w, .height = h, .bar = bar, .count = 2, .seats = seats };
+    width = w;
+    height = h;
     must(nit_open(&server, &plan) == NIT_DONE, "not opened");
     must(nit_seat(&server, 0, "large", 5) == NIT_DONE, "not seated");
     must(nit_seat(&server, 1, "small", 5) == NIT_DONE, "not seated");
-    must(nit_buffer(&server, 0, SIDE, HEIGHT).kind == NIT_DONE, "no buffer");
+    must(nit_buffer(&server, 0, w, h).kind == NIT_DONE, "no buffer");
     must(nit_buffer(&server, 1, 60, 60).kind == NIT_DONE, "no buffer");
-    for (size_t at = 0; at < SIDE * HEIGHT; at++) {
-        words[0][at] = (uint32_t)(at * 2654435761u) & 0xFFFFFF;
-        words[1][at] = words[0][at] ^ 0x010101;
-    }
 }
 
 static void open_views(void)
 {
     for (uint32_t at = 0; at < VIEWS; at++)
         must(nit_view(&server, 1).handle == at + 1, "no view");
-    must(nit_refresh(&server, 1, 0, 0, 60, 60, words[0], SIDE * HEIGHT).kind == NIT_DONE,
-         "refused");
+    hand_in(1, 0, 0, 60, 60);
     for (uint32_t at = 0; at < VIEWS; at++)
         moved_view();
 }
 
+/* All words of the large view are of one turn, so that the next one changes each. */
+static void settle(void)
+{
+    turn++;
+    hand_in(0, 0, 0, width, height);
+    must(nit_look(&server, frame, (size_t)width * height).kind == NIT_DONE, "no look");
+}
+
+static void open_large_view(int32_t x, int32_t y, uint32_t w, uint32_t h)
+{
+    must(nit_view(&server, 0).handle == 1, "no view");
+    must(nit_place(&server, 0, 1, x, y, w, h).kind == NIT_DONE, "not placed");
+    settle();
+}
+
+static void draw_words(void)
+{
+    for (size_t at = 0; at < MOST; at++) {
+        words[0][at] = (uint32_t)(at * 2654435761u) & 0xFFFFFF;
+        words[1][at] = words[0][at] ^ 0x010101;
+    }
+}
+
+/* ---- What is timed on a screen of each size. */
+
+static void plain_screen(void)
+{
+    open_screen(1024, 768, 1);
+    open_views();
+    tell("one of 64 views moved, and a look", moved_view, 1000);
+    open_large_view(10, 20, 1000, 700);
+    tell("a refresh of 1000 by 700, and a look", large_refresh, 5);
+    tell("a refresh of 200 by 200, and a look", small_refresh, 50);
+    tell("a call that changes nothing", no_event, 2000);
+    close_screen();
+}
+
+static void wide_screen(void)
+{
+    open_screen(1920, 1080, 0);
+    open_views();
+    open_large_view(0, 0, width, height);
+    tell("a refresh of 1920 by 1080, and a look", whole_refresh, 1);
+    tell("1920 by 1080: a refresh of 200 by 200, and a look", small_refresh, 50);
+    settle();
+    tell("1920 by 1080: two corners refreshed, and a look", corners, 1);
+    close_screen();
+}
+
+static void widest_screen(void)
+{
+    open_screen(3840, 2160, 0);
+    open_views();
+    open_large_view(0, 0, width, height);
+    tell("a refresh of 3840 by 2160, and a look", whole_refresh, 1);
+    tell("3840 by 2160: a refresh of 200 by 200, and a look", small_refresh, 50);
+    settle();
+    tell("3840 by 2160: two corners refreshed, and a look", corners, 1);
+    close_screen();
+}
+
+/* ---- Opening, before anything else has touched memory. */
+
+static long resident(void)
+{
+    char line[200];
+    long kilobytes = -1;
+    FILE *status = fopen("/proc/self/status", "r");
+    must(status != NULL, "no /proc/self/status");
+    while (kilobytes < 0 && fgets(line, sizeof line, status))
+        if (sscanf(line, "VmRSS: %ld kB", &kilobytes) != 1)
+            kilobytes = -1;
+    fclose(status);
+    must(kilobytes > 0, "no VmRSS");
+    return kilobytes;
+}
+
+static void opening(void)
+{
+    struct nit_seat_plan seats[8];
+    struct nit_plan plan = { .width = 3840, .height = 2160, .bar = 1, .count = 8, .seats = seats };
+    double least = 1e18;
+    long kilobytes = 0;
+    for (int seat = 0; seat < 8; seat++)
+        seats[seat] = (struct nit_seat_plan){ 1u << 26, 1, 1 };
+    for (int k = 0; k < 5; k++) {
+        double begun = now();
+        must(nit_open(&server, &plan) == NIT_DONE, "not opened");
+        double took = now() - begun;
+        least = took < least ? took : least;
+        kilobytes = k == 0 ? resident() : kilobytes;
+        close_screen();
+    }
+    printf("3840 by 2160 opened, with eight seats of 2^26 units\t%.1f\t%ld\n", least, kilobytes);
+}
+
 int main(void)
 {
-    open_screen();
-    open_views();
-    tell(&works[0]);
-    must(nit_view(&server, 0).handle == 1, "no view");
-    must(nit_place(&server, 0, 1, 10, 20, 1000, 700).kind == NIT_DONE, "not placed");
-    refresh(1000, 700);
-    for (int k = 1; k < 4; k++)
-        tell(&works[k]);
-    must(nit_close(&server) == NIT_DONE, "not closed");
+    opening();
+    draw_words();
+    plain_screen();
+    wide_screen();
+    widest_screen();
     return 0;
 }
