@@ -9,8 +9,8 @@
 enum {
     SEATS = 16,
     LABEL = 21,              /* a label and its 0 */
-    DONATION = 4194304,      /* units of each seat */
-    MOST_WORDS = 1048576,    /* of a buffer, whatever is donated: 8,388,608 units */
+    DONATION = 4194304,      /* units of each seat at least */
+    MOST_WORDS = 16777216,   /* of a buffer, whatever is donated: a side has at most 4096 */
     SLICE = 1000,            /* microseconds for the calls of a client, which rests then */
     XRAY_KEY = 70,           /* Linux's codes of the keys of modes */
     KILL_KEY = 99

@@ -19,7 +19,7 @@
 static const char usage[] =
     "window [--size=WxH] [--xray=KEY] [--kill=KEY] [^]NAME=PROGRAM ...\n"
     "    NAME=PROGRAM starts a client; ^ puts it in front, where no click gives it the focus\n"
-    "    --size is the window's, up to 1024x768; --xray and --kill are more keys for the modes\n"
+    "    --size is the window's, up to 4096x4096; --xray and --kill are more keys for the modes\n"
     "README.md says more.\n";
 
 uint64_t now(void)
@@ -81,6 +81,13 @@ static void open_signals(struct host *host)
     sigprocmask(SIG_BLOCK, &some, NULL);
 }
 
+/* The units of each seat: they pay for a buffer of the window's size, and for 64 views. */
+static uint32_t donation(uint32_t width, uint32_t height)
+{
+    uint64_t units = 8 * (uint64_t)width * height + 256 * NIT_MOST_VIEWS;
+    return (uint32_t)SDL_clamp(units, DONATION, NIT_MOST_UNITS);
+}
+
 /* Seats for the words in their order, and free ones behind. The mark ^ puts a client in front of
  * all others, where no click gives it the focus. False where there is no such screen. */
 static bool open_server(struct host *host, const char *size, char **words)
@@ -90,11 +97,12 @@ static bool open_server(struct host *host, const char *size, char **words)
     char more;
     if (size && sscanf(size, "%4ux%4u%c", &plan.width, &plan.height, &more) != 2)
         return false;
+    const uint32_t units = donation(plan.width, plan.height);
     for (int seat = 0; seat < SEATS; seat++) {
         const char *word = *words ? *words++ : "";
         bool front = word[0] == '^';
         size_t length = front ? strcspn(word + 1, "=") : 0;
-        seats[seat] = (struct nit_seat_plan){ DONATION, front ? 0 : 1, !front };
+        seats[seat] = (struct nit_seat_plan){ units, front ? 0 : 1, !front };
         host->clients[seat].kept = front;
         if (length < LABEL)
             memcpy(host->clients[seat].label, word + 1, length);
@@ -227,7 +235,7 @@ static int begin(struct host *host, char **words)
     if (!*words)
         return refuse("NAME=PROGRAM", "there is no client, see --help");
     if (!open_server(host, size, words))
-        return refuse("--size", "a window has 1x8 to 1024x768");
+        return refuse("--size", "a window has 1x8 to 4096x4096");
     for (; *words; words++)
         if ((why = seats_start(host, *words + (**words == '^'))) != NULL)
             return refuse(*words, why);

@@ -156,6 +156,17 @@ def case_resize(screen, programs):
         until("all is there again", lambda: screen.part(0, 0, 1024, 768) == before)
 
 
+def case_large(screen, programs):
+    """A window of the largest size shows what has room on the screen, and a client draws it all."""
+    with Host(screen, programs, ["--size=4096x4096", "login=./login"]) as host:
+        until("the prompt", lambda: screen.pixel(60, 80) == BLUE)
+        with tempfile.TemporaryDirectory() as folder:
+            path, done = program(folder, "cover")
+            host.tell(f"+cover={path}")
+            until("it is drawn", done.exists, 60)
+            until("its last pixel here", lambda: screen.pixel(1023, 767) == 0x2060A0, 60)
+
+
 def case_size(screen, programs):
     """The window has the size of the words."""
     with Host(screen, programs, ["--size=320x200", "login=./login"]):

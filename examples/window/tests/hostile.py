@@ -17,7 +17,7 @@ import time
 
 BUFFER, VIEW, PLACE, REFRESH, TAKE, UPGRADE = 1, 2, 3, 10, 11, 12
 SOCKET, BELL, MEMORY = 3, 4, 5
-CALLS, PIXELS, BYTES = 64, 4096, 4096 + 4 * 1048576
+CALLS, PIXELS, BYTES = 64, 4096, 4096 + 4 * 16777216
 WIDTH, HEIGHT = 1024, 768
 SENT = itertools.count()
 ENDLESS = 2 ** 64 - 2
@@ -204,11 +204,17 @@ LIBERTIES = {"linger": linger, "resize": resize, "flags": flags, "holes": holes,
 def whole_screen(_):
     """A buffer as large as the screen, which is refreshed whole again and again."""
     view = ask(VIEW)[1]
-    ask(UPGRADE, units=4194304)
+    ask(UPGRADE, units=1048576)
     ask(BUFFER, w=WIDTH, h=HEIGHT)
     ask(PLACE, view, 100, 300, WIDTH, HEIGHT)
     while True:
         ask(REFRESH, w=WIDTH, h=HEIGHT)
+
+
+def cover(path):
+    """A view of one colour over the largest window."""
+    draw(0, 0, 4096, 4096, 0x2060A0)
+    Path(path).touch()
 
 
 def listen(path):
@@ -249,7 +255,8 @@ def steal(path):
             continue
 
 
-OTHERS = {"whole-screen": whole_screen, "listen": listen, "inject": inject, "steal": steal}
+OTHERS = {"whole-screen": whole_screen, "cover": cover, "listen": listen, "inject": inject,
+          "steal": steal}
 
 
 def main(deed, path):
