@@ -5,9 +5,9 @@
  *
  * So many calls are made, 1,000,000 where no number is given, with the random numbers of the seed,
  * 1 where none is given. Words that are read and frames that are written end where memory ends. In
- * a million calls each reply has to come up. Each eighth server, the first one too, may have a
- * screen of up to 4096 by 4096 pixels, and then stands for fewer calls; each eighth donation may be
- * any. */
+ * a million calls each reply has to come up, and NIT_MOVED. Each eighth server, the first one too,
+ * may have a screen of up to 4096 by 4096 pixels, and then stands for fewer calls; each eighth
+ * donation may be any. */
 #include "storm.h"
 
 enum { LABELS = 8, GOOD = 5 };
@@ -57,20 +57,23 @@ static void is_outside_the_same(const struct storm *s, struct nit_rect part, con
     CHECK(bits <= 0xFFFFFF);
 }
 
-/* A look tells where something changed, and leaves words at which a second look finds nothing. */
+/* A look tells where something changed, and leaves words at which a second look finds nothing. One
+ * at a wrong number of words is none. */
 static void looks(struct storm *s)
 {
     size_t count = (size_t)s->width * s->height;
     uint32_t *frame = s->frame, *other = s->other;
-    if (below(s, 4) == 0)
+    if (below(s, 4) == 0) {
         CHECK(nit_look(&s->server, frame, any(s) + count + 1).kind == NIT_WRONG_FRAME);
+        return;
+    }
     memcpy(other, frame, 4 * count);
-    struct nit_rect part = nit_look(&s->server, frame, count);
-    CHECK(part.kind == NIT_DONE && part.x + part.w <= s->width && part.y + part.h <= s->height);
+    struct nit_rect part = shown_look(s);
+    CHECK(part.x + part.w <= s->width && part.y + part.h <= s->height);
     is_outside_the_same(s, part, other);
     memcpy(other, frame, 4 * count);
-    part = nit_look(&s->server, frame, count);
-    CHECK(part.kind == NIT_DONE && part.w == 0 && part.h == 0);
+    part = shown_look(s);
+    CHECK(part.w == 0 && part.h == 0);
     CHECK(memcmp(frame, other, 4 * count) == 0);
 }
 
@@ -123,10 +126,32 @@ static void takes_seat(struct storm *s)
     if (answer == NIT_DONE) {
         s->label[seat] = label;
         s->handle[seat] = 0;
+        s->has_come[seat] = true;
         s->length = 0;
         SEAT(nit_seat_state(&s->server, seat), .kind = NIT_DONE, .status = NIT_SEAT_LIVE);
     }
     told(s, false, "");
+}
+
+/* The client under the pointer leaves, and the next one of its seat, which has its label, stands
+ * there; then the user clicks. */
+static void comes_again(struct storm *s)
+{
+    uint32_t seat = shown_owner(s, nit_state(&s->server));
+    if (seat == NIT_NONE)
+        return;
+    const char *text = LABEL[s->label[seat]];
+    shown_look(s);
+    CHECK(nit_leave(&s->server, seat).kind == NIT_DONE);
+    shown_gone(s, seat);
+    CHECK(nit_seat(&s->server, seat, text, strlen(text)) == NIT_DONE);
+    s->has_come[seat] = true;
+    s->handle[seat] = 1;
+    REPLY(shown_view(s, seat), .kind = NIT_HANDLE, .handle = 1);
+    struct placed all = { .handle = 1, .w = s->width, .h = s->height };
+    REPLY(shown_place(s, seat, all), .kind = NIT_DONE);
+    told(s, true, "call ");
+    told(s, shown_press(s, 272).kind == NIT_DONE, "input ");
 }
 
 /* ---- The host. */
@@ -172,15 +197,17 @@ static void opens(struct storm *s)
         seats[k] = (struct nit_seat_plan){ any_donation(s), below(s, 3), below(s, 2) };
         uint32_t words = room_of(seats[k].donation) / 8;
         s->room = words > s->room ? words : s->room;
+        s->layer[k] = seats[k].layer;
         s->label[k] = -1;
     }
     s->room = s->room < MOST_WORDS ? s->room : MOST_WORDS;
     struct nit_plan plan = { s->width, s->height, 2 + any(s) % 9, s->seats, seats };
     CHECK(nit_open(&s->server, &plan) == NIT_BAD_PLAN);
-    plan.bar = below(s, 2);
+    plan.bar = s->bar = below(s, 2);
     CHECK(nit_open(&s->server, &plan) == NIT_DONE);
     CHECK(nit_open(&s->server, &plan) == NIT_IS_OPEN);
     s->length = 0;
+    shown_opens(s);
     for (int k = 0; k < 8 && s->side > SIDE; k++)
         takes_seat(s);
 }
@@ -206,6 +233,8 @@ static void does(struct storm *s)
         reads(s);
     } else if (what < 800) {
         takes_seat(s);
+    } else if (what < 820) {
+        comes_again(s);
     } else if (what < 5000) {
         user_does(s);
     } else {
@@ -227,6 +256,7 @@ int main(int count, char **words)
     close_plain(&s.server);
     for (uint32_t kind = NIT_DONE; kind <= NIT_SESSION_KILLED; kind++)
         CHECK(calls < 1000000 || (s.seen >> kind & 1) == 1);
+    CHECK(calls < 1000000 || (s.seen >> NIT_MOVED & 1) == 1);
     printf("storm: %llu calls\n", (unsigned long long)calls);
     return 0;
 }

@@ -129,15 +129,23 @@ static struct nit_reply title(struct storm *s, uint32_t seat)
     return nit_title(&s->server, seat, any_view(s, seat), text, length);
 }
 
+static struct nit_reply leave(struct storm *s, uint32_t seat, uint64_t *kinds)
+{
+    struct nit_reply reply = nit_leave(&s->server, seat);
+    *kinds = KIND(NIT_DONE);
+    if (reply.kind == NIT_DONE)
+        shown_gone(s, seat);
+    return reply;
+}
+
 static struct nit_reply rare(struct storm *s, uint32_t seat, uint64_t *kinds)
 {
     struct nit_server *server = &s->server;
     switch (below(s, 8)) {
     case 0:
-        if (below(s, 16) == 0) {
-            *kinds = KIND(NIT_DONE);
-            return nit_leave(server, seat);
-        } /* fall through */
+        if (below(s, 16) == 0)
+            return leave(s, seat, kinds);
+        /* fall through */
     case 1:
     case 2:
         *kinds = KIND(NIT_DONE) | KIND(NIT_NO_RESERVE);
@@ -145,7 +153,7 @@ static struct nit_reply rare(struct storm *s, uint32_t seat, uint64_t *kinds)
     case 3:
     case 4:
         *kinds = OF_VIEW;
-        return nit_destroy(server, seat, any_view(s, seat));
+        return shown_destroy(s, seat, any_view(s, seat));
     default:
         *kinds = KIND(NIT_DONE) | KIND(NIT_BAD_SIZE) | KIND(NIT_OUT_OF_QUOTA);
         return nit_buffer(server, seat, any(s), any(s));
@@ -157,12 +165,12 @@ static struct nit_reply usual(struct storm *s, uint32_t seat, uint64_t *kinds)
     struct nit_server *server = &s->server;
     *kinds = OF_VIEW;
     switch (below(s, 8)) {
-    case 0: return nit_front(server, seat, any_view(s, seat));
-    case 1: return nit_back(server, seat, any_view(s, seat));
-    case 2: return nit_above(server, seat, any_view(s, seat), any_view(s, seat));
+    case 0:
+    case 1: return shown_moved(s, seat, any_view(s, seat), below(s, 2) == 0);
+    case 2: return shown_above(s, seat, any_view(s, seat), any_view(s, seat));
     case 3:
         *kinds = KIND(NIT_HANDLE) | KIND(NIT_TOO_MANY_VIEWS) | KIND(NIT_OUT_OF_QUOTA);
-        return nit_view(server, seat);
+        return shown_view(s, seat);
     case 4:
         *kinds = OF_VIEW | KIND(NIT_BAD_TITLE) | KIND(NIT_BAD_TEXT);
         return title(s, seat);
@@ -174,8 +182,8 @@ static struct nit_reply usual(struct storm *s, uint32_t seat, uint64_t *kinds)
         return nit_offset(server, seat, any_view(s, seat), any_place(s), any_place(s));
     default:
         *kinds = OF_RECT;
-        return nit_place(server, seat, any_view(s, seat), any_place(s), any_place(s), any(s),
-                         any(s));
+        return shown_place(s, seat, (struct placed){ .handle = any_view(s, seat),
+                           .x = any_place(s), .y = any_place(s), .w = any(s), .h = any(s) });
     }
 }
 
@@ -202,43 +210,51 @@ static uint32_t any_code(struct storm *s)
     return below(s, 20) == 0 ? any(s) : codes[below(s, sizeof codes / sizeof *codes)];
 }
 
-/* A press, or the release of what was pressed last, so that mostly nothing is held. */
-static struct nit_routed press_or_release(struct storm *s, bool *is_range)
+/* A press, or the release of what is held, so that mostly nothing is. Of the presses half are right
+ * behind a look. */
+static struct nit_routed press_or_release(struct storm *s, bool *is_served)
 {
-    uint32_t code = s->held;
-    s->held = 0;
-    if (code != 0 && below(s, 4) != 0) {
-        *is_range = code <= 767;
-        return nit_release(&s->server, code);
-    }
-    s->held = any_code(s);
-    *is_range = s->held <= 767;
-    return below(s, 8) == 0 ? nit_release(&s->server, s->held) : nit_press(&s->server, s->held);
+    uint32_t code = shown_held(s);
+    *is_served = true;
+    if (code < CODES && below(s, 4) != 0)
+        return shown_release(s, code);
+    code = any_code(s);
+    *is_served = code < CODES;
+    if (below(s, 8) == 0)
+        return shown_release(s, code);
+    if (below(s, 2) == 0)
+        shown_look(s);
+    struct nit_routed routed = shown_press(s, code);
+    *is_served = routed.kind == NIT_DONE;
+    return routed;
 }
 
 void user_does(struct storm *s)
 {
     uint32_t x = any(s), y = any(s), live = 0;
     int32_t turn = (int32_t)(any(s) - SIDE / 2);
-    bool is_range;
+    bool is_served;
     struct nit_routed r;
     for (uint32_t seat = 0; seat < s->seats; seat++)
         live |= (nit_seat_state(&s->server, seat).status == NIT_SEAT_LIVE ? 1u : 0u) << seat;
     switch (below(s, 4)) {
     case 0:
-    case 1: r = press_or_release(s, &is_range); break;
-    case 2: r = nit_motion(&s->server, x, y); is_range = x <= 65535 && y <= 65535; break;
-    default: r = nit_wheel(&s->server, turn); is_range = turn >= -127 && turn <= 127;
+    case 1: r = press_or_release(s, &is_served); break;
+    case 2: r = nit_motion(&s->server, x, y); is_served = x <= 65535 && y <= 65535; break;
+    default: r = nit_wheel(&s->server, turn); is_served = turn >= -127 && turn <= 127;
     }
-    CHECK(r.kind == (is_range ? NIT_DONE : NIT_BAD_DEVICE) && r.count <= (is_range ? 3 : 0));
+    CHECK(is_served ? r.kind == NIT_DONE : r.kind == NIT_BAD_DEVICE || r.kind == NIT_MOVED);
+    CHECK(r.count <= (is_served ? 3 : 0));
     for (uint32_t k = 0; k < r.count; k++) {
         CHECK(r.to[k].seat < s->seats && (live >> r.to[k].seat & 1) == 1);
-        if (r.to[k].event.kind != NIT_KILL)
+        if (r.to[k].event.kind != NIT_KILL) {
             is_event(s, r.to[k].event);
-        else
-            CHECK(nit_seat_state(&s->server, r.to[k].seat).status == NIT_SEAT_KILLED);
+            continue;
+        }
+        CHECK(nit_seat_state(&s->server, r.to[k].seat).status == NIT_SEAT_KILLED);
+        shown_gone(s, r.to[k].seat);
     }
     for (uint32_t k = r.count; k < 3; k++)
         has_no_event(r.to[k].event);
-    told(s, is_range, "input ");
+    told(s, is_served, "input ");
 }
