@@ -339,6 +339,7 @@ static void entries(void)
     REPLY(nit_title(&server, 1, 1, TEXT("\t")), .kind = NIT_BAD_TEXT);
     entry_is(&server, "call 1 out-of-quota 800 744 < buffer 10 10\n");
     REPLY(nit_place(&server, 1, 1, 0, 0, 40, 30), .kind = NIT_DONE);
+    CHECK(nit_look(&server, guarded_words(1200), 1200).kind == NIT_DONE);
     ROUTED(nit_press(&server, 272), TOLD(1, NIT_FOCUS_ENTER), PRESS(1, 272));
     entry_is(&server, "input press 272 > 1 focus-enter > 1 press 272\n");
     ROUTED(nit_motion(&server, 65535, 7), MOTION(1, 39, 7));
@@ -393,6 +394,7 @@ int main(void)
     refreshes_read();
     views_answer();
     input_answers();
+    clicks_answer();
     puts("answers: each call and each refusal is as the rules say");
     return 0;
 }

@@ -19,4 +19,7 @@ void views_answer(void);
 /* Where input goes: answers_input.c. */
 void input_answers(void);
 
+/* Which clicks are served: answers_clicks.c. */
+void clicks_answer(void);
+
 #endif

@@ -277,6 +277,7 @@ static void sessions_that_are_over(void)
     handle(nit_view(&server, 0), 1);
     done(nit_place(&server, 0, 1, 0, 0, 1, 1));
     ROUTED(nit_press(&server, 99), NOBODY);
+    CHECK(nit_look(&server, guarded_words(1200), 1200).kind == NIT_DONE);
     ROUTED(nit_press(&server, 272), TOLD(0, NIT_KILL));
     SEAT(nit_seat_state(&server, 0), .kind = NIT_DONE, .status = NIT_SEAT_KILLED);
     each_call(0, NIT_SESSION_KILLED);

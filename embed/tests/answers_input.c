@@ -1,6 +1,7 @@
 /* Where the user's input goes, and how events wait, by the rules of the user's input. Clients 0, 1
  * and 2 stand beside each other: columns 0, 20 and 40 on, ten wide and ten high. A click gives the
- * third one no focus. */
+ * third one no focus. What stands there was looked at before each click; answers_clicks.c has what
+ * was not. */
 #include "answers.h"
 #include "parts.h"
 
@@ -13,6 +14,12 @@ static void sits(uint32_t seat, const char *label, int32_t x)
     REPLY(nit_place(&server, seat, 1, x, 0, 10, 10), .kind = NIT_DONE);
 }
 
+static void look(void)
+{
+    static uint32_t frame[64 * 32];
+    CHECK(nit_look(&server, frame, 64 * 32).kind == NIT_DONE);
+}
+
 static void begin(void)
 {
     static const struct nit_seat_plan seats[] = {
@@ -22,6 +29,7 @@ static void begin(void)
     sits(0, "a", 0);
     sits(1, "b", 20);
     sits(2, "c", 40);
+    look();
 }
 
 /* The seat that gets what goes down and up, while a code is held. */
@@ -158,6 +166,7 @@ static void kill_mode(void)
     state_is(NIT_MODE_FLAT, NIT_NONE, NIT_NONE, 25, 5);
     SEAT(nit_seat_state(&server, 1), .kind = NIT_DONE, .status = NIT_SEAT_KILLED);
     ROUTED(nit_release(&server, 272), NOBODY);
+    look();
     ROUTED(nit_press(&server, 99), NOBODY);
     ROUTED(nit_press(&server, 272), NOBODY);
     state_is(NIT_MODE_FLAT, NIT_NONE, NIT_NONE, 25, 5);

@@ -48,7 +48,12 @@ static void begins(struct host *h, uint32_t seat, const char *label)
     served(h, nit_refresh(s, seat, 0, 0, 16, 16, words, 256), NIT_DONE);
 }
 
-/* What the two clients that stay do: eight steps. */
+static void look(struct host *h)
+{
+    CHECK(nit_look(&h->server, h->frame, WIDTH * HEIGHT).kind == NIT_DONE);
+}
+
+/* What the two clients that stay do, and a click on what is shown: eight steps. */
 static void changes(struct host *h, uint32_t turn)
 {
     struct nit_server *s = &h->server;
@@ -59,6 +64,7 @@ static void changes(struct host *h, uint32_t turn)
     served(h, nit_front(s, seat, 1), NIT_DONE);
     served(h, nit_offset(s, seat, 1, (int32_t)(turn % 3), 0), NIT_DONE);
     routed(h, nit_motion(s, turn % WIDTH, 10));
+    look(h);
     routed(h, nit_press(s, 272));
     routed(h, nit_release(s, 272));
     struct nit_reply taken = nit_take(s, seat);
@@ -74,11 +80,6 @@ static void views(struct host *h)
     served(h, nit_place(s, 0, made.handle, 30, 8, 10, 10), NIT_DONE);
     served(h, nit_title(s, 0, made.handle, TEXT("new")), NIT_DONE);
     served(h, nit_destroy(s, 0, made.handle), NIT_DONE);
-}
-
-static void look(struct host *h)
-{
-    CHECK(nit_look(&h->server, h->frame, WIDTH * HEIGHT).kind == NIT_DONE);
 }
 
 /* A hundred steps. */

@@ -69,6 +69,7 @@ static void calls(struct nit_server *server)
     REPLY(nit_refresh(server, 0, 0, 0, 8, 8, words, 64), .kind = NIT_DONE);
     REPLY(nit_upgrade(server, 0, 4096), .kind = NIT_DONE);
     CHECK(nit_motion(server, 9, 9).count == 1 && nit_wheel(server, 1).count == 1);
+    CHECK(nit_look(server, frame, 64 * 32).kind == NIT_DONE);
     CHECK(nit_press(server, 272).count == 2 && nit_release(server, 272).count == 1);
     CHECK(nit_press(server, 70).count == 1 && nit_look(server, frame, 64 * 32).w == 64);
     CHECK(nit_press(server, 70).count == 0 && nit_take(server, 0).kind == NIT_EVENT);

@@ -6,8 +6,9 @@
  * `seat DONATION LAYER CLICKS LABEL` for each client, and `begin`; then the run in order: each
  * entry of its journal, `stroke CLIENT LINE` for what a client draws, and `picture NAME` where all
  * clients refresh all they have and the screen is to show the picture of that name. The run is made
- * with two servers in turn, one that the configuration opens and one that the seats open and that
- * is looked at behind each step. The first difference ends it with status 1. */
+ * with two servers in turn, one that the configuration opens and one that the seats open. Both are
+ * looked at before the press of a button, and the second one behind each step. The first difference
+ * ends it with status 1. */
 #include "replay_read.h"
 
 enum { SEATS = 16, LINE = 400 };
@@ -158,10 +159,19 @@ static void play_call(struct run *run, const char *line)
         has_buffer(&run->drawing[seat], 0, 0);
 }
 
+/* A run has no looks, and a click goes to what the last look showed: so each is shown first. */
+static bool is_button(const char *line)
+{
+    uint32_t code;
+    return sscanf(line, "input press %u", &code) == 1 && code >= 272 && code <= 279;
+}
+
 static void play_input(struct run *run, const char *line)
 {
     struct nit_routed want = routed_in(line);
     for (int k = 0; k < 2; k++) {
+        if (is_button(line))
+            look_at(run, k);
         struct nit_routed got = input(run, &run->server[k], line + 6);
         if (memcmp(&got, &want, sizeof want) != 0)
             wrong(run, line, "it goes elsewhere");
@@ -247,7 +257,7 @@ static void look(struct run *run, int k, const uint8_t *pixels, const char *line
     free(before);
 }
 
-/* The second server was looked at behind each step, and the first is looked at now. */
+/* The second server was looked at behind each step, and the first one is looked at now. */
 static void show_the_same(struct run *run, const char *line)
 {
     look_at(run, 0);

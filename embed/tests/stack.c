@@ -87,7 +87,9 @@ static void xray_key(void)
 
 static void kill_key_and_click(void)
 {
-    CHECK(nit_press(&server, 99).kind == NIT_DONE && nit_press(&server, 272).kind == NIT_DONE);
+    CHECK(nit_press(&server, 99).kind == NIT_DONE);
+    CHECK(nit_look(&server, frame, WIDTH * HEIGHT).kind == NIT_DONE);
+    CHECK(nit_press(&server, 272).kind == NIT_DONE);
 }
 
 static void closes(void)
