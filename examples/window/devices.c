@@ -24,13 +24,18 @@ bool devices_name(const char *key, uint16_t code)
 }
 
 /* A key or a button goes down or up, where the table has it. Only buttons and the two keys of
- * modes change the picture. */
+ * modes change the picture. Where another client has come under the pointer than the picture shows,
+ * a click is nobody's: the new picture comes at once, and the user clicks again. */
 static struct nit_routed code_event(struct host *host, uint32_t code, bool down)
 {
     if (code == 0)
         return (struct nit_routed){ 0 };
-    host->changed |= down && (code >= FIRST_BUTTON || code == XRAY_KEY || code == KILL_KEY);
-    return down ? nit_press(&host->server, code) : nit_release(&host->server, code);
+    if (!down)
+        return nit_release(&host->server, code);
+    struct nit_routed routed = nit_press(&host->server, code);
+    host->changed |= code >= FIRST_BUTTON || code == XRAY_KEY || code == KILL_KEY;
+    host->next = routed.kind == NIT_MOVED ? 0 : host->next;
+    return routed;
 }
 
 static uint32_t key_code(const SDL_KeyboardEvent *event)

@@ -176,23 +176,29 @@ static void read_signals(struct host *host)
 }
 
 /* Shows what has changed, at the display's rate and for half of the time at most; and the whole of
- * a window that is new or that others have changed. */
+ * a window that is new or that others have changed. A click goes to what the last look showed. So
+ * what the user has done by now is handed in first, as it was meant for the picture before; and
+ * nothing is looked at that is not shown at once. */
 static void show(struct host *host)
 {
     uint64_t begin = now();
     if (!host->changed || begin < host->next)
         return;
+    devices_read(host);
+    SDL_Surface *surface = SDL_GetWindowSurface(host->window);
+    host->next = begin + host->period;
+    if (!surface)
+        return;
     size_t count = (size_t)(host->picture->w * host->picture->h);
     struct nit_rect part = nit_look(&host->server, host->frame, count);
     SDL_Rect from = { (int)part.x, (int)part.y, (int)part.w, (int)part.h }, to;
-    SDL_Surface *surface = SDL_GetWindowSurface(host->window);
     host->changed = false;
-    host->next = SDL_max(begin + host->period, 2 * now() - begin);
-    if (surface && host->whole) {
+    host->next = SDL_max(host->next, 2 * now() - begin);
+    if (host->whole) {
         from = (SDL_Rect){ 0, 0, surface->w, surface->h };
         host->whole = SDL_FillRect(surface, NULL, 0) != 0;
     }
-    if (!surface || from.w == 0)
+    if (from.w == 0)
         return;
     to = from;
     SDL_BlitSurface(host->picture, &from, surface, &to);

@@ -95,6 +95,45 @@ def case_frozen(screen, programs):
         until("the game's views go", lambda: screen.pixel(200, 230) == BARE)
 
 
+def jumped(screen, done, click):
+    """The client of `case_jump` jumps under the pointer, and the user clicks at once, or when it is
+    shown there. Whether the click gives it the focus."""
+    done.unlink()
+    end = time.monotonic() + 20
+    while not done.exists():
+        check("it jumps", time.monotonic() < end)
+    if click == "at once":
+        screen.click(100, 100)
+    until("it is shown there", lambda: screen.pixel(100, 100) == 0xF000F0)
+    if click == "shown":
+        screen.click(100, 100)
+    time.sleep(0.2)
+    return shows(screen, 0, 0, "flat:jump")
+
+
+def case_jump(screen, programs):
+    """A click goes to the client that the picture shows, and not to one that jumped there since."""
+    with tempfile.TemporaryDirectory() as folder:
+        path, done = program(folder, "jump")
+        with Host(screen, programs, ["login=./login", f"jump={path}"]):
+            until("it stands aside", done.exists)
+            refused = 0
+            for turn in range(24):
+                until("the prompt", lambda: screen.pixel(100, 100) not in (BARE, 0xF000F0))
+                screen.user("mousemove 100 100 click 1")
+                bar(screen, "flat:login")
+                late = turn % 4 == 0
+                focused = jumped(screen, done, "shown" if late else "at once")
+                check("the user saw it", focused or not late)
+                if not focused:
+                    refused += 1
+                    screen.click(100, 100)
+                    bar(screen, "flat:jump")
+                done.unlink()
+                until("it is aside again", done.exists)
+            check("clicks on what was not shown are refused", refused > 0)
+
+
 def case_front(screen, programs):
     """A client with the mark ^ stands in front of all others, and no click gives it the focus."""
     with Host(screen, programs, DESK):

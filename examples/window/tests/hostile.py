@@ -15,7 +15,7 @@ import termios
 import threading
 import time
 
-BUFFER, VIEW, PLACE, REFRESH, TAKE, UPGRADE = 1, 2, 3, 10, 11, 12
+BUFFER, VIEW, PLACE, FRONT, REFRESH, TAKE, UPGRADE = 1, 2, 3, 5, 10, 11, 12
 SOCKET, BELL, MEMORY = 3, 4, 5
 CALLS, PIXELS, BYTES = 64, 4096, 4096 + 4 * 16777216
 WIDTH, HEIGHT = 1024, 768
@@ -217,6 +217,20 @@ def cover(path):
     Path(path).touch()
 
 
+def jump(path):
+    """Stands aside, and each time that the file is taken away jumps, by turns: under the pointer,
+    right behind a picture, so that the next one is not due yet; and aside."""
+    draw(700, 600, 64, 64, 0xF000F0)
+    ask(FRONT, view=1)
+    for turn in itertools.count():
+        Path(path).touch()
+        while Path(path).exists():
+            time.sleep(0.01)
+        ask(REFRESH, w=64, h=64)
+        time.sleep(0.004)
+        ask(PLACE, 1, *((80, 90) if turn % 2 == 0 else (700, 600)), 64, 64)
+
+
 def listen(path):
     """Writes down each event: when it came, its kind, its code and its turn."""
     draw(10, 700, 64, 64, 0x0000F0)
@@ -255,8 +269,8 @@ def steal(path):
             continue
 
 
-OTHERS = {"whole-screen": whole_screen, "cover": cover, "listen": listen, "inject": inject,
-          "steal": steal}
+OTHERS = {"whole-screen": whole_screen, "cover": cover, "jump": jump, "listen": listen,
+          "inject": inject, "steal": steal}
 
 
 def main(deed, path):
