@@ -7,21 +7,21 @@ pub use Rattle.nit_run.proofs.ForCallers.{asking_both, asking_more, asking_none,
 pub use Rattle.nit_script.proofs.ForCallers.{client_reading, fits_push, input_reading, read_and_bad}
 pub use Rattle.nit_script.proofs.ForCallers.{read_and_long, same_read}
 pub use Rattle.nit_setup.specs.Terms.{AllByRecursion, AllFiles, AllScripts, AllZip}
-pub use Rattle.nit_setup.specs.Terms.{AreAllOuterFiles, AreAllScripts, AreClipScripts, AreClipsRead}
-pub use Rattle.nit_setup.specs.Terms.{AreFirstClips, AreFirstFiles, AreLines, AreOuterFiles}
-pub use Rattle.nit_setup.specs.Terms.{AreSetup, Audit, BothFiles, Capture, Clip, ClipLine, Command}
-pub use Rattle.nit_setup.specs.Terms.{ConfigRead, Configuration, End, Entry, Fault, File, FilesRead}
-pub use Rattle.nit_setup.specs.Terms.{FirstFiles, FitsClipLine, FitsInputLine, FitsLine, Gen}
-pub use Rattle.nit_setup.specs.Terms.{HasOneReading, HasRead, HasVerdict, HaveSamePhases, IfNone}
-pub use Rattle.nit_setup.specs.Terms.{IfSome, InnerFiles, InputLine, IsClientFault, IsClientScript}
-pub use Rattle.nit_setup.specs.Terms.{IsClipFault, IsClipScript, IsConfig, IsConfigFault}
-pub use Rattle.nit_setup.specs.Terms.{IsRunConfiguration, IsFaulty, IsFirstClipFault, IsFirstFault}
-pub use Rattle.nit_setup.specs.Terms.{IsFirstOuterFault, IsGood, IsInputFault, IsInputsFault}
-pub use Rattle.nit_setup.specs.Terms.{IsJournalFault, IsJournalText, IsLoaded, IsRunMember}
-pub use Rattle.nit_setup.specs.Terms.{IsNameOf}
-pub use Rattle.nit_setup.specs.Terms.{IsNoJournalText, IsOuterFault, IsOuterInputFault}
-pub use Rattle.nit_setup.specs.Terms.{IsOuterLoaded, IsOuterScript, IsOuterSetupFault}
-pub use Rattle.nit_setup.specs.Terms.{IsPhasedFault, IsRunnable, IsScript, IsSetupFault, IsSetupOf}
+pub use Rattle.nit_setup.specs.Terms.{AreAllOuterFiles, AreAllScripts, AreClipScripts, AreClipsOf}
+pub use Rattle.nit_setup.specs.Terms.{AreClipsRead, AreFirstClips, AreFirstFiles, AreLines}
+pub use Rattle.nit_setup.specs.Terms.{AreOuterFiles, AreSetup, Audit, BothFiles, Capture, Clip}
+pub use Rattle.nit_setup.specs.Terms.{ClipLine, Command, ConfigRead, Configuration, End, Entry}
+pub use Rattle.nit_setup.specs.Terms.{Fault, File, FilesRead, FirstFiles, FitsClipLine}
+pub use Rattle.nit_setup.specs.Terms.{FitsInputLine, FitsLine, Gen, HasOneReading, HasRead}
+pub use Rattle.nit_setup.specs.Terms.{HasVerdict, HaveSamePhases, IfNone, IfSome, InnerFiles}
+pub use Rattle.nit_setup.specs.Terms.{InputLine, IsClientFault, IsClientScript, IsClipFault}
+pub use Rattle.nit_setup.specs.Terms.{IsClipScript, IsConfig, IsConfigFault, IsFaulty}
+pub use Rattle.nit_setup.specs.Terms.{IsFirstClipFault, IsFirstFault, IsFirstOuterFault, IsGood}
+pub use Rattle.nit_setup.specs.Terms.{IsInputFault, IsInputsFault, IsJournalFault, IsJournalText}
+pub use Rattle.nit_setup.specs.Terms.{IsLoaded, IsNameOf, IsNoJournalText, IsOuterFault}
+pub use Rattle.nit_setup.specs.Terms.{IsOuterInputFault, IsOuterLoaded, IsOuterScript}
+pub use Rattle.nit_setup.specs.Terms.{IsOuterSetupFault, IsPhasedFault, IsRunConfiguration}
+pub use Rattle.nit_setup.specs.Terms.{IsRunMember, IsRunnable, IsScript, IsSetupFault, IsSetupOf}
 pub use Rattle.nit_setup.specs.Terms.{IsValid, Judged, Line, Loaded, MayShowFrames, Member, Nested}
 pub use Rattle.nit_setup.specs.Terms.{NoCommand, NoFile, OuterFiles, OuterRunRead, OuterSoFar}
 pub use Rattle.nit_setup.specs.Terms.{OuterStopped, ReadsTo, Refused, Region, Run, RunFiles}
@@ -40,7 +40,8 @@ pub use Rattle.nit_setup.specs.Terms.{reads, script_names, setup_in, setup_of, s
 pub use Rattle.nit_setup.specs.Terms.{still_setup, texts, too_long_for, user_actions_to_do}
 pub use Rattle.nit_setup.specs.Terms.{wanted_by, with_asked, wrong_client, wrong_clip, wrong_input}
 pub use Rattle.nit_setup.specs.Terms.{wrong_outer, wrong_phases}
-pub use Rattle.std.proofs.Common.{Some, [], ap, arith, inl, inr, map, refl, sym, take, true, ◌∙◌}
+pub use Rattle.std.proofs.Common.{None, Some, [], add-one, ap, arith, inl, inr, map, refl, sym}
+pub use Rattle.std.proofs.Common.{take, true, ◌∙◌}
 pub use Rattle.std.proofs.Math.Seq.{take-append_seam}
 pub use Rattle.std.proofs.lemmas.Bool.{and_parts, eq-eqb, leb-true, ne_eqb}
 pub use Rattle.std.proofs.lemmas.Bool.Decides.{nat_tests}

@@ -3,23 +3,22 @@ use Rattle.std.proofs.Common.{Bool, List, None, Option, [], ap, arith, cond, inl
 use Rattle.std.proofs.Common.{length-append, map, refl, replicate, suc, sym, take, true, zero, ℕ}
 use Rattle.std.proofs.Common.{◌*◌, ◌++◌, ◌+◌, ◌∙◌, ◌∷◌, ◌≡◌, ◌≤◌}
 use Rattle.nit_setup.proofs.Basics.{AllByRecursion, AllFiles, AllScripts, AreAllScripts}
-use Rattle.nit_setup.proofs.Basics.{AreClipScripts, AreClipsRead, AreFirstClips, AreLines, AreSetup}
-use Rattle.nit_setup.proofs.Basics.{Audit, Clip, ClipLine, Command, Configuration, End, Fault}
-use Rattle.nit_setup.proofs.Basics.{FitsInputLine, FitsLine, HaveSamePhases, IfSome, IfSome_then}
-use Rattle.nit_setup.proofs.Basics.{InputLine, IsClientFault, IsClientScript, IsClipFault}
-use Rattle.nit_setup.proofs.Basics.{IsRunConfiguration, IsJournalFault, IsNoJournalText, IsRunnable}
-use Rattle.nit_setup.proofs.Basics.{Line, NoFile, ReadsTo, Setup, Still, Stop, StoppedAt}
-use Rattle.nit_setup.proofs.Basics.{StoppedAtClip, StoppedReading, StoreModel, asking_all}
-use Rattle.nit_setup.proofs.Basics.{asking_both, asking_none, bytes_of, clip_name, clip_names}
-use Rattle.nit_setup.proofs.Basics.{clip_phases, count_by, count_by-le-length, idle_user}
-use Rattle.nit_setup.proofs.Basics.{input_phases, is_input_phase, is_phase, length-map}
-use Rattle.nit_setup.proofs.Basics.{length-replicate, map-append, name_text, names_in, phases}
-use Rattle.nit_setup.proofs.Basics.{script_names, setup_of, still_configured, still_setup}
-use Rattle.nit_setup.proofs.Basics.{sum_by-replicate, wanted_by, with_asked, wrong_clip}
-use Rattle.nit_setup.proofs.Basics.{wrong_input, wrong_phases}
+use Rattle.nit_setup.proofs.Basics.{AreClipScripts, AreClipsOf, AreClipsRead, AreFirstClips}
+use Rattle.nit_setup.proofs.Basics.{AreLines, AreSetup, Audit, Clip, ClipLine, Command}
+use Rattle.nit_setup.proofs.Basics.{Configuration, End, Fault, FitsInputLine, FitsLine}
+use Rattle.nit_setup.proofs.Basics.{HaveSamePhases, IfSome, IfSome_then, InputLine, IsClientFault}
+use Rattle.nit_setup.proofs.Basics.{IsClientScript, IsClipFault, IsJournalFault, IsNoJournalText}
+use Rattle.nit_setup.proofs.Basics.{IsRunConfiguration, IsRunnable, Line, NoFile, ReadsTo, Setup}
+use Rattle.nit_setup.proofs.Basics.{Still, Stop, StoppedAt, StoppedAtClip, StoppedReading}
+use Rattle.nit_setup.proofs.Basics.{StoreModel, asking_all, asking_both, asking_none, bytes_of}
+use Rattle.nit_setup.proofs.Basics.{clip_name, clip_names, clip_phases, count_by}
+use Rattle.nit_setup.proofs.Basics.{count_by-le-length, idle_user, input_phases, is_input_phase}
+use Rattle.nit_setup.proofs.Basics.{is_phase, length-map, length-replicate, map-append, name_text}
+use Rattle.nit_setup.proofs.Basics.{names_in, phases, script_names, setup_of, still_configured}
+use Rattle.nit_setup.proofs.Basics.{still_setup, sum_by-replicate, wanted_by, with_asked}
+use Rattle.nit_setup.proofs.Basics.{wrong_clip, wrong_input, wrong_phases}
 use Rattle.nit_setup.proofs.ScriptsRead.{both_told, get_behind, phases_are, stopped_reading}
 use Rattle.nit_setup.proofs.ScriptsRead.{take_front}
-use Rattle.nit_run.specs.Setup.{AreClipsOf}
 use Rattle.nit_script.specs.declared.line.InputLine.TheVariants as input
 use Rattle.nit_setup.specs.declared.stop.Fault.TheVariants as fault
 use Rattle.nit_setup.specs.declared.stop.StopName.TheVariants as file_name

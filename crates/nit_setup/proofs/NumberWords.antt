@@ -3,10 +3,9 @@ use Rattle.std.proofs.Common.{All, IsTrue, List, None, Option, Some, [], arith, 
 use Rattle.std.proofs.Common.{refl, suc, sym, zero, ℕ, ◌++◌, ◌+◌, ◌<◌, ◌^◌, ◌∷◌, ◌≡◌, ◌≤◌}
 use Rattle.nit_setup.proofs.Basics.{All-get_or, All-head, All-tail, AllByRecursion, Configuration}
 use Rattle.nit_setup.proofs.Basics.{IfNone, IfSome, IsRunConfiguration, IsRunMember, Member}
-use Rattle.nit_setup.proofs.Basics.{and_parts}
-use Rattle.nit_setup.proofs.Basics.{bytes_eq, bytes_eq-Decides, decimal, nat_tests}
+use Rattle.nit_setup.proofs.Basics.{and_parts, bytes_eq, bytes_eq-Decides, decimal}
 use Rattle.nit_setup.proofs.Basics.{decimal_injective, find, first_other, is_file_name, leb-true}
-use Rattle.nit_setup.proofs.Basics.{names_in, none-some, range_with_len}
+use Rattle.nit_setup.proofs.Basics.{names_in, nat_tests, none-some, range_with_len}
 use Rattle.nit_setup.specs.Command.{number_among}
 
 abbrev search_from : List ℕ → ℕ → ℕ → Option ℕ

@@ -5,17 +5,17 @@ use Rattle.nit_setup.proofs.Basics.{AllByRecursion, AreAllOuterFiles, AreAllScri
 use Rattle.nit_setup.proofs.Basics.{AreLines, AreSetup, Audit, BothFiles, Capture, Clip, Command}
 use Rattle.nit_setup.proofs.Basics.{ConfigRead, Configuration, Fault, File, FilesRead, FirstFiles}
 use Rattle.nit_setup.proofs.Basics.{FitsLine, HasRead, HaveSamePhases, IfSome, IfSome_then}
-use Rattle.nit_setup.proofs.Basics.{InnerFiles, IsFirstFault, IsFirstOuterFault}
-use Rattle.nit_setup.proofs.Basics.{IsClientFault, IsConfig, IsConfigFault}
-use Rattle.nit_setup.proofs.Basics.{IsRunConfiguration, IsInputFault, IsLoaded, IsOuterFault}
-use Rattle.nit_setup.proofs.Basics.{IsOuterLoaded, IsOuterSetupFault, IsSetupFault, IsSetupOf}
-use Rattle.nit_setup.proofs.Basics.{IsValid, Judged, Line, Loaded, MayShowFrames, Nested, NoFile}
-use Rattle.nit_setup.proofs.Basics.{OuterFiles, OuterRunRead, ReadsTo, Refused, Region, Run}
-use Rattle.nit_setup.proofs.Basics.{RunFiles, RunRead, Setup, SetupRead, SpellScripts, Stop}
-use Rattle.nit_setup.proofs.Basics.{StopName, StoppedAt, StoppedReading, StoreModel, append-nil}
-use Rattle.nit_setup.proofs.Basics.{asking_all, asking_both, asking_none, bytes_of, files_in}
-use Rattle.nit_setup.proofs.Basics.{first_names, name_text, names_in, names_read, next_name, phases}
-use Rattle.nit_setup.proofs.Basics.{reads, script_names, setup_in, slice_get, wanted_by, with_asked}
+use Rattle.nit_setup.proofs.Basics.{InnerFiles, IsClientFault, IsConfig, IsConfigFault}
+use Rattle.nit_setup.proofs.Basics.{IsFirstFault, IsFirstOuterFault, IsInputFault, IsLoaded}
+use Rattle.nit_setup.proofs.Basics.{IsOuterFault, IsOuterLoaded, IsOuterSetupFault}
+use Rattle.nit_setup.proofs.Basics.{IsRunConfiguration, IsSetupFault, IsSetupOf, IsValid, Judged}
+use Rattle.nit_setup.proofs.Basics.{Line, Loaded, MayShowFrames, Nested, NoFile, OuterFiles}
+use Rattle.nit_setup.proofs.Basics.{OuterRunRead, ReadsTo, Refused, Region, Run, RunFiles, RunRead}
+use Rattle.nit_setup.proofs.Basics.{Setup, SetupRead, SpellScripts, Stop, StopName, StoppedAt}
+use Rattle.nit_setup.proofs.Basics.{StoppedReading, StoreModel, append-nil, asking_all, asking_both}
+use Rattle.nit_setup.proofs.Basics.{asking_none, bytes_of, files_in, first_names, name_text}
+use Rattle.nit_setup.proofs.Basics.{names_in, names_read, next_name, phases, reads, script_names}
+use Rattle.nit_setup.proofs.Basics.{setup_in, slice_get, wanted_by, with_asked}
 use Rattle.std.proofs.Common.{Bool, Err, List, None, Ok, Result, Some, [], ap, append_assoc, false}
 use Rattle.std.proofs.Common.{inl, inr, length, refl, sym, true, ℕ, ◌++◌, ◌∙◌, ◌∷◌, ◌≡◌}
 use Rattle.nit_setup.specs.declared.stop.StopName.TheVariants as file_name

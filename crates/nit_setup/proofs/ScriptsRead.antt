@@ -1,18 +1,18 @@
 -- Scripts read and judged one after the other, the clients', their clip scripts and outer ones; where reading stops.
 use Rattle.nit_setup.proofs.Basics.{AllByRecursion, AllZip, AreClipsRead, AreLines, ClipLine}
-use Rattle.nit_setup.proofs.Basics.{Configuration, script_names, Command, End, Fault, File}
-use Rattle.nit_setup.proofs.Basics.{FilesRead, FitsLine, HasRead, HaveSamePhases, IfNone, IfSome}
-use Rattle.nit_setup.proofs.Basics.{IfSome_then, IsClientFault, IsClientScript, IsClipFault}
-use Rattle.nit_setup.proofs.Basics.{IsClipScript, IsNameOf, IsOuterFault, IsOuterScript, Judged}
-use Rattle.nit_setup.proofs.Basics.{Line, MayShowFrames, Member, OuterSoFar, OuterStopped, Refused}
+use Rattle.nit_setup.proofs.Basics.{Command, Configuration, End, Fault, File, FilesRead, FitsLine}
+use Rattle.nit_setup.proofs.Basics.{HasRead, HaveSamePhases, IfNone, IfSome, IfSome_then}
+use Rattle.nit_setup.proofs.Basics.{IsClientFault, IsClientScript, IsClipFault, IsClipScript}
+use Rattle.nit_setup.proofs.Basics.{IsNameOf, IsOuterFault, IsOuterScript, Judged, Line}
+use Rattle.nit_setup.proofs.Basics.{MayShowFrames, Member, OuterSoFar, OuterStopped, Refused}
 use Rattle.nit_setup.proofs.Basics.{RunFiles, SoFar, Stop, StoppedAmong, StoppedAt, StoppedAtClip}
 use Rattle.nit_setup.proofs.Basics.{StoppedBy, StoppedReading, StoreModel, asking_all, asking_more}
 use Rattle.nit_setup.proofs.Basics.{bytes_of, clip_name, cond, first_other, fits_push, frames_of}
 use Rattle.nit_setup.proofs.Basics.{is_some, is_too_long, length-map, length_push, map_push, misfit}
-use Rattle.nit_setup.proofs.Basics.{name_text, names_in, names_read, nest_of, next_name, nat_tests}
-use Rattle.nit_setup.proofs.Basics.{phase_counts, phases, slice_get, take-append_seam, take_more}
-use Rattle.nit_setup.proofs.Basics.{too_long_for, wanted_by, with_asked, wrong_client, wrong_clip}
-use Rattle.nit_setup.proofs.Basics.{wrong_outer}
+use Rattle.nit_setup.proofs.Basics.{name_text, names_in, names_read, nat_tests, nest_of, next_name}
+use Rattle.nit_setup.proofs.Basics.{phase_counts, phases, script_names, slice_get, take-append_seam}
+use Rattle.nit_setup.proofs.Basics.{take_more, too_long_for, wanted_by, with_asked, wrong_client}
+use Rattle.nit_setup.proofs.Basics.{wrong_clip, wrong_outer}
 use Rattle.std.proofs.Common.{Bool, List, None, Option, Some, [], add-one, arith, drop, false}
 use Rattle.std.proofs.Common.{get_or, length, map, refl, subst, suc, sym, take, zero, ℕ, ◌++◌, ◌+◌}
 use Rattle.std.proofs.Common.{◌<◌, ◌==◌, ◌∙◌, ◌∷◌, ◌≡◌}

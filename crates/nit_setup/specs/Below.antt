@@ -23,8 +23,9 @@ pub use Rattle.nit_run.specs.InnerFrames.{FirstShows, frames_of, is_too_long, ne
 pub use Rattle.nit_run.specs.OutputNames.{output_name}
 pub use Rattle.nit_run.specs.PutFiles.{asking_all}
 pub use Rattle.nit_run.specs.Region.{IsRegionWords, number_end}
-pub use Rattle.nit_run.specs.Setup.{AreLines, HaveSamePhases, IsRunnable, RunFiles, Setup, by_turns}
-pub use Rattle.nit_run.specs.Setup.{generated_setup, run_files, setup_of, still_setup}
+pub use Rattle.nit_run.specs.Setup.{AreClipsOf, AreLines, HaveSamePhases, IsRunnable, RunFiles}
+pub use Rattle.nit_run.specs.Setup.{Setup, by_turns, generated_setup, run_files, setup_of}
+pub use Rattle.nit_run.specs.Setup.{still_setup}
 pub use Rattle.nit_run.specs.declared.region.Region.{Region}
 pub use Rattle.nit_run.specs.declared.scripts.Scripts.{Scripts}
 pub use Rattle.nit_script.specs.Grammar.{HasOneReading, IsFirstBad, IsTooLong, Reads, ReadsClient}

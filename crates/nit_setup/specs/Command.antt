@@ -2,8 +2,7 @@
 use Rattle.std.specs.Prelude.{ℕ, Bool, true, false, List, [], ◌∷◌, map, find, codes, Option, Some}
 use Rattle.std.specs.Prelude.{None, String, if◌then◌else◌}
 use Rattle.nit_setup.specs.Below.{Region, bytes_eq, decimal, most_run_height, most_run_width}
-use Rattle.nit_setup.specs.Below.{number_end}
-use Rattle.nit_setup.specs.Below.{range_with_len, string_bytes}
+use Rattle.nit_setup.specs.Below.{number_end, range_with_len, string_bytes}
 
 -- the words as lists of bytes
 abbrev pub texts : {Z : Type 0} → List (String Z) → List (List ℕ)

@@ -1,22 +1,22 @@
 -- The words that clauses use: those that come from outside, and those of this crate.
 pub use Rattle.nit_setup.specs.Asked.{IsReadAs, asks_for}
-pub use Rattle.nit_setup.specs.Below.{AllByRecursion, AllZip, AreLines, ClipLine, Configuration}
-pub use Rattle.nit_setup.specs.Below.{End, Entry, Fault, File, FitsClipLine, FitsInputLine}
-pub use Rattle.nit_setup.specs.Below.{FitsLine, HasOneReading, HaveSamePhases, IfNone, IfSome}
-pub use Rattle.nit_setup.specs.Below.{InputLine, IsRunConfiguration, IsGood, IsRunMember}
-pub use Rattle.nit_setup.specs.Below.{IsRunnable}
-pub use Rattle.nit_setup.specs.Below.{Line, Loaded, Member, ReadsClient, ReadsInput, Region}
-pub use Rattle.nit_setup.specs.Below.{RunFiles, Setup, Stop, StopName, StoreModel, asking_all}
-pub use Rattle.nit_setup.specs.Below.{by_turns, bytes_eq, bytes_of, calls_to_make, client_script}
-pub use Rattle.nit_setup.specs.Below.{client_text, clip_line_spelling, clip_phases, cond, count_by}
-pub use Rattle.nit_setup.specs.Below.{decimal, false, find, first_forbidden, frames_of, generated}
-pub use Rattle.nit_setup.specs.Below.{idle_user, input_phases, input_spelling, is_clip_phase}
-pub use Rattle.nit_setup.specs.Below.{is_file_name, is_input_phase, is_phase, is_shot_line, is_some}
-pub use Rattle.nit_setup.specs.Below.{is_too_long, line_spelling, most_file_name, most_run_height}
-pub use Rattle.nit_setup.specs.Below.{most_lines, most_run_width, nest_of, number_end, option_map}
-pub use Rattle.nit_setup.specs.Below.{phases, phases_by, range_with_len, run_files, setup_of}
-pub use Rattle.nit_setup.specs.Below.{slice_get, still_configuration, still_setup}
-pub use Rattle.nit_setup.specs.Below.{user_actions_to_do, user_script, with_asked}
+pub use Rattle.nit_setup.specs.Below.{AllByRecursion, AllZip, AreClipsOf, AreLines, ClipLine}
+pub use Rattle.nit_setup.specs.Below.{Configuration, End, Entry, Fault, File, FitsClipLine}
+pub use Rattle.nit_setup.specs.Below.{FitsInputLine, FitsLine, HasOneReading, HaveSamePhases}
+pub use Rattle.nit_setup.specs.Below.{IfNone, IfSome, InputLine, IsGood, IsRunConfiguration}
+pub use Rattle.nit_setup.specs.Below.{IsRunMember, IsRunnable, Line, Loaded, Member, ReadsClient}
+pub use Rattle.nit_setup.specs.Below.{ReadsInput, Region, RunFiles, Setup, Stop, StopName}
+pub use Rattle.nit_setup.specs.Below.{StoreModel, asking_all, by_turns, bytes_eq, bytes_of}
+pub use Rattle.nit_setup.specs.Below.{calls_to_make, client_script, client_text, clip_line_spelling}
+pub use Rattle.nit_setup.specs.Below.{clip_phases, cond, count_by, decimal, false, find, frames_of}
+pub use Rattle.nit_setup.specs.Below.{generated, idle_user, input_phases, input_spelling}
+pub use Rattle.nit_setup.specs.Below.{is_clip_phase, is_file_name, is_input_phase, is_phase}
+pub use Rattle.nit_setup.specs.Below.{is_shot_line, is_some, is_too_long, line_spelling}
+pub use Rattle.nit_setup.specs.Below.{most_file_name, most_lines, most_run_height, most_run_width}
+pub use Rattle.nit_setup.specs.Below.{nest_of, number_end, option_map, phases, phases_by}
+pub use Rattle.nit_setup.specs.Below.{range_with_len, run_files, setup_of, slice_get}
+pub use Rattle.nit_setup.specs.Below.{still_configuration, still_setup, user_actions_to_do}
+pub use Rattle.nit_setup.specs.Below.{user_script, with_asked}
 pub use Rattle.nit_setup.specs.ClipsRead.{AreClipsRead, LoadedClips, StoppedAtClip}
 pub use Rattle.nit_setup.specs.Command.{Audit, Capture, Clip, Command, Gen, Nested, NoCommand, Run}
 pub use Rattle.nit_setup.specs.Command.{Still, capture, capture_command, command, gen, natural_of}
@@ -26,19 +26,19 @@ pub use Rattle.nit_setup.specs.FilesRead.{AreFirstClips, AreFirstFiles, BothFile
 pub use Rattle.nit_setup.specs.FilesRead.{FirstFiles, HasRead, InnerFiles, IsOuter, IsSetupOf}
 pub use Rattle.nit_setup.specs.FilesRead.{NoFile, OuterFiles, first_names, names_read, next_name}
 pub use Rattle.nit_setup.specs.JournalFiles.{HasVerdict, IsJournalFault, IsJournalText}
-pub use Rattle.nit_setup.specs.JournalFiles.{IsNoJournalText, IsVerdictOn, most_journal_bytes}
-pub use Rattle.nit_setup.specs.Judgement.{AreClipScripts, AreOuterFiles, AreRead, AreSetup}
-pub use Rattle.nit_setup.specs.Judgement.{IsClientFault, IsClientScript, IsClipFault, IsClipScript}
-pub use Rattle.nit_setup.specs.Judgement.{IsConfig, IsConfigFault, IsFaulty, IsFirstClipFault}
-pub use Rattle.nit_setup.specs.Judgement.{IsFirstFault, IsFirstOuterFault, IsInputFault}
-pub use Rattle.nit_setup.specs.Judgement.{IsInputScript, IsInputsFault, IsNoScript, IsOuterFault}
-pub use Rattle.nit_setup.specs.Judgement.{IsOuterInputFault, IsOuterScript, IsOuterSetupFault}
-pub use Rattle.nit_setup.specs.Judgement.{IsPhasedFault, IsPhasedScript, IsScript, IsSetupFault}
-pub use Rattle.nit_setup.specs.Judgement.{IsValid, Judged, MayShowFrames, Refused, SpellScripts}
-pub use Rattle.nit_setup.specs.Judgement.{clip_name, clip_names, fault_code, first_other, misfit}
-pub use Rattle.nit_setup.specs.Judgement.{most_bytes, names_in, phase_counts, reads, script_names}
-pub use Rattle.nit_setup.specs.Judgement.{too_long_for, wanted_by, wrong_client, wrong_clip}
-pub use Rattle.nit_setup.specs.Judgement.{wrong_input, wrong_lines, wrong_outer, wrong_phases}
+pub use Rattle.nit_setup.specs.JournalFiles.{IsNoJournalText, most_journal_bytes}
+pub use Rattle.nit_setup.specs.Judgement.{AreClipScripts, AreOuterFiles, AreSetup, IsClientFault}
+pub use Rattle.nit_setup.specs.Judgement.{IsClientScript, IsClipFault, IsClipScript, IsConfig}
+pub use Rattle.nit_setup.specs.Judgement.{IsConfigFault, IsFaulty, IsFirstClipFault, IsFirstFault}
+pub use Rattle.nit_setup.specs.Judgement.{IsFirstOuterFault, IsInputFault, IsInputScript}
+pub use Rattle.nit_setup.specs.Judgement.{IsInputsFault, IsOuterFault, IsOuterInputFault}
+pub use Rattle.nit_setup.specs.Judgement.{IsOuterScript, IsOuterSetupFault, IsPhasedFault}
+pub use Rattle.nit_setup.specs.Judgement.{IsPhasedScript, IsScript, IsSetupFault, IsValid, Judged}
+pub use Rattle.nit_setup.specs.Judgement.{MayShowFrames, Refused, SpellScripts, clip_name}
+pub use Rattle.nit_setup.specs.Judgement.{clip_names, fault_code, first_other, misfit, most_bytes}
+pub use Rattle.nit_setup.specs.Judgement.{names_in, phase_counts, reads, script_names, too_long_for}
+pub use Rattle.nit_setup.specs.Judgement.{wanted_by, wrong_client, wrong_clip, wrong_input}
+pub use Rattle.nit_setup.specs.Judgement.{wrong_lines, wrong_outer, wrong_phases}
 pub use Rattle.nit_setup.specs.OuterRead.{OuterLoaded, OuterSoFar, OuterStopped, ReadOuter}
 pub use Rattle.nit_setup.specs.Reading.{FileJudged, JudgedBytes, LoadedAll, ReadFor, ReadScripts}
 pub use Rattle.nit_setup.specs.Reading.{SoFar, StoppedAmong, StoppedAt, StoppedBy, end_of_journal}

@@ -1,9 +1,9 @@
 //! Reading clip scripts, and judging them.
 
 ghost use Rattle.std.specs.Prelude.{map, ◌≡◌, ◌≤◌, length, All, None, IfOk, string_bytes};
-ghost use Rattle.nit_setup.specs.Terms.{FileJudged, IsClipFault, IsClipScript, IsRunMember};
-ghost use Rattle.nit_setup.specs.Terms.{IsNameOf};
-ghost use Rattle.nit_setup.specs.Terms.{LoadedClips, clip_name, most_file_name, wrong_clip};
+ghost use Rattle.nit_setup.specs.Terms.{FileJudged, IsClipFault, IsClipScript, IsNameOf};
+ghost use Rattle.nit_setup.specs.Terms.{IsRunMember, LoadedClips, clip_name, most_file_name};
+ghost use Rattle.nit_setup.specs.Terms.{wrong_clip};
 
 use crate::load::load_lines;
 use crate::stop::{End, ScriptName, Stop, StopName};

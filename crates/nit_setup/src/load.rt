@@ -2,9 +2,9 @@
 
 ghost use Rattle.nit_setup.specs.Terms.{AreLines, FileJudged, FitsInputLine, FitsLine};
 ghost use Rattle.nit_setup.specs.Terms.{IsClientFault, IsClientScript, IsConfig, IsConfigFault};
-ghost use Rattle.nit_setup.specs.Terms.{IsRunConfiguration, IsInputFault, IsInputScript};
-ghost use Rattle.nit_setup.specs.Terms.{IsJournalText, IsNoJournalText, IsPhasedFault};
-ghost use Rattle.nit_setup.specs.Terms.{IsPhasedScript, JudgedBytes, ReadFor, end_of_journal};
+ghost use Rattle.nit_setup.specs.Terms.{IsInputFault, IsInputScript, IsJournalText};
+ghost use Rattle.nit_setup.specs.Terms.{IsNoJournalText, IsPhasedFault, IsPhasedScript};
+ghost use Rattle.nit_setup.specs.Terms.{IsRunConfiguration, JudgedBytes, ReadFor, end_of_journal};
 ghost use Rattle.nit_setup.specs.Terms.{end_of_script, most_bytes, most_journal_bytes, most_lines};
 ghost use Rattle.nit_setup.specs.Terms.{wrong_client, wrong_input, wrong_lines};
 ghost use Rattle.std.specs.Prelude.{IfOk, ◌≡◌, None, ◌≤◌, length};

@@ -1,10 +1,9 @@
 //! Reading the scripts of a configuration whose first client is to show frames.
 
 ghost use Rattle.std.specs.Prelude.{None, All, IfOk, map, ◌≡◌};
-ghost use Rattle.nit_setup.specs.Terms.{AreLines, FileJudged, FitsLine, IsRunConfiguration};
-ghost use Rattle.nit_setup.specs.Terms.{IsRunMember};
-ghost use Rattle.nit_setup.specs.Terms.{IsOuter, IsOuterFault, IsOuterScript, OuterLoaded};
-ghost use Rattle.nit_setup.specs.Terms.{ReadOuter, run_files, wrong_outer};
+ghost use Rattle.nit_setup.specs.Terms.{AreLines, FileJudged, FitsLine, IsOuter, IsOuterFault};
+ghost use Rattle.nit_setup.specs.Terms.{IsOuterScript, IsRunConfiguration, IsRunMember};
+ghost use Rattle.nit_setup.specs.Terms.{OuterLoaded, ReadOuter, run_files, wrong_outer};
 
 use crate::load::{load_client, load_input};
 use crate::stop::{End, Fault, Stop, at};

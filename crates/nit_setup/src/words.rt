@@ -3,9 +3,8 @@
 ghost use Rattle.std.specs.Prelude.{◌<◌, ◌≡◌, IfSome, ◌≤◌};
 ghost use Rattle.nit_setup.specs.Terms.{IsReadAs, asks_for, capture, capture_command, command};
 ghost use Rattle.nit_setup.specs.Terms.{first_name, gen, most_run_height, most_run_width};
-ghost use Rattle.nit_setup.specs.Terms.{natural_of};
-ghost use Rattle.nit_setup.specs.Terms.{number_end, number_up_to, pair_of, run_of, second_name};
-ghost use Rattle.nit_setup.specs.Terms.{still, still_of, texts};
+ghost use Rattle.nit_setup.specs.Terms.{natural_of, number_end, number_up_to, pair_of, run_of};
+ghost use Rattle.nit_setup.specs.Terms.{second_name, still, still_of, texts};
 
 use nit_rect::{MOST_RUN_HEIGHT, MOST_RUN_WIDTH};
 use nit_run::Region;

@@ -28,20 +28,19 @@ pub use Rattle.nit_top.specs.Terms.{HasDifferentNames, HasFilmed, HasPixels, Has
 pub use Rattle.nit_top.specs.Terms.{HasValidFiles, HaveOneScreen, HaveSameEvents, Headline}
 pub use Rattle.nit_top.specs.Terms.{HoldsAtEnd, IfNone, IfSome, InputLine, IsAfterNested}
 pub use Rattle.nit_top.specs.Terms.{IsAfterRun, IsAudit, IsAuditEnd, IsAudited, IsBothRead}
-pub use Rattle.nit_top.specs.Terms.{IsCommandRun, IsRunConfiguration, IsCutShort, IsEarly}
-pub use Rattle.nit_top.specs.Terms.{IsInnerEnd}
-pub use Rattle.nit_top.specs.Terms.{IsInnerJournal, IsJournal, IsJournalFault, IsJournalText}
-pub use Rattle.nit_top.specs.Terms.{IsLastRead, IsLegal, IsMadeBefore, IsMadeInPart, IsMadeUpTo}
-pub use Rattle.nit_top.specs.Terms.{IsNearPicture, IsNotBegun, IsOuter, IsOutside, IsPicture}
-pub use Rattle.nit_top.specs.Terms.{IsPutBefore, IsPutWhole, IsRefusedAt, IsRefusedWith, IsRunnable}
-pub use Rattle.nit_top.specs.Terms.{IsSameClient, IsSetupOf, IsSomeAnd, IsTrue, IsValid, IsValidSo}
-pub use Rattle.nit_top.specs.Terms.{Item, Judged, LiesIn, Line, LineTurn, MayCome, MayShowFrames}
-pub use Rattle.nit_top.specs.Terms.{Member, NestError, NestModel, Nested, NestsRun, NoCommand}
-pub use Rattle.nit_top.specs.Terms.{NoFault, NoFile, NoMemory, NotBegun, Observation, Performed}
-pub use Rattle.nit_top.specs.Terms.{PerformedClips, PerformedFilmed, PerformedNested, Phases}
-pub use Rattle.nit_top.specs.Terms.{PixelSource, Point, PutEach, PutError, PutFault, PutFiles}
-pub use Rattle.nit_top.specs.Terms.{PutRefusal, PutState, PutsAll, PutsNext, Ran, ReadsClient}
-pub use Rattle.nit_top.specs.Terms.{Rectangle, Refused, Region, Reply, Rose, RunFiles}
+pub use Rattle.nit_top.specs.Terms.{IsCommandRun, IsCutShort, IsEarly, IsInnerEnd, IsInnerJournal}
+pub use Rattle.nit_top.specs.Terms.{IsJournal, IsJournalFault, IsJournalText, IsLastRead, IsLegal}
+pub use Rattle.nit_top.specs.Terms.{IsMadeBefore, IsMadeInPart, IsMadeUpTo, IsNearPicture}
+pub use Rattle.nit_top.specs.Terms.{IsNotBegun, IsOuter, IsOutside, IsPicture, IsPutBefore}
+pub use Rattle.nit_top.specs.Terms.{IsPutWhole, IsRefusedAt, IsRefusedWith, IsRunConfiguration}
+pub use Rattle.nit_top.specs.Terms.{IsRunnable, IsSameClient, IsSetupOf, IsSomeAnd, IsTrue, IsValid}
+pub use Rattle.nit_top.specs.Terms.{IsValidSo, Item, Judged, LiesIn, Line, LineTurn, MayCome}
+pub use Rattle.nit_top.specs.Terms.{MayShowFrames, Member, NestError, NestModel, Nested, NestsRun}
+pub use Rattle.nit_top.specs.Terms.{NoCommand, NoFault, NoFile, NoMemory, NotBegun, Observation}
+pub use Rattle.nit_top.specs.Terms.{Performed, PerformedClips, PerformedFilmed, PerformedNested}
+pub use Rattle.nit_top.specs.Terms.{Phases, PixelSource, Point, PutEach, PutError, PutFault}
+pub use Rattle.nit_top.specs.Terms.{PutFiles, PutRefusal, PutState, PutsAll, PutsNext, Ran}
+pub use Rattle.nit_top.specs.Terms.{ReadsClient, Rectangle, Refused, Region, Reply, Rose, RunFiles}
 pub use Rattle.nit_top.specs.Terms.{SayingRefused, Says, SaysLine, Session, Setup, ShotFrame, Shows}
 pub use Rattle.nit_top.specs.Terms.{ShowsFrames, ShowsNest, Size, Stand, StandIn, State, Status}
 pub use Rattle.nit_top.specs.Terms.{Still, Stop, StopName, StoppedAt, StoppedBy, StoppedReading}

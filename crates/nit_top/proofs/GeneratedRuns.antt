@@ -3,7 +3,7 @@ use Rattle.nit_top.proofs.Basics.{AllByRecursion, AllZip, AreAllFiles, AreAllOut
 use Rattle.nit_top.proofs.Basics.{AreAllScripts, AreOutputs, BothFiles, Command, Configuration}
 use Rattle.nit_top.proofs.Basics.{Course, End, Ends, Entry, Fault, File, FirstShows, FitsInputLine}
 use Rattle.nit_top.proofs.Basics.{FitsLine, Gen, HasRun, Headline, IfSome, InputLine, IsAfterRun}
-use Rattle.nit_top.proofs.Basics.{IsRunConfiguration, IsInnerEnd, IsJournal, IsMadeUpTo, IsRunnable}
+use Rattle.nit_top.proofs.Basics.{IsInnerEnd, IsJournal, IsMadeUpTo, IsRunConfiguration, IsRunnable}
 use Rattle.nit_top.proofs.Basics.{Line, Nested, NoFile, NotBegun, Performed, PerformedNested}
 use Rattle.nit_top.proofs.Basics.{PutAll, PutError, PutFault, PutFiles, PutRefusal, PutState}
 use Rattle.nit_top.proofs.Basics.{PutUntil, PutsAll, ReadsClient, RunFiles, Setup, StoreModel}

@@ -5,19 +5,19 @@ use Rattle.std.proofs.Common.{refl, subst, suc, sym, take, true, zero, ℕ, ◌+
 use Rattle.std.proofs.Common.{◌≡◌, ◌≢◌, ◌≤◌, ◌⊎◌}
 use Rattle.nit_top.proofs.Basics.{Apart, AreAdded, AreOutputs, Audit, Begin, BeginOther, Capture}
 use Rattle.nit_top.proofs.Basics.{Clip, Command, Configuration, Entry, File, FrontsLaw, Gen}
-use Rattle.nit_top.proofs.Basics.{HasDifferentNames, IsCommandRun, IsRunConfiguration}
-use Rattle.nit_top.proofs.Basics.{IsInnerJournal}
-use Rattle.nit_top.proofs.Basics.{IsJournal, IsNearPicture, IsRunnable, IsSetupOf, Member, Nested}
-use Rattle.nit_top.proofs.Basics.{NoCommand, Numbered, OtherThan, PutError, RunFiles, SayingRefused}
-use Rattle.nit_top.proofs.Basics.{Says, Setup, ShotsLaw, Still, StoreModel, actions_few, all_append}
-use Rattle.nit_top.proofs.Basics.{apart_by, apart_front, append_cancel_left, append_cancel_right}
-use Rattle.nit_top.proofs.Basics.{begin_other, codes, differ, done, drawn_along, events_begin}
-use Rattle.nit_top.proofs.Basics.{events_file, events_files, events_name, film_name, final_name}
-use Rattle.nit_top.proofs.Basics.{final_picture, first_state, flat_map, generated_files}
-use Rattle.nit_top.proofs.Basics.{inner_journal_name, journal_file, made_by, member, numbered}
-use Rattle.nit_top.proofs.Basics.{other_letter, range_with_len, rules, saying-saying, shots}
-use Rattle.nit_top.proofs.Basics.{shots_apart_all, shots_begin, slice_index, text_files}
-use Rattle.nit_top.proofs.Basics.{texts_other, user_actions_from, user_actions_of, with_said}
+use Rattle.nit_top.proofs.Basics.{HasDifferentNames, IsCommandRun, IsInnerJournal, IsJournal}
+use Rattle.nit_top.proofs.Basics.{IsNearPicture, IsRunConfiguration, IsRunnable, IsSetupOf, Member}
+use Rattle.nit_top.proofs.Basics.{Nested, NoCommand, Numbered, OtherThan, PutError, RunFiles}
+use Rattle.nit_top.proofs.Basics.{SayingRefused, Says, Setup, ShotsLaw, Still, StoreModel}
+use Rattle.nit_top.proofs.Basics.{actions_few, all_append, apart_by, apart_front}
+use Rattle.nit_top.proofs.Basics.{append_cancel_left, append_cancel_right, begin_other, codes}
+use Rattle.nit_top.proofs.Basics.{differ, done, drawn_along, events_begin, events_file}
+use Rattle.nit_top.proofs.Basics.{events_files, events_name, film_name, final_name, final_picture}
+use Rattle.nit_top.proofs.Basics.{first_state, flat_map, generated_files, inner_journal_name}
+use Rattle.nit_top.proofs.Basics.{journal_file, made_by, member, numbered, other_letter}
+use Rattle.nit_top.proofs.Basics.{range_with_len, rules, saying-saying, shots, shots_apart_all}
+use Rattle.nit_top.proofs.Basics.{shots_begin, slice_index, text_files, texts_other}
+use Rattle.nit_top.proofs.Basics.{user_actions_from, user_actions_of, with_said}
 use Rattle.std.specs.Fmt.{digits}
 
 -- ---- the files that are made before a run

@@ -13,9 +13,9 @@ pub use Rattle.nit_top.specs.Below.{FirstShows, FitsInputLine, FitsLine, Gen, Ge
 pub use Rattle.nit_top.specs.Below.{HasDifferentNames, HasFilmed, HasPicture, HasPixels, HasRead}
 pub use Rattle.nit_top.specs.Below.{HasRun, HaveOneScreen, HaveSameEvents, Headline, HoldsAtEnd}
 pub use Rattle.nit_top.specs.Below.{HoldsInner, IfNone, IfSome, InputLine, IsAlwaysToldSo}
-pub use Rattle.nit_top.specs.Below.{IsAskedInRange, IsClipList, IsRunConfiguration, IsInnerJournal}
-pub use Rattle.nit_top.specs.Below.{IsJournal, IsJournalFault, IsJournalText, IsLegal}
-pub use Rattle.nit_top.specs.Below.{IsNearPicture, IsOuter, IsPicture, IsRefusedWith, IsRegionWords}
+pub use Rattle.nit_top.specs.Below.{IsAskedInRange, IsClipList, IsInnerJournal, IsJournal}
+pub use Rattle.nit_top.specs.Below.{IsJournalFault, IsJournalText, IsLegal, IsNearPicture, IsOuter}
+pub use Rattle.nit_top.specs.Below.{IsPicture, IsRefusedWith, IsRegionWords, IsRunConfiguration}
 pub use Rattle.nit_top.specs.Below.{IsRunnable, IsSameClient, IsSetupOf, IsSomeAnd, IsTrue, IsValid}
 pub use Rattle.nit_top.specs.Below.{IsVerdictOn, Item, Judged, LiesIn, Line, LineTurn}
 pub use Rattle.nit_top.specs.Below.{MayShowFrames, Member, NestError, NestModel, Nested, NestsRun}
@@ -43,13 +43,12 @@ pub use Rattle.nit_top.specs.Below.{frames_behind, frames_of, generated, generat
 pub use Rattle.nit_top.specs.Below.{generated_setup, idle_user, index_at, inner_journal_name}
 pub use Rattle.nit_top.specs.Below.{input_phases, is_accepted, is_off_screen, is_shot_line, is_some}
 pub use Rattle.nit_top.specs.Below.{is_too_long, journal_file, journal_text, label_text, last_frame}
-pub use Rattle.nit_top.specs.Below.{lines_of_frames, list_any, member, misfit, most_run_height}
-pub use Rattle.nit_top.specs.Below.{most_journal_bytes, most_run_width, name_text, names_in}
-pub use Rattle.nit_top.specs.Below.{names_read}
-pub use Rattle.nit_top.specs.Below.{nest_of, nest_script, nested_setup, next_frame, next_name}
-pub use Rattle.nit_top.specs.Below.{number_end, opening_drawing, option_map, output_name, owner_of}
-pub use Rattle.nit_top.specs.Below.{phase_counts, phases, picture, picture_header, picture_name}
-pub use Rattle.nit_top.specs.Below.{picture_of, pictures_in, pixel, pos, projection}
+pub use Rattle.nit_top.specs.Below.{lines_of_frames, list_any, member, misfit, most_journal_bytes}
+pub use Rattle.nit_top.specs.Below.{most_run_height, most_run_width, name_text, names_in}
+pub use Rattle.nit_top.specs.Below.{names_read, nest_of, nest_script, nested_setup, next_frame}
+pub use Rattle.nit_top.specs.Below.{next_name, number_end, opening_drawing, option_map, output_name}
+pub use Rattle.nit_top.specs.Below.{owner_of, phase_counts, phases, picture, picture_header}
+pub use Rattle.nit_top.specs.Below.{picture_name, picture_of, pictures_in, pixel, pos, projection}
 pub use Rattle.nit_top.specs.Below.{put_state_of_run, range_with_len, raw_word, reads, receive}
 pub use Rattle.nit_top.specs.Below.{rectangle, rectangle_of, refusal, refusal_of, replay}
 pub use Rattle.nit_top.specs.Below.{replies_to, rounds, run_files, screen, script_in, script_name}

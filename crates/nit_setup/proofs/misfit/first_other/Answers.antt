@@ -1,6 +1,5 @@
-use Rattle.nit_setup.proofs.Lemmas.{Configuration, IfSome_then, Some, ap, eq-eqb, first_of_all}
-use Rattle.nit_setup.proofs.Lemmas.{input_phases, ne_eqb, none_there, sym, ◌∙◌}
-use Rattle.std.proofs.Common.{None}
+use Rattle.nit_setup.proofs.Lemmas.{Configuration, IfSome_then, None, Some, ap, eq-eqb}
+use Rattle.nit_setup.proofs.Lemmas.{first_of_all, input_phases, ne_eqb, none_there, sym, ◌∙◌}
 use Rattle.nit_setup.proofs.misfit.first_other.Goals as goal
 
 pub returns-then-is_some-clause-some : goal.returns-then-is_some-clause-some

@@ -1,6 +1,5 @@
-use Rattle.nit_setup.proofs.Lemmas.{Some, ap, found_other, one_more_wanted, phases, sym}
+use Rattle.nit_setup.proofs.Lemmas.{Some, add-one, ap, found_other, one_more_wanted, phases, sym}
 use Rattle.nit_setup.proofs.Lemmas.{◌∙◌}
-use Rattle.std.proofs.Common.{add-one}
 use Rattle.nit_setup.proofs.misfit.first_other_client.Goals as goal
 
 pub returns-then-phases-wanted-clause-some : goal.returns-then-phases-wanted-clause-some

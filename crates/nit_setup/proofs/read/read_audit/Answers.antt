@@ -1,8 +1,7 @@
-use Rattle.nit_setup.proofs.Lemmas.{Audit, IsNoJournalText, ap, asking_more, false, run_asked}
-use Rattle.nit_setup.proofs.Lemmas.{run_valid, journal_stopped, name_text, names_in, reads_audit}
-use Rattle.nit_setup.proofs.Lemmas.{refl, setup_in, stopped_first, text_fault}
+use Rattle.nit_setup.proofs.Lemmas.{Audit, IsNoJournalText, [], ap, asking_more, asking_none, false}
+use Rattle.nit_setup.proofs.Lemmas.{journal_stopped, name_text, names_in, reads_audit, refl}
+use Rattle.nit_setup.proofs.Lemmas.{run_asked, run_valid, setup_in, stopped_first, text_fault}
 use Rattle.std.proofs.Common.{◌∷◌}
-use Rattle.nit_setup.proofs.Basics.{[], asking_none}
 use Rattle.nit_setup.proofs.read.read_audit.Goals as goal
 
 pub returns-in-Err : goal.returns-in-Err

@@ -1,6 +1,6 @@
-use Rattle.nit_setup.proofs.Lemmas.{Loaded, ap, clip_stopped, clips_read, run_asked, run_valid}
-use Rattle.nit_setup.proofs.Lemmas.{reads_clips, refl, script_names, stopped_first, true, wanted_by}
-use Rattle.nit_setup.proofs.Basics.{[], asking_none}
+use Rattle.nit_setup.proofs.Lemmas.{Loaded, [], ap, asking_none, clip_stopped, clips_read}
+use Rattle.nit_setup.proofs.Lemmas.{reads_clips, refl, run_asked, run_valid, script_names}
+use Rattle.nit_setup.proofs.Lemmas.{stopped_first, true, wanted_by}
 use Rattle.nit_setup.proofs.read.read_clips.Goals as goal
 
 pub returns-in-Err : goal.returns-in-Err
