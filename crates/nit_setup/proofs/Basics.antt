@@ -29,17 +29,17 @@ pub use Rattle.nit_setup.specs.Terms.{RunRead, Setup, SetupRead, SoFar, SpellScr
 pub use Rattle.nit_setup.specs.Terms.{StopName, StoppedAmong, StoppedAt, StoppedAtClip, StoppedBy}
 pub use Rattle.nit_setup.specs.Terms.{StoppedReading, StoreModel, asking_all, by_turns, bytes_eq}
 pub use Rattle.nit_setup.specs.Terms.{bytes_of, calls_to_make, client_script, clip_line_spelling}
-pub use Rattle.nit_setup.specs.Terms.{clip_name, clip_names, clip_phases, command, cond, count_by}
-pub use Rattle.nit_setup.specs.Terms.{decimal, false, fault_code, files_in, find, first_names}
-pub use Rattle.nit_setup.specs.Terms.{first_other, frames_of, idle_user, input_phases}
-pub use Rattle.nit_setup.specs.Terms.{input_spelling, is_clip_phase, is_file_name, is_input_phase}
-pub use Rattle.nit_setup.specs.Terms.{is_phase, is_some, is_too_long, line_spelling, misfit}
-pub use Rattle.nit_setup.specs.Terms.{name_text, names_in, names_read, nest_of, next_name}
-pub use Rattle.nit_setup.specs.Terms.{option_map, phase_counts, phases, phases_by, range_with_len}
-pub use Rattle.nit_setup.specs.Terms.{reads, script_names, setup_in, setup_of, slice_get}
-pub use Rattle.nit_setup.specs.Terms.{still_setup, texts, too_long_for, user_actions_to_do}
-pub use Rattle.nit_setup.specs.Terms.{wanted_by, with_asked, wrong_client, wrong_clip, wrong_input}
-pub use Rattle.nit_setup.specs.Terms.{wrong_outer, wrong_phases}
+pub use Rattle.nit_setup.specs.Terms.{clip_name, clip_names, clip_phases, cond, count_by, decimal}
+pub use Rattle.nit_setup.specs.Terms.{false, fault_code, files_in, find, first_names, first_other}
+pub use Rattle.nit_setup.specs.Terms.{frames_of, idle_user, input_phases, input_spelling}
+pub use Rattle.nit_setup.specs.Terms.{is_clip_phase, is_file_name, is_input_phase, is_phase}
+pub use Rattle.nit_setup.specs.Terms.{is_some, is_too_long, line_spelling, misfit, name_text}
+pub use Rattle.nit_setup.specs.Terms.{names_in, names_read, nest_of, next_name, option_map}
+pub use Rattle.nit_setup.specs.Terms.{phase_counts, phases, phases_by, range_with_len, reads}
+pub use Rattle.nit_setup.specs.Terms.{script_names, setup_in, setup_of, slice_get, still_setup}
+pub use Rattle.nit_setup.specs.Terms.{too_long_for, user_actions_to_do, wanted_by, with_asked}
+pub use Rattle.nit_setup.specs.Terms.{wrong_client, wrong_clip, wrong_input, wrong_outer}
+pub use Rattle.nit_setup.specs.Terms.{wrong_phases}
 pub use Rattle.std.proofs.Common.{None, Some, [], add-one, ap, arith, inl, inr, map, refl, sym}
 pub use Rattle.std.proofs.Common.{take, true, ◌∙◌}
 pub use Rattle.std.proofs.Math.Seq.{take-append_seam}

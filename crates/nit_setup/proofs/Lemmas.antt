@@ -1,12 +1,11 @@
 -- What answers use: all that lemmas use, and this crate's lemmas.
 pub use Rattle.nit_setup.proofs.Basics.{AreClipsRead, Audit, Configuration, IfSome_then}
-pub use Rattle.nit_setup.proofs.Basics.{IsNoJournalText, Loaded, NoCommand, None, OuterSoFar, SoFar}
-pub use Rattle.nit_setup.proofs.Basics.{Some, [], add-one, ap, arith, asking_more, asking_none}
-pub use Rattle.nit_setup.proofs.Basics.{client_script, command, decimal_injective, eq-eqb, false}
-pub use Rattle.nit_setup.proofs.Basics.{files_in, first_other, idle_user, inl, input_phases, inr}
-pub use Rattle.nit_setup.proofs.Basics.{length-map, map, name_text, names_in, nat_tests, ne_eqb}
-pub use Rattle.nit_setup.proofs.Basics.{phases, range_with_len, refl, script_names, setup_in, sym}
-pub use Rattle.nit_setup.proofs.Basics.{take, text_at, texts, true, wanted_by, ◌∙◌}
+pub use Rattle.nit_setup.proofs.Basics.{IsNoJournalText, Loaded, None, OuterSoFar, SoFar, Some, []}
+pub use Rattle.nit_setup.proofs.Basics.{add-one, ap, arith, asking_more, asking_none, client_script}
+pub use Rattle.nit_setup.proofs.Basics.{decimal_injective, eq-eqb, false, files_in, first_other}
+pub use Rattle.nit_setup.proofs.Basics.{idle_user, inl, input_phases, inr, map, name_text, names_in}
+pub use Rattle.nit_setup.proofs.Basics.{ne_eqb, phases, range_with_len, refl, script_names}
+pub use Rattle.nit_setup.proofs.Basics.{setup_in, sym, take, text_at, true, wanted_by, ◌∙◌}
 pub use Rattle.nit_setup.proofs.ClipFilesRead.{clip_stopped, clips_read, journal_stopped}
 pub use Rattle.nit_setup.proofs.ClipFilesRead.{picture_read, picture_stopped, run_runnable}
 pub use Rattle.nit_setup.proofs.ClipFilesRead.{still_runnable, text_fault}

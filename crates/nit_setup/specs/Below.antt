@@ -46,6 +46,8 @@ pub use Rattle.nit_setup.specs.declared.stop.ScriptName.{ScriptName}
 pub use Rattle.nit_setup.specs.declared.stop.Stop.{Stop}
 pub use Rattle.nit_setup.specs.declared.stop.StopName.{StopName}
 pub use Rattle.nit_setup.specs.declared.words.Asked.{Asked}
+pub use Rattle.nit_setup.specs.declared.words.AskedAlone.{AskedAlone}
+pub use Rattle.nit_setup.specs.declared.words.AskedBeside.{AskedBeside}
 pub use Rattle.nit_store.specs.Store.{File, ReadFaulted, StoreModel, bytes_of, with_asked}
 pub use Rattle.nit_store.specs.StoreAnswers.{AskedAtMost}
 pub use Rattle.std.specs.Fmt.{decimal}

@@ -1,5 +1,6 @@
 -- The words that clauses use: those that come from outside, and those of this crate.
-pub use Rattle.nit_setup.specs.Asked.{IsReadAs, asks_for}
+pub use Rattle.nit_setup.specs.Asked.{IsReadAlone, IsReadAs, IsReadBeside, asks_alone, asks_beside}
+pub use Rattle.nit_setup.specs.Asked.{asks_for}
 pub use Rattle.nit_setup.specs.Below.{AllByRecursion, AllZip, AreClipsOf, AreLines, ClipLine}
 pub use Rattle.nit_setup.specs.Below.{Configuration, End, Entry, Fault, File, FitsClipLine}
 pub use Rattle.nit_setup.specs.Below.{FitsInputLine, FitsLine, HasOneReading, HaveSamePhases}

@@ -78,7 +78,8 @@ pub use Rattle.nit_top.specs.Terms.{texts, to_put, too_long_for, totals, true, u
 pub use Rattle.nit_top.specs.Terms.{unrefused, user_actions_from, user_actions_of}
 pub use Rattle.nit_top.specs.Terms.{user_actions_to_do, user_script, with_asked, with_said}
 pub use Rattle.nit_top.specs.Terms.{word_from, word_of_bytes, word_seen, words_left, woven}
-pub use Rattle.std.proofs.Common.{Err, List, Some, ap, inl, map, refl, rules, subst, sym, ℕ, ◌∙◌}
+pub use Rattle.std.proofs.Common.{Err, List, None, Some, ap, inl, map, refl, rules, subst, sym, ℕ}
+pub use Rattle.std.proofs.Common.{◌∙◌}
 pub use Rattle.std.proofs.Math.Dec.{eqb-suc-zero}
 pub use Rattle.std.proofs.lemmas.Bool.{and_parts, cases_Bool, ltb-true}
 pub use Rattle.std.proofs.lemmas.Fmt.{decimal_digit, decimal_step}

@@ -3,8 +3,8 @@ pub use Rattle.nit_top.proofs.Basics.{AreLines, AreOutputs, AreShots, Audit, Bad
 pub use Rattle.nit_top.proofs.Basics.{End, Ends, Entry, Err, File, FitsLine, HasFilmed, InputLine}
 pub use Rattle.nit_top.proofs.Basics.{IsInnerEnd, IsInnerJournal, IsLegal, IsSameClient, Line, List}
 pub use Rattle.nit_top.proofs.Basics.{MayCome, MayShowFrames, NestError, Nested, NestsRun, NoMemory}
-pub use Rattle.nit_top.proofs.Basics.{Phases, Rectangle, RunFiles, Setup, Some, Stop, TooLong, ap}
-pub use Rattle.nit_top.proofs.Basics.{apart_of, begun_of, by_turns, calls_to_make, codes}
+pub use Rattle.nit_top.proofs.Basics.{None, Phases, Rectangle, RunFiles, Setup, Some, Stop, TooLong}
+pub use Rattle.nit_top.proofs.Basics.{ap, apart_of, begun_of, by_turns, calls_to_make, codes}
 pub use Rattle.nit_top.proofs.Basics.{command_of, decimal, decimal_digit, decimal_step, end_of_nest}
 pub use Rattle.nit_top.proofs.Basics.{err_from_is_err_and, events_name, false, files_in, film_of}
 pub use Rattle.nit_top.proofs.Basics.{final_name, final_picture, first_capture, first_state}

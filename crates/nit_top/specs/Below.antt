@@ -86,7 +86,8 @@ pub use Rattle.nit_script.specs.Phases.{input_phases, phases}
 pub use Rattle.nit_script.specs.Spelling.{FitsInputLine, FitsLine}
 pub use Rattle.nit_script.specs.declared.line.InputLine.{InputLine}
 pub use Rattle.nit_script.specs.declared.line.Line.{Line}
-pub use Rattle.nit_setup.specs.Asked.{IsAskedInRange, asks_for, command_of}
+pub use Rattle.nit_setup.specs.Asked.{IsAloneInRange, IsBesideInRange, asks_alone, asks_beside}
+pub use Rattle.nit_setup.specs.Asked.{asks_for, command_of}
 pub use Rattle.nit_setup.specs.Command.{Audit, Capture, Clip, Command, Gen, Nested, NoCommand, Run}
 pub use Rattle.nit_setup.specs.Command.{Still, command, starts_threads, texts}
 pub use Rattle.nit_setup.specs.FilesRead.{AllFiles, AllScripts, AreAllFiles, AreAllOuterFiles}

@@ -12,34 +12,34 @@ pub use Rattle.nit_top.specs.Below.{Contains, Drawing, End, Entry, Event, Fault,
 pub use Rattle.nit_top.specs.Below.{FirstShows, FitsInputLine, FitsLine, Gen, Gets}
 pub use Rattle.nit_top.specs.Below.{HasDifferentNames, HasFilmed, HasPicture, HasPixels, HasRead}
 pub use Rattle.nit_top.specs.Below.{HasRun, HaveOneScreen, HaveSameEvents, Headline, HoldsAtEnd}
-pub use Rattle.nit_top.specs.Below.{HoldsInner, IfNone, IfSome, InputLine, IsAlwaysToldSo}
-pub use Rattle.nit_top.specs.Below.{IsAskedInRange, IsClipList, IsInnerJournal, IsJournal}
-pub use Rattle.nit_top.specs.Below.{IsJournalFault, IsJournalText, IsLegal, IsNearPicture, IsOuter}
-pub use Rattle.nit_top.specs.Below.{IsPicture, IsRefusedWith, IsRegionWords, IsRunConfiguration}
-pub use Rattle.nit_top.specs.Below.{IsRunnable, IsSameClient, IsSetupOf, IsSomeAnd, IsTrue, IsValid}
-pub use Rattle.nit_top.specs.Below.{IsVerdictOn, Item, Judged, LiesIn, Line, LineTurn}
-pub use Rattle.nit_top.specs.Below.{MayShowFrames, Member, NestError, NestModel, Nested, NestsRun}
-pub use Rattle.nit_top.specs.Below.{NeverHasFocus, NoCommand, NoFile, NoMemory, Observation, Phases}
-pub use Rattle.nit_top.specs.Below.{PixelSource, Point, PutEach, PutError, PutFault, PutFiles}
-pub use Rattle.nit_top.specs.Below.{PutRefusal, PutState, PutsAll, PutsNext, Ran, ReadsClient}
-pub use Rattle.nit_top.specs.Below.{ReadsJournal, Rectangle, Refused, Region, Reply, Rose, Run}
-pub use Rattle.nit_top.specs.Below.{RunFiles, Session, Setup, ShotFrame, Shows, ShowsFrames}
-pub use Rattle.nit_top.specs.Below.{ShowsNest, Size, State, Status, Still, Stop, StopName}
-pub use Rattle.nit_top.specs.Below.{StoppedAt, StoppedBy, StoppedReading, StoreModel, Take}
-pub use Rattle.nit_top.specs.Below.{TellsInnerRun, TooLong, View, Word, Worked, accepted, after}
-pub use Rattle.nit_top.specs.Below.{after_observations, after_turn, alone_machine, among}
-pub use Rattle.nit_top.specs.Below.{asked_also, asking_all, asks_for, begun_of, black_or_word}
-pub use Rattle.nit_top.specs.Below.{buffer_place, buffer_size, by_call, by_life, by_refusal}
-pub use Rattle.nit_top.specs.Below.{by_status, by_turns, bytes_of, calls_in, calls_of}
-pub use Rattle.nit_top.specs.Below.{calls_to_make, client_script, clip_name, clip_text, clips_name}
-pub use Rattle.nit_top.specs.Below.{clips_setup_of, codes, command, command_of, count_by, crop}
-pub use Rattle.nit_top.specs.Below.{crop_pixel, decimal, donation_of, done, drawn_shot, ending_of}
-pub use Rattle.nit_top.specs.Below.{ending_text, event_spelling, events_among, events_file}
-pub use Rattle.nit_top.specs.Below.{events_files, events_name, false, fault_code, file_at}
-pub use Rattle.nit_top.specs.Below.{file_names, files_in, film_name, film_of, final_name}
-pub use Rattle.nit_top.specs.Below.{final_picture, first_capture, first_forbidden, first_name}
-pub use Rattle.nit_top.specs.Below.{first_other, first_session, first_state, flat_map, frame_of}
-pub use Rattle.nit_top.specs.Below.{frames_behind, frames_of, generated, generated_files}
+pub use Rattle.nit_top.specs.Below.{HoldsInner, IfNone, IfSome, InputLine, IsAloneInRange}
+pub use Rattle.nit_top.specs.Below.{IsAlwaysToldSo, IsBesideInRange, IsClipList, IsInnerJournal}
+pub use Rattle.nit_top.specs.Below.{IsJournal, IsJournalFault, IsJournalText, IsLegal}
+pub use Rattle.nit_top.specs.Below.{IsNearPicture, IsOuter, IsPicture, IsRefusedWith, IsRegionWords}
+pub use Rattle.nit_top.specs.Below.{IsRunConfiguration, IsRunnable, IsSameClient, IsSetupOf}
+pub use Rattle.nit_top.specs.Below.{IsSomeAnd, IsTrue, IsValid, IsVerdictOn, Item, Judged, LiesIn}
+pub use Rattle.nit_top.specs.Below.{Line, LineTurn, MayShowFrames, Member, NestError, NestModel}
+pub use Rattle.nit_top.specs.Below.{Nested, NestsRun, NeverHasFocus, NoCommand, NoFile, NoMemory}
+pub use Rattle.nit_top.specs.Below.{Observation, Phases, PixelSource, Point, PutEach, PutError}
+pub use Rattle.nit_top.specs.Below.{PutFault, PutFiles, PutRefusal, PutState, PutsAll, PutsNext}
+pub use Rattle.nit_top.specs.Below.{Ran, ReadsClient, ReadsJournal, Rectangle, Refused, Region}
+pub use Rattle.nit_top.specs.Below.{Reply, Rose, Run, RunFiles, Session, Setup, ShotFrame, Shows}
+pub use Rattle.nit_top.specs.Below.{ShowsFrames, ShowsNest, Size, State, Status, Still, Stop}
+pub use Rattle.nit_top.specs.Below.{StopName, StoppedAt, StoppedBy, StoppedReading, StoreModel}
+pub use Rattle.nit_top.specs.Below.{Take, TellsInnerRun, TooLong, View, Word, Worked, accepted}
+pub use Rattle.nit_top.specs.Below.{after, after_observations, after_turn, alone_machine, among}
+pub use Rattle.nit_top.specs.Below.{asked_also, asking_all, asks_alone, asks_beside, asks_for}
+pub use Rattle.nit_top.specs.Below.{begun_of, black_or_word, buffer_place, buffer_size, by_call}
+pub use Rattle.nit_top.specs.Below.{by_life, by_refusal, by_status, by_turns, bytes_of, calls_in}
+pub use Rattle.nit_top.specs.Below.{calls_of, calls_to_make, client_script, clip_name, clip_text}
+pub use Rattle.nit_top.specs.Below.{clips_name, clips_setup_of, codes, command, command_of}
+pub use Rattle.nit_top.specs.Below.{count_by, crop, crop_pixel, decimal, donation_of, done}
+pub use Rattle.nit_top.specs.Below.{drawn_shot, ending_of, ending_text, event_spelling}
+pub use Rattle.nit_top.specs.Below.{events_among, events_file, events_files, events_name, false}
+pub use Rattle.nit_top.specs.Below.{fault_code, file_at, file_names, files_in, film_name, film_of}
+pub use Rattle.nit_top.specs.Below.{final_name, final_picture, first_capture, first_forbidden}
+pub use Rattle.nit_top.specs.Below.{first_name, first_other, first_session, first_state, flat_map}
+pub use Rattle.nit_top.specs.Below.{frame_of, frames_behind, frames_of, generated, generated_files}
 pub use Rattle.nit_top.specs.Below.{generated_setup, idle_user, index_at, inner_journal_name}
 pub use Rattle.nit_top.specs.Below.{input_phases, is_accepted, is_off_screen, is_shot_line, is_some}
 pub use Rattle.nit_top.specs.Below.{is_too_long, journal_file, journal_text, label_text, last_frame}

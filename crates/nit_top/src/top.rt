@@ -1,8 +1,9 @@
 //! The top call.
 
-ghost use Rattle.std.specs.Prelude.{false, ◌≡◌, IfNone, IfSome};
-ghost use Rattle.nit_top.specs.Terms.{Answer, Ends, Finished, IsAskedInRange, command, command_of};
-ghost use Rattle.nit_top.specs.Terms.{starts_threads, texts};
+ghost use Rattle.std.specs.Prelude.{false, ◌≡◌};
+ghost use Rattle.nit_top.specs.Terms.{Answer, Ends, Finished, IsAloneInRange, IsBesideInRange};
+ghost use Rattle.nit_top.specs.Terms.{NoCommand, StoreModel, asks_alone, asks_beside, command};
+ghost use Rattle.nit_top.specs.Terms.{command_of, starts_threads, texts};
 
 use crate::audit::audited;
 use crate::laws::names_differ;
@@ -15,7 +16,9 @@ use crate::run::perform;
 use nit_actor::Gate;
 use nit_perform::ThreadHost;
 use nit_run::laws::generated_runs_count;
-use nit_setup::{Asked, End, nowhere, parse_words};
+use nit_setup::{
+    Asked, AskedAlone, AskedBeside, End, nowhere, parse_alone, parse_beside, parse_words,
+};
 use nit_store::Store;
 use std::alloc::Global;
 use std::sync::Wait;
@@ -37,9 +40,12 @@ pub fn nitpicker<R: Threads + Wait + Sync, S: Store, G: Gate>(
     generated_runs_count();
     names_differ();
     let asked = parse_words(words);
-    let worked = match work_beside(&ThreadHost { rt, alloc, gate }, store, asked) {
-        Some(worked) => worked,
-        None => work_alone(alloc, store, asked),
+    let worked = match asked {
+        Some(Asked::Alone(command)) => work_alone(alloc, store, command),
+        Some(Asked::Beside(command)) => {
+            work_beside(&ThreadHost { rt, alloc, gate }, store, command)
+        }
+        None => no_command(alloc),
     };
     finish(store, asked, worked)
 }
@@ -53,9 +59,11 @@ pub fn nitpicker_alone<S: Store>(alloc: Global, words: &[String], store: &mut S)
 {
     generated_runs_count();
     names_differ();
-    let asked = parse_words(words);
-    let worked = work_alone(alloc, store, asked);
-    finish(store, asked, worked)
+    let Some(command) = parse_alone(words) else {
+        return finish(store, None, no_command(alloc));
+    };
+    let worked = work_alone(alloc, store, command);
+    finish(store, Some(Asked::Alone(command)), worked)
 }
 
 /// Whether the words ask for a command that starts threads, which is `run`, `gen`, `clip`,
@@ -63,66 +71,48 @@ pub fn nitpicker_alone<S: Store>(alloc: Global, words: &[String], store: &mut S)
 pub fn starts_threads(words: &[String]) -> bool
     ensures { result ≡ starts_threads (command (texts words.now)) }
 {
-    matches!(
-        parse_words(words),
-        Some(
-            Asked::Run { .. }
-                | Asked::Gen { .. }
-                | Asked::Clip { .. }
-                | Asked::Capture { .. }
-                | Asked::Nested { .. },
-        )
-    )
+    parse_beside(words).is_some()
 }
 
-/// Does the work, where the words start threads. None where they start no thread, and then nothing
-/// is done.
+/// Does the work of a command on the calling thread.
+fn work_alone<S: Store>(alloc: Global, store: &mut S, asked: AskedAlone) -> Worked
+    requires { IsAloneInRange asked }
+    ensures { Ends (asks_alone asked.entry) (S.shown store.old) (S.shown store.new) result }
+{
+    match asked {
+        AskedAlone::Still {
+            width,
+            height,
+            script,
+        } => perform::still(alloc, store, width, height, script),
+        AskedAlone::Turns { config } => perform::turns(alloc, store, config),
+        AskedAlone::Audit { config, journal } => audited(alloc, store, config, journal),
+    }
+}
+
+/// Does the work of a command that starts threads.
 fn work_beside<R: Threads + Wait + Sync, S: Store, G: Gate>(
     host: &ThreadHost<R, G>,
     store: &mut S,
-    asked: Option<Asked>,
-) -> Option<Worked>
-    requires { IfSome asked IsAskedInRange }
-    ensures done { IfSome result
-        (λ w. Ends (command_of asked.entry) (S.shown store.old) (S.shown store.new) w) }
-    ensures alone { IfNone result ((starts_threads (command_of asked.entry) ≡ false)
-        × (S.shown store.new ≡ S.shown store.old)) }
+    asked: AskedBeside,
+) -> Worked
+    requires { IsBesideInRange asked }
+    ensures { Ends (asks_beside asked.entry) (S.shown store.old) (S.shown store.new) result }
 {
-    match asked? {
-        Asked::Run { config } => Some(perform::run_command(host, store, config)),
-        Asked::Gen { number } => Some(perform::generated(host, store, number)),
-        Asked::Clip { config } => Some(clip(host, store, config)),
-        Asked::Capture { config, region } => Some(capture(host, store, config, region)),
-        Asked::Nested { outer, inner } => Some(nested(host, store, outer, inner)),
-        Asked::Still { .. } | Asked::Turns { .. } | Asked::Audit { .. } => None,
+    match asked {
+        AskedBeside::Run { config } => perform::run_command(host, store, config),
+        AskedBeside::Gen { number } => perform::generated(host, store, number),
+        AskedBeside::Clip { config } => clip(host, store, config),
+        AskedBeside::Capture { config, region } => capture(host, store, config, region),
+        AskedBeside::Nested { outer, inner } => nested(host, store, outer, inner),
     }
 }
 
-/// Does the work on the calling thread, where the words start no thread.
-fn work_alone<S: Store>(alloc: Global, store: &mut S, asked: Option<Asked>) -> Worked
-    requires range { IfSome asked IsAskedInRange }
-    requires alone { starts_threads (command_of asked) ≡ false }
-    ensures { Ends (command_of asked.entry) (S.shown store.old) (S.shown store.new) result }
+/// What is left where the words are no command, over any store: nothing is done.
+fn no_command(alloc: Global) -> Worked
+    ensures { (shown : StoreModel) → Ends NoCommand shown shown result }
 {
-    match asked {
-        Some(
-            Asked::Still {
-                width,
-                height,
-                script,
-            },
-        ) => perform::still(alloc, store, width, height, script),
-        Some(Asked::Turns { config }) => perform::turns(alloc, store, config),
-        Some(Asked::Audit { config, journal }) => audited(alloc, store, config, journal),
-        Some(
-            Asked::Run { .. }
-            | Asked::Gen { .. }
-            | Asked::Clip { .. }
-            | Asked::Capture { .. }
-            | Asked::Nested { .. },
-        ) => unreachable!(),
-        None => ended_before_run(alloc, nowhere(End::Usage)),
-    }
+    ended_before_run(alloc, nowhere(End::Usage))
 }
 
 /// Says how the work that the words ask for came to its end.
