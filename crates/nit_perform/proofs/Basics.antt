@@ -44,13 +44,14 @@ pub use Rattle.nit_perform.specs.Terms.{input_lines_of, input_phases, into_iter_
 pub use Rattle.nit_perform.specs.Terms.{is_label_byte, is_phase, is_shot_entry, is_shot_line}
 pub use Rattle.nit_perform.specs.Terms.{is_some, is_too_long, journal_file, journal_text}
 pub use Rattle.nit_perform.specs.Terms.{last_frame, last_of, left_word, lines_of_frames, list_all}
-pub use Rattle.nit_perform.specs.Terms.{member, most_lines, negsuc, nest_of, nest_script, new_sight}
-pub use Rattle.nit_perform.specs.Terms.{next_record, no_sight, output_name, owner, pair_role_of}
-pub use Rattle.nit_perform.specs.Terms.{phases, picture, picture_by, picture_names, pictures_in}
-pub use Rattle.nit_perform.specs.Terms.{pixel, pixel_count, plan_of_script, plans_of, pos}
-pub use Rattle.nit_perform.specs.Terms.{put_state_at, put_state_of_desk, put_state_of_run}
-pub use Rattle.nit_perform.specs.Terms.{range_with_len, raw_words, record_of, records, refusal_by}
-pub use Rattle.nit_perform.specs.Terms.{replay, replay_from, role_of, rounds, run_files, scenery_of}
+pub use Rattle.nit_perform.specs.Terms.{member, most_lines, most_units, negsuc, nest_of}
+pub use Rattle.nit_perform.specs.Terms.{nest_script, new_sight, next_record, no_sight, output_name}
+pub use Rattle.nit_perform.specs.Terms.{owner, pair_role_of, phases, picture, picture_by}
+pub use Rattle.nit_perform.specs.Terms.{picture_names, pictures_in, pixel, pixel_count}
+pub use Rattle.nit_perform.specs.Terms.{plan_of_script, plans_of, pos, put_state_at}
+pub use Rattle.nit_perform.specs.Terms.{put_state_of_desk, put_state_of_run, range_with_len}
+pub use Rattle.nit_perform.specs.Terms.{raw_words, record_of, records, refusal_by, replay}
+pub use Rattle.nit_perform.specs.Terms.{replay_from, role_of, rounds, run_files, scenery_of}
 pub use Rattle.nit_perform.specs.Terms.{script_answer, script_files, script_in, script_name}
 pub use Rattle.nit_perform.specs.Terms.{session, setup_of, shot_frames_of, shot_name, shots}
 pub use Rattle.nit_perform.specs.Terms.{shots_after, shots_of, shown_index, slice_get, slice_index}

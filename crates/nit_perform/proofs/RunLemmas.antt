@@ -15,16 +15,16 @@ use Rattle.nit_perform.proofs.Basics.{donation_of, final_name, final_picture, fi
 use Rattle.nit_perform.proofs.Basics.{first_state, frame, get_or-map-range_with_len, get_or_default}
 use Rattle.nit_perform.proofs.Basics.{get_or_past, glass_after, glass_in, glasses_of, is_shot_entry}
 use Rattle.nit_perform.proofs.Basics.{kept_config, length-map, length-map-range_with_len, map-id}
-use Rattle.nit_perform.proofs.Basics.{map-range_with_len_more, member, nat_tests, negsuc, no_sight}
-use Rattle.nit_perform.proofs.Basics.{owner, picture, picture_by, pixel, pixel_count, plans_of, pos}
-use Rattle.nit_perform.proofs.Basics.{put_state_of_run, puts_both, range_with_len, raw_words}
-use Rattle.nit_perform.proofs.Basics.{replay_from, same_frame, scenery_of, script_in, shots}
-use Rattle.nit_perform.proofs.Basics.{shots_of, shown_index, slice_index, source_at, source_under}
-use Rattle.nit_perform.proofs.Basics.{state_now, sum_by-cons, table_size, tables_left}
-use Rattle.nit_perform.proofs.Basics.{take-append_seam, text_files, told_word, unrefused}
-use Rattle.nit_perform.proofs.Basics.{user_actions_to_do, word_from, words_after, ℤ}
+use Rattle.nit_perform.proofs.Basics.{map-range_with_len_more, member, most_units, nat_tests}
+use Rattle.nit_perform.proofs.Basics.{negsuc, no_sight, owner, picture, picture_by, pixel}
+use Rattle.nit_perform.proofs.Basics.{pixel_count, plans_of, pos, put_state_of_run, puts_both}
+use Rattle.nit_perform.proofs.Basics.{range_with_len, raw_words, replay_from, same_frame}
+use Rattle.nit_perform.proofs.Basics.{scenery_of, script_in, shots, shots_of, shown_index}
+use Rattle.nit_perform.proofs.Basics.{slice_index, source_at, source_under, state_now, sum_by-cons}
+use Rattle.nit_perform.proofs.Basics.{table_size, tables_left, take-append_seam, text_files}
+use Rattle.nit_perform.proofs.Basics.{told_word, unrefused, user_actions_to_do, word_from}
+use Rattle.nit_perform.proofs.Basics.{words_after, ℤ}
 use Rattle.nit_events.specs.declared.entry.Entry.TheVariants as entry
-use Rattle.nit_rect.specs.Limits.{most_units}
 
 -- What is made for each client, in order, of its session, its script and its donation.
 

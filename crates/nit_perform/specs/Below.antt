@@ -52,6 +52,7 @@ pub use Rattle.nit_plan.specs.Plan.{IsPlanOf, PlanModel, plan_of_script}
 pub use Rattle.nit_plan.specs.ScriptWords.{table_size, words_after}
 pub use Rattle.nit_plan.specs.SessionLists.{script_in}
 pub use Rattle.nit_rect.specs.Intersection.{HasPixels, LiesIn}
+pub use Rattle.nit_rect.specs.Limits.{most_units}
 pub use Rattle.nit_rect.specs.declared.memory.NoMemory.{NoMemory}
 pub use Rattle.nit_rect.specs.declared.point.Point.{Point}
 pub use Rattle.nit_report.specs.EventsText.{events_text}

@@ -4,10 +4,10 @@ pub use Rattle.nit_perform.specs.Below.{AreDoneClips, AreFirstClipPasses, AreRou
 pub use Rattle.nit_perform.specs.Below.{AskedAtMost, Bad, Bare, Belongs, ByUser, CaptureModel}
 pub use Rattle.nit_perform.specs.Below.{ClipLine, ClipPassModel, ClipRole, Configuration, Desk}
 pub use Rattle.nit_perform.specs.Below.{Drawing, End, Entry, File, Global, HaveTables, IfOk}
-pub use Rattle.nit_perform.specs.Below.{InputLine, IsRunConfiguration, IsDonation, IsDoneClip}
-pub use Rattle.nit_perform.specs.Below.{IsDoneUser, IsGlass, IsHistory, IsJournal, IsLegal}
-pub use Rattle.nit_perform.specs.Below.{IsNearPicture, IsOpen, IsOpening, IsPairIn, IsPictureAmong}
-pub use Rattle.nit_perform.specs.Below.{IsPlanOf, IsPut, IsRoundsRun, IsRunnable, IsSetUp}
+pub use Rattle.nit_perform.specs.Below.{InputLine, IsDonation, IsDoneClip, IsDoneUser, IsGlass}
+pub use Rattle.nit_perform.specs.Below.{IsHistory, IsJournal, IsLegal, IsNearPicture, IsOpen}
+pub use Rattle.nit_perform.specs.Below.{IsOpening, IsPairIn, IsPictureAmong, IsPlanOf, IsPut}
+pub use Rattle.nit_perform.specs.Below.{IsRoundsRun, IsRunConfiguration, IsRunnable, IsSetUp}
 pub use Rattle.nit_perform.specs.Below.{IsSetting, IsUtf8, IsWhole, IsWord, IsWordOfSource, Line}
 pub use Rattle.nit_perform.specs.Below.{LineTurn, Member, NestError, NestModel, NoMemory}
 pub use Rattle.nit_perform.specs.Below.{OpenedRounds, OpeningParts, Painted, Pair, PairRole}
@@ -33,9 +33,9 @@ pub use Rattle.nit_perform.specs.Below.{idle_user, inner_journal_name, input_by_
 pub use Rattle.nit_perform.specs.Below.{input_lines_of, input_phases, into_iter_items, is_label}
 pub use Rattle.nit_perform.specs.Below.{is_label_byte, is_phase, is_shot_line, is_some, is_too_long}
 pub use Rattle.nit_perform.specs.Below.{journal_file, journal_text, last_frame, left_word}
-pub use Rattle.nit_perform.specs.Below.{lines_of_frames, list_all, member, most_lines, negsuc}
-pub use Rattle.nit_perform.specs.Below.{nest_of, nest_script, new_sight, next_record, no_sight}
-pub use Rattle.nit_perform.specs.Below.{output_name, owner, pair_role_of, phases, picture}
+pub use Rattle.nit_perform.specs.Below.{lines_of_frames, list_all, member, most_lines, most_units}
+pub use Rattle.nit_perform.specs.Below.{negsuc, nest_of, nest_script, new_sight, next_record}
+pub use Rattle.nit_perform.specs.Below.{no_sight, output_name, owner, pair_role_of, phases, picture}
 pub use Rattle.nit_perform.specs.Below.{picture_by, picture_length, pictures_in, pixel, pixel_count}
 pub use Rattle.nit_perform.specs.Below.{plan_of_script, pos, put_state_of_desk, range_with_len}
 pub use Rattle.nit_perform.specs.Below.{raw_words, record_of, records, refusal_by, replay}

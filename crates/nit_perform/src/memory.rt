@@ -2,7 +2,7 @@
 //! thread.
 
 ghost use Rattle.std.specs.Prelude.{IfOk, vec_len, ◌≡◌, map};
-ghost use Rattle.nit_perform.specs.Terms.{AreBuffers, AreScriptsOf, IsRunConfiguration, IsMemory};
+ghost use Rattle.nit_perform.specs.Terms.{AreBuffers, AreScriptsOf, IsMemory, IsRunConfiguration};
 
 use crate::opening::{blank_frame, blank_text};
 use nit_config::Config;

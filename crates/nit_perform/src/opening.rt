@@ -1,10 +1,9 @@
 //! The memory of a run, all of which is taken before its first round.
 
 ghost use Rattle.std.specs.Prelude.{◌≡◌, ◌+◌, IfOk, length, All, List, ◌≤◌, ◌*◌};
-ghost use Rattle.nit_perform.specs.Terms.{AreInkedPlans, AreScriptsOf, IsRunConfiguration};
-ghost use Rattle.nit_perform.specs.Terms.{IsDonation};
-ghost use Rattle.nit_perform.specs.Terms.{IsPlanOf, IsRoundsOpening, IsWord, Line, glass_after};
-ghost use Rattle.nit_perform.specs.Terms.{glasses_of, picture_length, plans_of};
+ghost use Rattle.nit_perform.specs.Terms.{AreInkedPlans, AreScriptsOf, IsDonation, IsPlanOf};
+ghost use Rattle.nit_perform.specs.Terms.{IsRoundsOpening, IsRunConfiguration, IsWord, Line};
+ghost use Rattle.nit_perform.specs.Terms.{glass_after, glasses_of, picture_length, plans_of};
 
 use nit_config::{Config, run_is_configured};
 use nit_hall::line_count;

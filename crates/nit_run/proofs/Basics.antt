@@ -19,29 +19,25 @@ pub use Rattle.nit_run.specs.Terms.{Shoots, ShotsBehind, ShowsOneHistory, State,
 pub use Rattle.nit_run.specs.Terms.{Take, Upgrade, UserAction, Vec, View, Xray, accepted, action_of}
 pub use Rattle.nit_run.specs.Terms.{actions_of_turns, after, after_observations, after_turn}
 pub use Rattle.nit_run.specs.Terms.{alone_machine, asked_also, asking_all, bar_rows, buffer_left}
-pub use Rattle.nit_run.specs.Terms.{buffer_need, by_call, by_life, by_quota, by_refusal, by_reserve}
-pub use Rattle.nit_run.specs.Terms.{by_status, bytes_eq, calls_from, calls_of, calls_to_make}
-pub use Rattle.nit_run.specs.Terms.{clicks_on, client_script, client_text, codes, count_by, decimal}
-pub use Rattle.nit_run.specs.Terms.{deliveries_of, donation_of, done, drawn_by_shot, events_among}
-pub use Rattle.nit_run.specs.Terms.{events_file, events_files, file_at, filter, final_name}
-pub use Rattle.nit_run.specs.Terms.{final_picture, first_press, first_session, first_state}
-pub use Rattle.nit_run.specs.Terms.{flat_map, focus_after, focusing, fold, frame, generated_setup}
-pub use Rattle.nit_run.specs.Terms.{have_different_names, hovering, ignored, input_after_call}
-pub use Rattle.nit_run.specs.Terms.{input_by_user, input_lines_of, is_accepted, is_button, is_call}
-pub use Rattle.nit_run.specs.Terms.{is_device, is_held, is_phase, is_same, is_shot_line, is_side}
-pub use Rattle.nit_run.specs.Terms.{items_to, journal_file, kill_button, kill_key, kill_mode}
-pub use Rattle.nit_run.specs.Terms.{killing, leaving, letting_go, moving, opening_drawing}
-pub use Rattle.nit_run.specs.Terms.{option_map, owner, picture_of, pixel, pixel_count, point}
-pub use Rattle.nit_run.specs.Terms.{pointer_after, press, pressing, projection, range_with_len}
-pub use Rattle.nit_run.specs.Terms.{raw_word, receive, received, refusal, release, replay}
-pub use Rattle.nit_run.specs.Terms.{replay_from, replies_to, rounds, routed_as, routing, scenery_of}
-pub use Rattle.nit_run.specs.Terms.{session, shot_name, shots, shots_after, shots_of, shown}
-pub use Rattle.nit_run.specs.Terms.{slice_get, slice_index, slice_index_or, still_setup, switching}
-pub use Rattle.nit_run.specs.Terms.{tables_left, taken, takes_focus, taking, text_files, to, to_do}
-pub use Rattle.nit_run.specs.Terms.{unless, user_actions_from, user_actions_of, user_script}
-pub use Rattle.nit_run.specs.Terms.{view_left, view_need, with_asked, with_held, words_of, xray_key}
-pub use Rattle.nit_run.specs.Terms.{xray_mode, ◌orelse◌}
-pub use Rattle.std.proofs.Math.Nat.{min-le_right}
+pub use Rattle.nit_run.specs.Terms.{buffer_need, by_call, by_life, by_quota, by_refusal, by_status}
+pub use Rattle.nit_run.specs.Terms.{bytes_eq, calls_from, calls_of, calls_to_make, clicks_on}
+pub use Rattle.nit_run.specs.Terms.{client_script, client_text, count_by, deliveries_of}
+pub use Rattle.nit_run.specs.Terms.{donation_of, done, drawn_by_shot, events_among, events_file}
+pub use Rattle.nit_run.specs.Terms.{events_files, file_at, filter, final_name, final_picture}
+pub use Rattle.nit_run.specs.Terms.{first_press, first_session, first_state, flat_map, focus_after}
+pub use Rattle.nit_run.specs.Terms.{focusing, fold, frame, generated_setup, have_different_names}
+pub use Rattle.nit_run.specs.Terms.{hovering, ignored, input_after_call, input_by_user}
+pub use Rattle.nit_run.specs.Terms.{input_lines_of, is_accepted, is_call, is_device, is_phase}
+pub use Rattle.nit_run.specs.Terms.{is_shot_line, is_side, items_to, journal_file, killing, leaving}
+pub use Rattle.nit_run.specs.Terms.{letting_go, moving, opening_drawing, option_map, owner}
+pub use Rattle.nit_run.specs.Terms.{picture_of, pixel, point, pointer_after, press, pressing}
+pub use Rattle.nit_run.specs.Terms.{projection, range_with_len, raw_word, receive, received}
+pub use Rattle.nit_run.specs.Terms.{refusal, release, replay, replay_from, replies_to, rounds}
+pub use Rattle.nit_run.specs.Terms.{routed_as, routing, scenery_of, session, shot_name, shots}
+pub use Rattle.nit_run.specs.Terms.{shots_after, shots_of, shown, slice_get, slice_index}
+pub use Rattle.nit_run.specs.Terms.{slice_index_or, still_setup, switching, tables_left, taken}
+pub use Rattle.nit_run.specs.Terms.{taking, text_files, to, to_do, unless, user_actions_from}
+pub use Rattle.nit_run.specs.Terms.{user_actions_of, user_script, with_asked, with_held, ◌orelse◌}
 pub use Rattle.std.proofs.lemmas.Bool.{and_parts, cases_Bool, eq-eqb, false_from_ne_true}
 pub use Rattle.std.proofs.lemmas.Bool.Decides.{nat_tests}
 pub use Rattle.std.proofs.lemmas.Fmt.{decimal_injective}

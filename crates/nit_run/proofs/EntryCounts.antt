@@ -1,14 +1,15 @@
 -- How many entries a whole journal has, and how many a generated run has.
 use Rattle.std.proofs.Common.{◌≡◌, ◌∙◌, ℕ, zero, suc, ◌+◌, ◌*◌, ◌<◌, List, [], ◌∷◌, ◌++◌, length}
 use Rattle.std.proofs.Common.{sym, map, refl, ap, arith, cond, nat_lt, zero-add}
-use Rattle.nit_run.proofs.Basics.{Global, Vec, client_text, slice_index_or, Call, Does, Entry}
-use Rattle.nit_run.proofs.Basics.{InputLine, IsJournal, IsOpen, LegalFrom, Line, Reply, Shoots}
-use Rattle.nit_run.proofs.Basics.{State, UserAction, after, as_many, as_many_as_clients, calls_from}
-use Rattle.nit_run.proofs.Basics.{calls_of, calls_to_make, client_script, count_by, done, filter}
-use Rattle.nit_run.proofs.Basics.{first_state, front_open, generated_setup, get_or-map}
+use Rattle.nit_run.proofs.Basics.{Call, Does, Entry, Global, InputLine, IsJournal, IsOpen}
+use Rattle.nit_run.proofs.Basics.{LegalFrom, Line, Reply, Shoots, State, UserAction, Vec, after}
+use Rattle.nit_run.proofs.Basics.{as_many, as_many_as_clients, calls_from, calls_of, calls_to_make}
+use Rattle.nit_run.proofs.Basics.{client_script, client_text, count_by, done, filter, first_state}
+use Rattle.nit_run.proofs.Basics.{front_open, generated_setup, get_or-map}
 use Rattle.nit_run.proofs.Basics.{get_or-map-range_with_len, is_call, is_device, is_shot_line}
 use Rattle.nit_run.proofs.Basics.{length-filter, length-map, nat_tests, range_with_len, shots}
-use Rattle.nit_run.proofs.Basics.{to_do, user_actions_from, user_actions_of, user_script}
+use Rattle.nit_run.proofs.Basics.{slice_index_or, to_do, user_actions_from, user_actions_of}
+use Rattle.nit_run.proofs.Basics.{user_script}
 use Rattle.nit_report.specs.Generator.{generated_configuration}
 use Rattle.nit_events.specs.declared.entry.Entry.TheVariants as entry
 use Rattle.nit_script.specs.declared.line.Line.TheVariants as line

@@ -1,16 +1,15 @@
 -- The names of files that a run puts: those of its shots, and all by their first letters.
-use Rattle.std.proofs.lemmas.Bool.Decides.{nat_tests}
-use Rattle.std.proofs.Common.{List, None, Option, Some, [], ap, append_assoc, arith, false, inl}
-use Rattle.std.proofs.Common.{inr, is_none, length, map, refl, suc, sym, true, zero, ℕ, ◌++◌, ◌+◌}
-use Rattle.std.proofs.Common.{◌<◌, ◌^◌, ◌∙◌, ◌∷◌, ◌≡◌, ◌≢◌}
 use Rattle.nit_run.proofs.Basics.{AllByRecursion, Configuration, Entry, File, HasDifferentNames}
 use Rattle.nit_run.proofs.Basics.{LegalFrom, PutEach, ShotsBehind, State, StoreModel, after}
 use Rattle.nit_run.proofs.Basics.{all_append, and_parts, append-nil, append_cancel_left}
 use Rattle.nit_run.proofs.Basics.{append_cancel_right, asked_also, asking_all, bytes_eq}
 use Rattle.nit_run.proofs.Basics.{bytes_eq-Decides, cases_Bool, decimal_injective, events_file}
 use Rattle.nit_run.proofs.Basics.{events_files, false_from_ne_true, file_at, have_different_names}
-use Rattle.nit_run.proofs.Basics.{journal_file, range_with_len, shot_name, shots, slice_index}
-use Rattle.nit_run.proofs.Basics.{with_asked}
+use Rattle.nit_run.proofs.Basics.{journal_file, nat_tests, range_with_len, shot_name, shots}
+use Rattle.nit_run.proofs.Basics.{slice_index, with_asked}
+use Rattle.std.proofs.Common.{List, None, Option, Some, [], ap, append_assoc, arith, false, inl}
+use Rattle.std.proofs.Common.{inr, is_none, length, map, refl, suc, sym, true, zero, ℕ, ◌++◌, ◌+◌}
+use Rattle.std.proofs.Common.{◌<◌, ◌^◌, ◌∙◌, ◌∷◌, ◌≡◌, ◌≢◌}
 use Rattle.nit_events.specs.declared.entry.Entry.TheVariants as entry
 
 -- ---- names

@@ -1,7 +1,4 @@
 -- What the headline says, from the laws of the crates below.
-use Rattle.std.proofs.lemmas.Bool.Decides.{nat_tests}
-use Rattle.std.proofs.Common.{Bool, List, Some, [], ap, arith, cond, false, length, map, refl}
-use Rattle.std.proofs.Common.{subst, sym, true, zero-add, ℕ, ◌*◌, ◌++◌, ◌+◌, ◌<◌, ◌∷◌, ◌≡◌}
 use Rattle.nit_run.proofs.Basics.{AllByRecursion, AreOfOneHistory, AreOutputs, AreRoundsOf}
 use Rattle.nit_run.proofs.Basics.{AreShotsOf, AreTexts, Configuration, Contains}
 use Rattle.nit_run.proofs.Basics.{Contains-append_left, Contains-append_right, Contains-push, Ends}
@@ -12,11 +9,13 @@ use Rattle.nit_run.proofs.Basics.{actions_of_turns, alone_machine, as_many_files
 use Rattle.nit_run.proofs.Basics.{drawn_by_shot, events_file, events_files, file_of_a_shot}
 use Rattle.nit_run.proofs.Basics.{final_name, final_picture, frame, get_or-map-range_with_len}
 use Rattle.nit_run.proofs.Basics.{get_or_from_slice_get, journal_file, length-append}
-use Rattle.nit_run.proofs.Basics.{length-map-range_with_len, length_push, map-append, picture_of}
-use Rattle.nit_run.proofs.Basics.{pixel, projection, range_with_len, raw_word, replay, rounds}
-use Rattle.nit_run.proofs.Basics.{same_throughout, scenery_of, session, shot_name, shots, shots_of}
-use Rattle.nit_run.proofs.Basics.{shown, slice_get, slice_get_within, slice_index, slice_index_or}
-use Rattle.nit_run.proofs.Basics.{tables_left, text_files}
+use Rattle.nit_run.proofs.Basics.{length-map-range_with_len, length_push, map-append, nat_tests}
+use Rattle.nit_run.proofs.Basics.{picture_of, pixel, projection, range_with_len, raw_word, replay}
+use Rattle.nit_run.proofs.Basics.{rounds, same_throughout, scenery_of, session, shot_name, shots}
+use Rattle.nit_run.proofs.Basics.{shots_of, shown, slice_get, slice_get_within, slice_index}
+use Rattle.nit_run.proofs.Basics.{slice_index_or, tables_left, text_files}
+use Rattle.std.proofs.Common.{Bool, List, Some, [], ap, arith, cond, false, length, map, refl}
+use Rattle.std.proofs.Common.{subst, sym, true, zero-add, ℕ, ◌*◌, ◌++◌, ◌+◌, ◌<◌, ◌∷◌, ◌≡◌}
 use Rattle.nit_events.specs.declared.device.Device.TheVariants as device
 use Rattle.nit_events.specs.declared.entry.Entry.TheVariants as entry
 use Rattle.nit_events.specs.declared.event.Event.TheVariants as event

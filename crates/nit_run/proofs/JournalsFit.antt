@@ -6,7 +6,7 @@ use Rattle.nit_run.proofs.Basics.{Delivery, Device, Does, Entry, FitsCall, FitsD
 use Rattle.nit_run.proofs.Basics.{FitsEntry, FitsInputLine, FitsItem, FitsLine, InputLine}
 use Rattle.nit_run.proofs.Basics.{InputState, IsJournal, IsLegal, IsLive, IsRunnable, Line}
 use Rattle.nit_run.proofs.Basics.{Observation, Reply, Routed, Setup, Shoots, State, UserAction}
-use Rattle.nit_run.proofs.Basics.{after, alone_machine, bar_rows, calls_from, calls_of}
+use Rattle.nit_run.proofs.Basics.{View, after, alone_machine, bar_rows, calls_from, calls_of}
 use Rattle.nit_run.proofs.Basics.{calls_of-append, calls_to_make, clicks_on, count_by-le-length}
 use Rattle.nit_run.proofs.Basics.{deliveries_of, donation_of, done, each_at, either, eq-eqb}
 use Rattle.nit_run.proofs.Basics.{first_session, get_or-map, input_after_call, is_accepted, is_call}
@@ -15,7 +15,6 @@ use Rattle.nit_run.proofs.Basics.{option_map, owner, point, pointer_after, proje
 use Rattle.nit_run.proofs.Basics.{recursion_from_All, replay, replay_from, routed_as, session}
 use Rattle.nit_run.proofs.Basics.{shots, user_actions_from, user_actions_of}
 use Rattle.nit_journal.specs.State.{route}
-use Rattle.nit_stack.specs.declared.view.View.{View}
 use Rattle.nit_run.proofs.MachinesFit.{IsFine, ItemsFit, MomentFits, PointsFit, served, calls_among}
 use Rattle.nit_run.proofs.MachinesFit.{moments_fine, moved_fits, opens_fine, routing_fits}
 use Rattle.nit_run.proofs.EntryCounts.{calls_counted}

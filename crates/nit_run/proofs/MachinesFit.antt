@@ -5,13 +5,14 @@ use Rattle.std.proofs.Common.{◌-◌, ◌<◌, ◌^◌, ◌∷◌, ◌≡◌, �
 use Rattle.nit_run.proofs.Basics.{AllByRecursion, Answered, Buffer, Call, Calls, Delivery, Device}
 use Rattle.nit_run.proofs.Basics.{Event, FitsCall, FitsDevice, FitsEvent, FitsItem, FitsReply, Flat}
 use Rattle.nit_run.proofs.Basics.{Gets, InputState, IsCode, Item, Kill, Mode, Observation, Reply}
-use Rattle.nit_run.proofs.Basics.{Routing, Session, Status, Take, Upgrade, View, Xray, accepted}
+use Rattle.nit_run.proofs.Basics.{Routing, Session, Status, Take, Upgrade, Xray, accepted}
 use Rattle.nit_run.proofs.Basics.{after_observations, all_append, buffer_left, buffer_need, by_call}
 use Rattle.nit_run.proofs.Basics.{by_life, by_quota, by_refusal, by_status, either, first_press}
 use Rattle.nit_run.proofs.Basics.{first_session, focusing, hovering, ignored, is_side, killing}
 use Rattle.nit_run.proofs.Basics.{leaving, letting_go, moving, mul-le, nat_tests, pointer_after}
 use Rattle.nit_run.proofs.Basics.{press, pressing, receive, received, refusal, release, routing}
 use Rattle.nit_run.proofs.Basics.{second_none, switching, taking, to, unless, with_held, ◌orelse◌}
+use Rattle.nit_events.specs.declared.call.Call.TheVariants.{View}
 use Rattle.nit_journal.specs.Session.{serve}
 use Rattle.nit_events.specs.declared.call.Reply.TheVariants as reply
 use Rattle.nit_events.specs.declared.device.Device.TheVariants as device

@@ -1,11 +1,11 @@
 -- The pictures of a run whose user takes no shot.
 use Rattle.std.proofs.Common.{arith, ◌≡◌, List, [], ◌∷◌, refl, ℕ, zero, suc, ◌++◌, replicate, ◌∙◌}
-use Rattle.std.proofs.lemmas.Bool.Decides.{nat_tests}
 use Rattle.nit_run.proofs.Basics.{ActorLine, AreOutputs, ByClient, ByUser, Configuration, Drawing}
 use Rattle.nit_run.proofs.Basics.{Entry, File, InputLine, IsJournal, Line, LineTurn, after_turn}
 use Rattle.nit_run.proofs.Basics.{count_by, final_name, final_picture, fold, input_by_user}
-use Rattle.nit_run.proofs.Basics.{input_lines_of, is_phase, opening_drawing, rounds, shots}
-use Rattle.nit_run.proofs.Basics.{shots_after, still_setup, user_actions_from, user_actions_of}
+use Rattle.nit_run.proofs.Basics.{input_lines_of, is_phase, nat_tests, opening_drawing, rounds}
+use Rattle.nit_run.proofs.Basics.{shots, shots_after, still_setup, user_actions_from}
+use Rattle.nit_run.proofs.Basics.{user_actions_of}
 use Rattle.nit_rounds.specs.Drawing.{drawn}
 use Rattle.nit_events.specs.declared.entry.Entry.TheVariants as entry
 use Rattle.nit_script.specs.declared.line.InputLine.TheVariants as input

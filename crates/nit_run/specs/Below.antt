@@ -1,7 +1,7 @@
 -- The words of the library and of the crates below that are used here, and the crate's plain types.
 pub use Rattle.nit_actor.specs.History.{AreOfOneHistory, IsHeldPicture}
 pub use Rattle.nit_actor.specs.IdleUser.{idle_user}
-pub use Rattle.nit_actor.specs.Pictures.{AreNearShots, IsNearPicture}
+pub use Rattle.nit_actor.specs.Pictures.{AreNearShots}
 pub use Rattle.nit_capture.specs.Crop.{crop_bytes, screen, word_of_bytes}
 pub use Rattle.nit_capture.specs.Film.{stream}
 pub use Rattle.nit_clip.specs.ClipGrammar.{clip_phases}
@@ -14,16 +14,12 @@ pub use Rattle.nit_config.specs.Configuration.{Configuration, bar_rows, donation
 pub use Rattle.nit_config.specs.Configuration.{still_configuration}
 pub use Rattle.nit_config.specs.ConfigurationRanges.{IsRunConfiguration}
 pub use Rattle.nit_events.specs.Input.{InputState, Routing, deliveries_of, first_press, focusing}
-pub use Rattle.nit_events.specs.Input.{forget, hovering, ignored, is_button, is_held, is_same}
-pub use Rattle.nit_events.specs.Input.{kill_button, kill_key, kill_mode, killing, leaving}
+pub use Rattle.nit_events.specs.Input.{hovering, ignored, is_button, is_held, killing, leaving}
 pub use Rattle.nit_events.specs.Input.{letting_go, moving, pointer_after, press, pressing, received}
-pub use Rattle.nit_events.specs.Input.{release, routed_as, routing, switching, takes_focus, to}
-pub use Rattle.nit_events.specs.Input.{unreceived, with_held, xray_key, xray_mode}
+pub use Rattle.nit_events.specs.Input.{release, routed_as, routing, switching, to, with_held}
 pub use Rattle.nit_events.specs.Ranges.{IsCode}
 pub use Rattle.nit_events.specs.declared.call.Call.{Call}
-pub use Rattle.nit_events.specs.declared.call.Call.TheVariants.{Above, Back, Buffer, Close, Destroy}
-pub use Rattle.nit_events.specs.declared.call.Call.TheVariants.{Front, Offset, Place, Refresh, Take}
-pub use Rattle.nit_events.specs.declared.call.Call.TheVariants.{Title, Upgrade, View}
+pub use Rattle.nit_events.specs.declared.call.Call.TheVariants.{Buffer, Close, Take, Upgrade}
 pub use Rattle.nit_events.specs.declared.call.Reply.{Reply}
 pub use Rattle.nit_events.specs.declared.device.Device.{Device}
 pub use Rattle.nit_events.specs.declared.device.Mode.{Mode}
@@ -34,9 +30,8 @@ pub use Rattle.nit_events.specs.declared.event.Event.{Event}
 pub use Rattle.nit_events.specs.declared.event.Item.{Item}
 pub use Rattle.nit_events.specs.declared.event.Routed.{Routed}
 pub use Rattle.nit_events.specs.declared.event.Status.{Status}
-pub use Rattle.nit_glyph.specs.Texts.{is_title}
 pub use Rattle.nit_hall.specs.History.{IsHeld}
-pub use Rattle.nit_hall.specs.NearWords.{IsNear, IsNearFrame}
+pub use Rattle.nit_hall.specs.NearWords.{IsNear}
 pub use Rattle.nit_journal.specs.Deliveries.{IsLive}
 pub use Rattle.nit_journal.specs.Presses.{IsDown}
 pub use Rattle.nit_journal.specs.Projection.{Calls, Gets, Observation, after_observations, alone}
@@ -46,15 +41,14 @@ pub use Rattle.nit_journal.specs.Reach.{KillsPointed, TellsFocus, TellsLeave, is
 pub use Rattle.nit_journal.specs.Reach.{under_pointer}
 pub use Rattle.nit_journal.specs.Replay.{Agrees, IsLegal, IsOpen, LegalFrom, replay, replay_from}
 pub use Rattle.nit_journal.specs.Replay.{shots}
-pub use Rattle.nit_journal.specs.Session.{Answered, Session, accepted, by_call, by_handle, by_life}
-pub use Rattle.nit_journal.specs.Session.{by_quota, by_refusal, by_reserve, by_status}
-pub use Rattle.nit_journal.specs.Session.{first_session, has_view, is_side, receive, refusal, serve}
-pub use Rattle.nit_journal.specs.Session.{taking, unless, ◌orelse◌}
+pub use Rattle.nit_journal.specs.Session.{Answered, Session, accepted, by_call, by_life, by_quota}
+pub use Rattle.nit_journal.specs.Session.{by_refusal, by_status, first_session, is_side, receive}
+pub use Rattle.nit_journal.specs.Session.{refusal, serve, taking, unless, ◌orelse◌}
 pub use Rattle.nit_journal.specs.StackAfter.{is_accepted}
 pub use Rattle.nit_journal.specs.State.{State, after, clicks_on, first_state, input_after_call}
-pub use Rattle.nit_journal.specs.State.{owner_of, route, session}
-pub use Rattle.nit_journal.specs.WholeJournals.{Action, Does, Ends, IsWhole, Shoots, UserAction}
-pub use Rattle.nit_journal.specs.WholeJournals.{action_of, calls_of, done, to_do, user_actions_of}
+pub use Rattle.nit_journal.specs.State.{owner_of, session}
+pub use Rattle.nit_journal.specs.WholeJournals.{Does, Ends, IsWhole, Shoots, UserAction, action_of}
+pub use Rattle.nit_journal.specs.WholeJournals.{calls_of, done, to_do, user_actions_of}
 pub use Rattle.nit_nested.specs.FrameScript.{count_lines}
 pub use Rattle.nit_nested.specs.Nest.{NestModel, lines_of_frames, nest_script}
 pub use Rattle.nit_nested.specs.ShownFrames.{CanPay, ShowsFrames}
@@ -65,7 +59,7 @@ pub use Rattle.nit_plan.specs.ScriptWords.{words_left}
 pub use Rattle.nit_plan.specs.SessionLists.{script_in}
 pub use Rattle.nit_rect.specs.Intersection.{HasPixels, LiesIn}
 pub use Rattle.nit_rect.specs.Limits.{most_height, most_width}
-pub use Rattle.nit_rect.specs.Rectangle.{Rectangle, is_place, is_rectangle, rectangle}
+pub use Rattle.nit_rect.specs.Rectangle.{Rectangle, rectangle}
 pub use Rattle.nit_report.specs.EventsText.{events_text, taken}
 pub use Rattle.nit_report.specs.Generator.{client_script, client_text, config_text}
 pub use Rattle.nit_report.specs.Generator.{generated_configuration, is_call, is_device}
@@ -79,7 +73,6 @@ pub use Rattle.nit_rounds.specs.Drawing.{picture_of, shot_frames_of, shots_after
 pub use Rattle.nit_rounds.specs.Drawing.{word_from, words_of}
 pub use Rattle.nit_rounds.specs.Rounds.{rounds}
 pub use Rattle.nit_rounds.specs.RoundsRun.{final_name, picture_name, shot_name}
-pub use Rattle.nit_rounds.specs.ShotFrames.{shot_file}
 pub use Rattle.nit_rounds.specs.Shots.{AreShotsOf, IsDrawnPicture, ShotsBehind, drawn_by_shot}
 pub use Rattle.nit_rounds.specs.Turn.{ActorLine, ByClient, ByUser, LineTurn}
 pub use Rattle.nit_rounds.specs.TurnActions.{AreRoundsOf, actions_of_turns, input_by_user}
@@ -94,13 +87,13 @@ pub use Rattle.nit_script.specs.Phases.{input_phases, is_phase, phases}
 pub use Rattle.nit_script.specs.Spelling.{FitsCall, FitsDevice, FitsInputLine, FitsLine}
 pub use Rattle.nit_script.specs.declared.line.InputLine.{InputLine}
 pub use Rattle.nit_script.specs.declared.line.Line.{Line}
-pub use Rattle.nit_slots.specs.Account.{buffer_left, buffer_need, view_left, view_need}
+pub use Rattle.nit_slots.specs.Account.{buffer_left, buffer_need}
 pub use Rattle.nit_stack.specs.Sources.{Word, owner, pixel, point}
+pub use Rattle.nit_stack.specs.declared.view.View.{View}
 pub use Rattle.nit_store.specs.Files.{HasDifferentNames, have_different_names}
 pub use Rattle.nit_store.specs.Store.{File, IsPut, StoreModel, file_at, with_asked}
 pub use Rattle.nit_word.specs.Sight.{Sight}
 pub use Rattle.nit_word.specs.Sights.{glass_in}
-pub use Rattle.std.specs.Fmt.{decimal}
 pub use Rattle.std.specs.Global.{Global}
 pub use Rattle.std.specs.List.{AllByRecursion, AllZip, flat_map, range_with_len}
 pub use Rattle.std.specs.Prelude.{All, Contains, List, Vec, codes, count_by, filter, fold}
