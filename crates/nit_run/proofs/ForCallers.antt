@@ -11,3 +11,4 @@ pub use Rattle.nit_run.proofs.HeadlineLemmas.{FrontsLaw, MachinesLaw, ShotsLaw, 
 pub use Rattle.nit_run.proofs.HeadlineLemmas.{with_texts}
 pub use Rattle.nit_run.proofs.JournalsFit.{actions_few}
 pub use Rattle.nit_run.proofs.NoShots.{UserOnce, no_picture, no_shots}
+pub use Rattle.nit_run.proofs.OutputText.{output_is_text}

@@ -1,7 +1,8 @@
 -- What answers use: all that lemmas use, and this crate's lemmas.
-pub use Rattle.nit_run.proofs.Basics.{Entry, IsLegal, after, calls_to_make, done, events_among}
-pub use Rattle.nit_run.proofs.Basics.{first_state, focus_after, get_or-map, length-map, replay}
-pub use Rattle.nit_run.proofs.Basics.{same_throughout, shot_name, shots}
+pub use Rattle.nit_run.proofs.Basics.{Entry, IsLegal, after, arith, calls_to_make, done}
+pub use Rattle.nit_run.proofs.Basics.{events_among, few_digits, first_state, focus_after}
+pub use Rattle.nit_run.proofs.Basics.{get_or-map, length-map, nat_tests, replay, same_throughout}
+pub use Rattle.nit_run.proofs.Basics.{shot_name, shots}
 pub use Rattle.nit_run.proofs.EntryCounts.{generated_entries}
 pub use Rattle.nit_run.proofs.Events.{events_taken}
 pub use Rattle.nit_run.proofs.HeadlineLemmas.{end_shows, files_counted, history_shows, same_files}

@@ -6,5 +6,6 @@ pub mod HeadlineLemmas
 pub mod JournalsFit
 pub mod MachinesFit
 pub mod NoShots
+pub mod OutputText
 pub mod Basics
 pub mod Lemmas

@@ -30,6 +30,7 @@ pub use Rattle.nit_events.specs.declared.event.Event.{Event}
 pub use Rattle.nit_events.specs.declared.event.Item.{Item}
 pub use Rattle.nit_events.specs.declared.event.Routed.{Routed}
 pub use Rattle.nit_events.specs.declared.event.Status.{Status}
+pub use Rattle.nit_glyph.specs.Texts.{is_label, is_label_byte}
 pub use Rattle.nit_hall.specs.History.{IsHeld}
 pub use Rattle.nit_hall.specs.NearWords.{IsNear}
 pub use Rattle.nit_journal.specs.Deliveries.{IsLive}
@@ -94,8 +95,9 @@ pub use Rattle.nit_store.specs.Files.{HasDifferentNames, have_different_names}
 pub use Rattle.nit_store.specs.Store.{File, IsPut, StoreModel, file_at, with_asked}
 pub use Rattle.nit_word.specs.Sight.{Sight}
 pub use Rattle.nit_word.specs.Sights.{glass_in}
+pub use Rattle.std.specs.Fmt.{decimal}
 pub use Rattle.std.specs.Global.{Global}
-pub use Rattle.std.specs.List.{AllByRecursion, AllZip, flat_map, range_with_len}
+pub use Rattle.std.specs.List.{AllByRecursion, AllZip, flat_map, list_all, range_with_len}
 pub use Rattle.std.specs.Prelude.{All, Contains, List, Vec, codes, count_by, filter, fold}
 pub use Rattle.std.specs.Prelude.{option_map, slice_get, slice_index, slice_index_or, take, ℕ}
-pub use Rattle.std.specs.Str.{bytes_eq}
+pub use Rattle.std.specs.Str.{IsAscii, IsUtf8, bytes_eq}

@@ -6,7 +6,8 @@
 //! The [`laws`] prove it of every journal and of all files that fit a setup, so no body of code is
 //! read for it.
 //!
-//! - [`Scripts`] are the scripts of a setup, and [`Output`] names a file that a run puts.
+//! - [`Scripts`] are the scripts of a setup, and [`Output`] is a file that a run puts, and
+//!   writes its name.
 //! - [`Region`] is the part of the screen that a film shows.
 //!
 //! Setups are made of words and files in `nit_setup`, and run in `nit_perform`. The tests are those
@@ -18,6 +19,6 @@ mod output;
 mod region;
 mod scripts;
 
-pub use output::{LabelBytes, Output};
+pub use output::{LabelBytes, OUTPUT_NAME_BYTES, Output};
 pub use region::Region;
 pub use scripts::Scripts;
