@@ -65,11 +65,11 @@ pub use Rattle.nit_rounds.proofs.ForCallers.{files_both, no_files, put_as_pictur
 pub use Rattle.nit_rounds.proofs.ForCallers.{stays_throughout}
 pub use Rattle.nit_run.proofs.ForCallers.{Numbered, OtherThan, UserOnce, also_more, asking_none}
 pub use Rattle.nit_run.proofs.ForCallers.{later_shots, no_picture, no_shots, numbered, other_both}
-pub use Rattle.nit_run.proofs.ForCallers.{other_letter, shots_apart, stays, text_at, texts_other}
-pub use Rattle.nit_run.proofs.ForCallers.{with_texts}
+pub use Rattle.nit_run.proofs.ForCallers.{other_letter, output_is_text, shots_apart, stays, text_at}
+pub use Rattle.nit_run.proofs.ForCallers.{texts_other, with_texts}
 pub use Rattle.nit_store.proofs.ForCallers.{none_behind, puts_both, puts_more}
-pub use Rattle.std.proofs.Common.{Err, List, None, Ok, Some, [], ap, arith, length, map, not, refl}
-pub use Rattle.std.proofs.Common.{rules, subst, sym, ◌∙◌}
+pub use Rattle.std.proofs.Common.{List, Ok, Some, [], ap, arith, length, map, not, refl, rules}
+pub use Rattle.std.proofs.Common.{subst, sym, ◌∙◌}
 pub use Rattle.std.proofs.Math.Seq.{take-append_seam}
 pub use Rattle.std.proofs.lemmas.Bool.{and_parts, cases_Bool, cases_lt, eq-eqb, lt-ltb}
 pub use Rattle.std.proofs.lemmas.Bool.Decides.{nat_tests}

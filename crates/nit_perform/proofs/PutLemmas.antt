@@ -127,18 +127,6 @@ pub no_put : (f : File) (old : StoreModel) (now : PutFault) → output_name now.
     → PutsFile f (unrefused old) (put_state_of_run old (Some now))
 no_put f old now named is = record { answer = Err put.NoMemory; put = inr refl; kept = rw (named, is) }
 
--- ---- names that are text
-
-bytes_are_ascii : (text : List ℕ) → list_all is_label_byte text ≡ true → (i : ℕ) → slice_index text i < 128
-bytes_are_ascii [] h i = omega arith
-bytes_are_ascii (x ∷ xs) h zero = grind (arith, nat_tests)
-bytes_are_ascii (x ∷ xs) h (suc i) = bytes_are_ascii xs (and_parts _ _ h).1 i
-
-pub events_name_is_text : (label : List ℕ) → is_label label ≡ true → IsUtf8 (events_name label)
-events_name_is_text label h = IsUtf8-from_ascii (events_name label) (IsAscii-append (codes "events-")
-    (label ++ codes ".txt") (search rules) (IsAscii-append label (codes ".txt") (bytes_are_ascii label
-    (and_parts _ _ h).1) (search rules)))
-
 -- ---- files that are made, put one after the other
 
 pub one_file_more : (make : ℕ → File) (k : ℕ) {file : File} (old mid new : PutState) → file ≡ make k
@@ -146,11 +134,6 @@ pub one_file_more : (make : ℕ → File) (k : ℕ) {file : File} (old mid new :
     → PutsAll (map make (range_with_len 0 (k + 1))) old new
 one_file_more make k old mid new is puts next = rw (map-range_with_len_more make 0 k k (zero-add k))
     (puts_more (map make (range_with_len 0 k)) (make k) old mid new puts (rw is at next))
-
--- the name of a client's script is text
-pub script_name_is_text : (c : ℕ) → c < 8 → IsUtf8 (script_name c)
-script_name_is_text c small = IsUtf8-from_ascii (script_name c) (IsAscii-append (codes "g" ++ decimal c) (codes ".nit")
-    (IsAscii-append (codes "g") (decimal c) (search rules) (IsAscii-decimal c (omega arith))) (search rules))
 
 -- The film that a store has made is that of the files that were put.
 

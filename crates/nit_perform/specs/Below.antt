@@ -71,7 +71,7 @@ pub use Rattle.nit_rounds.specs.TurnActions.{AreRoundsOf, actions_of_turns, inpu
 pub use Rattle.nit_rounds.specs.TurnActions.{input_lines_of}
 pub use Rattle.nit_rounds.specs.declared.desk.Desk.{Desk}
 pub use Rattle.nit_run.specs.InnerFrames.{ShowsNest, frames_of, is_too_long, last_frame, nest_of}
-pub use Rattle.nit_run.specs.OutputNames.{output_name}
+pub use Rattle.nit_run.specs.OutputNames.{HasTextName, output_name}
 pub use Rattle.nit_run.specs.Outputs.{AreOutputs, AreShots, HaveTables, IsJournal, ending_of}
 pub use Rattle.nit_run.specs.Outputs.{events_file, events_files, events_name, final_picture}
 pub use Rattle.nit_run.specs.Outputs.{journal_file, picture_by, raw_words, tables_left, text_files}

@@ -3,11 +3,11 @@ pub use Rattle.nit_perform.specs.Below.{ActorLine, AfterPut, All, AllByRecursion
 pub use Rattle.nit_perform.specs.Below.{AreDoneClips, AreFirstClipPasses, AreRoundsOf, AreShots}
 pub use Rattle.nit_perform.specs.Below.{AskedAtMost, Bad, Bare, Belongs, ByUser, CaptureModel}
 pub use Rattle.nit_perform.specs.Below.{ClipLine, ClipPassModel, ClipRole, Configuration, Desk}
-pub use Rattle.nit_perform.specs.Below.{Drawing, End, Entry, File, Global, HaveTables, IfOk}
-pub use Rattle.nit_perform.specs.Below.{InputLine, IsDonation, IsDoneClip, IsDoneUser, IsGlass}
-pub use Rattle.nit_perform.specs.Below.{IsHistory, IsJournal, IsLegal, IsNearPicture, IsOpen}
-pub use Rattle.nit_perform.specs.Below.{IsOpening, IsPairIn, IsPictureAmong, IsPlanOf, IsPut}
-pub use Rattle.nit_perform.specs.Below.{IsRoundsRun, IsRunConfiguration, IsRunnable, IsSetUp}
+pub use Rattle.nit_perform.specs.Below.{Drawing, End, Entry, File, Global, HasTextName, HaveTables}
+pub use Rattle.nit_perform.specs.Below.{IfOk, InputLine, IsDonation, IsDoneClip, IsDoneUser}
+pub use Rattle.nit_perform.specs.Below.{IsGlass, IsHistory, IsJournal, IsLegal, IsNearPicture}
+pub use Rattle.nit_perform.specs.Below.{IsOpen, IsOpening, IsPairIn, IsPictureAmong, IsPlanOf}
+pub use Rattle.nit_perform.specs.Below.{IsPut, IsRoundsRun, IsRunConfiguration, IsRunnable, IsSetUp}
 pub use Rattle.nit_perform.specs.Below.{IsSetting, IsUtf8, IsWhole, IsWord, IsWordOfSource, Line}
 pub use Rattle.nit_perform.specs.Below.{LineTurn, Member, NestError, NestModel, NoMemory}
 pub use Rattle.nit_perform.specs.Below.{OpenedRounds, OpeningParts, Painted, Pair, PairRole}

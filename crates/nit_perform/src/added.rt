@@ -22,7 +22,7 @@ pub fn put_clips<S: Store>(store: &mut S, ran: Ran, list: Result<Vec<u8>, NoMemo
         → PutsNext (clips_name, text) (put_state_of_run (S.shown store.old) ran.fault)
         (put_state_of_run (S.shown store.new) result.fault) }
 {
-    let fault = put_made(store, ran.fault, Output::Clips, "clip.txt", list);
+    let fault = put_made(store, ran.fault, Output::Clips, list);
     ran.with_fault(fault)
 }
 
@@ -58,15 +58,9 @@ fn put_film<S: Store>(
         return fault;
     }
     if whole {
-        put_made(
-            store,
-            fault,
-            Output::Film,
-            "capture.ncap",
-            film.into_stream(),
-        )
+        put_made(store, fault, Output::Film, film.into_stream())
     } else {
-        put_made(store, fault, Output::Film, "capture.ncap", Err(NoMemory))
+        put_made(store, fault, Output::Film, Err(NoMemory))
     }
 }
 
@@ -85,11 +79,5 @@ pub fn put_inner_journal<S: Store>(
         return fault;
     }
     let text = journal_text(alloc, journal);
-    put_made(
-        store,
-        fault,
-        Output::InnerJournal,
-        "inner-journal.txt",
-        text,
-    )
+    put_made(store, fault, Output::InnerJournal, text)
 }

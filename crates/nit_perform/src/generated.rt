@@ -1,13 +1,13 @@
 //! The files of a generated run, which are put before it.
 
-ghost use Rattle.std.specs.Prelude.{◌≡◌, ◌<◌, map};
-ghost use Rattle.nit_perform.specs.Terms.{PutsAll, PutsNext, client_text, generated};
-ghost use Rattle.nit_perform.specs.Terms.{generated_files, put_state_of_run, range_with_len};
-ghost use Rattle.nit_perform.specs.Terms.{script_files, script_name, unrefused};
+ghost use Rattle.std.specs.Prelude.{◌≡◌, map};
+ghost use Rattle.nit_perform.specs.Terms.{PutsAll, client_text, generated, generated_files};
+ghost use Rattle.nit_perform.specs.Terms.{put_state_of_run, range_with_len, script_files};
+ghost use Rattle.nit_perform.specs.Terms.{unrefused};
 
 use crate::puts::put_next;
 use crate::ran::PutFault;
-use nit_report::{Files, script_name};
+use nit_report::Files;
 use nit_run::Output;
 use nit_store::Store;
 use nit_store::laws::puts_go_on;
@@ -23,15 +23,9 @@ pub fn put_files<S: Store>(store: &mut S, number: u32, files: &Files) -> Option<
         (put_state_of_run (S.shown store.new) result) }
 {
     puts_go_on();
-    let fault = put_next(
-        store,
-        None,
-        Output::GeneratedConfig,
-        "gen.toml",
-        &files.config,
-    );
+    let fault = put_next(store, None, Output::GeneratedConfig, &files.config);
     let fault = put_scripts(store, fault, number, &files.clients);
-    put_next(store, fault, Output::GeneratedInput, "gen.in", &files.input)
+    put_next(store, fault, Output::GeneratedInput, &files.input)
 }
 
 /// Puts the scripts of the clients, in order, unless a put was refused before, and until one is
@@ -49,26 +43,8 @@ fn put_scripts<S: Store>(
     puts_go_on();
     let mut refused = fault;
     'clients: for client in 0..CLIENTS {
-        refused = put_script(store, refused, client, &texts[client as usize]);
+        let file = Output::GeneratedScript(client);
+        refused = put_next(store, refused, file, &texts[client as usize]);
     }
     refused
-}
-
-/// Puts the script of one client, unless a put was refused before. Gives the put that was refused,
-/// if there is one.
-fn put_script<S: Store>(
-    store: &mut S,
-    fault: Option<PutFault>,
-    client: u32,
-    bytes: &[u8],
-) -> Option<PutFault>
-    requires { client < 8 }
-    ensures { PutsNext (script_name client, bytes.now)
-        (put_state_of_run (S.shown store.old) fault) (put_state_of_run (S.shown store.new) result) }
-{
-    let name = script_name(client);
-    let Ok(name) = str::from_utf8(&name) else {
-        unreachable!()
-    };
-    put_next(store, fault, Output::GeneratedScript(client), name, bytes)
 }

@@ -1,11 +1,11 @@
 //! How a file is put behind others.
 
 ghost use Rattle.std.specs.Prelude.{◌≡◌, ℕ, List, IfOk};
-ghost use Rattle.nit_perform.specs.Terms.{PutsNext, output_name, put_state_of_run};
+ghost use Rattle.nit_perform.specs.Terms.{HasTextName, PutsNext, output_name, put_state_of_run};
 
 use crate::ran::PutFault;
 use nit_rect::NoMemory;
-use nit_run::Output;
+use nit_run::{OUTPUT_NAME_BYTES, Output};
 use nit_store::{PutError, Store};
 
 /// Puts a file under its name, unless a put was refused before. Gives the put that was refused, if
@@ -14,16 +14,20 @@ pub fn put_next<S: Store>(
     store: &mut S,
     fault: Option<PutFault>,
     file: Output,
-    name: &str,
     bytes: &[u8],
 ) -> Option<PutFault>
-    requires { output_name file ≡ name.now }
-    ensures { PutsNext (name.now, bytes.now)
+    requires { HasTextName file }
+    ensures { PutsNext (output_name file, bytes.now)
         (put_state_of_run (S.shown store.old) fault) (put_state_of_run (S.shown store.new) result) }
 {
     if fault.is_some() {
         return fault;
     }
+    let mut name = [0; OUTPUT_NAME_BYTES];
+    let end = file.name_into(&mut name);
+    let Ok(name) = str::from_utf8(&name[..end]) else {
+        unreachable!()
+    };
     match store.put(name, bytes) {
         Ok(()) => None,
         Err(error) => Some(PutFault { file, error }),
@@ -36,19 +40,18 @@ pub fn put_made<S: Store>(
     store: &mut S,
     fault: Option<PutFault>,
     file: Output,
-    name: &str,
     made: Result<Vec<u8>, NoMemory>,
 ) -> Option<PutFault>
-    requires { output_name file ≡ name.now }
+    requires { HasTextName file }
     ensures { (bytes : List ℕ) → IfOk made (λ v. v.items ≡ bytes)
-        → PutsNext (name.now, bytes)
+        → PutsNext (output_name file, bytes)
         (put_state_of_run (S.shown store.old) fault) (put_state_of_run (S.shown store.new) result) }
 {
     if fault.is_some() {
         return fault;
     }
     match made {
-        Ok(bytes) => put_next(store, fault, file, name, &bytes),
+        Ok(bytes) => put_next(store, fault, file, &bytes),
         Err(_) => Some(PutFault {
             file,
             error: PutError::NoMemory,

@@ -1,21 +1,20 @@
 //! The texts that a run puts behind its pictures: the events of each client, and the journal.
 
-ghost use Rattle.std.specs.Prelude.{◌≡◌, ◌+◌, ◌++◌, ◌∷◌, [], ◌<◌, length, ◌≤◌, take};
+ghost use Rattle.std.specs.Prelude.{◌≡◌, ◌+◌, ◌++◌, ◌∷◌, [], ◌<◌, length};
 ghost use Rattle.nit_perform.specs.Terms.{PutsAll, PutsFile, PutsNext, ending_of, events_files};
-ghost use Rattle.nit_perform.specs.Terms.{events_name, events_text, journal_file, output_name};
-ghost use Rattle.nit_perform.specs.Terms.{put_state_of_run, session, shots, state_now, unrefused};
+ghost use Rattle.nit_perform.specs.Terms.{events_name, events_text, journal_file, put_state_of_run};
+ghost use Rattle.nit_perform.specs.Terms.{session, shots, state_now, unrefused};
 
 use crate::puts::put_made;
 use crate::ran::{PutFault, Ran, left};
 use nit_config::Member;
 use nit_events::Entry;
 use nit_glyph::Label;
-use nit_report::write::text;
 use nit_report::{Ending, events_text, journal_text};
 use nit_run::{LabelBytes, Output};
 use nit_scene::Scene;
+use nit_store::Store;
 use nit_store::laws::puts_go_on;
-use nit_store::{PutError, Store};
 use nit_word::Glass;
 use std::alloc::Global;
 
@@ -41,9 +40,6 @@ pub fn leave_texts<S: Store, G: Glass + Drop>(
     let fault = put_journal(alloc, store, fault, &journal);
     left(journal, fault)
 }
-
-/// The most bytes that the name of a client's events has.
-const NAME_BYTES: usize = 31;
 
 /// Puts the events of each client of the scene, in order, until a put is refused. Gives that put,
 /// if there is one. Want of memory for a text counts as a put that is refused.
@@ -82,11 +78,10 @@ fn put_events_of<S: Store, G: Glass + Drop>(
         PutsFile (events_name label.now, events_text scene.now.entries sid end)
         (unrefused (S.shown store.old)) (put_state_of_run (S.shown store.new) result) }
 {
+    let file = Output::Events(LabelBytes::new(label));
     let entries = scene.journal().entries();
-    match events_text(alloc, entries, sid, &ending(scene, sid)) {
-        Ok(bytes) => put_named(store, label, &bytes),
-        Err(_) => Some(refused_events(label, PutError::NoMemory)),
-    }
+    let text = events_text(alloc, entries, sid, &ending(scene, sid));
+    put_made(store, None, file, text)
 }
 
 /// How the session `sid` has ended, or stands.
@@ -99,46 +94,6 @@ fn ending<G: Glass + Drop>(scene: &Scene<G>, sid: u32) -> Ending
         left: scene.left(sid),
         status: scene.status(sid),
     }
-}
-
-/// The refused put of the events of the client of this label.
-fn refused_events(label: &Label, error: PutError) -> PutFault
-    ensures file { output_name result.file ≡ events_name label.now }
-    ensures error { result.error ≡ error }
-{
-    PutFault {
-        file: Output::Events(LabelBytes::new(label)),
-        error,
-    }
-}
-
-/// Puts these bytes as the events of the client of this label. Gives the put, where it is refused.
-fn put_named<S: Store>(store: &mut S, label: &Label, bytes: &[u8]) -> Option<PutFault>
-    ensures { PutsFile (events_name label.now, bytes.now)
-        (unrefused (S.shown store.old)) (put_state_of_run (S.shown store.new) result) }
-{
-    let mut name = [0; NAME_BYTES];
-    let end = write_name(&mut name, label.as_bytes());
-    let Ok(name) = str::from_utf8(&name[..end]) else {
-        unreachable!()
-    };
-    match store.put(name, bytes) {
-        Ok(()) => None,
-        Err(error) => Some(refused_events(label, error)),
-    }
-}
-
-/// Writes the name of the events of the client of this label to the front of `out`, and answers
-/// where it ends.
-fn write_name(out: &mut [u8], label: &[u8]) -> usize
-    requires out { length out.old ≡ 31 }
-    requires label { length label.now ≤ 20 }
-    ensures end { result ≤ length out.new }
-    ensures name { take result out.new ≡ events_name label.now }
-{
-    let at = text(out, 0, b"events-");
-    let at = text(out, at, label);
-    text(out, at, b".txt")
 }
 
 /// Puts the journal, unless a put was refused before. Gives the put that was refused, if there is
@@ -156,5 +111,5 @@ pub fn put_journal<S: Store>(
         return fault;
     }
     let text = journal_text(alloc, journal);
-    put_made(store, fault, Output::Journal, "journal.txt", text)
+    put_made(store, fault, Output::Journal, text)
 }

@@ -12,9 +12,9 @@ clients-preserved g c =
     one_file_more (λ k. (script_name k, client_text c.args.number k)) c.clients.client
     (put_state_of_run (shown c.args.store.now) c.args.fault)
     (put_state_of_run (shown c.clients.store) c.clients.refused)
-    (put_state_of_run (shown c.put_script-refused.new.store) c.put_script-refused.result)
+    (put_state_of_run (shown c.put_next-refused.new.store) c.put_next-refused.result)
     (rw (c.deref.ensures.value ∙ text_at c.args.texts.now c.args.number c.clients.client c.index-texts-client.result
-    c.requires c.clients-test.true c.index-texts-client.is)) c.clients.invariant c.put_script-refused.ensures
+    c.requires c.clients-test.true c.index-texts-client.is)) c.clients.invariant c.put_next-refused.ensures
 
 pub returns : goal.returns
 returns g c =
