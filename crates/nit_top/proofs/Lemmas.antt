@@ -6,14 +6,14 @@ pub use Rattle.nit_top.proofs.Basics.{MayCome, MayShowFrames, NestError, Nested,
 pub use Rattle.nit_top.proofs.Basics.{None, Phases, Rectangle, RunFiles, Setup, Some, Stop, TooLong}
 pub use Rattle.nit_top.proofs.Basics.{ap, apart_of, begun_of, by_turns, calls_to_make, codes}
 pub use Rattle.nit_top.proofs.Basics.{command_of, decimal, decimal_digit, decimal_step, end_of_nest}
-pub use Rattle.nit_top.proofs.Basics.{err_from_is_err_and, events_name, false, files_in, film_of}
-pub use Rattle.nit_top.proofs.Basics.{final_name, final_picture, first_capture, first_state}
-pub use Rattle.nit_top.proofs.Basics.{flat_map, frames_counted, idle_user, inl, map, name_text}
-pub use Rattle.nit_top.proofs.Basics.{nest_of, none_is, other_phases, other_short, phase_counts}
-pub use Rattle.nit_top.proofs.Basics.{pictures_in, piece_text, rectangle_of, refl, rules, run_files}
-pub use Rattle.nit_top.proofs.Basics.{setup_in, setup_of, shots_of, shown_first}
-pub use Rattle.nit_top.proofs.Basics.{still_configuration, still_setup, subst, sym, text_files}
-pub use Rattle.nit_top.proofs.Basics.{texts, true, user_actions_to_do, with_said, ℕ, ◌∙◌}
+pub use Rattle.nit_top.proofs.Basics.{err_from_is_err_and, false, files_in, film_of, final_name}
+pub use Rattle.nit_top.proofs.Basics.{final_picture, first_capture, first_state, flat_map}
+pub use Rattle.nit_top.proofs.Basics.{frames_counted, idle_user, inl, map, name_text, nest_of}
+pub use Rattle.nit_top.proofs.Basics.{none_is, other_phases, other_short, phase_counts, pictures_in}
+pub use Rattle.nit_top.proofs.Basics.{piece_text, rectangle_of, refl, rules, run_files, setup_in}
+pub use Rattle.nit_top.proofs.Basics.{setup_of, shots_of, shown_first, still_configuration}
+pub use Rattle.nit_top.proofs.Basics.{still_setup, subst, sym, text_files, texts, true}
+pub use Rattle.nit_top.proofs.Basics.{user_actions_to_do, with_said, ℕ, ◌∙◌}
 pub use Rattle.nit_top.proofs.Causes.{causes, ended_as}
 pub use Rattle.nit_top.proofs.GeneratedRuns.{generated_ends, generated_runnable, inner_stopped}
 pub use Rattle.nit_top.proofs.GeneratedRuns.{made_in_part, made_whole, nested_ends, nothing_made}

@@ -49,20 +49,19 @@ pub use Rattle.nit_rect.specs.Rectangle.{Rectangle, rectangle, spans}
 pub use Rattle.nit_rect.specs.declared.point.Point.{Point}
 pub use Rattle.nit_report.specs.EntrySpelling.{event_spelling}
 pub use Rattle.nit_report.specs.EventsText.{ending_text, taken}
-pub use Rattle.nit_report.specs.Generator.{client_script, generated, is_shot_line, script_name}
-pub use Rattle.nit_report.specs.Generator.{user_script}
+pub use Rattle.nit_report.specs.Generator.{client_script, generated, is_shot_line, user_script}
 pub use Rattle.nit_report.specs.JournalText.{ReadsJournal, journal_text}
 pub use Rattle.nit_report.specs.Picture.{picture, picture_header}
 pub use Rattle.nit_rounds.specs.Drawing.{Drawing, after_turn, drawn_shot, frame_of, opening_drawing}
 pub use Rattle.nit_rounds.specs.Drawing.{picture_of, shot_frames_of, shots_after, shots_of}
 pub use Rattle.nit_rounds.specs.Rounds.{rounds}
-pub use Rattle.nit_rounds.specs.RoundsRun.{final_name, picture_name, shot_name}
+pub use Rattle.nit_rounds.specs.RoundsRun.{final_name}
 pub use Rattle.nit_rounds.specs.ShotFrames.{ShotFrame, shot_file}
 pub use Rattle.nit_rounds.specs.Turn.{ActorLine, ByClient, ByUser, LineTurn}
 pub use Rattle.nit_run.specs.Headline.{AreTexts, HasPicture, Headline, HoldsAtEnd, events_among}
 pub use Rattle.nit_run.specs.InnerFrames.{FirstShows, ShowsNest, frames_of, is_too_long, last_frame}
 pub use Rattle.nit_run.specs.InnerFrames.{nest_of, nested_setup, shown_first}
-pub use Rattle.nit_run.specs.OutputNames.{label_text, output_name}
+pub use Rattle.nit_run.specs.OutputNames.{output_name}
 pub use Rattle.nit_run.specs.Outputs.{AreOutputs, AreShots, IsJournal, ending_of, events_file}
 pub use Rattle.nit_run.specs.Outputs.{events_files, events_name, final_picture, journal_file}
 pub use Rattle.nit_run.specs.Outputs.{raw_word, tables_left, text_files}

@@ -42,25 +42,25 @@ pub use Rattle.nit_top.specs.Below.{first_name, first_other, first_session, firs
 pub use Rattle.nit_top.specs.Below.{frame_of, frames_behind, frames_of, generated, generated_files}
 pub use Rattle.nit_top.specs.Below.{generated_setup, idle_user, index_at, inner_journal_name}
 pub use Rattle.nit_top.specs.Below.{input_phases, is_accepted, is_off_screen, is_shot_line, is_some}
-pub use Rattle.nit_top.specs.Below.{is_too_long, journal_file, journal_text, label_text, last_frame}
+pub use Rattle.nit_top.specs.Below.{is_too_long, journal_file, journal_text, last_frame}
 pub use Rattle.nit_top.specs.Below.{lines_of_frames, list_any, member, misfit, most_journal_bytes}
 pub use Rattle.nit_top.specs.Below.{most_run_height, most_run_width, name_text, names_in}
 pub use Rattle.nit_top.specs.Below.{names_read, nest_of, nest_script, nested_setup, next_frame}
 pub use Rattle.nit_top.specs.Below.{next_name, number_end, opening_drawing, option_map, output_name}
 pub use Rattle.nit_top.specs.Below.{owner_of, phase_counts, phases, picture, picture_header}
-pub use Rattle.nit_top.specs.Below.{picture_name, picture_of, pictures_in, pixel, pos, projection}
+pub use Rattle.nit_top.specs.Below.{picture_of, pictures_in, pixel, pos, projection}
 pub use Rattle.nit_top.specs.Below.{put_state_of_run, range_with_len, raw_word, reads, receive}
 pub use Rattle.nit_top.specs.Below.{rectangle, rectangle_of, refusal, refusal_of, replay}
-pub use Rattle.nit_top.specs.Below.{replies_to, rounds, run_files, screen, script_in, script_name}
-pub use Rattle.nit_top.specs.Below.{script_names, second_name, session, setup_in, setup_of}
-pub use Rattle.nit_top.specs.Below.{shot_file, shot_frames_of, shot_name, shots, shots_after}
-pub use Rattle.nit_top.specs.Below.{shots_of, shown_first, shown_index, slice_index, source_at}
-pub use Rattle.nit_top.specs.Below.{source_under, spans, spelled, starts_threads, static}
-pub use Rattle.nit_top.specs.Below.{still_configuration, still_setup, stream, tables_left, taken}
-pub use Rattle.nit_top.specs.Below.{taking, text_files, texts, too_long_for, true, unless_other}
-pub use Rattle.nit_top.specs.Below.{unrefused, user_actions_from, user_actions_of}
-pub use Rattle.nit_top.specs.Below.{user_actions_to_do, user_script, with_asked, with_said}
-pub use Rattle.nit_top.specs.Below.{word_from, word_of_bytes, word_seen, words_left, woven}
+pub use Rattle.nit_top.specs.Below.{replies_to, rounds, run_files, screen, script_in, script_names}
+pub use Rattle.nit_top.specs.Below.{second_name, session, setup_in, setup_of, shot_file}
+pub use Rattle.nit_top.specs.Below.{shot_frames_of, shots, shots_after, shots_of, shown_first}
+pub use Rattle.nit_top.specs.Below.{shown_index, slice_index, source_at, source_under, spans}
+pub use Rattle.nit_top.specs.Below.{spelled, starts_threads, static, still_configuration}
+pub use Rattle.nit_top.specs.Below.{still_setup, stream, tables_left, taken, taking, text_files}
+pub use Rattle.nit_top.specs.Below.{texts, too_long_for, true, unless_other, unrefused}
+pub use Rattle.nit_top.specs.Below.{user_actions_from, user_actions_of, user_actions_to_do}
+pub use Rattle.nit_top.specs.Below.{user_script, with_asked, with_said, word_from, word_of_bytes}
+pub use Rattle.nit_top.specs.Below.{word_seen, words_left, woven}
 pub use Rattle.nit_top.specs.CaptureWork.{PerformedFilmed}
 pub use Rattle.nit_top.specs.ClipWork.{PerformedClips}
 pub use Rattle.nit_top.specs.CommandEnd.{Ended, Finished}

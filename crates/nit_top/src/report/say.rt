@@ -2,15 +2,13 @@
 
 ghost use Rattle.std.specs.Prelude.{◌≡◌};
 ghost use Rattle.nit_top.specs.Terms.{Says, audited_line, bad_configuration_line, clip_name};
-ghost use Rattle.nit_top.specs.Terms.{command_of, decimal, events_name, fault_line, first_name};
-ghost use Rattle.nit_top.specs.Terms.{flat_map, kind_text, label_text, line_on, name_text};
-ghost use Rattle.nit_top.specs.Terms.{numbered_line, output_name, picture_name, piece_text};
-ghost use Rattle.nit_top.specs.Terms.{script_name, second_name, shot_name, summary_line};
+ghost use Rattle.nit_top.specs.Terms.{command_of, decimal, fault_line, first_name, flat_map};
+ghost use Rattle.nit_top.specs.Terms.{kind_text, line_on, name_text, numbered_line, output_name};
+ghost use Rattle.nit_top.specs.Terms.{piece_text, second_name, summary_line};
 
 use crate::report::finish::Worked;
 use nit_config::ConfigError;
-use nit_rounds::PictureName;
-use nit_run::{LabelBytes, Output};
+use nit_run::{OUTPUT_NAME_BYTES, Output};
 use nit_setup::{Asked, End, Fault, StopName};
 use nit_store::{PutError, Store};
 
@@ -246,55 +244,9 @@ fn say_piece<S: Store>(store: &mut S, piece: &LinePart) -> Result<(), PutError>
 fn output_name<S: Store>(store: &mut S, file: &Output) -> Result<(), PutError>
     ensures { Says (S.shown store.old) (output_name file.now) (S.shown store.new) result }
 {
-    match file {
-        Output::Picture(picture) => picture_name(store, picture),
-        Output::Events(label) => events_name(store, label),
-        Output::Journal => text(store, b"journal.txt"),
-        Output::GeneratedConfig => text(store, b"gen.toml"),
-        Output::GeneratedScript(client) => script_name(store, *client),
-        Output::GeneratedInput => text(store, b"gen.in"),
-        Output::Film => text(store, b"capture.ncap"),
-        Output::Clips => text(store, b"clip.txt"),
-        Output::InnerJournal => text(store, b"inner-journal.txt"),
-    }
-}
-
-/// Says the name of a picture of a run.
-fn picture_name<S: Store>(store: &mut S, picture: &PictureName) -> Result<(), PutError>
-    ensures { Says (S.shown store.old) (picture_name picture.now) (S.shown store.new) result }
-{
-    match picture {
-        PictureName::Shot(number) => shot_name(store, *number),
-        PictureName::Final => text(store, b"final.ppm"),
-    }
-}
-
-/// Says the name of a shot's picture.
-fn shot_name<S: Store>(store: &mut S, shot: u32) -> Result<(), PutError>
-    ensures { Says (S.shown store.old) (shot_name shot) (S.shown store.new) result }
-{
-    text(store, b"shot-")?;
-    number(store, shot as u64)?;
-    text(store, b".ppm")
-}
-
-/// Says the name of the events of the client of this label.
-fn events_name<S: Store>(store: &mut S, label: &LabelBytes) -> Result<(), PutError>
-    ensures { Says (S.shown store.old) (events_name (label_text label.now))
-        (S.shown store.new) result }
-{
-    text(store, b"events-")?;
-    text(store, label.as_bytes())?;
-    text(store, b".txt")
-}
-
-/// Says the name of the script of a client of a generated run.
-fn script_name<S: Store>(store: &mut S, client: u32) -> Result<(), PutError>
-    ensures { Says (S.shown store.old) (script_name client) (S.shown store.new) result }
-{
-    text(store, b"g")?;
-    number(store, client as u64)?;
-    text(store, b".nit")
+    let mut name = [0; OUTPUT_NAME_BYTES];
+    let end = file.name_into(&mut name);
+    text(store, &name[..end])
 }
 
 /// Says the name of the clip script of the client with the script of this name.
