@@ -122,10 +122,51 @@ void shown_opens(struct storm *s)
     memset(s->is_held, 0, sizeof s->is_held);
 }
 
+/* The views that can be read are those that stand. */
+static void reads_views(struct storm *s)
+{
+    for (uint32_t at = 0; at < s->standing.count; at++) {
+        const struct placed *view = &s->standing.views[at];
+        struct nit_view_state got = nit_view_at(&s->server, at);
+        CHECK(got.kind == NIT_DONE && got.seat == view->seat && got.view == view->handle);
+        CHECK(got.x == view->x && got.y == view->y && got.w == view->w && got.h == view->h);
+    }
+    CHECK(nit_view_at(&s->server, s->standing.count).kind == NIT_NO_SUCH_VIEW);
+}
+
+/* So is the owner of a pixel, also beyond the screen. */
+static void reads_owner(struct storm *s, uint32_t x, uint32_t y)
+{
+    bool is_there = x < s->width && y < s->height;
+    uint32_t seat = is_there ? owner(s, &s->standing, x, y) : NIT_NONE;
+    struct nit_view_state got = nit_owner(&s->server, x, y);
+    CHECK(got.kind == (seat == NIT_NONE ? NIT_NO_SUCH_VIEW : NIT_DONE));
+    CHECK(got.seat == (seat == NIT_NONE ? 0 : seat));
+}
+
+/* The codes that can be read are those that are held, each once. */
+static void reads_held(struct storm *s)
+{
+    uint32_t count = 0, held = 0;
+    for (uint32_t code; (code = nit_held(&s->server, count)) != NIT_NONE; count++) {
+        CHECK(code < CODES && s->is_held[code]);
+        for (uint32_t at = 0; at < count; at++)
+            CHECK(nit_held(&s->server, at) != code);
+    }
+    for (uint32_t code = 0; code < CODES; code++)
+        held += s->is_held[code];
+    CHECK(count == held);
+}
+
 struct nit_rect shown_look(struct storm *s)
 {
-    struct nit_rect part = nit_look(&s->server, s->frame, (size_t)s->width * s->height);
+    size_t count = (size_t)s->width * s->height;
+    struct nit_rect part = below(s, 8) == 0 ? nit_look_anew(&s->server, s->frame, count)
+                                            : nit_look(&s->server, s->frame, count);
     CHECK(part.kind == NIT_DONE);
+    reads_views(s);
+    reads_owner(s, below(s, s->width + 1), below(s, s->height + 1));
+    reads_held(s);
     s->shown = s->standing;
     memset(s->has_come, 0, sizeof s->has_come);
     return part;
