@@ -4,7 +4,7 @@ pub use Rattle.core.proofs.mem.Facts.{says_two}
 pub use Rattle.nit_c.specs.Terms.{ByServer, HostModel, IsRedrawn, IsRefreshed, NitReply, NitServer}
 pub use Rattle.nit_c.specs.Terms.{dict, ghosts, has_click, heap_token, held_owns, host_of}
 pub use Rattle.nit_c.specs.Terms.{host_where, kept_row, list_all, live_mark, nothing_kept}
-pub use Rattle.nit_c.specs.Terms.{only_kind, range_with_len, seat_at, seat_count, server_of}
+pub use Rattle.nit_c.specs.Terms.{only_kind, range_with_len, seat_at, seat_count, server_by_handle}
 pub use Rattle.nit_c.specs.Terms.{the_type}
 pub use Rattle.std.proofs.Common.{arith, refl, sym, ◌∙◌}
 pub use Rattle.std.proofs.Math.ListN.{length-set}

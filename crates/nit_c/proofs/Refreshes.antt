@@ -1,7 +1,7 @@
 -- A refresh at a place that went through a call.
 use Rattle.std.proofs.Common.{Bool, List, Some, nat_eq, subst, sym, true, ℕ, ℤ, ◌≡◌}
 use Rattle.nit_c.proofs.Basics.{ByServer, HostModel, IsRedrawn, IsRefreshed, NitReply, NitServer}
-use Rattle.nit_c.proofs.Basics.{host_of, host_where, live_mark, only_kind, server_of}
+use Rattle.nit_c.proofs.Basics.{host_of, host_where, live_mark, only_kind, server_by_handle}
 
 pub at_place : (old new : NitServer) (seat : ℕ) (x y x' y' : ℤ) (w h : ℕ) (words : List ℕ) (answer : NitReply)
     → x' ≡ x → y' ≡ y → IsRefreshed old new seat x' y' w h words answer → IsRefreshed old new seat x y w h words answer
@@ -14,7 +14,7 @@ pub refreshed_by : (old new : NitServer) (a b : HostModel) (seat : ℕ) (x y x' 
     → x' ≡ x → y' ≡ y → IsRedrawn a b seat x' y' w h words answer → IsRefreshed old new seat x y w h words answer
 refreshed_by old new a b seat x y x' y' w h words answer live live' before after e f is =
     at_place old new seat x y x' y' w h words answer e f
-    (subst (λ (t : Bool). ByServer (host_where t old.value) (server_of new) none step) (sym live)
+    (subst (λ (t : Bool). ByServer (host_where t old.value) (server_by_handle new) none step) (sym live)
     (subst (λ (n : ℕ). ByServer (Some old.value) (host_of n new.value) none step) (sym live')
     (subst (λ (p : HostModel). IsRedrawn p new.value seat x' y' w h words answer) (sym before)
     (subst (λ (p : HostModel). IsRedrawn a p seat x' y' w h words answer) (sym after) is))))

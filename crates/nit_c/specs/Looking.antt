@@ -26,16 +26,16 @@ pub record IsChange (width height : ℕ) (now before : List ℕ) (r : Rectangle)
   pub least : IsTouched width now before r
 
 -- where the words were others before, their rectangle, and none where they were the same
-abbrev pub IsLook : ℕ → ℕ → List ℕ → List ℕ → Option Rectangle → Type 0
-IsLook width height now before (Some r) = IsChange width height now before r
-IsLook width height now before None = before ≡ now
+abbrev pub IsLookPart : ℕ → ℕ → List ℕ → List ℕ → Option Rectangle → Type 0
+IsLookPart width height now before (Some r) = IsChange width height now before r
+IsLookPart width height now before None = before ≡ now
 
 -- The answer is the least rectangle that has all places at which the words became others, or says
 -- that there is none; in it they are those of the frame that the screen shows. Where they were as
 -- the last look left them, or no look was yet, they are the frame everywhere.
 pub record ShowsFrame (h : HostModel) (before now : List ℕ) (answer : NitRect) : Type 0 where
   pub changed : Option Rectangle
-  pub look : IsLook h.state.config.width h.state.config.height now before changed
+  pub look : IsLookPart h.state.config.width h.state.config.height now before changed
   pub told : IsRect changed answer
   pub inside : IfSome changed (AgreeIn h.state.config.width now (frame_shown h))
   pub shown : IsAsSeen h before → now ≡ frame_shown h

@@ -14,8 +14,8 @@ abbrev pub host_of : ℕ → HostModel → Option HostModel
 host_of mark h = host_where (nat_eq mark live_mark) h
 
 -- the server of a handle, where it has one
-abbrev pub server_of : NitServer → Option HostModel
-server_of handle = host_of handle.mark handle.value
+abbrev pub server_by_handle : NitServer → Option HostModel
+server_by_handle handle = host_of handle.mark handle.value
 
 -- where there is no server, this holds; else there is one afterwards, and that holds of the server
 -- before and after
@@ -28,7 +28,7 @@ ByServer (Some h) (Some g) none step = step h g
 -- A call by a handle: where that has no server it stays as it is, and this holds; else it has one
 -- afterwards, and that holds of the server before and after.
 abbrev pub Steps : NitServer → NitServer → Type 0 → (HostModel → HostModel → Type 0) → Type 0
-Steps old new none step = ByServer (server_of old) (server_of new) ((new ≡ old) × none) step
+Steps old new none step = ByServer (server_by_handle old) (server_by_handle new) ((new ≡ old) × none) step
 
 -- where nothing refuses, this holds, and else that of what refuses
 abbrev pub Unless : {A : Type 0} → Option A → Type 0 → (A → Type 0) → Type 0

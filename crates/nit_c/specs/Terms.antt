@@ -18,8 +18,8 @@ pub use Rattle.nit_c.specs.Routing.{IsInput, IsTold, c_delivery, c_item, c_route
 pub use Rattle.nit_c.specs.Routing.{one_of, only_routed, pressed, released, turned}
 pub use Rattle.nit_c.specs.Seating.{IsSeatFor, IsSeated, IsSeatedBy, IsSought, refused_seat}
 pub use Rattle.nit_c.specs.Seating.{seat_of}
-pub use Rattle.nit_c.specs.Steps.{ByServer, host_of, host_where, server_of}
-pub use Rattle.nit_c.specs.Viewing.{IsHeldBy, IsLabelOf, IsOwnerOf, IsTitleOf, IsViewOf, c_view}
-pub use Rattle.nit_c.specs.Viewing.{c_view_of, label_at, no_view, title_at}
+pub use Rattle.nit_c.specs.Steps.{ByServer, host_of, host_where, server_by_handle}
+pub use Rattle.nit_c.specs.Viewing.{IsHeldBy, IsLabelOf, IsOwnerOf, IsTitleOf, IsViewAt, c_view}
+pub use Rattle.nit_c.specs.Viewing.{c_view_of, label_at, no_view, view_title}
 pub use Rattle.nit_c.specs.contracts.handle.NitServer.{the_type}
 pub use Rattle.nit_c.specs.declared.handle.NitServer.{NitServer}

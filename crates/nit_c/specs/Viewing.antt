@@ -43,8 +43,8 @@ c_view_of None = no_view 5
 c_view_of (Some v) = c_view v
 
 -- the view at a place from the front, by a handle
-abbrev pub IsViewOf : NitServer → NitServer → ℕ → NitViewState → Type 0
-IsViewOf old new place answer =
+abbrev pub IsViewAt : NitServer → NitServer → ℕ → NitViewState → Type 0
+IsViewAt old new place answer =
     Steps old new (answer ≡ no_view 0)
     (λ h g. (g ≡ h) × (answer ≡ c_view_of (slice_get h.state.stack place)))
 
@@ -62,8 +62,8 @@ title_of None = []
 title_of (Some v) = v.title
 
 -- the title of the view at a place from the front
-abbrev pub title_at : HostModel → ℕ → List ℕ
-title_at h place = title_of (slice_get h.state.stack place)
+abbrev pub view_title : HostModel → ℕ → List ℕ
+view_title h place = title_of (slice_get h.state.stack place)
 
 -- the label of a seat, and no text where there is no such seat
 abbrev pub label_at : HostModel → ℕ → List ℕ
@@ -74,7 +74,7 @@ label_at h seat =
 abbrev pub IsTitleOf : NitServer → NitServer → ℕ → List ℕ → List ℕ → ℕ → Type 0
 IsTitleOf old new place before now answer =
     Steps old new ((now ≡ before) × (answer ≡ 0))
-    (λ h g. (g ≡ h) × IsLine (title_at h place) before now answer)
+    (λ h g. (g ≡ h) × IsLine (view_title h place) before now answer)
 
 abbrev pub IsLabelOf : NitServer → NitServer → ℕ → List ℕ → List ℕ → ℕ → Type 0
 IsLabelOf old new seat before now answer =

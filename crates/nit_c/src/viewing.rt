@@ -1,8 +1,9 @@
 //! What stands on the screen, and what is held.
 
 ghost use Rattle.std.specs.Prelude.{◌≡◌, slice_get};
-ghost use Rattle.nit_c.specs.Terms.{IsHeldBy, IsLabelOf, IsLine, IsOwnerOf, IsTitleOf, IsViewOf};
-ghost use Rattle.nit_c.specs.Terms.{c_view, c_view_of, label_at, no_view, number_or_none, title_at};
+ghost use Rattle.nit_c.specs.Terms.{IsHeldBy, IsLabelOf, IsLine, IsOwnerOf, IsTitleOf, IsViewAt};
+ghost use Rattle.nit_c.specs.Terms.{c_view, c_view_of, label_at, no_view, number_or_none};
+ghost use Rattle.nit_c.specs.Terms.{view_title};
 
 use crate::handle::NitServer;
 use crate::looking::put;
@@ -92,7 +93,7 @@ fn view_or_none(view: Option<View>) -> NitViewState
 
 /// Puts the title of the view at a place from the front, and answers how many bytes it has.
 fn put_title(host: &Host, place: u32, out: &mut [u8]) -> usize
-    ensures { IsLine (title_at host.now place) out.old out.new result }
+    ensures { IsLine (view_title host.now place) out.old out.new result }
 {
     if place < host.views() {
         put(host.view(place).title.as_bytes(), out)
@@ -125,7 +126,7 @@ fn code_at(host: &Host, place: u32) -> u32
 /// The view at a place from the front, 0 the front-most one, of all views.
 #[unsafe(no_mangle)]
 pub extern "C" fn nit_view_at(alloc: Global, server: &mut NitServer, place: u32) -> NitViewState
-    ensures { IsViewOf server.old server.new place result }
+    ensures { IsViewAt server.old server.new place result }
 {
     if !server.is_live() {
         return no_view(NO_SERVER);
