@@ -131,7 +131,8 @@ def put_into(out):
             say(f"{out} is not empty: files of the same name are replaced, all others stay")
         hold(out)
     except UnicodeEncodeError as error:
-        raise Refusal(2, f"{os.fsencode(out)} is no text, which a folder's name has to be") from error
+        what = f"{os.fsencode(out)} is no text, which a folder's name has to be"
+        raise Refusal(2, what) from error
     except OSError as error:
         raise Refusal(4, f"{out} takes no files: {error.strerror}") from error
     os.environ[OUT] = whole

@@ -1,7 +1,9 @@
-"""Pythons that are too old for what is started here, as far as this machine has some."""
+"""Pythons that are too old for what is started here: those that this machine has, and its own one,
+which says that it is older than it is."""
 import ast
 import shutil
 import subprocess
+import sys
 from pathlib import Path
 
 from interpreter import LEAST
@@ -10,6 +12,12 @@ from interpreter import LEAST
 READS = (3, 6)
 # What looks at the Python.
 LOOKS = ("interpreter", "runs")
+# Starts what stands behind it by a Python that says that it is the one before the least.
+FAKED = f"""import runpy, sys
+sys.argv, sys.version_info = sys.argv[1:], ({LEAST[0]}, {LEAST[1] - 1}, 0, "final", 0)
+sys.path[0] = sys.argv[0].rpartition("/")[0]
+runpy.run_path(sys.argv[0], run_name="__main__")
+"""
 
 
 def version_of(python):
@@ -47,9 +55,17 @@ def reading_faults(path):
     return [] if is_first else [f"{path}: it does not look at the Python first"]
 
 
+def late_faults(path):
+    """Why Ctrl-C shows a traceback while a tool begins: something else is imported first."""
+    body = ast.parse(Path(path).read_text(encoding="utf8")).body
+    first = next(imported(body), None)
+    return [] if first in LOOKS else [f"{path}: it begins with the import of {first}"]
+
+
 def faults_of(tool):
-    """What is wrong with how the older Pythons that are here take a tool."""
-    refused = (refusal_faults([tool, "--help"], None, python) for python in found())
+    """What is wrong with how older Pythons take a tool."""
+    refused = [refusal_faults([tool, "--help"], None, python) for python in found()]
+    refused.append(refusal_faults([sys.executable, "-c", FAKED, tool, "--help"]))
     return [*reading_faults(tool), *(fault for faults in refused for fault in faults)]
 
 

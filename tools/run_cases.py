@@ -85,7 +85,7 @@ def try_png(kit):
         yield from kit.faults("png", [wrong, folder / "shot-1.ppm"], 1, f"{wrong}: no picture")
     left = {path.name: path.read_bytes() for path in folder.glob("*.png")}
     yield from faults_of_png("png", left, {"shot-1.png": right["shot-1.png"]})
-    yield from kit.faults("png", [folder / "absent.ppm"], 2, "absent.ppm")
+    yield from kit.faults("png", [folder / "absent.ppm"], 2, "absent.ppm: No such file")
     yield from kit.faults("png", ["--scale", "0", folder / "shot-1.ppm"], 2, "from 1 to 64")
     large = ["--out", folder / "large", "--scale", "2", folder / "shot-1.ppm"]
     yield from kit.faults("png", large, 0)
@@ -107,7 +107,7 @@ def try_json_lines(kit):
                       ("final\ncall 2 done < close\n", "has no session 2")):
         journal.write_text(text)
         yield from kit.faults("json-lines", [journal, config], 1, has)
-    yield from kit.faults("json-lines", [kit.top / "absent.txt"], 2, "absent.txt")
+    yield from kit.faults("json-lines", [kit.top / "absent.txt"], 2, "absent.txt: No such file")
 
 
 def labelled(made, labels):
@@ -131,6 +131,7 @@ def try_fuzz(kit):
     yield from kit.pair("fuzz", [kit.program, *few], [kit.wrong_picture(), *few],
                         "final.ppm is not as expected")
     yield from kit.faults("fuzz", [kit.wrong_line(), *few], 1, "said b")
+    yield from kit.faults("fuzz", ["--runs", "0"], 2, "--runs: invalid count value")
     yield from shots_by_hand.faults()
 
 

@@ -1,16 +1,20 @@
 """What the tools share: their words, how far they are, and runs in folders of their own."""
-import importlib.machinery
-import importlib.util
 import os
-import signal
-import subprocess
 import sys
-import time
-from pathlib import Path
 
-TOP = Path(__file__).resolve().parent.parent
-sys.path.insert(1, str(TOP / "bin"))
-import interpreter  # noqa: E402
+HERE = os.path.dirname(os.path.realpath(__file__))
+sys.path.insert(1, os.path.join(os.path.dirname(HERE), "bin"))
+import interpreter  # noqa: E402  first: it looks at the Python
+import importlib.machinery  # noqa: E402
+import importlib.util  # noqa: E402
+import signal  # noqa: E402
+import subprocess  # noqa: E402
+import time  # noqa: E402
+from pathlib import Path  # noqa: E402
+
+from shown import shown  # noqa: E402
+
+TOP = Path(HERE).parent
 SECONDS = 120
 BETWEEN = 5.0
 
@@ -30,11 +34,24 @@ def name_of(path):
     return str(place.relative_to(TOP)) if TOP in place.parents else f"tools/{place.name}"
 
 
-def command(main, about):
-    """Runs a tool and ends. `--help` prints what it is; words that it refuses have status 2."""
+def on_interrupt(one, other):
+    """Has Ctrl-C do the other thing where it did the one."""
+    if signal.getsignal(signal.SIGINT) == one:
+        signal.signal(signal.SIGINT, other)
+
+
+def open_streams():
+    """Where a standard stream is closed, what is said there is lost."""
+    for name in ("stdout", "stderr"):
+        if getattr(sys, name) is None:
+            setattr(sys, name, open(os.devnull, "w", encoding="utf8"))
+
+
+def status_of(main, about):
+    """Runs a tool, and answers its status. Ctrl-C leaves it the time to put its work away."""
     words, name, status = sys.argv[1:], name_of(sys.argv[0]), 0
-    if signal.getsignal(signal.SIGINT) == signal.SIG_DFL:
-        signal.signal(signal.SIGINT, signal.default_int_handler)
+    on_interrupt(signal.SIG_DFL, signal.default_int_handler)
+    open_streams()
     try:
         if "--help" in words or "-h" in words:
             print(about.strip())
@@ -42,13 +59,27 @@ def command(main, about):
             status = main(words)
         sys.stdout.flush()
     except WrongWords as wrong:
-        print(f"{name}: {wrong}\n{usage_of(about)}", file=sys.stderr)
+        print(f"{name}: {shown(str(wrong))}\n{usage_of(about)}", file=sys.stderr)
         status = 2
-    except KeyboardInterrupt:
-        status = 130
     except BrokenPipeError:
         os.dup2(os.open(os.devnull, os.O_WRONLY), sys.stdout.fileno())
         status = 141
+    except OSError as error:
+        print(f"{name}: {told(error)}", file=sys.stderr)
+        status = 2
+    return status
+
+
+def command(main, about):
+    """Runs a tool and ends. `--help` prints what it is; words that it refuses have status 2."""
+    try:
+        try:
+            status = status_of(main, about)
+        finally:
+            # Nothing is left to be put away.
+            on_interrupt(signal.default_int_handler, signal.SIG_DFL)
+    except KeyboardInterrupt:
+        status = 130
     sys.exit(status)
 
 
@@ -64,6 +95,13 @@ def program_and_rows(words, rows):
         if row not in rows:
             raise WrongWords(f"no such row: {row}; there are {', '.join(rows)}")
     return program_at(words[0] if words else TOP / "bin" / "nitpicker"), words[1:] or list(rows)
+
+
+def told(error):
+    """What the system has refused."""
+    if error.filename is None:
+        return shown(error.strerror or str(error))
+    return f"{shown(os.fsdecode(error.filename))}: {error.strerror}"
 
 
 class Progress:
@@ -90,9 +128,19 @@ class Outcome:
 
 def build(starter):
     """Builds the program, where it is not as the sources are. Ctrl-C leaves it the time that it
-    needs to put its work away."""
-    with subprocess.Popen([sys.executable, "-B", starter / "building.py"]):
+    needs to put its work away. Where it fails, it has said why, and the tool ends."""
+    with subprocess.Popen([sys.executable, "-B", starter / "building.py"]) as building:
         pass
+    if building.returncode:
+        sys.exit(1)
+
+
+def count(text):
+    """A number of at least 1, as argparse reads it."""
+    number = int(text)
+    if number < 1:
+        raise ValueError
+    return number
 
 
 def program_at(path):

@@ -1,11 +1,12 @@
 """Slips of the fingers in the tools: words with which nothing runs, and Ctrl-C."""
+import contextlib
+import os
 import resource
 import signal
 import subprocess
-import sys
 import time
-from pathlib import Path
 
+import older_pythons
 import runs
 import stand_ins
 
@@ -14,40 +15,54 @@ SECONDS = 300
 QUICK = 1.0
 # A program that tells in a file that it has begun, and goes on until it gets a signal.
 ENDLESS = "#!/bin/sh\necho begun >>{}\nexec sleep 600\n"
+# Words with which a tool works for a while: over such a program, and without one.
+PROGRAM = "program"
+OVER_PROGRAM = {
+    "bench": [PROGRAM], "beside": [PROGRAM], "broken": [PROGRAM], "clips-and-nests": [PROGRAM],
+    "disk": [PROGRAM], "explain": ["--compare", "9", PROGRAM], "floods": [PROGRAM],
+    "fuzz": [PROGRAM], "refuse-memory": [PROGRAM], "refuse-threads": [PROGRAM],
+    "run-examples": [PROGRAM], "selftest": ["--program", PROGRAM, "fuzz"],
+    "show": ["-C", str(runs.TOP / "examples" / "two"), "--program", PROGRAM, "turns", "two.toml"],
+}
+ALONE = {"believe": [], "claims": [], "json-lines": ["-"], "release": ["--selftest"],
+         "test-starter": ["Words"], "verify": ["--selftest"]}
 
 
-def begun(tool, words):
-    """A tool that was just started. On standard error it tells what it has imported."""
-    return subprocess.Popen([sys.executable, "-X", "importtime", tool, *map(str, words)], text=True,
-                            stdin=subprocess.DEVNULL, stdout=subprocess.PIPE,
-                            stderr=subprocess.PIPE,
+def begun(tool, words, **more):
+    """A tool that was just started, as on a terminal of its own, with more in its environment."""
+    return subprocess.Popen([tool, *map(str, words)], text=True, start_new_session=True,
+                            env=os.environ | more,
+                            stdin=subprocess.PIPE, stdout=subprocess.PIPE, stderr=subprocess.PIPE,
                             preexec_fn=lambda: signal.signal(signal.SIGINT, signal.SIG_DFL))
 
 
-def until_it_works(started, log):
-    """Waits until the log has something, or without one until the tool has imported `runs`. Answers
-    what it said so long on standard error."""
-    if log is None:
-        told = [started.stderr.readline()]
-        while told[-1] and not told[-1].endswith(" runs\n"):
-            told.append(started.stderr.readline())
-        return "".join(told)
+def until_imported(started, module):
+    """Waits until a tool, which tells of its imports on standard error, has this module. Answers
+    what it said so long."""
+    told = [started.stderr.readline()]
+    while told[-1] and not told[-1].endswith(f" {module}\n"):
+        told.append(started.stderr.readline())
+    return "".join(told)
+
+
+def wait_for(log):
     last = time.monotonic() + SECONDS
-    while not Path(log).exists() and time.monotonic() < last:
+    while not log.exists() and time.monotonic() < last:
         time.sleep(0.02)
     return ""
 
 
-def faults_of_interrupt(tool, words, log=None):
-    """What is wrong with how a tool ends that gets the signal while it works. Without a log it may
-    be over before."""
-    with begun(tool, words) as started:
-        told = until_it_works(started, log)
-        time.sleep(0.2)
-        started.send_signal(signal.SIGINT)
+def faults_of_interrupt(tool, words, log=None, module="runs", seconds=0.2):
+    """What is wrong with how a tool ends that gets Ctrl-C so long after it has imported a module,
+    or where there is a log, after that has something. Without one it may be over before."""
+    with begun(tool, words, **({} if log else {"PYTHONPROFILEIMPORTTIME": "1"})) as started:
+        told = wait_for(log) if log else until_imported(started, module)
+        time.sleep(seconds)
+        with contextlib.suppress(ProcessLookupError):
+            os.killpg(started.pid, signal.SIGINT)
         said, rest = started.communicate(timeout=SECONDS)
-    statuses = (130, -signal.SIGINT) if log else (130, -signal.SIGINT, 0)
-    if "Traceback" in told + rest or started.returncode not in statuses:
+    is_right = started.returncode in (130, -signal.SIGINT) or log is None and not started.returncode
+    if "Traceback" in told + rest or not is_right:
         yield f"{tool} {words}: after Ctrl-C status {started.returncode}, said {said}{rest[-600:]}"
 
 
@@ -57,10 +72,10 @@ def spent():
     return used.ru_utime + used.ru_stime
 
 
-def endless(kit):
+def endless(kit, name):
     """A program that never ends, and the log in which it tells that it has begun."""
-    log = kit.top / "log"
-    return stand_ins.executable(kit.top / "endless", ENDLESS.format(log)), log
+    log = kit.top / f"begun-{name}"
+    return stand_ins.executable(kit.top / f"endless-{name}", ENDLESS.format(log)), log
 
 
 def faults_at_once(kit, tool, row, folder):
@@ -73,7 +88,7 @@ def faults_at_once(kit, tool, row, folder):
 
 
 def try_show(kit):
-    program, log = endless(kit)
+    program, log = endless(kit, "show")
     with_it, folder = ["--program", program], runs.TOP / "examples" / "two"
     for words, status, has in (
             (["foo"], 2, "`foo` is no command; --help lists the commands"),
@@ -84,18 +99,36 @@ def try_show(kit):
         yield from faults_at_once(kit, "show", ([*with_it, *words], status, has), folder)
     if log.exists():
         yield "tools/show: words with which nothing runs start the program"
-    yield from faults_of_interrupt(kit.tools / "show",
-                                   ["-C", folder, *with_it, "turns", "two.toml"], log)
 
 
-def try_refuse_threads(kit):
-    program, log = endless(kit)
-    yield from faults_of_interrupt(kit.tools / "refuse-threads", [program], log)
+def try_claims(kit):
+    yield from kit.faults("claims", ["no-such-function"], 1, "nothing is found of no-such-function")
+    yield from kit.faults("claims", [""], 2, "an empty word")
 
 
-def try_believe(kit):
-    yield from faults_of_interrupt(kit.tools / "believe", [])
+def faults_of_failed_build(kit, tool):
+    """A tool that is to build the program ends where that fails, without a usage."""
+    top = kit.top / "unbuilt"
+    runs.write_files(top, {"crates/nitpicker": None,
+                           "bin/building.py": b"import sys\nsys.exit('no build')\n"})
+    ended = kit.run(tool, top / "bin" / "nitpicker")
+    if (ended.returncode, ended.stdout, ended.stderr) != (1, "", "no build\n"):
+        yield f"tools/{tool}: after a failed build status {ended.returncode}, said {ended.stderr}"
+
+
+def interrupt_faults(kit, tool):
+    """What is wrong with how a tool ends that gets Ctrl-C while it begins, and while it works."""
+    path = kit.tools / tool
+    if path.read_bytes().startswith(b"#!/usr/bin/env python3"):
+        yield from older_pythons.late_faults(path)
+        yield from faults_of_interrupt(path, ["--help"], module="interpreter", seconds=0)
+    if tool in ALONE:
+        yield from faults_of_interrupt(path, ALONE[tool])
+    if tool in OVER_PROGRAM:
+        program, log = endless(kit, "interrupt")
+        words = [program if word == PROGRAM else word for word in OVER_PROGRAM[tool]]
+        yield from faults_of_interrupt(path, words, log)
 
 
 # What is tried of a tool beside its own test.
-CASES = {"believe": try_believe, "refuse-threads": try_refuse_threads, "show": try_show}
+CASES = {"claims": try_claims, "show": try_show}

@@ -1,8 +1,10 @@
 """Slips of the fingers, where nothing is built: each is answered at once, and starts no build."""
 import os
 import re
+import shlex
 import signal
 import subprocess
+import sys
 from unittest import SkipTest
 
 import older_pythons
@@ -39,6 +41,17 @@ def line_of_usage():
     return f"nitpicker: {re.search(r'`(usage: nitpicker [^`]*)`', formats)[1]}\n"
 
 
+def lines_in_sources():
+    """The same line in the program's code and in its specification, by their files."""
+    for path in sorted((TOP / "crates").glob("*/s*/**/*")):
+        if path.suffix in (".rt", ".antt") and "_tests/" not in str(path):
+            _, found, behind = path.read_text(encoding="utf8").partition("usage: nitpicker ")
+            pieces = re.findall(r'"([^"]*)"', f'"nitpicker: {found}{behind}') if found else []
+            end = next((at for at, piece in enumerate(pieces, 1) if piece.endswith("\\n")), 0)
+            if end:
+                yield path.name, "".join(pieces[:end]).replace("\\n", "\n")
+
+
 def wrong_words():
     """The lists of words that the program's own tests have for no command."""
     rows = SAID_BY_TESTS.read_text(encoding="utf8").partition("base screen")[0]
@@ -70,6 +83,15 @@ class Slips(Case):
             raise SkipTest("the tests of the program are not here")
         for words in wrong_words():
             self.refused(words)
+
+    def test_the_usage_is_the_programs_own(self):
+        """The code's and the specification's, which are in files of these endings."""
+        if not SAID_BY_TESTS.is_file():
+            raise SkipTest("the sources of the program are not here")
+        lines = list(lines_in_sources())
+        self.assertEqual({name.rpartition(".")[2] for name, _ in lines}, {"rt", "antt"})
+        self.assertEqual({line for _, line in lines}, {line_of_usage()})
+        self.assertEqual(self.quick().stdout.decode(), line_of_usage())
 
     def test_what_may_have_been_meant(self):
         for words, has in GUESSES:
@@ -125,10 +147,22 @@ class Slips(Case):
                                        env=known)
                 self.assertEqual(ended.returncode, status, (name, words, ended.stderr))
 
+    def test_one_python_is_named(self):
+        """Once, in README, and it is the one that is looked for."""
+        pages = [*TOP.glob("*.md"), *TOP.glob("docs/*.md"), *TOP.glob("examples/**/*.md")]
+        named = [(page.name, found) for page in pages for found in re.findall(
+            r"[Pp]ython\s+(\d[.\d]*\d|\d)", page.read_text(encoding="utf8"))]
+        self.assertEqual(named, [("README.md", "{}.{}".format(*older_pythons.LEAST))])
+
     def test_an_older_python(self):
-        for name in ("starter.py", "building.py"):
-            self.assertEqual(older_pythons.reading_faults(stand_ins.BIN / name), [])
-        for python in older_pythons.found():
+        for name in ("starter.py", "building.py", "library.py"):
+            for faults in (older_pythons.reading_faults, older_pythons.late_faults):
+                self.assertEqual(faults(stand_ins.BIN / name), [])
+        executable(self.top / "faked", f"""#!/bin/sh
+while [ "${{1#-}}" != "$1" ]; do shift; done
+exec {sys.executable} -c {shlex.quote(older_pythons.FAKED)} "$@"
+""")
+        for python in [*older_pythons.found(), self.top / "faked"]:
             (self.repository.tools / "python3").unlink(missing_ok=True)
             (self.repository.tools / "python3").symlink_to(python)
             for words in (ANY, ["-C", ".", *ANY], ["--version"]):
