@@ -77,7 +77,7 @@ class SceneBeside(Scene):
         self.actors, self.made, self.told = actors, [0 for _ in scripts], []
         self.entry, self.loaded, self.numbers = 0, [None], {}
         self.load_at = array("I", bytes(4 * self.width * self.height))
-        self.agreeing = {}
+        self.agreeing, self.by_chance = {}, 0
 
     @cached_property
     def stages(self):
@@ -145,7 +145,9 @@ class SceneBeside(Scene):
         return self.stages[load.who].words_at(place, load.made, load.phase)
 
     def fault_of_shot(self, picture):
-        """What is wrong with a picture that is taken here, if something is."""
+        """What is wrong with a picture that is taken here, if something is. `by_chance` is then how
+        many of its pixels might have shown another word."""
+        self.by_chance = 0
         start, right = len(header(self.width, self.height)), self.frame()
         if picture[:start] != right[:start] or len(picture) != len(right):
             return f"it is no picture of {self.width} by {self.height} pixels"
@@ -170,6 +172,7 @@ class SceneBeside(Scene):
         since, agreeing = self.agreeing.get(at, (0, None))
         if not number or since != number:
             agreeing = set(shown)
+        self.by_chance += len({shown[raw] for raw in agreeing}) > 1
         kept = {raw for raw in agreeing if shown[raw] == word}
         if not kept:
             is_later = word in shown.values()

@@ -1,4 +1,5 @@
 """What a run has left in a folder, file by file, against the rules in Python."""
+import errno
 import os
 import re
 from itertools import zip_longest
@@ -16,7 +17,10 @@ OF_RUNS = re.compile(r"(shot-[1-9][0-9]*|final)\.ppm|events-.*\.txt|(inner-)?jou
                      r"clip\.txt|capture\.ncap")
 BY_JOURNAL = re.compile(r"(shot-[0-9]+|final)\.ppm|events-.*\.txt|clip\.txt")
 MOST_SHOWN, MOST_SAID = 120, 400
+# More than any file has that is checked in reasonable time.
+MOST_BYTES = 1 << 30
 BY_TURNS = "each byte is that of the run by turns"
+ONE_WORD = "each pixel shows the one word that it may hold"
 
 
 class Report:
@@ -53,7 +57,10 @@ class Folder:
         return sorted(filter(OF_RUNS.fullmatch, os.listdir(self.path)))
 
     def read(self, name):
-        with open(self.path_of(name), "rb") as file:
+        path = self.path_of(name)
+        if os.path.getsize(path) > MOST_BYTES:
+            raise OSError(errno.EFBIG, f"over {MOST_BYTES} bytes, so it is not read", path)
+        with open(path, "rb") as file:
             return file.read()
 
 
@@ -118,6 +125,14 @@ def check_bytes(folder, report, right, what):
             report.judge(name, fault(folder.read(name), data), what)
 
 
+def told_of_shot(scene):
+    """What a right shot shows, and how much of it chance has decided."""
+    if not scene.by_chance:
+        return ONE_WORD
+    return f"by when a client drew, {scene.by_chance} of {scene.width * scene.height} pixels " \
+        f"show one of several words, and which one is not checked; of all others {ONE_WORD}"
+
+
 class Beside:
     """The check of a run on threads along its journal."""
 
@@ -142,7 +157,7 @@ class Beside:
         name = f"shot-{self.along.shots}.ppm"
         if text.startswith("shot ") and self.folder.has(name):
             fault = self.along.scene.fault_of_shot(self.folder.read(name))
-            self.judge(name, fault, "each pixel shows a word that it may hold")
+            self.judge(name, fault, told_of_shot(self.along.scene))
 
     def fault_of_journal(self, lines):
         progress = runs.Progress(len(lines))

@@ -12,13 +12,16 @@ from pathlib import Path
 import runs
 import shots_by_hand
 import stand_ins
+from expected import Setup
 from valid_cases import toml_text
-from verifying.checks import BY_TURNS
+from verifying.checks import BY_TURNS, ONE_WORD
 from verifying.made import MAKERS, Made, made_example, made_gen
 from verifying.planted import KINDS, OTHER
 
 FOLDERS = {"still": 10, "turns": 24, "run": 36, "clip": 40, "capture": 30, "nested": 8}
 LEAST, LEAST_OF_KIND, EACH = 200, 5, 4
+# For each run with one shot by hand, how many of its four pixels may show one of several words.
+CHANCES = (1, 1, 0, 0, 1, 2, 2, 2, 2, 0, 0, 1, 2)
 NO_RUN = """#!/bin/sh
 echo "nitpicker: $3: entry 3: not a run"
 exit 9
@@ -123,6 +126,22 @@ class VerifyTest(unittest.TestCase):
             self.assertEqual(status, 1 if wrong else 0, f"{shots}:\n{said}")
             number, _, fault = (wrong or "").partition(": ")
             self.assertIn(f"wrong: shot-{number[5:]}.ppm: {fault}" if wrong else "wrong 0", said)
+
+    def test_what_chance_decides(self):
+        """How much of a right shot is not checked, and less of a second one."""
+        plain = list(shots_by_hand.runs_of_one_shot())
+        pair = next(shots_by_hand.runs_of_two_shots())
+        self.assertEqual(len(plain), len(CHANCES))
+        for counts, (clients, user, journal, rows) in zip(
+                [*((count,) for count in CHANCES), (1, 0)], [*plain, pair]):
+            shots = next(shots for shots, wrong in rows.items() if not wrong)
+            setup = Setup(shots_by_hand.CONFIG, clients, user)
+            files = shots_by_hand.files_with(journal, shots.split(), "GGBB")
+            _, said = self.place.check(made_by_hand(setup, files))
+            for number, count in enumerate(counts, 1):
+                has = f"{count} of 4 pixels show one of several words" if count else ONE_WORD
+                told = [line for line in said.split("\n") if f": shot-{number}.ppm: " in line]
+                self.assertIn(has, told[0], said)
 
     def test_large_screens(self):
         counts = {kind.__name__: 0 for kind in KINDS}
