@@ -8,9 +8,11 @@ from expected import generated, outputs_by_turns, outputs_in, setup_of, still_se
 from page.pixels import Scene as FastScene
 from page.png import part_of
 from page.sources import read_sources
+from page.test_rules import read_png
 from pictures import read_picture
-from screen import Scene
+from screen import Scene, header
 from valid_cases import Case, still_case, valid_case
+from verifying import sources
 
 random_cases = runs.tool("clips-and-nests")
 TILE = 16
@@ -114,6 +116,30 @@ def made_example(rng, folder, config):
     files = read_sources(here, words)
     setup = setup_of(Case("example", words, files))
     return made_beside(rng, words, files, setup, FastScene(setup.config))
+
+
+def made_page(folder, words, shown):
+    """A run of an example, by turns, which threads may bring about too. Of some pictures a page of
+    the documents has an enlarged one, which is taken in place of the picture by the rules."""
+    files = read_sources(runs.TOP / "examples" / folder, words)
+    run = sources.Run(words, files)
+    puts = outputs_by_turns(run.setup, FastScene(run.setup.config))
+    if run.inner:
+        puts["inner-journal.txt"] = run.inner["journal.txt"]
+    screen = run.setup.config["screen"]
+    for name, picture in shown.items():
+        pixels = read_png((runs.TOP / "docs" / picture).read_bytes())
+        puts[name] = shrunk(pixels, screen["width"], screen["height"])
+    return Made(words, files, puts)
+
+
+def shrunk(pixels, width, height):
+    """A picture of this size, by one pixel of each square of an enlarged one."""
+    scale = round((len(pixels) // (3 * width * height)) ** 0.5)
+    across = 3 * scale * width
+    kept = (pixels[at : at + 3] for row in range(0, scale * height, scale)
+            for at in range(row * across, (row + 1) * across, 3 * scale))
+    return header(width, height) + b"".join(kept)
 
 
 def made_gen(rng):

@@ -15,13 +15,21 @@ import stand_ins
 from expected import Setup
 from valid_cases import toml_text
 from verifying.checks import BY_TURNS, ONE_WORD
-from verifying.made import MAKERS, Made, made_example, made_gen
+from verifying.made import MAKERS, Made, made_example, made_gen, made_page
 from verifying.planted import KINDS, OTHER
 
 FOLDERS = {"still": 10, "turns": 24, "run": 36, "clip": 40, "capture": 30, "nested": 8}
 LEAST, LEAST_OF_KIND, EACH = 200, 5, 4
 # For each run with one shot by hand, how many of its four pixels may show one of several words.
 CHANCES = (1, 1, 0, 0, 1, 2, 2, 2, 2, 0, 0, 1, 2)
+# The folder of an example, its words, and which pictures the pages of the documents show.
+PAGES = {
+    ("windows", "turns", "windows.toml"): {"shot-1.ppm": "windows.png"},
+    ("phishing", "turns", "phishing.toml"): {"shot-1.ppm": "phishing-flat.png",
+                                             "shot-3.ppm": "phishing.png"},
+    ("nested", "nested", "outer.toml", "inner.toml"): {"shot-1.ppm": "nested-flat.png",
+                                                       "final.ppm": "nested.png"},
+}
 NO_RUN = """#!/bin/sh
 echo "nitpicker: $3: entry 3: not a run"
 exit 9
@@ -153,6 +161,11 @@ class VerifyTest(unittest.TestCase):
             for name, plant in plants(rng, made, counts):
                 counts[name] += 1
                 self.wrong(made, plant, f"{folder}, {name}")
+
+    def test_pictures_of_the_pages(self):
+        """Folders whose pictures are those that the documents show."""
+        for (folder, *words), shown in PAGES.items():
+            self.right(made_page(folder, words, shown), folder)
 
     def test_a_generated_run(self):
         """All but three files are right."""
