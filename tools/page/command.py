@@ -1,16 +1,8 @@
 """The words of tools/show."""
 import argparse
-import os
-import re
-import sys
-import tempfile
-from pathlib import Path
 
 import runs
 import usage
-from page import browser, build
-from page.commands import Command
-from page.sources import Fault
 
 USAGE = """tools/show [-C FOLDER] [--out FILE] [--picture FILE] [--program PATH] COMMAND WORDS..
        tools/show --selftest [--program PATH]"""
@@ -50,47 +42,13 @@ def reader():
     return made
 
 
-def page_file(given):
-    """Where the page goes."""
-    if given.out:
-        return Path(given.out)
-    name = re.sub("[^A-Za-z0-9.-]", "_", "-".join(Path(word).name for word in given.words))[:80]
-    return Path(tempfile.mkdtemp(prefix="nitpicker-show-")) / f"{name}.html"
-
-
-def look_ahead(given):
-    """Refuses what could not be left in the end."""
-    if given.picture and browser.program() is None:
-        raise Fault("chromium is not here, so there is no picture of the page")
-    for name in filter(None, (given.out, given.picture)):
-        if not os.access(Path(name).absolute().parent, os.W_OK):
-            raise Fault(f"{name}: no file can be put there")
-
-
-def picture_of(page, run, path):
-    """Writes the upper part of the page as a browser shows it."""
-    with browser.Browser() as shown:
-        shown.look(1180, 1000)
-        shown.open(page, f"#{run.entry_of(run.pictures[0][1])}" if run.pictures else "")
-        shown.wait("document.querySelector('#canvas').dataset.step")
-        shown.picture(path)
-
-
 def main(words):
     given = reader().parse_intermixed_args(words)
     if given.selftest:
         from page.selftest import selftest
         return selftest(given.program)
-    try:
-        look_ahead(given)
-        shown = Command(given.program, given.folder, given.words).runs()
-        page = build.page_of(shown).encode()
-        target = page_file(given)
-        target.write_bytes(page)
-        if given.picture:
-            picture_of(target, shown[0], Path(given.picture))
-    except (Fault, OSError) as why:
-        print(f"tools/show: {why}", file=sys.stderr)
-        return 1
-    print(f"tools/show: {target}: {len(page)} bytes")
-    return 0
+    if usage.fault_of(given.words):
+        raise runs.WrongWords(usage.hint(given.words))
+    # It imports much, for which a slip of the fingers does not wait.
+    from page.making import make
+    return make(given)

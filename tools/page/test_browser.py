@@ -7,8 +7,8 @@ import runs
 import screen
 from page import test_runs
 from page.browser_case import LOOKS, ROWS, SEEN, PageCase
-from page.command import picture_of
 from page.frames import EACH_WHOLE
+from page.making import picture_of
 from page.png import size_of
 from page.replay import value_at
 from page.sources import read_sources

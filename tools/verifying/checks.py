@@ -20,7 +20,7 @@ MOST_SHOWN, MOST_SAID = 120, 400
 # More than any file has that is checked in reasonable time.
 MOST_BYTES = 1 << 30
 BY_TURNS = "each byte is that of the run by turns"
-ONE_WORD = "each pixel shows the one word that it may hold"
+ONE_WORD = "shows the one word that it may hold"
 
 
 class Report:
@@ -128,9 +128,10 @@ def check_bytes(folder, report, right, what):
 def told_of_shot(scene):
     """What a right shot shows, and how much of it chance has decided."""
     if not scene.by_chance:
-        return ONE_WORD
-    return f"by when a client drew, {scene.by_chance} of {scene.width * scene.height} pixels " \
-        f"show one of several words, and which one is not checked; of all others {ONE_WORD}"
+        return f"each pixel {ONE_WORD}"
+    return f"{scene.by_chance} of {scene.width * scene.height} pixels show one of several words " \
+        "that they may hold, by when a client drew, and which one is not checked; each other " \
+        f"pixel {ONE_WORD}"
 
 
 class Beside:

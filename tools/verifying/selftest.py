@@ -147,7 +147,7 @@ class VerifyTest(unittest.TestCase):
             files = shots_by_hand.files_with(journal, shots.split(), "GGBB")
             _, said = self.place.check(made_by_hand(setup, files))
             for number, count in enumerate(counts, 1):
-                has = f"{count} of 4 pixels show one of several words" if count else ONE_WORD
+                has = f": {count} of 4 pixels show one of" if count else f": each pixel {ONE_WORD}"
                 told = [line for line in said.split("\n") if f": shot-{number}.ppm: " in line]
                 self.assertIn(has, told[0], said)
 
