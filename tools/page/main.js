@@ -107,13 +107,20 @@ function stops(run) {
   });
 }
 
+// What else goes along the run while the focus is on the line of time, as on any slider. Elsewhere
+// these keys scroll the page.
+function placesOfLine(at, far) {
+  return { ArrowUp: at + far, ArrowDown: at - far, PageUp: at + 10, PageDown: at - 10 };
+}
+
 // The keys go along the run, but where the focus is in a part that scrolls, they scroll it.
 function onKey(event) {
   if (event.altKey || event.ctrlKey || event.metaKey) return;
   if (event.target instanceof Element && event.target.closest(".scrolled")) return;
   const { at, steps } = page.run;
   const far = event.shiftKey ? 10 : 1;
-  const places = { ArrowLeft: at - far, ArrowRight: at + far, Home: 0, End: steps.length };
+  const places = { ArrowLeft: at - far, ArrowRight: at + far, Home: 0, End: steps.length,
+    ...(event.target === byId("line") ? placesOfLine(at, far) : {}) };
   if (!(event.key in places)) return;
   event.preventDefault();
   page.stop();

@@ -53,6 +53,16 @@ class AccessTest(PageCase):
             self.browser.press("ArrowLeft")
             self.assertEqual(self.text("#place"), place)
 
+    def test_the_line_of_time_is_a_slider(self):
+        [run] = self.open("desk", place="#9")
+        count = len(run.replay.steps)
+        for selector, places in (("#line", (10, 9, 19, 9)), ("#play", (9, 9, 9, 9))):
+            self.focus(selector)
+            for key, place in zip(("ArrowUp", "ArrowDown", "PageUp", "PageDown"), places):
+                self.browser.press(key)
+                self.assertEqual(self.text("#place"), f"Entry {place} of {count}", key)
+        self.check_quiet()
+
     def test_each_list_that_scrolls_takes_the_focus_and_has_a_name(self):
         self.open("kill")
         lists = "#refused, #pictures ol, #clients pre"
