@@ -24,6 +24,19 @@ OVER_PROGRAM = {
     "run-examples": [PROGRAM], "selftest": ["--program", PROGRAM, "fuzz"],
     "show": ["-C", str(runs.TOP / "examples" / "two"), "--program", PROGRAM, "turns", "two.toml"],
 }
+# Words that a tool refuses before it builds bin/nitpicker, which STARTER stands for.
+STARTER = str(runs.TOP / "bin" / "nitpicker")
+WRONG = {
+    "bench": [[], ["--only", "no such row", STARTER], [STARTER] * 3],
+    "beside": [[STARTER, "no-such-row"]], "broken": [[STARTER] * 2],
+    "clips-and-nests": [["--runs", "0"], ["--seed", "x"], [STARTER] * 2],
+    "disk": [[STARTER, "no-such-row"]], "explain": [["--compare", "x"]],
+    "floods": [[STARTER, "no-such-row"]], "fuzz": [["--runs", "0"], [STARTER] * 2],
+    "refuse-memory": [[STARTER, "no-such-row"]], "refuse-threads": [[STARTER] * 2],
+    "run-examples": [[STARTER, "no-such-example"]], "selftest": [["no-such-tool"]],
+    "show": [[], ["foo"], ["turns"]], "test-starter": [["NoSuchCase"]],
+    "verify": [["--program", STARTER], ["--program", STARTER, "turns", "none.toml", "."]],
+}
 ALONE = {"believe": [], "claims": [], "json-lines": ["-"], "release": ["--selftest"],
          "test-starter": ["Words"], "verify": ["--selftest"]}
 
@@ -114,6 +127,20 @@ def faults_of_failed_build(kit, tool):
     ended = kit.run(tool, top / "bin" / "nitpicker")
     if (ended.returncode, ended.stdout, ended.stderr) != (1, "", "no build\n"):
         yield f"tools/{tool}: after a failed build status {ended.returncode}, said {ended.stderr}"
+
+
+def faults_of_wrong_words(kit, tool, unknown):
+    """That words which a tool does not know have status 2, at once, and ask for no build."""
+    log = kit.top / f"asked-{tool}"
+    folder = kit.top / f"path-{tool}"
+    folder.mkdir()
+    stand_ins.executable(folder / "rt", f"#!/bin/sh\necho asked >>{log}\nexit 1\n")
+    path = f"{folder}:{os.environ['PATH']}"
+    for words in [[unknown], *WRONG.get(tool, [])]:
+        before = spent()
+        yield from kit.faults(tool, words, 2, PATH=path)
+        if log.exists() or spent() - before > QUICK:
+            yield f"tools/{tool} {words}: a build is begun, or it takes over {QUICK} s"
 
 
 def interrupt_faults(kit, tool):
