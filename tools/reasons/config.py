@@ -88,7 +88,8 @@ def parts_of(top):
             parts.append(Part(f"`[{name}]`", value, keys))
     for number, item in enumerate(elements(top), 1):
         label = item.get("label")
-        known = f" ({shown(label.data[:20])})" if label and label.kind == "a string" else ""
+        is_told = label and label.kind == "a string" and label.data
+        known = f" ({shown(label.data[:20])})" if is_told else ""
         parts.append(Part(f"client {number}{known}", item, CLIENT))
     return parts
 
@@ -223,7 +224,14 @@ def bad_labels(parts):
             "is empty" if not label.data else f"has {len(label.data)} characters"
         if odd is not None or not 1 <= len(label.data) <= 20:
             yield "label", Fault(label.at, label.end, f"the label of {part.name} {what}",
-                                 f"a label is {CLIENT['label'][2]}")
+                                 f"{near_label(label.data)}a label is {CLIENT['label'][2]}")
+
+
+def near_label(text):
+    """What a label may have been meant to be, in front of the rule, where it is not far."""
+    near = "".join(letter if letter in LETTERS else "-" for letter in text.lower())
+    is_far = len(near) > 20 or sum(letter not in LETTERS for letter in text.lower()) > 3
+    return "" if is_far or not near.strip("-") else f'perhaps `"{near}"`: '
 
 
 def twins(parts):

@@ -15,7 +15,7 @@ from .faults import Fault
 MOST = 999999999
 NUMBERS = {
     "NAT": (0, MOST), "INT": (-MOST, MOST), "CODE": (0, 767), "AT": (0, 65535),
-    "STEPS": (-127, 127), "SESSION": (0, 15), "SHOT": (1, 65536),
+    "TURN": (-127, 127), "SESSION": (0, 15), "SHOT": (1, 65536),
 }
 AREA = ("NAT x", "NAT y", "NAT width", "NAT height")
 RECT = ("INT x", "INT y", "NAT width", "NAT height")
@@ -37,7 +37,7 @@ CALLS = {
 STROKES = {"fill": (*AREA, "COLOUR colour"),
            "check": (*AREA, "COLOUR colour", "COLOUR second colour")}
 DEVICES = {"press": ("CODE code",), "release": ("CODE code",), "motion": ("AT x", "AT y"),
-           "wheel": ("STEPS steps",)}
+           "wheel": ("TURN turn",)}
 PHASE = {"phase": ()}
 CLIENT = CALLS | STROKES | PHASE
 INPUT = DEVICES | {"shot": ()} | PHASE
@@ -51,7 +51,7 @@ REPLIES = {
 }
 ENTRIES = ("call", "input", "shot", "final")
 EXAMPLES = {
-    "NAT": "4", "INT": "-2", "CODE": "30", "AT": "10", "STEPS": "-1", "COLOUR": "FF0000",
+    "NAT": "4", "INT": "-2", "CODE": "30", "AT": "10", "TURN": "-1", "COLOUR": "FF0000",
     "TEXT": "=hello", "SESSION": "0", "SHOT": "1", "EVENT": "leave",
 }
 SPELLED = {
