@@ -4,7 +4,8 @@ Crates that do not stand on each other are built side by side. One `rt` at a tim
 and in those below it, so each has a lane: a copy of the sources, into which the libraries below the
 crate are linked, and from which what was built of it is moved to its place. Last, `rt run` looks at
 all of it, proves and links the program, and builds what it finds lacking. Without words it builds
-alone. Words with which nothing would run are refused as the program does it, and nothing is built.
+alone. Words and files with which nothing would run are refused as the program does it, and nothing
+is built.
 """
 import interpreter  # first: it looks at the Python
 import contextlib
@@ -190,16 +191,30 @@ def build_all(toolchain, commands):
     say(f"proved and built in {since(begun)}")
 
 
+def refusal_of_files(words):
+    """The status with which the program would refuse a file, and its line, by the reading of
+    tools/explain, or none."""
+    name = usage.unreadable(words)
+    if name is not None:
+        return 3, f"{name}: read fault"
+    if not (TOP / "tools" / "reasons").is_dir():
+        return None
+    # It reads much, for which a slip of the fingers does not wait.
+    sys.path.append(str(TOP / "tools"))
+    from reasons.commands import refusal_of
+    verdict = refusal_of(words)
+    return (verdict.status, verdict.line) if verdict else None
+
+
 def refused(words):
     """The status of words with which nothing would run, said as the program says it, or none."""
     if usage.fault_of(words):
         return refuse_words(words)
-    name = usage.unreadable(words)
-    if name is None:
-        return None
-    tell(f"nitpicker: {name}: read fault\n")
-    say("nothing is built for that; tools/explain before the same words says more")
-    return 3
+    status, line = refusal_of_files(words) or (None, "")
+    if status is not None:
+        tell(f"nitpicker: {line}\n")
+        say("nothing is built for that; tools/explain before the same words says more")
+    return status
 
 
 def main(words):

@@ -108,6 +108,7 @@ def try_show(kit):
             (["trun", "two.toml"], 2, "perhaps `run` or `turns`"), ([], 2, "usage: tools/show"),
             (["turns"], 2, "takes 1 word, and none is given"), (["still", "0", "4", "a"], 2, "W"),
             (["turns", "none.toml"], 1, "none.toml: it cannot be read; tools/explain turns"),
+            (["turns", "two.in"], 1, "would end with status 5: two.in: bad configuration: syntax"),
             (["--out", "/none/x.html", "turns", "two.toml"], 1, "no file can be put there")):
         yield from faults_at_once(kit, "show", ([*with_it, *words], status, has), folder)
     if log.exists():

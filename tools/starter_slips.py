@@ -2,6 +2,7 @@
 import os
 import re
 import shlex
+import shutil
 import signal
 import subprocess
 import sys
@@ -32,6 +33,25 @@ GUESSES = (
     (["still", "0", "4", "a"], "`0` stands where W is to stand in `still W H SCRIPT`; a number "
      "from 1 to 1024"),
     (["--out", "made", "gen", "07"], "`07` stands where N is to stand in `gen N`"),
+)
+
+
+# Files of a scene, and what is refused of them before anything is run.
+SCENE = "[screen]\nwidth = 8\nheight = 8\n[input]\nscript = 'u.in'\n[[client]]\nlabel = 'a'\n" \
+    "donation = 256\nscript = '{}'\n"
+FILES = {"scene.toml": SCENE.format("a.nit"), "bad.toml": SCENE.format("bad.nit"),
+         "none.toml": SCENE.format("none.nit"), "small.toml": SCENE.replace("256", "255"),
+         "a.nit": "view\n", "bad.nit": "view\nbufer 1 1\n", "u.in": "shot\n"}
+REFUSED = (
+    (["turns", "small.toml"], 5, "small.toml: bad configuration: range"),
+    (["run", "u.in"], 5, "u.in: bad configuration: syntax"),
+    (["turns", "bad.toml"], 6, "bad.nit: line 2: bad script"),
+    (["audit", "none.toml", "u.in"], 3, "none.nit: read fault"),
+    (["clip", "scene.toml"], 3, "a.nit.clip: read fault"),
+    (["capture", "scene.toml", "0", "0", "9", "1"], 10, "capture outside"),
+    (["still", "8", "8", "bad.nit"], 6, "bad.nit: line 2: bad script"),
+    (["nested", "scene.toml", "scene.toml"], 6, "a.nit: phases differ"),
+    (["--out", "made", "nested", "scene.toml", "bad.toml"], 6, "bad.nit: line 2: bad script"),
 )
 
 
@@ -114,6 +134,26 @@ class Slips(Case):
             self.assertEqual((ended.returncode, ended.stdout.decode()),
                              (3, f"nitpicker: {name}: read fault\n"))
             self.assertIn("nothing is built for that", self.said(ended))
+
+    def test_a_file_that_is_refused(self):
+        """By the reading of tools/explain, which the small repository has here."""
+        shutil.copytree(TOP / "tools", self.repository.folder / "tools",
+                        ignore=shutil.ignore_patterns("__pycache__"))
+        for name, text in FILES.items():
+            self.repository.write(name, text)
+        for words, status, line in REFUSED:
+            ended = self.quick(*words)
+            self.assertEqual((ended.returncode, ended.stdout.decode()),
+                             (status, f"nitpicker: {line}\n"), words)
+            self.assertIn("nothing is built for that", self.said(ended))
+        os.mkfifo(self.repository.folder / "pipe")
+        writer = subprocess.Popen(["sh", "-c", "exec cat scene.toml >pipe"],
+                                  cwd=self.repository.folder)
+        self.addCleanup(writer.wait)
+        self.addCleanup(writer.kill)
+        for words in (["turns", "scene.toml"], ["turns", "pipe"]):
+            self.assertEqual(self.run_it(*words).returncode, 7, words)
+        self.assertIsNone(writer.poll())
 
     def test_standard_output_that_is_closed(self):
         for words in ([], ["turns"], ["turns", "none"]):

@@ -9,6 +9,7 @@ from page.png import size_of
 from page.replay import Step, journal_lines
 from page.run import Run
 from page.sources import Fault, read_sources, run_apart, setup_of
+from reasons.commands import refusal_of
 from shown import shown
 
 EXPLAINED = (3, 5, 6, 8)
@@ -38,13 +39,21 @@ class Command:
         outcome = run_apart(self.program, words, self.files)
         if outcome.status not in statuses:
             said = outcome.said.decode("utf-8", "replace").strip()
-            why = f"; {explaining(self.folder, words)} says why"
-            raise Fault(f"the program ends with status {outcome.status}: {said}"
-                        f"{why if outcome.status in EXPLAINED else ''}")
+            raise self.fault(words, f"ends with status {outcome.status}: {said}", outcome.status)
         return outcome
 
+    def fault(self, words, how, status):
+        """Why there is no page where the program ends so."""
+        why = f"; {explaining(self.folder, words)} says why" if status in EXPLAINED else ""
+        return Fault(f"the program {how}{why}")
+
     def runs(self):
-        """What the page shows: a run, and for `nested` the inner one behind it."""
+        """What the page shows: a run, and for `nested` the inner one behind it. Where a file would
+        be refused, no program is built."""
+        refused = refusal_of(self.words, self.folder)
+        if refused:
+            how = f"would end with status {refused.status}: {shown(refused.line)}"
+            raise self.fault(self.words, how, refused.status)
         self.program = runs.program_at(self.program)
         return getattr(self, self.words[0])()
 

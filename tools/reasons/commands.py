@@ -1,4 +1,6 @@
 """What the program would say to the words of a command line, and why. Nothing is run or put."""
+import os
+
 import usage
 from expected import Setup, outputs_by_turns
 from screen import header
@@ -64,11 +66,60 @@ def puts_of(setup):
     return [*shots, "final.ppm", *texts, "journal.txt"]
 
 
+# What each command reads before anything is run.
+
+
+def read_still(folder, _width, _height, name):
+    return scripts.read_script(name, folder.read(name, scripts.MOST_BYTES), "client")
+
+
+def read_clip(folder, name):
+    setup = read_setup(folder, name)
+    count = setup.clients[0].count("phase")
+    for script_name in setup.names[:-1]:
+        clip = f"{script_name}.clip"
+        about = "`clip` reads a clip script beside each client's script, here " \
+            f"{shown(clip)} for {shown(script_name)}, with as many lines `phase`"
+        data = folder.read(clip, scripts.MOST_BYTES, about=about)
+        lines = scripts.read_script(clip, data, "clip")
+        check_phases(folder, setup.names, (clip, lines), count)
+    return setup
+
+
+def read_capture(folder, name, *region):
+    setup = read_setup(folder, name)
+    x, y, width, height = map(int, region)
+    screen = setup.config["screen"]
+    across, down = screen["width"], screen["height"]
+    what = None
+    if not width or not height:
+        what = "the region has no pixels"
+    elif x + width > across or y + height > down:
+        what = f"the region ends at column {x + width} and row {y + height}, and the screen has " \
+            f"{across} and {down}"
+    if what:
+        right = f"X + W is at most {across}, Y + H at most {down}, W and H at least 1"
+        raise Refused(10, "capture outside", Note("the words", what, right,
+                                                  "docs/FORMATS.md, What the program says"))
+    return setup
+
+
+def read_nested(folder, outer_name, inner_name):
+    """The setups of both, and how many frames the inner run has."""
+    outer = read_setup(folder, outer_name, scripts.nested_line, has_phases=False)
+    inner = read_setup(folder, inner_name)
+    frames = inner.user.count("shot") + 1
+    for name, script in zip(outer.names, [*outer.clients, outer.user]):
+        check_phases(folder, outer.names, (name, script), frames - 1,
+                     f"{shown(inner_name)} has {frames} frames, which takes")
+    return outer, inner, frames
+
+
 # The commands. Each answers the verdict of status 0.
 
 
 def do_still(folder, width, height, name):
-    script = scripts.read_script(name, folder.read(name, scripts.MOST_BYTES), "client")
+    script = read_still(folder, width, height, name)
     folder.check_puts(["final.ppm"])
     screen = {"width": int(width), "height": int(height)}
     client = {"label": "still", "donation": 8388608}
@@ -110,43 +161,15 @@ def do_audit(folder, name, journal_name):
 
 
 def do_clip(folder, name):
-    setup = read_setup(folder, name)
-    count = setup.clients[0].count("phase")
-    for script_name in setup.names[:-1]:
-        clip = f"{script_name}.clip"
-        about = "`clip` reads a clip script beside each client's script, here " \
-            f"{shown(clip)} for {shown(script_name)}, with as many lines `phase`"
-        data = folder.read(clip, scripts.MOST_BYTES, about=about)
-        lines = scripts.read_script(clip, data, "clip")
-        check_phases(folder, setup.names, (clip, lines), count)
-    return on_threads(folder, setup, ["clip.txt"])
+    return on_threads(folder, read_clip(folder, name), ["clip.txt"])
 
 
 def do_capture(folder, name, *region):
-    setup = read_setup(folder, name)
-    x, y, width, height = map(int, region)
-    screen = setup.config["screen"]
-    across, down = screen["width"], screen["height"]
-    what = None
-    if not width or not height:
-        what = "the region has no pixels"
-    elif x + width > across or y + height > down:
-        what = f"the region ends at column {x + width} and row {y + height}, and the screen has " \
-            f"{across} and {down}"
-    if what:
-        right = f"X + W is at most {across}, Y + H at most {down}, W and H at least 1"
-        raise Refused(10, "capture outside", Note("the words", what, right,
-                                                  "docs/FORMATS.md, What the program says"))
-    return on_threads(folder, setup, ["capture.ncap"])
+    return on_threads(folder, read_capture(folder, name, *region), ["capture.ncap"])
 
 
 def do_nested(folder, outer_name, inner_name):
-    outer = read_setup(folder, outer_name, scripts.nested_line, has_phases=False)
-    inner = read_setup(folder, inner_name)
-    frames = inner.user.count("shot") + 1
-    for name, script in zip(outer.names, [*outer.clients, outer.user]):
-        check_phases(folder, outer.names, (name, script), frames - 1,
-                     f"{shown(inner_name)} has {frames} frames, which takes")
+    outer, inner, frames = read_nested(folder, outer_name, inner_name)
     drawn = 1 + sum(map(frame_lines, frames_of(inner)))
     if drawn + len(outer.clients[0]) > scripts.MOST_LINES:
         raise Refused(11, f"{inner_name}: inner frames too long", Note(
@@ -178,6 +201,9 @@ def frame_lines(rows):
 
 DO = {"still": do_still, "turns": do_turns, "run": do_run, "gen": do_gen, "audit": do_audit,
       "clip": do_clip, "capture": do_capture, "nested": do_nested}
+READ = {"still": read_still, "turns": read_setup, "run": read_setup, "clip": read_clip,
+        "audit": lambda folder, name, _: read_setup(folder, name), "capture": read_capture,
+        "nested": read_nested}
 
 
 def verdict_of(words, path=".", out=None):
@@ -190,3 +216,30 @@ def verdict_of(words, path=".", out=None):
         return DO[words[0]](folder, *words[1:])
     except Refused as refused:
         return refused.verdict
+
+
+class Pipe(Exception):
+    """A file that can be read once."""
+
+
+class Unread(Folder):
+    """A folder whose files are read again later."""
+
+    def read(self, name, *more, **about):
+        path = os.path.join(self.path, name)
+        if os.path.exists(path) and not os.path.isfile(path) and not os.path.isdir(path):
+            raise Pipe
+        return super().read(name, *more, **about)
+
+
+def refusal_of(words, path="."):
+    """How the program would end with these words of a command in the folder of this path, where it
+    would refuse a file before anything is run, or none."""
+    try:
+        if words[0] in READ:
+            READ[words[0]](Unread(path), *words[1:])
+    except Pipe:
+        return None
+    except Refused as refused:
+        return refused.verdict
+    return None
