@@ -47,6 +47,8 @@ REFUSED = (
     (["run", "u.in"], 5, "u.in: bad configuration: syntax"),
     (["turns", "bad.toml"], 6, "bad.nit: line 2: bad script"),
     (["audit", "none.toml", "u.in"], 3, "none.nit: read fault"),
+    (["audit", "scene.toml", "none"], 3, "none: read fault"),
+    (["audit", "scene.toml", "u.in"], 8, "u.in: line 1: bad journal"),
     (["clip", "scene.toml"], 3, "a.nit.clip: read fault"),
     (["capture", "scene.toml", "0", "0", "9", "1"], 10, "capture outside"),
     (["still", "8", "8", "bad.nit"], 6, "bad.nit: line 2: bad script"),

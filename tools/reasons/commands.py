@@ -73,6 +73,13 @@ def read_still(folder, _width, _height, name):
     return scripts.read_script(name, folder.read(name, scripts.MOST_BYTES), "client")
 
 
+def read_audit(folder, name, journal_name):
+    """The setup, and the entries of the journal."""
+    setup = read_setup(folder, name)
+    data = folder.read(journal_name, journal.MOST_BYTES)
+    return setup, journal.read_journal(journal_name, data)
+
+
 def read_clip(folder, name):
     setup = read_setup(folder, name)
     count = setup.clients[0].count("phase")
@@ -154,8 +161,7 @@ def do_gen(folder, _number):
 
 
 def do_audit(folder, name, journal_name):
-    setup = read_setup(folder, name)
-    entries = journal.read_journal(journal_name, folder.read(journal_name, journal.MOST_BYTES))
+    setup, entries = read_audit(folder, name, journal_name)
     journal.judge(journal_name, entries, setup)
     return Verdict(0, f"audit yes entries {len(entries)}")
 
@@ -201,9 +207,8 @@ def frame_lines(rows):
 
 DO = {"still": do_still, "turns": do_turns, "run": do_run, "gen": do_gen, "audit": do_audit,
       "clip": do_clip, "capture": do_capture, "nested": do_nested}
-READ = {"still": read_still, "turns": read_setup, "run": read_setup, "clip": read_clip,
-        "audit": lambda folder, name, _: read_setup(folder, name), "capture": read_capture,
-        "nested": read_nested}
+READ = {"still": read_still, "turns": read_setup, "run": read_setup, "audit": read_audit,
+        "clip": read_clip, "capture": read_capture, "nested": read_nested}
 
 
 def verdict_of(words, path=".", out=None):
