@@ -86,6 +86,9 @@ def try_png(kit):
     left = {path.name: path.read_bytes() for path in folder.glob("*.png")}
     yield from faults_of_png("png", left, {"shot-1.png": right["shot-1.png"]})
     yield from kit.faults("png", [folder / "absent.ppm"], 2, "absent.ppm: No such file")
+    (folder / "\u00fc.ppm").write_bytes(header(1, 1) + RED)
+    yield from kit.faults("png", ["--out", folder / "ascii", folder / "\u00fc.ppm"], 0,
+                          "\\xfc.png: 1 by 1", PYTHONIOENCODING="ascii")
     yield from kit.faults("png", ["--scale", "0", folder / "shot-1.ppm"], 2, "from 1 to 64")
     large = ["--out", folder / "large", "--scale", "2", folder / "shot-1.ppm"]
     yield from kit.faults("png", large, 0)

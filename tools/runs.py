@@ -41,10 +41,12 @@ def on_interrupt(one, other):
 
 
 def open_streams():
-    """Where a standard stream is closed, what is said there is lost."""
+    """Where a standard stream is closed, what is said there is lost, and a character that one
+    cannot have is an escape there."""
     for name in ("stdout", "stderr"):
         if getattr(sys, name) is None:
             setattr(sys, name, open(os.devnull, "w", encoding="utf8"))
+        getattr(sys, name).reconfigure(errors="backslashreplace")
 
 
 def status_of(main, about):
