@@ -94,6 +94,7 @@ fn no_state() -> NitState
 fn state_of(host: &Host) -> NitState
     ensures { result ≡ c_state host.now }
 {
+    let desktop = host.desktop();
     let (width, height) = host.size();
     let (x, y) = host.pointer();
     NitState {
@@ -101,12 +102,12 @@ fn state_of(host: &Host) -> NitState
         width,
         height,
         seats: host.seats(),
-        mode: mode_number(host.mode()),
-        focus: number_or_none(host.focus()),
-        hover: number_or_none(host.hover()),
+        mode: mode_number(desktop.mode()),
+        focus: number_or_none(desktop.focus()),
+        hover: number_or_none(desktop.hover()),
         x: u32::from(x),
         y: u32::from(y),
-        receiver: number_or_none(host.receiver()),
+        receiver: number_or_none(desktop.receiver()),
     }
 }
 
@@ -132,8 +133,8 @@ fn seat_state_of(host: &Host, seat: u32) -> NitSeatState
     }
     NitSeatState {
         status: status_number(host.status(seat)),
-        waiting: host.waiting(seat),
-        lost: host.lost(seat),
+        waiting: host.desktop().waiting(seat),
+        lost: host.desktop().lost(seat),
         ..no_seat_state(DONE)
     }
 }
@@ -159,11 +160,11 @@ fn account_of(host: &Host, seat: u32) -> NitAccount
     if host.seats() <= seat {
         return no_account(NO_SEAT);
     }
-    let (donation, reserve) = host.units(seat);
+    let (donation, reserve) = host.desktop().units(seat);
     let (width, height) = host.buffer(seat);
     NitAccount {
         kind: DONE,
-        layer: host.layer(seat),
+        layer: host.desktop().layer(seat),
         donation,
         reserve,
         width,

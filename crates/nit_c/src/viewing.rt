@@ -74,8 +74,9 @@ fn view_of(view: &View) -> NitViewState
 fn view_at(host: &Host, place: u32) -> NitViewState
     ensures { result ≡ c_view_of (slice_get host.now.state.stack place) }
 {
-    if place < host.views() {
-        view_of(&host.view(place))
+    let desktop = host.desktop();
+    if place < desktop.views() {
+        view_of(&desktop.view(place))
     } else {
         no_view(NO_SUCH_VIEW)
     }
@@ -95,8 +96,9 @@ fn view_or_none(view: Option<View>) -> NitViewState
 fn put_title(host: &Host, place: u32, out: &mut [u8]) -> usize
     ensures { IsLine (view_title host.now place) out.old out.new result }
 {
-    if place < host.views() {
-        put(host.view(place).title.as_bytes(), out)
+    let desktop = host.desktop();
+    if place < desktop.views() {
+        put(desktop.view(place).title.as_bytes(), out)
     } else {
         put(&[], out)
     }

@@ -1,4 +1,4 @@
--- What stands on the screen, and whose it is.
+-- Whose a pixel of the screen is.
 use Rattle.std.specs.Prelude.{ℕ, ◌&&◌, nat_lt, Option, None, if◌then◌else◌}
 use Rattle.nit_host.specs.Below.{State, View, owner_of, point}
 

@@ -6,10 +6,18 @@ ghost use Rattle.nit_host.specs.Terms.{IsFreeLabel, has_label, is_taken, member,
 ghost use Rattle.nit_host.specs.Terms.{seats_of, session, sheet_in, unseated};
 
 use crate::host::Host;
-use nit_events::{Mode, Status};
+use nit_desktop::Desktop;
+use nit_events::Status;
 use nit_glyph::Label;
 
 impl Host {
+    /// The server and its screen, to be read: its sessions are the seats.
+    pub fn desktop(&self) -> &Desktop
+        ensures { result.now.state ≡ self.now.state }
+    {
+        &self.desktop
+    }
+
     /// How many seats there are, 1..=16. They are counted from 0.
     pub fn seats(&self) -> u32
         ensures { result ≡ length self.now.state.sessions }
@@ -37,39 +45,6 @@ impl Host {
         ensures { result ≡ (session self.now.state seat).status }
     {
         self.desktop.status(seat)
-    }
-
-    /// How many events wait for a seat's client, at most 64.
-    pub fn waiting(&self, seat: u32) -> u32
-        requires { seat < length self.now.state.sessions }
-        ensures { result ≡ length (session self.now.state seat).queue }
-    {
-        self.desktop.waiting(seat)
-    }
-
-    /// How many events a seat's client has lost since it came, since 64 were waiting.
-    pub fn lost(&self, seat: u32) -> u64
-        requires { seat < length self.now.state.sessions }
-        ensures { result ≡ (session self.now.state seat).lost }
-    {
-        self.desktop.lost(seat)
-    }
-
-    /// What a seat's client has been donated, and what its reserve still has, in units.
-    pub fn units(&self, seat: u32) -> (u32, u32)
-        requires { seat < length self.now.state.sessions }
-        ensures donation { result.0 ≡ (session self.now.state seat).donation }
-        ensures reserve { result.1 ≡ (session self.now.state seat).reserve }
-    {
-        self.desktop.units(seat)
-    }
-
-    /// The layer of a seat's views, 0..=7.
-    pub fn layer(&self, seat: u32) -> u32
-        requires { seat < length self.now.state.sessions }
-        ensures { result ≡ (member self.now.state.config seat).layer }
-    {
-        self.desktop.layer(seat)
     }
 
     /// The width and the height of the buffer of a seat's client, in words: 0 by 0 before it has
@@ -101,43 +76,11 @@ impl Host {
         self.desktop.is_free(seat, label)
     }
 
-    /// The mode of the user's input.
-    pub fn mode(&self) -> Mode
-        ensures { result ≡ self.now.state.input.mode }
-    {
-        self.desktop.mode()
-    }
-
     /// The codes of the keys and buttons that are held, in the order in which they went down.
     pub fn held(&self) -> &[u16]
         ensures { result.now ≡ self.now.state.input.held }
     {
         self.desktop.held()
-    }
-
-    /// The seat whose client gets what is pressed and released while a code is held. `None` where
-    /// none does.
-    pub fn receiver(&self) -> Option<u32>
-        ensures receiver { result ≡ self.now.state.input.receiver }
-        ensures known { IfSome result (λ seat. seat < length self.now.state.sessions) }
-    {
-        self.desktop.receiver()
-    }
-
-    /// The seat whose client has the focus. `None` where none has it.
-    pub fn focus(&self) -> Option<u32>
-        ensures focus { result ≡ self.now.state.input.focus }
-        ensures known { IfSome result (λ seat. seat < length self.now.state.sessions) }
-    {
-        self.desktop.focus()
-    }
-
-    /// The seat whose client was last told where the pointer is. `None` where it is over none.
-    pub fn hover(&self) -> Option<u32>
-        ensures hover { result ≡ self.now.state.input.hover }
-        ensures known { IfSome result (λ seat. seat < length self.now.state.sessions) }
-    {
-        self.desktop.hover()
     }
 
     /// The column and the row of the pointer, in pixels.
