@@ -25,17 +25,19 @@ OBJECT, a shared one, are compared where they are given. What is compared:
 --selftest compares small headers and sources that differ, one difference at a time, which has to be
 found. The status is 1 where something differs.
 """
-import argparse
 import os
+import sys
+
+HERE = os.path.dirname(os.path.realpath(__file__))
+sys.path.insert(0, os.path.join(HERE, os.pardir, os.pardir, "tools"))
+
+import runs  # first: it looks at the Python
+import argparse
 import re
 import subprocess
-import sys
 import tempfile
 from pathlib import Path
 
-sys.path.insert(0, str(Path(__file__).resolve().parents[2] / "tools"))
-
-import runs
 from exports_samples import BINDING, BINDINGS, CHANGES, HEADER, OBJECTS, SOURCES
 
 WANTED = {"malloc", "realloc", "free", "memcpy", "memmove", "memset", "memcmp", "bcmp"}

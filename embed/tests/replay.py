@@ -17,15 +17,18 @@ then; then the screen is to show the picture that tools/screen.py gives, and at 
 
 The status is 1 where a run differs. Its files are then kept, and said.
 """
+import os
+import sys
+
+HERE = os.path.dirname(os.path.realpath(__file__))
+sys.path.insert(0, os.path.join(HERE, os.pardir, os.pardir, "tools"))
+
+import runs  # first: it looks at the Python
 import argparse
 import subprocess
-import sys
 import tempfile
 from pathlib import Path
 
-sys.path.insert(0, str(Path(__file__).resolve().parents[2] / "tools"))
-
-import runs  # first: it looks at the Python
 import model
 from cases import case_of
 from expected import expected_of
