@@ -162,6 +162,7 @@ def case_events(screen, programs):
         path, done = program(folder, "listen")
         with Host(screen, programs, [f"listen={path}"]) as host:
             until("it listens", done.exists)
+            until("its view is shown", lambda: screen.pixel(40, 730) == 0x0000F0)
             screen.user("mousemove 40 730 click 1 keydown t sleep 1.5 keyup t")
             os.kill(host.process.pid, signal.SIGSTOP)
             screen.user("keydown u sleep 1.5 keyup u click 6 click 7 click 5")
