@@ -41,20 +41,21 @@ pub record ShowsFrame (h : HostModel) (before now : List ℕ) (answer : NitRect)
   pub shown : IsAsSeen h before → now ≡ frame_shown h
   pub labels : IsAsSeen h before → ShowsLabels (scenery_of h.state) now
 
--- a look: where there are as many words as the screen has pixels the host has been looked at, and
--- else it is a refusal
-pub record IsLooked (h g : HostModel) (before now : List ℕ) (answer : NitRect) : Type 0 where
+-- A look at a host, as it is seen: where there are as many words as the screen has pixels the host
+-- has been looked at, and else it is a refusal.
+pub record IsLookAt (seen h g : HostModel) (before now : List ℕ) (answer : NitRect) : Type 0 where
   pub copied : length before ≡ h.state.config.width * h.state.config.height
-      → ShowsFrame h before now answer × (g ≡ looked h)
+      → ShowsFrame seen before now answer × (g ≡ looked h)
   pub refused : length before ≢ h.state.config.width * h.state.config.height
       → (now ≡ before) × (answer ≡ only_rect 39) × (g ≡ h)
 
--- A look by words that may be any: so the host is looked at as if it had forgotten what it showed.
-pub record IsLookedAnew (h g : HostModel) (before now : List ℕ) (answer : NitRect) : Type 0 where
-  pub copied : length before ≡ h.state.config.width * h.state.config.height
-      → ShowsFrame (forgotten h) before now answer × (g ≡ looked h)
-  pub refused : length before ≢ h.state.config.width * h.state.config.height
-      → (now ≡ before) × (answer ≡ only_rect 39) × (g ≡ h)
+-- a look at the host as it is
+abbrev pub IsLooked : HostModel → HostModel → List ℕ → List ℕ → NitRect → Type 0
+IsLooked h g before now answer = IsLookAt h h g before now answer
+
+-- a look by words that may be any: at the host as if it had forgotten what it showed
+abbrev pub IsLookedAnew : HostModel → HostModel → List ℕ → List ℕ → NitRect → Type 0
+IsLookedAnew h g before now answer = IsLookAt (forgotten h) h g before now answer
 
 -- a look by a handle, and one by words that may be any
 abbrev pub IsLookedBy : NitServer → NitServer → List ℕ → List ℕ → NitRect → Type 0

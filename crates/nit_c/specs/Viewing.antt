@@ -42,17 +42,17 @@ abbrev pub c_view_of : Option View → NitViewState
 c_view_of None = no_view 5
 c_view_of (Some v) = c_view v
 
--- the view at a place from the front, by a handle
-abbrev pub IsViewAt : NitServer → NitServer → ℕ → NitViewState → Type 0
-IsViewAt old new place answer =
-    Steps old new (answer ≡ no_view 0)
-    (λ h g. (g ≡ h) × (answer ≡ c_view_of (slice_get h.state.stack place)))
+-- a view of the server is read, by a handle
+abbrev pub IsViewRead : (HostModel → Option View) → NitServer → NitServer → NitViewState → Type 0
+IsViewRead view old new answer =
+    Steps old new (answer ≡ no_view 0) (λ h g. (g ≡ h) × (answer ≡ c_view_of (view h)))
 
--- the view that owns a pixel, by a handle
+-- the view at a place from the front, and the one that owns a pixel
+abbrev pub IsViewAt : NitServer → NitServer → ℕ → NitViewState → Type 0
+IsViewAt old new place answer = IsViewRead (λ h. slice_get h.state.stack place) old new answer
+
 abbrev pub IsOwnerOf : NitServer → NitServer → ℕ → ℕ → NitViewState → Type 0
-IsOwnerOf old new x y answer =
-    Steps old new (answer ≡ no_view 0)
-    (λ h g. (g ≡ h) × (answer ≡ c_view_of (owner_on h.state x y)))
+IsOwnerOf old new x y answer = IsViewRead (λ h. owner_on h.state x y) old new answer
 
 -- ---- texts
 
@@ -70,16 +70,20 @@ abbrev pub label_at : HostModel → ℕ → List ℕ
 label_at h seat =
     if nat_lt seat (length h.state.sessions) then (member h.state.config seat).label else []
 
--- each is put, by a handle
+-- a text of the server is put, by a handle
+abbrev pub IsTextRead : (HostModel → List ℕ) → NitServer → NitServer → List ℕ → List ℕ → ℕ → Type 0
+IsTextRead text old new before now answer =
+    Steps old new ((now ≡ before) × (answer ≡ 0))
+    (λ h g. (g ≡ h) × IsLine (text h) before now answer)
+
+-- a title, and a label
 abbrev pub IsTitleOf : NitServer → NitServer → ℕ → List ℕ → List ℕ → ℕ → Type 0
 IsTitleOf old new place before now answer =
-    Steps old new ((now ≡ before) × (answer ≡ 0))
-    (λ h g. (g ≡ h) × IsLine (view_title h place) before now answer)
+    IsTextRead (λ h. view_title h place) old new before now answer
 
 abbrev pub IsLabelOf : NitServer → NitServer → ℕ → List ℕ → List ℕ → ℕ → Type 0
 IsLabelOf old new seat before now answer =
-    Steps old new ((now ≡ before) × (answer ≡ 0))
-    (λ h g. (g ≡ h) × IsLine (label_at h seat) before now answer)
+    IsTextRead (λ h. label_at h seat) old new before now answer
 
 -- ---- codes
 

@@ -180,15 +180,15 @@ pub(crate) const SEAT_CLOSED: u32 = 2;
 pub(crate) const SEAT_KILLED: u32 = 3;
 
 /// The number of no seat.
-const NO_SEAT_AT_ALL: u32 = u32::MAX;
+const NONE: u32 = u32::MAX;
 
-/// The number of a seat, or of none.
-pub(crate) fn number_or_none(seat: Option<u32>) -> u32
-    ensures { result ≡ number_or_none seat }
+/// A number, or that of none.
+pub(crate) fn number_or_none(number: Option<u32>) -> u32
+    ensures { result ≡ number_or_none number }
 {
-    match seat {
-        Some(seat) => seat,
-        None => NO_SEAT_AT_ALL,
+    match number {
+        Some(number) => number,
+        None => NONE,
     }
 }
 
