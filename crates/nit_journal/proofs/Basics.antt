@@ -1,42 +1,39 @@
 -- What lemmas use: the words of clauses, the library's lemmas, and those of the crates below.
 pub use Rattle.nit_events.proofs.ForCallers.{either}
-pub use Rattle.nit_journal.specs.Terms.{Above, Agrees, All, AreLive, AreSteps, Back, Bare, Buffer}
-pub use Rattle.nit_journal.specs.Terms.{Call, Calls, Close, Configuration, Delivery, Destroy}
-pub use Rattle.nit_journal.specs.Terms.{Device, Entry, Event, Flat, Front, Gets, InputState, IsDown}
-pub use Rattle.nit_journal.specs.Terms.{IsFreeLabel, IsLegal, IsLive, IsOpen, Item, Kill}
-pub use Rattle.nit_journal.specs.Terms.{KillsPointed, LegalFrom, Member, Mode, Observation, Offset}
-pub use Rattle.nit_journal.specs.Terms.{Opens, Place, Point, Refresh, Reply, Routed, Routing}
-pub use Rattle.nit_journal.specs.Terms.{Serves, Session, State, Status, Step, Take, TellsFocus}
-pub use Rattle.nit_journal.specs.Terms.{TellsLeave, Title, Upgrade, UserAction, Word, Xray}
-pub use Rattle.nit_journal.specs.Terms.{accepted, action_of, after, after_accepted, after_calls}
-pub use Rattle.nit_journal.specs.Terms.{after_deliveries, after_delivery, after_observations}
-pub use Rattle.nit_journal.specs.Terms.{after_steps, alone, answered, bar_rows, by_call, by_handle}
-pub use Rattle.nit_journal.specs.Terms.{by_life, by_quota, by_refusal, by_reserve, by_status}
-pub use Rattle.nit_journal.specs.Terms.{calls_of, changed, clicks_on, codes, covers, delivered}
-pub use Rattle.nit_journal.specs.Terms.{deliveries_of, donation_of, first_input, first_session}
-pub use Rattle.nit_journal.specs.Terms.{first_state, forget, has_view, in_bar, input_after_call}
-pub use Rattle.nit_journal.specs.Terms.{is_accepted, is_key, is_kill, is_mode_key, is_opening}
-pub use Rattle.nit_journal.specs.Terms.{is_release, is_view, items_to, kills, layer, left, list_any}
-pub use Rattle.nit_journal.specs.Terms.{moved, new_view, next_phase, not, opened, opening_of}
-pub use Rattle.nit_journal.specs.Terms.{option_map, own_machine, owner, phases_along, point}
-pub use Rattle.nit_journal.specs.Terms.{projection, put_again, receive, refusal, replay}
-pub use Rattle.nit_journal.specs.Terms.{replay_from, replies_from, replies_to, route, routed_as}
-pub use Rattle.nit_journal.specs.Terms.{routed_to, serve, session, session_in, shots, since}
-pub use Rattle.nit_journal.specs.Terms.{since_opening, source_of, still_configuration, taking, to}
-pub use Rattle.nit_journal.specs.Terms.{to_do, under_pointer, unless, user_actions_of, vacant_state}
-pub use Rattle.nit_journal.specs.Terms.{without, ◌orelse◌}
-pub use Rattle.nit_journal.specs.Session.{Answered}
-pub use Rattle.nit_stack.specs.declared.view.View.{View}
+pub use Rattle.nit_journal.specs.Terms.{Above, Agrees, All, Answered, AreLive, AreSteps, Back, Bare}
+pub use Rattle.nit_journal.specs.Terms.{Buffer, Call, Calls, Close, Configuration, Delivery}
+pub use Rattle.nit_journal.specs.Terms.{Destroy, Device, Entry, Event, Flat, Foremost, Front, Gets}
+pub use Rattle.nit_journal.specs.Terms.{InputState, IsDown, IsFreeLabel, IsLegal, IsLive, IsOpen}
+pub use Rattle.nit_journal.specs.Terms.{Item, Kill, KillsPointed, LegalFrom, Member, Mode}
+pub use Rattle.nit_journal.specs.Terms.{Observation, Offset, Opens, Place, Point, Rearmost, Refresh}
+pub use Rattle.nit_journal.specs.Terms.{Reply, Restacks, Routed, Routing, Serves, Session, Side}
+pub use Rattle.nit_journal.specs.Terms.{State, Status, Step, Take, TellsFocus, TellsLeave, Title}
+pub use Rattle.nit_journal.specs.Terms.{Upgrade, UserAction, View, Word, Xray, accepted, action_of}
+pub use Rattle.nit_journal.specs.Terms.{after, after_accepted, after_calls, after_deliveries}
+pub use Rattle.nit_journal.specs.Terms.{after_delivery, after_observations, after_steps, alone}
+pub use Rattle.nit_journal.specs.Terms.{answered, bar_rows, by_call, by_handle, by_life, by_quota}
+pub use Rattle.nit_journal.specs.Terms.{by_refusal, by_reserve, by_status, calls_of, changed}
+pub use Rattle.nit_journal.specs.Terms.{clicks_on, codes, covers, delivered, donation_of}
+pub use Rattle.nit_journal.specs.Terms.{first_input, first_session, first_state, forget, has_view}
+pub use Rattle.nit_journal.specs.Terms.{in_bar, input_after_call, is_accepted, is_key, is_kill}
+pub use Rattle.nit_journal.specs.Terms.{is_mode_key, is_opening, is_release, is_view, items_to}
+pub use Rattle.nit_journal.specs.Terms.{kills, layer, left, list_any, moved, new_view, next_phase}
+pub use Rattle.nit_journal.specs.Terms.{not, opened, opening_of, option_map, own_machine, owner}
+pub use Rattle.nit_journal.specs.Terms.{phases_along, point, projection, put_again, receive}
+pub use Rattle.nit_journal.specs.Terms.{refusal, replay, replay_from, replies_from, replies_to}
+pub use Rattle.nit_journal.specs.Terms.{restacked, route, routed_as, routed_to, serve, session}
+pub use Rattle.nit_journal.specs.Terms.{session_in, shots, since, since_opening, source_of}
+pub use Rattle.nit_journal.specs.Terms.{still_configuration, taking, to, to_do, under_pointer}
+pub use Rattle.nit_journal.specs.Terms.{unless, user_actions_of, vacant_state, without, ℕ, ◌orelse◌}
 pub use Rattle.nit_stack.proofs.ForCallers.{All-insert, All_found, Put, Put-above, Put-back}
 pub use Rattle.nit_stack.proofs.ForCallers.{Put-front}
-pub use Rattle.std.proofs.Common.{[], arith, refl}
-pub use Rattle.std.proofs.lemmas.Bool.{and_parts, cases_eq, cases_lt, cond_both, eq-eqb, eqb-false}
-pub use Rattle.std.proofs.lemmas.Bool.{eqb-true, leb-false, leb-true, ne_eqb, not-true, or_from}
-pub use Rattle.std.proofs.lemmas.Bool.{or_parts}
+pub use Rattle.std.proofs.Common.{[], ap, arith, get_or-set_other, inl, inr, length, refl}
+pub use Rattle.std.proofs.lemmas.Bool.{and_parts, cases_eq, cond_both, eq-eqb, eqb-false, eqb-true}
+pub use Rattle.std.proofs.lemmas.Bool.{leb-false, leb-true, ne_eqb, not-true, or_from, or_parts}
 pub use Rattle.std.proofs.lemmas.Bool.Decides.{nat_tests}
 pub use Rattle.std.proofs.lemmas.List.{get_or-map, get_or_past, length-append, length-map, set_past}
 pub use Rattle.std.proofs.lemmas.List.Elements.{All-append, All-cons, All-filter, All-head, All-map}
-pub use Rattle.std.proofs.lemmas.List.Elements.{All-nil, All-tail, All-weaker}
+pub use Rattle.std.proofs.lemmas.List.Elements.{All-nil, All-tail, All-weaker, filter_passes}
 pub use Rattle.std.proofs.lemmas.List.Folds.{list_any-append}
 pub use Rattle.std.proofs.lemmas.List.Sums.{fold-append}
 pub use Rattle.std.proofs.lemmas.Option.{IfSome_then}

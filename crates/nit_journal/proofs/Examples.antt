@@ -1,15 +1,14 @@
 -- Worked rows of one session and of a small journal, computed from the definitions.
-use Rattle.std.proofs.lemmas.Bool.Decides.{nat_tests}
-use Rattle.std.proofs.Common.{List, Some, [], arith, false, map, negsuc, pos, refl, suc, true, zero}
-use Rattle.std.proofs.Common.{ℕ, ◌++◌, ◌∷◌, ◌≡◌}
 use Rattle.nit_journal.proofs.Basics.{AreSteps, Bare, Buffer, Call, Calls, Close, Configuration}
 use Rattle.nit_journal.proofs.Basics.{Destroy, Entry, IsFreeLabel, IsLegal, Member, Observation}
 use Rattle.nit_journal.proofs.Basics.{Opens, Place, Refresh, Serves, Step, Take, Title, Upgrade}
-use Rattle.nit_journal.proofs.Basics.{Word, after_steps, alone, codes, first_session, first_state}
-use Rattle.nit_journal.proofs.Basics.{is_key, opened, opening_of, own_machine, point, replay}
-use Rattle.nit_journal.proofs.Basics.{replies_to, routed_as, session, since_opening, source_of}
-use Rattle.nit_journal.proofs.Basics.{still_configuration, to, under_pointer, vacant_state}
-use Rattle.nit_events.specs.declared.call.Call.TheVariants.{View}
+use Rattle.nit_journal.proofs.Basics.{View, Word, after_steps, alone, codes, first_session}
+use Rattle.nit_journal.proofs.Basics.{first_state, is_key, nat_tests, opened, opening_of}
+use Rattle.nit_journal.proofs.Basics.{own_machine, point, replay, replies_to, routed_as, session}
+use Rattle.nit_journal.proofs.Basics.{since_opening, source_of, still_configuration, to}
+use Rattle.nit_journal.proofs.Basics.{under_pointer, vacant_state}
+use Rattle.std.proofs.Common.{List, Some, [], arith, false, map, negsuc, pos, refl, suc, true, zero}
+use Rattle.std.proofs.Common.{ℕ, ◌++◌, ◌∷◌, ◌≡◌}
 use Rattle.nit_journal.specs.Session.{serve}
 use Rattle.nit_journal.specs.StackAfter.{stack_after_call}
 use Rattle.nit_journal.specs.State.{route}

@@ -98,8 +98,8 @@ pub seat : (s : State) (steps : List Step) (x : ℕ) → length s.sessions ≡ l
     (since_opening x steps)
 seat s steps x each are lt =
     let donation = donation_of s.config x in
-    along x (IsSeat x donation) (first_session donation) (seat_kept x donation) (seat_opens x donation) (session s x) s
-    steps [] are ((each, refl), (lt, (refl, refl)))
+    along x (IsSeat x donation) (first_session donation) (seat_kept x donation) (seat_opens x donation)
+    (λ m t side sid v done h. h) (session s x) s steps [] are ((each, refl), (lt, (refl, refl)))
 
 -- ---- a whole journal
 

@@ -1,12 +1,11 @@
 -- Journals that grow at their end, and fronts of journals.
-use Rattle.std.proofs.lemmas.Bool.Decides.{nat_tests}
+use Rattle.nit_journal.proofs.Basics.{Agrees, AreSteps, Bare, Configuration, Entry, IsLegal, IsOpen}
+use Rattle.nit_journal.proofs.Basics.{LegalFrom, Opens, Point, Restacks, Serves, Side, State, Step}
+use Rattle.nit_journal.proofs.Basics.{action_of, after, after_steps, arith, first_state}
+use Rattle.nit_journal.proofs.Basics.{fold-append, is_opening, list_any, nat_tests, opened, replay}
+use Rattle.nit_journal.proofs.Basics.{replay_from, restacked, shots, since, source_of}
 use Rattle.std.proofs.Common.{Bool, List, [], append-nil, append_assoc, false, if◌then◌else◌, map}
 use Rattle.std.proofs.Common.{refl, subst, true, zero-add, ℕ, ◌++◌, ◌+◌, ◌==◌, ◌||◌, ◌∷◌, ◌≡◌}
-use Rattle.nit_journal.proofs.Basics.{Agrees, AreSteps, Bare, Configuration, Entry, IsLegal, IsOpen}
-use Rattle.nit_journal.proofs.Basics.{LegalFrom, Opens, Point, Serves, State, Step, action_of}
-use Rattle.nit_journal.proofs.Basics.{after, after_steps, arith, first_state, fold-append}
-use Rattle.nit_journal.proofs.Basics.{is_opening, list_any, opened, replay, replay_from, shots}
-use Rattle.nit_journal.proofs.Basics.{since, source_of}
 use Rattle.nit_events.specs.declared.entry.Entry.TheVariants as entry
 
 pub replay_more : (s : State) (journal : List Entry) (e : Entry) → replay_from s (journal ++ e ∷ [])
@@ -86,14 +85,18 @@ pub along : {A : Type 0} (x : ℕ) (P : A → State → List Entry → Type 0) (
     → ((a : A) (s : State) (sid : ℕ) (label : List ℕ) (done : List Entry) → AreSteps s (Opens sid label ∷ [])
     → P a s done
     → P (if sid == x then fresh else a) (opened sid label s) (if sid == x then [] else done))
+    → ((a : A) (s : State) (side : Side) (sid v : ℕ) (done : List Entry) → P a s done
+    → P a (restacked side sid v s) done)
     → (a : A) (s : State) (steps : List Step) (done : List Entry) → AreSteps s steps → P a s done
     → P (if list_any (is_opening x) steps then fresh else a) (after_steps s steps) (since x done steps)
-along x P fresh kept opens a s [] done are h = h
-along x P fresh kept opens a s (Serves e ∷ rest) done are h =
-    along x P fresh kept opens a (after s e) rest (done ++ e ∷ []) are.1 (kept a s are.0.0 e done are.0.1 h)
-along x P fresh kept opens a s (Opens sid label ∷ rest) done are h =
+along x P fresh kept opens restacks a s [] done are h = h
+along x P fresh kept opens restacks a s (Serves e ∷ rest) done are h =
+    along x P fresh kept opens restacks a (after s e) rest (done ++ e ∷ []) are.1 (kept a s are.0.0 e done are.0.1 h)
+along x P fresh kept opens restacks a s (Restacks side sid v ∷ rest) done are h =
+    along x P fresh kept opens restacks a (restacked side sid v s) rest done are.1 (restacks a s side sid v done h)
+along x P fresh kept opens restacks a s (Opens sid label ∷ rest) done are h =
     whether_opened (sid == x) (list_any (is_opening x) rest)
-    (along x P fresh kept opens (if sid == x then fresh else a) (opened sid label s) rest
+    (along x P fresh kept opens restacks (if sid == x then fresh else a) (opened sid label s) rest
     (if sid == x then [] else done) are.1 (opens a s sid label done (are.0, tt) h))
   where
     whether_opened : (c d : Bool)

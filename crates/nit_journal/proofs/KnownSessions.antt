@@ -2,9 +2,10 @@
 -- those that are known afterwards. And who is killed is killed alone, and forgotten.
 use Rattle.nit_journal.proofs.Basics.{All, All-append, All-head, All-nil, All-tail, All_found}
 use Rattle.nit_journal.proofs.Basics.{Configuration, Delivery, Device, Event, InputState, Point}
-use Rattle.nit_journal.proofs.Basics.{Routing, View, arith, bar_rows, cond_both, covers, either}
-use Rattle.nit_journal.proofs.Basics.{in_bar, is_kill, kills, nat_tests, option_map, or_from, owner}
-use Rattle.nit_journal.proofs.Basics.{point, route}
+use Rattle.nit_journal.proofs.Basics.{Routing, arith, bar_rows, cond_both, covers, either, in_bar}
+use Rattle.nit_journal.proofs.Basics.{is_kill, kills, nat_tests, option_map, or_from, owner, point}
+use Rattle.nit_journal.proofs.Basics.{route}
+use Rattle.nit_stack.specs.declared.view.View.{View}
 use Rattle.std.proofs.Common.{Bool, IfSome, List, None, Option, Some, [], false, find, inl, inr}
 use Rattle.std.proofs.Common.{refl, ℕ, ◌∷◌, ◌≡◌, ◌≢◌, ◌⊎◌}
 use Rattle.nit_events.specs.declared.event.Event.TheVariants as event

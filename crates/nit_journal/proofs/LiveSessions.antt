@@ -1,21 +1,19 @@
 -- Whoever the input knows, and whoever has a view, is live in every state that a legal journal leads to. So whoever is
 -- told anything is live.
-use Rattle.std.proofs.lemmas.Bool.Decides.{nat_tests}
-use Rattle.std.proofs.lemmas.List.Elements.{filter_passes}
 use Rattle.nit_journal.proofs.Basics.{Above, Agrees, All, All-cons, All-filter, All-head}
 use Rattle.nit_journal.proofs.Basics.{All-insert, All-map, All-nil, All-tail, All-weaker, All_found}
 use Rattle.nit_journal.proofs.Basics.{AreLive, Back, Call, Close, Configuration, Delivery, Destroy}
-use Rattle.nit_journal.proofs.Basics.{Device, Entry, Event, Front, IfSome_then, InputState, IsLegal}
-use Rattle.nit_journal.proofs.Basics.{IsLive, Item, Offset, Place, Put, Put-above, Put-back}
-use Rattle.nit_journal.proofs.Basics.{Put-front, Reply, Routing, Session, State, Status, Take}
-use Rattle.nit_journal.proofs.Basics.{Title, accepted, after, after_accepted, after_deliveries}
-use Rattle.nit_journal.proofs.Basics.{after_delivery, arith, by_life, by_refusal, changed}
-use Rattle.nit_journal.proofs.Basics.{cond_both, delivered, either, eqb-false, first_input}
-use Rattle.nit_journal.proofs.Basics.{first_session, first_state, forget, input_after_call}
-use Rattle.nit_journal.proofs.Basics.{is_accepted, is_kill, is_view, layer, moved, new_view, not}
-use Rattle.nit_journal.proofs.Basics.{not-true, opened, put_again, receive, refusal, replay, route}
+use Rattle.nit_journal.proofs.Basics.{Device, Entry, Event, Foremost, Front, IfSome_then}
+use Rattle.nit_journal.proofs.Basics.{InputState, IsLegal, IsLive, Item, Offset, Place, Put}
+use Rattle.nit_journal.proofs.Basics.{Put-above, Put-back, Put-front, Rearmost, Reply, Routing}
+use Rattle.nit_journal.proofs.Basics.{Session, Side, State, Status, Take, Title, View, accepted}
+use Rattle.nit_journal.proofs.Basics.{after, after_accepted, after_deliveries, after_delivery}
+use Rattle.nit_journal.proofs.Basics.{arith, by_life, by_refusal, changed, cond_both, delivered}
+use Rattle.nit_journal.proofs.Basics.{either, eqb-false, filter_passes, first_input, first_session}
+use Rattle.nit_journal.proofs.Basics.{first_state, forget, input_after_call, is_accepted, is_kill}
+use Rattle.nit_journal.proofs.Basics.{is_view, layer, moved, nat_tests, new_view, not, not-true}
+use Rattle.nit_journal.proofs.Basics.{opened, put_again, receive, refusal, replay, restacked, route}
 use Rattle.nit_journal.proofs.Basics.{routed_to, session, session_in, taking, without}
-use Rattle.nit_events.specs.declared.call.Call.TheVariants.{View}
 use Rattle.std.proofs.Common.{Bool, IfSome, List, None, Option, Some, [], ap, cond, false, find}
 use Rattle.std.proofs.Common.{inl, inr, length, length-set, refl, set, sym, true, ℕ, ◌<◌, ◌==◌, ◌∙◌}
 use Rattle.std.proofs.Common.{◌∷◌, ◌≡◌, ◌≢◌, ◌⊎◌}
@@ -248,3 +246,14 @@ live_opened s sid label h =
       rw length-set live.0,
       after_set (λ (u : Session). u.status ≡ status.Live) s.sessions sid t _ (first_session 0) (λ own. refl) live.1,
     )) (are_known s h) h.views
+
+-- the user's restacking of a view takes none away and adds none
+pub live_restacked : (s : State) (side : Side) (sid v : ℕ) → AreLive s → AreLive (restacked side sid v s)
+live_restacked s Foremost sid v h =
+    live_now (IsLive s) (restacked Foremost sid v s) (λ t live. live) (are_known s h)
+    (moved_has (IsLive s) (is_view sid v) _ (Put-front (λ view. layer s.config view.sid) (layer s.config sid)) s.stack
+    h.views)
+live_restacked s Rearmost sid v h =
+    live_now (IsLive s) (restacked Rearmost sid v s) (λ t live. live) (are_known s h)
+    (moved_has (IsLive s) (is_view sid v) _ (Put-back (λ view. layer s.config view.sid) (layer s.config sid)) s.stack
+    h.views)

@@ -1,16 +1,15 @@
 -- While a session is live, the user's input is seen in its queue and its losses alone. The rest of it is as its
 -- calls alone would have it.
-use Rattle.std.proofs.lemmas.Bool.Decides.{nat_tests}
-use Rattle.std.proofs.Common.{Bool, List, None, Option, Some, [], ap, append-nil, false}
-use Rattle.std.proofs.Common.{if◌then◌else◌, length, refl, sym, true, ℕ, ◌++◌, ◌+◌, ◌<◌, ◌∙◌, ◌∷◌}
-use Rattle.std.proofs.Common.{◌≡◌, ◌≢◌}
 use Rattle.nit_journal.proofs.Basics.{Agrees, Answered, Call, Close, Configuration, Delivery, Entry}
 use Rattle.nit_journal.proofs.Basics.{Event, IsLegal, Item, Reply, Session, State, Status, Take}
 use Rattle.nit_journal.proofs.Basics.{accepted, after, after_calls, arith, by_life, by_refusal}
 use Rattle.nit_journal.proofs.Basics.{by_status, calls_of, delivered, donation_of, first_session}
-use Rattle.nit_journal.proofs.Basics.{first_state, own_machine, receive, refusal, replay}
+use Rattle.nit_journal.proofs.Basics.{first_state, nat_tests, own_machine, receive, refusal, replay}
 use Rattle.nit_journal.proofs.Basics.{replay_from, route, session, session_in, shots, taking}
 use Rattle.nit_journal.proofs.Basics.{◌orelse◌}
+use Rattle.std.proofs.Common.{Bool, List, None, Option, Some, [], ap, append-nil, false}
+use Rattle.std.proofs.Common.{if◌then◌else◌, length, refl, sym, true, ℕ, ◌++◌, ◌+◌, ◌<◌, ◌∙◌, ◌∷◌}
+use Rattle.std.proofs.Common.{◌≡◌, ◌≢◌}
 use Rattle.nit_journal.specs.Session.{serve}
 use Rattle.nit_events.specs.declared.event.Item.TheVariants as item
 use Rattle.nit_events.specs.declared.event.Status.TheVariants as status

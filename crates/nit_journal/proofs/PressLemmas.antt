@@ -19,7 +19,7 @@ use Rattle.nit_journal.proofs.Ways.{is_stroke, one_to, routed}
 use Rattle.nit_events.specs.declared.entry.Entry.TheVariants as entry
 use Rattle.nit_journal.proofs.JournalFronts.{IsKept, along, behind}
 use Rattle.nit_journal.proofs.ProjectionLemmas.{projection_both}
-use Rattle.nit_journal.proofs.LiveSessions.{live_after, live_opened}
+use Rattle.nit_journal.proofs.LiveSessions.{live_after, live_opened, live_restacked}
 
 -- ---- one session and one code
 
@@ -269,4 +269,5 @@ since_begun s steps x k live first are =
     (along x (λ (a : ℕ) t done. AreLive t × IsPaired x k t done) 0
     (λ a t taken e done agrees h. (live_after t taken e h.0 agrees, paired_kept x k t taken e done agrees h.1))
     (λ a t sid label done is h. (live_opened t sid label h.0, paired_opens x k t sid label done is h.0 h.1))
+    (λ a t side sid v done h. (live_restacked t side sid v h.0, h.1))
     0 s steps [] are (live, begun x k s first)).1

@@ -1,13 +1,12 @@
 -- What one session sees of two journals, one after the other.
-use Rattle.std.proofs.lemmas.Bool.Decides.{nat_tests}
+use Rattle.nit_journal.proofs.Basics.{Call, Calls, Entry, Gets, Observation, Reply, Session}
+use Rattle.nit_journal.proofs.Basics.{UserAction, after_observations, arith, calls_of, cases_eq}
+use Rattle.nit_journal.proofs.Basics.{eq-eqb, get_or_past, left, nat_tests, ne_eqb, next_phase}
+use Rattle.nit_journal.proofs.Basics.{phases_along, projection, receive, replies_from, replies_to}
+use Rattle.nit_journal.proofs.Basics.{serve, set_past, to_do, user_actions_of}
 use Rattle.std.proofs.Common.{List, [], append-nil, append_assoc, drop, get_or-set_other}
 use Rattle.std.proofs.Common.{get_or-set_same, inl, inr, length, refl, set, suc, sym, zero, ℕ, ◌++◌}
 use Rattle.std.proofs.Common.{◌∙◌, ◌∷◌, ◌≡◌, ◌≢◌}
-use Rattle.nit_journal.proofs.Basics.{Call, Calls, Entry, Gets, Observation, Reply, Session}
-use Rattle.nit_journal.proofs.Basics.{UserAction, after_observations, arith, calls_of, cases_eq}
-use Rattle.nit_journal.proofs.Basics.{eq-eqb, get_or_past, left, ne_eqb, next_phase, phases_along}
-use Rattle.nit_journal.proofs.Basics.{projection, receive, replies_from, replies_to, serve}
-use Rattle.nit_journal.proofs.Basics.{set_past, to_do, user_actions_of}
 use Rattle.nit_events.specs.declared.entry.Entry.TheVariants as entry
 
 pub projection_both : (x : ℕ) (js ks : List Entry) → projection x (js ++ ks) ≡ projection x js ++ projection x ks

@@ -3,11 +3,11 @@ use Rattle.std.proofs.Common.{Bool, List, None, Option, Some, [], arith, false, 
 use Rattle.std.proofs.Common.{ℕ, ◌++◌, ◌==◌, ◌∷◌, ◌≡◌, ◌≢◌}
 use Rattle.nit_journal.proofs.Basics.{All, All-append, All-cons, All-nil, Call, Close, Delivery}
 use Rattle.nit_journal.proofs.Basics.{Device, Entry, Event, Flat, InputState, Kill, KillsPointed}
-use Rattle.nit_journal.proofs.Basics.{Mode, Opens, Reply, Routing, Serves, State, Step, TellsFocus}
-use Rattle.nit_journal.proofs.Basics.{TellsLeave, Xray, after, after_steps, and_parts, clicks_on}
-use Rattle.nit_journal.proofs.Basics.{cond_both, either, first_input, input_after_call, is_key}
-use Rattle.nit_journal.proofs.Basics.{is_mode_key, nat_tests, not, not-true, opened, or_parts}
-use Rattle.nit_journal.proofs.Basics.{replay_from, under_pointer}
+use Rattle.nit_journal.proofs.Basics.{Mode, Opens, Reply, Restacks, Routing, Serves, State, Step}
+use Rattle.nit_journal.proofs.Basics.{TellsFocus, TellsLeave, Xray, after, after_steps, and_parts}
+use Rattle.nit_journal.proofs.Basics.{clicks_on, cond_both, either, first_input, input_after_call}
+use Rattle.nit_journal.proofs.Basics.{is_key, is_mode_key, nat_tests, not, not-true, opened}
+use Rattle.nit_journal.proofs.Basics.{or_parts, replay_from, restacked, under_pointer}
 use Rattle.nit_events.specs.declared.event.Event.TheVariants as event
 use Rattle.nit_events.specs.declared.device.Device.TheVariants as device
 use Rattle.nit_events.specs.Input
@@ -127,6 +127,7 @@ pub quiet_steps : (s : State) (steps : List Step) → IsQuiet s.input → IsQuie
 quiet_steps s [] q = q
 quiet_steps s (Serves e ∷ rest) q = quiet_steps (after s e) rest (quiet_after s e q)
 quiet_steps s (Opens sid label ∷ rest) q = quiet_steps (opened sid label s) rest q
+quiet_steps s (Restacks side sid v ∷ rest) q = quiet_steps (restacked side sid v s) rest q
 
 pub quiet_along : (s : State) (journal : List Entry) → IsQuiet s.input → IsQuiet (replay_from s journal).input
 quiet_along s [] q = q

@@ -1,16 +1,15 @@
 -- What the entries of a journal do to the list of sessions.
-use Rattle.std.proofs.lemmas.Bool.Decides.{nat_tests}
-use Rattle.std.proofs.Common.{Bool, IfSome, List, None, Option, Some, [], ap, arith, false, get_or}
-use Rattle.std.proofs.Common.{get_or-set_other, get_or-set_same, length, length-set, nat_le, refl}
-use Rattle.std.proofs.Common.{set, suc, true, zero, ℕ, ◌<◌, ◌==◌, ◌∙◌, ◌∷◌, ◌≡◌, ◌≤◌}
 use Rattle.nit_journal.proofs.Basics.{Answered, Call, Configuration, Delivery, Entry, Event, Member}
 use Rattle.nit_journal.proofs.Basics.{Reply, Session, State, Status, Take, accepted, after}
 use Rattle.nit_journal.proofs.Basics.{answered, by_call, by_handle, by_quota, by_refusal}
 use Rattle.nit_journal.proofs.Basics.{by_reserve, by_status, delivered, donation_of, eq-eqb}
 use Rattle.nit_journal.proofs.Basics.{first_session, first_state, get_or-map, has_view, is_accepted}
-use Rattle.nit_journal.proofs.Basics.{leb-false, leb-true, length-map, ne_eqb, receive, refusal}
-use Rattle.nit_journal.proofs.Basics.{replay, replay_from, route, session, session_in, taking}
-use Rattle.nit_journal.proofs.Basics.{unless, ◌orelse◌}
+use Rattle.nit_journal.proofs.Basics.{leb-false, leb-true, length-map, nat_tests, ne_eqb, receive}
+use Rattle.nit_journal.proofs.Basics.{refusal, replay, replay_from, route, session, session_in}
+use Rattle.nit_journal.proofs.Basics.{taking, unless, ◌orelse◌}
+use Rattle.std.proofs.Common.{Bool, IfSome, List, None, Option, Some, [], ap, arith, false, get_or}
+use Rattle.std.proofs.Common.{get_or-set_other, get_or-set_same, length, length-set, nat_le, refl}
+use Rattle.std.proofs.Common.{set, suc, true, zero, ℕ, ◌<◌, ◌==◌, ◌∙◌, ◌∷◌, ◌≡◌, ◌≤◌}
 use Rattle.nit_events.specs.declared.entry.Entry.TheVariants as entry
 use Rattle.nit_journal.specs.Session.{serve}
 use Rattle.nit_events.specs.declared.call.Reply.TheVariants as reply

@@ -4,9 +4,10 @@ use Rattle.std.proofs.Common.{inl, inr, length, refl, true, ℕ, ◌++◌, ◌+�
 use Rattle.std.proofs.Common.{◌⊎◌}
 use Rattle.nit_journal.proofs.Basics.{Agrees, All, All-cons, All-nil, Call, Close, Configuration}
 use Rattle.nit_journal.proofs.Basics.{Delivery, Device, Event, Flat, InputState, Item, Kill, Mode}
-use Rattle.nit_journal.proofs.Basics.{Reply, Routed, Routing, State, View, Xray, after, and_parts}
-use Rattle.nit_journal.proofs.Basics.{arith, bar_rows, clicks_on, cond_both, either, is_accepted}
+use Rattle.nit_journal.proofs.Basics.{Reply, Routed, Routing, State, Xray, after, and_parts, arith}
+use Rattle.nit_journal.proofs.Basics.{bar_rows, clicks_on, cond_both, either, is_accepted}
 use Rattle.nit_journal.proofs.Basics.{length-append, nat_tests, not, option_map, owner, point}
+use Rattle.nit_stack.specs.declared.view.View.{View}
 use Rattle.nit_journal.specs.State.{route}
 use Rattle.nit_events.specs.declared.event.Event.TheVariants as event
 use Rattle.nit_events.specs.declared.event.Item.TheVariants as item

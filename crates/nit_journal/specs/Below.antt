@@ -30,7 +30,6 @@ pub use Rattle.nit_stack.specs.LabelPlaces.{is_view}
 pub use Rattle.nit_stack.specs.Orders.{changed, moved, put_above, put_again, put_back, put_front}
 pub use Rattle.nit_stack.specs.Orders.{without}
 pub use Rattle.nit_stack.specs.Sources.{Bare, PixelSource, Size, Word, in_bar, owner, point, source}
-pub use Rattle.nit_stack.specs.Sources.{source_under}
-pub use Rattle.std.specs.List.{insert, list_any}
+pub use Rattle.std.specs.List.{list_any}
 pub use Rattle.std.specs.List.Sorted.{IsNonDecreasing}
-pub use Rattle.std.specs.Prelude.{All, List, codes, not, option_map, slice_set, ℕ}
+pub use Rattle.std.specs.Prelude.{All, IfSome, List, codes, not, option_map, ℕ}

@@ -1,6 +1,5 @@
 -- States in which whoever the input knows, and whoever has a view, is served.
-use Rattle.std.specs.Prelude.{ℕ, All, IfSome}
-use Rattle.nit_journal.specs.Below.{InputState}
+use Rattle.nit_journal.specs.Below.{All, IfSome, InputState, ℕ}
 use Rattle.nit_journal.specs.Deliveries.{IsLive}
 use Rattle.nit_journal.specs.State.{State}
 

@@ -104,10 +104,11 @@ pub fn live_sessions_stay()
         → All (λ d. IsLive s d.sid) (route s.config s.input s.stack dev).deliveries }
 {}
 
-/// Along any steps, whatever the other sessions do and whoever opens, each session is served as if
-/// it were alone since it last opened: its replies and its machine come from the donation that it
-/// opened with, its own calls and the items that were routed to it since then. What was before its
-/// opening does not matter. A session that did not open goes on from where it was.
+/// Along any steps, whatever the other sessions do, whoever opens, and however the user restacks
+/// views, each session is served as if it were alone since it last opened: its replies and its
+/// machine come from the donation that it opened with, its own calls and the items that were routed
+/// to it since then. What was before its opening does not matter. A session that did not open goes
+/// on from where it was.
 pub fn seats_stand_alone()
     ensures replies { (s : State) (steps : List Step) (x : ℕ)
         → length s.sessions ≡ length s.config.clients → AreSteps s steps → x < length s.sessions

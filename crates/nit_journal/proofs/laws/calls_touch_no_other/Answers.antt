@@ -1,6 +1,5 @@
-use Rattle.std.proofs.Common.{get_or-set_other}
-use Rattle.nit_journal.proofs.Lemmas.{IsTaken, Session, [], after_set, first_session, refl, serve}
-use Rattle.nit_journal.proofs.Lemmas.{session, taken_served}
+use Rattle.nit_journal.proofs.Lemmas.{IsTaken, Session, [], after_set, first_session}
+use Rattle.nit_journal.proofs.Lemmas.{get_or-set_other, refl, serve, session, taken_served}
 use Rattle.nit_journal.proofs.laws.calls_touch_no_other.Goals as goal
 
 pub returns : goal.returns

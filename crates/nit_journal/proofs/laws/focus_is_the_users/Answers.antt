@@ -1,5 +1,4 @@
-use Rattle.std.proofs.Common.{inl, inr}
-use Rattle.nit_journal.proofs.Lemmas.{by_way, calls_keep, eq-eqb, refl, routed}
+use Rattle.nit_journal.proofs.Lemmas.{by_way, calls_keep, eq-eqb, inl, inr, refl, routed}
 use Rattle.nit_journal.proofs.laws.focus_is_the_users.Goals as goal
 
 pub returns : goal.returns

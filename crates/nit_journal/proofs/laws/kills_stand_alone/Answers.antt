@@ -1,5 +1,4 @@
-use Rattle.std.proofs.Common.{ap, inl, inr, length}
-use Rattle.nit_journal.proofs.Lemmas.{Any, any_of, none_kills, route_step}
+use Rattle.nit_journal.proofs.Lemmas.{Any, any_of, ap, inl, inr, length, none_kills, route_step}
 use Rattle.nit_journal.proofs.laws.kills_stand_alone.Goals as goal
 
 pub returns : goal.returns
