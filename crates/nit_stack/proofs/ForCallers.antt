@@ -7,7 +7,8 @@ pub use Rattle.nit_stack.proofs.SlotsAndNames.{views_backed, views_changed, view
 pub use Rattle.nit_stack.proofs.SlotsAndNames.{views_fronted, views_put_front, without_none}
 pub use Rattle.nit_stack.proofs.StackLemmas.{keeps_above, keeps_back, keeps_changed, keeps_front}
 pub use Rattle.nit_stack.proofs.StackLemmas.{keeps_push, keeps_remove, keeps_size}
-pub use Rattle.nit_stack.proofs.Lists.{All-insert, All_found, Put, Put-above, Put-back, Put-front}
+pub use Rattle.nit_stack.proofs.Lists.{All-insert, All_found, NoPair-back, NoPair-filter}
+pub use Rattle.nit_stack.proofs.Lists.{NoPair-front, Put, Put-above, Put-back, Put-front}
 pub use Rattle.nit_stack.proofs.Lists.{above_is, any_found, back_at, back_none, drop_at, find-map}
 pub use Rattle.nit_stack.proofs.Lists.{find-without, found_fails, found_passes, found_some}
 pub use Rattle.nit_stack.proofs.Lists.{front_is, insert_apart, list_any-map, map-insert, map-map}
