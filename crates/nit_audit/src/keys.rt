@@ -35,19 +35,13 @@ pub(crate) enum Change {
 pub(crate) fn new_view(sid: u32, handle: u32) -> View
     ensures { result ≡ new_view sid handle }
 {
-    let Some(rect) = Rect::new(0, 0, 0, 0) else {
-        unreachable!()
-    };
-    let Some(title) = Title::new(&[]) else {
-        unreachable!()
-    };
     View {
         sid,
         handle,
-        rect,
+        rect: Rect::of(0, 0, 0, 0),
         ox: 0,
         oy: 0,
-        title,
+        title: Title::of(&[]),
     }
 }
 

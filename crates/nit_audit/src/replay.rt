@@ -275,9 +275,7 @@ fn place(views: &mut Views, sid: u32, v: u32, at: (i32, i32, u32, u32))
     ensures { views.new ≡ changed (is_view sid v)
         (λ view. record view { rect = rectangle at.0 at.1 at.2 at.3 }) views.old }
 {
-    let Some(rect) = Rect::new(at.0, at.1, at.2, at.3) else {
-        unreachable!()
-    };
+    let rect = Rect::of(at.0, at.1, at.2, at.3);
     views.change(sid, v, Change::Rectangle(rect));
 }
 
@@ -287,9 +285,7 @@ fn retitle(views: &mut Views, sid: u32, v: u32, text: &Text)
     ensures { views.new ≡ changed (is_view sid v) (λ view. record view { title = text.now })
         views.old }
 {
-    let Some(title) = Title::new(text.as_bytes()) else {
-        unreachable!()
-    };
+    let title = Title::of(text.as_bytes());
     views.change(sid, v, Change::Title(title));
 }
 

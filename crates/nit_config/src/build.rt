@@ -56,10 +56,7 @@ fn label_in(client: &Table) -> Label
     requires { has_bad_label (table_view client.now) ≡ false }
     ensures { get_member (codes "label") (table_view client.now) ≡ Some (string result) }
 {
-    match Label::new(text_at(client, "label").as_bytes()) {
-        Some(label) => label,
-        None => unreachable!(),
-    }
+    Label::of(text_at(client, "label").as_bytes())
 }
 
 #[tactic(auto, unfolding(crate::specs::Ranges::has_bad_value))]

@@ -21,16 +21,14 @@ impl Model for FileName {
 
 impl FileName {
     /// This name.
+    #[tactic(auto, using(crate::proofs::AcceptedTables::file_name_utf8))]
     pub fn new(alloc: Global, text: &[u8]) -> Result<FileName, NoMemory>
         requires { IsTrue (is_file_name text.now) }
         ensures { IfOk result (λ n. n ≡ text.now) }
     {
-        match std::str::from_utf8(text) {
-            Ok(text) => Ok(FileName {
-                text: String::from_str(alloc, text)?,
-            }),
-            Err(_) => unreachable!(),
-        }
+        Ok(FileName {
+            text: String::from_utf8_lossy(alloc, text)?,
+        })
     }
 
     /// The text.

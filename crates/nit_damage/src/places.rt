@@ -13,10 +13,7 @@ pub(crate) fn bar_part(stack: &Stack) -> Rect
     ensures fits { stack.now.bar ≤ stack.now.height }
 {
     let (width, _height) = stack.size();
-    let Some(rect) = Rect::new(0, 0, width, stack.bar()) else {
-        unreachable!()
-    };
-    rect
+    Rect::of(0, 0, width, stack.bar())
 }
 
 /// The pixels of the screen below the bar.
@@ -26,10 +23,7 @@ pub(crate) fn part_below_bar(stack: &Stack) -> Rect
 {
     let (width, height) = stack.size();
     let bar = stack.bar();
-    let Some(rect) = Rect::new(0, bar as i32, width, height - bar) else {
-        unreachable!()
-    };
-    rect
+    Rect::of(0, bar as i32, width, height - bar)
 }
 
 /// The rectangle of the pixels below the bar that a rectangle covers.

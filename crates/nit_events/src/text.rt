@@ -42,12 +42,20 @@ impl Text {
         if !is_text(bytes) {
             return None;
         }
+        Some(Text::of(bytes))
+    }
+
+    /// The text of these bytes, which are one.
+    pub fn of(bytes: &[u8]) -> Text
+        requires { IsTrue (is_text bytes.now) }
+        ensures { result ≡ bytes.now }
+    {
         let mut kept = [0u8; MOST];
         kept[..bytes.len()].copy_from_slice(bytes);
-        Some(Text {
+        Text {
             bytes: kept,
             len: bytes.len() as u8,
-        })
+        }
     }
 
     /// The bytes.

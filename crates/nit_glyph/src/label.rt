@@ -43,9 +43,17 @@ impl Label {
         if !is_label(text) {
             return None;
         }
+        Some(Label::of(text))
+    }
+
+    /// The label of these bytes, which are one.
+    pub fn of(text: &[u8]) -> Label
+        requires { IsTrue (is_label text.now) }
+        ensures { result ≡ text.now }
+    {
         let mut label = Padded::empty();
         label.append(text);
-        Some(Label { text: label })
+        Label { text: label }
     }
 
     /// The bytes of the label.

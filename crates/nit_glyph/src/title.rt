@@ -42,9 +42,17 @@ impl Title {
         if !is_title(text) {
             return None;
         }
+        Some(Title::of(text))
+    }
+
+    /// The title of these bytes, which are one.
+    pub fn of(text: &[u8]) -> Title
+        requires { IsTrue (is_title text.now) }
+        ensures { result ≡ text.now }
+    {
         let mut title = Padded::empty();
         title.append(text);
-        Some(Title { text: title })
+        Title { text: title }
     }
 
     /// The bytes of the title.

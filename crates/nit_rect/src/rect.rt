@@ -41,14 +41,22 @@ impl Rect {
         ensures value { IfSome result (λ r. r ≡ rectangle x y w h) }
     {
         if in_range(x, y, w, h) {
-            Some(Rect {
-                x: x as i16,
-                y: y as i16,
-                w: w as u16,
-                h: h as u16,
-            })
+            Some(Rect::of(x, y, w, h))
         } else {
             None
+        }
+    }
+
+    /// The rectangle of these numbers, each of which is in range.
+    pub fn of(x: i32, y: i32, w: u32, h: u32) -> Rect
+        requires { IsTrue (is_rectangle x y w h) }
+        ensures { result ≡ rectangle x y w h }
+    {
+        Rect {
+            x: x as i16,
+            y: y as i16,
+            w: w as u16,
+            h: h as u16,
         }
     }
 

@@ -57,9 +57,7 @@ pub(crate) fn shown_part(
         → covers result p
         ≡ is_index_in part.now size.0 (shown_index (record { w = size.0; h = size.1 }) view.now p) }
 {
-    let Some(whole) = Rect::new(0, 0, size.0, size.1) else {
-        unreachable!()
-    };
+    let whole = Rect::of(0, 0, size.0, size.1);
     let part = part.meet(&whole);
     let (left, wide) = shown_run(part.x(), part.w(), view.rect.x(), view.ox, width);
     let (top, tall) = shown_run(part.y(), part.h(), view.rect.y(), view.oy, height);
@@ -71,8 +69,5 @@ fn screen_part(left: u32, top: u32, wide: u32, tall: u32) -> Rect
     requires { (left + wide ≤ most_length) × (top + tall ≤ most_length) }
     ensures { result ≡ rectangle (pos left) (pos top) wide tall }
 {
-    let Some(rect) = Rect::new(left as i32, top as i32, wide, tall) else {
-        unreachable!()
-    };
-    rect
+    Rect::of(left as i32, top as i32, wide, tall)
 }

@@ -81,10 +81,7 @@ fn title(view: u32) -> Text
 {
     let mut bytes = [b'w', 0, 0];
     let end = number(&mut bytes, 1, view);
-    match Text::new(&bytes[..end]) {
-        Some(title) => title,
-        None => unreachable!(),
-    }
+    Text::of(&bytes[..end])
 }
 
 fn put_second_phase(stream: &mut Stream, lines: &mut Vec<Line>) -> Result<(), NoMemory>

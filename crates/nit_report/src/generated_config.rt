@@ -55,10 +55,7 @@ fn label(client: u32) -> Label
     requires { client ≤ 7 }
     ensures { result ≡ client_label client }
 {
-    match Label::new(&label_text(client)) {
-        Some(label) => label,
-        None => unreachable!(),
-    }
+    Label::of(&label_text(client))
 }
 
 fn label_text(client: u32) -> [u8; 2]

@@ -33,9 +33,6 @@ impl Region {
         ensures inside { LiesIn result (screen width height) }
         ensures pixels { HasPixels result }
     {
-        let Some(rect) = Rect::new(self.x as i32, self.y as i32, self.w, self.h) else {
-            unreachable!()
-        };
-        rect
+        Rect::of(self.x as i32, self.y as i32, self.w, self.h)
     }
 }

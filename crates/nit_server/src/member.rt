@@ -1,7 +1,7 @@
 //! One session as the server keeps it.
 
 ghost use Rattle.std.specs.Prelude.{◌≡◌, ◌+◌, ◌-◌, ◌*◌, ◌^◌, ◌<◌, ◌≤◌, ◌↔◌, [], ◌∷◌, ◌++◌, false};
-ghost use Rattle.std.specs.Prelude.{true, None, IfOk, IfSome, IsNone, IsSomeAnd, length, map};
+ghost use Rattle.std.specs.Prelude.{true, None, Some, IfOk, IfSome, IsNone, IsSomeAnd, length, map};
 ghost use Rattle.nit_server.specs.Terms.{Buffer, Destroy, IsDonation, IsPaid, IsTable, Take};
 ghost use Rattle.nit_server.specs.Terms.{Upgrade, accepted, by_call, by_handle, ended};
 ghost use Rattle.nit_server.specs.Terms.{first_session, has_handle, has_view, is_slot_taken};
@@ -158,6 +158,14 @@ impl KeptSession {
         ensures none { IsNone result ↔ (has_view self.now.session h ≡ false) }
     {
         self.table.find(h)
+    }
+
+    /// The slot of a handle that the session has.
+    pub(crate) fn slot(&self, h: u32) -> u32
+        requires { has_view self.now.session h ≡ true }
+        ensures { slot_of self.now.pairs h ≡ Some result }
+    {
+        self.find(h).unwrap()
     }
 
     /// The view is gone, and its slot is free.

@@ -78,9 +78,6 @@ impl Server {
         requires held { has_view (session_in self.now.sessions sid) handle ≡ true }
         ensures { IsNamedBy result.0 sid handle self.now.stack.views }
     {
-        match self.members[sid as usize].find(handle) {
-            Some(slot) => ViewRef(slot),
-            None => unreachable!(),
-        }
+        ViewRef(self.members[sid as usize].slot(handle))
     }
 }

@@ -28,11 +28,8 @@ pub fn still_configuration(alloc: Global, width: u32, height: u32) -> Result<Con
 fn still_member(alloc: Global) -> Result<Member, NoMemory>
     ensures { IfOk result (λ m. (still_configuration 1 1).clients ≡ m ∷ []) }
 {
-    let Some(label) = Label::new(b"still") else {
-        unreachable!()
-    };
     Ok(Member {
-        label,
+        label: Label::of(b"still"),
         donation: MOST_RUN_UNITS,
         script: FileName::new(alloc, b"still")?,
         layer: 0,

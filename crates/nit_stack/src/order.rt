@@ -141,8 +141,6 @@ fn put_in(order: &mut Vec<u32>, place: usize, slot: u32)
     ensures items { order.new.items ≡ insert order.old.items place slot }
     ensures capacity { vec_capacity order.new ≡ vec_capacity order.old }
 {
-    match order.insert(place, slot) {
-        Ok(()) => {}
-        Err(_refused) => unreachable!(),
-    }
+    let put = order.insert(place, slot);
+    prove!(put.is_ok());
 }

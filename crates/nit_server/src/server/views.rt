@@ -35,10 +35,8 @@ impl Server {
             ≡ None }
         ensures { IsServed sid (call.Place handle x y w h) result self.old self.new }
     {
-        let Some(rect) = Rect::new(x, y, w, h) else {
-            unreachable!()
-        };
         let v = self.slot(sid, handle);
+        let rect = Rect::of(x, y, w, h);
         self.stack.place(v, rect);
         Reply::Done
     }
@@ -97,11 +95,8 @@ impl Server {
             ≡ None }
         ensures { IsServed sid (call.Title handle text) result self.old self.new }
     {
-        let Some(title) = Title::new(text.as_bytes()) else {
-            unreachable!()
-        };
         let v = self.slot(sid, handle);
-        self.stack.title(v, title);
+        self.stack.title(v, Title::of(text.as_bytes()));
         Reply::Done
     }
 
@@ -124,9 +119,7 @@ impl Server {
     {
         let slots = &mut self.slots;
         let member = &mut self.members[sid as usize];
-        let Some(slot) = member.find(handle) else {
-            unreachable!()
-        };
+        let slot = member.slot(handle);
         member.destroy(slots, handle);
         member.facts();
         self.stack.remove(ViewRef(slot));

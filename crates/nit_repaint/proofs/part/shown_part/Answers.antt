@@ -5,10 +5,10 @@ pub returns : goal.returns
 returns c = record {
   same = λ p on.
       let v = c.args.view.now in
-      part_same c.args.part.now c.in-Some.whole c.meet-part.result c.screen_part.result v c.args.size.0 c.args.size.1
+      part_same c.args.part.now c.of-whole.result c.meet-part.result c.screen_part.result v c.args.size.0 c.args.size.1
       c.args.width c.args.height
       c.shown_run-left.result.0 c.shown_run-left.result.1 c.shown_run-top.result.0 c.shown_run-top.result.1 p
-      c.meet-part.ensures.both c.in-Some.ensures.value c.screen_part.ensures
+      c.meet-part.ensures.both c.of-whole.ensures c.screen_part.ensures
       (run_told _ c.meet-part.result.x _ v.rect.x _ v.ox _ c.meet-part.result.w _ _ _ (omega (arith, ints))
       c.w.ensures.value
       (omega (arith, ints)) (omega (arith, ints)) c.shown_run-left.ensures.same)
