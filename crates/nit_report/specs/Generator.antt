@@ -53,8 +53,8 @@ checked = do
   just (line.Stroke (Check p.x p.y p.w p.h c d))
 
 -- a part of the buffer is to be shown anew
-abbrev pub refreshed : Draw Line
-refreshed = do
+abbrev pub some_refresh : Draw Line
+some_refresh = do
   p ← some_part
   just (line.Call (call.Refresh (pos p.x) (pos p.y) p.w p.h))
 
@@ -98,7 +98,7 @@ kinds =
     ∷ (some_view >>= placed)
     ∷ (some_view >>= λ v. just (line.Call (call.Front v)))
     ∷ (some_view >>= λ v. just (line.Call (call.Back v)))
-    ∷ refreshed
+    ∷ some_refresh
     ∷ just (line.Call call.Take)
     ∷ (some_view >>= shifted)
     ∷ []

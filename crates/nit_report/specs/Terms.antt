@@ -30,10 +30,11 @@ pub use Rattle.nit_report.specs.Generator.{clicks, client_block, client_label, c
 pub use Rattle.nit_report.specs.Generator.{client_text, config_text, filled, first_phase}
 pub use Rattle.nit_report.specs.Generator.{from_outside, generated, generated_configuration}
 pub use Rattle.nit_report.specs.Generator.{generated_member, is_call, is_device, is_shot_line}
-pub use Rattle.nit_report.specs.Generator.{kinds, phase_end, placed, places, refreshed, script_name}
+pub use Rattle.nit_report.specs.Generator.{kinds, phase_end, placed, places, script_name}
 pub use Rattle.nit_report.specs.Generator.{second_phase, seed, shifted, some_colour, some_motion}
-pub use Rattle.nit_report.specs.Generator.{some_part, some_view, titled, titles, user_phase_end}
-pub use Rattle.nit_report.specs.Generator.{user_phases, user_script, user_text, views, xray_shot}
+pub use Rattle.nit_report.specs.Generator.{some_part, some_refresh, some_view, titled, titles}
+pub use Rattle.nit_report.specs.Generator.{user_phase_end, user_phases, user_script, user_text, views}
+pub use Rattle.nit_report.specs.Generator.{xray_shot}
 pub use Rattle.nit_report.specs.JournalText.{FitsDelivery, FitsEntry, FitsEvent, FitsItem}
 pub use Rattle.nit_report.specs.JournalText.{FitsReply, FitsRouted, FitsSession, FitsShot}
 pub use Rattle.nit_report.specs.JournalText.{IsFirstBadEntry, IsJournalAnswer, ReadsJournal}

@@ -2,7 +2,7 @@
 
 ghost use Rattle.std.specs.Prelude.{◌≡◌, ◌<◌, ◌≤◌};
 ghost use Rattle.nit_report.specs.Terms.{Draws, backdrop, checked, filled, from_outside, placed};
-ghost use Rattle.nit_report.specs.Terms.{refreshed, shifted, some_colour, some_motion, some_part};
+ghost use Rattle.nit_report.specs.Terms.{shifted, some_colour, some_motion, some_part, some_refresh};
 ghost use Rattle.nit_report.specs.Terms.{some_view};
 
 use crate::stream::Stream;
@@ -104,8 +104,8 @@ pub fn checked(stream: &mut Stream) -> Line
 }
 
 /// A part of the buffer is to be shown anew.
-pub fn refreshed(stream: &mut Stream) -> Line
-    ensures { Draws refreshed stream.old result stream.new }
+pub fn some_refresh(stream: &mut Stream) -> Line
+    ensures { Draws some_refresh stream.old result stream.new }
 {
     let BufferPart { x, y, w, h } = some_part(stream);
     Line::Call(Call::Refresh(x as i32, y as i32, w, h))

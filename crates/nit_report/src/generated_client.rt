@@ -5,7 +5,7 @@ ghost use Rattle.nit_report.specs.Terms.{AppendsDraws, Draws, busy, client_scrip
 ghost use Rattle.nit_report.specs.Terms.{first_phase, places, second_phase, titles, views};
 
 use crate::drawn_lines::{
-    BUFFER, VIEWS, backdrop, checked, filled, placed, refreshed, shifted, some_view,
+    BUFFER, VIEWS, backdrop, checked, filled, placed, shifted, some_refresh, some_view,
 };
 use crate::stream::Stream;
 use crate::write::number;
@@ -108,7 +108,7 @@ fn busy(stream: &mut Stream, j: u32) -> Line
         }
         3 => Line::Call(Call::Front(some_view(stream))),
         4 => Line::Call(Call::Back(some_view(stream))),
-        5 => refreshed(stream),
+        5 => some_refresh(stream),
         6 => Line::Call(Call::Take),
         _ => {
             let view = some_view(stream);

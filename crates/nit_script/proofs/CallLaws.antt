@@ -12,7 +12,7 @@ use Rattle.nit_script.proofs.Basics.{is_pointer_place, is_wheel, le-leb, leb-tru
 use Rattle.nit_script.proofs.Basics.{nat, nat_tests, phase_at, pointer_field, shot_at}
 use Rattle.nit_script.proofs.Basics.{stroke_spelling, wheel_field}
 use Rattle.nit_script.specs.CallReaders.{above_at, back_at, buffer_at, call_at, close_at}
-use Rattle.nit_script.specs.CallReaders.{destroy_at, front_at, offset_at, place_at, refresh_at}
+use Rattle.nit_script.specs.CallReaders.{destroy_at, front_at, offset_at, place_call_at, refresh_at}
 use Rattle.nit_script.specs.CallReaders.{session_call_at, take_at, title_at, upgrade_at, view_at}
 use Rattle.nit_script.specs.CallReaders.{view_call_at}
 use Rattle.nit_script.proofs.Exact.{Exact, Takes, both, colour_fields, ended_again, ended_takes}
@@ -44,9 +44,9 @@ session_call_takes =
     (word_made nothing _ _ (codes "close") (λ _. Close) (λ p h. (refl, tt)))))))
 
 view_call_takes : Takes view_call_at call_spelling FitsCall
-unfolding view_call_at place_at offset_at front_at back_at above_at title_at destroy_at
+unfolding view_call_at place_call_at offset_at front_at back_at above_at title_at destroy_at
 view_call_takes =
-    first place_at _ (word_made (nat_then (int_then (int_then (nat_then nat_fields)))) _ _ (codes "place")
+    first place_call_at _ (word_made (nat_then (int_then (int_then (nat_then nat_fields)))) _ _ (codes "place")
     (λ p. Place p.0 p.1.0 p.1.1.0 p.1.1.1.0 p.1.1.1.1) (λ p h. assumption))
     (first offset_at _ (word_made (nat_then (int_then int_fields)) _ _ (codes "offset")
     (λ p. Offset p.0 p.1.0 p.1.1) (λ p h. assumption))
@@ -64,7 +64,7 @@ call_takes = first session_call_at view_call_at session_call_takes view_call_tak
 
 -- what is spelled as a call is read so, up to its line feed
 pub call_again : (c : Call) (rest : List ℕ) → FitsCall c → call_at (call_spelling c ++ 10 ∷ rest) ≡ Some (c, 10 ∷ rest)
-unfolding call_at session_call_at view_call_at buffer_at view_at refresh_at take_at upgrade_at close_at place_at
+unfolding call_at session_call_at view_call_at buffer_at view_at refresh_at take_at upgrade_at close_at place_call_at
     offset_at front_at back_at above_at title_at destroy_at
 call_again (Buffer w h) rest fits = rw ((nat_then nat_fields).again (w, h) (10 ∷ rest) fits refl)
 call_again View rest fits = refl
@@ -116,7 +116,7 @@ front_takes =
 front_again : (l : Line) (rest : List ℕ) → FitsLine l → line_front_at (line_spelling l ++ 10 ∷ rest)
     ≡ Some (l, 10 ∷ rest)
 unfolding line_front_at call_at session_call_at view_call_at buffer_at view_at refresh_at take_at upgrade_at close_at
-    place_at offset_at front_at back_at above_at title_at destroy_at stroke_at fill_at check_at
+    place_call_at offset_at front_at back_at above_at title_at destroy_at stroke_at fill_at check_at
 front_again (line.Call c) rest fits = rw (call_again c rest fits)
 front_again (line.Stroke (Fill x y w h c)) rest fits = rw (stroke_again (Fill x y w h c) rest fits)
 front_again (line.Stroke (Check x y w h c d)) rest fits = rw (stroke_again (Check x y w h c d) rest fits)

@@ -43,8 +43,8 @@ session_call_at bytes =
 -- ---- calls that name a view
 
 -- `place`, a view, a place, a width and a height
-unfoldable pub place_at : List ℕ → Option (Call × List ℕ)
-place_at =
+unfoldable pub place_call_at : List ℕ → Option (Call × List ℕ)
+place_call_at =
     at_kind (codes "place")
     (at_both nat_field (at_both int_field (at_both int_field (at_both nat_field nat_field))))
     (λ p. Place p.0 p.1.0 p.1.1.0 p.1.1.1.0 p.1.1.1.1)
@@ -78,7 +78,7 @@ destroy_at = at_kind (codes "destroy") nat_field (λ v. Destroy v)
 -- any of these
 unfoldable pub view_call_at : List ℕ → Option (Call × List ℕ)
 view_call_at bytes =
-    first_of (place_at bytes)
+    first_of (place_call_at bytes)
     (first_of (offset_at bytes)
     (first_of (front_at bytes)
     (first_of (back_at bytes)

@@ -8,7 +8,7 @@ pub use Rattle.nit_script.specs.Below.{Vec, View, Wheel, codes, decimal, digit_v
 pub use Rattle.nit_script.specs.Below.{flat_map, is_ascii_digit, is_printable, is_text, list_all}
 pub use Rattle.nit_script.specs.Below.{not, prefix_len, signed_decimal, starts_with}
 pub use Rattle.nit_script.specs.CallReaders.{above_at, back_at, buffer_at, call_at, close_at}
-pub use Rattle.nit_script.specs.CallReaders.{destroy_at, front_at, offset_at, place_at, refresh_at}
+pub use Rattle.nit_script.specs.CallReaders.{destroy_at, front_at, offset_at, place_call_at, refresh_at}
 pub use Rattle.nit_script.specs.CallReaders.{session_call_at, title_at, upgrade_at, view_at}
 pub use Rattle.nit_script.specs.CallReaders.{view_call_at}
 pub use Rattle.nit_script.specs.Field.{KeepsBytes, field_spelling}

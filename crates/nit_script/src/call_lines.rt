@@ -1,7 +1,7 @@
 //! The calls of a client's script, each read from its first word to its last.
 
 ghost use Rattle.nit_script.specs.Terms.{Gives, above_at, back_at, buffer_at, call_at, close_at};
-ghost use Rattle.nit_script.specs.Terms.{destroy_at, front_at, offset_at, place_at, refresh_at};
+ghost use Rattle.nit_script.specs.Terms.{destroy_at, front_at, offset_at, place_call_at, refresh_at};
 ghost use Rattle.nit_script.specs.Terms.{session_call_at, title_at, upgrade_at, view_at};
 ghost use Rattle.nit_script.specs.Terms.{view_call_at};
 ghost use Rattle.nit_script.specs.CallReaders.{take_at};
@@ -125,9 +125,9 @@ fn close(bytes: &[u8]) -> Option<(Call, &[u8])>
     Some((Call::Close, rest))
 }
 
-#[tactic(auto, unfolding(crate::specs::CallReaders::place_at))]
+#[tactic(auto, unfolding(crate::specs::CallReaders::place_call_at))]
 fn place(bytes: &[u8]) -> Option<(Call, &[u8])>
-    ensures { Gives (λ x. (x.0, x.1.now)) result (place_at bytes.now) }
+    ensures { Gives (λ x. (x.0, x.1.now)) result (place_call_at bytes.now) }
 {
     let rest = take_word(bytes, b"place")?;
     let (view, rest) = natural_field(rest)?;
