@@ -20,20 +20,25 @@ pub use Rattle.nit_audit.specs.Terms.{is_meant, is_some, is_view, layer, left, l
 pub use Rattle.nit_audit.specs.Terms.{moved, new_view, next_phase, option_map, owner, phases_along}
 pub use Rattle.nit_audit.specs.Terms.{pointer, pointer_after, position_or_len, put_above, put_back}
 pub use Rattle.nit_audit.specs.Terms.{put_front, receive, refusal, replay_routing, routed_as}
-pub use Rattle.nit_audit.specs.Terms.{routing, session_in, state_of_replay, swept, taken_if, taking}
-pub use Rattle.nit_audit.specs.Terms.{to_do, user_actions_from, user_actions_of, user_actions_to_do}
-pub use Rattle.nit_audit.specs.Terms.{view_or, view_under, views_at, with_change, with_pointer}
-pub use Rattle.nit_audit.specs.Terms.{without}
-pub use Rattle.nit_journal.proofs.ForCallers.{accepted_reply, delivered_length, refused_reply}
-pub use Rattle.nit_journal.proofs.ForCallers.{serve_accepted, serve_refused}
+pub use Rattle.nit_audit.specs.Terms.{routing, serve, session_in, state_of_replay, swept, taken_if}
+pub use Rattle.nit_audit.specs.Terms.{taking, to_do, user_actions_from, user_actions_of}
+pub use Rattle.nit_audit.specs.Terms.{user_actions_to_do, view_or, view_under, views_at}
+pub use Rattle.nit_audit.specs.Terms.{with_change, with_pointer, without}
+pub use Rattle.nit_journal.proofs.ForCallers.{accepted_reply, actions_of-append, actions_same}
+pub use Rattle.nit_journal.proofs.ForCallers.{calls_of-append, calls_same, delivered_length}
+pub use Rattle.nit_journal.proofs.ForCallers.{drop_left, refused_reply, serve_accepted}
+pub use Rattle.nit_journal.proofs.ForCallers.{serve_refused}
 pub use Rattle.nit_stack.proofs.ForCallers.{above_is, back_at, back_none, find-map, front_is}
 pub use Rattle.nit_stack.proofs.ForCallers.{map-insert, map-map, map-put_above, map-put_back}
 pub use Rattle.nit_stack.proofs.ForCallers.{map-put_front, map-without, map_twice}
 pub use Rattle.std.proofs.Common.{Bool, List, None, Option, SFits, Some, [], add-one, ap, arith}
-pub use Rattle.std.proofs.Common.{cond, drop, drop-cons, false, filter, find, get_or}
-pub use Rattle.std.proofs.Common.{get_or-set_other, get_or-set_same, inl, inr, length, map, nat_lt}
-pub use Rattle.std.proofs.Common.{refl, rules, set, subst, suc, sym, w32, ◌∙◌}
+pub use Rattle.std.proofs.Common.{cond, drop, drop-cons, filter, find, get_or, get_or-set_other}
+pub use Rattle.std.proofs.Common.{get_or-set_same, inl, inr, length, map, nat_lt, refl, rules}
+pub use Rattle.std.proofs.Common.{subst, sym, w32, ◌∙◌}
 pub use Rattle.std.proofs.lemmas.Bool.{cases_Bool, cases_lt, cond_both, eq-eqb}
+pub use Rattle.std.proofs.lemmas.Bool.Decides.{nat_tests}
 pub use Rattle.std.proofs.lemmas.Fn.{filter_same}
 pub use Rattle.std.proofs.lemmas.Int.{ints, to_z-of_z}
 pub use Rattle.std.proofs.lemmas.List.{append-nil, drop_all, length-map, length-set, set-get_or}
+pub use Rattle.std.proofs.lemmas.List.Sorted.{IsNonDecreasingBy-drop, IsNonDecreasingBy-insert}
+pub use Rattle.std.proofs.lemmas.List.Sorted.{IsNonDecreasingBy-short}

@@ -1,21 +1,20 @@
 -- An entry, as the replay plays it.
-use Rattle.nit_audit.proofs.Basics.{Answered, Bool, Call, Configuration, Delivery, Device, Entry}
-use Rattle.nit_audit.proofs.Basics.{Err, Event, FocusModel, HasReplayed, IfOk, IfSome, InputState}
-use Rattle.nit_audit.proofs.Basics.{IsDue, IsFollowing, IsReplay, IsReplayAnswer, IsTrue, Item}
-use Rattle.nit_audit.proofs.Basics.{List, Member, None, Ok, Option, ReplayModel, Reply, Result}
-use Rattle.nit_audit.proofs.Basics.{Routed, Session, Some, Status, Take, UnderwayModel, View, []}
-use Rattle.nit_audit.proofs.Basics.{accepted, after_accepted, after_deliveries, ap, arith, audited}
-use Rattle.nit_audit.proofs.Basics.{bar_rows, by_life, clicks_on, clicks_on_list, cond, delivered}
-use Rattle.nit_audit.proofs.Basics.{delivered_length, deliveries_of, delivery, false, first_session}
+use Rattle.nit_audit.proofs.Basics.{Answered, Call, Configuration, Delivery, Device, Entry, Err}
+use Rattle.nit_audit.proofs.Basics.{Event, FocusModel, HasReplayed, IfOk, IfSome, InputState, IsDue}
+use Rattle.nit_audit.proofs.Basics.{IsFollowing, IsReplay, IsReplayAnswer, IsTrue, Item, List}
+use Rattle.nit_audit.proofs.Basics.{Member, None, Ok, Option, ReplayModel, Reply, Result, Routed}
+use Rattle.nit_audit.proofs.Basics.{Session, Some, Status, Take, UnderwayModel, View, [], accepted}
+use Rattle.nit_audit.proofs.Basics.{after_accepted, after_deliveries, arith, audited, bar_rows}
+use Rattle.nit_audit.proofs.Basics.{by_life, clicks_on, clicks_on_list, cond, delivered}
+use Rattle.nit_audit.proofs.Basics.{delivered_length, deliveries_of, delivery, first_session}
 use Rattle.nit_audit.proofs.Basics.{followed, get_or, given, input_after_call, input_closing}
 use Rattle.nit_audit.proofs.Basics.{is_accepted, layer, left, length, length-set, map, member}
 use Rattle.nit_audit.proofs.Basics.{nat_lt, next_phase, option_map, owner, pointer, pointer_after}
 use Rattle.nit_audit.proofs.Basics.{receive, refl, refusal, refused_reply, replay_routing}
-use Rattle.nit_audit.proofs.Basics.{routed_as, routing, serve_refused, session_in, set, set-get_or}
-use Rattle.nit_audit.proofs.Basics.{state_of_replay, suc, sym, taking, to_do, with_pointer}
+use Rattle.nit_audit.proofs.Basics.{routed_as, routing, serve, serve_refused, session_in}
+use Rattle.nit_audit.proofs.Basics.{set-get_or, state_of_replay, taking, to_do, with_pointer}
 use Rattle.std.proofs.Common.{Bool, ap, false, set, suc, sym, true, zero, ℕ, ◌++◌, ◌+◌, ◌-◌, ◌<◌}
 use Rattle.std.proofs.Common.{◌∙◌, ◌∷◌, ◌≡◌, ◌≤◌}
-use Rattle.nit_journal.specs.Session.{serve}
 use Rattle.nit_journal.specs.StackAfter.{stack_after_call}
 use Rattle.nit_events.specs.declared.entry.Entry.TheVariants as entry
 use Rattle.nit_stack.specs.declared.view.View.{View as ViewOf}

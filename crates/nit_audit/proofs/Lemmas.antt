@@ -13,9 +13,9 @@ pub use Rattle.nit_audit.proofs.Basics.{taken_if, to_do, to_z-of_z, user_actions
 pub use Rattle.nit_audit.proofs.Basics.{user_actions_to_do, view_under, views_at, w32, ◌∙◌}
 pub use Rattle.nit_audit.proofs.Entries.{by_answer, closing, follows, fresh, heard_one, if_ok}
 pub use Rattle.nit_audit.proofs.Entries.{input_played, near, played, restacked, same_route}
-pub use Rattle.nit_audit.proofs.VerdictLemmas.{ahead_on, good, if_ok_yes, only_one, verdict_bad}
-pub use Rattle.nit_audit.proofs.VerdictLemmas.{verdict_ended, verdict_unended, whole}
+pub use Rattle.nit_audit.proofs.GoodEntryLemmas.{keep_many}
 pub use Rattle.nit_audit.proofs.KeyLemmas.{all_filter, all_insert, backed, changed_all}
 pub use Rattle.nit_audit.proofs.KeyLemmas.{created_views, found_all, fronted, moves, on_ok}
 pub use Rattle.nit_audit.proofs.KeyLemmas.{owner_small, raised, removed, stays}
-pub use Rattle.nit_audit.proofs.GoodEntryLemmas.{keep_many}
+pub use Rattle.nit_audit.proofs.VerdictLemmas.{ahead_on, good, if_ok_yes, only_one, verdict_bad}
+pub use Rattle.nit_audit.proofs.VerdictLemmas.{verdict_ended, verdict_unended, whole}

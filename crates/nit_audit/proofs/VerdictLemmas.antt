@@ -2,16 +2,15 @@
 use Rattle.nit_audit.proofs.Basics.{Audited, Call, Configuration, Entry, Err, IfOk, IsAhead}
 use Rattle.nit_audit.proofs.Basics.{IsAllDone, IsEnded, IsFollowed, IsGoodFor, IsGoodFrom}
 use Rattle.nit_audit.proofs.Basics.{IsLeastBad, IsLegal, IsNothingLeft, IsOpen, IsReplay, IsVerdict}
-use Rattle.nit_audit.proofs.Basics.{IsVerdictFrom, IsWhole, LegalFrom, List, MayFollow, Ok, Result}
-use Rattle.nit_audit.proofs.Basics.{State, UnderwayModel, UserAction, Verdict, [], add-one, after}
-use Rattle.nit_audit.proofs.Basics.{ap, append-nil, arith, audited, calls_of, cases_lt, drop}
-use Rattle.nit_audit.proofs.Basics.{drop-cons, drop_all, first_audited, first_state, get_or, inl}
-use Rattle.nit_audit.proofs.Basics.{inr, refl, subst, suc, sym, user_actions_of}
-use Rattle.std.proofs.Common.{List, [], inl, inr, length, refl, suc, sym, take, zero, ℕ, ◌++◌, ◌+◌}
+use Rattle.nit_audit.proofs.Basics.{IsVerdictFrom, IsWhole, LegalFrom, MayFollow, Ok, Result, State}
+use Rattle.nit_audit.proofs.Basics.{UnderwayModel, UserAction, Verdict, actions_same, add-one}
+use Rattle.nit_audit.proofs.Basics.{after, ap, append-nil, arith, audited, calls_of, calls_same}
+use Rattle.nit_audit.proofs.Basics.{cases_lt, drop, drop-cons, drop_all, first_audited, first_state}
+use Rattle.nit_audit.proofs.Basics.{get_or, subst, user_actions_of}
+use Rattle.std.proofs.Common.{List, [], inl, inr, refl, suc, sym, length, take, zero, ℕ, ◌++◌, ◌+◌}
 use Rattle.std.proofs.Common.{◌<◌, ◌↔◌, ◌∙◌, ◌∷◌, ◌≡◌, ◌≢◌, ◌⊎◌}
 use Rattle.nit_events.specs.declared.entry.Entry.TheVariants as entry
 use Rattle.nit_audit.specs.declared.auditing.Verdict.TheVariants as verdict
-use Rattle.nit_journal.proofs.ForCallers.{actions_same, calls_same}
 use mathlib.Core.List.{cons≢nil}
 use Rattle.nit_audit.proofs.GoodEntryLemmas.{comes_next, final_good, final_left, good_back}
 use Rattle.nit_audit.proofs.GoodEntryLemmas.{good_fewer, good_for, good_from, good_on, may_follow}

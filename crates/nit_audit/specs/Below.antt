@@ -9,9 +9,7 @@ pub use Rattle.nit_events.specs.Input.{InputState, Routing, deliveries_of, deliv
 pub use Rattle.nit_events.specs.Input.{forget, pointer_after, routed_as, routing}
 pub use Rattle.nit_events.specs.Ranges.{IsDevice, most_read}
 pub use Rattle.nit_events.specs.declared.call.Call.{Call}
-pub use Rattle.nit_events.specs.declared.call.Call.TheVariants.{Above, Back, Buffer, Close, Destroy}
-pub use Rattle.nit_events.specs.declared.call.Call.TheVariants.{Front, Offset, Place, Refresh, Take}
-pub use Rattle.nit_events.specs.declared.call.Call.TheVariants.{Title, Upgrade}
+pub use Rattle.nit_events.specs.declared.call.Call.TheVariants.{Close, Place, Take, Title}
 pub use Rattle.nit_events.specs.declared.call.Reply.{Reply}
 pub use Rattle.nit_events.specs.declared.device.Device.{Device}
 pub use Rattle.nit_events.specs.declared.entry.Entry.{Entry}
@@ -24,9 +22,8 @@ pub use Rattle.nit_focus.specs.Focus.{FocusModel, clicks_on_list, pointer, with_
 pub use Rattle.nit_glyph.specs.Texts.{is_title}
 pub use Rattle.nit_journal.specs.Projection.{alone, projection, replies_to}
 pub use Rattle.nit_journal.specs.Replay.{Agrees, IsLegal, IsOpen, LegalFrom}
-pub use Rattle.nit_journal.specs.Session.{Answered, Session, accepted, answered, by_call, by_handle}
-pub use Rattle.nit_journal.specs.Session.{by_life, by_status, first_session, given, receive}
-pub use Rattle.nit_journal.specs.Session.{refusal, serve, taking}
+pub use Rattle.nit_journal.specs.Session.{Answered, Session, accepted, by_life, first_session}
+pub use Rattle.nit_journal.specs.Session.{given, receive, refusal, serve, taking}
 pub use Rattle.nit_journal.specs.StackAfter.{after_accepted, after_deliveries, is_accepted}
 pub use Rattle.nit_journal.specs.StackAfter.{new_view}
 pub use Rattle.nit_journal.specs.State.{State, after, clicks_on, delivered, first_state}
@@ -38,14 +35,12 @@ pub use Rattle.nit_plan.specs.Calls.{calls_from, calls_to_make, user_actions_fro
 pub use Rattle.nit_plan.specs.Calls.{user_actions_to_do}
 pub use Rattle.nit_rect.specs.Limits.{most_sessions}
 pub use Rattle.nit_rect.specs.Rectangle.{covers, is_rectangle, rectangle}
-pub use Rattle.nit_rect.specs.declared.point.Point.{Point}
 pub use Rattle.nit_script.specs.Grammar.{most_lines}
 pub use Rattle.nit_script.specs.Spelling.{FitsInputLine}
 pub use Rattle.nit_script.specs.declared.line.InputLine.{InputLine}
 pub use Rattle.nit_script.specs.declared.line.Line.{Line}
 pub use Rattle.nit_stack.specs.LabelPlaces.{is_view}
-pub use Rattle.nit_stack.specs.Orders.{changed, moved, put_above, put_again, put_back, put_front}
-pub use Rattle.nit_stack.specs.Orders.{without}
+pub use Rattle.nit_stack.specs.Orders.{changed, moved, put_above, put_back, put_front, without}
 pub use Rattle.nit_stack.specs.Sources.{in_bar, owner}
 pub use Rattle.nit_stack.specs.declared.view.View.{View}
 pub use Rattle.slab.specs.Slab.{Slab, Updates, get}

@@ -1,6 +1,6 @@
 -- An audit under way: what the entries so far lead to, and which entry may come next.
-use Rattle.std.specs.Prelude.{◌≡◌, ℕ, ◌+◌, ◌<◌, ◌≤◌, List, [], ◌∷◌, ◌++◌, length, slice_set}
-use Rattle.std.specs.Prelude.{Option, Some, None}
+use Rattle.std.specs.Prelude.{◌≡◌, ℕ, ◌+◌, ◌<◌, ◌≤◌, List, [], ◌∷◌, ◌++◌, length, slice_set, Option}
+use Rattle.std.specs.Prelude.{Some, None}
 use Rattle.nit_audit.specs.Below.{Agrees, AllByRecursion, Call, Configuration, Does, Entry}
 use Rattle.nit_audit.specs.Below.{FitsInputLine, InputLine, IsNonDecreasing, LegalFrom, Line}
 use Rattle.nit_audit.specs.Below.{Shoots, State, UserAction, after, calls_from, calls_of, done}

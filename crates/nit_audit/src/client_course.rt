@@ -1,7 +1,7 @@
 //! What a client's script has still to do.
 
 ghost use Rattle.std.specs.Prelude.{◌≡◌, ◌↔◌, ◌+◌, ◌≤◌, [], IsTrue, length};
-ghost use Rattle.nit_audit.specs.Terms.{IsRestAtCall, IsCourseAnswer, calls_to_make, most_lines};
+ghost use Rattle.nit_audit.specs.Terms.{IsCourseAnswer, IsRestAtCall, calls_to_make, most_lines};
 
 use crate::same::Same;
 use nit_events::Call;

@@ -4,9 +4,8 @@ ghost use Rattle.std.specs.Prelude.{◌≡◌, ◌+◌, ◌<◌, ◌≤◌, true
 ghost use Rattle.std.specs.Prelude.{slice_index_or, slice_set, None, IsTrue, ◌↔◌, ℕ, ◌∷◌, [], ◌-◌};
 ghost use Rattle.std.specs.Prelude.{◌^◌};
 ghost use Rattle.nit_events.specs.declared.entry.Entry.TheVariants as entry;
-ghost use Rattle.nit_audit.specs.Terms.{CanReplay, CanRestack, IsConfiguration, IsDevice};
-ghost use Rattle.nit_audit.specs.Terms.{IsMember, IsReplay, IsReplayAnswer, View, accepted};
-ghost use Rattle.nit_audit.specs.Terms.{after_accepted};
+ghost use Rattle.nit_audit.specs.Terms.{CanReplay, CanRestack, IsConfiguration, IsDevice, IsMember};
+ghost use Rattle.nit_audit.specs.Terms.{IsReplay, IsReplayAnswer, View, accepted, after_accepted};
 ghost use Rattle.nit_audit.specs.Terms.{after_deliveries, bar_rows, changed, delivered};
 ghost use Rattle.nit_audit.specs.Terms.{deliveries_of, delivery, first_input, first_session};
 ghost use Rattle.nit_audit.specs.Terms.{first_state, input_closing, is_rectangle, is_title};

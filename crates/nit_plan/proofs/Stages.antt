@@ -1,15 +1,15 @@
 -- The colours of a script's lines.
-use Rattle.nit_plan.proofs.Basics.{All, All-append, All-cons, AllByRecursion, Buffer, Check, Fill}
-use Rattle.nit_plan.proofs.Basics.{FitsLine, HasStages, IsAmong, IsInked, IsOfColours, IsWord, Line}
-use Rattle.nit_plan.proofs.Basics.{List, Painting, Size, Some, Stroke, [], after_line, arith, blank}
-use Rattle.nit_plan.proofs.Basics.{colours, drop, either, enumerate_from, eq-eqb, eqb-true, ink}
-use Rattle.nit_plan.proofs.Basics.{inked_fits, is_accepted, length, list_any, list_any-append, map}
-use Rattle.nit_plan.proofs.Basics.{nat_tests, or_cases, or_right, painted_from, range_with_len}
-use Rattle.nit_plan.proofs.Basics.{refl, script_ink, serve, session_size, slice_get, slice_index}
-use Rattle.nit_plan.proofs.Basics.{stages_from, stages_within, stroke_colour, table_size}
-use Rattle.nit_plan.proofs.Basics.{word_after_stroke, words_after, words_left, zero_at}
-use Rattle.std.proofs.lemmas.List.Elements.{All-nil}
-use Rattle.std.proofs.Common.{inl, inr, refl, subst, suc, sym, take, true, zero, ℕ, ◌%◌, ◌*◌, ◌++◌}
+use Rattle.nit_plan.proofs.Basics.{All, All-append, All-cons, All-nil, AllByRecursion, Buffer}
+use Rattle.nit_plan.proofs.Basics.{Check, Fill, FitsLine, HasStages, IsAmong, IsInked, IsOfColours}
+use Rattle.nit_plan.proofs.Basics.{IsWord, Line, List, Painting, Size, Some, Stroke, [], after_line}
+use Rattle.nit_plan.proofs.Basics.{arith, blank, colours, drop, either, enumerate_from, eq-eqb}
+use Rattle.nit_plan.proofs.Basics.{eqb-true, ink, inked_fits, is_accepted, length, list_any}
+use Rattle.nit_plan.proofs.Basics.{list_any-append, map, nat_tests, or_cases, or_right}
+use Rattle.nit_plan.proofs.Basics.{painted_from, range_with_len, script_ink, serve, session_size}
+use Rattle.nit_plan.proofs.Basics.{slice_get, slice_index, stages_from, stages_within}
+use Rattle.nit_plan.proofs.Basics.{stroke_colour, table_size, word_after_stroke, words_after}
+use Rattle.nit_plan.proofs.Basics.{words_left, zero_at}
+use Rattle.std.proofs.Common.{refl, inl, inr, subst, suc, sym, take, true, zero, ℕ, ◌%◌, ◌*◌, ◌++◌}
 use Rattle.std.proofs.Common.{◌+◌, ◌-◌, ◌/◌, ◌<◌, ◌==◌, ◌∙◌, ◌∷◌, ◌≡◌, ◌≤◌}
 use Rattle.nit_script.specs.declared.line.Line.TheVariants as line
 use Rattle.nit_plan.specs.Strokes.{cleared, stroked}

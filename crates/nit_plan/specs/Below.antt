@@ -10,7 +10,7 @@ pub use Rattle.nit_events.specs.declared.event.Status.{Status}
 pub use Rattle.nit_journal.specs.Replay.{replay}
 pub use Rattle.nit_journal.specs.Session.{Session, accepted, after_calls, by_call, by_quota}
 pub use Rattle.nit_journal.specs.Session.{by_refusal, by_status, first_session, is_side, refusal}
-pub use Rattle.nit_journal.specs.Session.{serve, taking, unless, ◌orelse◌}
+pub use Rattle.nit_journal.specs.Session.{serve, taking, unless}
 pub use Rattle.nit_journal.specs.StackAfter.{is_accepted}
 pub use Rattle.nit_journal.specs.State.{session}
 pub use Rattle.nit_journal.specs.WholeJournals.{Does, Shoots, UserAction, calls_of, done}
@@ -28,8 +28,7 @@ pub use Rattle.nit_script.specs.declared.line.Stroke.TheVariants.{Check, Fill}
 pub use Rattle.nit_slots.specs.Account.{IsDonation, buffer_left, buffer_need, room, view_left}
 pub use Rattle.nit_slots.specs.Table.{last_handle}
 pub use Rattle.nit_stack.specs.Sources.{Size}
-pub use Rattle.nit_word.specs.Inks.{Colours, Ink, IsAmong, IsInked, IsOfColours, IsWord, Stages}
-pub use Rattle.nit_word.specs.Inks.{is_among}
+pub use Rattle.nit_word.specs.Inks.{Ink, IsAmong, IsInked, IsOfColours, IsWord, Stages}
 pub use Rattle.nit_word.specs.Sight.{HasStage, MayHold, MayHoldBetween, Sight, TellsAll}
 pub use Rattle.nit_word.specs.Sight.{inked_sight, stored}
 pub use Rattle.nit_word.specs.Updates.{in_turn, is_between, set_where, with_words}

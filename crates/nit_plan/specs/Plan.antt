@@ -3,8 +3,7 @@
 use Rattle.std.specs.Prelude.{◌≡◌, ℕ, ◌*◌, nat_lt, Bool, ◌&&◌, false, IsTrue, List, [], ◌∷◌}
 use Rattle.std.specs.Prelude.{if◌then◌else◌}
 use Rattle.nit_plan.specs.Below.{Buffer, Call, Expect, Line, MayHoldBetween, Reply, Session, Sight}
-use Rattle.nit_plan.specs.Below.{Status, Step, Take}
-use Rattle.nit_plan.specs.Below.{first_session, is_accepted, serve}
+use Rattle.nit_plan.specs.Below.{Status, Step, Take, first_session, is_accepted, serve}
 use Rattle.nit_events.specs.declared.event.Status.TheVariants as status
 use Rattle.nit_script.specs.declared.line.Line.TheVariants as line
 use Rattle.nit_plan.specs.declared.plan.Expect.TheVariants as expect

@@ -2,8 +2,7 @@
 -- not depend on what happens to the session in a run.
 use Rattle.std.specs.Prelude.{ℕ, ◌+◌, ◌-◌, List, [], ◌∷◌, fold, map, take, if◌then◌else◌}
 use Rattle.nit_plan.specs.Below.{Buffer, Call, Check, Fill, Ink, IsInked, Line, Reply, Session}
-use Rattle.nit_plan.specs.Below.{Size}
-use Rattle.nit_plan.specs.Below.{Stages, first_session, flat_map, is_accepted, range_with_len}
+use Rattle.nit_plan.specs.Below.{Size, Stages, first_session, flat_map, is_accepted, range_with_len}
 use Rattle.nit_plan.specs.Below.{serve, slice_index, zeros}
 use Rattle.nit_script.specs.declared.line.Line.TheVariants as line
 use Rattle.nit_plan.specs.Strokes.{stroked, cleared}

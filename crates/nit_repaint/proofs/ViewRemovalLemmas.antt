@@ -8,9 +8,9 @@ use Rattle.nit_repaint.proofs.Basics.{owner_of_views, owner_passes, pixel, repai
 use Rattle.nit_repaint.proofs.Basics.{repainted_union, same_slot, seen, size_of, slot_view_covers}
 use Rattle.nit_repaint.proofs.Basics.{source_in, source_of_number, source_under, times, to_come}
 use Rattle.nit_repaint.proofs.Basics.{uncovered, without, without_session}
-use Rattle.std.proofs.Common.{Bool, IsTrue, List, Some, [], add-one, ap, arith, drop, eq-eqb, false, find}
-use Rattle.std.proofs.Common.{length, ne_eqb, not, option_map, refl, slice_get, suc, sym, true}
-use Rattle.std.proofs.Common.{zero, ℕ, ◌&&◌, ◌+◌, ◌<◌, ◌∙◌, ◌∷◌, ◌≡◌, ◌≤◌}
+use Rattle.std.proofs.Common.{Bool, IsTrue, List, Some, [], add-one, ap, arith, drop, eq-eqb, false}
+use Rattle.std.proofs.Common.{find, length, ne_eqb, not, option_map, refl, slice_get, suc, sym}
+use Rattle.std.proofs.Common.{true, zero, ℕ, ◌&&◌, ◌+◌, ◌<◌, ◌∙◌, ◌∷◌, ◌≡◌, ◌≤◌}
 use Rattle.nit_repaint.proofs.ViewChangeLemmas.{found_not, marked_same, other_slot, owned_not}
 use Rattle.nit_repaint.proofs.ViewChangeLemmas.{without_none}
 use Rattle.nit_repaint.proofs.WantedLemmas.{one_came}

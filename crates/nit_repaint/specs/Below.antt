@@ -18,11 +18,10 @@ pub use Rattle.nit_stack.specs.Orders.{changed, moved, put_above, put_again, wit
 pub use Rattle.nit_stack.specs.Sources.{PixelSource, Size, Word, among, black_or_word, buffer_place}
 pub use Rattle.nit_stack.specs.Sources.{in_bar, index_at, owner_in, pixel, point, shown_index}
 pub use Rattle.nit_stack.specs.Sources.{source, source_under}
-pub use Rattle.nit_stack.specs.Stack.{IsOnScreen, IsScreenSize, IsSlotView, IsStack, NoPair}
-pub use Rattle.nit_stack.specs.Stack.{SlotView, StackModel, has_slot, is_of_session, is_slot}
-pub use Rattle.nit_stack.specs.Stack.{moved_above, on_view, place_of, put_own_back, put_own_front}
-pub use Rattle.nit_stack.specs.Stack.{same_slot, size_of, slot_view_in, slot_view_layer}
-pub use Rattle.nit_stack.specs.Stack.{with_offset, with_rect}
+pub use Rattle.nit_stack.specs.Stack.{IsOnScreen, IsScreenSize, IsStack, NoPair, SlotView}
+pub use Rattle.nit_stack.specs.Stack.{StackModel, is_of_session, is_slot, moved_above, on_view}
+pub use Rattle.nit_stack.specs.Stack.{place_of, put_own_back, put_own_front, same_slot, size_of}
+pub use Rattle.nit_stack.specs.Stack.{slot_view_in, slot_view_layer, with_offset, with_rect}
 pub use Rattle.nit_stack.specs.ViewNames.{views_of}
 pub use Rattle.nit_stack.specs.declared.view.View.{View}
 pub use Rattle.nit_stack.specs.declared.view.ViewRef.{ViewRef}

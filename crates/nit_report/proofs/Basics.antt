@@ -6,15 +6,15 @@ pub use Rattle.nit_report.specs.Terms.{Closed, Delivery, Device, Draw, Draws, En
 pub use Rattle.nit_report.specs.Terms.{FitsCall, FitsDelivery, FitsDevice, FitsEntry, FitsEvent}
 pub use Rattle.nit_report.specs.Terms.{FitsInputLine, FitsInt, FitsItem, FitsLine, FitsNat}
 pub use Rattle.nit_report.specs.Terms.{FitsReply, FitsRouted, FitsSession, FitsShot, HasOneReading}
-pub use Rattle.nit_report.specs.Terms.{IfOk, InputLine, IsRunConfiguration, IsFirstBadEntry}
-pub use Rattle.nit_report.specs.Terms.{IsJournalAnswer, IsRunMember, IsOkAnd, Item, JournalError}
-pub use Rattle.nit_report.specs.Terms.{Killed, Line, Live, Member, NoMemory, ReadsClient}
-pub use Rattle.nit_report.specs.Terms.{ReadsJournal, Reply, Routed, UnlessNoMemory, at_both}
-pub use Rattle.nit_report.specs.Terms.{at_kind, at_made, backdrop, buffer_lines, busy, busy_lines}
-pub use Rattle.nit_report.specs.Terms.{call_at, call_spelling, channels, click, clicks}
-pub use Rattle.nit_report.specs.Terms.{client_block, client_text, codes, decimal, deliveries_at}
-pub use Rattle.nit_report.specs.Terms.{deliveries_of, delivery_spelling, device_spelling}
-pub use Rattle.nit_report.specs.Terms.{draws_in_turn, entry_spelling, event_spelling, events_text}
+pub use Rattle.nit_report.specs.Terms.{IfOk, InputLine, IsFirstBadEntry, IsJournalAnswer, IsOkAnd}
+pub use Rattle.nit_report.specs.Terms.{IsRunConfiguration, IsRunMember, Item, JournalError, Killed}
+pub use Rattle.nit_report.specs.Terms.{Line, Live, Member, NoMemory, ReadsClient, ReadsJournal}
+pub use Rattle.nit_report.specs.Terms.{Reply, Routed, UnlessNoMemory, at_both, at_kind, at_made}
+pub use Rattle.nit_report.specs.Terms.{backdrop, buffer_lines, busy, busy_lines, call_at}
+pub use Rattle.nit_report.specs.Terms.{call_spelling, channels, click, clicks, client_block}
+pub use Rattle.nit_report.specs.Terms.{client_text, codes, decimal, deliveries_at, deliveries_of}
+pub use Rattle.nit_report.specs.Terms.{delivery_spelling, device_spelling, draws_in_turn}
+pub use Rattle.nit_report.specs.Terms.{entry_spelling, event_spelling, event_told, events_text}
 pub use Rattle.nit_report.specs.Terms.{first_of, first_phase, flat_map, focus_enter_at}
 pub use Rattle.nit_report.specs.Terms.{focus_leave_at, for_each, generated_member, input_phases}
 pub use Rattle.nit_report.specs.Terms.{input_spelling, is_call, is_device, is_input_phase, is_phase}
@@ -24,8 +24,8 @@ pub use Rattle.nit_report.specs.Terms.{kinds, leave_at, line_spelling, nat, nat_
 pub use Rattle.nit_report.specs.Terms.{one_in_front, phase_end, phases, placed, places, plain_at}
 pub use Rattle.nit_report.specs.Terms.{range_with_len, reply_spelling, routed_as, script_name}
 pub use Rattle.nit_report.specs.Terms.{second_phase, seed, session_field, shifted, shot_field}
-pub use Rattle.nit_report.specs.Terms.{spelled, taken, titled, titles, event_told, user_phase_end}
-pub use Rattle.nit_report.specs.Terms.{user_phases, views, xray_shot, ◌>>=◌}
+pub use Rattle.nit_report.specs.Terms.{spelled, taken, titled, titles, user_phase_end, user_phases}
+pub use Rattle.nit_report.specs.Terms.{views, xray_shot, ◌>>=◌}
 pub use Rattle.nit_script.proofs.ForCallers.{Exact, IsKind, IsReader, Takes, begins_more, both}
 pub use Rattle.nit_script.proofs.ForCallers.{call_again, call_takes, device_again, device_takes}
 pub use Rattle.nit_script.proofs.ForCallers.{ended_again, ended_takes, first_takes, kind}
@@ -33,7 +33,7 @@ pub use Rattle.nit_script.proofs.ForCallers.{made_takes, nat_fields, no_reading,
 pub use Rattle.nit_script.proofs.ForCallers.{nothing_spelled, one_reading, reads_begins, same_lines}
 pub use Rattle.nit_script.proofs.ForCallers.{same_read, spaced, stops, taken_begins, tested}
 pub use Rattle.std.proofs.Common.{append_assoc, arith, length, refl, rules, sym, ◌∙◌}
-pub use Rattle.std.proofs.lemmas.Bool.{cases_lt, eqb-true, false≢true, true≢false}
+pub use Rattle.std.proofs.lemmas.Bool.{cases_lt, eqb-true, false≢true}
 pub use Rattle.std.proofs.lemmas.Bool.Decides.{nat_tests}
 pub use Rattle.std.proofs.lemmas.Fmt.{decimal_digit, decimal_injective, decimal_step}
 pub use Rattle.std.proofs.lemmas.Fmt.{length-decimal-le}

@@ -9,14 +9,14 @@ use Rattle.nit_report.proofs.Basics.{at_both, at_kind, at_made, at_most_one, bot
 use Rattle.nit_report.proofs.Basics.{call_at, call_spelling, call_takes, codes, deliveries_at}
 use Rattle.nit_report.proofs.Basics.{deliveries_of, delivery_spelling, device_again}
 use Rattle.nit_report.proofs.Basics.{device_spelling, device_takes, ended_again, ended_takes}
-use Rattle.nit_report.proofs.Basics.{entry_spelling, eqb-true, event_spelling, first_of}
+use Rattle.nit_report.proofs.Basics.{entry_spelling, eqb-true, event_spelling, event_told, first_of}
 use Rattle.nit_report.proofs.Basics.{first_takes, flat_map, focus_enter_at, focus_leave_at}
 use Rattle.nit_report.proofs.Basics.{is_session_number, is_shot_number, item_spelling, kind}
 use Rattle.nit_report.proofs.Basics.{leave_at, made_takes, nat, nat_field, nat_fields, nat_tests}
 use Rattle.nit_report.proofs.Basics.{no_reading, nothing, nothing_at, nothing_spelled, one_in_front}
 use Rattle.nit_report.proofs.Basics.{one_reading, plain_at, reads_begins, reply_spelling, routed_as}
 use Rattle.nit_report.proofs.Basics.{same_lines, same_read, session_field, shot_field}
-use Rattle.nit_report.proofs.Basics.{some_pair_parts, spaced, spelled, stops, tested, event_told}
+use Rattle.nit_report.proofs.Basics.{some_pair_parts, spaced, spelled, stops, tested}
 use Rattle.nit_script.specs.InputReaders.{device_at, motion_at, press_at, release_at, wheel_at}
 use Rattle.nit_report.specs.EntryReaders.{entry_at, answered_at, bad_at, behind_reply_at}
 use Rattle.nit_report.specs.EntryReaders.{delivery_at, done_at, entry_front_at, event_at}

@@ -7,7 +7,7 @@ pub use Rattle.nit_report.proofs.Basics.{first_phase, flat_map, for_each, genera
 pub use Rattle.nit_report.proofs.Basics.{length, map-append, map-range_with_len_more, not_empty}
 pub use Rattle.nit_report.proofs.Basics.{placed, range_with_len, refl, rules, same_read}
 pub use Rattle.nit_report.proofs.Basics.{script_name, second_phase, seed, spelled, sym, taken}
-pub use Rattle.nit_report.proofs.Basics.{taken_begins, titled, true≢false, user_phases, ◌∙◌}
+pub use Rattle.nit_report.proofs.Basics.{taken_begins, titled, user_phases, ◌∙◌}
 pub use Rattle.nit_report.proofs.DrawnLines.{appends_one, appends_then, client_calls, client_fits}
 pub use Rattle.nit_report.proofs.DrawnLines.{client_lines, client_phases, clients_read, each_done}
 pub use Rattle.nit_report.proofs.DrawnLines.{each_more, each_none, flat_map_next, user_devices}

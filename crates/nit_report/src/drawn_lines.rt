@@ -2,8 +2,8 @@
 
 ghost use Rattle.std.specs.Prelude.{◌≡◌, ◌<◌, ◌≤◌};
 ghost use Rattle.nit_report.specs.Terms.{Draws, backdrop, checked, filled, from_outside, placed};
-ghost use Rattle.nit_report.specs.Terms.{shifted, some_colour, some_motion, some_part, some_refresh};
-ghost use Rattle.nit_report.specs.Terms.{some_view};
+ghost use Rattle.nit_report.specs.Terms.{shifted, some_colour, some_motion, some_part};
+ghost use Rattle.nit_report.specs.Terms.{some_refresh, some_view};
 
 use crate::stream::Stream;
 use nit_events::{Call, Device};

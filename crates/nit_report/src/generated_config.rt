@@ -2,9 +2,8 @@
 
 ghost use Rattle.std.specs.Prelude.{◌≡◌, ◌+◌, ◌≤◌, [], ◌∷◌, ◌++◌, IsTrue, IfOk, OnOk};
 ghost use Rattle.nit_report.specs.Terms.{IsRunConfiguration, client_block, client_label};
-ghost use Rattle.nit_report.specs.Terms.{config_text};
-ghost use Rattle.nit_report.specs.Terms.{decimal, generated_configuration, generated_member};
-ghost use Rattle.nit_report.specs.Terms.{is_label, script_name};
+ghost use Rattle.nit_report.specs.Terms.{config_text, decimal, generated_configuration};
+ghost use Rattle.nit_report.specs.Terms.{generated_member, is_label, script_name};
 
 use crate::spelling::put_text;
 use nit_config::{Config, FileName, Member};

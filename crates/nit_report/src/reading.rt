@@ -1,8 +1,8 @@
 //! Numbers, events and deliveries in front of bytes, each with what follows it.
 
 ghost use Rattle.std.specs.Prelude.{◌≡◌, Some};
-ghost use Rattle.nit_report.specs.Terms.{Gives, delivery_at, event_at, item_at, routed_at};
-ghost use Rattle.nit_report.specs.Terms.{event_told, session_field, shot_field};
+ghost use Rattle.nit_report.specs.Terms.{Gives, delivery_at, event_at, event_told, item_at};
+ghost use Rattle.nit_report.specs.Terms.{routed_at, session_field, shot_field};
 
 use nit_events::{Delivery, Device, Event, Item, Routed};
 use nit_script::{natural_field, take_byte, take_device, take_word};

@@ -17,10 +17,10 @@ pub use Rattle.nit_script.specs.declared.line.Stroke.{Stroke}
 pub use Rattle.nit_script.specs.declared.line.Stroke.TheVariants.{Check, Fill}
 pub use Rattle.nit_script.specs.declared.write.Field.{Field}
 pub use Rattle.nit_script.specs.declared.write.Field.TheVariants.{Colour, Integer, Natural, Text}
-pub use Rattle.std.specs.Char.{digit_value, is_ascii_digit}
+pub use Rattle.std.specs.Char.{is_ascii_digit}
 pub use Rattle.std.specs.Fmt.{decimal, signed_decimal}
 pub use Rattle.std.specs.Global.{Global}
-pub use Rattle.std.specs.Int.{IsInRange, is_in_range}
+pub use Rattle.std.specs.Int.{is_in_range}
 pub use Rattle.std.specs.List.{AllByRecursion, flat_map, list_all, prefix_len, starts_with}
 pub use Rattle.std.specs.Option.{MatchOption}
 pub use Rattle.std.specs.Prelude.{IfOk, IsOkAnd, List, Option, Vec, codes, not, ℕ}

@@ -1,9 +1,9 @@
 //! The calls of a client's script, each read from its first word to its last.
 
 ghost use Rattle.nit_script.specs.Terms.{Gives, above_at, back_at, buffer_at, call_at, close_at};
-ghost use Rattle.nit_script.specs.Terms.{destroy_at, front_at, offset_at, place_call_at, refresh_at};
-ghost use Rattle.nit_script.specs.Terms.{session_call_at, title_at, upgrade_at, view_at};
-ghost use Rattle.nit_script.specs.Terms.{view_call_at};
+ghost use Rattle.nit_script.specs.Terms.{destroy_at, front_at, offset_at, place_call_at};
+ghost use Rattle.nit_script.specs.Terms.{refresh_at, session_call_at, title_at, upgrade_at};
+ghost use Rattle.nit_script.specs.Terms.{view_at, view_call_at};
 ghost use Rattle.nit_script.specs.CallReaders.{take_at};
 
 use crate::bytes::take_word;

@@ -13,20 +13,20 @@ pub use Rattle.nit_server.specs.Terms.{KeptSessionModel, MayLose, MeanSame, Memb
 pub use Rattle.nit_server.specs.Terms.{Rectangle, Reply, Routed, Routing, ServerModel, Session}
 pub use Rattle.nit_server.specs.Terms.{Size, SlotView, SlotsModel, StackModel, State, Status, Take}
 pub use Rattle.nit_server.specs.Terms.{View, accepted, after, after_accepted, answered, bar_rows}
-pub use Rattle.nit_server.specs.Terms.{buffer_left, buffer_need, by_life, by_refusal, changed}
-pub use Rattle.nit_server.specs.Terms.{clicks_on, clicks_on_list, client_in, delivered}
-pub use Rattle.nit_server.specs.Terms.{deliveries_of, delivery, ended, first_kept_session}
-pub use Rattle.nit_server.specs.Terms.{first_session, first_stack, forget, fresh, fresh_in}
-pub use Rattle.nit_server.specs.Terms.{has_handle, has_slot, input_after_call, is_slot_among, is_label}
-pub use Rattle.nit_server.specs.Terms.{is_length, is_named, is_of_session, is_place, is_rectangle}
-pub use Rattle.nit_server.specs.Terms.{is_slot, is_slot_taken, is_view, kept_session_at, layer, layer_of}
-pub use Rattle.nit_server.specs.Terms.{list_any, member, moved, moved_above, name_in, name_of}
-pub use Rattle.nit_server.specs.Terms.{no_kept_session, no_size, on_view, option_map_or, owner}
-pub use Rattle.nit_server.specs.Terms.{owner_in, pairs_of, pointed_by, pointer, pointer_after}
-pub use Rattle.nit_server.specs.Terms.{put_above, put_again, put_back, put_front, put_own_back}
-pub use Rattle.nit_server.specs.Terms.{put_own_front, receive, rectangle, refusal, relabelled, room}
-pub use Rattle.nit_server.specs.Terms.{routed_as, routing, routing_of, serve, server_of, session}
-pub use Rattle.nit_server.specs.Terms.{session_in, size_of_buffer, slot_layer, slot_of}
+pub use Rattle.nit_server.specs.Terms.{buffer_left, buffer_need, by_life, changed, clicks_on}
+pub use Rattle.nit_server.specs.Terms.{clicks_on_list, client_in, delivered, deliveries_of}
+pub use Rattle.nit_server.specs.Terms.{delivery, ended, first_kept_session, first_session}
+pub use Rattle.nit_server.specs.Terms.{first_stack, forget, fresh, fresh_in, has_handle, has_slot}
+pub use Rattle.nit_server.specs.Terms.{input_after_call, is_label, is_named, is_of_session}
+pub use Rattle.nit_server.specs.Terms.{is_place, is_rectangle, is_slot, is_slot_among}
+pub use Rattle.nit_server.specs.Terms.{is_slot_taken, is_view, kept_session_at, layer, layer_of}
+pub use Rattle.nit_server.specs.Terms.{list_any, member, most_units, moved, moved_above, name_in}
+pub use Rattle.nit_server.specs.Terms.{name_of, no_kept_session, no_size, on_view, option_map_or}
+pub use Rattle.nit_server.specs.Terms.{owner, owner_in, pairs_of, pointed_by, pointer}
+pub use Rattle.nit_server.specs.Terms.{pointer_after, put_above, put_again, put_back, put_front}
+pub use Rattle.nit_server.specs.Terms.{put_own_back, put_own_front, receive, rectangle, refusal}
+pub use Rattle.nit_server.specs.Terms.{relabelled, routed_as, routing, routing_of, serve, server_of}
+pub use Rattle.nit_server.specs.Terms.{session, session_in, size_of_buffer, slot_layer, slot_of}
 pub use Rattle.nit_server.specs.Terms.{slot_view_in, slot_view_layer, slots_of_all, spare}
 pub use Rattle.nit_server.specs.Terms.{stack_after_call, taking, unless_it_is, view_layer, view_ref}
 pub use Rattle.nit_server.specs.Terms.{view_slots, views_of, with_delivered, with_ended}
@@ -42,12 +42,13 @@ pub use Rattle.nit_stack.proofs.ForCallers.{name-changed, name-front, name-put_f
 pub use Rattle.nit_stack.proofs.ForCallers.{name_has_slot, none_kept, owner_is, owner_of_views}
 pub use Rattle.nit_stack.proofs.ForCallers.{views_above, views_backed, views_changed, views_closed}
 pub use Rattle.nit_stack.proofs.ForCallers.{views_fronted, views_put_front, without_none}
+pub use Rattle.std.proofs.Common.{IfNone, ap, arith, get_or-set_same, length-set, subst, sym, ◌∙◌}
 pub use Rattle.std.proofs.Math.ListN.{get_or-map}
 pub use Rattle.std.proofs.Math.Seq.{map-set_same}
-pub use Rattle.std.proofs.lemmas.Bool.{and_parts}
+pub use Rattle.std.proofs.lemmas.Bool.{and_parts, false_from_ne_true}
 pub use Rattle.std.proofs.lemmas.Bool.Decides.{nat_tests, not_from_Decides}
 pub use Rattle.std.proofs.lemmas.Grind.{get_or-set_at}
-pub use Rattle.std.proofs.lemmas.Int.{ints, to_z-of_z}
+pub use Rattle.std.proofs.lemmas.Int.{to_z-of_z}
 pub use Rattle.std.proofs.lemmas.List.{get_or_default, length-map, length-replicate, map-set}
 pub use Rattle.std.proofs.lemmas.List.{set-get_or}
 pub use Rattle.std.proofs.lemmas.List.Elements.{All-from_get_or, All-get_or, All-head, All-map}

@@ -1,10 +1,9 @@
 -- What is found first in a list, after a change of those of its elements that a test means. Where no such element
 -- is found before or after, the same is found.
-use Rattle.std.proofs.lemmas.Bool.Decides.{nat_tests}
 use Rattle.nit_server.proofs.Basics.{All-insert, All-map, All-weaker, AllByRecursion, NoPair}
 use Rattle.nit_server.proofs.Basics.{changed, found_passes, insert_apart, list_any, moved}
-use Rattle.nit_server.proofs.Basics.{none_kept, option_map_or, put_above, put_again, put_back}
-use Rattle.nit_server.proofs.Basics.{put_front, without}
+use Rattle.nit_server.proofs.Basics.{nat_tests, none_kept, option_map_or, put_above, put_again}
+use Rattle.nit_server.proofs.Basics.{put_back, put_front, without}
 use Rattle.std.proofs.Common.{All, Bool, List, None, Option, Some, [], arith, cond, false, find}
 use Rattle.std.proofs.Common.{get_or, insert, map, nat_le, not, option_map, refl, set, subst, suc}
 use Rattle.std.proofs.Common.{sym, true, zero, ℕ, ◌+◌, ◌∷◌, ◌≡◌, ◌≤◌, ◌⊎◌}

@@ -12,11 +12,10 @@ use Rattle.nit_server.proofs.Basics.{ServerModel, SlotsModel, StackModel, bar_ro
 use Rattle.nit_server.proofs.Basics.{first_kept_session, first_session, first_stack, get_or-map}
 use Rattle.nit_server.proofs.Basics.{get_or-set_at, get_or_default, has_handle, is_label}
 use Rattle.nit_server.proofs.Basics.{kept_session_at, length-map, length-replicate, list_any}
-use Rattle.nit_server.proofs.Basics.{map-map, map-set, map-set_same, member, nat_tests, no_size}
-use Rattle.nit_server.proofs.Basics.{relabelled, server_of, session_in, size_of_buffer}
+use Rattle.nit_server.proofs.Basics.{map-map, map-set, map-set_same, member, most_units, nat_tests}
+use Rattle.nit_server.proofs.Basics.{no_size, relabelled, server_of, session_in, size_of_buffer}
 use Rattle.nit_server.proofs.Basics.{slots_of_all, splat_is_map, sum_by-replicate, view_slots}
 use Rattle.nit_server.proofs.Basics.{with_opened, without_handle}
-use Rattle.nit_server.specs.Below.{most_units}
 
 -- no slot is taken
 abbrev pub none_taken : ℕ → SlotsModel

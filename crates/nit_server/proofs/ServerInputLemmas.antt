@@ -5,13 +5,12 @@ use Rattle.nit_server.proofs.Basics.{InputState, IsServerInput, Item, KeptSessio
 use Rattle.nit_server.proofs.Basics.{Point, Routed, ServerModel, Session, SlotView, SlotsModel}
 use Rattle.nit_server.proofs.Basics.{StackModel, State, Status, Take, View, accepted, after}
 use Rattle.nit_server.proofs.Basics.{all_kept, at_most_one, bar_rows, by_life, clicks_on}
-use Rattle.nit_server.proofs.Basics.{clicks_on_list}
-use Rattle.nit_server.proofs.Basics.{delivered, deliveries_of, delivery, first_session, forget}
-use Rattle.nit_server.proofs.Basics.{known_after, length-map, nat_tests, owner, owner_in}
-use Rattle.nit_server.proofs.Basics.{owner_of_views, pointed_by, pointer, pointer_after, receive}
-use Rattle.nit_server.proofs.Basics.{routed_as, routing, routing_of, server_of, session, session_in}
-use Rattle.nit_server.proofs.Basics.{size_of_buffer, unless_it_is, view_ref, views_of}
-use Rattle.nit_server.proofs.Basics.{with_delivered, with_pointer}
+use Rattle.nit_server.proofs.Basics.{clicks_on_list, delivered, deliveries_of, delivery}
+use Rattle.nit_server.proofs.Basics.{first_session, forget, known_after, length-map, nat_tests}
+use Rattle.nit_server.proofs.Basics.{owner, owner_in, owner_of_views, pointed_by, pointer}
+use Rattle.nit_server.proofs.Basics.{pointer_after, receive, routed_as, routing, routing_of}
+use Rattle.nit_server.proofs.Basics.{server_of, session, session_in, size_of_buffer, unless_it_is}
+use Rattle.nit_server.proofs.Basics.{view_ref, views_of, with_delivered, with_pointer}
 use Rattle.std.proofs.Common.{All, IfSome, List, None, Option, Some, [], ap, arith, length}
 use Rattle.std.proofs.Common.{length-append, option_map, refl, set, sym, ℕ, ◌++◌, ◌+◌, ◌<◌, ◌∙◌}
 use Rattle.std.proofs.Common.{◌∷◌, ◌≡◌, ◌≢◌, ◌≤◌}

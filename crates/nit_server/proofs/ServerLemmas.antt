@@ -5,9 +5,9 @@ use Rattle.nit_server.proofs.Basics.{IsServerInput, IsSessionOfClient, IsStack, 
 use Rattle.nit_server.proofs.Basics.{MeanSame, Member, Reply, ServerModel, Size, SlotView}
 use Rattle.nit_server.proofs.Basics.{SlotsModel, StackModel, accepted, any-filter_same, get_or-map}
 use Rattle.nit_server.proofs.Basics.{get_or-set_at, get_or_default, has-name, has_handle}
-use Rattle.nit_server.proofs.Basics.{input_after_call, is_slot_among, kept_session_at, layer, layer_of}
-use Rattle.nit_server.proofs.Basics.{length-map, map-map, map-set, map-set_same, member, name_in}
-use Rattle.nit_server.proofs.Basics.{nat_tests, no_kept_session, pairs_of, refusal, serve}
+use Rattle.nit_server.proofs.Basics.{input_after_call, is_slot_among, kept_session_at, layer}
+use Rattle.nit_server.proofs.Basics.{layer_of, length-map, map-map, map-set, map-set_same, member}
+use Rattle.nit_server.proofs.Basics.{name_in, nat_tests, no_kept_session, pairs_of, refusal, serve}
 use Rattle.nit_server.proofs.Basics.{serve_accepted, server_of, session_in, size_of_buffer, slot_of}
 use Rattle.nit_server.proofs.Basics.{spare, stack_after_call, sum-map, sum_by-cons, sum_by-set}
 use Rattle.nit_server.proofs.Basics.{view_slots, views_of, with_slot, without_handle, without_slot}

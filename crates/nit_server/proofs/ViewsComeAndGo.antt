@@ -1,18 +1,18 @@
 -- A server to which a view comes, and one from which views go.
-use Rattle.std.proofs.lemmas.Bool.{false_from_ne_true}
 use Rattle.nit_server.proofs.Basics.{AllByRecursion, AreServerParts, Close, Configuration, Destroy}
 use Rattle.nit_server.proofs.Basics.{InputState, IsPaid, IsServed, IsStack, KeptSessionModel}
 use Rattle.nit_server.proofs.Basics.{ServerModel, Session, SlotView, SlotsModel, StackModel, Status}
-use Rattle.nit_server.proofs.Basics.{accepted, agree_by, count_by-le-length, ended, first_session}
-use Rattle.nit_server.proofs.Basics.{forget, found_in_slot, found_passes, found_some, fresh}
-use Rattle.nit_server.proofs.Basics.{fresh_in, has-name, has-put_front, has-without, has_handle}
-use Rattle.nit_server.proofs.Basics.{has_slot, is_named, is_of_session, is_slot, is_slot_taken, is_view}
-use Rattle.nit_server.proofs.Basics.{keeps_push, keeps_remove, keeps_size, kept_session_at}
-use Rattle.nit_server.proofs.Basics.{layer_of, length-filter, length-map, list_any, map-set}
-use Rattle.nit_server.proofs.Basics.{map-without, name-put_front, name-without, name_has_slot}
-use Rattle.nit_server.proofs.Basics.{name_in, name_of, nat_tests, no_size, pairs_of, put_front}
-use Rattle.nit_server.proofs.Basics.{refusal, server_of, session_in, set-get_or, size_of_buffer}
-use Rattle.nit_server.proofs.Basics.{slot_of, slot_view_layer, view_layer, views_closed, views_of}
+use Rattle.nit_server.proofs.Basics.{accepted, agree_by, count_by-le-length, ended}
+use Rattle.nit_server.proofs.Basics.{false_from_ne_true, first_session, forget, found_in_slot}
+use Rattle.nit_server.proofs.Basics.{found_passes, found_some, fresh, fresh_in, has-name}
+use Rattle.nit_server.proofs.Basics.{has-put_front, has-without, has_handle, has_slot, is_named}
+use Rattle.nit_server.proofs.Basics.{is_of_session, is_slot, is_slot_taken, is_view, keeps_push}
+use Rattle.nit_server.proofs.Basics.{keeps_remove, keeps_size, kept_session_at, layer_of}
+use Rattle.nit_server.proofs.Basics.{length-filter, length-map, list_any, map-set, map-without}
+use Rattle.nit_server.proofs.Basics.{name-put_front, name-without, name_has_slot, name_in, name_of}
+use Rattle.nit_server.proofs.Basics.{nat_tests, no_size, pairs_of, put_front, refusal, server_of}
+use Rattle.nit_server.proofs.Basics.{session_in, set-get_or, size_of_buffer, slot_of}
+use Rattle.nit_server.proofs.Basics.{slot_view_layer, view_layer, views_closed, views_of}
 use Rattle.nit_server.proofs.Basics.{views_put_front, with_ended, with_slot, without}
 use Rattle.nit_server.proofs.Basics.{without_handle, without_none, without_slot, without_view}
 use Rattle.nit_server.proofs.Basics.{without_views}

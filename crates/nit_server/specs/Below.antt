@@ -19,21 +19,19 @@ pub use Rattle.nit_events.specs.declared.event.Item.{Item}
 pub use Rattle.nit_events.specs.declared.event.Routed.{Routed}
 pub use Rattle.nit_events.specs.declared.event.Status.{Status}
 pub use Rattle.nit_focus.specs.Focus.{AllOfInput, FocusModel, clicks_on_list, pointer, with_pointer}
-pub use Rattle.nit_focus.specs.Reach.{HasForgotten, IsForgottenIfKilled, IsWithinReach}
+pub use Rattle.nit_focus.specs.Reach.{HasForgotten, IsForgottenIfKilled}
 pub use Rattle.nit_glyph.specs.Texts.{is_label}
 pub use Rattle.nit_journal.specs.Deliveries.{is_kill, kills}
 pub use Rattle.nit_journal.specs.Projection.{reserved, views_in_use}
-pub use Rattle.nit_journal.specs.Session.{Answered, Session, accepted, answered, by_call, by_handle}
-pub use Rattle.nit_journal.specs.Session.{by_life, by_quota, by_refusal, by_status, ended}
-pub use Rattle.nit_journal.specs.Session.{first_session, has_view, is_side, queued, receive}
-pub use Rattle.nit_journal.specs.Session.{refusal, serve, taking, unless}
-pub use Rattle.nit_journal.specs.StackAfter.{after_accepted, is_accepted, stack_after_call}
+pub use Rattle.nit_journal.specs.Session.{Session, accepted, answered, by_call, by_handle, by_life}
+pub use Rattle.nit_journal.specs.Session.{ended, first_session, has_view, queued, receive, refusal}
+pub use Rattle.nit_journal.specs.Session.{serve, taking}
+pub use Rattle.nit_journal.specs.StackAfter.{after_accepted, stack_after_call}
 pub use Rattle.nit_journal.specs.State.{State, after, clicks_on, delivered, first_state}
 pub use Rattle.nit_journal.specs.State.{input_after_call, layer, route, session, session_in}
 pub use Rattle.nit_journal.specs.Steps.{IsFreeLabel, relabelled}
 pub use Rattle.nit_rect.specs.Limits.{most_sessions, most_side, most_slots, most_units}
-pub use Rattle.nit_rect.specs.Rectangle.{IsPlace, Rectangle, is_length, is_place, is_rectangle}
-pub use Rattle.nit_rect.specs.Rectangle.{rectangle}
+pub use Rattle.nit_rect.specs.Rectangle.{IsPlace, Rectangle, is_place, is_rectangle, rectangle}
 pub use Rattle.nit_rect.specs.declared.point.Point.{Point}
 pub use Rattle.nit_slots.specs.Account.{AccountModel, IsDonation, buffer_left, buffer_need}
 pub use Rattle.nit_slots.specs.Account.{most_views, room, table_size, view_slots}
@@ -53,7 +51,6 @@ pub use Rattle.nit_stack.specs.Stack.{with_rect, with_title}
 pub use Rattle.nit_stack.specs.ViewNames.{IsNamedBy, MeanSame, name_in, name_of, view_layer}
 pub use Rattle.nit_stack.specs.ViewNames.{views_of}
 pub use Rattle.nit_stack.specs.declared.view.View.{View}
-pub use Rattle.std.specs.List.{AllByRecursion, AllPairs, list_any}
-pub use Rattle.std.specs.Option.{is_some, option_map, option_map_or}
-pub use Rattle.std.specs.Prelude.{IfNone, IsSomeAnd, List, [], int_le, length, map, nat_le, negsuc}
-pub use Rattle.std.specs.Prelude.{pos, replicate, slice_set, sum, ℕ, ℤ}
+pub use Rattle.std.specs.List.{AllByRecursion, list_any}
+pub use Rattle.std.specs.Option.{option_map, option_map_or}
+pub use Rattle.std.specs.Prelude.{List, [], length, map, replicate, slice_set, sum, ℕ}

@@ -5,10 +5,9 @@ ghost use Rattle.std.specs.Prelude.{true, None, Some, IfOk, IfSome, IsNone, IsSo
 ghost use Rattle.nit_server.specs.Terms.{Buffer, Destroy, IsDonation, IsPaid, IsTable, Take};
 ghost use Rattle.nit_server.specs.Terms.{Upgrade, accepted, by_call, by_handle, ended};
 ghost use Rattle.nit_server.specs.Terms.{first_session, has_handle, has_view, is_slot_taken};
-ghost use Rattle.nit_server.specs.Terms.{most_side};
-ghost use Rattle.nit_server.specs.Terms.{most_views, most_waiting, queued, receive, refusal};
-ghost use Rattle.nit_server.specs.Terms.{slot_of, spare, view_slots, with_slot, without_handle};
-ghost use Rattle.nit_server.specs.Terms.{without_slot};
+ghost use Rattle.nit_server.specs.Terms.{most_side, most_views, most_waiting, queued, receive};
+ghost use Rattle.nit_server.specs.Terms.{refusal, slot_of, spare, view_slots, with_slot};
+ghost use Rattle.nit_server.specs.Terms.{without_handle, without_slot};
 ghost use Rattle.nit_events.specs.declared.call.Call.TheVariants.{View};
 ghost use Rattle.nit_events.specs.declared.event.Item.TheVariants as item;
 

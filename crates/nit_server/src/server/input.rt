@@ -3,11 +3,11 @@
 ghost use Rattle.std.specs.Prelude.{◌≡◌, ◌-◌, ◌<◌, ◌≤◌, true, None, length, All, ℕ, false, Some};
 ghost use Rattle.std.specs.Prelude.{slice_index_or, [], IfSome, ◌∷◌};
 ghost use Rattle.nit_server.specs.Terms.{IsConfiguration, IsDevice, IsForgottenIfKilled};
-ghost use Rattle.nit_server.specs.Terms.{IsServerInput, MayLose, client_in, deliveries_of};
-ghost use Rattle.nit_server.specs.Terms.{delivery, first_input, is_kill, killed_in, kills};
-ghost use Rattle.nit_server.specs.Terms.{most_sessions, pointed_by, route, routed_as, routing_of};
-ghost use Rattle.nit_server.specs.Terms.{bar_rows, option_map, owner, point, session, state_of};
-ghost use Rattle.nit_server.specs.Terms.{with_delivered, with_routed};
+ghost use Rattle.nit_server.specs.Terms.{IsServerInput, MayLose, bar_rows, client_in};
+ghost use Rattle.nit_server.specs.Terms.{deliveries_of, delivery, first_input, is_kill, killed_in};
+ghost use Rattle.nit_server.specs.Terms.{kills, most_sessions, option_map, owner, point};
+ghost use Rattle.nit_server.specs.Terms.{pointed_by, route, routed_as, routing_of, session};
+ghost use Rattle.nit_server.specs.Terms.{state_of, with_delivered, with_routed};
 ghost use Rattle.nit_events.specs.declared.event.Item.TheVariants as item;
 
 use crate::server::Server;

@@ -1,6 +1,5 @@
-use Rattle.std.proofs.Common.{arith}
-use Rattle.nit_audit.proofs.Lemmas.{Audited, ahead_on, ap, keep_many, verdict_bad, verdict_ended}
-use Rattle.nit_audit.proofs.Lemmas.{verdict_unended}
+use Rattle.nit_audit.proofs.Lemmas.{Audited, ahead_on, ap, arith, keep_many, verdict_bad}
+use Rattle.nit_audit.proofs.Lemmas.{verdict_ended, verdict_unended}
 use Rattle.nit_audit.proofs.auditing.judged.Goals as goal
 
 pub returns-in-Final : goal.returns-in-Final

@@ -1,5 +1,6 @@
 use Rattle.std.proofs.Common.{◌+◌}
-use Rattle.nit_plan.proofs.Lemmas.{Step, refl, static, step_of_line, step_stays, words_after, words_next}
+use Rattle.nit_plan.proofs.Lemmas.{Step, refl, static, step_of_line, step_stays, words_after}
+use Rattle.nit_plan.proofs.Lemmas.{words_next}
 use Rattle.nit_plan.proofs.laws.other_places_stay.Goals as goal
 
 pub returns : goal.returns

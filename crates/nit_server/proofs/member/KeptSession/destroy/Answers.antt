@@ -1,6 +1,4 @@
-use Rattle.std.proofs.Common.{arith}
-use Rattle.std.proofs.lemmas.Bool.Decides.{nat_tests}
-use Rattle.nit_server.proofs.Lemmas.{handles_without}
+use Rattle.nit_server.proofs.Lemmas.{arith, handles_without, nat_tests}
 use Rattle.nit_server.proofs.member.KeptSession.destroy.Goals as goal
 
 pub returns-clause-session : goal.returns-clause-session

@@ -1,7 +1,5 @@
-use Rattle.std.proofs.Common.{arith}
-use Rattle.std.proofs.lemmas.Bool.Decides.{nat_tests}
-use Rattle.nit_server.proofs.Lemmas.{fewer, first_session, get_or-set_same, length-set, none_left}
-use Rattle.nit_server.proofs.Lemmas.{one_less, session_in}
+use Rattle.nit_server.proofs.Lemmas.{arith, fewer, first_session, get_or-set_same, length-set}
+use Rattle.nit_server.proofs.Lemmas.{nat_tests, none_left, one_less, session_in}
 use Rattle.nit_server.proofs.server.Server.clear_views.Goals as goal
 
 pub views-smaller : goal.views-smaller

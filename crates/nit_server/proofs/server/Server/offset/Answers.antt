@@ -1,6 +1,4 @@
-use Rattle.std.proofs.Common.{arith}
-use Rattle.std.proofs.lemmas.Bool.Decides.{nat_tests}
-use Rattle.nit_server.proofs.Lemmas.{offset_by, there, to_z-of_z}
+use Rattle.nit_server.proofs.Lemmas.{arith, nat_tests, offset_by, there, to_z-of_z}
 use Rattle.nit_server.proofs.server.Server.offset.Goals as goal
 
 pub offset-requires-clause-view : goal.offset-requires-clause-view

@@ -1,5 +1,4 @@
-use Rattle.std.proofs.Common.{sym, ◌∙◌}
-use Rattle.nit_server.proofs.Lemmas.{no_owner, owned_at, owner_is}
+use Rattle.nit_server.proofs.Lemmas.{no_owner, owned_at, owner_is, sym, ◌∙◌}
 use Rattle.nit_server.proofs.server.Server.owner.Goals as goal
 
 pub returns-in-Some : goal.returns-in-Some

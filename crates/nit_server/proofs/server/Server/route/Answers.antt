@@ -1,7 +1,5 @@
-use Rattle.std.proofs.Common.{arith}
-use Rattle.std.proofs.lemmas.Bool.Decides.{nat_tests}
-use Rattle.std.proofs.Common.{ap, ◌∙◌, ◌≡◌}
-use Rattle.nit_server.proofs.Lemmas.{Routing, routed_as, routed_is, routing_of}
+use Rattle.std.proofs.Common.{arith, ap, ◌∙◌, ◌≡◌}
+use Rattle.nit_server.proofs.Lemmas.{Routing, nat_tests, routed_as, routed_is, routing_of}
 use Rattle.nit_focus.specs.Focus as focusing
 use Rattle.nit_server.proofs.server.Server.route.Goals as goal
 

@@ -1,6 +1,4 @@
-use Rattle.std.proofs.Common.{arith}
-use Rattle.std.proofs.lemmas.Bool.Decides.{nat_tests}
-use Rattle.nit_server.proofs.Lemmas.{delivered_length, each_one, may_lose}
+use Rattle.nit_server.proofs.Lemmas.{arith, delivered_length, each_one, may_lose, nat_tests}
 use Rattle.nit_server.proofs.server.Server.tell_all.Goals as goal
 
 pub tell-requires-clause-session : goal.tell-requires-clause-session
