@@ -1,5 +1,5 @@
 -- What lemmas use: the words of clauses, the library's lemmas, and those of the crates below.
-pub use Rattle.nit_hall.proofs.ForCallers.{WereSeen}
+pub use Rattle.nit_hall.proofs.ForCallers.{WereSeen, made_of}
 pub use Rattle.nit_journal.proofs.ForCallers.{as_many_as_clients, same_config}
 pub use Rattle.nit_overlay.proofs.ForCallers.{same_frame}
 pub use Rattle.nit_plan.proofs.ForCallers.{above, alike, changed, for_any, line_here, none_begun}

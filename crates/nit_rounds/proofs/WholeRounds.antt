@@ -6,8 +6,8 @@ use Rattle.nit_rounds.proofs.Basics.{actions_of_line, actions_of_turns, actors, 
 use Rattle.nit_rounds.proofs.Basics.{arith, calls_from, calls_of, calls_to_make, cond_both, done}
 use Rattle.nit_rounds.proofs.Basics.{drop, eq-eqb, eqb-true, false, flat_map, flat_map-append}
 use Rattle.nit_rounds.proofs.Basics.{get_or, get_or-set_other, get_or-set_same, get_or_past}
-use Rattle.nit_rounds.proofs.Basics.{in_phase, le_of_eq, le_trans, left, length, map, nat_tests}
-use Rattle.nit_rounds.proofs.Basics.{ne_eqb, next_phase, phase_count, phase_rounds, phases_along}
+use Rattle.nit_rounds.proofs.Basics.{in_phase, le_of_eq, le_trans, left, length, made_of, map}
+use Rattle.nit_rounds.proofs.Basics.{nat_tests, ne_eqb, next_phase, phase_count, phase_rounds, phases_along}
 use Rattle.nit_rounds.proofs.Basics.{range_with_len, refl, round, rounds, set, subst, suc, sym}
 use Rattle.nit_rounds.proofs.Basics.{to_do, turns_from, turns_of, user_actions_from}
 use Rattle.nit_rounds.proofs.Basics.{user_actions_of, user_actions_to_do}
@@ -202,12 +202,6 @@ follow [] clients user (j ∷ js) ahead e = absurd cc
 follow (m ∷ ms) clients user js ahead e = more m.phase m.number m.doing ms (follow ms) clients user js ahead e
 
 -- ---- the whole run
-
-made_of : (scripts : List (List Line)) (s : ℕ) → to_do (map calls_to_make scripts) s
-    ≡ calls_to_make (get_or scripts s [])
-made_of [] s = refl
-made_of (x ∷ scripts) zero = refl
-made_of (x ∷ scripts) (suc s) = made_of scripts s
 
 pub whole : (scripts : List (List Line)) (input : List InputLine) (journal : List Entry)
     → AreRoundsOf journal scripts input

@@ -5,6 +5,7 @@ pub use Rattle.nit_journal.proofs.ForCallers.{front_open, same_throughout, secon
 pub use Rattle.nit_rect.proofs.ForCallers.{all_append}
 pub use Rattle.nit_report.proofs.ForCallers.{few_digits}
 pub use Rattle.nit_rounds.proofs.ForCallers.{as_many_files, each_at, file_of_a_shot}
+pub use Rattle.nit_store.proofs.ForCallers.{other_name}
 pub use Rattle.nit_run.specs.Terms.{ActorLine, Agrees, All, AllByRecursion, Answered, AreLines}
 pub use Rattle.nit_run.specs.Terms.{AreOfOneHistory, AreOutputs, AreRoundsOf, AreShotsOf, AreTexts}
 pub use Rattle.nit_run.specs.Terms.{Buffer, ByClient, ByUser, Call, Calls, Close, Configuration}
@@ -43,7 +44,7 @@ pub use Rattle.nit_run.specs.Terms.{still_setup, switching, tables_left, taken, 
 pub use Rattle.nit_run.specs.Terms.{to, to_do, unless, user_actions_from, user_actions_of}
 pub use Rattle.nit_run.specs.Terms.{user_script, with_asked, with_held, ◌orelse◌}
 pub use Rattle.std.proofs.Common.{arith}
-pub use Rattle.std.proofs.lemmas.Bool.{and_parts, cases_Bool, eq-eqb, false_from_ne_true}
+pub use Rattle.std.proofs.lemmas.Bool.{and_parts, cases_Bool, eq-eqb}
 pub use Rattle.std.proofs.lemmas.Bool.Decides.{nat_tests}
 pub use Rattle.std.proofs.lemmas.Fmt.{IsAscii-decimal, decimal_injective}
 pub use Rattle.std.proofs.lemmas.List.{append-nil, append_cancel_left, append_cancel_right}

@@ -4,8 +4,8 @@ use Rattle.nit_run.proofs.Basics.{LegalFrom, PutEach, ShotsBehind, State, StoreM
 use Rattle.nit_run.proofs.Basics.{all_append, and_parts, append-nil, append_cancel_left}
 use Rattle.nit_run.proofs.Basics.{append_cancel_right, asked_also, asking_all, bytes_eq}
 use Rattle.nit_run.proofs.Basics.{bytes_eq-Decides, cases_Bool, decimal_injective, events_file}
-use Rattle.nit_run.proofs.Basics.{events_files, false_from_ne_true, file_at, have_different_names}
-use Rattle.nit_run.proofs.Basics.{journal_file, nat_tests, range_with_len, shot_name, shots}
+use Rattle.nit_run.proofs.Basics.{events_files, file_at, have_different_names}
+use Rattle.nit_run.proofs.Basics.{journal_file, nat_tests, other_name, range_with_len, shot_name, shots}
 use Rattle.nit_run.proofs.Basics.{slice_index, with_asked}
 use Rattle.std.proofs.Common.{List, None, Option, Some, [], ap, append_assoc, arith, false, inl}
 use Rattle.std.proofs.Common.{inr, is_none, length, map, refl, suc, sym, true, zero, ℕ, ◌++◌, ◌+◌}
@@ -38,9 +38,6 @@ apart_front [] back apart = tt
 apart_front (f ∷ front) back apart = (all_front _ front back apart.0, apart_front front back apart.1)
 
 -- ---- as the store says it
-
-other_name : (a name : List ℕ) → a ≢ name → bytes_eq a name ≡ false
-other_name a name other = false_from_ne_true _ (λ same. other ((bytes_eq-Decides a name).0 same))
 
 absent : (name : List ℕ) (files : List File) → OtherThan name files → is_none (file_at name files) ≡ true
 absent name [] other = refl

@@ -9,6 +9,6 @@ pub use Rattle.nit_run.proofs.Events.{events_taken}
 pub use Rattle.nit_run.proofs.EntryCounts.{text_at}
 pub use Rattle.nit_run.proofs.HeadlineLemmas.{FrontsLaw, MachinesLaw, ShotsLaw, drawn_along}
 pub use Rattle.nit_run.proofs.HeadlineLemmas.{with_texts}
-pub use Rattle.nit_run.proofs.JournalsFit.{actions_few}
+pub use Rattle.nit_run.proofs.JournalsFit.{actions_few, all_at}
 pub use Rattle.nit_run.proofs.NoShots.{UserOnce, no_picture, no_shots}
 pub use Rattle.nit_run.proofs.OutputText.{output_is_text}

@@ -63,7 +63,7 @@ calls_short lines =
 -- ---- what stands in a journal
 
 -- what all have, one of them has
-all_at : {A : Type 0} (P : A → Type 0) (front : List A) (x : A) (rest : List A) → AllByRecursion P (front ++ x ∷ rest)
+pub all_at : {A : Type 0} (P : A → Type 0) (front : List A) (x : A) (rest : List A) → AllByRecursion P (front ++ x ∷ rest)
     → P x
 all_at P [] x rest h = h.0
 all_at P (y ∷ front) x rest h = all_at P front x rest h.1

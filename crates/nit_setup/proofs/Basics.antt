@@ -3,7 +3,7 @@ pub use Rattle.nit_audit.proofs.ForCallers.{good_fewer, one_verdict}
 pub use Rattle.nit_clip.proofs.ForCallers.{clip_reading}
 pub use Rattle.nit_config.proofs.ForCallers.{not_both, one_configuration, still_configured}
 pub use Rattle.nit_report.proofs.ForCallers.{journal_reading}
-pub use Rattle.nit_run.proofs.ForCallers.{asking_both, asking_more, asking_none, text_at}
+pub use Rattle.nit_run.proofs.ForCallers.{all_at, asking_both, asking_more, asking_none, text_at}
 pub use Rattle.nit_script.proofs.ForCallers.{client_reading, fits_push, input_reading, read_and_bad}
 pub use Rattle.nit_script.proofs.ForCallers.{read_and_long, same_read}
 pub use Rattle.nit_setup.specs.Terms.{AllByRecursion, AllFiles, AllScripts, AllZip}

@@ -8,7 +8,7 @@ use Rattle.nit_setup.proofs.Basics.{IsFirstOuterFault, IsGood, IsInputsFault, Is
 use Rattle.nit_setup.proofs.Basics.{IsJournalText, IsOuterInputFault, IsOuterSetupFault}
 use Rattle.nit_setup.proofs.Basics.{IsPhasedFault, IsScript, IsSetupFault, IsValid, Judged, Line}
 use Rattle.nit_setup.proofs.Basics.{MayShowFrames, Nested, NoCommand, Refused, Run, RunFiles, Setup}
-use Rattle.nit_setup.proofs.Basics.{SpellScripts, Still, by_turns, bytes_of, calls_to_make}
+use Rattle.nit_setup.proofs.Basics.{SpellScripts, Still, all_at, by_turns, bytes_of, calls_to_make}
 use Rattle.nit_setup.proofs.Basics.{client_reading, clip_line_spelling, clip_names, clip_reading}
 use Rattle.nit_setup.proofs.Basics.{eq-eqb, fault_code, good_fewer, input_reading, input_spelling}
 use Rattle.nit_setup.proofs.Basics.{is_clip_phase, is_input_phase, is_phase, journal_reading}
@@ -85,10 +85,6 @@ same_scripts files [] [] [] v w = refl
 same_scripts files (n ∷ names) (x ∷ a) (y ∷ b) v w =
     cc (same_read client_reading (bytes_of n files) x y v.0.1 w.0.1, same_scripts files names a b v.1 w.1)
 same_scripts files names a b v w = absurd (assumption (v, w))
-
-all_at : {A : Type 0} (P : A → Type 0) (xs : List A) (x : A) (ys : List A) → AllByRecursion P (xs ++ x ∷ ys) → P x
-all_at P [] x ys all = all.0
-all_at P (a ∷ xs) x ys all = all_at P xs x ys all.1
 
 -- a script among those with the same phases is right behind those before it
 right_at : (some : List (List Line)) (lines : List Line) (more : List (List Line))

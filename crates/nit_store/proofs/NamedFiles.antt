@@ -15,7 +15,7 @@ is_name a name e = (bytes_eq-Decides a name).0 e
 same_name : (name : List ℕ) → bytes_eq name name ≡ true
 same_name name = (bytes_eq-Decides name name).1 refl
 
-other_name : (a name : List ℕ) → a ≢ name → bytes_eq a name ≡ false
+pub other_name : (a name : List ℕ) → a ≢ name → bytes_eq a name ≡ false
 other_name a name ne = by_cases (bytes_eq a name) refl
   where
     by_cases : (b : Bool) → bytes_eq a name ≡ b → b ≡ false
