@@ -6,7 +6,7 @@ ghost use Rattle.nit_perform.specs.Terms.{HasTextName, PutsNext, output_name, pu
 use crate::ran::PutFault;
 use nit_rect::NoMemory;
 use nit_run::{OUTPUT_NAME_BYTES, Output};
-use nit_store::{PutError, Store};
+use nit_store::{PutError, Store, name_of};
 
 /// Puts a file under its name, unless a put was refused before. Gives the put that was refused, if
 /// there is one.
@@ -25,10 +25,7 @@ pub fn put_next<S: Store>(
     }
     let mut name = [0; OUTPUT_NAME_BYTES];
     let end = file.name_into(&mut name);
-    let Ok(name) = str::from_utf8(&name[..end]) else {
-        unreachable!()
-    };
-    match store.put(name, bytes) {
+    match store.put(name_of(&name[..end]), bytes) {
         Ok(()) => None,
         Err(error) => Some(PutFault { file, error }),
     }

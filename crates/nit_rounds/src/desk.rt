@@ -10,7 +10,7 @@ use crate::viewer::Viewer;
 use nit_report::ppm_into;
 use nit_report::write::{number, text};
 use nit_scene::Scene;
-use nit_store::{PutError, Store};
+use nit_store::{PutError, Store, name_of};
 use nit_word::Inked;
 
 /// The most bytes that the name of a shot's picture has.
@@ -124,10 +124,7 @@ fn put_shot<S: Store>(store: &mut S, number: u32, bytes: &[u8]) -> Option<PutErr
 {
     let mut name = [0; SHOT_NAME_BYTES];
     let end = shot_name_into(&mut name, number);
-    let Ok(name) = str::from_utf8(&name[..end]) else {
-        unreachable!()
-    };
-    store.put(name, bytes).err()
+    store.put(name_of(&name[..end]), bytes).err()
 }
 
 /// Writes the name of the picture of the shot of this number to the front of `out`, which has 19

@@ -1,10 +1,9 @@
 -- What lemmas use: the words of clauses, the library's lemmas, and those of the crates below.
-pub use Rattle.nit_store.specs.Terms.{AfterPut, AfterRead, AfterSay, FailsNext, File, Global}
-pub use Rattle.nit_store.specs.Terms.{HasDifferentNames, IsPut, MemoryStoreModel, PutError, PutIn}
-pub use Rattle.nit_store.specs.Terms.{PutRefusal, PutState, PutsAll, PutsNext, PutsUnless}
-pub use Rattle.nit_store.specs.Terms.{ReadError, StoreModel, String, Vec, bytes_eq, file_at}
-pub use Rattle.nit_store.specs.Terms.{files_of, have_different_names, is_none, nat_lt, option_map}
-pub use Rattle.nit_store.specs.Terms.{position, position_or_len, string_bytes, with_asked}
+pub use Rattle.nit_store.specs.Terms.{FailsNext, File, Global, HasDifferentNames, IsPut}
+pub use Rattle.nit_store.specs.Terms.{MemoryStoreModel, PutIn, PutRefusal, PutState, PutsAll}
+pub use Rattle.nit_store.specs.Terms.{PutsNext, PutsUnless, StoreModel, String, Vec, bytes_eq}
+pub use Rattle.nit_store.specs.Terms.{file_at, files_of, have_different_names, is_none, nat_lt}
+pub use Rattle.nit_store.specs.Terms.{option_map, position, position_or_len, string_bytes}
 pub use Rattle.nit_store.specs.Terms.{with_file, with_said}
 pub use Rattle.std.proofs.lemmas.Bool.{not-true}
 pub use Rattle.std.proofs.lemmas.Bool.Decides.{nat_tests}

@@ -7,4 +7,4 @@ pub use Rattle.std.specs.List.{position, position_or_len}
 pub use Rattle.std.specs.Option.{option_copied}
 pub use Rattle.std.specs.Prelude.{Contains, IfOk, IsErr, IsErrOf, IsTrue, List, None, OnErr, OnOk}
 pub use Rattle.std.specs.Prelude.{Some, String, Vec, is_none, nat_lt, option_map, string_bytes, ℕ}
-pub use Rattle.std.specs.Str.{bytes_eq}
+pub use Rattle.std.specs.Str.{IsUtf8, bytes_eq}

@@ -15,11 +15,13 @@ mod disk_store;
 mod files;
 pub mod laws;
 mod memory_store;
+mod names;
 mod never_fails;
 mod store;
 
 pub use disk_store::DiskStore;
 pub use files::have_different_names;
 pub use memory_store::MemoryStore;
+pub use names::name_of;
 pub use never_fails::NeverFails;
 pub use store::{PutError, ReadError, Store};

@@ -9,6 +9,6 @@ name_is_text n small =
     (IsUtf8-append (decimal n) (codes ".ppm") (IsUtf8-from_ascii (decimal n) (IsAscii-decimal n (omega arith)))
     (IsUtf8-from_ascii (codes ".ppm") (search rules)))
 
-pub unreachable-requires : goal.unreachable-requires
-unreachable-requires g c = c.in_default.ensures.cases.0
-    (subst IsUtf8 (sym c.shot_name_into-end.ensures.name) (name_is_text c.args.number c.ranges.number.fits))
+pub name_of-requires : goal.name_of-requires
+name_of-requires g c =
+    subst IsUtf8 (sym c.shot_name_into-end.ensures.name) (name_is_text c.args.number c.ranges.number.fits)
