@@ -2,21 +2,20 @@
 pub use Rattle.nit_capture.specs.Terms.{AgreeInside, All, AllAgree, AllByRecursion, Appends}
 pub use Rattle.nit_capture.specs.Terms.{HasPixels, HasRecord, IsErr, IsPartOfScreen, IsPicture}
 pub use Rattle.nit_capture.specs.Terms.{IsPictureSize, IsPlace, IsWord, LiesIn, List, Rectangle}
-pub use Rattle.nit_capture.specs.Terms.{Shows, [], area, behind_two, black, blue, changed_tiles}
+pub use Rattle.nit_capture.specs.Terms.{Shows, area, behind_two, black, blue, changed_tiles}
 pub use Rattle.nit_capture.specs.Terms.{channels, cond, crop, crop_pixel, differs, drop, filter}
-pub use Rattle.nit_capture.specs.Terms.{flat_map, green, high, is_next, left_of, length, list_any}
-pub use Rattle.nit_capture.specs.Terms.{nat_abs, negsuc, no_word, pixels_at, place, pos, prefix_len}
-pub use Rattle.nit_capture.specs.Terms.{range_with_len, record_at, records, red, run_at, run_bytes}
-pub use Rattle.nit_capture.specs.Terms.{runs, screen, slice_index, slice_set, spans, stream, take}
-pub use Rattle.nit_capture.specs.Terms.{tile, tile_at, tile_bytes, tile_count, tile_pixels}
-pub use Rattle.nit_capture.specs.Terms.{tiles_at, top_of, turn_at, two_bytes, wide, word_of}
-pub use Rattle.nit_capture.specs.Terms.{word_of_bytes, ℕ, ℤ, ◌>>=◌}
-pub use Rattle.nit_capture.specs.Tiles.{row_place}
+pub use Rattle.nit_capture.specs.Terms.{flat_map, green, high, is_next, length, list_any, nat_abs}
+pub use Rattle.nit_capture.specs.Terms.{negsuc, no_word, pixels_at, place, pos, prefix_len}
+pub use Rattle.nit_capture.specs.Terms.{range_with_len, record_at, records, red, row_place, run_at}
+pub use Rattle.nit_capture.specs.Terms.{run_bytes, runs, screen, slice_index, slice_set, spans}
+pub use Rattle.nit_capture.specs.Terms.{stream, take, tile, tile_at, tile_bytes, tile_count}
+pub use Rattle.nit_capture.specs.Terms.{tile_pixels, tiles_at, two_bytes, wide, word_of}
+pub use Rattle.nit_capture.specs.Terms.{word_of_bytes, ℤ, ◌>>=◌}
 pub use Rattle.nit_rect.proofs.ForCallers.{and_true, bind_some, spans_holds, within}
 pub use Rattle.nit_word.proofs.ForCallers.{put_long}
 pub use Rattle.std.proofs.Common.{Bool, Err, None, Ok, Result, Some, add-one, add_assoc, ap}
 pub use Rattle.std.proofs.Common.{append_assoc, arith, false, inl, inr, length-append, lit<, map}
-pub use Rattle.std.proofs.Common.{mul_comm, not, refl, suc, sym, true, ◌∙◌}
+pub use Rattle.std.proofs.Common.{mul_comm, not, refl, sym, ◌∙◌}
 pub use Rattle.std.proofs.lemmas.Bool.{cases_Bool, cases_eq, eq-eqb, ne_eqb, true_from_ne_false}
 pub use Rattle.std.proofs.lemmas.Bool.{true≢false}
 pub use Rattle.std.proofs.lemmas.Bool.Decides.{nat_tests}

@@ -2,30 +2,27 @@
 use Rattle.nit_capture.proofs.Basics.{AgreeInside, All, All-filter, AllAgree, AllByRecursion}
 use Rattle.nit_capture.proofs.Basics.{Appends, Bool, Err, HasPixels, HasRecord, IsErr, IsPicture}
 use Rattle.nit_capture.proofs.Basics.{IsPictureSize, LiesIn, List, None, Ok, Rectangle, Result}
-use Rattle.nit_capture.proofs.Basics.{Some, [], and_true, ap, append-nil, append_assoc, area, arith}
+use Rattle.nit_capture.proofs.Basics.{Some, and_true, ap, append-nil, append_assoc, area, arith}
 use Rattle.nit_capture.proofs.Basics.{behind_two, bind_some, black, cases_Bool, changed_tiles, cond}
 use Rattle.nit_capture.proofs.Basics.{crop, drop, drop-drop, eq-eqb, false, filter}
 use Rattle.nit_capture.proofs.Basics.{filter_of_map_range_with_len_more, flat_map, flat_map-append}
 use Rattle.nit_capture.proofs.Basics.{get_or-drop, get_or-range_with_len, inl, inr, ints, is_next}
-use Rattle.nit_capture.proofs.Basics.{length, length-append, length-drop, length-range_with_len}
+use Rattle.nit_capture.proofs.Basics.{length-append, length-drop, length-range_with_len}
 use Rattle.nit_capture.proofs.Basics.{length-replicate, lit<, map, map-id, map-range_with_len_more}
 use Rattle.nit_capture.proofs.Basics.{mul-le, nat_abs, nat_tests, negsuc, nil_from_length, no_word}
 use Rattle.nit_capture.proofs.Basics.{not, place, pos, prefix_len, range_with_len, record_at}
 use Rattle.nit_capture.proofs.Basics.{records, refl, run_at, run_bytes, runs, screen, slice_index}
-use Rattle.nit_capture.proofs.Basics.{slice_set, some_pair_parts, spans, spans_holds, stream, suc}
-use Rattle.nit_capture.proofs.Basics.{sym, take, take_more_set, tile, tile_at, tile_bytes}
-use Rattle.nit_capture.proofs.Basics.{tile_count, true, turn_at, two_bytes, within, ℕ, ℤ, ◌>>=◌}
-use Rattle.nit_capture.proofs.Basics.{◌∙◌}
-use Rattle.std.proofs.Common.{[], length, suc, sym, true, zero, ℕ, ◌%◌, ◌*◌, ◌++◌, ◌+◌, ◌-◌, ◌/◌}
-use Rattle.std.proofs.Common.{◌<◌, ◌==◌, ◌||◌, ◌∙◌, ◌∷◌, ◌≡◌, ◌≤ℤ◌, ◌≤◌, ◌⊎◌}
-use Rattle.nit_capture.specs.Film.{record_of, tile_bytes}
-use Rattle.nit_capture.specs.RecordReaders.{pixels_at, tiles_at, turn_at}
-use Rattle.nit_capture.specs.Tiles.{differs, tile_count, tiles_along}
+use Rattle.nit_capture.proofs.Basics.{slice_set, some_pair_parts, spans, spans_holds, stream, take}
+use Rattle.nit_capture.proofs.Basics.{take_more_set, tile, tile_at, two_bytes, within, ℤ, ◌>>=◌}
+use Rattle.std.proofs.Common.{[], length, suc, sym, true, ℕ, ◌∙◌, zero, ◌%◌, ◌*◌, ◌++◌, ◌+◌, ◌-◌}
+use Rattle.std.proofs.Common.{◌/◌, ◌<◌, ◌==◌, ◌||◌, ◌∷◌, ◌≡◌, ◌≤ℤ◌, ◌≤◌, ◌⊎◌}
+use Rattle.nit_capture.specs.Film.{tile_bytes, record_of}
+use Rattle.nit_capture.specs.RecordReaders.{turn_at, pixels_at, tiles_at}
+use Rattle.nit_capture.specs.Tiles.{tile_count, differs, tiles_along}
 use Rattle.nit_capture.proofs.Tiles.{SameTile, same_differs, same_filter, same_map, same_picture}
 use Rattle.nit_capture.proofs.Tiles.{same_pixel, same_pixels, same_tile, tile_fits}
 use Rattle.nit_capture.proofs.TilesRead.{AreBytes, Frame, IsButFor, first_run, no_runs, others_stay}
 use Rattle.nit_capture.proofs.TilesRead.{pixels_again, pixels_take, tile_spelled, tile_spelled_back}
-use Rattle.std.proofs.lemmas.Bool.Decides.{nat_tests}
 use Rattle.nit_capture.specs.Crop.{crop_place}
 use Rattle.nit_capture.proofs.CropLemmas.{in_cut}
 

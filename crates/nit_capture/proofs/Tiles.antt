@@ -1,21 +1,19 @@
 -- Where the pixels of tiles lie: each place of a picture is that of one pixel of one tile.
 use Rattle.nit_capture.proofs.Basics.{All, All-set, Bool, IsPicture, IsPictureSize, IsWord, List}
-use Rattle.nit_capture.proofs.Basics.{ap, append-nil, append_assoc, area, arith, differs}
-use Rattle.nit_capture.proofs.Basics.{div-add-mod', div-mul-add, div_below, drop, eq-eqb}
-use Rattle.nit_capture.proofs.Basics.{ext_get_or, false, fill_by_all, filter, get_or-drop}
-use Rattle.nit_capture.proofs.Basics.{get_or-map-range_with_len, get_or-range_with_len, get_or-take}
-use Rattle.nit_capture.proofs.Basics.{get_or_past, high, left_of, length, length-drop}
+use Rattle.nit_capture.proofs.Basics.{ap, append-nil, append_assoc, arith, div-add-mod'}
+use Rattle.nit_capture.proofs.Basics.{div-mul-add, div_below, drop, eq-eqb, ext_get_or, false}
+use Rattle.nit_capture.proofs.Basics.{fill_by_all, filter, get_or-drop, get_or-map-range_with_len}
+use Rattle.nit_capture.proofs.Basics.{get_or-range_with_len, get_or-take, get_or_past, length-drop}
 use Rattle.nit_capture.proofs.Basics.{length-map-range_with_len, length-range_with_len, length-set}
-use Rattle.nit_capture.proofs.Basics.{length-take, list_any, list_any_at, list_any_none, map}
+use Rattle.nit_capture.proofs.Basics.{length-take, list_any, list_any_at, list_any_none}
 use Rattle.nit_capture.proofs.Basics.{map-range_with_len_more, mod-mul-add, mod_below, mul-add-lt}
-use Rattle.nit_capture.proofs.Basics.{mul-le, nat_tests, place, range_with_len, refl}
-use Rattle.nit_capture.proofs.Basics.{same_from_place, slice_index, slice_set, suc, take-put_mid}
-use Rattle.nit_capture.proofs.Basics.{tile, tile_count, top_of, true, true_from_ne_false}
-use Rattle.nit_capture.proofs.Basics.{true≢false, wide, ℕ, ◌∙◌}
-use Rattle.std.proofs.Common.{length, map, min, mul_comm, refl, suc, take, true, zero, ℕ, ◌%◌, ◌*◌}
-use Rattle.std.proofs.Common.{◌++◌, ◌+◌, ◌-◌, ◌/◌, ◌<◌, ◌^◌, ◌∙◌, ◌≡◌, ◌≤◌}
-use Rattle.nit_capture.specs.Tiles.{area, differs, high, left_of, place, row_place, tile_count}
-use Rattle.nit_capture.specs.Tiles.{tiles_along, top_of, wide}
+use Rattle.nit_capture.proofs.Basics.{mul-le, nat_tests, range_with_len, same_from_place}
+use Rattle.nit_capture.proofs.Basics.{slice_index, slice_set, take-put_mid, tile}
+use Rattle.nit_capture.proofs.Basics.{true_from_ne_false, true≢false}
+use Rattle.nit_capture.specs.Tiles.{area, differs, high, left_of, place, tile_count, top_of, wide}
+use Rattle.nit_capture.specs.Tiles.{row_place, tiles_along}
+use Rattle.std.proofs.Common.{length, map, refl, suc, true, ◌∙◌, ℕ, min, mul_comm, take, zero, ◌%◌}
+use Rattle.std.proofs.Common.{◌*◌, ◌++◌, ◌+◌, ◌-◌, ◌/◌, ◌<◌, ◌^◌, ◌≡◌, ◌≤◌}
 use borrow.Rule.Slice.PartMut.{put_mid}
 
 pub left_fits : (w t : ℕ) → 1 ≤ w → left_of w t < w

@@ -3,13 +3,13 @@ use Rattle.nit_capture.proofs.Basics.{All, Bool, IsPicture, IsWord, List, Some, 
 use Rattle.nit_capture.proofs.Basics.{arith, bind_some, blue, cases_eq, channels, drop, eq-eqb}
 use Rattle.nit_capture.proofs.Basics.{false, flat_map, get_or-set_other, get_or-set_same, green}
 use Rattle.nit_capture.proofs.Basics.{inl, inr, length, length-set, list_any, nat_tests, ne_eqb}
-use Rattle.nit_capture.proofs.Basics.{no_word, not, place, prefix_len, range_with_len, red, run_at}
+use Rattle.nit_capture.proofs.Basics.{no_word, not, place, prefix_len, range_with_len, red}
 use Rattle.nit_capture.proofs.Basics.{run_bytes, slice_index, slice_set, some_pair_parts}
 use Rattle.nit_capture.proofs.Basics.{tile_count, tile_pixels, word_of}
+use Rattle.nit_capture.specs.RecordReaders.{run_at, pixels_at}
 use Rattle.std.proofs.Common.{[], refl, suc, sym, true, zero, ℕ, ◌*◌, ◌++◌, ◌+◌, ◌<◌, ◌==◌, ◌^◌}
 use Rattle.std.proofs.Common.{◌||◌, ◌∙◌, ◌∷◌, ◌≡◌, ◌≤◌}
 use Rattle.nit_capture.specs.Film.{joined, runs}
-use Rattle.nit_capture.specs.RecordReaders.{pixels_at, run_at}
 use Rattle.nit_capture.proofs.Tiles.{SameTile, place_within, same_any, same_place, words_fit}
 
 -- ---- runs read back

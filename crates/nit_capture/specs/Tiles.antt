@@ -1,7 +1,7 @@
 -- Pictures, and the tiles that they are cut into.
 use Rattle.std.specs.Prelude.{◌≡◌, ◌≤◌, ℕ, ◌+◌, ◌-◌, ◌*◌, ◌/◌, ◌%◌, min, Bool, not, ◌==◌, List, map}
-use Rattle.nit_capture.specs.Below.{All, IsWord, length, list_any, most_run_height}
-use Rattle.nit_capture.specs.Below.{most_run_width, range_with_len, replicate, slice_index}
+use Rattle.nit_capture.specs.Below.{All, IsWord, length, list_any, most_run_height, most_run_width}
+use Rattle.nit_capture.specs.Below.{range_with_len, replicate, slice_index}
 
 -- a picture of w by h has a word for each pixel, row by row from the top
 pub record IsPicture (w h : ℕ) (picture : List ℕ) : Type 0 where

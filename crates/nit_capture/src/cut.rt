@@ -2,8 +2,7 @@
 
 ghost use Rattle.std.specs.Prelude.{◌≡◌, ◌≤◌, ◌<◌, ◌*◌, ◌+◌, ℕ, length, map, nat_abs, slice_index};
 ghost use Rattle.nit_capture.specs.Terms.{IsPartOfScreen, IsPicture, IsPlace, crop_bytes};
-ghost use Rattle.nit_capture.specs.Terms.{crop_pixel};
-ghost use Rattle.nit_capture.specs.Terms.{crop_row_place, most_pixels, range_with_len};
+ghost use Rattle.nit_capture.specs.Terms.{crop_pixel, crop_row_place, most_pixels, range_with_len};
 ghost use Rattle.nit_capture.specs.Terms.{word_of_bytes};
 
 use crate::grid::Grid;

@@ -20,10 +20,10 @@ pub use Rattle.nit_script.proofs.ForCallers.{nothing, one_reading, text_fields}
 pub use Rattle.std.proofs.Common.{add-one, append-nil, arith, ◌∙◌}
 pub use Rattle.std.proofs.lemmas.Bool.{and_parts, cases_eq, cases_lt, eq-eqb, ne_eqb}
 pub use Rattle.std.proofs.lemmas.Bool.Decides.{nat_tests}
-pub use Rattle.std.proofs.lemmas.List.Folds.{list_all-append}
-pub use Rattle.std.proofs.lemmas.Option.{same_Some}
 pub use Rattle.std.proofs.lemmas.Fmt.{decimal_injective, decimal_is_IsNumeral}
 pub use Rattle.std.proofs.lemmas.List.{append_cancel_left, append_cancel_right, get_or_past}
 pub use Rattle.std.proofs.lemmas.List.{length-map, take-append-le, take_all}
+pub use Rattle.std.proofs.lemmas.List.Folds.{list_all-append}
 pub use Rattle.std.proofs.lemmas.List.Sums.{fold-append, sum_by-cons}
+pub use Rattle.std.proofs.lemmas.Option.{same_Some}
 pub use Rattle.std.proofs.lemmas.Str.Parse.{digit_from_value}

@@ -1,6 +1,5 @@
 -- What contracts see of a book and of a share.
-use Rattle.std.specs.Prelude.{◌≡◌, ℕ, ◌+◌, ◌<◌, List, length, map, slice_index}
-use Rattle.std.specs.Prelude.{slice_set}
+use Rattle.std.specs.Prelude.{◌≡◌, ℕ, ◌+◌, ◌<◌, List, length, map, slice_index, slice_set}
 use mathlib.Core.List.{IsPrefix}
 use Rattle.nit_ledger.specs.Below.{Entry, Recorded, TableId}
 

@@ -7,27 +7,26 @@ pub use Rattle.nit_nested.specs.Terms.{Session, ShowsFrames, Stroke, Take, TooLo
 pub use Rattle.nit_nested.specs.Terms.{blank, by_refusal, count_by, count_lines, enumerate_from}
 pub use Rattle.nit_nested.specs.Terms.{fills, first_forbidden, first_session, flat_map, frame_lines}
 pub use Rattle.nit_nested.specs.Terms.{frame_script, frames_behind, is_accepted, is_forbidden}
-pub use Rattle.nit_nested.specs.Terms.{is_phase, lines_before_end, lines_of_frames, most_lines}
-pub use Rattle.nit_nested.specs.Terms.{nest_script, next_frame, painted_from, phases, pos}
-pub use Rattle.nit_nested.specs.Terms.{prefix_len, refusal, row_lines, row_runs, rows_lines}
+pub use Rattle.nit_nested.specs.Terms.{is_phase, lines_before_end, lines_of_frames, most_height}
+pub use Rattle.nit_nested.specs.Terms.{most_lines, most_width, next_frame, painted_from, phases}
+pub use Rattle.nit_nested.specs.Terms.{pos, prefix_len, refusal, row_lines, row_runs, rows_lines}
 pub use Rattle.nit_nested.specs.Terms.{run_joined, script_answer, session_size, taking, unless_long}
 pub use Rattle.nit_nested.specs.Terms.{word_after_stroke, words_left, words_of_lines, woven, zeros}
 pub use Rattle.nit_plan.proofs.ForCallers.{buffer_size}
 pub use Rattle.nit_rect.proofs.ForCallers.{all_append}
 pub use Rattle.nit_word.proofs.ForCallers.{length-zeros}
-pub use Rattle.std.proofs.Common.{Err, List, None, Ok, Option, Some, [], add-one, add-zero, ap}
-pub use Rattle.std.proofs.Common.{append_assoc, arith, cond, drop, false, get_or, inl, inr, length}
-pub use Rattle.std.proofs.Common.{length-append, map, refl, replicate, suc, sym, take, ◌∙◌}
-pub use Rattle.std.proofs.Math.Nat.{mul-le-mul_right, mul-suc, mul_comm}
+pub use Rattle.std.proofs.Common.{Err, List, None, Ok, Option, Some, [], add-one, ap, arith, cond}
+pub use Rattle.std.proofs.Common.{drop, false, get_or, inl, inr, length, length-append, map}
+pub use Rattle.std.proofs.Common.{replicate, sym, ◌∙◌}
+pub use Rattle.std.proofs.Math.Nat.{mul-suc, mul_comm}
 pub use Rattle.std.proofs.Math.Seq.{get_or-append_seam, take-append-add, take-length}
-pub use Rattle.std.proofs.lemmas.Bool.{cases_Bool, cases_eq, eq-eqb, le-ltb, lt-ltb, ne_eqb}
+pub use Rattle.std.proofs.lemmas.Bool.{cases_eq, eq-eqb, ne_eqb}
 pub use Rattle.std.proofs.lemmas.Bool.Decides.{nat_tests}
 pub use Rattle.std.proofs.lemmas.Grind.{flat_map-append}
-pub use Rattle.std.proofs.lemmas.List.{append-nil, ext_get_or, get_or-append-add, get_or-drop}
-pub use Rattle.std.proofs.lemmas.List.{get_or-map, get_or-replicate, get_or-take}
-pub use Rattle.std.proofs.lemmas.List.{get_or_append_left, length-map, length-replicate}
-pub use Rattle.std.proofs.lemmas.List.{length-take-le, map-append, nil_from_length}
-pub use Rattle.std.proofs.lemmas.List.{take-append-drop}
+pub use Rattle.std.proofs.lemmas.List.{append-nil, ext_get_or, get_or-append-add, get_or-map}
+pub use Rattle.std.proofs.lemmas.List.{get_or-replicate, get_or-take, get_or_append_left}
+pub use Rattle.std.proofs.lemmas.List.{length-map, length-replicate, length-take-le, map-append}
+pub use Rattle.std.proofs.lemmas.List.{nil_from_length, take-append-drop}
 pub use Rattle.std.proofs.lemmas.List.Elements.{recursion_from_All}
 pub use Rattle.std.proofs.lemmas.List.FromFn.{get_or-enumerate_from, length-enumerate_from}
 pub use Rattle.std.proofs.lemmas.List.Sums.{fold-append, sum_by-append, sum_by-cons}

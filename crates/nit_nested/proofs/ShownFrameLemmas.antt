@@ -7,9 +7,8 @@ use Rattle.nit_nested.proofs.Basics.{first_session, fold-append, frame_lines, fr
 use Rattle.nit_nested.proofs.Basics.{frames_behind, get_or, get_or-append_seam, is_accepted}
 use Rattle.nit_nested.proofs.Basics.{is_forbidden, is_phase, length, length-append, length-map}
 use Rattle.nit_nested.proofs.Basics.{length-zeros, lines_before_end, map, nat_tests, next_frame}
-use Rattle.nit_nested.proofs.Basics.{painted_from, phases, refl, refusal, suc, sum_by-append, sym}
-use Rattle.nit_nested.proofs.Basics.{take-append-add, take-length, words_left, words_of_lines}
-use Rattle.nit_nested.proofs.Basics.{woven, zeros}
+use Rattle.nit_nested.proofs.Basics.{painted_from, phases, refusal, sum_by-append, take-append-add}
+use Rattle.nit_nested.proofs.Basics.{take-length, words_left, words_of_lines, woven, zeros}
 use Rattle.std.proofs.Common.{refl, suc, sym, take, zero, ℕ, ◌*◌, ◌++◌, ◌+◌, ◌<◌, ◌∙◌, ◌∷◌, ◌≡◌}
 use Rattle.std.proofs.Common.{◌≤◌}
 use Rattle.nit_plan.specs.Strokes.{cleared}

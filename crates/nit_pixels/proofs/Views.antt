@@ -1,17 +1,15 @@
 -- What holds of all views after a step of one seat, and what a view agrees on.
 use Rattle.nit_pixels.proofs.Basics.{AgreesAt, AllByRecursion, Allows, FitsLine, HaveWords}
-use Rattle.nit_pixels.proofs.Basics.{Identity, IfSome, IsAmong, IsInked, IsOwners, IsPixelRule}
-use Rattle.nit_pixels.proofs.Basics.{IsSome, IsViewOf, IsZeroBehind, List, LoadStep, None, Option}
-use Rattle.nit_pixels.proofs.Basics.{PixelSeat, PixelView, SeatState, Some, Splits, Stages}
-use Rattle.nit_pixels.proofs.Basics.{StoreStep, [], ap, at_set, get_or, inl, inr, keeps, length}
+use Rattle.nit_pixels.proofs.Basics.{Identity, IfSome, IfSome_then, IsAmong, IsInked, IsOwners}
+use Rattle.nit_pixels.proofs.Basics.{IsPixelRule, IsSome, IsViewOf, IsZeroBehind, List, LoadStep}
+use Rattle.nit_pixels.proofs.Basics.{None, Option, PixelSeat, PixelState, PixelView, SeatState}
+use Rattle.nit_pixels.proofs.Basics.{Splits, Stages, StoreStep, at_set, get_or, inl, inr, keeps}
 use Rattle.nit_pixels.proofs.Basics.{length-zeros, new_sight, opening, option_map, owner_view}
 use Rattle.nit_pixels.proofs.Basics.{owners_script, reader_view, sight_of, stage_fits, stages_of}
 use Rattle.nit_pixels.proofs.Basics.{step, table_size, told_words, view_loaded, view_stored}
 use Rattle.nit_pixels.proofs.Basics.{zero_at, zero_inked, zeros}
-use Rattle.std.proofs.Common.{Some, [], ap, length, refl, set, slice_index, subst, suc, sym, zero}
+use Rattle.std.proofs.Common.{Some, ap, length, [], refl, set, slice_index, subst, suc, sym, zero}
 use Rattle.std.proofs.Common.{ℕ, ◌++◌, ◌<◌, ◌∙◌, ◌∷◌, ◌≡◌, ◌≢◌, ◌⊎◌}
-use Rattle.nit_pixels.specs.PixelRule.{PixelState}
-use Rattle.std.proofs.lemmas.Option.{IfSome_then}
 use mathlib.Core.Option.{none, some, some-injective, some-ne-none}
 use lib.ListN.{get_elem?}
 use lib.Seq.{set-get_or}

@@ -1,8 +1,8 @@
 //! Stages that the owner's end and one reader's end agree on, and the steps by which they agree.
 ghost use Rattle.std.specs.Prelude.{◌≡◌, [], IsSome, None};
 ghost use Rattle.nit_pixels.specs.Terms.{HaveWords, IsPixelSeatOf, IsWatching, agreeing};
-ghost use Rattle.nit_pixels.specs.Terms.{agreeing_as};
-ghost use Rattle.nit_pixels.specs.Terms.{reader_view, told_words, unagreed, watching_view};
+ghost use Rattle.nit_pixels.specs.Terms.{agreeing_as, reader_view, told_words, unagreed};
+ghost use Rattle.nit_pixels.specs.Terms.{watching_view};
 
 use crate::steps::{BeginsWatch, EndsWatch, LaysDown, PixelView, Remains, TakesUp, Words};
 use atomic_table::Seat;
