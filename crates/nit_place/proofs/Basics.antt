@@ -1,14 +1,15 @@
 -- What lemmas use: the words of clauses, the library's lemmas, and those of the crates below.
 pub use Rattle.nit_place.specs.Terms.{AllPairs, Any, IfSome, IsApart, IsAtEdges, IsBefore}
 pub use Rattle.nit_place.specs.Terms.{IsBlocking, IsEdge, IsFree, IsFull, IsLeast, IsLeastFree}
-pub use Rattle.nit_place.specs.Terms.{IsLeastInRow, IsSearched, NoPair, Point, Rectangle}
-pub use Rattle.nit_place.specs.Terms.{ScreenPart, SlotView, View, ViewRef, area_of, before_first}
-pub use Rattle.nit_place.specs.Terms.{bottom_of, covers, fits, flat_map, fresh, fresh_in, further}
-pub use Rattle.nit_place.specs.Terms.{int_le, int_lt, is_owner, is_slot, is_view, label_place}
-pub use Rattle.nit_place.specs.Terms.{list_all, meets, nearer, negsuc, on_screen, option_map}
-pub use Rattle.nit_place.specs.Terms.{option_or, owner, owns, part_at, part_of, point, pos}
-pub use Rattle.nit_place.specs.Terms.{position_or_len, range_with_len, rectangle, right_of}
-pub use Rattle.nit_place.specs.Terms.{same_name, slice_get, slot_view_in, view_ref, views_of, ℤ}
+pub use Rattle.nit_place.specs.Terms.{IsLeastInRow, IsLeastPlace, IsNumberOf, IsSearched, NoPair}
+pub use Rattle.nit_place.specs.Terms.{Point, Rectangle, ScreenPart, SlotView, View, ViewRef}
+pub use Rattle.nit_place.specs.Terms.{area_of, before_first, bottom_of, covers, fits, flat_map}
+pub use Rattle.nit_place.specs.Terms.{fresh, fresh_in, further, int_le, int_lt, is_owner, is_slot}
+pub use Rattle.nit_place.specs.Terms.{is_view, label_place, list_all, meets, nearer, negsuc}
+pub use Rattle.nit_place.specs.Terms.{on_screen, option_map, option_or, owner, owns, part_at}
+pub use Rattle.nit_place.specs.Terms.{part_of, point, pos, position_or_len, range_with_len}
+pub use Rattle.nit_place.specs.Terms.{rectangle, right_of, same_name, slice_get, slot_view_in}
+pub use Rattle.nit_place.specs.Terms.{view_ref, views_of, ℤ}
 pub use Rattle.nit_stack.proofs.ForCallers.{find-map}
 pub use Rattle.std.proofs.Common.{sym, ◌∙◌}
 pub use Rattle.std.proofs.lemmas.Bool.{and_parts, cases_cond, cases_lt, false_from_ne_true, le-leb}

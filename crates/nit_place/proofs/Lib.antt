@@ -5,5 +5,6 @@ pub mod Fits
 pub mod Screen
 pub mod LabelPlaces
 pub mod ForCallers
+pub mod Mapped
 pub mod Basics
 pub mod Lemmas

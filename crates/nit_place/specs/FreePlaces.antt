@@ -1,7 +1,7 @@
 -- Where a rectangle lies in an area and meets none of the n parts in front.
 use Rattle.std.specs.Prelude.{◌≡◌, ℕ, ◌+◌, ◌<◌, ◌≤◌, ◌⊎◌, Bool, true, false, ◌&&◌, nat_lt, min}
 use Rattle.std.specs.Prelude.{IfSome, Option, Some, None, if◌then◌else◌}
-use Rattle.nit_place.specs.Below.{Free, Full, ScreenPart, Point, Row, most_edge, point}
+use Rattle.nit_place.specs.Below.{Free, Full, Point, Row, ScreenPart, most_edge, point}
 
 -- the part shares a pixel with the rectangle of w by h at (x, y)
 abbrev pub meets : ℕ → ℕ → ℕ → ℕ → ScreenPart → Bool

@@ -8,5 +8,6 @@ pub mod Edges
 pub mod LeastPlace
 pub mod Part
 pub mod FreePlaces
+pub mod OwnerMap
 pub mod Below
 pub mod Terms

@@ -1,5 +1,5 @@
 -- What of a view lies on the screen, by its edges.
-use Rattle.nit_place.specs.Below.{List, ScreenPart, Rectangle, View, fresh, max, min}
+use Rattle.nit_place.specs.Below.{List, Rectangle, ScreenPart, View, fresh, max, min}
 use Rattle.nit_place.specs.Below.{slice_index_or, ℕ}
 use Rattle.nit_place.specs.Edges.{on_screen, right_of, bottom_of}
 

@@ -1,8 +1,9 @@
 //! What follows from the definition of a label's place alone.
 
 ghost use Rattle.std.specs.Prelude.{◌≡◌, ℕ, ◌+◌, ◌≤◌, List, Option, false, true, pos};
-ghost use Rattle.nit_place.specs.Terms.{IsApart, IsLeast, View, fits, is_view, label_place};
-ghost use Rattle.nit_place.specs.Terms.{rectangle};
+ghost use Rattle.nit_place.specs.Terms.{IsApart, IsLeast, IsLeastPlace, IsNumberOf, Point, View};
+ghost use Rattle.nit_place.specs.Terms.{fits, is_view, label_place, option_map, point, rectangle};
+ghost use Rattle.nit_labels.specs.Places.{IsFree};
 
 /// Two labels that stand where they fit views of different names share no pixel. Each has a size of
 /// its own.
@@ -27,4 +28,15 @@ pub fn least_place()
     ensures within { (width height rows : ℕ) (stack : List View) (v : View) (w h x y : ℕ) → 1 ≤ w
         → 1 ≤ h
         → fits width height rows stack v w h x y ≡ true → (x + w ≤ width) × (y + h ≤ height) }
+{}
+
+/// A map that has a number of its own for a view tells the place of its label: that is the least
+/// place at which the label's rectangle has this number alone.
+pub fn mapped_place()
+    ensures { (width height rows : ℕ) (stack : List View) (v : View) (o w h : ℕ) (at : ℕ → ℕ → ℕ)
+        → 1 ≤ w → 1 ≤ h
+        → IsNumberOf at width height rows stack v o
+        → (q : Option Point)
+        → IsLeastPlace (IsFree at width height o w h) q
+        → q ≡ option_map (λ p. point p.0 p.1) (label_place width height rows stack v w h) }
 {}

@@ -16,5 +16,5 @@ mod part;
 mod place;
 mod search;
 
-pub use laws::{labels_apart, least_place};
+pub use laws::{labels_apart, least_place, mapped_place};
 pub use place::place_label;
