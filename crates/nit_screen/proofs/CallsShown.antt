@@ -14,14 +14,13 @@ use Rattle.nit_screen.proofs.Basics.{slot_view_in, state_of, unbarred, wanted, w
 use Rattle.nit_screen.proofs.Basics.{without_session, without_views}
 use Rattle.std.proofs.Common.{Bool, IsTrue, Option, Some, ap, arith, false, length, nat_lt, refl}
 use Rattle.std.proofs.Common.{slice_index, subst, sym, true, ℕ, ◌*◌, ◌<◌, ◌∙◌, ◌≡◌}
-use Rattle.nit_screen.proofs.KeptFrames.{bar_clean, can_stay, can_still, clean_call}
-use Rattle.nit_screen.proofs.KeptFrames.{kept_served, part_stays, quiet_stays, same_scenery}
+use Rattle.nit_screen.proofs.KeptFrames.{bar_clean, can_stay, can_still, clean_call, kept_served}
+use Rattle.nit_screen.proofs.KeptFrames.{part_stays, quiet_stays, same_scenery}
 use Rattle.nit_screen.proofs.OneViewChanges.{change_of_call, dirty_by_change, dirty_by_views}
 use Rattle.nit_screen.proofs.OneViewChanges.{ended_painted, ended_server, source_of_number}
 use Rattle.nit_screen.proofs.OneList.{bar_first, entry_painted_in, mode_stays, one_copied, raw_long}
 use Rattle.nit_screen.proofs.OneList.{unbarred_long}
-use Rattle.nit_screen.proofs.ScreenLemmas.{few_views, holds, same_config, same_most}
-use Rattle.nit_screen.proofs.ScreenLemmas.{unpainted}
+use Rattle.nit_screen.proofs.ScreenLemmas.{few_views, holds, same_config, same_most, unpainted}
 use Rattle.nit_events.specs.declared.call.Reply.TheVariants as reply
 use Rattle.nit_events.specs.declared.entry.Entry.TheVariants as entry
 use Rattle.nit_events.specs.declared.event.Status.TheVariants as status

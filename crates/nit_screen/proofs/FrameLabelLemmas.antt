@@ -1,21 +1,20 @@
--- Places of labels that are written one after the other, each at the slot of its view.
+-- Values that are written one after the other, each at the slot of its view, and labels in a frame.
 use Rattle.nit_screen.proofs.Basics.{AreLabelsApart, Configuration, Entry, Flat, HaveOwnNames}
-use Rattle.nit_screen.proofs.Basics.{IsLabelShown, IsLabelled, IsLegal, IsSlotView, IsStack, Mode}
-use Rattle.nit_screen.proofs.Basics.{NoPair, Point, Scenery, ShowsLabels, SlotView, StackModel}
-use Rattle.nit_screen.proofs.Basics.{View, ViewRef, any_found, apart, cases_lt, covering, covers}
-use Rattle.nit_screen.proofs.Basics.{dot, draws_labels, false_from_ne_true, fits, fits_within}
+use Rattle.nit_screen.proofs.Basics.{IsLabelShown, IsLegal, IsSlotView, IsStack, Mode, NoPair}
+use Rattle.nit_screen.proofs.Basics.{Point, Scenery, ShowsLabels, SlotView, StackModel, View}
+use Rattle.nit_screen.proofs.Basics.{ViewRef, any_found, apart, cases_lt, covering, covers, dot}
+use Rattle.nit_screen.proofs.Basics.{draws_labels, false_from_ne_true, fits, fits_within}
 use Rattle.nit_screen.proofs.Basics.{found_passes, frame, get_or-frame, get_or_from_slice_get}
 use Rattle.nit_screen.proofs.Basics.{has_dot, in_bar, ink_of, is_in_picture, is_owner, is_view}
-use Rattle.nit_screen.proofs.Basics.{label_place_of, label_scenery, label_width, list_any}
-use Rattle.nit_screen.proofs.Basics.{list_any_at, name_both, nat_tests, owner, owner_word}
-use Rattle.nit_screen.proofs.Basics.{picture_height, picture_width, pixel, pixel_at, pixel_owned}
-use Rattle.nit_screen.proofs.Basics.{point, replay, rows, same_Some, same_slot, scenery_of, shown}
-use Rattle.nit_screen.proofs.Basics.{slice_get-get_or, slice_get_within, slot_at, view_ref}
-use Rattle.nit_screen.proofs.Basics.{view_text, view_word}
+use Rattle.nit_screen.proofs.Basics.{label_place_of, label_width, list_any, list_any_at, name_both}
+use Rattle.nit_screen.proofs.Basics.{nat_tests, owner, owner_word, picture_height, picture_width}
+use Rattle.nit_screen.proofs.Basics.{pixel, pixel_owned, point, replay, rows, same_Some, same_slot}
+use Rattle.nit_screen.proofs.Basics.{scenery_of, shown, slice_get-get_or, slice_get_within, slot_at}
+use Rattle.nit_screen.proofs.Basics.{view_ref, view_text, view_word}
 use Rattle.std.proofs.Common.{All, Bool, IfSome, IsTrue, List, None, Option, Some, [], ap, arith}
-use Rattle.std.proofs.Common.{false, find, get_or-set_same, inl, inr, length, length-set, map}
-use Rattle.std.proofs.Common.{option_map, refl, set, slice_get, slice_index, slice_index_or, subst}
-use Rattle.std.proofs.Common.{suc, sym, true, zero, ℕ, ◌*◌, ◌+◌, ◌<◌, ◌∙◌, ◌∷◌, ◌≡◌, ◌≢◌, ◌≤◌}
+use Rattle.std.proofs.Common.{false, find, get_or-set_same, inl, inr, length, length-set, map, refl}
+use Rattle.std.proofs.Common.{set, slice_get, slice_index, slice_index_or, subst, suc, sym, true}
+use Rattle.std.proofs.Common.{zero, ℕ, ◌*◌, ◌+◌, ◌<◌, ◌∙◌, ◌∷◌, ◌≡◌, ◌≢◌, ◌≤◌}
 use Rattle.nit_screen.proofs.Handles.{named_throughout}
 
 -- ---- views by their places in the stack
@@ -57,25 +56,22 @@ written_elsewhere (x ∷ xs) zero zero a other = absurd (other refl)
 written_elsewhere (x ∷ xs) (suc i) (suc j) a other = written_elsewhere xs i j a (λ e. other (ap (λ n. suc n) e))
 written_elsewhere (x ∷ xs) i j a other = refl
 
--- ---- one place after the other
+-- ---- one value after the other
 
--- the first n views have their labels' places, of so many places
-pub record LabelledSoFar (stack : StackModel) (labels : List (List ℕ)) (n room : ℕ)
-    (places : List (Option Point)) : Type 0 where
-  pub count : length places ≡ room
-  pub done : (k : ℕ) (s : SlotView) → k < n → slice_get stack.views k ≡ Some s → IsLabelled stack labels places s
+-- the first n views have their values, of so many
+pub record AreWritten {A : Type 0} (stack : StackModel) (value : SlotView → A) (n room : ℕ) (xs : List A) : Type 0 where
+  pub count : length xs ≡ room
+  pub done : (k : ℕ) (s : SlotView) → k < n → slice_get stack.views k ≡ Some s → slice_get xs s.slot ≡ Some (value s)
 
-pub labelled_more : (stack : StackModel) (labels : List (List ℕ)) (n room : ℕ) (places : List (Option Point))
-    (v : ViewRef) (o : Option Point) → IsStack stack → stack.most ≤ room
-    → slice_get (map view_ref stack.views) n ≡ Some v
-    → ((s : SlotView) → slice_get stack.views n ≡ Some s
-    → o ≡ option_map pixel_at (label_place_of (label_scenery stack labels) s.view))
-    → LabelledSoFar stack labels n room places → LabelledSoFar stack labels (n + 1) room (set places v.0 o)
-labelled_more stack labels n room places v o standing slots at placed far =
+pub written_more : {A : Type 0} (stack : StackModel) (value : SlotView → A) (n room : ℕ) (xs : List A) (v : ViewRef)
+    (a : A) → IsStack stack → stack.most ≤ room → slice_get (map view_ref stack.views) n ≡ Some v
+    → ((s : SlotView) → slice_get stack.views n ≡ Some s → a ≡ value s)
+    → AreWritten stack value n room xs → AreWritten stack value (n + 1) room (set xs v.0 a)
+written_more {A} stack value n room xs v a standing slots at is far =
     record {
-      count = length-set places v.0 o ∙ far.count;
+      count = length-set xs v.0 a ∙ far.count;
       done = λ k s lt at_k. elim (cases_lt k n) [
-        | inl less ↦ written_elsewhere places v.0 s.slot o (other k s less at_k) ∙ far.done k s less at_k
+        | inl less ↦ written_elsewhere xs v.0 s.slot a (other k s less at_k) ∙ far.done k s less at_k
         | inr le ↦ let same : n ≡ k = omega arith in here s (rw same at_k)
       ];
     }
@@ -83,18 +79,17 @@ labelled_more stack labels n room places v o standing slots at placed far =
     seat : (s : SlotView) × (slice_get stack.views n ≡ Some s) × (s.slot ≡ v.0)
     seat = slot_at stack.views n v at
 
-    within : v.0 < length places
+    within : v.0 < length xs
     within = let slot = slot_within stack n v standing at in let count = far.count in omega arith
 
     other : (k : ℕ) (s : SlotView) → k < n → slice_get stack.views k ≡ Some s → s.slot ≢ v.0
     other k s less at_k e = slots_differ stack.views k n s seat.0 standing.slots less at_k seat.1 (e ∙ sym seat.2)
 
-    here : (s : SlotView) → slice_get stack.views n ≡ Some s → slice_get (set places v.0 o) s.slot
-        ≡ Some (option_map pixel_at (label_place_of (label_scenery stack labels) s.view))
+    here : (s : SlotView) → slice_get stack.views n ≡ Some s → slice_get (set xs v.0 a) s.slot ≡ Some (value s)
     here s at_n =
         let one : seat.0 ≡ s = same_Some _ _ (sym seat.1 ∙ at_n) in
         let slot : s.slot ≡ v.0 = rw (← one) seat.2 in
-        rw slot (written_there places v.0 o within ∙ ap (λ (x : Option Point). Some x) (placed s at_n))
+        ap (slice_get (set xs v.0 a)) slot ∙ written_there xs v.0 a within ∙ ap (λ (x : A). Some x) (is s at_n)
 
 -- ==== Labels in a frame: each stands in pixels of its own view, so nothing covers it.
 
@@ -155,10 +150,10 @@ shown_by s p w v found owned = whether_in_bar (in_bar s.bar p) refl
     whether_in_bar false e = rw e (ap (owner_word s p w) (found (rw e at owned)))
 
 -- the pixel of a screen by its column and its row
-number_fits : (width height x y : ℕ) → x < width → y < height → y * width + x < width * height
+pub number_fits : (width height x y : ℕ) → x < width → y < height → y * width + x < width * height
 number_fits width height x y left above = grind (arith, rows)
 
-pixel_of : (width x y : ℕ) → x < width → pixel width (y * width + x) ≡ point x y
+pub pixel_of : (width x y : ℕ) → x < width → pixel width (y * width + x) ≡ point x y
 pixel_of width x y left = grind (arith, nat_tests)
 
 in_its_picture : (text : List ℕ) (left top x y : ℕ) → x < picture_width (length text) → y < picture_height

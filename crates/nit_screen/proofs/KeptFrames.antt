@@ -8,22 +8,20 @@ use Rattle.nit_screen.proofs.Basics.{Rectangle, Refresh, Repainted, Reply, Route
 use Rattle.nit_screen.proofs.Basics.{ServerModel, Sight, Size, StackModel, State, Take, Title}
 use Rattle.nit_screen.proofs.Basics.{Upgrade, Word, after, after_accepted, and-false, bar_rows}
 use Rattle.nit_screen.proofs.Basics.{bar_word, bare_word, black_or_word, buffer_size, deliveries_of}
-use Rattle.nit_screen.proofs.Basics.{dirty, dirty_by_call, flat_same, flat_shown, frame}
-use Rattle.nit_screen.proofs.Basics.{gone_room, in_bar, is_accepted, is_slot}
-use Rattle.nit_screen.proofs.Basics.{layer, length-frame, length-map, nat_tests, other_count, owner}
-use Rattle.nit_screen.proofs.Basics.{painted_more, pixel, pixel_count, refusal, renewed}
-use Rattle.nit_screen.proofs.Basics.{repainted_none, route, scenery_of, serve, session, shown}
-use Rattle.nit_screen.proofs.Basics.{shown_by, shown_index, source_at, source_of, source_of_number}
-use Rattle.nit_screen.proofs.Basics.{source_under, state_of, taken_held, uncovered, wanted, without}
-use Rattle.nit_screen.proofs.Basics.{without_session}
+use Rattle.nit_screen.proofs.Basics.{dirty, dirty_by_call, flat_same, flat_shown, frame, gone_room}
+use Rattle.nit_screen.proofs.Basics.{in_bar, is_accepted, is_slot, layer, length-frame, nat_tests}
+use Rattle.nit_screen.proofs.Basics.{other_count, owner, painted_more, pixel, pixel_count, refusal}
+use Rattle.nit_screen.proofs.Basics.{renewed, repainted_none, route, same_config, scenery_of, serve}
+use Rattle.nit_screen.proofs.Basics.{session, shown, shown_by, shown_index, source_at, source_of}
+use Rattle.nit_screen.proofs.Basics.{source_of_number, source_under, state_of, taken_held}
+use Rattle.nit_screen.proofs.Basics.{uncovered, wanted, without, without_session}
 use Rattle.nit_events.specs.declared.call.Call.TheVariants.{View}
 use Rattle.std.proofs.Common.{All, Bool, List, None, Option, Some, ap, arith, false, is_some}
-use Rattle.std.proofs.Common.{length, map, refl, slice_index, slice_index_or, subst, sym, true, ℕ}
-use Rattle.std.proofs.Common.{◌&&◌, ◌*◌, ◌+◌, ◌<◌, ◌∙◌, ◌≡◌}
+use Rattle.std.proofs.Common.{length, refl, slice_index, slice_index_or, subst, sym, true, ℕ, ◌&&◌}
+use Rattle.std.proofs.Common.{◌*◌, ◌+◌, ◌<◌, ◌∙◌, ◌≡◌}
 use Rattle.nit_stack.specs.declared.view.View.{View as ViewOf}
 use Rattle.nit_screen.proofs.CleanCalls.{call_is_clean, deliveries_are_clean, stack_called}
 use Rattle.nit_screen.proofs.CleanCalls.{unrefused_reply}
-use Rattle.nit_journal.proofs.ForCallers.{same_config}
 use Rattle.nit_events.specs.declared.entry.Entry.TheVariants as entry
 
 -- ---- owners and sources

@@ -2,6 +2,7 @@ pub mod CleanCalls
 pub mod CallsShown
 pub mod KeptFrames
 pub mod FrameLabelLemmas
+pub mod OwnerMapLemmas
 pub mod Handles
 pub mod ScreenLemmas
 pub mod OneList

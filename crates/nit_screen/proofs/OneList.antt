@@ -140,6 +140,7 @@ made_one s p is flat (h, was, apart) raws =
           cuts = h.cuts;
           named = h.named;
           placed = h.placed;
+          mapped = h.mapped;
           bar = h.bar;
           fits = omega (arith, h.fits, h.pixels, many);
         },

@@ -1,29 +1,28 @@
 -- A stack has room for its views, and as much after a call.
 use Rattle.nit_screen.proofs.Basics.{All-head, All-tail, AllByRecursion, All_found, AreBelowNext}
-use Rattle.nit_screen.proofs.Basics.{AreGlasses, AreLive, AreRaw, Call, CanShow, CanShowBy, Configuration}
-use Rattle.nit_screen.proofs.Basics.{Delivery, Device, Entry, HoldBuffers, InputState}
-use Rattle.nit_screen.proofs.Basics.{IsForgottenIfKilled, IsKillAlone, IsLive}
-use Rattle.nit_screen.proofs.Basics.{IsServed, IsServer, IsSlotView, IsStack, Item, NoPair, Painted}
+use Rattle.nit_screen.proofs.Basics.{AreGlasses, AreLive, AreRaw, Call, CanShow, CanShowBy}
+use Rattle.nit_screen.proofs.Basics.{Configuration, Delivery, Device, Entry, HoldBuffers}
+use Rattle.nit_screen.proofs.Basics.{InputState, IsForgottenIfKilled, IsKillAlone, IsLive, IsServed}
+use Rattle.nit_screen.proofs.Basics.{IsServer, IsSlotView, IsStack, Item, NoPair, Painted}
 use Rattle.nit_screen.proofs.Basics.{PixelSource, Pixels, Point, Repainted, Reply, Routed, Routing}
 use Rattle.nit_screen.proofs.Basics.{ServerModel, Session, Sight, SlotView, StackModel, State}
 use Rattle.nit_screen.proofs.Basics.{Status, View, after, bar_rows, buffer_size, by_life, cases_lt}
-use Rattle.nit_screen.proofs.Basics.{client_kept, covers, deliveries_of, dirty, false_from_ne_true}
+use Rattle.nit_screen.proofs.Basics.{covers, deliveries_of, dirty, false_from_ne_true}
 use Rattle.nit_screen.proofs.Basics.{first_session, forget, forgotten_again, found_passes}
-use Rattle.nit_screen.proofs.Basics.{found_some, get_or_past, is_kill, is_killed}
-use Rattle.nit_screen.proofs.Basics.{is_session, killed_by, killed_in, kills}
-use Rattle.nit_screen.proofs.Basics.{length-le_from_distinct_below, length-map, list_any}
-use Rattle.nit_screen.proofs.Basics.{list_any-map, loads_at, map-set, member, nat_tests}
-use Rattle.nit_screen.proofs.Basics.{no_size, opened, owner_of, pixel, pixel_count, repainted_none}
-use Rattle.nit_screen.proofs.Basics.{repainted_same, route, routed_as, routing_of, same_slot, seen}
-use Rattle.nit_screen.proofs.Basics.{seen_none, session, session_in, session_owns, size_of_buffer}
-use Rattle.nit_screen.proofs.Basics.{source, source_at, source_of, state_of, sum_by-cons}
-use Rattle.nit_screen.proofs.Basics.{times_shown, unless_it_is, views_closed, views_of}
+use Rattle.nit_screen.proofs.Basics.{found_some, get_or_past, is_kill, is_killed, is_session}
+use Rattle.nit_screen.proofs.Basics.{killed_by, killed_in, kills, length-le_from_distinct_below}
+use Rattle.nit_screen.proofs.Basics.{length-map, list_any, list_any-map, loads_at, map-set, member}
+use Rattle.nit_screen.proofs.Basics.{nat_tests, no_size, opened, owner_of, pixel, pixel_count}
+use Rattle.nit_screen.proofs.Basics.{repainted_none, repainted_same, route, routed_as, routing_of}
+use Rattle.nit_screen.proofs.Basics.{same_slot, seen, seen_none, session, session_in, session_owns}
+use Rattle.nit_screen.proofs.Basics.{size_of_buffer, source, source_at, source_of, state_of}
+use Rattle.nit_screen.proofs.Basics.{sum_by-cons, times_shown, unless_it_is, views_closed, views_of}
 use Rattle.nit_screen.proofs.Basics.{with_ended, with_opened, with_reopened, with_routed, without}
 use Rattle.nit_screen.proofs.Basics.{word_count}
 use Rattle.std.proofs.Common.{All, Bool, IfSome, List, None, Option, Some, [], ap, arith, cond, eqb}
 use Rattle.std.proofs.Common.{eqb-true, ext_get_or, false, get_or-set_other, get_or-set_same, inl}
-use Rattle.std.proofs.Common.{inr, length, length-set, map, ne_eqb, refl, set, set-set, suc, sym}
-use Rattle.std.proofs.Common.{true, vec_capacity, zero, ℕ, ◌<◌, ◌==◌, ◌||◌, ◌∙◌, ◌∷◌, ◌≡◌, ◌≢◌, ◌≤◌}
+use Rattle.std.proofs.Common.{inr, length, map, ne_eqb, refl, set, set-set, suc, sym, true}
+use Rattle.std.proofs.Common.{vec_capacity, zero, ℕ, ◌<◌, ◌==◌, ◌||◌, ◌∙◌, ◌∷◌, ◌≡◌, ◌≢◌, ◌≤◌}
 use Rattle.std.specs.List.{IsDistinct}
 use Rattle.nit_screen.proofs.OneViewChanges.{size_at, source_of_number}
 use Rattle.nit_screen.proofs.CleanCalls.{alike_at, by_other_sizes, others_stay, owner_spared}
@@ -266,7 +265,7 @@ clean_seen source is_marked n a b raw raw' clean painted t =
 pub can_relabel : (mid s' : ServerModel) (sid : ℕ) (label : List ℕ) (p : Pixels)
     → s' ≡ with_opened sid label mid → CanShowBy mid p
     → CanShow s' p.painter.raw.items (length p.frame.items) (vec_capacity p.frame) p.painter.cutter.room
-    (set p.labels.texts.items sid label) (length p.labels.places.items) p.bar
+    (set p.labels.texts.items sid label) (length p.labels.places.items) p.labels.owners p.bar
 can_relabel mid s' sid label p is h = grind (arith, nat_tests, map-set)
 
 -- a session that is over has no buffer, and none when it opens, so each pixel has the same source

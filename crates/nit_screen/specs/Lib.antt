@@ -18,6 +18,8 @@ pub mod CallKinds
 pub mod DirtyPixels
 pub mod FrameLabels
 pub mod LabelSlots
+pub mod MapRoom
+pub mod OwnerMap
 pub mod Pixels
 pub mod RawWords
 pub mod Screen

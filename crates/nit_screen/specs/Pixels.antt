@@ -1,9 +1,11 @@
 -- A frame that is kept, with what it is made by.
 use Rattle.std.specs.Prelude.{◌≡◌, ℕ, ◌*◌, ◌<◌, ◌≤◌, ◌++◌, Bool, true, false, All, IsTrue, List}
 use Rattle.std.specs.Prelude.{if◌then◌else◌}
-use Rattle.nit_screen.specs.Below.{AreSet, IsWord, Pixels, ServerModel, State, bar_rows, bare_word}
+use Rattle.nit_screen.specs.Below.{AreSet, IsWord, ServerModel, State, bar_rows, bare_word}
 use Rattle.nit_screen.specs.Below.{draws_labels, drop, frame, in_bar, length, map, pixel, replicate}
 use Rattle.nit_screen.specs.Below.{shown, slice_index, state_of, vec_capacity}
+use Rattle.nit_screen.specs.declared.screen.pixels.Pixels.{Pixels}
+use Rattle.nit_screen.specs.MapRoom.{MapRoom}
 use Rattle.nit_screen.specs.StateScenery.{scenery_of}
 
 -- the words with the bare word in place of the first so many, where the bar stands
@@ -24,9 +26,9 @@ kept_frame p = if p.is_apart then p.frame.items else p.painter.raw.items
 
 -- A frame can be made: a word below 2^24 for each pixel, room for as many words of a frame apart,
 -- of which some are there, room to cut out every view, the label of each session, room for the
--- place of each view's label, and the number of pixels that the bar has.
+-- place of each view's label and for a map of the screen, and the number of pixels that the bar has.
 pub record CanShow (s : ServerModel) (raw : List ℕ) (reached most room : ℕ)
-    (labels : List (List ℕ)) (places first : ℕ) : Type 0 where
+    (labels : List (List ℕ)) (places : ℕ) (owners : MapRoom) (first : ℕ) : Type 0 where
   pub words : All IsWord raw
   pub pixels : length raw ≡ s.config.width * s.config.height
   pub few : reached ≤ s.config.width * s.config.height
@@ -34,6 +36,8 @@ pub record CanShow (s : ServerModel) (raw : List ℕ) (reached most room : ℕ)
   pub cuts : s.stack.most ≤ room
   pub named : labels ≡ map (λ m. m.label) s.config.clients
   pub placed : s.stack.most ≤ places
+  pub mapped : owners
+      ≡ record { width = s.config.width; height = s.config.height; slots = places }
   pub bar : first ≡ s.config.width * bar_rows s.config
   pub fits : first ≤ length raw
 
@@ -53,7 +57,7 @@ abbrev pub CanShowBy : ServerModel → Pixels → Type 0
 CanShowBy s p =
     CanShow s p.painter.raw.items (length p.frame.items) (vec_capacity p.frame)
     p.painter.cutter.room p.labels.texts.items
-    (length p.labels.places.items) p.bar
+    (length p.labels.places.items) p.labels.owners p.bar
 
 -- the frame is the one of the server's state and of the raw words
 abbrev pub IsFrameOf : ServerModel → Pixels → Type 0

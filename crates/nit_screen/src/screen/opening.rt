@@ -1,12 +1,13 @@
 //! A screen before its first entry.
 
 ghost use Rattle.std.specs.Prelude.{◌≡◌, ◌+◌, ◌-◌, ◌<◌, ◌≤◌, None, IfOk, length, ◌*◌, map};
-ghost use Rattle.nit_screen.specs.Terms.{IsConfiguration, Point, bar_rows, bare_word};
-ghost use Rattle.nit_screen.specs.Terms.{false, first_state, most_slots, replicate, state_of};
+ghost use Rattle.nit_screen.specs.Terms.{IsConfiguration, Point, bar_rows, bare_word, false};
+ghost use Rattle.nit_screen.specs.Terms.{first_state, most_slots, replicate, state_of};
 ghost use Rattle.nit_screen.specs.Terms.{vec_capacity};
 
 use crate::screen::Screen;
 use crate::screen::labels::Labels;
+use crate::screen::owners::OwnerMap;
 use crate::screen::pixels::Pixels;
 use nit_config::Config;
 use nit_damage::Cutter;
@@ -50,6 +51,11 @@ fn bare_pixels(alloc: Global, config: &Config, bar: usize) -> Result<Pixels, NoM
         p.labels.texts.items ≡ map (λ m. m.label) config.now.clients) }
     ensures room { IfOk result (λ p.
         (most_slots ≤ p.painter.cutter.room) × (most_slots ≤ length p.labels.places.items)) }
+    ensures mapped { IfOk result (λ p. p.labels.owners ≡ record {
+      width = config.now.width;
+      height = config.now.height;
+      slots = length p.labels.places.items;
+    }) }
 {
     let cutter = Cutter::with_room(alloc, MOST_VIEWS as u32)?;
     let raw = bare_words(alloc, config)?;
@@ -57,6 +63,7 @@ fn bare_pixels(alloc: Global, config: &Config, bar: usize) -> Result<Pixels, NoM
     let labels = Labels {
         texts: labels_of(alloc, config)?,
         places: no_places(alloc)?,
+        owners: OwnerMap::new(alloc, config.width, config.height, MOST_VIEWS)?,
     };
     let painter = Painter { cutter, raw };
     Ok(Pixels {
@@ -103,7 +110,7 @@ fn bare_words(alloc: Global, config: &Config) -> Result<Vec<u32>, NoMemory>
 
 /// Room for the place of each view's label.
 fn no_places(alloc: Global) -> Result<Vec<Option<Point>>, NoMemory>
-    ensures { IfOk result (λ v. most_slots ≤ length v.items) }
+    ensures { IfOk result (λ v. length v.items ≡ most_slots) }
 {
     Ok(vec![in alloc; None; MOST_VIEWS]?)
 }

@@ -142,7 +142,8 @@ impl Pixels {
     {
         server.facts();
         let mode = server.mode();
-        self.labels.place(mode, server.stack());
+        self.labels
+            .place(mode, server.stack(), &mut self.painter.cutter);
         let look = Look {
             stack: server.stack(),
             labels: self.labels.texts.as_slice(),
@@ -160,6 +161,11 @@ fn frame_of(server: &Server, painter: &mut Painter, labels: &mut Labels, out: &m
     requires room { server.now.stack.most ≤ painter.old.cutter.room }
     requires named { labels.old.texts.items ≡ map (λ m. m.label) server.now.config.clients }
     requires placed { server.now.stack.most ≤ length labels.old.places.items }
+    requires mapped { labels.old.owners ≡ record {
+      width = server.now.config.width;
+      height = server.now.config.height;
+      slots = length labels.old.places.items;
+    } }
     requires pixels { length painter.old.raw.items
         ≡ server.now.config.width * server.now.config.height }
     requires out { length out.old ≡ server.now.config.width * server.now.config.height }
@@ -168,10 +174,11 @@ fn frame_of(server: &Server, painter: &mut Painter, labels: &mut Labels, out: &m
     ensures shown { out.new ≡ frame (scenery_of (state_of server.now)) painter.old.raw.items }
     ensures places { length labels.new.places.items ≡ length labels.old.places.items }
     ensures texts { labels.new.texts ≡ labels.old.texts }
+    ensures owners { labels.new.owners ≡ labels.old.owners }
 {
     server.facts();
     let mode = server.mode();
-    labels.place(mode, server.stack());
+    labels.place(mode, server.stack(), &mut painter.cutter);
     let look = Look {
         stack: server.stack(),
         labels: labels.texts.as_slice(),

@@ -1,6 +1,6 @@
-use Rattle.nit_screen.proofs.Lemmas.{can_paint, can_still, entry_painted_in, flat_below, nat_tests}
-use Rattle.nit_screen.proofs.Lemmas.{painted_bare, painted_whole, refl, repainted_words, state_of}
-use Rattle.std.proofs.Common.{arith, length}
+use Rattle.nit_screen.proofs.Lemmas.{arith, can_paint, can_still, entry_painted_in, flat_below}
+use Rattle.nit_screen.proofs.Lemmas.{length, nat_tests, painted_bare, painted_whole, refl}
+use Rattle.nit_screen.proofs.Lemmas.{repainted_words, state_of}
 use Rattle.nit_events.specs.declared.entry.Entry.TheVariants as entry
 use Rattle.nit_screen.proofs.screen.Screen.load_all.Goals as goal
 

@@ -1,6 +1,6 @@
 use Rattle.nit_screen.proofs.Lemmas.{All-replicate, Configuration, IsWord, State, bare_unbarred}
-use Rattle.nit_screen.proofs.Lemmas.{bare_word, flat_below, get_or-replicate}
-use Rattle.nit_screen.proofs.Lemmas.{length-replicate, nat_tests}
+use Rattle.nit_screen.proofs.Lemmas.{bare_word, flat_below, get_or-replicate, length-replicate}
+use Rattle.nit_screen.proofs.Lemmas.{nat_tests}
 use Rattle.std.proofs.Common.{ap, arith, length, ◌*◌, ◌∙◌, ◌≡◌}
 use Rattle.nit_screen.proofs.screen.Screen.new.Goals as goal
 
@@ -20,6 +20,7 @@ show_again-requires-clause-can c =
       cuts = omega (arith, few, e.room.0);
       named = rw same e.named;
       placed = omega (arith, few, e.room.1);
+      mapped = rw same e.mapped;
       bar = e.bar ∙ c.bar_pixels.ensures.bar;
       fits = omega (arith, c.bar_pixels.ensures.fits, e.bar, long, area);
     }

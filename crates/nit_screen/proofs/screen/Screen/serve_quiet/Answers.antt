@@ -1,5 +1,5 @@
-use Rattle.nit_screen.proofs.Lemmas.{arith, nat_tests, quiet_call, quiet_shown, refl}
-use Rattle.nit_screen.proofs.Lemmas.{state_of, unpainted}
+use Rattle.nit_screen.proofs.Lemmas.{arith, nat_tests, quiet_call, quiet_shown, refl, state_of}
+use Rattle.nit_screen.proofs.Lemmas.{unpainted}
 use Rattle.nit_events.specs.declared.entry.Entry.TheVariants as entry
 use Rattle.nit_screen.proofs.screen.Screen.serve_quiet.Goals as goal
 

@@ -1,14 +1,12 @@
-use Rattle.nit_screen.proofs.Lemmas.{StackModel, few_views, nat_tests, part_shown, rules}
-use Rattle.nit_screen.proofs.Lemmas.{take-append_seam, views_of}
-use Rattle.std.proofs.Common.{List, ap, arith, drop, length, refl, take, ℕ, ◌++◌, ◌∙◌, ◌≡◌}
+use Rattle.nit_screen.proofs.Lemmas.{StackModel, ap, arith, few_views, nat_tests, part_shown, refl}
+use Rattle.nit_screen.proofs.Lemmas.{rules, views_of, written, ◌∙◌}
 use Rattle.nit_screen.proofs.screen.pixels.Pixels.overlay_part.Goals as goal
+
+pub place-requires-clause-cuts : goal.place-requires-clause-cuts
+place-requires-clause-cuts c = grind (arith, nat_tests, few_views)
 
 pub show_session-requires-clause-room : goal.show_session-requires-clause-room
 show_session-requires-clause-room c = grind (arith, nat_tests, few_views)
-
--- what was written into a list is all of it
-written : (n : ℕ) (new old : List ℕ) → length new ≡ n → take n (new ++ drop (length new) old) ≡ new
-written n new old e = rw (← e) (take-append_seam new (drop (length new) old))
 
 pub returns : goal.returns
 returns c =
