@@ -15,7 +15,7 @@ use Rattle.nit_server.proofs.Basics.{server_of, session_in, set-get_or, size_of_
 use Rattle.nit_server.proofs.Basics.{slot_view_in, slot_view_layer, some_pair_parts, taking}
 use Rattle.nit_server.proofs.Basics.{views_above, views_backed, views_changed, views_fronted}
 use Rattle.nit_server.proofs.Basics.{views_of, with_delivered, with_offset, with_rect, with_title}
-use Rattle.nit_server.proofs.Basics.{within_quota}
+use Rattle.nit_server.proofs.Basics.{KeepsViews, within_quota}
 use Rattle.std.proofs.Common.{List, None, Option, Some, [], ap, arith, get_or, is_some, leb-true}
 use Rattle.std.proofs.Common.{length, map, option_map, refl, set, sym, true, ℕ, ℤ, ◌*◌, ◌+◌, ◌-◌}
 use Rattle.std.proofs.Common.{◌<◌, ◌∙◌, ◌∷◌, ◌≡◌, ◌≤◌}
@@ -99,7 +99,7 @@ module _ {config : Configuration} {stack : StackModel} {members : List KeptSessi
             (rw (map-set (λ (x : KeptSessionModel). x.session) members sid next, session_of_member members sid))
             (grind (arith, views))
             (sym (input user))
-            (λ k handle n. agree_by k sid handle stack.views n);
+            (λ k handle n. agree_by k sid handle stack.views n) (λ keeps. refl);
       })
 
   pub buffered : {stack' : StackModel} {m' : KeptSessionModel} {w h : ℕ}
@@ -181,6 +181,7 @@ changed_by : {config : Configuration} {stack stack' : StackModel} {members : Lis
     → AreServerParts config stack members slots
     → server_of config stack members user ≡ now
     → refusal (session_in now.sessions sid) c ≡ None
+    → (KeepsViews c → ⊥)
     → ((s : Session) → accepted s c ≡ answered reply.Done s)
     → ((i : InputState) → input_after_call sid c reply.Done i ≡ i)
     → stack' ≡ record stack { views = views }
@@ -189,8 +190,8 @@ changed_by : {config : Configuration} {stack stack' : StackModel} {members : Lis
     → views_of views ≡ after_accepted (layer_of stack.layers) sid c reply.Done (views_of stack.views)
     → IsDone config stack' members slots user sid c reply.Done now
 unfolding stack_after_call
-changed_by {config} {stack = stack} {members = members} {user = user} {sid = sid} c views s is free same input becomes
-    standing names along =
+changed_by {config} {stack = stack} {members = members} {user = user} {sid = sid} c views s is free not_kept same input
+    becomes standing names along =
     let own : Session = session_in (map (λ m. m.session) members) sid in
     rw (becomes, ← is) (record {
       server = restacked s standing names;
@@ -198,7 +199,8 @@ changed_by {config} {stack = stack} {members = members} {user = user} {sid = sid
           (rw (same own) (sym (set-get_or (map (λ m. m.session) members) sid (first_session 0))))
           (rw (layers_are config stack.layers s.layers) at along) (sym (input user))
           (λ k handle n. agree_by k sid handle views
-          (record { slots = standing.slots; names = standing.names; name = names k ∙ n.name }));
+          (record { slots = standing.slots; names = standing.names; name = names k ∙ n.name }))
+          (λ keeps. absurd (not_kept keeps));
     })
 
 module _ {config : Configuration} {stack : StackModel} {members : List KeptSessionModel} {slots : SlotsModel}
@@ -213,6 +215,7 @@ module _ {config : Configuration} {stack : StackModel} {members : List KeptSessi
   -- the view in its slot is another, of the same name
   changes : {stack' : StackModel} (c : Call) (change : View → View)
       → refusal (session_in now.sessions sid) c ≡ None
+      → (KeepsViews c → ⊥)
       → ((z : Session) → accepted z c ≡ answered reply.Done z)
       → ((i : InputState) → input_after_call sid c reply.Done i ≡ i)
       → stack' ≡ record stack { views = changed (is_slot k) (on_view change) stack.views }
@@ -222,8 +225,8 @@ module _ {config : Configuration} {stack : StackModel} {members : List KeptSessi
       → ((views : List View) → changed (is_view sid handle) change views
       ≡ after_accepted (layer_of stack.layers) sid c reply.Done views)
       → IsDone config stack' members slots user sid c reply.Done now
-  changes c change free same input becomes name sound along =
-      changed_by c _ s is free same input becomes (keeps_changed stack k change s.standing name sound)
+  changes c change free not_kept same input becomes name sound along =
+      changed_by c _ s is free not_kept same input becomes (keeps_changed stack k change s.standing name sound)
       (λ j. name-changed j k change stack.views name)
       (views_changed k sid handle change stack.views here ∙ along (views_of stack.views))
 
@@ -237,7 +240,7 @@ module _ {config : Configuration} {stack : StackModel} {members : List KeptSessi
   placed {x = x} {y} {r} {w} {h} free across down is_rect becomes =
       let same : r ≡ rectangle x y w h = rw (across, down) at is_rect in
       let range : IsRectInRange r = rw same (rectangle_range x y w h (grind (arith, free))) in
-      changes _ (with_rect r) free (λ z. refl) (λ i. refl) becomes (λ v. (refl, refl))
+      changes _ (with_rect r) free (λ keeps. keeps) (λ z. refl) (λ i. refl) becomes (λ v. (refl, refl))
       (λ a f. assumption (range, f))
       (λ views. ap (λ (z : Rectangle). changed (is_view sid handle) (with_rect z) views) same)
 
@@ -256,7 +259,7 @@ module _ {config : Configuration} {stack : StackModel} {members : List KeptSessi
       → IsDone config stack' members slots user sid (call.Offset handle ox oy) reply.Done now
   offset_by {column = column} {row} free across down becomes =
       let range = offset_range free across down in
-      changes _ (with_offset column row) free (λ z. refl) (λ i. refl) becomes (λ v. (refl, refl))
+      changes _ (with_offset column row) free (λ keeps. keeps) (λ z. refl) (λ i. refl) becomes (λ v. (refl, refl))
       (λ a f. assumption (range, f))
       (λ views. λ i. changed (is_view sid handle) (with_offset (across i) (down i)) views)
 
@@ -266,7 +269,7 @@ module _ {config : Configuration} {stack : StackModel} {members : List KeptSessi
       → stack' ≡ record stack { views = changed (is_slot k) (on_view (with_title title)) stack.views }
       → IsDone config stack' members slots user sid (call.Title handle text) reply.Done now
   titled {title = title} free same becomes =
-      changes _ (with_title title) free (λ z. refl) (λ i. refl) becomes (λ v. (refl, refl))
+      changes _ (with_title title) free (λ keeps. keeps) (λ z. refl) (λ i. refl) becomes (λ v. (refl, refl))
       (λ a f. assumption f) (λ views. ap (λ (z : List ℕ). changed (is_view sid handle) (with_title z) views) same)
 
   pub fronted : {stack' : StackModel}
@@ -274,7 +277,8 @@ module _ {config : Configuration} {stack : StackModel} {members : List KeptSessi
       → stack' ≡ record stack { views = moved (is_slot k) (put_own_front (slot_view_layer stack.layers)) stack.views }
       → IsDone config stack' members slots user sid (call.Front handle) reply.Done now
   fronted free becomes =
-      changed_by (call.Front handle) _ s is free (λ z. refl) (λ i. refl) becomes (keeps_front stack k s.standing there)
+      changed_by (call.Front handle) _ s is free (λ keeps. keeps) (λ z. refl) (λ i. refl) becomes
+      (keeps_front stack k s.standing there)
       (λ j. name-front j k (slot_view_layer stack.layers) stack.views there)
       (views_fronted k sid handle (layer_of stack.layers) stack.views here)
 
@@ -283,7 +287,8 @@ module _ {config : Configuration} {stack : StackModel} {members : List KeptSessi
       → stack' ≡ record stack { views = moved (is_slot k) (put_own_back (slot_view_layer stack.layers)) stack.views }
       → IsDone config stack' members slots user sid (call.Back handle) reply.Done now
   backed free becomes =
-      changed_by (call.Back handle) _ s is free (λ z. refl) (λ i. refl) becomes (keeps_back stack k s.standing there)
+      changed_by (call.Back handle) _ s is free (λ keeps. keeps) (λ z. refl) (λ i. refl) becomes
+      (keeps_back stack k s.standing there)
       (λ j. name-back j k (slot_view_layer stack.layers) stack.views there)
       (views_backed k sid handle (layer_of stack.layers) stack.views here)
 
@@ -298,7 +303,7 @@ module _ {config : Configuration} {stack : StackModel} {members : List KeptSessi
       → IsDone config stack' members slots user sid (call.Above handle next) reply.Done now
   put_above_next {n = n} {next} other free becomes =
       let also : IsNamedBy n sid next stack.views = rw (← is) at other in
-      changed_by (call.Above handle next) _ s is free (λ z. refl) (λ i. refl) becomes
+      changed_by (call.Above handle next) _ s is free (λ keeps. keeps) (λ z. refl) (λ i. refl) becomes
       (keeps_above stack k n s.standing there (has-name n stack.views ∙ ap is_some also.name) (same_layer other))
       (λ j. name-above j k n stack.views there) (views_above k n sid handle next stack.views here also)
 
@@ -309,4 +314,4 @@ pub refreshed : (now : ServerModel) (sid : ℕ) (x y : ℤ) (w h : ℕ)
 unfolding stack_after_call
 refreshed now sid x y w h free =
     served_by free refl refl (sym (set-get_or now.sessions sid (first_session 0))) refl refl
-    (λ k handle n. agree_by k sid handle now.stack.views n)
+    (λ k handle n. agree_by k sid handle now.stack.views n) (λ keeps. refl)

@@ -8,7 +8,7 @@ pub use Rattle.nit_server.specs.Terms.{Configuration, Delivery, Destroy, Device,
 pub use Rattle.nit_server.specs.Terms.{FocusModel, HasForgotten, InputState, IsBar, IsBufferSize}
 pub use Rattle.nit_server.specs.Terms.{IsConfiguration, IsFreeLabel, IsMember, IsNamedBy, IsPaid}
 pub use Rattle.nit_server.specs.Terms.{IsPlace, IsRectInRange, IsServed, IsServer, IsServerInput}
-pub use Rattle.nit_server.specs.Terms.{IsSessionOfClient, IsSlotView, IsStack, Item}
+pub use Rattle.nit_server.specs.Terms.{IsSessionOfClient, IsSlotView, IsStack, Item, KeepsViews}
 pub use Rattle.nit_server.specs.Terms.{KeptSessionModel, MayLose, MeanSame, Member, NoPair, Point}
 pub use Rattle.nit_server.specs.Terms.{Rectangle, Reply, Routed, Routing, ServerModel, Session}
 pub use Rattle.nit_server.specs.Terms.{Size, SlotView, SlotsModel, StackModel, State, Status, Take}

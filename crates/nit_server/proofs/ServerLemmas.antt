@@ -2,7 +2,7 @@
 use Rattle.nit_server.proofs.Basics.{AreServerParts, AreSlotsNamed, Call, Configuration, FocusModel}
 use Rattle.nit_server.proofs.Basics.{InputState, IsNamedBy, IsPaid, IsServed, IsServer}
 use Rattle.nit_server.proofs.Basics.{IsServerInput, IsSessionOfClient, IsStack, KeptSessionModel}
-use Rattle.nit_server.proofs.Basics.{MeanSame, Member, Reply, ServerModel, Size, SlotView}
+use Rattle.nit_server.proofs.Basics.{KeepsViews, MeanSame, Member, Reply, ServerModel, Size, SlotView}
 use Rattle.nit_server.proofs.Basics.{SlotsModel, StackModel, accepted, any-filter_same, get_or-map}
 use Rattle.nit_server.proofs.Basics.{get_or-set_at, get_or_default, has-name, has_handle}
 use Rattle.nit_server.proofs.Basics.{input_after_call, is_slot_among, kept_session_at, layer}
@@ -273,8 +273,9 @@ pub served_by : {before after' : ServerModel} {sid : ℕ} {call : Call} {reply :
     → views_of after'.stack.views ≡ stack_after_call (layer before.config) sid call reply (views_of before.stack.views)
     → after'.input ≡ input_after_call sid call reply before.input
     → ((k handle : ℕ) → IsNamedBy k sid handle before.stack.views → MeanSame k sid handle after'.stack.views)
+    → (KeepsViews call → after'.stack.views ≡ before.stack.views)
     → IsServed sid call reply before after'
-served_by {before} {sid = sid} {call} free replied config sessions views input named =
+served_by {before} {sid = sid} {call} free replied config sessions views input named seats =
     let served : serve (session_in before.sessions sid) call ≡ accepted (session_in before.sessions sid) call =
     serve_accepted _ call free in
     record {
@@ -286,6 +287,7 @@ served_by {before} {sid = sid} {call} free replied config sessions views input n
         input = input i;
       };
       named = named;
+      seats = seats;
     }
 
 -- an accepted call left what holds of a server, and was served

@@ -123,7 +123,8 @@ module _ {config : Configuration} {stack : StackModel} {members : List KeptSessi
         slots = standing.slots;
         names = standing.names;
         name = grind (arith, nat_tests, names j, nameless, by.name);
-      })))
+      }))
+      (λ keeps. absurd keeps))
 
 -- ==== A server from which views go.
 
@@ -158,7 +159,7 @@ unfolding stack_after_call
 destroyed s sid handle none =
     served_by none refl refl refl (map-without (λ (a : SlotView). a.view) (is_view sid handle) s.stack.views) refl
     (λ k other by. agree_without (is_slot k) (is_named sid other) (is_named sid handle) s.stack.views
-    (agree_by k sid other s.stack.views by))
+    (agree_by k sid other s.stack.views by)) (λ keeps. absurd keeps)
 
 -- a call that ends a session is served
 pub closed : (s : ServerModel) (sid : ℕ) → refusal (session_in s.sessions sid) Close ≡ None
@@ -167,7 +168,7 @@ unfolding stack_after_call
 closed s sid none =
     served_by none refl refl refl (views_closed sid s.stack.views) refl
     (λ k other by. agree_without (is_slot k) (is_named sid other) (is_of_session sid) s.stack.views
-    (agree_by k sid other s.stack.views by))
+    (agree_by k sid other s.stack.views by)) (λ keeps. absurd keeps)
 
 -- the views of a session go one by one
 pub one_less : (sid handle : ℕ) (s : ServerModel) → sid < length s.sessions

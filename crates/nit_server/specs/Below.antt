@@ -8,7 +8,7 @@ pub use Rattle.nit_events.specs.Input.{forget, pointer_after, routed_as, routing
 pub use Rattle.nit_events.specs.Ranges.{IsDevice, most_waiting}
 pub use Rattle.nit_events.specs.declared.call.Call.{Call}
 pub use Rattle.nit_events.specs.declared.call.Call.TheVariants.{Buffer, Close, Destroy, Take}
-pub use Rattle.nit_events.specs.declared.call.Call.TheVariants.{Upgrade}
+pub use Rattle.nit_events.specs.declared.call.Call.TheVariants.{Refresh, Upgrade}
 pub use Rattle.nit_events.specs.declared.call.Reply.{Reply}
 pub use Rattle.nit_events.specs.declared.call.Reply.TheVariants.{Done}
 pub use Rattle.nit_events.specs.declared.device.Device.{Device}

@@ -7,6 +7,7 @@ use Rattle.nit_server.specs.Below.{IsNamedBy, IsStack, MeanSame, Reply, Session,
 use Rattle.nit_server.specs.Below.{SlotsModel, StackModel, State, after, bar_rows, first_session}
 use Rattle.nit_server.specs.Below.{has_slot, is_slot_taken, member, name_in, room, serve, session}
 use Rattle.nit_server.specs.Below.{session_in, slot_of, table_size, view_slots, views_of}
+use Rattle.nit_server.specs.Below.{Buffer, Refresh, Take, Upgrade}
 use Rattle.nit_events.specs.declared.entry.Entry.TheVariants as entry
 use Rattle.nit_server.specs.KeptSession.{IsPaid, KeptSessionModel}
 
@@ -47,14 +48,23 @@ pub record IsServer (s : ServerModel) : Type 0 where
   pub within : (t : ℕ) → t < length s.sessions → (session_in s.sessions t).bw *
       (session_in s.sessions t).bh ≤ table_size (member s.config t).donation
 
--- a call of a session was served: its reply is its machine's, the state is the one after it, and
--- each view keeps its slot
+-- a call that changes no view, nor which views there are
+abbrev pub KeepsViews : Call → Type 0
+KeepsViews (Buffer w h) = Unit {0}
+KeepsViews (Refresh x y w h) = Unit {0}
+KeepsViews Take = Unit {0}
+KeepsViews (Upgrade n) = Unit {0}
+KeepsViews other = ⊥
+
+-- a call of a session was served: its reply is its machine's, the state is the one after it, each
+-- view of the session keeps its slot, and all views stay where the call changes none
 pub record IsServed (sid : ℕ) (call : Call) (reply : Reply)
     (before after' : ServerModel) : Type 0 where
   pub replied : reply ≡ (serve (session (state_of before) sid) call).reply
   pub state : state_of after' ≡ after (state_of before) (entry.Call sid call reply)
   pub named : (k handle : ℕ) → IsNamedBy k sid handle before.stack.views
       → MeanSame k sid handle after'.stack.views
+  pub seats : KeepsViews call → after'.stack.views ≡ before.stack.views
 
 -- ---- inside
 

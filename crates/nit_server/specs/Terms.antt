@@ -31,7 +31,7 @@ pub use Rattle.nit_server.specs.Below.{without_handle, without_slot}
 pub use Rattle.nit_server.specs.KeptSession.{IsPaid, KeptSessionModel}
 pub use Rattle.nit_server.specs.Seats.{with_opened}
 pub use Rattle.nit_server.specs.Server.{AreServerParts, AreSlotsNamed, IsServed, IsServer}
-pub use Rattle.nit_server.specs.Server.{IsSessionOfClient, ServerModel, kept_session_at}
+pub use Rattle.nit_server.specs.Server.{IsSessionOfClient, KeepsViews, ServerModel, kept_session_at}
 pub use Rattle.nit_server.specs.Server.{no_kept_session, pairs_of, server_of, size_of_buffer}
 pub use Rattle.nit_server.specs.Server.{state_of}
 pub use Rattle.nit_server.specs.ServerInput.{IsServerInput, MayLose, client_in, killed_in}
