@@ -16,26 +16,26 @@ pub use Rattle.nit_repaint.proofs.ForCallers.{taken_none, without_changed, witho
 pub use Rattle.nit_repaint.proofs.ForCallers.{without_none}
 pub use Rattle.nit_screen.specs.Terms.{Above, Agrees, AllByRecursion, AreBelowNext, AreGlasses}
 pub use Rattle.nit_screen.specs.Terms.{AreInked, AreLabelled, AreLabelsApart, AreLive, AreMeasured}
-pub use Rattle.nit_screen.specs.Terms.{ArePixels, AreRaw, AreSet, Back, Bare, Buffer, Call}
-pub use Rattle.nit_screen.specs.Terms.{CanAccept, CanRepaint, CanServe, CanShow, CanShowBy, Close}
-pub use Rattle.nit_screen.specs.Terms.{Configuration, CutterModel, Delivery, Destroy, Device, Entry}
-pub use Rattle.nit_screen.specs.Terms.{Event, FitsStack, Flat, Front, HaveOwnNames, HoldBuffers}
-pub use Rattle.nit_screen.specs.Terms.{InputState, IsAmongLoads, IsCallShown, IsClean, IsCopied}
-pub use Rattle.nit_screen.specs.Terms.{IsForgottenIfKilled, IsFrameOf, IsFree, IsInkedBy}
+pub use Rattle.nit_screen.specs.Terms.{ArePixels, ArePlaced, AreRaw, AreSet, Back, Bare, Buffer}
+pub use Rattle.nit_screen.specs.Terms.{Call, CanAccept, CanRepaint, CanServe, CanShow, CanShowBy}
+pub use Rattle.nit_screen.specs.Terms.{Close, Configuration, CutterModel, Delivery, Destroy, Device}
+pub use Rattle.nit_screen.specs.Terms.{Entry, Event, FitsStack, Flat, Front, HaveOwnNames}
+pub use Rattle.nit_screen.specs.Terms.{HoldBuffers, InputState, IsAmongLoads, IsCallShown, IsClean}
+pub use Rattle.nit_screen.specs.Terms.{IsCopied, IsForgottenIfKilled, IsFrameOf, IsFree, IsInkedBy}
 pub use Rattle.nit_screen.specs.Terms.{IsKillAlone, IsLabelShown, IsLeastPlace, IsLegal, IsLive}
 pub use Rattle.nit_screen.specs.Terms.{IsMap, IsNamedBy, IsNewlyNamed, IsNumberOf, IsOn, IsOnScreen}
 pub use Rattle.nit_screen.specs.Terms.{IsPartOf, IsPartShown, IsQuiet, IsRawOf, IsRemovedFrom}
 pub use Rattle.nit_screen.specs.Terms.{IsRepaint, IsServed, IsServer, IsShown, IsSlotView, IsStack}
 pub use Rattle.nit_screen.specs.Terms.{IsViewChange, IsWord, IsWordOfSource, Item, KeepsPainter}
-pub use Rattle.nit_screen.specs.Terms.{LegalFrom, MapRoom, MeanSame, Mode, NoPair, Offset, Painted}
-pub use Rattle.nit_screen.specs.Terms.{Painter, PixelSource, Pixels, Place, Point, Rectangle}
-pub use Rattle.nit_screen.specs.Terms.{Refresh, Repainted, Reply, Routed, Routing, Scenery}
-pub use Rattle.nit_screen.specs.Terms.{ScreenModel, ServerModel, Session, ShowsBelow, ShowsLabels}
-pub use Rattle.nit_screen.specs.Terms.{Sight, Size, SlotView, StackModel, State, Status, Take}
-pub use Rattle.nit_screen.specs.Terms.{Title, Upgrade, View, ViewRef, Word, accepted, after}
-pub use Rattle.nit_screen.specs.Terms.{after_accepted, after_deliveries, after_delivery, bar_rows}
-pub use Rattle.nit_screen.specs.Terms.{bar_word, bare_word, black_or_word, buffer_size, by_life}
-pub use Rattle.nit_screen.specs.Terms.{by_refusal, changed, covering, covers, delivered}
+pub use Rattle.nit_screen.specs.Terms.{KeepsViews, LegalFrom, MapRoom, MeanSame, Mode, NoPair}
+pub use Rattle.nit_screen.specs.Terms.{Offset, Painted, Painter, PixelSource, Pixels, Place, Point}
+pub use Rattle.nit_screen.specs.Terms.{Rectangle, Refresh, Repainted, Reply, Routed, Routing}
+pub use Rattle.nit_screen.specs.Terms.{Scenery, ScreenModel, ServerModel, Session, ShowsBelow}
+pub use Rattle.nit_screen.specs.Terms.{ShowsLabels, Sight, Size, SlotView, StackModel, State}
+pub use Rattle.nit_screen.specs.Terms.{Status, Take, Title, Upgrade, View, ViewRef, Word, accepted}
+pub use Rattle.nit_screen.specs.Terms.{after, after_accepted, after_deliveries, after_delivery}
+pub use Rattle.nit_screen.specs.Terms.{bar_rows, bar_word, bare_word, black_or_word, buffer_size}
+pub use Rattle.nit_screen.specs.Terms.{by_life, by_refusal, changed, covering, covers, delivered}
 pub use Rattle.nit_screen.specs.Terms.{deliveries_of, dirty, dirty_by_call, dot, draws_labels}
 pub use Rattle.nit_screen.specs.Terms.{ended, first_session, first_state, fits, forget, frame}
 pub use Rattle.nit_screen.specs.Terms.{has_dot, has_pixel, has_slot, in_bar, in_run, ink_of}

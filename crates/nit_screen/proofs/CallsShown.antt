@@ -1,17 +1,17 @@
 -- A call was served, the pixels that it makes dirty were loaded again, and all is shown.
-use Rattle.nit_screen.proofs.Basics.{AreGlasses, ArePixels, Call, CanAccept, CanRepaint, CanServe}
-use Rattle.nit_screen.proofs.Basics.{CanShowBy, Close, Flat, IsCallShown, IsClean, IsFrameOf}
-use Rattle.nit_screen.proofs.Basics.{IsNamedBy, IsOn, IsPartOf, IsPartShown, IsQuiet, IsRepaint}
-use Rattle.nit_screen.proofs.Basics.{IsServed, IsServer, IsShown, IsViewChange, KeepsPainter}
-use Rattle.nit_screen.proofs.Basics.{Painted, Painter, PixelSource, Pixels, Point, Rectangle}
-use Rattle.nit_screen.proofs.Basics.{Repainted, Reply, Scenery, ScreenModel, ServerModel, Sight}
-use Rattle.nit_screen.proofs.Basics.{SlotView, StackModel, closed, dirty, draws_labels}
-use Rattle.nit_screen.proofs.Basics.{false_from_ne_true, frame, is_of_session, kept_frame, layer}
-use Rattle.nit_screen.proofs.Basics.{length-frame, nat_tests, no_sight, nothing_set, owner_passes}
-use Rattle.nit_screen.proofs.Basics.{pixel, place_of, raw_of, renewed, repainted_same}
-use Rattle.nit_screen.proofs.Basics.{repainted_words, scenery_of, shown, slot_owns_either}
-use Rattle.nit_screen.proofs.Basics.{slot_view_in, state_of, unbarred, wanted, with_ended}
-use Rattle.nit_screen.proofs.Basics.{without_session, without_views}
+use Rattle.nit_screen.proofs.Basics.{AreGlasses, ArePixels, ArePlaced, Buffer, Call, CanAccept}
+use Rattle.nit_screen.proofs.Basics.{CanRepaint, CanServe, CanShowBy, Close, Flat, IsCallShown}
+use Rattle.nit_screen.proofs.Basics.{IsClean, IsFrameOf, IsNamedBy, IsOn, IsPartOf, IsPartShown}
+use Rattle.nit_screen.proofs.Basics.{IsQuiet, IsRepaint, IsServed, IsServer, IsShown, IsViewChange}
+use Rattle.nit_screen.proofs.Basics.{KeepsPainter, KeepsViews, Painted, Painter, PixelSource}
+use Rattle.nit_screen.proofs.Basics.{Pixels, Point, Rectangle, Refresh, Repainted, Reply, Scenery}
+use Rattle.nit_screen.proofs.Basics.{ScreenModel, ServerModel, Sight, SlotView, StackModel, Take}
+use Rattle.nit_screen.proofs.Basics.{Upgrade, closed, dirty, draws_labels, false_from_ne_true}
+use Rattle.nit_screen.proofs.Basics.{frame, is_of_session, kept_frame, layer, length-frame}
+use Rattle.nit_screen.proofs.Basics.{nat_tests, no_sight, nothing_set, owner_passes, pixel}
+use Rattle.nit_screen.proofs.Basics.{place_of, raw_of, renewed, repainted_same, repainted_words}
+use Rattle.nit_screen.proofs.Basics.{scenery_of, shown, slot_owns_either, slot_view_in, state_of}
+use Rattle.nit_screen.proofs.Basics.{unbarred, wanted, with_ended, without_session, without_views}
 use Rattle.std.proofs.Common.{Bool, IsTrue, Option, Some, ap, arith, false, length, nat_lt, refl}
 use Rattle.std.proofs.Common.{slice_index, subst, sym, true, ℕ, ◌*◌, ◌<◌, ◌∙◌, ◌≡◌}
 use Rattle.nit_screen.proofs.KeptFrames.{bar_clean, can_stay, can_still, clean_call, kept_served}
@@ -20,7 +20,8 @@ use Rattle.nit_screen.proofs.OneViewChanges.{change_of_call, dirty_by_change, di
 use Rattle.nit_screen.proofs.OneViewChanges.{ended_painted, ended_server, source_of_number}
 use Rattle.nit_screen.proofs.OneList.{bar_first, entry_painted_in, mode_stays, one_copied, raw_long}
 use Rattle.nit_screen.proofs.OneList.{unbarred_long}
-use Rattle.nit_screen.proofs.ScreenLemmas.{few_views, holds, same_config, same_most, unpainted}
+use Rattle.nit_screen.proofs.ScreenLemmas.{few_views, holds, same_config, same_most, still_placed}
+use Rattle.nit_screen.proofs.ScreenLemmas.{unpainted}
 use Rattle.nit_events.specs.declared.call.Reply.TheVariants as reply
 use Rattle.nit_events.specs.declared.entry.Entry.TheVariants as entry
 use Rattle.nit_events.specs.declared.event.Status.TheVariants as status
@@ -29,6 +30,18 @@ use Rattle.nit_paint.specs.Pieces as pieces
 -- what contracts see of a screen
 abbrev pub screen_of : ServerModel → Pixels → ScreenModel
 screen_of s p = record { serving = s; raw = raw_of p }
+
+-- ---- calls that change no view
+
+part_keeps : (part : Option Rectangle) (call : Call) → IsPartOf part call → KeepsViews call
+part_keeps part (Buffer w h) on = tt
+part_keeps part (Refresh x y w h) on = tt
+part_keeps part other on = absurd on
+
+quiet_keeps : (call : Call) → IsQuiet call → KeepsViews call
+quiet_keeps Take quiet = tt
+quiet_keeps (Upgrade n) quiet = tt
+quiet_keeps other quiet = absurd quiet
 
 -- ---- what is needed
 
@@ -144,6 +157,12 @@ module _ (sights sights' : ℕ → Sight) {s s' : ServerModel} {t : StackModel} 
       apart_before : IsTrue (draws_labels s'.input.mode) → length one.frame.items ≡ length painter.raw.items
       apart_before m = grind (arith, nat_tests, frame_before, length-frame)
 
+      -- and the labels stand where they stood
+      placed_before : (part : Option Rectangle) → IsPartOf part call → IsTrue (draws_labels s'.input.mode)
+          → ArePlaced s' one
+      placed_before part on m = still_placed s s' one hb ha (same_config served) (served.seats (part_keeps part call on))
+          (made.pixels.3 (rw (← mode_stays other served) m))
+
       -- the chosen pixels of a frame apart were shown again
       part_is_shown : (now : Pixels) (part : Option Rectangle) → IsPartOf part call
           → IsTrue (draws_labels s'.input.mode) → IsPartShown s' chosen loaded now → IsShown s' loaded now
@@ -170,6 +189,7 @@ module _ (sights sights' : ℕ → Sight) {s s' : ServerModel} {t : StackModel} 
                         ∙ dirty_painted.others k (λ lt. sym (is_dirty k) ∙ d));
                   }) (frame_before m)),
               λ d. apart,
+              λ d. rw e.labels (placed_before part on d),
             );
             raw = rw (e.kept.0, e.kept.1, e.raw) refl;
           }
@@ -199,6 +219,7 @@ module _ (sights sights' : ℕ → Sight) {s s' : ServerModel} {t : StackModel} 
     pub part_call : (part : Option Rectangle) → IsPartOf part call → Loaded t (λ k. wanted sid part t (pixel t.width k))
         → CanShowBy s' loaded
         × (IsTrue (draws_labels s'.input.mode) → length one.frame.items ≡ length painter.raw.items)
+        × (IsTrue (draws_labels s'.input.mode) → ArePlaced s' loaded)
         × ((now : Pixels) → (s'.input.mode ≡ Flat → now ≡ loaded)
         → (IsTrue (draws_labels s'.input.mode)
         → IsPartShown s' (λ k. wanted sid part s'.stack (pixel s'.stack.width k)) loaded now) → Done now)
@@ -208,6 +229,7 @@ module _ (sights sights' : ℕ → Sight) {s s' : ServerModel} {t : StackModel} 
         let seen = rw is at painted in (
           can_show_call other is_dirty seen,
           apart_before other is_dirty seen,
+          placed_before other is_dirty seen part on,
           λ now flat labelled. loaded_shown other is_dirty seen now flat
               (λ m. part_is_shown other is_dirty seen now part on m (labelled m)),
         )
@@ -247,6 +269,8 @@ module _ {s s' : ServerModel} (p : Pixels) {sid : ℕ} {call : Call} {r : Reply}
         can_be_shown,
         h.1 ∙ ap (λ (sc : Scenery). frame sc (raw_of p)) (sym same),
         λ d. h.2 (rw (← ap (λ (sc : Scenery). sc.mode) same) d),
+        λ d. still_placed s s' p hb ha (same_config served) (served.seats (quiet_keeps call quiet))
+            (h.3 (rw (← ap (λ (sc : Scenery). sc.mode) same) d)),
       )
 
   -- the titles or the number of the views may be others, which mode Flat does not show

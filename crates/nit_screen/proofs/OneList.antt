@@ -129,7 +129,7 @@ flat_raw s bar raw flat is fits many raws =
 pub made_one : (s : ServerModel) (p : Pixels) → p.is_apart ≡ true → s.input.mode ≡ Flat
     → ArePixels s p → AreRaw (state_of s) (raw_of p)
     → IsShown s p (record p { painter = record p.painter { raw = p.frame }; frame = p.painter.raw; is_apart = false })
-made_one s p is flat (h, was, apart) raws =
+made_one s p is flat (h, was, apart, placed) raws =
     record {
       pixels = (
         record {
@@ -145,6 +145,7 @@ made_one s p is flat (h, was, apart) raws =
           fits = omega (arith, h.fits, h.pixels, many);
         },
         rw back e,
+        λ m. cc (ap draws_labels flat),
         λ m. cc (ap draws_labels flat),
       );
       raw = rw is back;
@@ -224,6 +225,7 @@ bar_again s p painter one flat h other long drawn below =
       pixels = (
         can_still s s p painter refl refl long words (ap (λ q. q.cutter.room) other) h,
         rw one is,
+        λ m. cc (ap draws_labels flat),
         λ m. cc (ap draws_labels flat),
       );
       raw = rw one same;

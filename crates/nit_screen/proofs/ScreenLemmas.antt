@@ -1,13 +1,13 @@
 -- A stack has room for its views, and as much after a call.
 use Rattle.nit_screen.proofs.Basics.{All-head, All-tail, AllByRecursion, All_found, AreBelowNext}
-use Rattle.nit_screen.proofs.Basics.{AreGlasses, AreLive, AreRaw, Call, CanShow, CanShowBy}
-use Rattle.nit_screen.proofs.Basics.{Configuration, Delivery, Device, Entry, HoldBuffers}
-use Rattle.nit_screen.proofs.Basics.{InputState, IsForgottenIfKilled, IsKillAlone, IsLive, IsServed}
-use Rattle.nit_screen.proofs.Basics.{IsServer, IsSlotView, IsStack, Item, NoPair, Painted}
-use Rattle.nit_screen.proofs.Basics.{PixelSource, Pixels, Point, Repainted, Reply, Routed, Routing}
-use Rattle.nit_screen.proofs.Basics.{ServerModel, Session, Sight, SlotView, StackModel, State}
-use Rattle.nit_screen.proofs.Basics.{Status, View, after, bar_rows, buffer_size, by_life, cases_lt}
-use Rattle.nit_screen.proofs.Basics.{covers, deliveries_of, dirty, false_from_ne_true}
+use Rattle.nit_screen.proofs.Basics.{AreGlasses, AreLabelled, AreLive, ArePlaced, AreRaw, Call}
+use Rattle.nit_screen.proofs.Basics.{CanShow, CanShowBy, Configuration, Delivery, Device, Entry}
+use Rattle.nit_screen.proofs.Basics.{HoldBuffers, InputState, IsForgottenIfKilled, IsKillAlone}
+use Rattle.nit_screen.proofs.Basics.{IsLive, IsServed, IsServer, IsSlotView, IsStack, Item, NoPair}
+use Rattle.nit_screen.proofs.Basics.{Painted, PixelSource, Pixels, Point, Repainted, Reply, Routed}
+use Rattle.nit_screen.proofs.Basics.{Routing, ServerModel, Session, Sight, SlotView, StackModel}
+use Rattle.nit_screen.proofs.Basics.{State, Status, View, after, bar_rows, buffer_size, by_life}
+use Rattle.nit_screen.proofs.Basics.{cases_lt, covers, deliveries_of, dirty, false_from_ne_true}
 use Rattle.nit_screen.proofs.Basics.{first_session, forget, forgotten_again, found_passes}
 use Rattle.nit_screen.proofs.Basics.{found_some, get_or_past, is_kill, is_killed, is_session}
 use Rattle.nit_screen.proofs.Basics.{killed_by, killed_in, kills, length-le_from_distinct_below}
@@ -71,6 +71,19 @@ unpainted s e s' clean = repainted_none _ _ _ _ _ (λ k l. clean (pixel s.config
 pub same_config : {sid : ℕ} {call : Call} {r : Reply} {before after' : ServerModel} → IsServed sid call r before after'
     → after'.config ≡ before.config
 same_config s = ap (λ (t : State). t.config) s.state
+
+-- places of labels stay right where the views and the screen stay
+labelled_still : (t t' : StackModel) (labels : List (List ℕ)) (places : List (Option Point)) → t'.views ≡ t.views
+    → t'.width ≡ t.width → t'.height ≡ t.height → t'.bar ≡ t.bar
+    → AreLabelled t labels places → AreLabelled t' labels places
+labelled_still t t' labels places views width height bar h = rw (views, width, height, bar) h
+
+pub still_placed : (s s' : ServerModel) (p : Pixels) → IsServer s → IsServer s' → s'.config ≡ s.config
+    → s'.stack.views ≡ s.stack.views → ArePlaced s p → ArePlaced s' p
+still_placed s s' p hb ha config views = labelled_still s.stack s'.stack p.labels.texts.items p.labels.places.items views
+    (ha.screen.0 ∙ ap (λ (c : Configuration). c.width) config ∙ sym hb.screen.0)
+    (ha.screen.1 ∙ ap (λ (c : Configuration). c.height) config ∙ sym hb.screen.1)
+    (ha.screen.2 ∙ ap (λ (c : Configuration). bar_rows c) config ∙ sym hb.screen.2)
 
 -- each session has a word for each of its buffer's
 pub holds : (s : ServerModel) (sights : ℕ → Sight) → IsServer s → AreGlasses s.config sights → HoldBuffers s.stack sights

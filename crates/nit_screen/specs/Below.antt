@@ -55,7 +55,8 @@ pub use Rattle.nit_repaint.specs.ViewRemoval.{IsRemovedFrom, uncovered, without_
 pub use Rattle.nit_repaint.specs.WantedPixels.{wanted}
 pub use Rattle.nit_repaint.specs.declared.painter.Painter.{Painter}
 pub use Rattle.nit_server.specs.Seats.{with_opened, with_reopened}
-pub use Rattle.nit_server.specs.Server.{IsServed, IsServer, ServerModel, size_of_buffer, state_of}
+pub use Rattle.nit_server.specs.Server.{IsServed, IsServer, KeepsViews, ServerModel, size_of_buffer}
+pub use Rattle.nit_server.specs.Server.{state_of}
 pub use Rattle.nit_server.specs.ServerInput.{MayLose, killed_by, killed_in, routing_of, with_routed}
 pub use Rattle.nit_server.specs.ViewsTaken.{with_ended, without_view, without_views}
 pub use Rattle.nit_slots.specs.Account.{table_size}

@@ -5,6 +5,7 @@ use Rattle.nit_screen.specs.Below.{AreSet, IsWord, ServerModel, State, bar_rows,
 use Rattle.nit_screen.specs.Below.{draws_labels, drop, frame, in_bar, length, map, pixel, replicate}
 use Rattle.nit_screen.specs.Below.{shown, slice_index, state_of, vec_capacity}
 use Rattle.nit_screen.specs.declared.screen.pixels.Pixels.{Pixels}
+use Rattle.nit_screen.specs.LabelSlots.{AreLabelled}
 use Rattle.nit_screen.specs.MapRoom.{MapRoom}
 use Rattle.nit_screen.specs.StateScenery.{scenery_of}
 
@@ -63,10 +64,16 @@ CanShowBy s p =
 abbrev pub IsFrameOf : ServerModel → Pixels → Type 0
 IsFrameOf s p = kept_frame p ≡ frame (scenery_of (state_of s)) (raw_of p)
 
--- and so it is; where labels are drawn, the raw words stand apart
+-- at the slot of each view stands the place of its label
+abbrev pub ArePlaced : ServerModel → Pixels → Type 0
+ArePlaced s p = AreLabelled s.stack p.labels.texts.items p.labels.places.items
+
+-- and so it is; where labels are drawn, the raw words stand apart, and the places of the labels are
+-- those of the views as they stand
 abbrev pub ArePixels : ServerModel → Pixels → Type 0
 ArePixels s p =
     CanShowBy s p × IsFrameOf s p × (IsTrue (draws_labels s.input.mode) → p.is_apart ≡ true)
+    × (IsTrue (draws_labels s.input.mode) → ArePlaced s p)
 
 -- All is shown: the frame is the one of the server's state and of the raw words, which are as they
 -- were.
@@ -80,5 +87,6 @@ pub record IsPartShown (s : ServerModel) (chosen : ℕ → Bool) (before now : P
   pub can : CanShowBy s now
   pub raw : now.painter.raw ≡ before.painter.raw
   pub kept : (now.is_apart ≡ before.is_apart) × (now.bar ≡ before.bar)
+  pub labels : now.labels ≡ before.labels
   pub shown : AreSet chosen (length now.painter.raw.items)
       (shown_by (state_of s) now.painter.raw.items) before.frame.items now.frame.items

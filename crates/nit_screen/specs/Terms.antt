@@ -8,8 +8,8 @@ pub use Rattle.nit_screen.specs.Below.{IsFree, IsFreeLabel, IsKillAlone, IsLeast
 pub use Rattle.nit_screen.specs.Below.{IsLive, IsNamedBy, IsNumberOf, IsOnScreen, IsOnlyCut}
 pub use Rattle.nit_screen.specs.Below.{IsRemovedFrom, IsRepaint, IsScreenRectangle, IsScreenSize}
 pub use Rattle.nit_screen.specs.Below.{IsServed, IsServer, IsSlotView, IsStack, IsViewChange}
-pub use Rattle.nit_screen.specs.Below.{IsWord, IsWordOfSource, Item, KeepsPainter, LegalFrom}
-pub use Rattle.nit_screen.specs.Below.{MayLose, MeanSame, Mode, NoPair, Offset, Painter}
+pub use Rattle.nit_screen.specs.Below.{IsWord, IsWordOfSource, Item, KeepsPainter, KeepsViews}
+pub use Rattle.nit_screen.specs.Below.{LegalFrom, MayLose, MeanSame, Mode, NoPair, Offset, Painter}
 pub use Rattle.nit_screen.specs.Below.{PixelSource, Place, Point, Rectangle, Refresh, Repainted}
 pub use Rattle.nit_screen.specs.Below.{Reply, Routed, Routing, Scenery, ServerModel, Session, Sight}
 pub use Rattle.nit_screen.specs.Below.{Size, SlotView, Some, StackModel, State, Status, Take, Title}
@@ -46,9 +46,9 @@ pub use Rattle.nit_screen.specs.FrameLabels.{AreLabelsApart, IsLabelShown, Shows
 pub use Rattle.nit_screen.specs.LabelSlots.{AreLabelled, label_scenery}
 pub use Rattle.nit_screen.specs.MapRoom.{MapRoom}
 pub use Rattle.nit_screen.specs.OwnerMap.{AreMeasured, IsMap, no_slot, number_at, number_of}
-pub use Rattle.nit_screen.specs.Pixels.{ArePixels, CanShow, CanShowBy, IsFrameOf, IsPartShown}
-pub use Rattle.nit_screen.specs.Pixels.{IsShown, ShowsBelow, kept_frame, raw_in, raw_of, shown_by}
-pub use Rattle.nit_screen.specs.Pixels.{unbarred}
+pub use Rattle.nit_screen.specs.Pixels.{ArePixels, ArePlaced, CanShow, CanShowBy, IsFrameOf}
+pub use Rattle.nit_screen.specs.Pixels.{IsPartShown, IsShown, ShowsBelow, kept_frame, raw_in}
+pub use Rattle.nit_screen.specs.Pixels.{raw_of, shown_by, unbarred}
 pub use Rattle.nit_screen.specs.RawWords.{AreInked, AreRaw, IsInkedBy, IsRawOf, Painted}
 pub use Rattle.nit_screen.specs.RawWords.{pixel_count, source_at}
 pub use Rattle.nit_screen.specs.Screen.{AreGlasses, ScreenModel}

@@ -2,10 +2,10 @@
 
 ghost use Rattle.std.specs.Prelude.{◌≡◌, ℕ, ◌*◌, ◌<◌, ◌≤◌, All, IsTrue, Option, false, length, map};
 ghost use Rattle.std.specs.Prelude.{nat_lt, slice_index, true, if◌then◌else◌};
-ghost use Rattle.nit_screen.specs.Terms.{CanShowBy, Flat, IsOnlyCut, IsPartShown, IsServer};
-ghost use Rattle.nit_screen.specs.Terms.{IsShown, IsWord, ShowsBelow, bar_rows, bar_word};
-ghost use Rattle.nit_screen.specs.Terms.{draws_labels, frame, kept_frame, pixel, raw_of};
-ghost use Rattle.nit_screen.specs.Terms.{scenery_of, state_of, wanted};
+ghost use Rattle.nit_screen.specs.Terms.{AreLabelled, ArePlaced, CanShowBy, Flat, IsOnlyCut};
+ghost use Rattle.nit_screen.specs.Terms.{IsPartShown, IsServer, IsShown, IsWord, ShowsBelow};
+ghost use Rattle.nit_screen.specs.Terms.{bar_rows, bar_word, draws_labels, frame, kept_frame};
+ghost use Rattle.nit_screen.specs.Terms.{pixel, raw_of, scenery_of, state_of, wanted};
 
 use crate::screen::labels::Labels;
 use crate::screen::lists::{reach, take_bar_off};
@@ -22,6 +22,9 @@ use nit_server::Server;
 /// the painter's `raw` has the frame, which differs from the raw words in the pixels of the bar
 /// alone, and the words of `frame` have no meaning. So a pixel is written once when it is loaded,
 /// and `frame` is room alone until labels are drawn for the first time.
+///
+/// Where labels are drawn, their places are those of the views as they stand. So a refresh, which
+/// moves no view, places no label anew.
 #[derive(Drop)]
 pub struct Pixels {
     pub painter: Painter,
@@ -70,6 +73,7 @@ impl Pixels {
             ≡ frame (record (scenery_of (state_of server.now)) { mode = mode; focus = focus })
             (raw_of self.old) }
         requires apart { IsTrue (draws_labels mode) → self.old.is_apart ≡ true }
+        requires placed { IsTrue (draws_labels mode) → ArePlaced server.now self.old }
         ensures { IsShown server.now self.old self.new }
     {
         if server.mode() != mode {
@@ -120,6 +124,8 @@ impl Pixels {
         requires can { CanShowBy server.now self.old }
         requires apart { IsTrue (draws_labels server.now.input.mode)
             → length self.old.frame.items ≡ length self.old.painter.raw.items }
+        requires placed { IsTrue (draws_labels server.now.input.mode)
+            → ArePlaced server.now self.old }
         ensures flat { server.now.input.mode ≡ Flat → self.new ≡ self.old }
         ensures labelled { IsTrue (draws_labels server.now.input.mode) → IsPartShown server.now
             (λ k. wanted of part.now server.now.stack (pixel server.now.stack.width k))
@@ -132,22 +138,21 @@ impl Pixels {
     }
 
     /// Sets the frame to what is shown at what views of a session own, or at what of it shows a
-    /// part of its buffer. Where the labels stand is worked out first.
+    /// part of its buffer. The labels stand where they stood.
     fn overlay_part(&mut self, server: &Server, of: u32, part: &Option<Rect>)
         requires can { CanShowBy server.now self.old }
         requires apart { length self.old.frame.items ≡ length self.old.painter.raw.items }
+        requires placed { IsTrue (draws_labels server.now.input.mode)
+            → ArePlaced server.now self.old }
         ensures { IsPartShown server.now
             (λ k. wanted of part.now server.now.stack (pixel server.now.stack.width k))
             self.old self.new }
     {
         server.facts();
-        let mode = server.mode();
-        self.labels
-            .place(mode, server.stack(), &mut self.painter.cutter);
         let look = Look {
             stack: server.stack(),
             labels: self.labels.texts.as_slice(),
-            mode,
+            mode: server.mode(),
             focus: server.focus(),
             places: self.labels.places.as_slice(),
         };
@@ -173,6 +178,8 @@ fn frame_of(server: &Server, painter: &mut Painter, labels: &mut Labels, out: &m
     ensures kept { IsOnlyCut painter.old painter.new }
     ensures shown { out.new ≡ frame (scenery_of (state_of server.now)) painter.old.raw.items }
     ensures places { length labels.new.places.items ≡ length labels.old.places.items }
+    ensures placed { IsTrue (draws_labels server.now.input.mode)
+        → AreLabelled server.now.stack labels.new.texts.items labels.new.places.items }
     ensures texts { labels.new.texts ≡ labels.old.texts }
     ensures owners { labels.new.owners ≡ labels.old.owners }
 {

@@ -14,7 +14,7 @@ show_part-requires g c =
     let e = c.paint_session.ensures.painted in
     let done = part_call _ _ c.facts.ensures c.stack-stack.ensures.facts can c.accept-reply.ensures made.shown made.one
     c.stack-stack.ensures.stack e.kept c.args.part.now c.requires.on e.painted in
-    record { can = done.0; apart = done.1 }
+    record { can = done.0; apart = done.1; placed = done.2 }
 
 pub invariant_of-self : goal.invariant_of-self
 invariant_of-self g c =
@@ -22,7 +22,7 @@ invariant_of-self g c =
     let made = c.make_one.ensures in
     let e = c.paint_session.ensures.painted in
     ((part_call _ _ c.facts.ensures c.stack-stack.ensures.facts can c.accept-reply.ensures made.shown made.one
-    c.stack-stack.ensures.stack e.kept c.args.part.now c.requires.on e.painted).2
+    c.stack-stack.ensures.stack e.kept c.args.part.now c.requires.on e.painted).3
     c.show_part.new.self c.show_part.ensures.flat c.show_part.ensures.labelled).0
 
 pub returns-clause-shown : goal.returns-clause-shown
@@ -31,5 +31,5 @@ returns-clause-shown g c =
     let made = c.make_one.ensures in
     let e = c.paint_session.ensures.painted in
     rw (← c.self.view_is) ((part_call _ _ c.facts.ensures c.stack-stack.ensures.facts can c.accept-reply.ensures made.shown
-    made.one c.stack-stack.ensures.stack e.kept c.args.part.now c.requires.on e.painted).2
+    made.one c.stack-stack.ensures.stack e.kept c.args.part.now c.requires.on e.painted).3
     c.show_part.new.self c.show_part.ensures.flat c.show_part.ensures.labelled).1
