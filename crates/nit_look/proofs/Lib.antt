@@ -1,7 +1,10 @@
 pub mod Rows
 pub mod Merging
 pub mod Patches
-pub mod Parts
+pub mod Copied
+pub mod Added
+pub mod Around
+pub mod RowsPut
 pub mod Rectangles
 pub mod Basics
 pub mod Lemmas

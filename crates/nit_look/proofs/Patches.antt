@@ -1,7 +1,7 @@
 -- A picture, some columns of some rows of which were copied.
 use Rattle.nit_look.proofs.Basics.{AreEdges, Edges, IsMerged, IsSpan, List, Option, Span, arith}
-use Rattle.nit_look.proofs.Basics.{cases_lt, div-mul-add, ext_get_or, inl, inr, is_in_span}
-use Rattle.nit_look.proofs.Basics.{is_in_rows, le-div_iff_mul-le, nat_tests, picture_row, places}
+use Rattle.nit_look.proofs.Basics.{cases_lt, div-mul-add, ext_get_or, inl, inr, is_in_rows}
+use Rattle.nit_look.proofs.Basics.{is_in_span, le-div_iff_mul-le, nat_tests, picture_row, places}
 use Rattle.std.proofs.Common.{length, slice_index, ℕ, ◌*◌, ◌+◌, ◌-◌, ◌<◌, ◌≡◌, ◌≤◌}
 use Rattle.nit_look.proofs.Merging.{word_in}
 use Rattle.nit_look.proofs.Rows.{in_row, kept_edges, row_above}

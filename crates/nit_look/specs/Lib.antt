@@ -2,5 +2,9 @@ pub mod Span
 pub mod Edges
 pub mod Copy
 pub mod Look
+pub mod Area
+pub mod Parts
+pub mod Joining
+pub mod Putting
 pub mod Below
 pub mod Terms

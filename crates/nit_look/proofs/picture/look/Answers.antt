@@ -1,8 +1,7 @@
-use Rattle.std.proofs.Common.{None, Some, arith}
-use Rattle.nit_look.proofs.Lemmas.{AgreeIn, CoversChange, IsCopied, IsTouched, LiesOn, all_edges}
-use Rattle.nit_look.proofs.Lemmas.{bottom_below, copied_in, covers_change, holds_of_it, ints}
-use Rattle.nit_look.proofs.Lemmas.{kept_outside, lies_on, mul_comm, none_differs, shown_between}
-use Rattle.nit_look.proofs.Lemmas.{touched, whole_frame, ◌∙◌}
+use Rattle.nit_look.proofs.Lemmas.{AgreeIn, CoversChange, IsCopied, IsTouched, LiesOn, None, Some}
+use Rattle.nit_look.proofs.Lemmas.{all_edges, arith, bottom_below, copied_in, covers_change}
+use Rattle.nit_look.proofs.Lemmas.{holds_of_it, ints, kept_outside, lies_on, mul_comm, none_differs}
+use Rattle.nit_look.proofs.Lemmas.{shown_between, touched, whole_frame, ◌∙◌}
 use Rattle.nit_look.proofs.picture.look.Goals as goal
 
 pub returns-in_err-copy : goal.returns-in_err-copy

@@ -3,7 +3,7 @@ use Rattle.nit_look.proofs.Basics.{AgreeIn, AgreeOutside, AreEdges, Bound, Diffe
 use Rattle.nit_look.proofs.Basics.{LiesOn, List, None, Option, arith, cases_Bool, ext_get_or, false}
 use Rattle.nit_look.proofs.Basics.{inl, inr, ints, is_in_rows, le-div_iff_mul-le, mul-le, nat_tests}
 use Rattle.nit_look.proofs.Basics.{place_at, pos, rectangle_between}
-use Rattle.std.proofs.Common.{length, refl, sym, true, ℕ, ◌*◌, ◌+◌, ◌-◌, ◌/◌, ◌∙◌, ◌≡◌, ◌≤◌}
+use Rattle.std.proofs.Common.{length, refl, sym, true, ℕ, ◌*◌, ◌+◌, ◌/◌, ◌∙◌, ◌≡◌, ◌≤◌}
 use Rattle.nit_rect.specs.Rectangle.{Rectangle, covers}
 use Rattle.nit_look.proofs.Rows.{kept_edges}
 use Rattle.nit_look.proofs.Rectangles.{ordered}
