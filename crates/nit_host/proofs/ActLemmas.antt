@@ -3,26 +3,25 @@ use Rattle.std.proofs.Common.{List, None, Option, Some, [], ap, false, get_or, l
 use Rattle.std.proofs.Common.{subst, sym, ℕ, ℤ, ◌++◌, ◌<◌, ◌∙◌, ◌∷◌, ◌≡◌, ◌≢◌, ◌≤◌}
 use Rattle.nit_host.proofs.Basics.{Act, Answered, AreSheets, Call, Calls, Comes, Configuration}
 use Rattle.nit_host.proofs.Basics.{DesktopModel, Device, Does, Entry, HostModel, IsHost, IsPlainOf}
-use Rattle.nit_host.proofs.Basics.{IsStepOf, Looks, PixelSource, Rectangle}
-use Rattle.nit_host.proofs.Basics.{Refreshes, Reply, Routed, Serves, Session, SheetModel, Sight}
-use Rattle.nit_host.proofs.Basics.{State, Step, Word, after, after_act, after_acts, after_handing}
-use Rattle.nit_host.proofs.Basics.{after_step, and_right, arith, behind, called, cases_eq}
-use Rattle.nit_host.proofs.Basics.{cond_both, dirty, eq-eqb, fold-append, get_or-set_same}
+use Rattle.nit_host.proofs.Basics.{IsStepOf, LastLook, Looks, PixelSource, Puts, Rectangle}
+use Rattle.nit_host.proofs.Basics.{Refreshes, Reply, Restacks, Routed, Serves, Session, SheetModel}
+use Rattle.nit_host.proofs.Basics.{Sight, State, Step, Turns, Word, after, after_act, after_acts}
+use Rattle.nit_host.proofs.Basics.{after_handing, after_step, and_right, arith, behind, called}
+use Rattle.nit_host.proofs.Basics.{cases_eq, cond_both, dirty, eq-eqb, fold-append, get_or-set_same}
 use Rattle.nit_host.proofs.Basics.{handed, is_accepted, is_handed, is_word_in, low_bytes, nat_tests}
-use Rattle.nit_host.proofs.Basics.{pixel, plain_sight, rectangle, refreshed, refusal, refused_reply}
-use Rattle.nit_host.proofs.Basics.{reply_to, route, routed_as, routed_of, serve, serve_accepted}
-use Rattle.nit_host.proofs.Basics.{serve_refused, session, set_long, set_where, sheet_in, sheets_of}
-use Rattle.nit_host.proofs.Basics.{source_at, step_of, step_unless, steps_of, told, told_words}
-use Rattle.nit_host.proofs.Basics.{unless_for, unserved_input, word_from}
+use Rattle.nit_host.proofs.Basics.{pixel, plain_sight, put, rectangle, refreshed, refusal}
+use Rattle.nit_host.proofs.Basics.{refused_reply, reply_to, route, routed_as, routed_of, serve}
+use Rattle.nit_host.proofs.Basics.{serve_accepted, serve_refused, session, set_long, set_where}
+use Rattle.nit_host.proofs.Basics.{sheet_in, sheets_of, source_at, step_of, step_unless, steps_of}
+use Rattle.nit_host.proofs.Basics.{told, told_words, unless_for, unserved_input, unserved_restack}
+use Rattle.nit_host.proofs.Basics.{word_from}
 use Rattle.nit_host.proofs.Seatings.{may_sit}
 use Rattle.nit_host.proofs.Beginnings.{is_seat}
 use Rattle.nit_journal.specs.Steps.{AreSteps, after_steps}
-use Rattle.nit_host.proofs.Steps.{KeepSources, WasServed, Words, behind_now, host_model}
-use Rattle.nit_host.proofs.Steps.{host_now, own_plain, own_room, own_words, put_there, same_sheets}
-use Rattle.nit_host.proofs.Steps.{same_words, sheets_with, words_at, words_elsewhere}
-use Rattle.nit_host.proofs.Steps.{words_with}
+use Rattle.nit_host.proofs.Steps.{KeepSources, WasServed, Words, behind_now, host_model, host_now}
+use Rattle.nit_host.proofs.Steps.{own_plain, own_room, own_words, put_there, same_sheets}
+use Rattle.nit_host.proofs.Steps.{same_words, sheets_with, words_at, words_elsewhere, words_with}
 use Rattle.nit_host.proofs.HandedWords.{not_here}
-use Rattle.nit_host.specs.Shown.{LastLook}
 use Rattle.nit_events.specs.declared.call.Call.TheVariants as call
 use Rattle.nit_events.specs.declared.entry.Entry.TheVariants as entry
 
@@ -47,8 +46,10 @@ pub same_call : (h : HostModel) (seat : ℕ) (x y : Rattle.std.specs.Prelude.ℤ
 same_call h seat x y w height words = grind (arith, nat_tests, cond_both)
 
 pub one_act : (h : HostModel) (act : Act) → Goes h (after_act h act) (step_of h act)
-one_act h (Calls seat c) = grind (arith, nat_tests, is_seat)
-one_act h (Refreshes seat x y w height words) = grind (arith, nat_tests, is_seat)
+one_act h (Calls client c) = grind (arith, nat_tests, is_seat)
+one_act h (Refreshes client x y w height words) = grind (arith, nat_tests, is_seat)
+one_act h (Puts side client view) =
+    one h (put side client.seat view h) (Restacks side client.seat view) (unserved_restack h client view) (λ none. tt) refl
 one_act h (Does dev) = one h _ _ (Rattle.nit_host.specs.Terms.unserved_input h dev) (λ none. (0, refl)) refl
 one_act h (Comes seat label) = grind (arith, nat_tests, may_sit)
 one_act h Looks = (tt, refl)
@@ -65,21 +66,21 @@ all_acts h (act ∷ rest) = grind (arith, nat_tests, all_acts (after_act h act) 
 -- ---- what a device event leaves
 
 -- what a device event left of a host
-pub record WasTold (dev : Device) (routed : Routed) (h : HostModel) (seen : LastLook) (d : DesktopModel)
+pub record WasTold (dev : Device) (routed : Routed) (h : HostModel) (turns : Turns) (seen : LastLook) (d : DesktopModel)
     (sheets : List SheetModel) : Type 0 where
   pub host : IsHost d sheets
   pub routed_now : routed ≡ routed_of h dev
-  pub now : host_model d sheets (Some (entry.Input dev routed)) seen ≡ told dev h
+  pub now : host_model d sheets turns (Some (entry.Input dev routed)) seen ≡ told dev h
 
 pub was_told : {d d' : DesktopModel} {sheets sheets' : List SheetModel} (dev : Device) {routed : Routed} → IsHost d sheets
     → WasServed (entry.Input dev routed) d d' sheets sheets'
     → routed ≡ routed_as (route d.state.config d.state.input d.state.stack dev).deliveries → KeepSources
-    → {kept : Option Entry} {seen : LastLook} {h : HostModel} → host_model d sheets kept seen ≡ h
-    → WasTold dev routed h seen d' sheets'
-was_told dev {routed} host now is keep {kept} {seen} view = rw (← view) (record {
+    → {kept : Option Entry} {turns : Turns} {seen : LastLook} {h : HostModel} → host_model d sheets turns kept seen ≡ h
+    → WasTold dev routed h turns seen d' sheets'
+was_told dev {routed} host now is keep {kept} {turns} {seen} view = rw (← view) (record {
   host = host_now now host host.sheets refl is keep (λ k clean. refl);
   routed_now = is;
-  now = behind_now now kept seen ∙ rw is refl;
+  now = behind_now now turns kept seen ∙ rw is refl;
 })
 
 -- ---- what a refresh leaves, by whether it is refused
@@ -109,24 +110,24 @@ handed_plain config seat columns rows part words own own' plain is = (
     as_many (Some r) = set_long (is_handed columns rows r) (low_bytes words) (told_words own.sight.words)
 
 -- what a call left of a host
-pub record WasCalled (seat : ℕ) (call : Call) (r : Reply) (host now : HostModel) (seen : LastLook)
+pub record WasCalled (seat : ℕ) (call : Call) (r : Reply) (host now : HostModel) (turns : Turns) (seen : LastLook)
     (d d' : DesktopModel) (sheets sheets' : List SheetModel) : Type 0 where
   pub is_host : IsHost d' sheets'
   pub replied : r ≡ reply_to host seat call
-  pub now_is : host_model d' sheets' (Some (entry.Call seat call r)) seen ≡ now
+  pub now_is : host_model d' sheets' turns (Some (entry.Call seat call r)) seen ≡ now
   pub shown : Words d.state (entry.Call seat call r) (sheets_of sheets) (sheets_of sheets')
 
 -- a call that takes nothing over
 pub was_called : {d d' : DesktopModel} {sheets sheets' : List SheetModel} {seat : ℕ} {call : Call} {r : Reply}
     → IsHost d sheets → WasServed (entry.Call seat call r) d d' sheets sheets'
     → r ≡ (serve (session d.state seat) call).reply → seat < length d.state.sessions → KeepSources
-    → {kept : Option Entry} {seen : LastLook} {h : HostModel} → host_model d sheets kept seen ≡ h
-    → WasCalled seat call r h (called seat call h) seen d d' sheets sheets'
-was_called {d} {d'} {sheets} {sheets'} {seat} {call} {r} host now reply inside keep {kept} {seen} view =
-    subst (λ (m : HostModel). WasCalled seat call r m (called seat call m) seen d d' sheets sheets') view (record {
+    → {kept : Option Entry} {turns : Turns} {seen : LastLook} {h : HostModel} → host_model d sheets turns kept seen ≡ h
+    → WasCalled seat call r h (called seat call h) turns seen d d' sheets sheets'
+was_called {d} {d'} {sheets} {sheets'} {seat} {call} {r} host now reply inside keep {kept} {turns} {seen} view =
+    subst (λ (m : HostModel). WasCalled seat call r m (called seat call m) turns seen d d' sheets sheets') view (record {
       is_host = host_now now host host.sheets refl (inside, reply) keep (λ k clean. refl);
       replied = reply;
-      now_is = behind_now now kept seen ∙ rw reply refl;
+      now_is = behind_now now turns kept seen ∙ rw reply refl;
       shown = rw (same_sheets now.rest) (λ k clean. refl);
     })
 
@@ -191,23 +192,23 @@ module _ {d d' : DesktopModel} {sheets sheets' : List SheetModel} {seat : ℕ} {
   all = sheets_with host.sheets (handed_plain d.state.config seat s.bw s.bh found words own own'
       (own_plain host.sheets is client) in_) (omega (arith, own_room host.sheets is client))
 
-  pub was_refreshed : {kept : Option Entry} {seen : LastLook} {h0 : HostModel}
-      → host_model d sheets kept seen ≡ h0
-      → WasCalled seat asked r h0 (refreshed seat x y w h words h0) seen d d' sheets sheets'
-  was_refreshed {kept} {seen} view =
-      subst (λ (m : HostModel). WasCalled seat asked r m (refreshed seat x y w h words m) seen d d' sheets sheets') view
+  pub was_refreshed : {kept : Option Entry} {turns : Turns} {seen : LastLook} {h0 : HostModel}
+      → host_model d sheets turns kept seen ≡ h0
+      → WasCalled seat asked r h0 (refreshed seat x y w h words h0) turns seen d d' sheets sheets'
+  was_refreshed {kept} {turns} {seen} view =
+      subst (λ (m : HostModel). WasCalled seat asked r m (refreshed seat x y w h words m) turns seen d d' sheets sheets') view
       (record {
         is_host = host_now now host all refl (inside, reply) keep (words_now (refusal s asked) refl);
         replied = reply;
-        now_is = behind_now now kept seen ∙ replied_now ∙ unless_refused (refusal s asked) refl;
+        now_is = behind_now now turns kept seen ∙ replied_now ∙ unless_refused (refusal s asked) refl;
         shown = rw (same_sheets now.rest) (words_now (refusal s asked) refl);
       })
     where
-      replied_now : behind e (host_model d new_sheets kept seen) ≡ called seat asked (host_model d new_sheets kept seen)
+      replied_now : behind e (host_model d new_sheets turns kept seen) ≡ called seat asked (host_model d new_sheets turns kept seen)
       replied_now = rw reply refl
 
-      unless_refused : (o : Option Reply) → refusal s asked ≡ o → called seat asked (host_model d new_sheets kept seen)
-          ≡ refreshed seat x y w h words (host_model d sheets kept seen)
+      unless_refused : (o : Option Reply) → refusal s asked ≡ o → called seat asked (host_model d new_sheets turns kept seen)
+          ≡ refreshed seat x y w h words (host_model d sheets turns kept seen)
       unless_refused None none =
           rw (
             ap (λ (a : Answered). is_accepted a.reply) (serve_accepted s asked none),

@@ -1,25 +1,24 @@
 -- What acts do to the focus, to the mode and to the codes that are held.
 use Rattle.std.proofs.Common.{None, Option, Some, ap, inl, inr, length, refl, ℕ, ◌≡◌, ◌≢◌, ◌⊎◌}
-use Rattle.nit_host.proofs.Basics.{Act, AreLive, Call, Calls, Comes, Configuration, Device, Does}
-use Rattle.nit_host.proofs.Basics.{HostModel, Looks, Refreshes, Reply, after_act, called, cond_both}
-use Rattle.nit_host.proofs.Basics.{first_state, input_after_call, is_accepted, length-map}
-use Rattle.nit_host.proofs.Basics.{refreshed, reply_to, seated, told, unless_for, unseated}
-use Rattle.nit_host.proofs.Basics.{unserved_call, unserved_input, unserved_refresh, vacant_state}
+use Rattle.nit_host.proofs.Basics.{Act, AreLive, Call, Calls, Client, Comes, Configuration, Device}
+use Rattle.nit_host.proofs.Basics.{Does, HostModel, IsClickBy, IsFirst, Looks, Puts, Refreshes}
+use Rattle.nit_host.proofs.Basics.{Reply, SwitchesMode, TakesFocus, after_act, called, cond_both}
+use Rattle.nit_host.proofs.Basics.{first_host, first_state, input_after_call, is_accepted}
+use Rattle.nit_host.proofs.Basics.{is_held_after, length-map, put, refreshed, reply_to, route}
+use Rattle.nit_host.proofs.Basics.{seated, told, unless_for, unseated, unserved_call}
+use Rattle.nit_host.proofs.Basics.{unserved_input, unserved_refresh, unserved_restack, vacant_state}
 use Rattle.nit_host.proofs.ActLemmas.{same_call}
 use Rattle.nit_host.proofs.UserMoves.{focus_comes, focus_goes, forgets, forgotten_gone, held_moves}
 use Rattle.nit_host.proofs.UserMoves.{mode_moves, moved}
 use Rattle.nit_events.specs.declared.call.Call.TheVariants as call
 use Rattle.nit_events.specs.Input
-use Rattle.nit_journal.specs.State.{route}
-use Rattle.nit_host.specs.Host.{IsFirst, first_host}
-use Rattle.nit_host.specs.Moves.{IsClickBy, SwitchesMode, TakesFocus, is_held_after}
 
 -- ---- by any act
 
 -- a client that leaves is forgotten; a device event moves the input; nothing else does
 pub data ByAct (h : HostModel) (act : Act) : Input.InputState → Type 0 where
   Stays : ByAct h act h.state.input
-  Closes : (seat : ℕ) → act ≡ Calls seat call.Close → ByAct h act (Input.forget h.state.input seat)
+  Closes : (client : Client) → act ≡ Calls client call.Close → ByAct h act (Input.forget h.state.input client.seat)
   Tells : (dev : Device) → act ≡ Does dev → ByAct h act (route h.state.config h.state.input h.state.stack dev).state
 
 -- what is not served leaves the input
@@ -28,18 +27,21 @@ unless : {A : Type 0} (o : Option A) (h served : HostModel) (act : Act)
 unless None h served act is = is
 unless (Some why) h served act is = Stays
 
-by_call : (h : HostModel) (seat : ℕ) (asked : Call) (r : Reply)
-    → ByAct h (Calls seat asked) (input_after_call seat asked r h.state.input)
-by_call h seat call.Close r =
-    cond_both (is_accepted r) _ _ (λ i. ByAct h (Calls seat call.Close) i) (λ yes. Closes seat refl) (λ no. Stays)
-by_call h seat other r = Stays
+by_call : (h : HostModel) (client : Client) (asked : Call) (r : Reply)
+    → ByAct h (Calls client asked) (input_after_call client.seat asked r h.state.input)
+by_call h client call.Close r =
+    cond_both (is_accepted r) _ _ (λ i. ByAct h (Calls client call.Close) i) (λ yes. Closes client refl) (λ no. Stays)
+by_call h client other r = Stays
 
 by_act : (h : HostModel) (act : Act) → ByAct h act (after_act h act).state.input
-by_act h (Calls seat asked) =
-    unless (unserved_call h seat asked) h (called seat asked h) _ (by_call h seat asked (reply_to h seat asked))
-by_act h (Refreshes seat x y w height words) =
-    unless (unserved_refresh h seat words) h (refreshed seat x y w height words h) _
-    (rw (same_call h seat x y w height words) Stays)
+by_act h (Calls client asked) =
+    unless (unserved_call h client asked) h (called client.seat asked h) _
+    (by_call h client asked (reply_to h client.seat asked))
+by_act h (Refreshes client x y w height words) =
+    unless (unserved_refresh h client words) h (refreshed client.seat x y w height words h) _
+    (rw (same_call h client.seat x y w height words) Stays)
+by_act h (Puts side client view) =
+    unless (unserved_restack h client view) h (put side client.seat view h) _ Stays
 by_act h (Does dev) = unless (unserved_input h dev) h (told dev h) _ (Tells dev refl)
 by_act h (Comes seat label) = unless (unseated h seat label) h (seated seat label h) _ Stays
 by_act h Looks = Stays
@@ -61,7 +63,7 @@ module _ (h : HostModel) (act : Act) where
       goes : {i : Input.InputState} → ByAct h act i → i.focus ≡ Some x
           → (h.state.input.focus ≡ Some x) ⊎ IsClickBy act h.state x
       goes Stays here = inl here
-      goes (Closes seat is) here = inl (forgotten_gone seat h.state.input.focus x here)
+      goes (Closes client is) here = inl (forgotten_gone client.seat h.state.input.focus x here)
       goes (Tells dev is) here = rw is (focus_comes h.state dev x (moved h.state dev) here)
 
   pub goes_by_act : (x : ℕ) → h.state.input.focus ≡ Some x
@@ -70,8 +72,8 @@ module _ (h : HostModel) (act : Act) where
     where
       goes : {i : Input.InputState} → ByAct h act i → (i.focus ≡ Some x) ⊎ TakesFocus act h.state x
       goes Stays = inl has
-      goes (Closes seat is) =
-          elim (forgets seat h.state.input.focus x has) [
+      goes (Closes client is) =
+          elim (forgets client.seat h.state.input.focus x has) [
             | inl stays ↦ inl stays
             | inr own ↦ inr (rw is (own, refl))
           ]

@@ -3,30 +3,28 @@ use Rattle.std.proofs.Common.{Bool, IsTrue, List, None, Option, Some, [], ap, ar
 use Rattle.std.proofs.Common.{get_or, if◌then◌else◌, length, map, nat_le, nat_lt, not, refl}
 use Rattle.std.proofs.Common.{replicate, rules, slice_get, sym, take, true, ℕ, ◌&&◌, ◌*◌, ◌++◌, ◌+◌}
 use Rattle.std.proofs.Common.{◌<◌, ◌==◌, ◌||◌, ◌∙◌, ◌∷◌, ◌≡◌, ◌≢◌, ◌≤◌}
-use Rattle.nit_host.proofs.Basics.{AllPass-from_list_all, AreBlank, AreSheets, Area, Bare}
+use Rattle.nit_host.proofs.Basics.{All, AllPass-from_list_all, AreBlank, AreSheets, Area, Bare}
 use Rattle.nit_host.proofs.Basics.{Configuration, DesktopModel, HostModel, IsAreaOf}
 use Rattle.nit_host.proofs.Basics.{IsConfiguration, IsFreeLabel, IsFresh, IsHost, IsPlainOf}
 use Rattle.nit_host.proofs.Basics.{IsSeenBut, Member, Point, SeatPlan, SheetModel, Sight, State}
-use Rattle.nit_host.proofs.Basics.{and_parts, bare_word, blank_sheet, blank_sheets}
+use Rattle.nit_host.proofs.Basics.{Turns, View, and_parts, bare_word, blank_sheet, blank_sheets}
 use Rattle.nit_host.proofs.Basics.{bytes_eq-Decides, column_and_row, cond_both, enumerate_from}
 use Rattle.nit_host.proofs.Basics.{eq-eqb, ext_get_or, false_from_ne_true, false≢true, find_at}
 use Rattle.nit_host.proofs.Basics.{first_host, get_or-append_seam, get_or-enumerate_from}
 use Rattle.nit_host.proofs.Basics.{get_or-map, get_or-range_with_len, get_or-replicate}
-use Rattle.nit_host.proofs.Basics.{get_or_append_left, get_or_default, has_label, has_place}
-use Rattle.nit_host.proofs.Basics.{is_label, is_label_taken, is_screen, is_taken, is_within}
+use Rattle.nit_host.proofs.Basics.{get_or_append_left, get_or_default, has_any, has_label, is_label}
+use Rattle.nit_host.proofs.Basics.{is_label_taken, is_screen, is_taken, is_within, least_units}
 use Rattle.nit_host.proofs.Basics.{length-append, length-enumerate_from, length-map}
 use Rattle.nit_host.proofs.Basics.{length-range_with_len, length-take-le, length-zeros, list_all}
-use Rattle.nit_host.proofs.Basics.{list_any_at, list_any_none, map-append, member, nat_tests}
-use Rattle.nit_host.proofs.Basics.{ne_eqb, pixel_count, planned, position_or_len_is, range_with_len}
-use Rattle.nit_host.proofs.Basics.{refused_plan, seats_of, sheet_at, sheets_of, size_at}
-use Rattle.nit_host.proofs.Basics.{slice_get-get_or, slice_get_past, source_of, table_size}
+use Rattle.nit_host.proofs.Basics.{list_any_at, list_any_none, map-append, member, most_comings}
+use Rattle.nit_host.proofs.Basics.{most_height, most_units, most_width, nat_tests, ne_eqb, no_look}
+use Rattle.nit_host.proofs.Basics.{no_turns, pixel_count, planned, position_or_len_is}
+use Rattle.nit_host.proofs.Basics.{range_with_len, refused_plan, seats_of, sheet_at, sheets_of}
+use Rattle.nit_host.proofs.Basics.{size_at, slice_get-get_or, slice_get_past, source_of, table_size}
 use Rattle.nit_host.proofs.Basics.{take_more, told_words, unseated, waiting_label, waiting_member}
 use Rattle.nit_host.proofs.Basics.{zeros}
 use Rattle.nit_host.proofs.Steps.{words_at}
-use Rattle.nit_host.specs.Shown.{no_look}
-use Rattle.nit_host.specs.declared.host.shown.Shown.{Shown}
 use Rattle.nit_host.specs.declared.refusal.Unseated.TheVariants as why
-use Rattle.nit_rect.specs.Limits.{least_units, most_height, most_units, most_width}
 
 abbrev pub no_client : Member
 no_client = record { label = []; donation = 0; script = []; layer = 0; clicks = false }
@@ -96,30 +94,38 @@ bare_fresh s tables raw bare is k inside = grind (arith, nat_tests, bare_source,
 
 -- ---- the host
 
--- nothing was seen, and the area is the whole screen
-pub seen_none : (s : State) (sheets : List (List ℕ)) (a : Area)
-    → ((x y : ℕ) → x < s.config.width → y < s.config.height → has_place a x y ≡ true) → IsSeenBut s sheets a None
+-- nothing was seen, and the test holds of the whole screen
+pub seen_none : (s : State) (sheets : List (List ℕ)) (a : ℕ → ℕ → Bool)
+    → ((x y : ℕ) → x < s.config.width → y < s.config.height → a x y ≡ true) → IsSeenBut s sheets a None
 seen_none s sheets a all = grind (arith, nat_tests, column_and_row)
 
 -- the host whose desktop is in such a state, of which nothing was seen
 pub begun : (d : DesktopModel) {s : State} {config : Configuration} {sheets : List SheetModel} → AreSheets config sheets
     → d.state ≡ s → d.raw ≡ replicate (config.width * config.height) bare_word → s.config ≡ config → s.stack ≡ []
-    → (a : Area) → ((x y : ℕ) → x < config.width → y < config.height → has_place a x y ≡ true)
-    → IsAreaOf config.width config.height a
-    → IsHost d sheets × IsSeenBut d.state (sheets_of sheets) a None
-    × IsAreaOf d.state.config.width d.state.config.height a
-begun d are is raw configured bare a all on = grind (arith, nat_tests, bare_fresh, column_and_row)
+    → (a : List Area) → ((x y : ℕ) → x < config.width → y < config.height → has_any a x y ≡ true)
+    → All (IsAreaOf config.width config.height) a
+    → IsHost d sheets × IsSeenBut d.state (sheets_of sheets) (has_any a) None
+    × All (IsAreaOf d.state.config.width d.state.config.height) a
+begun d {s} {config} {sheets} are is raw configured bare a all on =
+    let both = by_test (has_any a) all in
+    (both.0, both.1, rw (is, configured) on)
+  where
+    by_test : (test : ℕ → ℕ → Bool) → ((x y : ℕ) → x < config.width → y < config.height → test x y ≡ true)
+        → IsHost d sheets × IsSeenBut d.state (sheets_of sheets) test None
+    by_test test all = grind (arith, nat_tests, bare_fresh, column_and_row)
 
-pub first_now : (s : State) (config : Configuration) (d : DesktopModel) (sheets : List SheetModel) (views : List Shown)
-    → views ≡ [] → d.state ≡ s → d.left ≡ 4611686018427387904 → AreBlank config sheets
+pub first_now : (s : State) (config : Configuration) (d : DesktopModel) (sheets : List SheetModel) (turns : Turns) (views : List View)
+    → turns ≡ no_turns → views ≡ [] → d.state ≡ s → d.left ≡ 4611686018427387904 → AreBlank config sheets
     → record {
       state = d.state;
       sheets = sheets_of sheets;
+      turns = turns;
       left = d.left;
       last = None;
       seen = record no_look { views = views };
     } ≡ first_host s config
-first_now s config d sheets views none is left blank = rw (is, left, words_blank config sheets blank, none) refl
+first_now s config d sheets turns views came none is left blank =
+    rw (is, left, words_blank config sheets blank, none, came) refl
 
 -- The first seat that passes a test, and whether another seat has a label.
 
@@ -179,7 +185,8 @@ free_of s seat label long none t inside other same =
 
 pub label_decides : (h : HostModel) (seat : ℕ) (label : List ℕ) (b : Bool) → seat < length h.state.sessions
     → is_taken h.state seat ≡ false → is_label_taken h.state seat label ≡ b
-    → unseated h seat label ≡ (if b then Some why.LabelTaken else None)
+    → unseated h seat label ≡ (if b then Some why.LabelTaken
+    else if not (nat_lt h.turns.given most_comings) then Some why.WornOut else None)
 label_decides h seat label b inside free is = grind (arith, nat_tests)
 
 -- The configuration of a plan that is not refused.

@@ -1,20 +1,21 @@
 -- What of the frame a call, the user or a client that comes changes.
 use Rattle.std.proofs.Common.{Bool, List, None, Option, Some, [], ap, false, inl, inr, length, refl}
 use Rattle.std.proofs.Common.{sym, true, ℕ, ◌%◌, ◌/◌, ◌<◌, ◌∙◌, ◌∷◌, ◌≡◌}
-use Rattle.nit_host.proofs.Basics.{Area, Call, Delivery, Device, HoldsBar, HoldsBarIn, HoldsBoth}
-use Rattle.nit_host.proofs.Basics.{HoldsTouched, HoldsUnless, IsAreaOf, IsBarArea, IsSeenBut}
-use Rattle.nit_host.proofs.Basics.{IsToldArea, Mode, Point, Reply, Routed, State, StaysOutside}
-use Rattle.nit_host.proofs.Basics.{Touch, View, after, after_accepted, after_deliveries, and_left}
-use Rattle.nit_host.proofs.Basics.{and_parts, arith, bar_rows, bar_word, cases_Bool, column_and_row}
-use Rattle.nit_host.proofs.Basics.{cond_both, deliveries_of, dirty, dirty_by_call}
-use Rattle.nit_host.proofs.Basics.{false_from_ne_true, false≢true, frame_by, has_place, in_bar}
-use Rattle.nit_host.proofs.Basics.{input_after_call, is_accepted, is_inside, is_killed, kills}
-use Rattle.nit_host.proofs.Basics.{layer, list_any, nat_tests, opened, pixel, pixel_count, refusal}
-use Rattle.nit_host.proofs.Basics.{refused_reply, route, routed_as, scenery_of, seen, serve}
-use Rattle.nit_host.proofs.Basics.{serve_refused, session, sheet_in, source_at, told, touch_of}
-use Rattle.nit_host.proofs.Basics.{touched_by, touched_over, unaccepted_state, word_from}
-use Rattle.nit_host.specs.Touch.{touched_unless}
+use Rattle.nit_host.proofs.Basics.{All, AreParts, Area, Call, Delivery, Device, HasTouched}
+use Rattle.nit_host.proofs.Basics.{HoldsBar, HoldsBarIn, HoldsTouched, HoldsUnless, IsAdded}
+use Rattle.nit_host.proofs.Basics.{IsAreaOf, IsBarArea, IsSeenBut, IsToldArea, Mode, Point, Reply}
+use Rattle.nit_host.proofs.Basics.{Routed, State, StaysOutside, Touch, View, after, after_accepted}
+use Rattle.nit_host.proofs.Basics.{after_deliveries, and_left, and_parts, arith, bar_rows, bar_word}
+use Rattle.nit_host.proofs.Basics.{cases_Bool, column_and_row, cond_both, deliveries_of, dirty}
+use Rattle.nit_host.proofs.Basics.{dirty_by_call, false_from_ne_true, false≢true, frame_by, has_any}
+use Rattle.nit_host.proofs.Basics.{has_place, in_bar, input_after_call, is_accepted, is_inside}
+use Rattle.nit_host.proofs.Basics.{is_killed, kills, layer, list_any, nat_tests, opened, pixel}
+use Rattle.nit_host.proofs.Basics.{pixel_count, refusal, refused_reply, route, routed_as}
+use Rattle.nit_host.proofs.Basics.{scenery_of, seen, serve, serve_refused, session, sheet_in}
+use Rattle.nit_host.proofs.Basics.{source_at, told, touch_of, touched_by, touched_over}
+use Rattle.nit_host.proofs.Basics.{touched_unless, unaccepted_state, word_from}
 use Rattle.nit_journal.specs.StackAfter.{stack_after_call}
+use Rattle.nit_host.proofs.PartsKept.{added_on}
 use Rattle.nit_host.proofs.Steps.{KeepSources, Words}
 use Rattle.nit_host.proofs.Frames.{call_inside, flat_stays, same_pixel, seen_after, touched_more}
 use Rattle.nit_host.proofs.Frames.{whole_stays}
@@ -35,7 +36,7 @@ call_mode : (seat : ℕ) (c : Call) (r : Reply) (s : State) → (input_after_cal
 call_mode seat call.Close r s = grind (arith, nat_tests, cond_both)
 call_mode seat other r s = refl
 
-module _ (s : State) (seat : ℕ) (r : Reply) (sheets sheets' : List (List ℕ)) (a : Area)
+module _ (s : State) (seat : ℕ) (r : Reply) (sheets sheets' : List (List ℕ)) (a : ℕ → ℕ → Bool)
     (inside : seat < length s.sessions) (keep : KeepSources) where
   abbrev behind : Call → State
   behind c = after s (entry.Call seat c r)
@@ -111,33 +112,31 @@ module _ (s : State) (seat : ℕ) (r : Reply) (sheets sheets' : List (List ℕ))
           (λ k less off. clean_stays c kept k (clean_outside c holds k less off)) (bar_stays c holds)
       by_refusal_and_mode None other is mode_is holds = over_stays c kept holds
 
--- what a call left of what was seen, and the area of what has changed since
+-- what a call left of what was seen, and the areas of what has changed since
 pub seen_called : {s s' : State} {seat : ℕ} (c : Call) {r : Reply} (sheets sheets' : List (List ℕ)) {t : Touch}
-    {a0 before now a1 a2 : Area} (seen : Option (List ℕ))
-    → HoldsTouched s seat t before × IsAreaOf s.config.width s.config.height before
-    → HoldsTouched s' seat t now × IsAreaOf s'.config.width s'.config.height now → HoldsBoth a0 before a1
-    → HoldsBoth a1 now a2 → IsSeenBut s sheets a0 seen → IsAreaOf s.config.width s.config.height a0
+    {a0 a1 a2 : List Area} (seen : Option (List ℕ)) → HasTouched s seat t a0 a1 → HasTouched s' seat t a1 a2
+    → IsSeenBut s sheets (has_any a0) seen → All (IsAreaOf s.config.width s.config.height) a0
     → t ≡ touch_of s seat c → s' ≡ after s (entry.Call seat c r) → r ≡ (serve (session s seat) c).reply
     → Words s (entry.Call seat c r) sheets sheets' → seat < length s.sessions → KeepSources
-    → IsSeenBut s' sheets' a2 seen × IsAreaOf s'.config.width s'.config.height a2
-seen_called {s} {s'} {seat} c {r} sheets sheets' {t} {a0} {before} {now} {a2 = a2} seen old new one two known on
-    touch_is is replied words inside keep =
+    → IsSeenBut s' sheets' (has_any a2) seen × All (IsAreaOf s'.config.width s'.config.height) a2
+seen_called {s} {s'} {seat} c {r} sheets sheets' {t} {a0} {a1} {a2} seen old new known on touch_is is replied words
+    inside keep =
     let new_ = rw is at new in
     rw is (
-      seen_after s (after s (entry.Call seat c r)) sheets sheets' a2 refl refl refl a0 seen known
-          (λ x y in_. two.own x y (one.own x y in_))
-          (call_stays s seat r sheets sheets' a2 inside keep c (replied, words) (rw (← touch_is) (
-            touched_more s seat t before a2 old.0 (λ x y in_. two.own x y (one.others x y in_)),
-            touched_more (after s (entry.Call seat c r)) seat t now a2 new_.0 two.others,
+      seen_after s (after s (entry.Call seat c r)) sheets sheets' (has_any a2) refl refl refl (has_any a0) seen known
+          (λ x y in_. new_.own x y (old.own x y in_))
+          (call_stays s seat r sheets sheets' (has_any a2) inside keep c (replied, words) (rw (← touch_is) (
+            touched_more s seat t (has_any a1) (has_any a2) old.touched new_.own,
+            new_.touched,
           ))),
-      two.area s.config.width s.config.height (one.area s.config.width s.config.height on old.1) new_.1,
+      new_.screen (old.screen on),
     )
 
 -- What of the frame the user changes, and a client that comes.
 
 -- ---- steps that show each pixel's word where it was
 
-module _ (s s' : State) (sheets sheets' : List (List ℕ)) (a : Area) (width : s'.config.width ≡ s.config.width)
+module _ (s s' : State) (sheets sheets' : List (List ℕ)) (a : ℕ → ℕ → Bool) (width : s'.config.width ≡ s.config.width)
     (height : s'.config.height ≡ s.config.height) (bar : bar_rows s'.config ≡ bar_rows s.config)
     (words : (k : ℕ) → k < pixel_count s → word_from (sheet_in sheets) (source_at s k)
     ≡ word_from (sheet_in sheets') (source_at s' k)) where
@@ -145,7 +144,10 @@ module _ (s s' : State) (sheets sheets' : List (List ℕ)) (a : Area) (width : s
       → HoldsBarIn m s.config.width s.config.height (bar_rows s.config) a
       → HoldsBarIn m' s'.config.width s'.config.height (bar_rows s'.config) a
       → StaysOutside s.config.width (pixel_count s) a (frame_by s sheets) (frame_by s' sheets')
-  by_modes mode.Flat mode.Flat is is' holds holds' = grind (arith, nat_tests, flat_stays, column_and_row, false≢true)
+  by_modes mode.Flat mode.Flat is is' holds holds' =
+      flat_stays s s' sheets sheets' a width height bar is is' (λ k less off. words k less) (λ k less off in_.
+      let at = column_and_row s.config.width s.config.height k less in
+      absurd (false≢true (sym off ∙ holds (k % s.config.width) (k / s.config.width) at.0 at.1 in_)))
   by_modes mode.Flat other is is' holds holds' =
       whole_stays _ _ a _ _ (λ x y wide high. holds' x y (rw width wide) (rw height high))
   by_modes other m' is is' holds holds' = whole_stays _ _ a _ _ holds
@@ -155,7 +157,7 @@ module _ (s s' : State) (sheets sheets' : List (List ℕ)) (a : Area) (width : s
       → StaysOutside s.config.width (pixel_count s) a (frame_by s sheets) (frame_by s' sheets')
   bar_changes holds holds' = by_modes s.input.mode s'.input.mode refl refl holds holds'
 
-pub bar_more : (s : State) (a b : Area) → HoldsBar s a → ((x y : ℕ) → has_place a x y ≡ true → has_place b x y ≡ true)
+pub bar_more : (s : State) (a b : ℕ → ℕ → Bool) → HoldsBar s a → ((x y : ℕ) → a x y ≡ true → b x y ≡ true)
     → HoldsBar s b
 bar_more s a b holds more = grind (arith, nat_tests, cond_both)
 
@@ -171,10 +173,10 @@ kept_views : (ds : List Delivery) (stack : List View) → kills ds ≡ false →
 kept_views [] stack e = refl
 kept_views (d ∷ ds) stack e = grind (arith, nat_tests, kept_views ds stack)
 
-module _ (s s' : State) (dev : Device) (routed : Routed) (sheets sheets' : List (List ℕ)) (a0 a1 : Area)
+module _ (s s' : State) (dev : Device) (routed : Routed) (sheets sheets' : List (List ℕ)) (a0 a1 : List Area)
     (seen : Option (List ℕ)) (agrees : routed ≡ routed_as (route s.config s.input s.stack dev).deliveries)
     (keep : KeepSources) (is : s' ≡ after s (entry.Input dev routed)) (same : sheets' ≡ sheets)
-    (known : IsSeenBut s sheets a0 seen) where
+    (known : IsSeenBut s sheets (has_any a0) seen) where
   abbrev after_it : State
   after_it = after s (entry.Input dev routed)
 
@@ -184,28 +186,28 @@ module _ (s s' : State) (dev : Device) (routed : Routed) (sheets sheets' : List 
   words_told none k = rw same (ap (word_from (sheet_in sheets)) (sym (keep s 0 (entry.Input dev routed)
       (pixel s.config.width k) agrees (none_killed s (pixel s.config.width k) (deliveries_of routed) none))))
 
-  -- what the user does, by whether the screen shows the same, and the area of what has changed since
+  -- what the user does, by whether the screen shows the same, and the areas of what has changed since
   pub seen_input : (is_same : Bool) (before now : Area)
       → deliveries_of routed ≡ (route s.config s.input s.stack dev).deliveries → IsBarArea s before
       → IsToldArea s' (deliveries_of routed) now → (is_same ≡ true → kills (deliveries_of routed) ≡ false)
       → (is_same ≡ true → s.input.mode ≡ s'.input.mode) → (is_same ≡ true → s.input.focus ≡ s'.input.focus)
-      → HoldsUnless is_same a0 before now a1 → IsAreaOf s.config.width s.config.height a0
-      → IsSeenBut s' sheets' a1 seen × IsAreaOf s'.config.width s'.config.height a1
+      → HoldsUnless is_same a0 before now a1 → All (IsAreaOf s.config.width s.config.height) a0
+      → IsSeenBut s' sheets' (has_any a1) seen × All (IsAreaOf s'.config.width s'.config.height) a1
   seen_input is_same before now told old new none modes focuses joined on =
       rw is (
-        seen_after s after_it sheets sheets' a1 refl refl refl a0 seen known joined.own (whether_same is_same refl),
-        joined.area s.config.width s.config.height on old.area new_.area,
+        seen_after s after_it sheets sheets' (has_any a1) refl refl refl (has_any a0) seen known joined.own (whether_same is_same refl),
+        joined.screen s.config.width s.config.height on old.area new_.area,
       )
     where
       new_ : IsToldArea after_it (deliveries_of routed) now
       new_ = rw is at new
 
       whether_same : (b : Bool) → is_same ≡ b
-          → StaysOutside s.config.width (pixel_count s) a1 (frame_by s sheets) (frame_by after_it sheets')
+          → StaysOutside s.config.width (pixel_count s) (has_any a1) (frame_by s sheets) (frame_by after_it sheets')
       whether_same true known_ = λ k less off.
           let stays = kept_views (route s.config s.input s.stack dev).deliveries s.stack
           (sym (ap kills told) ∙ none known_) in
-          same_pixel s after_it sheets sheets' a1 refl refl refl k less
+          same_pixel s after_it sheets sheets' (has_any a1) refl refl refl k less
           (λ i. record (scenery_of s) {
             stack = sym stays i;
             mode = (modes known_ ∙ ap (λ (x : State). x.input.mode) is) i;
@@ -213,24 +215,25 @@ module _ (s s' : State) (dev : Device) (routed : Routed) (sheets sheets' : List 
           })
           (words_told (none known_) k)
       whether_same false other = elim (cases_Bool (kills (deliveries_of routed))) [
-        | inl there ↦ whole_stays _ _ a1 _ _ (λ x y wide high. joined.new other x y (new_.screen there x y wide high))
-        | inr none ↦ bar_changes s after_it sheets sheets' a1 refl refl refl (λ k less. words_told none k)
-            (bar_more s before a1 old.bar (joined.old other)) (bar_more after_it now a1 new_.bar (joined.new other))
+        | inl there ↦ whole_stays _ _ (has_any a1) _ _ (λ x y wide high. joined.second other x y (new_.screen there x y wide high))
+        | inr none ↦ bar_changes s after_it sheets sheets' (has_any a1) refl refl refl (λ k less. words_told none k)
+            (bar_more s (has_place before) (has_any a1) old.bar (joined.first other))
+            (bar_more after_it (has_place now) (has_any a1) new_.bar (joined.second other))
       ]
 
 -- ---- a client that comes
 
-pub seen_seated : (s s' : State) (seat : ℕ) (label : List ℕ) (sheets sheets' : List (List ℕ)) (a0 part a1 : Area)
-    (seen : Option (List ℕ)) → s' ≡ opened seat label s
+pub seen_seated : (s s' : State) (seat : ℕ) (label : List ℕ) (sheets sheets' : List (List ℕ)) (a0 : List Area)
+    (part : Area) (a1 : List Area) (seen : Option (List ℕ)) → s' ≡ opened seat label s
     → ((k : ℕ) → word_from (sheet_in sheets) (source_at s k)
     ≡ word_from (sheet_in sheets') (source_at (opened seat label s) k))
-    → IsBarArea s part → HoldsBoth a0 part a1 → IsSeenBut s sheets a0 seen
-    → IsAreaOf s.config.width s.config.height a0
-    → IsSeenBut s' sheets' a1 seen × IsAreaOf s'.config.width s'.config.height a1
-seen_seated s s' seat label sheets sheets' a0 part a1 seen is words holds both known on =
-    let all = bar_more s part a1 holds.bar both.others in
+    → IsBarArea s part → IsAdded a0 part a1 → AreParts a1 → IsSeenBut s sheets (has_any a0) seen
+    → All (IsAreaOf s.config.width s.config.height) a0
+    → IsSeenBut s' sheets' (has_any a1) seen × All (IsAreaOf s'.config.width s'.config.height) a1
+seen_seated s s' seat label sheets sheets' a0 part a1 seen is words holds added are known on =
+    let all = bar_more s (has_place part) (has_any a1) holds.bar added.own in
     rw is (
-      seen_after s (opened seat label s) sheets sheets' a1 refl refl refl a0 seen known both.own
-          (bar_changes s (opened seat label s) sheets sheets' a1 refl refl refl (λ k less. words k) all all),
-      both.area s.config.width s.config.height on holds.area,
+      seen_after s (opened seat label s) sheets sheets' (has_any a1) refl refl refl (has_any a0) seen known added.kept
+          (bar_changes s (opened seat label s) sheets sheets' (has_any a1) refl refl refl (λ k less. words k) all all),
+      added_on s.config.width s.config.height a0 part a1 added are on holds.area,
     )

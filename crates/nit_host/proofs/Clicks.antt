@@ -1,27 +1,23 @@
 -- Clicks go where the user saw them go.
-use Rattle.std.proofs.Common.{Bool, List, None, Option, Some, [], ap, arith, false, find}
-use Rattle.std.proofs.Common.{get_or, get_or-set_other, if◌then◌else◌, inl, inr, length, not}
-use Rattle.std.proofs.Common.{refl, set, slice_get, subst, sym, take, true, ℕ, ◌&&◌, ◌++◌, ◌+◌, ◌<◌}
-use Rattle.std.proofs.Common.{◌==◌, ◌∙◌, ◌∷◌, ◌≡◌, ◌≢◌, ◌⊎◌}
-use Rattle.nit_host.proofs.Basics.{Act, Calls, Comes, Does, HostModel, IsClickBy, Looks, Point}
-use Rattle.nit_host.proofs.Basics.{Refreshes, State, View, after_act, after_acts, bar_rows}
-use Rattle.nit_host.proofs.Basics.{cases_eq, cases_lt, covers, false≢true, fold-append}
-use Rattle.nit_host.proofs.Basics.{get_or_from_slice_get, get_or-set_same, get_or_past, in_bar}
-use Rattle.nit_host.proofs.Basics.{is_accepted, length-set, map-append, nat_tests, option_map}
-use Rattle.nit_host.proofs.Basics.{owner_of, point, reply_to, same_Some, seated, take_more, told}
-use Rattle.nit_host.proofs.Basics.{unless_for, unseated, unserved_call, unserved_input}
-use Rattle.nit_host.proofs.Basics.{unserved_refresh}
+use Rattle.std.proofs.Common.{Bool, List, None, Option, Some, [], ap, arith, false, find, get_or}
+use Rattle.std.proofs.Common.{get_or-set_other, if◌then◌else◌, inl, inr, length, nat_lt, not, refl}
+use Rattle.std.proofs.Common.{set, slice_get, subst, sym, take, true, ℕ, ◌&&◌, ◌++◌, ◌+◌, ◌<◌, ◌==◌}
+use Rattle.std.proofs.Common.{◌∙◌, ◌∷◌, ◌≡◌, ◌≢◌, ◌⊎◌}
+use Rattle.nit_host.proofs.Basics.{Act, Calls, CameSince, Comes, Configuration, Does, HasNoLook}
+use Rattle.nit_host.proofs.Basics.{HostModel, IsClickBy, IsKillBy, IsLockedOut, IsNoLook, LastLook}
+use Rattle.nit_host.proofs.Basics.{Looks, Point, Puts, Refreshes, State, TakesClick, Unserved, View}
+use Rattle.nit_host.proofs.Basics.{WasShown, after_act, after_acts, after_look, bar_rows, cases_eq}
+use Rattle.nit_host.proofs.Basics.{cases_lt, covers, false≢true, fold-append, get_or-set_same}
+use Rattle.nit_host.proofs.Basics.{get_or_from_slice_get, get_or_past, holds_nothing, in_bar}
+use Rattle.nit_host.proofs.Basics.{is_accepted, is_as_shown, is_button, is_device, is_moved}
+use Rattle.nit_host.proofs.Basics.{is_same_client, kill_button, length-set, looked, map-append}
+use Rattle.nit_host.proofs.Basics.{nat_tests, no_look, option_map, owner, owner_of, owner_on}
+use Rattle.nit_host.proofs.Basics.{owner_shown, owner_then, point, put, reply_to, same_Some, seated}
+use Rattle.nit_host.proofs.Basics.{shown_under_pointer, take_more, told, under_pointer, unless_for}
+use Rattle.nit_host.proofs.Basics.{unseated, unserved_call, unserved_input, unserved_refresh}
+use Rattle.nit_host.proofs.Basics.{unserved_restack, worn_out}
 use Rattle.nit_host.proofs.ActMoves.{comes_by_act}
 use Rattle.nit_host.proofs.LockOuts.{locked_by_act}
-use Rattle.nit_host.specs.Below.{Unserved, is_button, kill_button, under_pointer}
-use Rattle.nit_host.specs.Clicks.{CameSince, HasNoLook, IsLockedOut, IsNoLook, TakesClick, WasShown}
-use Rattle.nit_host.specs.Clicks.{after_look, owner_then}
-use Rattle.nit_host.specs.Host.{is_device, looked, worn_out}
-use Rattle.nit_host.specs.Moves.{IsKillBy}
-use Rattle.nit_host.specs.Shown.{LastLook, holds_nothing, is_as_shown, is_moved, is_same_client}
-use Rattle.nit_host.specs.Shown.{no_look, seat_covering, seat_shown, shown_under_pointer, shown_view}
-use Rattle.nit_host.specs.Shown.{shown_views}
-use Rattle.nit_host.specs.declared.host.shown.Shown.{Shown}
 use Rattle.nit_events.specs.declared.call.Call.TheVariants as call
 use Rattle.nit_events.specs.declared.device.Device.TheVariants as device
 use Rattle.nit_host.specs.declared.refusal.Unserved.TheVariants as why
@@ -29,35 +25,10 @@ use Rattle.nit_host.specs.declared.refusal.Unserved.TheVariants as why
 -- ---- what a look remembers
 
 -- one more view
-pub one_shown : (stack : List View) (i : ℕ) (v : View) (made : List Shown) (s : Shown) → i < length stack
-    → slice_get stack i ≡ Some v → made ≡ shown_views (take i stack) → s ≡ shown_view v
-    → made ++ s ∷ [] ≡ shown_views (take (i + 1) stack)
-one_shown stack i v made s inside at is so =
-    rw (is, so, take_more stack i v inside, get_or_from_slice_get stack i v v at)
-    (sym (map-append shown_view (take i stack) (v ∷ [])))
-
--- the seat that is remembered at a pixel is the owner's
-covering_is : (stack : List View) (p : Point) → seat_covering (shown_views stack) p
-    ≡ option_map (λ v. v.sid) (find (λ v. covers v.rect p) stack)
-covering_is [] p = refl
-covering_is (v ∷ stack) p = by_test (covers v.rect p) (covering_is stack p)
-  where
-    by_test : (b : Bool)
-        → seat_covering (shown_views stack) p ≡ option_map (λ v. v.sid) (find (λ v. covers v.rect p) stack)
-        → option_map (λ (s : Shown). s.seat)
-        (if b then Some (shown_view v) else find (λ s. covers s.rect p) (shown_views stack))
-        ≡ option_map (λ (v : View). v.sid) (if b then Some v else find (λ v. covers v.rect p) stack)
-    by_test true rest = refl
-    by_test false rest = rest
-
-pub shown_is : (s : State) (p : Point) → seat_shown (bar_rows s.config) (shown_views s.stack) p
-    ≡ option_map (λ v. v.sid) (owner_of s p)
-shown_is s p = by_bar (in_bar (bar_rows s.config) p)
-  where
-    by_bar : (b : Bool) → (if b then None else seat_covering (shown_views s.stack) p)
-        ≡ option_map (λ (v : View). v.sid) (if b then None else find (λ v. covers v.rect p) s.stack)
-    by_bar true = refl
-    by_bar false = covering_is s.stack p
+pub one_shown : (stack : List View) (i : ℕ) (v : View) (made : List View) → i < length stack
+    → slice_get stack i ≡ Some v → made ≡ take i stack → made ++ v ∷ [] ≡ take (i + 1) stack
+one_shown stack i v made inside at is =
+    rw (is, take_more stack i v inside, get_or_from_slice_get stack i v v at) refl
 
 -- whether nothing is held
 pub nothing_held : (held : List ℕ) → (length held == 0) ≡ holds_nothing held
@@ -69,15 +40,19 @@ nothing_held (k ∷ held) = grind (arith, nat_tests)
 pub record Keeps (h h' : HostModel) : Type 0 where
   pub views : h'.seen.views ≡ h.seen.views
   pub bar : h'.state.config.bar ≡ h.state.config.bar
+  pub width : h'.state.config.width ≡ h.state.config.width
+  pub height : h'.state.config.height ≡ h.state.config.height
   pub came : (seat : ℕ) → get_or h'.seen.came seat true ≡ false → get_or h.seen.came seat true ≡ false
 
 same : (h : HostModel) → Keeps h h
-same h = record { views = refl; bar = refl; came = λ seat is. is }
+same h = record { views = refl; bar = refl; width = refl; height = refl; came = λ seat is. is }
 
 both : {h h1 h2 : HostModel} → Keeps h h1 → Keeps h1 h2 → Keeps h h2
 both a b = record {
   views = b.views ∙ a.views;
   bar = b.bar ∙ a.bar;
+  width = b.width ∙ a.width;
+  height = b.height ∙ a.height;
   came = λ seat is. a.came seat (b.came seat is);
 }
 
@@ -106,14 +81,18 @@ came_before came seat t is =
     ]
 
 one : (h : HostModel) (act : Act) → IsNoLook act → Keeps h (after_act h act)
-one h (Calls seat c) quiet = unless (unserved_call h seat c) (record { views = refl; bar = refl; came = λ t is. is })
-one h (Refreshes seat x y w height words) quiet =
-    unless (unserved_refresh h seat words) (either (is_accepted (reply_to h seat (call.Refresh x y w height)))
-    (record { views = refl; bar = refl; came = λ t is. is }) (record { views = refl; bar = refl; came = λ t is. is }))
-one h (Does dev) quiet = unless (unserved_input h dev) (record { views = refl; bar = refl; came = λ t is. is })
+one h (Calls client c) quiet =
+    unless (unserved_call h client c) (record { views = refl; bar = refl; width = refl; height = refl; came = λ t is. is })
+one h (Refreshes client x y w height words) quiet =
+    unless (unserved_refresh h client words)
+    (either (is_accepted (reply_to h client.seat (call.Refresh x y w height)))
+    (record { views = refl; bar = refl; width = refl; height = refl; came = λ t is. is }) (record { views = refl; bar = refl; width = refl; height = refl; came = λ t is. is }))
+one h (Does dev) quiet = unless (unserved_input h dev) (record { views = refl; bar = refl; width = refl; height = refl; came = λ t is. is })
+one h (Puts side client view) quiet =
+    unless (unserved_restack h client view) (record { views = refl; bar = refl; width = refl; height = refl; came = λ t is. is })
 one h (Comes seat label) quiet =
     unless (unseated h seat label)
-    (record { views = refl; bar = refl; came = λ t is. came_before h.seen.came seat t is })
+    (record { views = refl; bar = refl; width = refl; height = refl; came = λ t is. came_before h.seen.came seat t is })
 one h Looks quiet = absurd quiet
 
 pub all : (h : HostModel) (acts : List Act) → HasNoLook acts → Keeps h (after_acts h acts)
@@ -181,7 +160,16 @@ shown_there h rest none =
     let now = after_acts (looked h) rest in
     let p = point now.state.input.x now.state.input.y in
     let keeps = all (looked h) rest none in
-    (λ i. seat_shown (if keeps.bar i then 7 else 0) (keeps.views i) p) ∙ shown_is h.state p
+    λ i. option_map (λ v. v.sid) (owner (if keeps.bar i then 7 else 0) (keeps.views i) p)
+
+-- the view that a look showed at a pixel
+pub shown_at : (h : HostModel) (acts rest : List Act) (x y : ℕ) → HasNoLook rest
+    → owner_shown (after_look h acts rest) x y ≡ owner_on (after_acts h acts).state x y
+shown_at h acts rest x y none =
+    let keeps = all (looked (after_acts h acts)) rest none in
+    ap (λ now. owner_shown now x y) (behind h acts rest)
+    ∙ (λ i. if nat_lt x (keeps.width i) && nat_lt y (keeps.height i)
+    then owner (if keeps.bar i then 7 else 0) (keeps.views i) (point x y) else None)
 
 sees : (h : HostModel) (rest : List Act) (k : ℕ) → HasNoLook rest → TakesClick (after_acts (looked h) rest) k
     → Sees h.state (after_acts (looked h) rest)
@@ -224,9 +212,12 @@ clicks_client h acts rest k seat none takes at since =
     ∙ (clicked (after_look h acts rest) k takes).1 seat at)
     (sym (ap (λ (n : HostModel). unseated n seat since.label) (behind h acts since.before)) ∙ since.seated)
 
-nothing_shown : (b : Bool) (p : Point) → ◌≡◌ {A = Option ℕ} (if b then None else seat_covering [] p) None
-nothing_shown true p = refl
-nothing_shown false p = refl
+nothing_shown : (rows : ℕ) (p : Point) → option_map (λ (v : View). v.sid) (owner rows [] p) ≡ None
+nothing_shown rows p = by_bar (in_bar rows p)
+  where
+    by_bar : (b : Bool) → ◌≡◌ {A = Option ℕ} (option_map (λ (v : View). v.sid) (if b then None else None)) None
+    by_bar true = refl
+    by_bar false = refl
 
 pub clicks_first : (h : HostModel) (acts : List Act) (k : ℕ) → h.seen ≡ no_look → HasNoLook acts
     → TakesClick (after_acts h acts) k → under_pointer (after_acts h acts).state ≡ None
@@ -235,7 +226,8 @@ clicks_first h acts k none quiet takes =
     let p = point now.state.input.x now.state.input.y in
     let rows = bar_rows now.state.config in
     let views = (all h acts quiet).views ∙ ap (λ (l : LastLook). l.views) none in
-    sym (clicked now k takes).0 ∙ ap (λ vs. seat_shown rows vs p) views ∙ nothing_shown (in_bar rows p) p
+    sym (clicked now k takes).0 ∙ ap (λ vs. option_map (λ (v : View). v.sid) (owner rows vs p)) views
+    ∙ nothing_shown rows p
 
 -- ---- what follows of the focus, and of who is locked out
 
@@ -271,6 +263,7 @@ by_click now (Does dev) seat is ((k, pressed, button, mode, at, clicks), free) =
     focused now k seat (unserved_input now (device.Press k)) refl button free at (rw pressed at is)
 by_click now (Calls t c) seat is click = absurd click
 by_click now (Refreshes t x y w height words) seat is click = absurd click
+by_click now (Puts side t view) seat is click = absurd click
 by_click now (Comes t label) seat is click = absurd click
 by_click now Looks seat is click = absurd click
 
@@ -291,6 +284,7 @@ hit_by_kill : (now : HostModel) (act : Act) (seat : ℕ) → IsKillBy act now.st
 hit_by_kill now (Does dev) seat click = click.on
 hit_by_kill now (Calls t c) seat click = absurd click
 hit_by_kill now (Refreshes t x y w height words) seat click = absurd click
+hit_by_kill now (Puts side t view) seat click = absurd click
 hit_by_kill now (Comes t label) seat click = absurd click
 hit_by_kill now Looks seat click = absurd click
 

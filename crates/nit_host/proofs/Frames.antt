@@ -6,18 +6,18 @@ use Rattle.nit_host.proofs.Basics.{and_parts, arith, bar_rows, bar_word, bare_wo
 use Rattle.nit_host.proofs.Basics.{buffer_place, buffer_size, column_and_row, covers, dirty_by_call}
 use Rattle.nit_host.proofs.Basics.{div-mul-add, eqb-true, false_from_ne_true, false≢true, find_at}
 use Rattle.nit_host.proofs.Basics.{flat_shown, frame_by, get_or-frame, get_or-map-range_with_len}
-use Rattle.nit_host.proofs.Basics.{get_or_from_slice_get, get_or_past, has_place, in_bar, index_at}
-use Rattle.nit_host.proofs.Basics.{ints, is_between, is_inside, is_owned_by, is_session, is_touched}
-use Rattle.nit_host.proofs.Basics.{is_word_in, length-frame, mod-mul-add, nat_tests, option_map_or}
-use Rattle.nit_host.proofs.Basics.{or_cases, owner_of, owns_either, passes_at_first, picture, pixel}
-use Rattle.nit_host.proofs.Basics.{pixel_count, place_at, point, rectangle, rectangle_over}
-use Rattle.nit_host.proofs.Basics.{same_Some, scenery_of, session, sheet_in, shown, shown_index}
-use Rattle.nit_host.proofs.Basics.{shows_part, shows_place, slice_get_within, source_at}
-use Rattle.nit_host.proofs.Basics.{source_under, spans, touched_by, word_from}
+use Rattle.nit_host.proofs.Basics.{get_or_from_slice_get, get_or_past, has_any, has_place, in_bar}
+use Rattle.nit_host.proofs.Basics.{index_at, ints, is_between, is_inside, is_owned_by, is_session}
+use Rattle.nit_host.proofs.Basics.{is_touched, is_word_in, length-frame, mod-mul-add, nat_tests}
+use Rattle.nit_host.proofs.Basics.{option_map_or, or_cases, owner_of, owns_either, passes_at_first}
+use Rattle.nit_host.proofs.Basics.{picture, pixel, pixel_count, place_at, point, position_or_len}
+use Rattle.nit_host.proofs.Basics.{rectangle, rectangle_over, same_Some, scenery_of, session}
+use Rattle.nit_host.proofs.Basics.{sheet_in, shown, shown_index, shows_part, shows_place}
+use Rattle.nit_host.proofs.Basics.{slice_get_within, source_at, source_under, spans, touched_by}
+use Rattle.nit_host.proofs.Basics.{word_from}
 use Rattle.std.proofs.Common.{Bool, List, None, Option, Some, ap, cond, false, find, length, negsuc}
 use Rattle.std.proofs.Common.{pos, refl, slice_get, slice_index, subst, sym, true, ℕ, ℤ, ◌%◌, ◌&&◌}
 use Rattle.std.proofs.Common.{◌*◌, ◌+ℤ◌, ◌-ℤ◌, ◌/◌, ◌<◌, ◌==◌, ◌∙◌, ◌≡◌}
-use Rattle.std.specs.List.{position_or_len}
 use Rattle.nit_events.specs.declared.device.Mode.TheVariants as mode
 use Rattle.nit_host.specs.declared.host.touch.Touch.TheVariants as touch
 
@@ -43,12 +43,12 @@ bar_pixel s sheets k less inside = frame_pixel s sheets k less ∙ rw inside ref
 -- ---- all pixels outside of an area
 
 -- where the area is the whole screen
-pub whole_stays : (width height : ℕ) (a : Area) (before now : List ℕ)
-    → ((x y : ℕ) → x < width → y < height → has_place a x y ≡ true)
+pub whole_stays : (width height : ℕ) (a : ℕ → ℕ → Bool) (before now : List ℕ)
+    → ((x y : ℕ) → x < width → y < height → a x y ≡ true)
     → StaysOutside width (width * height) a before now
 whole_stays width height a before now whole k less off = grind (arith, nat_tests, column_and_row, false≢true)
 
-module _ (s s' : State) (sheets sheets' : List (List ℕ)) (a : Area) (width : s'.config.width ≡ s.config.width)
+module _ (s s' : State) (sheets sheets' : List (List ℕ)) (a : ℕ → ℕ → Bool) (width : s'.config.width ≡ s.config.width)
     (height : s'.config.height ≡ s.config.height) (bar : bar_rows s'.config ≡ bar_rows s.config) where
   count : (k : ℕ) → k < pixel_count s → k < pixel_count s'
   count k less = subst (λ (n : ℕ). k < n) (sym (λ i. width i * height i)) less
@@ -70,8 +70,8 @@ module _ (s s' : State) (sheets sheets' : List (List ℕ)) (a : Area) (width : s
   flat_stays flat flat' words bars k less off = grind (arith, nat_tests, flat_pixel, bar_pixel, count)
 
   -- what was seen is still the frame, but for an area with what changed
-  pub seen_after : (a0 : Area) (seen : Option (List ℕ)) → IsSeenBut s sheets a0 seen
-      → ((x y : ℕ) → has_place a0 x y ≡ true → has_place a x y ≡ true)
+  pub seen_after : (a0 : ℕ → ℕ → Bool) (seen : Option (List ℕ)) → IsSeenBut s sheets a0 seen
+      → ((x y : ℕ) → a0 x y ≡ true → a x y ≡ true)
       → StaysOutside s.config.width (pixel_count s) a (frame_by s sheets) (frame_by s' sheets')
       → IsSeenBut s' sheets' a seen
   seen_after a0 None all more stays = grind (arith, nat_tests)
@@ -150,34 +150,34 @@ part_inside seat part s p inside holds shows =
 -- ---- an accepted call
 
 -- a pixel of a view that the test of a touch names
-owned_place : (s : State) (seat : ℕ) (a : Area) (x y : ℕ) (t : Touch) (test : View → Bool) → x < s.config.width
+owned_place : (s : State) (seat : ℕ) (a : ℕ → ℕ → Bool) (x y : ℕ) (t : Touch) (test : View → Bool) → x < s.config.width
     → y < s.config.height → HoldsTouched s seat t a
     → ((v : View) → is_touched t seat v (point x y) ≡ (test v && covers v.rect (point x y)))
-    → is_owned_by test s (point x y) ≡ true → has_place a x y ≡ true
-owned_place s seat a x y t test wide high holds touched owned = owned_inside test s (point x y) (has_place a x y)
+    → is_owned_by test s (point x y) ≡ true → a x y ≡ true
+owned_place s seat a x y t test wide high holds touched owned = owned_inside test s (point x y) (a x y)
     (λ i u there own covered. holds.views i x y u there wide high (touched u ∙ and_from _ _ own covered)) owned
 
-module _ (s s' : State) (seat : ℕ) (a : Area) (x y : ℕ) (wide : x < s.config.width) (high : y < s.config.height)
+module _ (s s' : State) (seat : ℕ) (a : ℕ → ℕ → Bool) (x y : ℕ) (wide : x < s.config.width) (high : y < s.config.height)
     (wide' : x < s'.config.width) (high' : y < s'.config.height) where
   on_view : (v : ℕ) → HoldsTouched s seat (touch.View v) a → HoldsTouched s' seat (touch.View v) a
-      → owns_either seat v s s' (point x y) ≡ true → has_place a x y ≡ true
+      → owns_either seat v s s' (point x y) ≡ true → a x y ≡ true
   on_view v holds holds' own = grind (arith, nat_tests, or_cases, owned_place)
 
   of_part : (px py : ℤ) (w h : ℕ) (b : Bool)
       → HoldsTouched s' seat (cond b (touch.Part (rectangle px py w h)) touch.Screen) a
-      → shows_part seat (rectangle px py w h) s' (point x y) ≡ true → has_place a x y ≡ true
-  of_part px py w h true holds shows = part_inside seat (rectangle px py w h) s' (point x y) (has_place a x y)
+      → shows_part seat (rectangle px py w h) s' (point x y) ≡ true → a x y ≡ true
+  of_part px py w h true holds shows = part_inside seat (rectangle px py w h) s' (point x y) (a x y)
       (λ i u there is. holds.views i x y u there wide' high' is) shows
   of_part px py w h false holds shows = holds.bare x y wide' high' refl
 
   -- a pixel that an accepted call makes dirty in mode Flat
   pub call_inside : (c : Call) → HoldsTouched s seat (touched_by c) a → HoldsTouched s' seat (touched_by c) a
-      → dirty_by_call seat c s s' (point x y) ≡ true → has_place a x y ≡ true
+      → dirty_by_call seat c s s' (point x y) ≡ true → a x y ≡ true
   call_inside c holds holds' is = grind (arith, nat_tests, on_view, owned_place, of_part)
 
 -- more than what is touched
-pub touched_more : (s : State) (seat : ℕ) (t : Touch) (a b : Area) → HoldsTouched s seat t a
-    → ((x y : ℕ) → has_place a x y ≡ true → has_place b x y ≡ true) → HoldsTouched s seat t b
+pub touched_more : (s : State) (seat : ℕ) (t : Touch) (a b : ℕ → ℕ → Bool) → HoldsTouched s seat t a
+    → ((x y : ℕ) → a x y ≡ true → b x y ≡ true) → HoldsTouched s seat t b
 touched_more s seat t a b holds more = grind (arith, nat_tests)
 
 -- ---- which word a pixel of a host's picture shows
@@ -235,15 +235,24 @@ same_view stack i k v w t seat size width height a x y at there read sized holds
 -- ---- a look at what can have changed
 
 pub covers_inside : (width height k : ℕ) (a : Area) → IsAreaOf width height a
-    → covers (rectangle_over a) (place_at width k) ≡ is_inside width a k
+    → covers (rectangle_over a) (place_at width k) ≡ has_place a (k % width) (k / width)
 covers_inside width height k a on = grind (arith, nat_tests)
 
-pub agree_outside : (s : State) (sheets : List (List ℕ)) (a : Area) (seen : Option (List ℕ)) (out : List ℕ)
-    → IsAreaOf s.config.width s.config.height a → IsSeenBut s sheets a seen → IsOneOf seen out
-    → length out ≡ pixel_count s → AgreeOutside s.config.width out (frame_by s sheets) (rectangle_over a)
-agree_outside s sheets a seen out on known one long k off =
-    grind (arith, nat_tests, covers_inside, get_or_past, length-frame, false≢true)
+-- what was seen is the frame outside of an area with all in which something may have changed
+pub agree_outside : (s : State) (sheets : List (List ℕ)) (parts : List Area) (a : Area) (seen : Option (List ℕ))
+    (out : List ℕ) → IsAreaOf s.config.width s.config.height a
+    → ((x y : ℕ) → has_any parts x y ≡ true → has_place a x y ≡ true) → IsSeenBut s sheets (has_any parts) seen
+    → IsOneOf seen out → length out ≡ pixel_count s
+    → AgreeOutside s.config.width out (frame_by s sheets) (rectangle_over a)
+agree_outside s sheets parts a seen out on all known one long k off =
+    by_test (has_any parts) (λ is. false≢true (sym off ∙ covers_inside s.config.width s.config.height k a on
+    ∙ all (k % s.config.width) (k / s.config.width) is)) known
+  where
+    by_test : (test : ℕ → ℕ → Bool) → (is_inside s.config.width test k ≡ true → ⊥) → IsSeenBut s sheets test seen
+        → slice_index out k ≡ slice_index (frame_by s sheets) k
+    by_test test outside known =
+        grind (arith, nat_tests, false_from_ne_true _ outside, get_or_past, length-frame)
 
 -- nothing has changed since the look
-pub seen_now : (s : State) (sheets : List (List ℕ)) (a : Area) → IsSeenBut s sheets a (Some (frame_by s sheets))
+pub seen_now : (s : State) (sheets : List (List ℕ)) (a : ℕ → ℕ → Bool) → IsSeenBut s sheets a (Some (frame_by s sheets))
 seen_now s sheets a = grind (arith, nat_tests, length-frame)

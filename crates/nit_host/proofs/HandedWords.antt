@@ -1,14 +1,14 @@
 -- Words that a client hands in, by columns and rows, whole or a part, and how far a sheet keeps them.
-use Rattle.nit_host.proofs.Basics.{Call, Calls, Comes, Device, Does, HostModel, IsInPart, IsLoaded}
-use Rattle.nit_host.proofs.Basics.{IsWord, Rectangle, Refreshes, Session, SheetModel, Sight}
-use Rattle.nit_host.proofs.Basics.{after_act, after_handing, are_set, arith, before_row, both_set}
-use Rattle.nit_host.proofs.Basics.{called, column_and_row, cond_both, div-add-mod', div-mul-add}
-use Rattle.nit_host.proofs.Basics.{false_from_ne_true, filled_at, filled_long, filled_up}
-use Rattle.nit_host.proofs.Basics.{get_or_default, get_or_past, handed, handed_over, ints}
-use Rattle.nit_host.proofs.Basics.{is_accepted, is_between, is_handed, is_in_rows, length-append}
-use Rattle.nit_host.proofs.Basics.{length-set, length-zeros, low_bytes, mod-mul-add, mod_below}
-use Rattle.nit_host.proofs.Basics.{mul-add-lt, mul-le-mul_right, mul_comm, nat_tests, none_past}
-use Rattle.nit_host.proofs.Basics.{none_set, plain_sight, rectangle, refreshed, reply_to}
+use Rattle.nit_host.proofs.Basics.{Call, Calls, Client, Comes, Device, Does, HostModel, IsInPart}
+use Rattle.nit_host.proofs.Basics.{IsLoaded, IsWord, Rectangle, Refreshes, Session, SheetModel}
+use Rattle.nit_host.proofs.Basics.{Sight, after_act, after_handing, are_set, arith, before_row}
+use Rattle.nit_host.proofs.Basics.{both_set, called, column_and_row, cond_both, div-add-mod'}
+use Rattle.nit_host.proofs.Basics.{div-mul-add, false_from_ne_true, filled_at, filled_long}
+use Rattle.nit_host.proofs.Basics.{filled_up, get_or_default, get_or_past, handed, handed_over}
+use Rattle.nit_host.proofs.Basics.{ints, is_accepted, is_between, is_handed, is_in_rows}
+use Rattle.nit_host.proofs.Basics.{length-append, length-set, length-zeros, low_bytes, mod-mul-add}
+use Rattle.nit_host.proofs.Basics.{mod_below, mul-add-lt, mul-le-mul_right, mul_comm, nat_tests}
+use Rattle.nit_host.proofs.Basics.{none_past, none_set, plain_sight, rectangle, refreshed, reply_to}
 use Rattle.nit_host.proofs.Basics.{same_filled, same_set, seated, session, set_long, set_past}
 use Rattle.nit_host.proofs.Basics.{set_where, sheet_in, spans, take_at, told_words, unless_for}
 use Rattle.nit_host.proofs.Basics.{unseated, unserved_call, unserved_input, unserved_refresh}
@@ -60,7 +60,10 @@ same_sheets_for o served h same = kept_for o served h (λ m. m.sheets ≡ h.shee
 
 -- ---- a refresh
 
-module _ (h : HostModel) (seat : ℕ) (x y : ℤ) (w height : ℕ) (words : List ℕ) where
+module _ (h : HostModel) (client : Client) (x y : ℤ) (w height : ℕ) (words : List ℕ) where
+  abbrev seat : ℕ
+  seat = client.seat
+
   abbrev s : Session
   s = session h.state seat
 
@@ -70,16 +73,16 @@ module _ (h : HostModel) (seat : ℕ) (x y : ℤ) (w height : ℕ) (words : List
   abbrev asked : Call
   asked = call.Refresh x y w height
 
-  pub handed_word : (i j : ℕ) → unserved_refresh h seat words ≡ None → is_accepted (reply_to h seat asked) ≡ true
+  pub handed_word : (i j : ℕ) → unserved_refresh h client words ≡ None → is_accepted (reply_to h seat asked) ≡ true
       → s.bw * s.bh ≤ length (sheet_in h.sheets seat) → IsInPart s x y w height i j
-      → word_of (after_act h (Refreshes seat x y w height words)) seat (j * s.bw + i)
+      → word_of (after_act h (Refreshes client x y w height words)) seat (j * s.bw + i)
       ≡ slice_index words (j * s.bw + i) % 2 ^ 24
   handed_word i j none accepted fits is =
       grind (arith, nat_tests, get_or-set_same, get_or_past, word_at, mul-add-lt, in_part)
 
   pub other_word : (t n : ℕ) → (t ≡ seat → (i j : ℕ) → IsInPart s x y w height i j → n ≢ j * s.bw + i)
-      → word_of (after_act h (Refreshes seat x y w height words)) t n ≡ word_of h t n
-  other_word t n none = kept_for (unserved_refresh h seat words) (refreshed seat x y w height words h) h
+      → word_of (after_act h (Refreshes client x y w height words)) t n ≡ word_of h t n
+  other_word t n none = kept_for (unserved_refresh h client words) (refreshed seat x y w height words h) h
       (λ m. word_of m t n ≡ word_of h t n) (cond_both (is_accepted (reply_to h seat asked))
       (called seat asked (with_handed seat part words h)) (called seat asked h) (λ m. word_of m t n ≡ word_of h t n)
       (λ _. word_elsewhere h.sheets seat t n (handed s part words (sheet_in h.sheets seat))
@@ -88,13 +91,13 @@ module _ (h : HostModel) (seat : ℕ) (x y : ℤ) (w height : ℕ) (words : List
       (part_in s x y w height n is) (omega (arith, div-add-mod' n s.bw)))))) (λ _. refl)) refl
 
   pub refused_words : is_accepted (reply_to h seat asked) ≡ false
-      → (after_act h (Refreshes seat x y w height words)).sheets ≡ h.sheets
+      → (after_act h (Refreshes client x y w height words)).sheets ≡ h.sheets
   refused_words refused = grind (arith, nat_tests, same_sheets_for)
 
 -- ---- what is no refresh
 
-pub called_words : (h : HostModel) (seat : ℕ) (c : Call) → (after_act h (Calls seat c)).sheets ≡ h.sheets
-called_words h seat c = same_sheets_for (unserved_call h seat c) (called seat c h) h refl
+pub called_words : (h : HostModel) (client : Client) (c : Call) → (after_act h (Calls client c)).sheets ≡ h.sheets
+called_words h client c = same_sheets_for (unserved_call h client c) (called client.seat c h) h refl
 
 pub user_words : (h : HostModel) (dev : Device) → (after_act h (Does dev)).sheets ≡ h.sheets
 user_words h dev = same_sheets_for (unserved_input h dev) (Rattle.nit_host.specs.Host.told dev h) h refl

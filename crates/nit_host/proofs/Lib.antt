@@ -4,11 +4,14 @@ mod ActLemmas
 mod HandedWords
 mod Seatings
 mod Frames
+mod PartsKept
 mod CallChanges
 mod UserMoves
 mod ActMoves
 mod LockOuts
 mod Clicks
+mod Former
+mod Restacking
 mod RefusedClicks
 mod SeatsFound
 pub mod Basics

@@ -1,30 +1,27 @@
 -- A client is locked out only by a click that kills, while nothing is held.
-use Rattle.std.proofs.Common.{Bool, List, None, Option, Some, [], ap, false, if◌then◌else◌, inl, inr, not, true, ◌&&◌}
-use Rattle.std.proofs.Common.{get_or-set_other, length, refl, set, sym, ℕ, ◌++◌, ◌==◌, ◌∙◌, ◌∷◌, ◌≡◌, ◌⊎◌}
-use Rattle.nit_host.proofs.Basics.{Act, Call, Calls, Comes, Delivery, Device, Does, HostModel, Looks}
-use Rattle.nit_host.proofs.Basics.{Mode, Refreshes, Reply, Session, State, after_act, arith, called}
-use Rattle.nit_host.proofs.Basics.{cases_eq, cases_lt, cond_both, eqb-true, get_or-set_same, kills}
-use Rattle.nit_host.proofs.Basics.{nat_tests, refreshed, refusal, seated}
-use Rattle.nit_host.proofs.Basics.{session, set_past, told, unless_for, unseated, unserved_call}
-use Rattle.nit_host.proofs.Basics.{unserved_input, unserved_refresh}
+use Rattle.std.proofs.Common.{Bool, List, None, Option, Some, [], ap, false, if◌then◌else◌, inl}
+use Rattle.std.proofs.Common.{inr, not, true, ◌&&◌, get_or-set_other, length, refl, set, sym, ℕ}
+use Rattle.std.proofs.Common.{◌++◌, ◌==◌, ◌∙◌, ◌∷◌, ◌≡◌, ◌⊎◌}
+use Rattle.nit_host.proofs.Basics.{Act, Call, Calls, Comes, Delivery, Device, Does, Event}
+use Rattle.nit_host.proofs.Basics.{HostModel, IsKillBy, IsKillClick, IsLockedOut, Item, Looks, Mode}
+use Rattle.nit_host.proofs.Basics.{Puts, Refreshes, Reply, Session, State, Status, TakesClick}
+use Rattle.nit_host.proofs.Basics.{accepted, after_act, arith, by_life, by_refusal, called}
+use Rattle.nit_host.proofs.Basics.{cases_eq, cases_lt, cond_both, delivered, eqb-true}
+use Rattle.nit_host.proofs.Basics.{first_session, get_or-set_same, is_kill, kills, nat_tests, put}
+use Rattle.nit_host.proofs.Basics.{receive, refreshed, refusal, seated, session, session_in}
+use Rattle.nit_host.proofs.Basics.{set_past, taking, told, unless_for, unseated, unserved_call}
+use Rattle.nit_host.proofs.Basics.{unserved_input, unserved_refresh, unserved_restack}
 use Rattle.nit_host.proofs.ActLemmas.{same_call}
 use Rattle.nit_events.specs.Input
 use Rattle.nit_events.specs.declared.call.Call.TheVariants as call
 use Rattle.nit_events.specs.declared.device.Device.TheVariants as device
 use Rattle.nit_events.specs.declared.device.Mode.TheVariants as mode
-use Rattle.nit_events.specs.declared.event.Event.{Event}
 use Rattle.nit_events.specs.declared.event.Event.TheVariants as event
-use Rattle.nit_events.specs.declared.event.Item.{Item}
 use Rattle.nit_events.specs.declared.event.Item.TheVariants as item
-use Rattle.nit_events.specs.declared.event.Status.{Status}
 use Rattle.nit_events.specs.declared.event.Status.TheVariants as status
-use Rattle.nit_journal.specs.Deliveries.{is_kill}
 use Rattle.nit_journal.specs.Reach.{under_pointer}
-use Rattle.nit_journal.specs.Session.{accepted, by_life, by_refusal, first_session, receive, serve}
-use Rattle.nit_journal.specs.Session.{taking}
-use Rattle.nit_journal.specs.State.{delivered, route, session_in}
-use Rattle.nit_host.specs.Clicks.{IsLockedOut, TakesClick}
-use Rattle.nit_host.specs.Moves.{IsKillBy, IsKillClick}
+use Rattle.nit_journal.specs.Session.{serve}
+use Rattle.nit_journal.specs.State.{route}
 
 -- ---- what a device event delivers
 
@@ -226,14 +223,16 @@ by_call h act asker c seat is =
     (served_out (session h.state asker) c) is)
 
 pub locked_by_act : (h : HostModel) (act : Act) (seat : ℕ) → OutAfter h act (after_act h act) seat
-locked_by_act h (Calls asker c) seat =
-    unless (unserved_call h asker c) h (called asker c h) (Calls asker c) seat
-    (λ none. by_call h (Calls asker c) asker c seat)
-locked_by_act h (Refreshes asker x y w height words) seat =
-    let act = Refreshes asker x y w height words in
-    unless (unserved_refresh h asker words) h (refreshed asker x y w height words h) act seat
-    (λ none is. by_call h act asker (call.Refresh x y w height) seat
-    (rw (same_call h asker x y w height words) at is))
+locked_by_act h (Calls client c) seat =
+    unless (unserved_call h client c) h (called client.seat c h) (Calls client c) seat
+    (λ none. by_call h (Calls client c) client.seat c seat)
+locked_by_act h (Refreshes client x y w height words) seat =
+    let act = Refreshes client x y w height words in
+    unless (unserved_refresh h client words) h (refreshed client.seat x y w height words h) act seat
+    (λ none is. by_call h act client.seat (call.Refresh x y w height) seat
+    (rw (same_call h client.seat x y w height words) at is))
+locked_by_act h (Puts side client view) seat =
+    unless (unserved_restack h client view) h (put side client.seat view h) (Puts side client view) seat (λ none. inl)
 locked_by_act h (Does dev) seat =
     unless (unserved_input h dev) h (told dev h) (Does dev) seat
     (λ none. by_device h dev seat none (tells h.state dev))

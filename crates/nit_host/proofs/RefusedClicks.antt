@@ -1,17 +1,17 @@
 -- Which clicks are refused since another client is there than the last look showed.
 use Rattle.std.proofs.Common.{Bool, List, None, Option, Some, [], ap, arith, false, get_or}
-use Rattle.std.proofs.Common.{get_or-set_other, if◌then◌else◌, inl, inr, not, refl, sym, true, ℕ, ◌++◌}
-use Rattle.std.proofs.Common.{◌<◌, ◌==◌, ◌∙◌, ◌∷◌, ◌≡◌, ◌⊎◌}
-use Rattle.nit_host.proofs.Basics.{Act, Calls, Comes, Device, Does, HostModel, Looks, Refreshes}
-use Rattle.nit_host.proofs.Basics.{after_act, after_acts, and_parts, called, cases_eq, false≢true}
-use Rattle.nit_host.proofs.Basics.{get_or-replicate, is_accepted, nat_tests, refreshed, reply_to}
-use Rattle.nit_host.proofs.Basics.{seated, told, unless_for, unseated, unserved_call}
-use Rattle.nit_host.proofs.Basics.{unserved_input, unserved_refresh}
+use Rattle.std.proofs.Common.{get_or-set_other, if◌then◌else◌, inl, inr, not, refl, sym, true, ℕ}
+use Rattle.std.proofs.Common.{◌++◌, ◌<◌, ◌==◌, ◌∙◌, ◌∷◌, ◌≡◌, ◌⊎◌}
+use Rattle.nit_host.proofs.Basics.{Act, Calls, CameBy, CameSince, Comes, Device, Does, HasNoLook}
+use Rattle.nit_host.proofs.Basics.{HostModel, IsNoLook, Looks, Puts, Refreshes, Unseated, after_act}
+use Rattle.nit_host.proofs.Basics.{after_acts, after_look, and_parts, called, cases_eq, false≢true}
+use Rattle.nit_host.proofs.Basics.{get_or-replicate, holds_nothing, is_accepted, is_as_shown}
+use Rattle.nit_host.proofs.Basics.{is_button, is_device, is_moved, is_same_client, looked}
+use Rattle.nit_host.proofs.Basics.{most_sessions, nat_tests, nobody_came, owner_then, put}
+use Rattle.nit_host.proofs.Basics.{refreshed, reply_to, seated, told, under_pointer, unless_for}
+use Rattle.nit_host.proofs.Basics.{unseated, unserved_call, unserved_input, unserved_refresh}
+use Rattle.nit_host.proofs.Basics.{unserved_restack}
 use Rattle.nit_host.proofs.Clicks.{behind, shown_there}
-use Rattle.nit_host.specs.Below.{Unseated, is_button, most_sessions, under_pointer}
-use Rattle.nit_host.specs.Clicks.{CameSince, HasNoLook, IsNoLook, after_look, owner_then}
-use Rattle.nit_host.specs.Host.{is_device, looked}
-use Rattle.nit_host.specs.Shown.{holds_nothing, is_as_shown, is_moved, is_same_client, nobody_came}
 use Rattle.nit_events.specs.declared.call.Call.TheVariants as call
 use Rattle.nit_events.specs.declared.device.Device.TheVariants as device
 use Rattle.nit_host.specs.declared.refusal.Unserved.TheVariants as why
@@ -67,14 +67,6 @@ clicks_refused h dev is =
 
 -- ---- who has come
 
--- a client comes to the seat by one of these acts
-record CameBy (h : HostModel) (acts : List Act) (seat : ℕ) : Type 0 where
-  before : List Act
-  label : List ℕ
-  after : List Act
-  act : acts ≡ before ++ Comes seat label ∷ after
-  seated : unseated (after_acts h before) seat label ≡ None
-
 abbrev HasCome : HostModel → ℕ → Type 0
 HasCome h seat = get_or h.seen.came seat true ≡ true
 
@@ -100,10 +92,13 @@ comes_to h t seat label None o_is is =
 
 come_by : (h : HostModel) (act : Act) (rest : List Act) (seat : ℕ) → IsNoLook act → HasCome (after_act h act) seat
     → HasCome h seat ⊎ CameBy h (act ∷ rest) seat
-come_by h (Calls t c) rest seat quiet is = inl (marks_stay (unserved_call h t c) h (called t c h) seat refl is)
+come_by h (Calls t c) rest seat quiet is =
+    inl (marks_stay (unserved_call h t c) h (called t.seat c h) seat refl is)
 come_by h (Refreshes t x y w height words) rest seat quiet is =
-    inl (marks_stay (unserved_refresh h t words) h (refreshed t x y w height words h) seat
-    (refreshed_marks (is_accepted (reply_to h t (call.Refresh x y w height))) h _ _ refl refl) is)
+    inl (marks_stay (unserved_refresh h t words) h (refreshed t.seat x y w height words h) seat
+    (refreshed_marks (is_accepted (reply_to h t.seat (call.Refresh x y w height))) h _ _ refl refl) is)
+come_by h (Puts side t view) rest seat quiet is =
+    inl (marks_stay (unserved_restack h t view) h (put side t.seat view h) seat refl is)
 come_by h (Does dev) rest seat quiet is = inl (marks_stay (unserved_input h dev) h (told dev h) seat refl is)
 come_by h (Comes t label) rest seat quiet is =
     elim (comes_to h t seat label (unseated h t label) refl is) [

@@ -1,19 +1,22 @@
 -- What is left where a client was given a seat.
 use Rattle.std.proofs.Common.{List, None, Option, Some, ap, arith, false, get_or, length, map, refl}
-use Rattle.std.proofs.Common.{set, sym, true, ℕ, ◌<◌, ◌∙◌, ◌≡◌, ◌≢◌, ◌≤◌}
-use Rattle.nit_host.proofs.Basics.{AreLive, AreSheets, Configuration, DesktopModel, Entry}
-use Rattle.nit_host.proofs.Basics.{HostModel, IsHost, Member, Point, SheetModel, State, View}
-use Rattle.nit_host.proofs.Basics.{black_or_word, blank_sheet, buffer_size, eq-eqb, false≢true}
-use Rattle.nit_host.proofs.Basics.{get_or-map, is_label_taken, length-set, map-set, member}
-use Rattle.nit_host.proofs.Basics.{nat_tests, opened, owner_of, owns_none, pixel, relabelled}
-use Rattle.nit_host.proofs.Basics.{seated, session, session_owns, set-get_or, sheet_in}
-use Rattle.nit_host.proofs.Basics.{sheets_of, shown_index, size_at, source_at, source_of}
-use Rattle.nit_host.proofs.Basics.{source_under, table_size, unseated, word_from}
+use Rattle.std.proofs.Common.{set, sym, true, ℕ, ◌<◌, ◌∙◌, ◌≡◌, ◌≢◌, ◌≤◌, get_or-set_other, inl}
+use Rattle.std.proofs.Common.{inr, replicate, ◌+◌, ◌⊎◌}
+use Rattle.nit_host.proofs.Basics.{AreLive, AreSheets, AreTurns, Configuration, DesktopModel, Entry}
+use Rattle.nit_host.proofs.Basics.{HostModel, IsHost, LastLook, Member, Point, SheetModel, State}
+use Rattle.nit_host.proofs.Basics.{Status, Turns, View, black_or_word, blank_sheet, buffer_size}
+use Rattle.nit_host.proofs.Basics.{cases_eq, cases_lt, eq-eqb, false≢true, get_or-map}
+use Rattle.nit_host.proofs.Basics.{get_or-replicate, get_or-set_same, get_or_past, is_label_taken}
+use Rattle.nit_host.proofs.Basics.{is_live, length-set, map-set, member, most_comings}
+use Rattle.nit_host.proofs.Basics.{most_sessions, nat_tests, no_turns, opened, owner_of, owns_none}
+use Rattle.nit_host.proofs.Basics.{pixel, relabelled, seated, session, session_owns, set-get_or}
+use Rattle.nit_host.proofs.Basics.{set_past, sheet_in, sheets_of, shown_index, size_at, source_at}
+use Rattle.nit_host.proofs.Basics.{source_of, source_under, table_size, unseated, with_turn}
+use Rattle.nit_host.proofs.Basics.{word_from}
 use Rattle.nit_screen.specs.Terms.{is_session, option_map_or}
 use Rattle.nit_host.proofs.Beginnings.{blank_plain, no_client, not_met, passed}
 use Rattle.nit_host.proofs.Steps.{Rest, blank_again_of, host_model, own_room, same_sheets}
 use Rattle.nit_host.proofs.Steps.{sheets_with, words_elsewhere, words_with}
-use Rattle.nit_host.specs.Shown.{LastLook}
 use Rattle.nit_events.specs.declared.event.Status.TheVariants as status
 
 -- ---- what it means that nothing is against it
@@ -22,10 +25,41 @@ pub record MaySit (h : HostModel) (seat : ℕ) (label : List ℕ) : Type 0 where
   pub inside : seat < length h.state.sessions
   pub over : (session h.state seat).status ≢ status.Live
   pub free : is_label_taken h.state seat label ≡ false
+  pub more : h.turns.given < most_comings
 
 pub may_sit : {h h' : HostModel} {seat : ℕ} {label : List ℕ} → h ≡ h' → None ≡ unseated h' seat label
     → MaySit h seat label
 may_sit view is = grind (arith, nat_tests, passed, not_met)
+
+-- a session that is not served is a free seat
+pub not_live : (st : Status) → st ≢ status.Live → is_live st ≡ false
+not_live status.Live over = absurd (over refl)
+not_live other over = refl
+
+-- no turn is over the count of those that came, also where one more came
+pub turn_given : (turns : Turns) (seat : ℕ) → AreTurns turns → turns.given < most_comings → AreTurns (with_turn seat turns)
+turn_given turns seat are more = record {
+  given = omega (arith, more);
+  each = λ t. turn_at t (cases_eq t seat);
+}
+  where
+    turn_at : (t : ℕ) → (t ≡ seat) ⊎ (t ≢ seat) → get_or (set turns.of seat (turns.given + 1)) t 0 ≤ turns.given + 1
+    turn_at t (inl own) =
+        elim (cases_lt seat (length turns.of)) [
+          | inl inside ↦ rw (own, get_or-set_same turns.of seat (turns.given + 1) 0 inside) (omega arith)
+          | inr past ↦ rw (set_past turns.of seat (turns.given + 1) past) (omega (arith, are.each t))
+        ]
+    turn_at t (inr other) =
+        omega (arith, are.each t, get_or-set_other turns.of seat t (turns.given + 1) 0 other)
+
+pub turns_begin : {turns : Turns} → turns ≡ no_turns → AreTurns turns
+turns_begin is = rw is (record {
+  given = omega arith;
+  each = λ t. none_given t;
+})
+  where
+    none_given : (t : ℕ) → get_or (replicate most_sessions 0) t 0 ≤ 0
+    none_given t = grind (arith, nat_tests, get_or-replicate, get_or_past)
 
 -- ---- the configuration with another label
 
@@ -80,10 +114,10 @@ pub record Opens (seat : ℕ) (label : List ℕ) (sheets sheets' : List SheetMod
   pub raw : d'.raw ≡ d.raw
   pub rest : Rest sheets' sheets
 
-pub record WasSeated (seat : ℕ) (label : List ℕ) (h : HostModel) (seen : LastLook) (d d' : DesktopModel)
+pub record WasSeated (seat : ℕ) (label : List ℕ) (h : HostModel) (turns : Turns) (seen : LastLook) (d d' : DesktopModel)
     (sheets sheets' : List SheetModel) : Type 0 where
   pub host : IsHost d' sheets'
-  pub now : host_model d' sheets' None (record seen { came = set seen.came seat true }) ≡ seated seat label h
+  pub now : host_model d' sheets' (with_turn seat turns) None (record seen { came = set seen.came seat true }) ≡ seated seat label h
   pub words : (k : ℕ) → word_from (sheet_in (sheets_of sheets)) (source_at d.state k)
       ≡ word_from (sheet_in (sheets_of sheets')) (source_at (opened seat label d.state) k)
 
@@ -112,8 +146,8 @@ module _ {d d' : DesktopModel} {sheets sheets' : List SheetModel} {seat : ℕ} {
       word_stays d.state p (words_elsewhere sheets seat blank) (owns_none d.state seat over live p)
       ∙ ap (word_from (sheet_in (sheets_of now_all))) (sym (keep d.state seat label p live over))
 
-  pub was_seated : {kept : Option Entry} {seen : LastLook} {h : HostModel} → host_model d sheets kept seen ≡ h
-      → WasSeated seat label h seen d d' sheets sheets'
+  pub was_seated : {kept : Option Entry} {turns : Turns} {seen : LastLook} {h : HostModel} → host_model d sheets turns kept seen ≡ h
+      → WasSeated seat label h turns seen d d' sheets sheets'
   was_seated view = rw (← view) (record {
     host = record {
       sheets = rw (opens.state, same) (sheets_relabelled d.state.config seat label all);

@@ -1,19 +1,18 @@
 -- The seat for a label: a client of this label may sit there, and where there is none it may sit nowhere.
-use Rattle.std.proofs.Common.{Bool, IfSome, List, None, Option, Some, ap, arith, false, find}
-use Rattle.std.proofs.Common.{if◌then◌else◌, inl, inr, length, not, refl, slice_get, sym, true, ℕ}
-use Rattle.std.proofs.Common.{◌<◌, ◌∙◌, ◌≡◌, ◌≢◌}
-use Rattle.std.proofs.lemmas.List.Sums.{fails_before_first, passes_at_first}
-use Rattle.nit_host.proofs.Basics.{HostModel, IsConfiguration, IsFreeLabel, State, bytes_eq-Decides}
-use Rattle.nit_host.proofs.Basics.{cases_lt, false≢true, find_at, has_label, is_taken}
-use Rattle.nit_host.proofs.Basics.{length-range_with_len, member, nat_tests, range_with_len}
-use Rattle.nit_host.proofs.Basics.{seats_of, slice_get-get_or, slice_get_within, unseated}
+use Rattle.std.proofs.Common.{Bool, Err, IfErr, IfOk, List, None, Ok, Option, Result, Some, ap}
+use Rattle.std.proofs.Common.{arith, false, find, nat_lt, if◌then◌else◌, inl, inr, length, not}
+use Rattle.std.proofs.Common.{refl, slice_get, sym, true, ℕ, ◌<◌, ◌∙◌, ◌≡◌, ◌≢◌}
+use Rattle.nit_host.proofs.Basics.{HostModel, IsConfiguration, IsFreeLabel, State, TakesIn}
+use Rattle.nit_host.proofs.Basics.{Unseated, and_parts, bytes_eq-Decides, cases_lt}
+use Rattle.nit_host.proofs.Basics.{fails_before_first, false≢true, find_at, free_seat, has_label}
+use Rattle.nit_host.proofs.Basics.{is_free_in, is_taken, labelled_or_first, layer}
+use Rattle.nit_host.proofs.Basics.{length-range_with_len, member, most_comings, nat_tests}
+use Rattle.nit_host.proofs.Basics.{passes_at_first, position_or_len, range_with_len, same_Some}
+use Rattle.nit_host.proofs.Basics.{seat_for, seats_of, session, slice_get-get_or, slice_get_within}
+use Rattle.nit_host.proofs.Basics.{unseated}
 use Rattle.nit_host.proofs.Beginnings.{free_not_taken, free_of, in_order, label_decides, no_client}
-use Rattle.nit_host.specs.Seats.{free_or_first, is_live, seat_for}
-use Rattle.nit_host.specs.Below.{Status, session}
-use Rattle.nit_events.specs.declared.event.Status.TheVariants as status
-use Rattle.std.specs.List.{position_or_len}
-use Rattle.std.proofs.lemmas.Option.{same_Some}
-use Rattle.nit_host.proofs.Seatings.{MaySit, may_sit}
+use Rattle.nit_host.specs.declared.refusal.Unseated.TheVariants as why
+use Rattle.nit_host.proofs.Seatings.{MaySit, may_sit, not_live}
 
 -- ---- the first of so many numbers
 
@@ -55,8 +54,9 @@ module _ (h : HostModel) (label : List ℕ) (configured : IsConfiguration h.stat
 
   -- where nothing is against a seat
   sits : (seat : ℕ) → seat < length s.sessions → is_taken s seat ≡ false → IsFreeLabel s.config seat label
-      → unseated h seat label ≡ None
-  sits seat inside free own = label_decides h seat label false inside free (free_not_taken s seat label long own)
+      → nat_lt h.turns.given most_comings ≡ true → unseated h seat label ≡ None
+  sits seat inside free own more =
+      label_decides h seat label false inside free (free_not_taken s seat label long own) ∙ rw more refl
 
   differ : (t seat : ℕ) → t < length s.config.clients → seat < length s.config.clients → t ≢ seat
       → (member s.config t).label ≢ (member s.config seat).label
@@ -66,53 +66,94 @@ module _ (h : HostModel) (label : List ℕ) (configured : IsConfiguration h.stat
         | inr after ↦ configured.labels seat t no_client (omega (arith, after, other)) there (sym same)
       ]
 
-  -- the seat that is answered is the one with the label, and free
-  taken_or : (b : Bool) (t seat : ℕ) → (if b then None else Some t) ≡ Some seat → (b ≡ false) × (t ≡ seat)
-  taken_or true t seat is = cc
-  taken_or false t seat is = (refl, same_Some t seat is)
+  -- clients may still come to the seat that is answered
+  comes_if : (b : Bool) (t seat : ℕ) → (if b then Ok t else Err why.WornOut) ≡ Ok seat → (b ≡ true) × (t ≡ seat)
+  comes_if true t seat is = (refl, cc)
+  comes_if false t seat is = cc
 
-  seat_takes : (seat : ℕ) → seat_for s label ≡ Some seat → unseated h seat label ≡ None
-  seat_takes seat = by_found (find (has_label s label) (seats_of s)) refl
+  free_if : (l seat : ℕ) → is_free_in s l seat ≡ true → (is_taken s seat ≡ false) × (layer s.config seat ≡ l)
+  free_if l seat is = grind (arith, nat_tests, and_parts)
+
+  takes_labelled : (l t seat : ℕ) (free more : Bool) → is_free_in s l t ≡ free → nat_lt h.turns.given most_comings ≡ more
+      → (if free then (if more then Ok t else Err why.WornOut) else Err why.LabelTaken) ≡ Ok seat
+      → find (has_label s label) (seats_of s) ≡ Some t → TakesIn h label l seat
+  takes_labelled l t seat false more free_is more_is is found = cc
+  takes_labelled l t seat true more free_is more_is is found =
+      let there = first_found (has_label s label) (length s.sessions) t found in
+      let comes = comes_if more t seat is in
+      let free = free_if l t free_is in
+      rw (← comes.1) (record {
+        layer = free.1;
+        takes = sits t there.0 free.0 (λ u inside other same.
+            differ u t inside (omega (arith, there.0, long)) other (same ∙ sym (has_it t there.1))) (more_is ∙ comes.0);
+      })
+
+  takes_first : (l seat : ℕ) (o : Option ℕ) (more : Bool) → find (is_free_in s l) (seats_of s) ≡ o
+      → nat_lt h.turns.given most_comings ≡ more → free_seat h o ≡ Ok seat
+      → find (has_label s label) (seats_of s) ≡ None → TakesIn h label l seat
+  takes_first l seat None more o_is more_is is found = cc
+  takes_first l seat (Some t) more o_is more_is is found =
+      let there = first_found (is_free_in s l) (length s.sessions) t o_is in
+      let comes = comes_if (nat_lt h.turns.given most_comings) t seat is in
+      let free = free_if l t there.1 in
+      rw (← comes.1) (record {
+        layer = free.1;
+        takes = sits t there.0 free.0 (λ u inside other same.
+            false≢true (sym (none_found (has_label s label) (length s.sessions) found u (omega (arith, inside, long)))
+            ∙ (bytes_eq-Decides (member s.config u).label label).1 same)) comes.0;
+      })
+
+  seat_takes : (l seat : ℕ) → seat_for h label l ≡ Ok seat → TakesIn h label l seat
+  seat_takes l seat = by_found (find (has_label s label) (seats_of s)) refl
     where
-      by_found : (o : Option ℕ) → find (has_label s label) (seats_of s) ≡ o → free_or_first s o ≡ Some seat
-          → unseated h seat label ≡ None
-      by_found (Some t) found is =
-          let there = first_found (has_label s label) (length s.sessions) t found in
-          let free = taken_or (is_taken s t) t seat is in
-          rw (← free.1) (sits t there.0 free.0 (λ u inside other same.
-          differ u t inside (omega (arith, there.0, long)) other (same ∙ sym (has_it t there.1))))
-      by_found None found is =
-          let there = first_found (λ u. not (is_taken s u)) (length s.sessions) seat is in
-          sits seat there.0 (grind (arith, nat_tests)) (λ u inside other same.
-          false≢true (sym (none_found (has_label s label) (length s.sessions) found u (omega (arith, inside, long)))
-          ∙ (bytes_eq-Decides (member s.config u).label label).1 same))
+      by_found : (o : Option ℕ) → find (has_label s label) (seats_of s) ≡ o → labelled_or_first h l o ≡ Ok seat
+          → TakesIn h label l seat
+      by_found (Some t) found is = takes_labelled l t seat _ _ refl refl is found
+      by_found None found is = takes_first l seat _ _ refl refl is found
 
-  pub found_takes : (o : Option ℕ) → o ≡ seat_for s label → IfSome o (λ seat. unseated h seat label ≡ None)
-  found_takes None is = tt
-  found_takes (Some seat) is = seat_takes seat (sym is)
+  pub found_takes : (l : ℕ) (r : Result ℕ Unseated) → r ≡ seat_for h label l → IfOk r (λ seat. TakesIn h label l seat)
+  found_takes l (Err e) is = tt
+  found_takes l (Ok seat) is = seat_takes l seat (sym is)
 
-  pub no_seat_takes : seat_for s label ≡ None → (seat : ℕ) → unseated h seat label ≢ None
-  no_seat_takes none seat is = by_found (find (has_label s label) (seats_of s)) refl none
+  no_seat_takes : (l : ℕ) (e : Unseated) → seat_for h label l ≡ Err e → (seat : ℕ) → TakesIn h label l seat → ⊥
+  no_seat_takes l e none seat takes = by_found (find (has_label s label) (seats_of s)) refl none
     where
-      live_if : (st : Status) → is_live st ≡ true → st ≡ status.Live
-      live_if status.Live is = refl
-      live_if status.Closed is = cc
-      live_if status.Killed is = cc
-
-      not_false : (b : Bool) → not b ≡ false → b ≡ true
-      not_false true is = refl
-      not_false false is = cc
-
-      taken_if : (b : Bool) (t : ℕ) → (if b then None else Some t) ≡ None → b ≡ true
-      taken_if true t is = refl
-      taken_if false t is = cc
-
       may : MaySit h seat label
-      may = may_sit refl (sym is)
+      may = may_sit refl (sym takes.takes)
 
-      by_found : (o : Option ℕ) → find (has_label s label) (seats_of s) ≡ o → free_or_first s o ≡ None → ⊥
-      by_found (Some t) found gone =
+      over : is_taken s seat ≡ false
+      over = not_live (session s seat).status may.over
+
+      free : is_free_in s l seat ≡ true
+      free = grind (arith, nat_tests)
+
+      more : nat_lt h.turns.given most_comings ≡ true
+      more = grind (arith, nat_tests)
+
+      by_label : (t : ℕ) (b c : Bool) → is_free_in s l t ≡ b → nat_lt h.turns.given most_comings ≡ c
+          → (if b then (if c then Ok t else Err why.WornOut) else Err why.LabelTaken) ≡ Err e
+          → find (has_label s label) (seats_of s) ≡ Some t → ⊥
+      by_label t true true b_is c_is gone found = cc
+      by_label t true false b_is c_is gone found = false≢true (sym c_is ∙ more)
+      by_label t false c b_is c_is gone found =
           let there = first_found (has_label s label) (length s.sessions) t found in
-          free_of s seat label long may.free t (omega (arith, there.0, long)) (λ own. may.over (live_if (session s seat).status (rw own at (taken_if (is_taken s t) t gone)))) (has_it t there.1)
-      by_found None found gone =
-          may.over (live_if (session s seat).status (not_false (is_taken s seat) (none_found (λ u. not (is_taken s u)) (length s.sessions) gone seat may.inside)))
+          free_of s seat label long may.free t (omega (arith, there.0, long))
+          (λ own. false≢true (sym b_is ∙ ap (is_free_in s l) own ∙ free)) (has_it t there.1)
+
+      by_first : (o : Option ℕ) (c : Bool) → find (is_free_in s l) (seats_of s) ≡ o
+          → nat_lt h.turns.given most_comings ≡ c → free_seat h o ≡ Err e → ⊥
+      by_first None c o_is c_is gone =
+          false≢true (sym (none_found (is_free_in s l) (length s.sessions) o_is seat may.inside) ∙ free)
+      by_first (Some t) c o_is c_is gone =
+          let wrong : (if true then Ok t else Err why.WornOut) ≡ Err e =
+          (λ i. if sym more i then Ok t else Err why.WornOut) ∙ gone in
+          cc
+
+      by_found : (o : Option ℕ) → find (has_label s label) (seats_of s) ≡ o → labelled_or_first h l o ≡ Err e → ⊥
+      by_found (Some t) found gone = by_label t _ _ refl refl gone found
+      by_found None found gone = by_first _ _ refl refl gone
+
+  pub none_takes : (l : ℕ) (r : Result ℕ Unseated) → r ≡ seat_for h label l
+      → IfErr r (λ e. (seat : ℕ) → TakesIn h label l seat → ⊥)
+  none_takes l (Ok seat) is = tt
+  none_takes l (Err e) is = no_seat_takes l e (sym is)

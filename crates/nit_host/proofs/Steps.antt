@@ -1,15 +1,14 @@
 -- What a step leaves of the sheets of a host, and of what its screen shows.
 use Rattle.nit_host.proofs.Basics.{Agrees, AreGlasses, AreSheets, Configuration, DesktopModel}
 use Rattle.nit_host.proofs.Basics.{Entry, HostModel, IsFresh, IsHost, IsLoaded, IsPlainOf}
-use Rattle.nit_host.proofs.Basics.{IsServedEntry, IsWordOfSource, Painted, PixelSource, Point}
-use Rattle.nit_host.proofs.Basics.{SheetModel, Sight, State, Word, after, arith, behind}
-use Rattle.nit_host.proofs.Basics.{blank_sheet, cases_Bool, dirty, frame, get_or-map}
+use Rattle.nit_host.proofs.Basics.{IsServedEntry, IsWordOfSource, LastLook, Painted, PixelSource}
+use Rattle.nit_host.proofs.Basics.{Point, SheetModel, Sight, State, Turns, Word, after, arith}
+use Rattle.nit_host.proofs.Basics.{behind, blank_sheet, cases_Bool, dirty, frame, get_or-map}
 use Rattle.nit_host.proofs.Basics.{get_or-map-range_with_len, get_or_default, get_or_past, glass_in}
 use Rattle.nit_host.proofs.Basics.{length-set, length-zeros, map-id, map-set, nat_tests, no_sight}
 use Rattle.nit_host.proofs.Basics.{pixel, pixel_count, plain_sight, same_frame, scenery_of, seen}
 use Rattle.nit_host.proofs.Basics.{set-get_or, sheet_at, sheet_in, sheets_of, size_at, source_at}
 use Rattle.nit_host.proofs.Basics.{source_of, told_words, word_from, words_of}
-use Rattle.nit_host.specs.Shown.{LastLook}
 use Rattle.std.proofs.Common.{List, Option, Some, [], ap, false, get_or, get_or-set_other}
 use Rattle.std.proofs.Common.{get_or-set_same, inl, inr, length, map, refl, set, slice_index, sym}
 use Rattle.std.proofs.Common.{ℕ, ◌<◌, ◌∙◌, ◌≡◌, ◌≢◌, ◌≤◌}
@@ -155,9 +154,16 @@ Words s e sheets sheets' =
     → word_from (sheet_in sheets) (source_at (after s e) k) ≡ word_from (sheet_in sheets') (source_at (after s e) k)
 
 -- the host of a desktop and sheets, with this last entry, that was last seen so
-abbrev pub host_model : DesktopModel → List SheetModel → Option Entry → LastLook → HostModel
-host_model d sheets last seen =
-    record { state = d.state; sheets = sheets_of sheets; left = d.left; last = last; seen = seen }
+abbrev pub host_model : DesktopModel → List SheetModel → Turns → Option Entry → LastLook → HostModel
+host_model d sheets turns last seen =
+    record {
+      state = d.state;
+      sheets = sheets_of sheets;
+      turns = turns;
+      left = d.left;
+      last = last;
+      seen = seen;
+    }
 
 -- an entry was served where the sheets are these, and the pixels that it makes dirty were loaded
 pub record WasServed (e : Entry) (d d' : DesktopModel) (sheets sheets' : List SheetModel) : Type 0 where
@@ -192,6 +198,6 @@ module _ {e : Entry} {d d' : DesktopModel} {sheets sheets' : List SheetModel} (n
                   (sym (at ∙ keep d.state 0 e (pixel d.state.config.width k) agrees is)) ∙ stays k is
             ]
 
-    pub behind_now : (kept : Option Entry) (seen : LastLook)
-        → host_model d' sheets' (Some e) seen ≡ behind e (host_model d sheets kept seen)
-    behind_now kept seen = rw (now.served.state, now.served.left, same_sheets now.rest) refl
+    pub behind_now : (turns : Turns) (kept : Option Entry) (seen : LastLook)
+        → host_model d' sheets' turns (Some e) seen ≡ behind e (host_model d sheets turns kept seen)
+    behind_now turns kept seen = rw (now.served.state, now.served.left, same_sheets now.rest) refl

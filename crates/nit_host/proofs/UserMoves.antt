@@ -2,17 +2,15 @@
 use Rattle.std.proofs.Common.{Bool, IfSome, List, None, Option, Some, [], ap, arith, eq-eqb}
 use Rattle.std.proofs.Common.{eqb-true, false, filter, inl, inr, not, refl, sym, true, ℕ, ◌&&◌}
 use Rattle.std.proofs.Common.{◌++◌, ◌==◌, ◌||◌, ◌∷◌, ◌≡◌, ◌≢◌, ◌⊎◌}
-use Rattle.nit_host.proofs.Basics.{Configuration, Device, Does, Mode, State, and_parts, cond_both}
-use Rattle.nit_host.proofs.Basics.{list_any, member, nat_tests}
+use Rattle.nit_host.proofs.Basics.{Configuration, Device, Does, Event, IsClickBy, IsTakenByClicks}
+use Rattle.nit_host.proofs.Basics.{Mode, State, SwitchesMode, TakesFocus, and_parts, clicks_on}
+use Rattle.nit_host.proofs.Basics.{cond_both, is_held_after, list_any, member, nat_tests}
 use Rattle.nit_events.specs.declared.device.Device.TheVariants as device
 use Rattle.nit_events.specs.declared.device.Mode.TheVariants as mode
-use Rattle.nit_events.specs.declared.event.Event.{Event}
 use Rattle.nit_events.specs.declared.event.Event.TheVariants as event
 use Rattle.nit_events.specs.Input
 use Rattle.nit_journal.specs.Reach.{is_mode_key, under_pointer}
-use Rattle.nit_journal.specs.State.{clicks_on, route}
-use Rattle.nit_host.specs.Moves.{IsClickBy, IsTakenByClicks, SwitchesMode, TakesFocus}
-use Rattle.nit_host.specs.Moves.{is_held_after}
+use Rattle.nit_journal.specs.State.{route}
 
 -- ---- what a device event leaves of the input
 

@@ -1,31 +1,16 @@
--- A part of the screen, as columns and rows.
-use Rattle.std.specs.Prelude.{◌≡◌, ◌≤◌, ◌<◌, ◌-◌, ◌&&◌, ◌%◌, ◌/◌, ℕ, Bool, List, false, pos, ℤ}
-use Rattle.std.specs.Prelude.{negsuc, slice_index, true, ◌≤ℤ◌}
-use Rattle.nit_host.specs.Below.{Area, Rectangle, is_between, rectangle}
+-- Parts of the screen, as columns and rows.
+use Rattle.std.specs.Prelude.{◌≡◌, ◌<◌, ◌%◌, ◌/◌, ℕ, Bool, List, All, false, pos, ℤ, negsuc}
+use Rattle.std.specs.Prelude.{slice_index, true, ◌≤ℤ◌}
+use Rattle.nit_host.specs.Below.{Area, IsAreaOf, has_any, has_place}
 
--- the pixel of this column and row lies in the area
-abbrev pub has_place : Area → ℕ → ℕ → Bool
-has_place a x y = is_between a.left a.right x && is_between a.top a.bottom y
+-- the test holds of the pixel of a number, by its column and row on a screen of this width
+abbrev pub is_inside : ℕ → (ℕ → ℕ → Bool) → ℕ → Bool
+is_inside width test k = test (k % width) (k / width)
 
--- the pixel of a number does, on a screen of this width
-abbrev pub is_inside : ℕ → Area → ℕ → Bool
-is_inside width a k = has_place a (k % width) (k / width)
-
--- it lies on the screen of this width and height
-pub record IsAreaOf (width height : ℕ) (a : Area) : Type 0 where
-  pub across : a.left ≤ a.right
-  pub down : a.top ≤ a.bottom
-  pub wide : a.right ≤ width
-  pub high : a.bottom ≤ height
-
--- the rectangle of an area's pixels
-abbrev pub rectangle_over : Area → Rectangle
-rectangle_over a = rectangle (pos a.left) (pos a.top) (a.right - a.left) (a.bottom - a.top)
-
--- of so many pixels those outside of the area are the same in both pictures
-abbrev pub StaysOutside : ℕ → ℕ → Area → List ℕ → List ℕ → Type 0
-StaysOutside width count a before after =
-    (k : ℕ) → k < count → is_inside width a k ≡ false
+-- of so many pixels those of which the test does not hold are the same in both pictures
+abbrev pub StaysOutside : ℕ → ℕ → (ℕ → ℕ → Bool) → List ℕ → List ℕ → Type 0
+StaysOutside width count test before after =
+    (k : ℕ) → k < count → is_inside width test k ≡ false
     → slice_index before k ≡ slice_index after k
 
 -- a column or row that is not further off than three places together
@@ -37,18 +22,12 @@ pub record HoldsWhere (width height : ℕ) (test : ℕ → ℕ → Bool) (a : Ar
   pub area : IsAreaOf width height a
   pub there : (x y : ℕ) → x < width → y < height → test x y ≡ true → has_place a x y ≡ true
 
--- an area with all pixels of two others, which lies on each screen on which they lie
-pub record HoldsBoth (one other both : Area) : Type 0 where
-  pub area : (width height : ℕ) → IsAreaOf width height one → IsAreaOf width height other
-      → IsAreaOf width height both
-  pub own : (x y : ℕ) → has_place one x y ≡ true → has_place both x y ≡ true
-  pub others : (x y : ℕ) → has_place other x y ≡ true → has_place both x y ≡ true
-
--- an area with all pixels of another one, and with those of two more unless nothing changed
-pub record HoldsUnless (is_same : Bool) (one before after all : Area) : Type 0 where
-  pub area : (width height : ℕ) → IsAreaOf width height one → IsAreaOf width height before
-      → IsAreaOf width height after → IsAreaOf width height all
-  pub same : is_same ≡ true → all ≡ one
-  pub own : (x y : ℕ) → has_place one x y ≡ true → has_place all x y ≡ true
-  pub old : is_same ≡ false → (x y : ℕ) → has_place before x y ≡ true → has_place all x y ≡ true
-  pub new : is_same ≡ false → (x y : ℕ) → has_place after x y ≡ true → has_place all x y ≡ true
+-- areas with all pixels of the old ones, and with those of two more unless nothing changed
+pub record HoldsUnless (is_same : Bool) (old : List Area) (before after : Area)
+    (new : List Area) : Type 0 where
+  pub screen : (width height : ℕ) → All (IsAreaOf width height) old
+      → IsAreaOf width height before → IsAreaOf width height after
+      → All (IsAreaOf width height) new
+  pub own : (x y : ℕ) → has_any old x y ≡ true → has_any new x y ≡ true
+  pub first : is_same ≡ false → (x y : ℕ) → has_place before x y ≡ true → has_any new x y ≡ true
+  pub second : is_same ≡ false → (x y : ℕ) → has_place after x y ≡ true → has_any new x y ≡ true

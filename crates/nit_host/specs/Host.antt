@@ -1,25 +1,29 @@
 -- A host as a value, and what each of its calls makes of it.
-use Rattle.std.specs.Prelude.{◌≡◌, ◌⊎◌, ℕ, ◌-◌, ◌*◌, ◌^◌, ℤ, Bool, true, ◌&&◌, ◌==◌, nat_le, nat_lt}
-use Rattle.std.specs.Prelude.{negsuc, int_le, not, List, [], ◌∷◌, length, map, slice_index_or}
-use Rattle.std.specs.Prelude.{slice_set, Option, Some, None, if◌then◌else◌}
-use Rattle.nit_host.specs.Below.{Call, Configuration, Device, Entry, Rectangle, Reply, Routed}
-use Rattle.nit_host.specs.Below.{Session, State, Unserved, after, asks_view, covers, first_state}
-use Rattle.nit_host.specs.Below.{frame, is_accepted, journal_text, most_code, pixel, rectangle}
-use Rattle.nit_host.specs.Below.{route, routed_as, scenery_of, serve, session, set_where, source_at}
-use Rattle.nit_host.specs.Below.{table_size, vacant_state, word_from, words_of, zeros}
+use Rattle.std.specs.Prelude.{◌≡◌, ◌⊎◌, ℕ, ◌-◌, ◌≤◌, ◌*◌, ◌^◌, ℤ, Bool, true, false, ◌&&◌, ◌==◌}
+use Rattle.std.specs.Prelude.{nat_le, nat_lt, negsuc, int_le, not, List, [], ◌∷◌, length, map}
+use Rattle.std.specs.Prelude.{slice_index_or, replicate, slice_set, Option, Some, None}
+use Rattle.std.specs.Prelude.{if◌then◌else◌}
+use Rattle.nit_host.specs.Below.{Call, Client, Configuration, Device, Entry, Rectangle, Reply}
+use Rattle.nit_host.specs.Below.{Routed, Session, Side, State, Status, Turns, Unserved, after}
+use Rattle.nit_host.specs.Below.{asks_view, covers, first_state, frame, has_view, is_accepted}
+use Rattle.nit_host.specs.Below.{journal_text, most_code, most_sessions, pixel, rectangle}
+use Rattle.nit_host.specs.Below.{restacked, route, routed_as, scenery_of, serve, session, set_where}
+use Rattle.nit_host.specs.Below.{source_at, table_size, vacant_state, word_from, words_of, zeros}
 use Rattle.nit_events.specs.declared.call.Call.TheVariants as call
 use Rattle.nit_events.specs.declared.device.Device.TheVariants as device
 use Rattle.nit_events.specs.declared.entry.Entry.TheVariants as entry
+use Rattle.nit_events.specs.declared.event.Status.TheVariants as status
 use Rattle.nit_host.specs.Sheet.{low_bytes}
-use Rattle.nit_host.specs.Shown.{LastLook, is_moved, no_look, nobody_came, shown_views}
+use Rattle.nit_host.specs.Shown.{LastLook, is_moved, no_look, nobody_came}
 use Rattle.nit_host.specs.declared.refusal.Unserved.TheVariants as unserved
 
--- the state; the words that each seat's client handed in, by their places in its buffer; how many
--- more entries are served; the last entry, where the last step was one; and what is remembered of
+-- the state; the words that each seat's client handed in, by their places in its buffer; which
+-- client each seat has; how many more entries are served; the last entry, where the last step was one; and what is remembered of
 -- the last look
 pub record HostModel : Type 0 where
   pub state : State
   pub sheets : List (List ℕ)
+  pub turns : Turns
   pub left : ℕ
   pub last : Option Entry
   pub seen : LastLook
@@ -49,12 +53,26 @@ frame_shown h = frame_by h.state h.sheets
 abbrev pub blank_sheets : Configuration → List (List ℕ)
 blank_sheets config = map (λ m. zeros (table_size m.donation)) config.clients
 
+-- so many clients may come to a host
+abbrev pub most_comings : ℕ
+most_comings = 2 ^ 48 - 1
+
+-- no turn is over how many have come, and these are not too many
+pub record AreTurns (turns : Turns) : Type 0 where
+  pub given : turns.given ≤ most_comings
+  pub each : (seat : ℕ) → slice_index_or turns.of seat 0 ≤ turns.given
+
+-- no client has come
+abbrev pub no_turns : Turns
+no_turns = record { of = replicate most_sessions 0; given = 0 }
+
 -- a host in this state that has served nothing
 abbrev pub first_host : State → Configuration → HostModel
 first_host s config =
     record {
       state = s;
       sheets = blank_sheets config;
+      turns = no_turns;
       left = 2 ^ 62;
       last = None;
       seen = no_look;
@@ -77,6 +95,20 @@ abbrev pub last_text : Option Entry → List ℕ
 last_text None = []
 last_text (Some e) = journal_text (e ∷ [])
 
+-- ---- clients
+
+-- the turn of the client that sits on a seat, or sat there last
+abbrev pub turn_of : HostModel → ℕ → ℕ
+turn_of h seat = slice_index_or h.turns.of seat 0
+
+-- that client
+abbrev pub client_of : HostModel → ℕ → Client
+client_of h seat = record { seat = seat; turn = turn_of h seat }
+
+-- the client is the one of its seat
+abbrev pub is_client : HostModel → Client → Bool
+is_client h client = turn_of h client.seat == client.turn
+
 -- ---- calls of the clients
 
 -- the reply to a call of a seat's client
@@ -91,11 +123,12 @@ worn_out h = if h.left == 0 then Some unserved.WornOut else None
 abbrev pub lacks_handles : Session → Call → Bool
 lacks_handles s call = asks_view call && not (nat_lt s.next (2 ^ 32 - 2))
 
--- why a call of a seat's client is not served, if it is not
-abbrev pub unserved_call : HostModel → ℕ → Call → Option Unserved
-unserved_call h seat call =
-    if not (nat_lt seat (length h.state.sessions)) then Some unserved.NoSeat
-    else if lacks_handles (session h.state seat) call then Some unserved.HandlesUsedUp
+-- why a call of a client is not served, if it is not
+abbrev pub unserved_call : HostModel → Client → Call → Option Unserved
+unserved_call h client call =
+    if not (nat_lt client.seat (length h.state.sessions)) then Some unserved.NoSeat
+    else if not (is_client h client) then Some unserved.OtherClient
+    else if lacks_handles (session h.state client.seat) call then Some unserved.HandlesUsedUp
     else worn_out h
 
 -- the host behind a call of a seat's client
@@ -123,10 +156,11 @@ with_handed seat part words h =
     }
 
 -- why a refresh is not served, if it is not: there have to be as many words as the buffer has
-abbrev pub unserved_refresh : HostModel → ℕ → List ℕ → Option Unserved
-unserved_refresh h seat words =
-    let s = session h.state seat in
-    if not (nat_lt seat (length h.state.sessions)) then Some unserved.NoSeat
+abbrev pub unserved_refresh : HostModel → Client → List ℕ → Option Unserved
+unserved_refresh h client words =
+    let s = session h.state client.seat in
+    if not (nat_lt client.seat (length h.state.sessions)) then Some unserved.NoSeat
+    else if not (is_client h client) then Some unserved.OtherClient
     else if nat_lt (length words) (s.bw * s.bh) then Some unserved.ShortWords
     else worn_out h
 
@@ -138,6 +172,30 @@ refreshed seat x y w h words host =
     if is_accepted (reply_to host seat refresh)
     then called seat refresh (with_handed seat (rectangle x y w h) words host)
     else called seat refresh host
+
+-- ---- restacking
+
+abbrev pub is_live : Status → Bool
+is_live status.Live = true
+is_live other = false
+
+-- the session is served, and has a view of this handle
+abbrev pub stands : Session → ℕ → Bool
+stands s view = is_live s.status && has_view s view
+
+-- why the user does not put a client's view elsewhere, if it does not
+abbrev pub unserved_restack : HostModel → Client → ℕ → Option Unserved
+unserved_restack h client view =
+    if not (nat_lt client.seat (length h.state.sessions)) then Some unserved.NoSeat
+    else if not (is_client h client) then Some unserved.OtherClient
+    else if not (stands (session h.state client.seat) view) then Some unserved.NoView
+    else worn_out h
+
+-- the host after the user put a seat's view in front of all of its layer, or behind them: its
+-- client is told nothing
+abbrev pub put : Side → ℕ → ℕ → HostModel → HostModel
+put side seat view h =
+    record h { state = restacked side seat view h.state; left = h.left - 1; last = None }
 
 -- ---- what the user does
 
@@ -181,7 +239,7 @@ looked h =
       seen =
           record {
             frame = Some (frame_shown h);
-            views = shown_views h.state.stack;
+            views = h.state.stack;
             came = nobody_came;
           };
     }

@@ -9,7 +9,10 @@ pub mod Fresh
 pub mod Acts
 pub mod Moves
 pub mod Clicks
+pub mod Former
+pub mod Stacking
 pub mod Area
+pub mod Damage
 pub mod Touch
 pub mod Looked
 pub mod Viewing

@@ -47,7 +47,7 @@ IsKillBy other s seat = ⊥
 -- the act takes the focus from this seat's client: it leaves, the user clicks elsewhere, or locks
 -- it out
 abbrev pub TakesFocus : Act → State → ℕ → Type 0
-TakesFocus (Calls other asked) s seat = (other ≡ seat) × (asked ≡ call.Close)
+TakesFocus (Calls other asked) s seat = (other.seat ≡ seat) × (asked ≡ call.Close)
 TakesFocus (Does dev) s seat = IsClickOff s dev seat ⊎ IsKillClick s dev seat
 TakesFocus other s seat = ⊥
 

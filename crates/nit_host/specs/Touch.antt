@@ -1,13 +1,12 @@
 -- What of the frame a call of a seat's client can change.
 use Rattle.std.specs.Prelude.{ℕ, ℤ, Bool, true, false, ◌&&◌, ◌≡◌, ◌<◌, Option, Some, None, List}
-use Rattle.std.specs.Prelude.{slice_get, if◌then◌else◌}
-use Rattle.nit_host.specs.Below.{Area, Call, Delivery, Mode, Point, Rectangle, Reply, State, Touch}
-use Rattle.nit_host.specs.Below.{View, bar_rows, buffer_place, covers, in_bar, is_rectangle}
-use Rattle.nit_host.specs.Below.{is_session, is_view, kills, point, rectangle, refusal, session}
-use Rattle.nit_host.specs.Below.{spans}
+use Rattle.std.specs.Prelude.{All, slice_get, if◌then◌else◌}
+use Rattle.nit_host.specs.Below.{Area, Call, Delivery, IsAreaOf, Mode, Point, Rectangle, Reply}
+use Rattle.nit_host.specs.Below.{State, Touch, View, bar_rows, buffer_place, covers, has_any}
+use Rattle.nit_host.specs.Below.{has_place, in_bar, is_rectangle, is_session, is_view, kills, point}
+use Rattle.nit_host.specs.Below.{rectangle, refusal, session, spans}
 use Rattle.nit_events.specs.declared.call.Call.TheVariants as call
 use Rattle.nit_events.specs.declared.device.Mode.TheVariants as mode
-use Rattle.nit_host.specs.Area.{IsAreaOf, has_place}
 use Rattle.nit_host.specs.declared.host.touch.Touch.TheVariants as touch
 
 -- a part of a buffer, and the screen where there is no such part
@@ -71,31 +70,38 @@ is_touched_bare touch.Views s p = in_bar (bar_rows s.config) p
 is_touched_bare touch.Screen s p = true
 is_touched_bare other s p = false
 
--- the area has all pixels of the screen that are touched as the views stand
-pub record HoldsTouched (s : State) (seat : ℕ) (t : Touch) (a : Area) : Type 0 where
+-- the test holds of all pixels of the screen that are touched as the views stand
+pub record HoldsTouched (s : State) (seat : ℕ) (t : Touch) (test : ℕ → ℕ → Bool) : Type 0 where
   pub bare : (x y : ℕ) → x < s.config.width → y < s.config.height
-      → is_touched_bare t s (point x y) ≡ true → has_place a x y ≡ true
+      → is_touched_bare t s (point x y) ≡ true → test x y ≡ true
   pub views : (i x y : ℕ) (v : View) → slice_get s.stack i ≡ Some v → x < s.config.width
-      → y < s.config.height → is_touched t seat v (point x y) ≡ true → has_place a x y ≡ true
+      → y < s.config.height → is_touched t seat v (point x y) ≡ true → test x y ≡ true
 
--- the area has the status bar of a screen of this size; in other modes than Flat the whole screen
-abbrev pub HoldsBarIn : Mode → ℕ → ℕ → ℕ → Area → Type 0
-HoldsBarIn mode.Flat width height rows a =
-    (x y : ℕ) → x < width → y < height → in_bar rows (point x y) ≡ true → has_place a x y ≡ true
-HoldsBarIn other width height rows a =
-    (x y : ℕ) → x < width → y < height → has_place a x y ≡ true
+-- areas of the screen with all pixels of the old ones and all that are touched
+pub record HasTouched (s : State) (seat : ℕ) (t : Touch) (old new : List Area) : Type 0 where
+  pub screen : All (IsAreaOf s.config.width s.config.height) old
+      → All (IsAreaOf s.config.width s.config.height) new
+  pub own : (x y : ℕ) → has_any old x y ≡ true → has_any new x y ≡ true
+  pub touched : HoldsTouched s seat t (has_any new)
 
-abbrev pub HoldsBar : State → Area → Type 0
-HoldsBar s a = HoldsBarIn s.input.mode s.config.width s.config.height (bar_rows s.config) a
+-- the test holds of the status bar of a screen of this size; in other modes than Flat of all of it
+abbrev pub HoldsBarIn : Mode → ℕ → ℕ → ℕ → (ℕ → ℕ → Bool) → Type 0
+HoldsBarIn mode.Flat width height rows test =
+    (x y : ℕ) → x < width → y < height → in_bar rows (point x y) ≡ true → test x y ≡ true
+HoldsBarIn other width height rows test =
+    (x y : ℕ) → x < width → y < height → test x y ≡ true
+
+abbrev pub HoldsBar : State → (ℕ → ℕ → Bool) → Type 0
+HoldsBar s test = HoldsBarIn s.input.mode s.config.width s.config.height (bar_rows s.config) test
 
 -- an area of the screen with all that the bar and the mode draw
 pub record IsBarArea (s : State) (a : Area) : Type 0 where
   pub area : IsAreaOf s.config.width s.config.height a
-  pub bar : HoldsBar s a
+  pub bar : HoldsBar s (has_place a)
 
 -- such an area, which is the whole screen where one of these deliveries locks a client out
 pub record IsToldArea (s : State) (told : List Delivery) (a : Area) : Type 0 where
   pub area : IsAreaOf s.config.width s.config.height a
-  pub bar : HoldsBar s a
+  pub bar : HoldsBar s (has_place a)
   pub screen : kills told ≡ true → (x y : ℕ) → x < s.config.width → y < s.config.height
       → has_place a x y ≡ true

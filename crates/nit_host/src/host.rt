@@ -1,27 +1,29 @@
 //! The server with the words of its clients.
 
 ghost use Rattle.std.specs.Prelude.{◌≡◌, ◌*◌, ◌<◌, length, ℕ};
-ghost use Rattle.nit_host.specs.Terms.{IsConfiguration, IsFrameShown, picture, scenery_of};
-ghost use Rattle.nit_host.specs.Terms.{sheet_in, size_at};
+ghost use Rattle.nit_host.specs.Terms.{AreTurns, IsConfiguration, IsFrameShown, picture};
+ghost use Rattle.nit_host.specs.Terms.{scenery_of, sheet_in, size_at};
 
 mod area;
 mod calls;
+mod damage;
 mod handing;
 mod looking;
 mod opening;
 mod reading;
+mod restacking;
 mod seats;
 mod shown;
 mod touch;
 mod user;
-mod viewing;
 
-use crate::host::area::Area;
-use crate::host::shown::Shown;
+use crate::client::Turns;
 use crate::sheet::Sheet;
 use nit_desktop::Desktop;
 use nit_events::Entry;
+use nit_look::Parts;
 use nit_rect::MOST_SESSIONS;
+use nit_stack::View;
 use std::marker::Model;
 use std::snapshot::Snapshot;
 
@@ -32,11 +34,13 @@ pub struct Host {
     pub(crate) desktop: Desktop,
     /// The words of each seat's client, through which the desktop loads its pixels.
     pub(crate) sheets: Vec<Sheet>,
+    /// Which client each seat has.
+    pub(crate) turns: Turns,
     pub(crate) last: Option<Entry>,
-    /// Outside of it no pixel of the frame has changed since the last look.
-    pub(crate) changed: Area,
+    /// Outside of them no pixel of the frame has changed since the last look.
+    pub(crate) changed: Parts,
     /// The views that the last look showed, front first, with room for all that there may be.
-    pub(crate) shown: Vec<Shown>,
+    pub(crate) shown: Vec<View>,
     /// For each seat, whether a client has come to it since the last look.
     pub(crate) came: [bool; MOST_SESSIONS],
     pub(crate) seen: Option<Seen>,
@@ -50,10 +54,10 @@ pub(crate) struct Seen {
 }
 
 impl Model for Host {
-    ghost use Rattle.std.specs.Prelude.{option_map, ◌≤◌, vec_capacity};
-    ghost use Rattle.nit_host.specs.Area.{IsAreaOf};
+    ghost use Rattle.std.specs.Prelude.{All, option_map, ◌≤◌, vec_capacity};
+    ghost use Rattle.nit_host.specs.Below.{IsAreaOf, has_any};
     ghost use Rattle.nit_host.specs.Fresh.{IsHost, sheets_of};
-    ghost use Rattle.nit_host.specs.Host.{HostModel};
+    ghost use Rattle.nit_host.specs.Host.{AreTurns, HostModel};
     ghost use Rattle.nit_host.specs.Looked.{IsSeenBut, frame_at};
     ghost use Rattle.nit_host.specs.Terms.{most_slots};
 
@@ -62,6 +66,7 @@ impl Model for Host {
     ghost view = { λ h. record {
       state = h.desktop.state;
       sheets = sheets_of h.sheets.items;
+      turns = h.turns;
       left = h.desktop.left;
       last = h.last;
       seen = record {
@@ -72,10 +77,10 @@ impl Model for Host {
     } };
 
     ghost invariant = { λ h. IsHost h.desktop h.sheets.items
-        × IsSeenBut h.desktop.state (sheets_of h.sheets.items) h.changed
+        × IsSeenBut h.desktop.state (sheets_of h.sheets.items) (has_any h.changed)
         (option_map (λ s. frame_at s.desktop.value s.sheets.value.items) h.seen)
-        × IsAreaOf h.desktop.state.config.width h.desktop.state.config.height h.changed
-        × (most_slots ≤ vec_capacity h.shown) };
+        × All (IsAreaOf h.desktop.state.config.width h.desktop.state.config.height) h.changed
+        × (most_slots ≤ vec_capacity h.shown) × AreTurns h.turns };
 }
 
 impl Host {
@@ -90,14 +95,15 @@ impl Host {
         self.desktop.frame()
     }
 
-    /// What holds of every host: its configuration is within its ranges, and each seat has a
-    /// session, and as many words as its table has places.
+    /// What holds of every host: its configuration is within its ranges, each seat has a session,
+    /// and as many words as its table has places, and no turn is over how many clients have come.
     pub fn facts(&self)
         ensures config { IsConfiguration self.now.state.config }
         ensures sessions { length self.now.state.sessions ≡ length self.now.state.config.clients }
         ensures sheets { length self.now.sheets ≡ length self.now.state.config.clients }
         ensures words { (seat : ℕ) → seat < length self.now.state.config.clients
             → length (sheet_in self.now.sheets seat) ≡ size_at self.now.state.config seat }
+        ensures turns { AreTurns self.now.turns }
     {
         self.desktop.facts();
     }

@@ -4,23 +4,25 @@
 ghost use Rattle.std.specs.Prelude.{All, ◌≡◌, ◌≢◌, ◌∷◌, ◌++◌, ◌<◌, ◌≤◌, ◌+◌, ◌*◌, ◌/◌, ◌%◌, ◌^◌};
 ghost use Rattle.std.specs.Prelude.{◌⊎◌, ◌-ℤ◌, List, [], length, slice_index, None, Some, false};
 ghost use Rattle.std.specs.Prelude.{pos, true, ℕ, ℤ};
-ghost use Rattle.nit_host.specs.Terms.{Act, AreSteps, Black, Calls, Comes, Does, Flat, Gets};
-ghost use Rattle.nit_host.specs.Terms.{HostModel, IsClickBy, IsDown, IsFirst, IsInPart, IsLive};
-ghost use Rattle.nit_host.specs.Terms.{IsTakenByClicks, Kill, KillsPointed, Looks, Observation};
-ghost use Rattle.nit_host.specs.Terms.{Refreshes, SwitchesMode, TakesFocus, TellsFocus, TellsLeave};
-ghost use Rattle.nit_host.specs.Terms.{View, Word, Xray, after_act, after_acts, after_steps};
-ghost use Rattle.nit_host.specs.Terms.{bare_word, deliveries_of, first_input, is_accepted};
-ghost use Rattle.nit_host.specs.Terms.{is_button, is_held, is_held_after, is_key, is_mode_key};
-ghost use Rattle.nit_host.specs.Terms.{kill_button, kill_key, kill_mode, opening_of, picture};
-ghost use Rattle.nit_host.specs.Terms.{pixel, pixel_count, projection, replies_from, replies_to};
-ghost use Rattle.nit_host.specs.Terms.{reply_to, routed_of, session, sheet_in, since_opening};
+ghost use Rattle.nit_host.specs.Terms.{Act, AreSteps, Black, Calls, CameBy, CameSince, Client};
+ghost use Rattle.nit_host.specs.Terms.{Comes, Does, Flat, Gets, HasNoLook, HostModel, IsClickBy};
+ghost use Rattle.nit_host.specs.Terms.{IsDown, IsFirst, IsInPart, IsKillBy, IsLive, IsLockedOut};
+ghost use Rattle.nit_host.specs.Terms.{IsRestacked, IsTakenByClicks, Kill, KillsPointed, Looks};
+ghost use Rattle.nit_host.specs.Terms.{Observation, Puts, Refreshes, Side, SwitchesMode};
+ghost use Rattle.nit_host.specs.Terms.{TakesClick, TakesFocus, TellsFocus, TellsLeave, View};
+ghost use Rattle.nit_host.specs.Terms.{WasShown, Word, Xray, after_act, after_acts, after_look};
+ghost use Rattle.nit_host.specs.Terms.{after_steps, bare_word, deliveries_of, first_input};
+ghost use Rattle.nit_host.specs.Terms.{is_accepted, is_button, is_client, is_held, is_held_after};
+ghost use Rattle.nit_host.specs.Terms.{is_key, is_mode_key, kill_button, kill_key, kill_mode};
+ghost use Rattle.nit_host.specs.Terms.{most_sessions, next_client, no_look, opening_of, owner_of};
+ghost use Rattle.nit_host.specs.Terms.{owner_on, owner_shown, owner_then, picture, pixel};
+ghost use Rattle.nit_host.specs.Terms.{pixel_count, projection, replies_from, replies_to, reply_to};
+ghost use Rattle.nit_host.specs.Terms.{routed_of, session, sheet_in, since_coming, since_opening};
 ghost use Rattle.nit_host.specs.Terms.{source_at, steps_of, to, under_pointer, unseated};
 ghost use Rattle.nit_host.specs.Terms.{unserved_input, unserved_refresh, word_of, xray_key};
 ghost use Rattle.nit_host.specs.Terms.{xray_mode};
-ghost use Rattle.nit_host.specs.Terms.{CameSince, HasNoLook, IsKillBy, IsLockedOut, TakesClick};
-ghost use Rattle.nit_host.specs.Terms.{WasShown, after_look, most_sessions, no_look, owner_then};
 ghost use Rattle.nit_host.specs.declared.refusal.Unserved.TheVariants as why;
-ghost use Rattle.nit_journal.specs.Terms.{AreLive, Call, Delivery, Device, owner_of};
+ghost use Rattle.nit_journal.specs.Terms.{AreLive, Call, Delivery, Device};
 ghost use Rattle.nit_events.specs.declared.call.Call.TheVariants as call;
 ghost use Rattle.nit_events.specs.declared.device.Device.TheVariants as device;
 ghost use Rattle.nit_events.specs.declared.event.Event.TheVariants as event;
@@ -161,7 +163,8 @@ pub fn modes_are_the_users()
 /// the look showed there gets the focus by a click, or is locked out by one; and nobody is locked
 /// out by anything else. Before the first look no client is clicked.
 ///
-/// No other press is refused for it: what is refused is a button, while nothing is held, where the
+/// What the look showed is told by [`Host::owner_shown`](crate::Host::owner_shown). No other press
+/// is refused for it: what is refused is a button, while nothing is held, where the
 /// pixel is another's now, or its seat has another client.
 pub fn clicks_go_where_the_user_saw()
     ensures seat { (h : HostModel) (acts rest : List Act) (k : ℕ) → HasNoLook rest
@@ -186,6 +189,8 @@ pub fn clicks_go_where_the_user_saw()
         → HasNoLook acts → let now = after_acts h acts in
         ((after_act now act).state.input.focus ≡ Some seat → now.state.input.focus ≡ Some seat)
         × (IsLockedOut (after_act now act).state seat → IsLockedOut now.state seat) }
+    ensures shown { (h : HostModel) (acts rest : List Act) (x y : ℕ) → HasNoLook rest
+        → owner_shown (after_look h acts rest) x y ≡ owner_on (after_acts h acts).state x y }
     ensures refused { (h : HostModel) (dev : Device) → unserved_input h dev ≡ Some why.Moved
         → (k : ℕ) × (dev ≡ device.Press k) × (is_button k ≡ true) × (h.state.input.held ≡ []) }
     ensures moved { (h : HostModel) (acts rest : List Act) (dev : Device) → HasNoLook rest
@@ -193,6 +198,42 @@ pub fn clicks_go_where_the_user_saw()
         → owner_then (after_acts h acts).state now.state ≡ under_pointer now.state
         → (seat : ℕ) × (under_pointer now.state ≡ Some seat)
         × (seat < most_sessions → CameSince h acts rest seat) }
+{}
+
+/// The user puts a client's view in front of its layer or behind it, and no client is told: each
+/// session is as it was, so that every reply and every event of its client comes as ever, and so is
+/// all else but the place of that view. It is a step of no client, so that
+/// [`clients_are_served_alone`] holds however the user restacks.
+pub fn restacking_is_the_users()
+    ensures { (h : HostModel) (side : Side) (client : Client) (view : ℕ)
+        → IsRestacked h (after_act h (Puts side client view)) client.seat view }
+{}
+
+/// Each client has a name of its own, and a call that names a former client of a seat reaches
+/// nobody.
+///
+/// Let a client come to a seat of a host, whatever that was asked since it opened. As long as no
+/// other comes to the seat the client is the one of its seat; and from then on it never is again,
+/// whatever the host is asked.
+pub fn former_clients_reach_nobody()
+    ensures calls { (h : HostModel) (client : Client) (asked : Call) → is_client h client ≡ false
+        → after_act h (Calls client asked) ≡ h }
+    ensures refreshes { (h : HostModel) (client : Client) (x y : ℤ) (width height : ℕ)
+        (words : List ℕ)
+        → is_client h client ≡ false
+        → after_act h (Refreshes client x y width height words) ≡ h }
+    ensures restacks { (h : HostModel) (side : Side) (client : Client) (view : ℕ)
+        → is_client h client ≡ false → after_act h (Puts side client view) ≡ h }
+    ensures present { (first : HostModel) (acts rest : List Act) (seat : ℕ) (label : List ℕ)
+        → IsFirst first → seat < most_sessions → let h = after_acts first acts in
+        unseated h seat label ≡ None
+        → (CameBy (after_act h (Comes seat label)) rest seat → ⊥)
+        → is_client (since_coming h seat label rest) (next_client h seat) ≡ true }
+    ensures former { (first : HostModel) (acts rest : List Act) (seat : ℕ) (label : List ℕ)
+        → IsFirst first → seat < most_sessions → let h = after_acts first acts in
+        unseated h seat label ≡ None
+        → CameBy (after_act h (Comes seat label)) rest seat
+        → is_client (since_coming h seat label rest) (next_client h seat) ≡ false }
 {}
 
 /// A code is held from its press to its release, but a mode key never, whoever comes and goes
@@ -247,26 +288,28 @@ pub fn laws_hold_since_opening()
 /// What a client has handed in, word by word. A refresh that is served and accepted sets the words
 /// of the part, each by its index in the buffer, to the low three bytes of those that stand there,
 /// and no other word of any seat; one that is refused sets none. Neither does a call, what the user
-/// does, or a look. A client that comes finds each of its words 0, and no other seat's changed.
+/// does ([`restacking_is_the_users`] too), or a look. A client that comes finds each of its words 0, and no other seat's changed.
 ///
 /// A seat has at least the words of its buffer ([`Host::buffer`](crate::Host::buffer)).
 pub fn words_are_those_handed_in()
-    ensures handed { (h : HostModel) (seat : ℕ) (x y : ℤ) (w height : ℕ) (words : List ℕ) (i j : ℕ)
-        → unserved_refresh h seat words ≡ None
+    ensures handed { (h : HostModel) (client : Client) (x y : ℤ) (w height : ℕ) (words : List ℕ)
+        (i j : ℕ)
+        → let seat = client.seat in unserved_refresh h client words ≡ None
         → is_accepted (reply_to h seat (call.Refresh x y w height)) ≡ true
         → let s = session h.state seat in
         s.bw * s.bh ≤ length (sheet_in h.sheets seat) → IsInPart s x y w height i j
-        → word_of (after_act h (Refreshes seat x y w height words)) seat (j * s.bw + i)
+        → word_of (after_act h (Refreshes client x y w height words)) seat (j * s.bw + i)
         ≡ slice_index words (j * s.bw + i) % 2 ^ 24 }
-    ensures others { (h : HostModel) (seat : ℕ) (x y : ℤ) (w height : ℕ) (words : List ℕ) (t n : ℕ)
-        → let s = session h.state seat in
-        (t ≡ seat → (i j : ℕ) → IsInPart s x y w height i j → n ≢ j * s.bw + i)
-        → word_of (after_act h (Refreshes seat x y w height words)) t n ≡ word_of h t n }
-    ensures refused { (h : HostModel) (seat : ℕ) (x y : ℤ) (w height : ℕ) (words : List ℕ)
-        → is_accepted (reply_to h seat (call.Refresh x y w height)) ≡ false
-        → (after_act h (Refreshes seat x y w height words)).sheets ≡ h.sheets }
-    ensures calls { (h : HostModel) (seat : ℕ) (call : Call)
-        → (after_act h (Calls seat call)).sheets ≡ h.sheets }
+    ensures others { (h : HostModel) (client : Client) (x y : ℤ) (w height : ℕ) (words : List ℕ)
+        (t n : ℕ)
+        → let s = session h.state client.seat in
+        (t ≡ client.seat → (i j : ℕ) → IsInPart s x y w height i j → n ≢ j * s.bw + i)
+        → word_of (after_act h (Refreshes client x y w height words)) t n ≡ word_of h t n }
+    ensures refused { (h : HostModel) (client : Client) (x y : ℤ) (w height : ℕ) (words : List ℕ)
+        → is_accepted (reply_to h client.seat (call.Refresh x y w height)) ≡ false
+        → (after_act h (Refreshes client x y w height words)).sheets ≡ h.sheets }
+    ensures calls { (h : HostModel) (client : Client) (call : Call)
+        → (after_act h (Calls client call)).sheets ≡ h.sheets }
     ensures user { (h : HostModel) (dev : Device) → (after_act h (Does dev)).sheets ≡ h.sheets }
     ensures looks { (h : HostModel) → (after_act h Looks).sheets ≡ h.sheets }
     ensures comes { (h : HostModel) (seat : ℕ) (label : List ℕ) (n : ℕ)

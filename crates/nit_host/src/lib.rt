@@ -2,7 +2,9 @@
 //!
 //! A host has up to 16 seats. A client comes to a free one under a label ([`Host::seat`]), calls
 //! ([`Host::call`]), hands in words ([`Host::refresh`]) and goes. What the user does is one call
-//! ([`Host::input`]), and so is a look at what of the frame changed ([`Host::look`]).
+//! ([`Host::input`]), and so is a look at what of the frame changed ([`Host::look`],
+//! [`Host::damage`]). A call names its client ([`Client`]), so that none of a former client of the
+//! seat is served.
 //!
 //! What contracts see of a host is a value of its own, [`HostModel`](specs::Host): the state, the
 //! words that each seat's client handed in, the last entry, and what is remembered of the last
@@ -16,12 +18,14 @@
 //! The tests are in `nit_tests`: `scenes`; those of `embed/tests` run all of it.
 #![tactic(auto)]
 
+mod client;
 mod host;
 pub mod laws;
 mod planning;
 mod refusal;
 mod sheet;
 
+pub use client::Client;
 pub use host::Host;
 pub use planning::{SeatPlan, plan};
-pub use refusal::{PlanError, Unseated, Unserved};
+pub use refusal::{PlanError, Uncopied, Unseated, Unserved};

@@ -5,6 +5,10 @@
 pub enum Unserved {
     /// There is no such seat.
     NoSeat,
+    /// The seat has another client now.
+    OtherClient,
+    /// The client has ended, or has no view of this handle.
+    NoView,
     /// A key's or a button's code is over 767, or a turn of the wheel is -128.
     BadDevice,
     /// The words that were handed in are fewer than the buffer has.
@@ -26,6 +30,19 @@ pub enum Unseated {
     Taken,
     /// Another seat has the label, or had it last.
     LabelTaken,
+    /// No seat of the layer is free.
+    NoneFree,
+    /// The host has had 2^48 - 1 clients.
+    WornOut,
+}
+
+/// Why a part of the frame was not copied.
+#[derive(Clone, Copy, Debug, PartialEq, Eq)]
+pub enum Uncopied {
+    /// The part reaches beyond the screen.
+    BadRect,
+    /// Its rows overlap, or end behind the last of the words.
+    WrongFrame,
 }
 
 /// Why a plan of a screen and its seats is refused.

@@ -4,14 +4,12 @@ ghost use Rattle.std.specs.Prelude.{◌≡◌, ◌*◌, ◌↔◌, None, IfOk, I
 ghost use Rattle.nit_host.specs.Terms.{AgreeIn, CoversChange, IsAsSeen, IsTouched, LiesOn, Looks};
 ghost use Rattle.nit_host.specs.Terms.{after_act, forgotten, frame_shown, last_text, looked};
 
-use crate::host::area::Area;
-use crate::host::shown::remember;
-use crate::host::{Host, Seen};
+use crate::host::Host;
+use crate::host::area::whole;
 use nit_look::look;
-use nit_rect::{MOST_SESSIONS, NoMemory, Rect};
+use nit_rect::{NoMemory, Rect};
 use nit_report::journal_text;
 use std::alloc::Global;
-use std::snapshot::Snapshot;
 
 impl Host {
     /// Brings `out`, which has a word for each pixel and is as the last look left it, up to date,
@@ -19,8 +17,8 @@ impl Host {
     /// exactly where nothing was. Then `out` is the frame. Before the first look it may be any
     /// words.
     ///
-    /// Only what can have changed since the last look is looked at. So in words that are not as
-    /// that left them, only those in the rectangle are surely the frame's.
+    /// Only a rectangle with all that can have changed since the last look is looked at. So in
+    /// words that are not as that left them, only those in the answer are surely the frame's.
     pub fn look(&mut self, out: &mut [u32]) -> Option<Rect>
         requires { length out.old ≡ self.old.state.config.width * self.old.state.config.height }
         ensures frame { IsAsSeen self.old out.old → out.new ≡ frame_shown self.old }
@@ -38,15 +36,9 @@ impl Host {
     {
         self.desktop.facts();
         let (width, height) = self.desktop.size();
-        let part = self.changed.rect();
+        let part = self.changed.around().rect();
         let found = look(self.frame(), width as usize, height as usize, &part, out);
-        self.changed = Area::none();
-        remember(&self.desktop, &mut self.shown);
-        self.came = [false; MOST_SESSIONS];
-        self.seen = Some(Seen {
-            desktop: Snapshot::of(&self.desktop),
-            sheets: Snapshot::of(&self.sheets),
-        });
+        let _parts = self.damage();
         found
     }
 
@@ -75,7 +67,7 @@ impl Host {
     {
         self.facts();
         let (width, height) = self.size();
-        self.changed = Area::of_rows(width, height);
+        self.changed = whole(width, height);
         self.seen = None;
     }
 

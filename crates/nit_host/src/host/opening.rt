@@ -2,10 +2,11 @@
 
 ghost use Rattle.std.specs.Prelude.{◌≡◌, IfOk};
 ghost use Rattle.nit_host.specs.Terms.{AreBlank, AreSheets, IsConfiguration, first_host};
-ghost use Rattle.nit_host.specs.Terms.{first_state, vacant_state};
+ghost use Rattle.nit_host.specs.Terms.{first_state, no_turns, vacant_state};
 
+use crate::client::Turns;
 use crate::host::Host;
-use crate::host::area::Area;
+use crate::host::area::whole;
 use crate::sheet::Sheet;
 use nit_config::Config;
 use nit_desktop::Desktop;
@@ -29,8 +30,9 @@ impl Host {
         Ok(Host {
             desktop: Desktop::vacant(alloc, config, &mut sheets)?,
             sheets,
+            turns: no_turns(),
             last: None,
-            changed: Area::of_rows(config.width, config.height),
+            changed: whole(config.width, config.height),
             shown,
             came: [false; MOST_SESSIONS],
             seen: None,
@@ -48,12 +50,23 @@ impl Host {
         Ok(Host {
             desktop: Desktop::new(alloc, config)?,
             sheets,
+            turns: no_turns(),
             last: None,
-            changed: Area::of_rows(config.width, config.height),
+            changed: whole(config.width, config.height),
             shown,
             came: [false; MOST_SESSIONS],
             seen: None,
         })
+    }
+}
+
+/// No client has come.
+fn no_turns() -> Turns
+    ensures { result ≡ no_turns }
+{
+    Turns {
+        of: [0; MOST_SESSIONS],
+        given: 0,
     }
 }
 

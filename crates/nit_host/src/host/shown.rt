@@ -1,55 +1,64 @@
 //! What is remembered of the last look: whose view each pixel showed.
 
-ghost use Rattle.std.specs.Prelude.{◌≡◌, ◌≤◌, find, length, vec_capacity};
-ghost use Rattle.nit_host.specs.Terms.{covers, is_same_client, most_slots, option_map};
-ghost use Rattle.nit_host.specs.Terms.{seat_covering, seat_shown, shown_views};
+ghost use Rattle.std.specs.Prelude.{◌≡◌, ◌≤◌, drop, find, vec_capacity};
+ghost use Rattle.nit_host.specs.Terms.{covers, is_same_client, most_slots, owner, owner_shown};
 
+use crate::host::Host;
 use nit_desktop::Desktop;
-use nit_rect::{MOST_SESSIONS, Point, Rect};
+use nit_rect::{MOST_SESSIONS, Point};
+use nit_stack::View;
 
-/// A view, as a look showed it.
-#[derive(Clone, Copy)]
-pub(crate) struct Shown {
-    pub rect: Rect,
-    pub seat: u32,
+impl Host {
+    /// The view that owned the pixel in column `x` and row `y` as the last look had it. `None` where
+    /// no view did, where there was no look yet, and where there is no such pixel.
+    pub fn owner_shown(&self, x: u32, y: u32) -> Option<View>
+        ensures { result ≡ owner_shown self.now x y }
+    {
+        self.facts();
+        let (width, height) = self.size();
+        if width <= x || height <= y {
+            return None;
+        }
+        let p = Point {
+            x: x as i32,
+            y: y as i32,
+        };
+        owner_among(self.shown.as_slice(), self.desktop.bar(), p)
+    }
 }
 
 /// Remembers the views as they stand, front first, in place of those that were shown. It takes no
 /// memory.
-pub(crate) fn remember(desktop: &Desktop, shown: &mut Vec<Shown>)
+pub(crate) fn remember(desktop: &Desktop, shown: &mut Vec<View>)
     requires { most_slots ≤ vec_capacity shown.old }
-    ensures views { shown.new.items ≡ shown_views desktop.now.state.stack }
+    ensures views { shown.new.items ≡ desktop.now.state.stack }
     ensures room { vec_capacity shown.new ≡ vec_capacity shown.old }
 {
     shown.clear();
     'views: for i in 0..desktop.views() {
-        let view = desktop.view(i);
-        shown.push_reserved(Shown {
-            rect: view.rect,
-            seat: view.sid,
-        });
+        shown.push_reserved(desktop.view(i));
     }
 }
 
-/// The seat that the views showed at a pixel, below a bar of so many rows.
-pub(crate) fn seat_shown(shown: &[Shown], rows: u32, p: Point) -> Option<u32>
+/// The view that owns a pixel among these, front first, below a bar of so many rows.
+pub(crate) fn owner_among(views: &[View], rows: u32, p: Point) -> Option<View>
     requires { rows ≤ 7 }
-    ensures { result ≡ seat_shown rows shown.now p }
+    ensures { result ≡ owner rows views.now p }
 {
     if p.y < rows as i32 {
         None
     } else {
-        seat_covering(shown, p)
+        first_covering(views, p)
     }
 }
 
-/// The seat of the front-most view that covers a pixel.
-fn seat_covering(shown: &[Shown], p: Point) -> Option<u32>
-    ensures { result ≡ seat_covering shown.now p }
+/// The front-most view that covers a pixel.
+fn first_covering(views: &[View], p: Point) -> Option<View>
+    ensures { result ≡ find (λ v. covers v.rect p) views.now }
 {
-    for view in shown {
+    for view in views {
         if view.rect.covers(p) {
-            return Some(view.seat);
+            return Some(*view);
         }
     }
     None

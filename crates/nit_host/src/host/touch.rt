@@ -1,20 +1,20 @@
 //! What of the frame a step can change.
 
-ghost use Rattle.std.specs.Prelude.{◌≡◌, ◌<◌, ◌≤◌, ◌&&◌, ℕ, Some, false, length, slice_get, true};
-ghost use Rattle.nit_host.specs.Terms.{HoldsTouched, HoldsWhere, IsAreaOf, IsBarArea, IsPlace};
-ghost use Rattle.nit_host.specs.Terms.{IsToldArea, View, covers, deliveries_of, has_place, is_kill};
-ghost use Rattle.nit_host.specs.Terms.{is_touched, kills, option_map_or, part_touched, point};
-ghost use Rattle.nit_host.specs.Terms.{shows_place, touch_of, touched_by, touched_in, touched_over};
+ghost use Rattle.std.specs.Prelude.{◌≡◌, ◌<◌, ◌≤◌, ◌&&◌, ℕ, All, Some, false, length, slice_get};
+ghost use Rattle.std.specs.Prelude.{true};
+ghost use Rattle.nit_host.specs.Terms.{HasTouched, HoldsWhere, IsAreaOf, IsBarArea, IsPlace};
+ghost use Rattle.nit_host.specs.Terms.{IsToldArea, View, bar_rows, covers, deliveries_of, has_any};
+ghost use Rattle.nit_host.specs.Terms.{has_place, in_bar, is_kill, is_touched, kills};
+ghost use Rattle.nit_host.specs.Terms.{option_map_or, part_touched, point, shows_place, touch_of};
+ghost use Rattle.nit_host.specs.Terms.{touched_by, touched_in, touched_over};
 
-use crate::host::area::Area;
+use crate::host::area::of_rect;
 use crate::host::handing::clip;
 use nit_desktop::Desktop;
 use nit_events::{Call, Delivery, Item, Mode, Routed};
+use nit_look::{Area, Parts};
 use nit_rect::Rect;
 use nit_stack::View;
-
-/// The rows of the status bar, where there is one.
-const BAR_ROWS: u32 = 7;
 
 /// What of the frame a call of a seat's client can change: pixels of its views, as they stand
 /// before it and after it.
@@ -99,36 +99,37 @@ fn part_touched(x: i32, y: i32, w: u32, h: u32) -> Touch
     }
 }
 
-/// An area with all pixels of the screen that are touched as the views stand.
-pub(crate) fn touched(desktop: &Desktop, seat: u32, touch: &Touch) -> Area
-    ensures area { IsAreaOf desktop.now.state.config.width desktop.now.state.config.height result }
-    ensures touched { HoldsTouched desktop.now.state seat touch.now result }
+/// Adds all pixels of the screen that are touched as the views stand.
+pub(crate) fn add_touched(parts: &mut Parts, desktop: &Desktop, seat: u32, touch: &Touch)
+    ensures { HasTouched desktop.now.state seat touch.now parts.old parts.new }
 {
     let size = desktop.size();
     match touch {
-        Touch::Nothing => Area::none(),
-        Touch::Screen => Area::of_rows(size.0, size.1),
-        Touch::Views => views_touched(desktop, seat, touch, &bar(size)),
-        Touch::View(_) | Touch::Part(_) => views_touched(desktop, seat, touch, &Area::none()),
+        Touch::Nothing => {}
+        Touch::Screen => parts.add(&Area::of_rows(size.0, size.1)),
+        Touch::Views => {
+            parts.add(&bar(desktop));
+            add_views(parts, desktop, seat, touch);
+        }
+        Touch::View(_) | Touch::Part(_) => add_views(parts, desktop, seat, touch),
     }
 }
 
-/// An area with that of a screen and all pixels of the views that are touched.
-fn views_touched(desktop: &Desktop, seat: u32, touch: &Touch, bare: &Area) -> Area
-    requires { IsAreaOf desktop.now.state.config.width desktop.now.state.config.height bare.now }
-    ensures area { IsAreaOf desktop.now.state.config.width desktop.now.state.config.height result }
-    ensures bare { (x y : ℕ) → has_place bare.now x y ≡ true → has_place result x y ≡ true }
+/// Adds all pixels of the views that are touched.
+fn add_views(parts: &mut Parts, desktop: &Desktop, seat: u32, touch: &Touch)
+    ensures screen { let config = desktop.now.state.config in
+        All (IsAreaOf config.width config.height) parts.old
+        → All (IsAreaOf config.width config.height) parts.new }
+    ensures own { (x y : ℕ) → has_any parts.old x y ≡ true → has_any parts.new x y ≡ true }
     ensures views { (i x y : ℕ) (v : View) → slice_get desktop.now.state.stack i ≡ Some v
         → x < desktop.now.state.config.width → y < desktop.now.state.config.height
-        → is_touched touch.now seat v (point x y) ≡ true → has_place result x y ≡ true }
+        → is_touched touch.now seat v (point x y) ≡ true → has_any parts.new x y ≡ true }
 {
     let size = desktop.size();
-    let mut area = *bare;
     'views: for i in 0..desktop.views() {
         let view = desktop.view(i);
-        area = area.join(&view_touched(touch, seat, &view, size));
+        parts.add(&view_touched(touch, seat, &view, size));
     }
-    area
 }
 
 /// An area with all pixels of the screen at which a view is touched.
@@ -152,7 +153,7 @@ fn where_named(is_meant: bool, view: &View, size: (u32, u32)) -> Area
         result }
 {
     if is_meant {
-        Area::of_rect(&view.rect, size)
+        of_rect(&view.rect, size)
     } else {
         Area::none()
     }
@@ -176,22 +177,28 @@ fn part_shown(is_meant: bool, part: &Rect, view: &View, size: (u32, u32)) -> Are
     })
 }
 
-/// The rows of the status bar.
-fn bar(size: (u32, u32)) -> Area
-    ensures area { IsAreaOf size.0 size.1 result }
-    ensures rows { (x y : ℕ) → x < size.0 → y < size.1 → y < 7 → has_place result x y ≡ true }
+/// The status bar, where there is one.
+fn bar(desktop: &Desktop) -> Area
+    ensures area { IsAreaOf desktop.now.state.config.width desktop.now.state.config.height result }
+    ensures rows { (x y : ℕ) → x < desktop.now.state.config.width
+        → y < desktop.now.state.config.height
+        → in_bar (bar_rows desktop.now.state.config) (point x y) ≡ true
+        → has_place result x y ≡ true }
 {
-    Area::of_rows(size.0, BAR_ROWS.min(size.1))
+    let (width, height) = desktop.size();
+    Area::of_rows(width, desktop.bar().min(height))
 }
 
 /// An area with the status bar, and in the modes that draw over the whole screen with all of it.
 pub(crate) fn bar_or_screen(desktop: &Desktop) -> Area
     ensures { IsBarArea desktop.now.state result }
 {
-    let size = desktop.size();
     match desktop.mode() {
-        Mode::Flat => bar(size),
-        Mode::Xray | Mode::Kill => Area::of_rows(size.0, size.1),
+        Mode::Flat => bar(desktop),
+        Mode::Xray | Mode::Kill => {
+            let size = desktop.size();
+            Area::of_rows(size.0, size.1)
+        }
     }
 }
 

@@ -1,17 +1,19 @@
 //! What the user does.
 
 ghost use Rattle.std.specs.Prelude.{◌≡◌, None, Some, Ok, Err};
-ghost use Rattle.nit_host.specs.Terms.{Does, Unserved, after_act, is_device, routed_of, told};
-ghost use Rattle.nit_host.specs.Terms.{holds_nothing, is_as_shown, is_button, is_moved};
+ghost use Rattle.nit_host.specs.Terms.{Does, Unserved, after_act, holds_nothing, is_as_shown};
+ghost use Rattle.nit_host.specs.Terms.{is_button, is_device, is_moved, option_map, routed_of, told};
 ghost use Rattle.nit_host.specs.Terms.{unserved_input};
 
 use crate::host::Host;
-use crate::host::shown::{is_same_client, seat_shown};
+use crate::host::area::add_unless;
+use crate::host::shown::{is_same_client, owner_among};
 use crate::host::touch::{bar_or_screen, bar_tells, shows_the_same, told};
 use crate::refusal::Unserved;
 use nit_events::{Device, Entry, Routed};
 use nit_rect::Point;
 use nit_screen::laws::clean_pixels_keep_their_source;
+use nit_stack::View;
 
 /// The greatest code of a key or a button.
 const MOST_CODE: u16 = 767;
@@ -54,7 +56,7 @@ impl Host {
         let routed = self.desktop.input(device, &mut self.sheets);
         let after = told(&self.desktop, &routed);
         let is_same = shows_the_same(bar, bar_tells(&self.desktop), &routed);
-        self.changed = self.changed.join_unless(is_same, &before, &after);
+        add_unless(&mut self.changed, is_same, &before, &after);
         self.last = Some(Entry::Input {
             dev: device,
             routed,
@@ -91,20 +93,30 @@ impl Host {
     fn holds_nothing(&self) -> bool
         ensures { result ≡ holds_nothing self.now.state.input.held }
     {
-        self.held().is_empty()
+        self.desktop().held().is_empty()
     }
 
     /// Whether the client under the pointer is the one that the last look showed there.
     fn is_as_shown(&self) -> bool
         ensures { result ≡ is_as_shown self.now.seen self.now.state }
     {
-        let (x, y) = self.pointer();
+        let (x, y) = self.desktop.pointer();
         let p = Point {
             x: x as i32,
             y: y as i32,
         };
-        let seen = seat_shown(self.shown.as_slice(), self.desktop.bar(), p);
-        is_same_client(&self.came, seen, self.desktop.under_pointer())
+        let seen = owner_among(self.shown.as_slice(), self.desktop.bar(), p);
+        is_same_client(&self.came, seat_of(seen), self.desktop.under_pointer())
+    }
+}
+
+/// The seat of a view's client.
+fn seat_of(view: Option<View>) -> Option<u32>
+    ensures { result ≡ option_map (λ v. v.sid) view }
+{
+    match view {
+        Some(view) => Some(view.sid),
+        None => None,
     }
 }
 

@@ -1,4 +1,4 @@
-use Rattle.nit_host.proofs.ActMoves.{held_by_act, held_by_device}
+use Rattle.nit_host.proofs.Lemmas.{held_by_act, held_by_device}
 use Rattle.nit_host.proofs.laws.codes_are_held_until_released.Goals as goal
 
 pub returns : goal.returns

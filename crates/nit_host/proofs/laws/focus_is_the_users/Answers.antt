@@ -1,5 +1,4 @@
-use Rattle.nit_host.proofs.ActMoves.{as_told, comes_by_act, goes_by_act}
-use Rattle.nit_host.proofs.UserMoves.{by_click}
+use Rattle.nit_host.proofs.Lemmas.{as_told, by_click, comes_by_act, goes_by_act}
 use Rattle.nit_events.specs.declared.device.Device.TheVariants as device
 use Rattle.nit_host.proofs.laws.focus_is_the_users.Goals as goal
 

@@ -1,7 +1,5 @@
-use Rattle.std.proofs.Common.{refl, ◌∙◌}
+use Rattle.nit_host.proofs.Lemmas.{Device, HostModel, after_acts, refl, routed_of, steps_of, ◌∙◌}
 use Rattle.nit_events.specs.declared.device.Device.TheVariants as device
-use Rattle.nit_host.proofs.Basics.{Device}
-use Rattle.nit_host.proofs.Lemmas.{HostModel, after_acts, routed_of, steps_of}
 use Rattle.nit_host.proofs.laws.input_goes_where_it_is_meant.Goals as goal
 
 pub returns : goal.returns

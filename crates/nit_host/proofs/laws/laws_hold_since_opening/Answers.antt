@@ -1,4 +1,4 @@
-use Rattle.nit_host.proofs.ActMoves.{first_live, first_many, first_quiet}
+use Rattle.nit_host.proofs.Lemmas.{first_live, first_many, first_quiet}
 use Rattle.nit_host.proofs.laws.laws_hold_since_opening.Goals as goal
 
 pub returns : goal.returns

@@ -1,5 +1,4 @@
-use Rattle.nit_host.proofs.ActMoves.{as_told, mode_by_act}
-use Rattle.nit_host.proofs.UserMoves.{by_kill_click, by_kill_key, by_xray_key}
+use Rattle.nit_host.proofs.Lemmas.{as_told, by_kill_click, by_kill_key, by_xray_key, mode_by_act}
 use Rattle.nit_events.specs.declared.device.Device.TheVariants as device
 use Rattle.nit_events.specs.Input
 use Rattle.nit_host.proofs.laws.modes_are_the_users.Goals as goal

@@ -1,5 +1,5 @@
-use Rattle.nit_host.proofs.Lemmas.{called_words, come_word, handed_word, other_word, refused_words}
-use Rattle.nit_host.proofs.Lemmas.{refl, stay_word, user_words}
+use Rattle.nit_host.proofs.Lemmas.{called_words, come_word, handed_word, other_word, refl}
+use Rattle.nit_host.proofs.Lemmas.{refused_words, stay_word, user_words}
 use Rattle.nit_host.proofs.laws.words_are_those_handed_in.Goals as goal
 
 pub returns : goal.returns

@@ -1,5 +1,4 @@
-use Rattle.nit_host.proofs.Lemmas.{nat_tests, take_all}
-use Rattle.std.proofs.Common.{append-nil, arith}
+use Rattle.nit_host.proofs.Lemmas.{append-nil, arith, nat_tests, take_all}
 use Rattle.nit_word.specs.Zeros.{zeros}
 use Rattle.nit_host.proofs.sheet.reach.Goals as goal
 

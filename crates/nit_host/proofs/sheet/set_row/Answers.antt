@@ -1,4 +1,4 @@
-use Rattle.nit_host.proofs.Lemmas.{arith, nat_tests, low_bytes, next_between, none_between}
+use Rattle.nit_host.proofs.Lemmas.{arith, low_bytes, nat_tests, next_between, none_between}
 use Rattle.nit_host.proofs.sheet.set_row.Goals as goal
 
 pub places-init : goal.places-init

@@ -1,6 +1,6 @@
 use Rattle.std.proofs.Common.{ap, ◌∙◌, ◌≡◌}
-use Rattle.nit_host.proofs.Lemmas.{HostModel, frame, picture, scenery_of}
-use Rattle.nit_host.proofs.Lemmas.{sheet_in, sheets_of, shown_fresh}
+use Rattle.nit_host.proofs.Lemmas.{HostModel, frame, picture, scenery_of, sheet_in, sheets_of}
+use Rattle.nit_host.proofs.Lemmas.{shown_fresh}
 use Rattle.nit_host.proofs.host.Host.frame.Goals as goal
 
 pub returns-clause-shown : goal.returns-clause-shown

@@ -1,25 +1,16 @@
 use Rattle.std.proofs.Common.{ap, subst, sym, ℕ, ◌∙◌, ◌≡◌}
-use Rattle.nit_host.proofs.Lemmas.{AgreeOutside, agree_outside, frame_by, frame_shown}
-use Rattle.nit_host.proofs.Lemmas.{arith, seen_now, sheets_of}
+use Rattle.nit_host.proofs.Lemmas.{AgreeOutside, agree_outside, frame_by, frame_shown, sheets_of}
 use Rattle.nit_host.proofs.host.Host.look.Goals as goal
-
-pub invariant_of-self : goal.invariant_of-self
-invariant_of-self c =
-    let d = c.self.inside.desktop in (
-      c.self.invariant.0,
-      rw (c.of.ensures, c.of-2.ensures) (seen_now d.state (sheets_of c.self.inside.sheets.items)
-          c.none-self-inside.result),
-      c.none-self-inside.ensures.area d.state.config.width d.state.config.height,
-      omega (arith, c.remember.ensures.room, c.self.invariant.3),
-    )
 
 pub returns-clause-frame : goal.returns-clause-frame
 returns-clause-frame c = λ as_seen.
     let d = c.self.inside.desktop in
+    let on = c.around.ensures.area d.state.config.width d.state.config.height c.self.invariant.2 in
     let framed : c.frame.result.now ≡ frame_by d.state (sheets_of c.self.inside.sheets.items) =
     c.frame.ensures.shown.frame ∙ ap frame_shown (sym c.self.view_is) in
-    let agree = agree_outside d.state (sheets_of c.self.inside.sheets.items) c.self.inside.changed _ c.args.out.now c.self.invariant.2
-    c.self.invariant.1 (rw (← c.self.view_is) at as_seen) (rw (← c.self.view_is) at c.requires) in
+    let agree = agree_outside d.state (sheets_of c.self.inside.sheets.items) c.self.inside.changed c.around.result _
+    c.args.out.now on c.around.ensures.all c.self.invariant.1 (rw (← c.self.view_is) at as_seen)
+    (rw (← c.self.view_is) at c.requires) in
     c.look-found.ensures.frame
     (subst (λ (size : ℕ × ℕ). AgreeOutside size.0 c.args.out.now c.frame.result.now c.rect-part.result)
     (sym c.size-width.ensures) (rw (framed, c.rect-part.ensures) agree))

@@ -1,7 +1,9 @@
-use Rattle.std.proofs.Common.{length, ◌<◌}
-use Rattle.nit_host.proofs.Lemmas.{Opens, WasSeated, are_glasses, arith, blank_again_of, blank_plain}
-use Rattle.nit_host.proofs.Lemmas.{frame_at, free_of, may_sit, nat_tests, option_map, own_room, refl}
-use Rattle.nit_host.proofs.Lemmas.{seen_seated, set, sheets_of, sheets_with, was_seated, when_served}
+use Rattle.std.proofs.Common.{Ok, ap, length, ◌<◌}
+use Rattle.nit_host.proofs.Lemmas.{HostModel, WasSeated, are_glasses, arith, blank_again_of}
+use Rattle.nit_host.proofs.Lemmas.{blank_plain, frame_at, free_of, may_sit, nat_tests, next_client}
+use Rattle.nit_host.proofs.Lemmas.{option_map, own_room, refl, seen_seated, set, sheets_of}
+use Rattle.nit_host.proofs.Lemmas.{sheets_with, turn_given, was_seated, when_served}
+use Rattle.nit_host.proofs.Seatings.{Opens}
 use Rattle.nit_host.proofs.host.Host.seat.Goals as goal
 
 pub reopen-requires-clause-free : goal.reopen-requires-clause-free
@@ -18,7 +20,7 @@ reopen-requires-clause-glasses c =
     (omega (arith, own_room are is inside, c.wipe.ensures.room)))
 
 -- what is left
-done : (c : goal.After-self-3-1) → WasSeated c.args.seat c.args.label c.args.self.now
+done : (c : goal.After-way_told-2-1) → WasSeated c.args.seat c.args.label c.args.self.now c.self.inside.turns
     (record {
       frame = option_map (λ s. frame_at s.desktop.value s.sheets.value.items) c.self.inside.seen;
       views = c.self.inside.shown.items;
@@ -38,12 +40,13 @@ invariant_of-self c =
     let d = c.self.inside.desktop in
     let kept = seen_seated d.state c.reopen.new.self.state c.args.seat c.args.label
     (sheets_of c.self.inside.sheets.items) (sheets_of c.reopen.new.glasses.items) c.self.inside.changed
-    c.bar_or_screen-part.result c.join-self-inside.result _ c.reopen.ensures.state (done c).words
-    c.bar_or_screen-part.ensures c.join-self-inside.ensures c.self.invariant.1 c.self.invariant.2 in
-    ((done c).host, kept.0, kept.1, c.self.invariant.3)
+    c.bar_or_screen-part.result c.add.new.self _ c.reopen.ensures.state (done c).words
+    c.bar_or_screen-part.ensures c.add.ensures.added c.add.ensures.parts c.self.invariant.1 c.self.invariant.2 in
+    ((done c).host, kept.0, kept.1, c.self.invariant.3, turn_given c.self.inside.turns c.args.seat c.self.invariant.4 (may_sit c.self.view_is c.in_default.ensures).more)
 
 pub returns-clause-seated : goal.returns-clause-seated
-returns-clause-seated c = λ _. (refl, (done c).now)
+returns-clause-seated c = λ _.
+    (ap (λ (h : HostModel). Ok (next_client h c.args.seat)) c.self.view_is, (done c).now)
 
 pub returns-clause-act : goal.returns-clause-act
 returns-clause-act c = when_served c.args.self.now c.in_default.ensures (done c).now

@@ -1,5 +1,5 @@
-use Rattle.nit_host.proofs.Lemmas.{DesktopModel, ap, are_glasses, arith, begun}
-use Rattle.nit_host.proofs.Lemmas.{first_now, refl, same_sheets, vacant_state}
+use Rattle.nit_host.proofs.Lemmas.{DesktopModel, ap, are_glasses, arith, begun, first_now, refl}
+use Rattle.nit_host.proofs.Lemmas.{same_sheets, turns_begin, vacant_state}
 use Rattle.nit_host.proofs.host.Host.vacant.Goals as goal
 
 pub vacant-requires-clause-glasses : goal.vacant-requires-clause-glasses
@@ -9,15 +9,15 @@ pub invariant_of-result : goal.invariant_of-result
 invariant_of-result c =
     let made = c.in_ok-vacant.ensures.desktop in
     let first = begun c.in_ok-vacant.field-0 c.in_ok-sheets.ensures.room
-    (ap (λ (d : DesktopModel). d.state) made) (ap (λ (d : DesktopModel). d.raw) made) refl refl c.of_rows.result
-    (rw (← c.config.view_is) c.of_rows.ensures.all)
-    (rw (← c.config.view_is) (c.of_rows.ensures.area c.config.inside.height (omega arith))) in
-    rw (same_sheets c.in_ok-vacant.ensures.rest) (first.0, first.1, first.2, omega (arith, c.in_ok-shown.ensures))
+    (ap (λ (d : DesktopModel). d.state) made) (ap (λ (d : DesktopModel). d.raw) made) refl refl c.whole.result
+    (rw (← c.config.view_is) c.whole.ensures.all)
+    (rw (← c.config.view_is) c.whole.ensures.screen) in
+    rw (same_sheets c.in_ok-vacant.ensures.rest) (first.0, first.1, first.2, omega (arith, c.in_ok-shown.ensures), turns_begin c.no_turns.ensures)
 
 pub returns : goal.returns
 returns c =
     let made = c.in_ok-vacant.ensures.desktop in
     rw (same_sheets c.in_ok-vacant.ensures.rest)
-    (first_now (vacant_state c.args.config.now) c.args.config.now c.in_ok-vacant.field-0 c.in_ok-sheets.sheets.items
-    c.in_ok-shown.shown.items c.in_ok-shown.ensures.items (ap (λ (d : DesktopModel). d.state) made)
+    (first_now (vacant_state c.args.config.now) c.args.config.now c.in_ok-vacant.field-0 c.in_ok-sheets.sheets.items c.no_turns.result
+    c.in_ok-shown.shown.items c.no_turns.ensures c.in_ok-shown.ensures.items (ap (λ (d : DesktopModel). d.state) made)
     (ap (λ (d : DesktopModel). d.left) made) c.in_ok-sheets.ensures.blank)

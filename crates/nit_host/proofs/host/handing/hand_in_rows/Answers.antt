@@ -1,6 +1,6 @@
-use Rattle.nit_host.proofs.Lemmas.{nat_tests}
+use Rattle.nit_host.proofs.Lemmas.{Sight, nat_tests, row_fits, row_more, rows_begun, rows_sized}
+use Rattle.nit_host.proofs.Lemmas.{told_words}
 use Rattle.std.proofs.Common.{ap, arith, sym, ◌∙◌, ◌≡◌}
-use Rattle.nit_host.proofs.Lemmas.{Sight, row_fits, row_more, rows_begun, rows_sized, told_words}
 use Rattle.nit_host.proofs.host.handing.hand_in_rows.Goals as goal
 
 -- as many words as at first

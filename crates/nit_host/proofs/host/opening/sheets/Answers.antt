@@ -1,6 +1,5 @@
-use Rattle.nit_host.proofs.Lemmas.{nat_tests, Configuration, HasRoom, all_blank, all_sheets}
-use Rattle.nit_host.proofs.Lemmas.{one_sheet, sized_at}
-use Rattle.std.proofs.Common.{ap, arith, ◌∙◌}
+use Rattle.nit_host.proofs.Lemmas.{Configuration, HasRoom, all_blank, all_sheets, ap, arith}
+use Rattle.nit_host.proofs.Lemmas.{nat_tests, one_sheet, sized_at, ◌∙◌}
 use Rattle.nit_host.proofs.host.opening.sheets.Goals as goal
 
 pub seats-preserved : goal.seats-preserved

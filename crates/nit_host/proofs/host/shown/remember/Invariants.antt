@@ -1,9 +1,8 @@
 use Rattle.std.proofs.Common.{take, vec_capacity, ◌≡◌}
-use Rattle.nit_host.specs.Shown.{shown_views}
 use Rattle.nit_host.proofs.host.shown.remember.Given as goal
 
 abbrev pub invariant-views : goal.invariant-views
 invariant-views l = record {
-  items : l.shown.items ≡ shown_views (take l.i l.desktop.state.stack);
+  items : l.shown.items ≡ take l.i l.desktop.state.stack;
   room : vec_capacity l.shown ≡ vec_capacity l.initial.shown;
 }

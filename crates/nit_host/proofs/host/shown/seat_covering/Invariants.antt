@@ -1,7 +1,0 @@
-use Rattle.std.proofs.Common.{drop, find, ◌≡◌}
-use Rattle.nit_host.proofs.Basics.{covers}
-use Rattle.nit_host.proofs.host.shown.seat_covering.Given as goal
-
-abbrev pub invariant-loop-view : goal.invariant-loop-view
-invariant-loop-view l = find (λ v. covers v.rect l.p) (drop l.view-index l.shown)
-    ≡ find (λ v. covers v.rect l.p) l.shown
