@@ -2,11 +2,14 @@ pub mod HeapToken
 pub mod Held
 pub mod Steps
 pub mod Numbers
+pub mod Clients
+pub mod Restacking
 pub mod Replies
 pub mod Routing
 pub mod Seating
 pub mod Reading
 pub mod Looking
+pub mod Damage
 pub mod Viewing
 pub mod Opening
 pub mod Below

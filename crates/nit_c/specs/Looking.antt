@@ -3,8 +3,7 @@ use Rattle.std.specs.Prelude.{◌≡◌, ◌≢◌, ◌*◌, ◌≤◌, ◌<◌,
 use Rattle.std.specs.Prelude.{drop, Option, Some, None, IfSome}
 use Rattle.nit_c.specs.Below.{AgreeIn, CoversChange, HostModel, IsAsSeen, IsTouched, LiesOn}
 use Rattle.nit_c.specs.Below.{NitRect, Rectangle, ShowsLabels, forgotten, frame_shown, looked}
-use Rattle.nit_c.specs.Below.{rectangle}
-use Rattle.nit_c.specs.Below.{scenery_of}
+use Rattle.nit_c.specs.Below.{rectangle, scenery_of}
 use Rattle.nit_host.specs.Host.{last_text}
 use Rattle.nit_c.specs.declared.handle.NitServer.{NitServer}
 use Rattle.nit_c.specs.Steps.{Steps}

@@ -15,6 +15,8 @@ number_or_none None = 2 ^ 32 - 1
 -- why a call is not served
 abbrev pub unserved_number : Unserved → ℕ
 unserved_number unserved.NoSeat = 32
+unserved_number unserved.OtherClient = 46
+unserved_number unserved.NoView = 5
 unserved_number unserved.BadDevice = 37
 unserved_number unserved.ShortWords = 38
 unserved_number unserved.HandlesUsedUp = 40
@@ -26,6 +28,8 @@ abbrev pub unseated_number : Unseated → ℕ
 unseated_number unseated.NoSeat = 32
 unseated_number unseated.Taken = 33
 unseated_number unseated.LabelTaken = 34
+unseated_number unseated.NoneFree = 47
+unseated_number unseated.WornOut = 41
 
 -- why a configuration is refused
 abbrev pub config_number : ConfigError → ℕ

@@ -1,6 +1,8 @@
 -- What can be read of a server, as C reads it.
 use Rattle.std.specs.Prelude.{◌≡◌, ℕ, nat_lt, length, if◌then◌else◌}
-use Rattle.nit_c.specs.Below.{HostModel, NitAccount, NitSeatState, NitState, member, session}
+use Rattle.nit_c.specs.Below.{HostModel, NitAccount, NitSeatState, NitState, client_of, member}
+use Rattle.nit_c.specs.Below.{session}
+use Rattle.nit_c.specs.Clients.{client_name}
 use Rattle.nit_c.specs.Numbers.{mode_number, number_or_none, status_number}
 use Rattle.nit_c.specs.declared.handle.NitServer.{NitServer}
 use Rattle.nit_c.specs.Steps.{Steps}
@@ -36,7 +38,7 @@ c_state h = record {
 
 -- a seat's state that is its kind alone
 abbrev pub no_seat_state : ℕ → NitSeatState
-no_seat_state kind = record { kind = kind; status = 0; waiting = 0; zero = 0; lost = 0 }
+no_seat_state kind = record { kind = kind; status = 0; waiting = 0; zero = 0; lost = 0; client = 0 }
 
 abbrev pub c_seat_state : HostModel → ℕ → NitSeatState
 c_seat_state h seat =
@@ -49,6 +51,7 @@ c_seat_state h seat =
       waiting = length s.queue;
       zero = 0;
       lost = s.lost;
+      client = client_name (client_of h seat);
     }
     else no_seat_state 32
 

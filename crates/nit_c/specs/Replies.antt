@@ -1,11 +1,13 @@
 -- Replies and events as C reads them, and calls of the clients.
 use Rattle.std.specs.Prelude.{◌≡◌, ℕ, ℤ, pos, ◌==◌, IsTrue, false, not, nat_lt, List, length}
 use Rattle.std.specs.Prelude.{Option, Result, Ok, Err, if◌then◌else◌}
-use Rattle.nit_c.specs.Below.{Call, Event, HostModel, NitEvent, NitReply, Reply, Unserved, called}
-use Rattle.nit_c.specs.Below.{is_text, refreshed, reply_to, unserved_call, unserved_refresh}
+use Rattle.nit_c.specs.Below.{Call, Client, Event, HostModel, NitEvent, NitReply, Reply, Unserved}
+use Rattle.nit_c.specs.Below.{called, is_client, is_text, refreshed, reply_to, unserved_call}
+use Rattle.nit_c.specs.Below.{unserved_refresh}
 use Rattle.nit_events.specs.declared.call.Call.TheVariants as call
 use Rattle.nit_events.specs.declared.call.Reply.TheVariants as reply
 use Rattle.nit_events.specs.declared.event.Event.TheVariants as event
+use Rattle.nit_c.specs.Clients.{client_named}
 use Rattle.nit_c.specs.Numbers.{unserved_number}
 use Rattle.nit_c.specs.declared.handle.NitServer.{NitServer}
 use Rattle.nit_c.specs.Steps.{Steps, Unless}
@@ -55,43 +57,45 @@ IsAnswered refusal reply behind old new answer =
     Unless refusal ((new ≡ behind) × (answer ≡ c_reply reply))
     (λ why. (new ≡ old) × (answer ≡ only_kind (unserved_number why)))
 
--- a call of a seat's client by a handle
+-- a call of a client by a handle
 abbrev pub IsCalled : NitServer → NitServer → ℕ → Call → NitReply → Type 0
-IsCalled old new seat call answer =
+IsCalled old new client call answer =
+    let c = client_named client in
     Steps old new (answer ≡ only_kind 0)
-    (λ h g. IsAnswered (unserved_call h seat call) (reply_to h seat call) (called seat call h) h g
+    (λ h g. IsAnswered (unserved_call h c call) (reply_to h c.seat call) (called c.seat call h) h g
     answer)
 
 -- a refresh of a part of its buffer
-abbrev pub IsRedrawn : HostModel → HostModel → ℕ → ℤ → ℤ → ℕ → ℕ → List ℕ → NitReply → Type 0
-IsRedrawn old new seat x y w h words answer =
-    IsAnswered (unserved_refresh old seat words) (reply_to old seat (call.Refresh x y w h))
-    (refreshed seat x y w h words old) old new answer
+abbrev pub IsRedrawn : HostModel → HostModel → Client → ℤ → ℤ → ℕ → ℕ → List ℕ → NitReply → Type 0
+IsRedrawn old new c x y w h words answer =
+    IsAnswered (unserved_refresh old c words) (reply_to old c.seat (call.Refresh x y w h))
+    (refreshed c.seat x y w h words old) old new answer
 
 -- what a refresh of a part does by a handle
 abbrev pub IsRefreshed : NitServer → NitServer → ℕ → ℤ → ℤ → ℕ → ℕ → List ℕ → NitReply
     → Type 0
-IsRefreshed old new seat x y w h words answer =
+IsRefreshed old new client x y w h words answer =
     Steps old new (answer ≡ only_kind 0)
-    (λ host g. IsRedrawn host g seat x y w h words answer)
+    (λ host g. IsRedrawn host g (client_named client) x y w h words answer)
 
 -- ---- titles
 
 -- why a title that is no text is not served
-abbrev pub untitled : HostModel → ℕ → ℕ
-untitled h seat =
-    if not (nat_lt seat (length h.state.sessions)) then 32
+abbrev pub untitled : HostModel → Client → ℕ
+untitled h client =
+    if not (nat_lt client.seat (length h.state.sessions)) then 32
+    else if not (is_client h client) then 46
     else if h.left == 0 then 41
     else 36
 
 -- a title that is no text, by a handle
 abbrev pub IsUntitled : NitServer → NitServer → ℕ → NitReply → Type 0
-IsUntitled old new seat answer =
+IsUntitled old new client answer =
     Steps old new (answer ≡ only_kind 0)
-    (λ h g. (g ≡ h) × (answer ≡ only_kind (untitled h seat)))
+    (λ h g. (g ≡ h) × (answer ≡ only_kind (untitled h (client_named client))))
 
 -- a title by a handle: a call where the bytes are a text, and else nothing but a refusal
-pub record IsTitled (old new : NitServer) (seat view : ℕ) (text : List ℕ) (r : NitReply)
+pub record IsTitled (old new : NitServer) (client view : ℕ) (text : List ℕ) (r : NitReply)
     : Type 0 where
-  pub called : IsTrue (is_text text) → IsCalled old new seat (call.Title view text) r
-  pub refused : is_text text ≡ false → IsUntitled old new seat r
+  pub called : IsTrue (is_text text) → IsCalled old new client (call.Title view text) r
+  pub refused : is_text text ≡ false → IsUntitled old new client r

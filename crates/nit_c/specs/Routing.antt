@@ -1,8 +1,9 @@
 -- What the user does, and whom it goes to, as C reads it.
 use Rattle.std.specs.Prelude.{◌≡◌, ℕ, ℤ, ◌+◌, ◌-◌, ◌^◌, pos, negsuc, nat_le, int_le, ◌&&◌, Option}
 use Rattle.std.specs.Prelude.{Some, None, Result, Ok, Err, if◌then◌else◌}
-use Rattle.nit_c.specs.Below.{Delivery, Device, HostModel, Item, NitDelivery, NitEvent, NitRouted}
-use Rattle.nit_c.specs.Below.{Routed, Unserved, most_code, routed_of, told, unserved_input}
+use Rattle.nit_c.specs.Below.{Delivery, Device, HostModel, NitDelivery, NitEvent, NitRouted, Routed}
+use Rattle.nit_c.specs.Below.{Unserved, most_code, routed_of, told, unserved_input}
+use Rattle.nit_events.specs.declared.event.Item.{Item}
 use Rattle.nit_events.specs.declared.device.Device.TheVariants as device
 use Rattle.nit_events.specs.declared.event.Item.TheVariants as item
 use Rattle.nit_c.specs.Numbers.{unserved_number}

@@ -1,7 +1,7 @@
 -- What stands on the screen, and what is held, as C reads it.
-use Rattle.std.specs.Prelude.{◌≡◌, ℕ, pos, nat_lt, List, [], length, slice_get, Option, Some}
-use Rattle.std.specs.Prelude.{None, if◌then◌else◌}
-use Rattle.nit_c.specs.Below.{HostModel, NitViewState, View, member, owner_on}
+use Rattle.std.specs.Prelude.{◌≡◌, ℕ, pos, nat_lt, List, [], length, slice_get, Option, Some, None}
+use Rattle.std.specs.Prelude.{if◌then◌else◌}
+use Rattle.nit_c.specs.Below.{HostModel, NitViewState, View, member, owner_on, owner_shown}
 use Rattle.nit_c.specs.Looking.{IsLine}
 use Rattle.nit_c.specs.Numbers.{number_or_none}
 use Rattle.nit_c.specs.declared.handle.NitServer.{NitServer}
@@ -47,12 +47,16 @@ abbrev pub IsViewRead : (HostModel → Option View) → NitServer → NitServer 
 IsViewRead view old new answer =
     Steps old new (answer ≡ no_view 0) (λ h g. (g ≡ h) × (answer ≡ c_view_of (view h)))
 
--- the view at a place from the front, and the one that owns a pixel
+-- the view at a place from the front, the one that owns a pixel, and the one that owned it as the
+-- last look had it
 abbrev pub IsViewAt : NitServer → NitServer → ℕ → NitViewState → Type 0
 IsViewAt old new place answer = IsViewRead (λ h. slice_get h.state.stack place) old new answer
 
 abbrev pub IsOwnerOf : NitServer → NitServer → ℕ → ℕ → NitViewState → Type 0
 IsOwnerOf old new x y answer = IsViewRead (λ h. owner_on h.state x y) old new answer
+
+abbrev pub IsShownAt : NitServer → NitServer → ℕ → ℕ → NitViewState → Type 0
+IsShownAt old new x y answer = IsViewRead (λ h. owner_shown h x y) old new answer
 
 -- ---- texts
 

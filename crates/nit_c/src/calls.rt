@@ -5,22 +5,23 @@ ghost use Rattle.nit_c.specs.Terms.{IsCalled, IsRedrawn, IsRefreshed, IsTitled, 
 ghost use Rattle.nit_c.specs.Terms.{untitled};
 ghost use Rattle.nit_events.specs.declared.call.Call.TheVariants as call;
 
+use crate::clients::client_of;
 use crate::handle::NitServer;
-use crate::numbers::{BAD_TEXT, NO_SEAT, NO_SERVER, WORN_OUT};
+use crate::numbers::{BAD_TEXT, NO_SEAT, NO_SERVER, OTHER_CLIENT, WORN_OUT};
 use crate::reply::{NitReply, answer_of, only_kind};
 use nit_events::{Call, Text};
-use nit_host::Host;
+use nit_host::{Client, Host};
 use std::alloc::Global;
 
-/// Serves a call of a seat's client.
-fn serve(alloc: Global, server: &mut NitServer, seat: u32, call: &Call) -> NitReply
-    ensures { IsCalled server.old server.new seat call.now result }
+/// Serves a call of a client.
+fn serve(alloc: Global, server: &mut NitServer, client: u64, call: &Call) -> NitReply
+    ensures { IsCalled server.old server.new client call.now result }
 {
     if !server.is_live() {
         return only_kind(NO_SERVER);
     }
     let mut host = server.take(alloc);
-    let reply = answer_of(&host.as_mut().call(seat, call));
+    let reply = answer_of(&host.as_mut().call(client_of(client), call));
     *server = NitServer::of(host);
     reply
 }
@@ -28,35 +29,37 @@ fn serve(alloc: Global, server: &mut NitServer, seat: u32, call: &Call) -> NitRe
 /// Serves a refresh of a part of a buffer, which begins at this place and has this size.
 fn refresh(
     host: &mut Host,
-    seat: u32,
+    client: Client,
     place: (i32, i32),
     size: (u32, u32),
     words: &[u32],
 ) -> NitReply
-    ensures { IsRedrawn host.old host.new seat place.0 place.1 size.0 size.1 words.now result }
+    ensures { IsRedrawn host.old host.new client place.0 place.1 size.0 size.1 words.now result }
 {
-    answer_of(&host.refresh(seat, place, size, words))
+    answer_of(&host.refresh(client, place, size, words))
 }
 
 /// Refuses a title that is no text.
-fn refuse_title(alloc: Global, server: &mut NitServer, seat: u32) -> NitReply
-    ensures { IsUntitled server.old server.new seat result }
+fn refuse_title(alloc: Global, server: &mut NitServer, client: u64) -> NitReply
+    ensures { IsUntitled server.old server.new client result }
 {
     if !server.is_live() {
         return only_kind(NO_SERVER);
     }
     let host = server.take(alloc);
-    let why = untitled(host.as_ref(), seat);
+    let why = untitled(host.as_ref(), client_of(client));
     *server = NitServer::of(host);
     only_kind(why)
 }
 
 /// Why a title that is no text is not served.
-fn untitled(host: &Host, seat: u32) -> u32
-    ensures { result ≡ untitled host.now seat }
+fn untitled(host: &Host, client: Client) -> u32
+    ensures { result ≡ untitled host.now client }
 {
-    if host.seats() <= seat {
+    if host.seats() <= client.seat {
         NO_SEAT
+    } else if host.client(client.seat).turn != client.turn {
+        OTHER_CLIENT
     } else if host.left() == 0 {
         WORN_OUT
     } else {
@@ -69,21 +72,21 @@ fn untitled(host: &Host, seat: u32) -> u32
 pub extern "C" fn nit_buffer(
     alloc: Global,
     server: &mut NitServer,
-    seat: u32,
+    client: u64,
     w: u32,
     h: u32,
 ) -> NitReply
-    ensures { IsCalled server.old server.new seat (call.Buffer w h) result }
+    ensures { IsCalled server.old server.new client (call.Buffer w h) result }
 {
-    serve(alloc, server, seat, &Call::Buffer(w, h))
+    serve(alloc, server, client, &Call::Buffer(w, h))
 }
 
 /// A new view, in front of its layer.
 #[unsafe(no_mangle)]
-pub extern "C" fn nit_view(alloc: Global, server: &mut NitServer, seat: u32) -> NitReply
-    ensures { IsCalled server.old server.new seat call.View result }
+pub extern "C" fn nit_view(alloc: Global, server: &mut NitServer, client: u64) -> NitReply
+    ensures { IsCalled server.old server.new client call.View result }
 {
-    serve(alloc, server, seat, &Call::View)
+    serve(alloc, server, client, &Call::View)
 }
 
 /// The view has this rectangle of the screen: `x` and `y` -32768..=32767, `w` and `h` 0..=32767.
@@ -91,16 +94,16 @@ pub extern "C" fn nit_view(alloc: Global, server: &mut NitServer, seat: u32) -> 
 pub extern "C" fn nit_place(
     alloc: Global,
     server: &mut NitServer,
-    seat: u32,
+    client: u64,
     view: u32,
     x: i32,
     y: i32,
     w: u32,
     h: u32,
 ) -> NitReply
-    ensures { IsCalled server.old server.new seat (call.Place view x y w h) result }
+    ensures { IsCalled server.old server.new client (call.Place view x y w h) result }
 {
-    serve(alloc, server, seat, &Call::Place(view, x, y, w, h))
+    serve(alloc, server, client, &Call::Place(view, x, y, w, h))
 }
 
 /// The view shows the buffer moved by this many columns and rows, each -32768..=32767.
@@ -108,30 +111,40 @@ pub extern "C" fn nit_place(
 pub extern "C" fn nit_offset(
     alloc: Global,
     server: &mut NitServer,
-    seat: u32,
+    client: u64,
     view: u32,
     x: i32,
     y: i32,
 ) -> NitReply
-    ensures { IsCalled server.old server.new seat (call.Offset view x y) result }
+    ensures { IsCalled server.old server.new client (call.Offset view x y) result }
 {
-    serve(alloc, server, seat, &Call::Offset(view, x, y))
+    serve(alloc, server, client, &Call::Offset(view, x, y))
 }
 
 /// The view stands in front of all of its layer.
 #[unsafe(no_mangle)]
-pub extern "C" fn nit_front(alloc: Global, server: &mut NitServer, seat: u32, view: u32) -> NitReply
-    ensures { IsCalled server.old server.new seat (call.Front view) result }
+pub extern "C" fn nit_front(
+    alloc: Global,
+    server: &mut NitServer,
+    client: u64,
+    view: u32,
+) -> NitReply
+    ensures { IsCalled server.old server.new client (call.Front view) result }
 {
-    serve(alloc, server, seat, &Call::Front(view))
+    serve(alloc, server, client, &Call::Front(view))
 }
 
 /// The view stands behind all of its layer.
 #[unsafe(no_mangle)]
-pub extern "C" fn nit_back(alloc: Global, server: &mut NitServer, seat: u32, view: u32) -> NitReply
-    ensures { IsCalled server.old server.new seat (call.Back view) result }
+pub extern "C" fn nit_back(
+    alloc: Global,
+    server: &mut NitServer,
+    client: u64,
+    view: u32,
+) -> NitReply
+    ensures { IsCalled server.old server.new client (call.Back view) result }
 {
-    serve(alloc, server, seat, &Call::Back(view))
+    serve(alloc, server, client, &Call::Back(view))
 }
 
 /// The view stands directly in front of `other`.
@@ -139,13 +152,13 @@ pub extern "C" fn nit_back(alloc: Global, server: &mut NitServer, seat: u32, vie
 pub extern "C" fn nit_above(
     alloc: Global,
     server: &mut NitServer,
-    seat: u32,
+    client: u64,
     view: u32,
     other: u32,
 ) -> NitReply
-    ensures { IsCalled server.old server.new seat (call.Above view other) result }
+    ensures { IsCalled server.old server.new client (call.Above view other) result }
 {
-    serve(alloc, server, seat, &Call::Above(view, other))
+    serve(alloc, server, client, &Call::Above(view, other))
 }
 
 /// The view is gone.
@@ -153,20 +166,20 @@ pub extern "C" fn nit_above(
 pub extern "C" fn nit_destroy(
     alloc: Global,
     server: &mut NitServer,
-    seat: u32,
+    client: u64,
     view: u32,
 ) -> NitReply
-    ensures { IsCalled server.old server.new seat (call.Destroy view) result }
+    ensures { IsCalled server.old server.new client (call.Destroy view) result }
 {
-    serve(alloc, server, seat, &Call::Destroy(view))
+    serve(alloc, server, client, &Call::Destroy(view))
 }
 
 /// Takes the oldest event that waits.
 #[unsafe(no_mangle)]
-pub extern "C" fn nit_take(alloc: Global, server: &mut NitServer, seat: u32) -> NitReply
-    ensures { IsCalled server.old server.new seat call.Take result }
+pub extern "C" fn nit_take(alloc: Global, server: &mut NitServer, client: u64) -> NitReply
+    ensures { IsCalled server.old server.new client call.Take result }
 {
-    serve(alloc, server, seat, &Call::Take)
+    serve(alloc, server, client, &Call::Take)
 }
 
 /// So many units of the client's reserve become donation.
@@ -174,20 +187,20 @@ pub extern "C" fn nit_take(alloc: Global, server: &mut NitServer, seat: u32) -> 
 pub extern "C" fn nit_upgrade(
     alloc: Global,
     server: &mut NitServer,
-    seat: u32,
+    client: u64,
     units: u32,
 ) -> NitReply
-    ensures { IsCalled server.old server.new seat (call.Upgrade units) result }
+    ensures { IsCalled server.old server.new client (call.Upgrade units) result }
 {
-    serve(alloc, server, seat, &Call::Upgrade(units))
+    serve(alloc, server, client, &Call::Upgrade(units))
 }
 
 /// The client leaves. Its views are gone, and its seat is free.
 #[unsafe(no_mangle)]
-pub extern "C" fn nit_leave(alloc: Global, server: &mut NitServer, seat: u32) -> NitReply
-    ensures { IsCalled server.old server.new seat call.Close result }
+pub extern "C" fn nit_leave(alloc: Global, server: &mut NitServer, client: u64) -> NitReply
+    ensures { IsCalled server.old server.new client call.Close result }
 {
-    serve(alloc, server, seat, &Call::Close)
+    serve(alloc, server, client, &Call::Close)
 }
 
 /// The view has this title. Bytes that are no text are refused, and no session is asked.
@@ -195,15 +208,15 @@ pub extern "C" fn nit_leave(alloc: Global, server: &mut NitServer, seat: u32) ->
 pub extern "C" fn nit_title(
     alloc: Global,
     server: &mut NitServer,
-    seat: u32,
+    client: u64,
     view: u32,
     text: &[u8],
 ) -> NitReply
-    ensures { IsTitled server.old server.new seat view text.now result }
+    ensures { IsTitled server.old server.new client view text.now result }
 {
     match Text::new(text) {
-        Some(title) => serve(alloc, server, seat, &Call::Title(view, title)),
-        None => refuse_title(alloc, server, seat),
+        Some(title) => serve(alloc, server, client, &Call::Title(view, title)),
+        None => refuse_title(alloc, server, client),
     }
 }
 
@@ -214,20 +227,20 @@ pub extern "C" fn nit_title(
 pub extern "C" fn nit_refresh(
     alloc: Global,
     server: &mut NitServer,
-    seat: u32,
+    client: u64,
     x: i32,
     y: i32,
     w: u32,
     h: u32,
     words: &[u32],
 ) -> NitReply
-    ensures { IsRefreshed server.old server.new seat x y w h words.now result }
+    ensures { IsRefreshed server.old server.new client x y w h words.now result }
 {
     if !server.is_live() {
         return only_kind(NO_SERVER);
     }
     let mut host = server.take(alloc);
-    let reply = refresh(host.as_mut(), seat, (x, y), (w, h), words);
+    let reply = refresh(host.as_mut(), client_of(client), (x, y), (w, h), words);
     *server = NitServer::of(host);
     reply
 }

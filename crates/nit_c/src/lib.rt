@@ -9,6 +9,8 @@
 #![tactic(auto)]
 
 mod calls;
+mod clients;
+mod damage;
 mod handle;
 mod input;
 mod looking;
@@ -17,6 +19,7 @@ mod opening;
 mod raw_box;
 mod reading;
 mod reply;
+mod restacking;
 mod routed;
 mod seats;
 mod viewing;

@@ -96,6 +96,12 @@ pub(crate) const BAD_PLAN: u32 = 44;
 /// The client under the pointer is not the one that the last look showed there.
 pub(crate) const MOVED: u32 = 45;
 
+/// The seat has another client.
+pub(crate) const OTHER_CLIENT: u32 = 46;
+
+/// No seat of the layer is free.
+pub(crate) const NO_FREE_SEAT: u32 = 47;
+
 // Refusals of the text of a configuration.
 
 /// It is too long.
@@ -198,6 +204,8 @@ pub(crate) fn unserved_number(why: Unserved) -> u32
 {
     match why {
         Unserved::NoSeat => NO_SEAT,
+        Unserved::OtherClient => OTHER_CLIENT,
+        Unserved::NoView => NO_SUCH_VIEW,
         Unserved::BadDevice => BAD_DEVICE,
         Unserved::ShortWords => SHORT_WORDS,
         Unserved::HandlesUsedUp => HANDLES_USED_UP,
@@ -214,6 +222,8 @@ pub(crate) fn unseated_number(why: Unseated) -> u32
         Unseated::NoSeat => NO_SEAT,
         Unseated::Taken => SEAT_TAKEN,
         Unseated::LabelTaken => LABEL_TAKEN,
+        Unseated::NoneFree => NO_FREE_SEAT,
+        Unseated::WornOut => WORN_OUT,
     }
 }
 

@@ -159,7 +159,7 @@ fn configured(alloc: Global, text: &[u8]) -> Result<Box<Host, Global>, u32>
 /// 16 seats: its donation, 256..=268,435,456, its layer, 0..=7, and 1 where a click moves the
 /// focus, or 0.
 #[unsafe(no_mangle)]
-pub extern "C" fn nit_open_seats(
+pub extern "C" fn nit_open_seats_2(
     alloc: Global,
     server: &mut NitServer,
     width: u32,
@@ -186,7 +186,7 @@ pub extern "C" fn nit_open_seats(
 /// Opens a server by the text of a configuration, of at most 1,048,576 bytes. Its clients sit on
 /// the seats from the start.
 #[unsafe(no_mangle)]
-pub extern "C" fn nit_open_config(alloc: Global, server: &mut NitServer, text: &[u8]) -> u32
+pub extern "C" fn nit_open_config_2(alloc: Global, server: &mut NitServer, text: &[u8]) -> u32
     ensures opened { IsOpenedBy (host_of server.old.mark server.old.value)
         (host_of server.new.mark server.new.value) text.now result }
     ensures kept { result ≢ 1 → server.new ≡ server.old }

@@ -4,6 +4,7 @@ ghost use Rattle.std.specs.Prelude.{◌≡◌};
 ghost use Rattle.nit_c.specs.Terms.{IsAccountOf, IsSeatStateOf, IsStateOf, c_account, c_seat_state};
 ghost use Rattle.nit_c.specs.Terms.{c_state, no_account, no_seat_state, no_state};
 
+use crate::clients::name_of;
 use crate::handle::NitServer;
 use crate::numbers::{
     DONE, NO_SEAT, NO_SERVER, SEAT_NONE, mode_number, number_or_none, status_number,
@@ -52,6 +53,8 @@ pub struct NitSeatState {
     pub zero: u32,
     /// How many were lost since the seat was taken.
     pub lost: u64,
+    /// The name of the client that sits there, or sat there last.
+    pub client: u64,
 }
 
 /// What a seat's client has, and the layer of its views. All but `kind` is 0 where there is none.
@@ -96,7 +99,7 @@ fn state_of(host: &Host) -> NitState
 {
     let desktop = host.desktop();
     let (width, height) = host.size();
-    let (x, y) = host.pointer();
+    let (x, y) = desktop.pointer();
     NitState {
         kind: DONE,
         width,
@@ -121,6 +124,7 @@ fn no_seat_state(kind: u32) -> NitSeatState
         waiting: 0,
         zero: 0,
         lost: 0,
+        client: 0,
     }
 }
 
@@ -128,13 +132,15 @@ fn no_seat_state(kind: u32) -> NitSeatState
 fn seat_state_of(host: &Host, seat: u32) -> NitSeatState
     ensures { result ≡ c_seat_state host.now seat }
 {
+    host.facts();
     if host.seats() <= seat {
         return no_seat_state(NO_SEAT);
     }
     NitSeatState {
-        status: status_number(host.status(seat)),
+        status: status_number(host.desktop().status(seat)),
         waiting: host.desktop().waiting(seat),
         lost: host.desktop().lost(seat),
+        client: name_of(host.client(seat)),
         ..no_seat_state(DONE)
     }
 }

@@ -1,8 +1,8 @@
 //! What stands on the screen, and what is held.
 
 ghost use Rattle.std.specs.Prelude.{◌≡◌, slice_get};
-ghost use Rattle.nit_c.specs.Terms.{IsHeldBy, IsLabelOf, IsLine, IsOwnerOf, IsTitleOf, IsViewAt};
-ghost use Rattle.nit_c.specs.Terms.{c_view, c_view_of, label_at, no_view, number_or_none};
+ghost use Rattle.nit_c.specs.Terms.{IsHeldBy, IsLabelOf, IsLine, IsOwnerOf, IsShownAt, IsTitleOf};
+ghost use Rattle.nit_c.specs.Terms.{IsViewAt, c_view, c_view_of, label_at, no_view, number_or_none};
 ghost use Rattle.nit_c.specs.Terms.{view_title};
 
 use crate::handle::NitServer;
@@ -109,7 +109,7 @@ fn put_label(host: &Host, seat: u32, out: &mut [u8]) -> usize
     ensures { IsLine (label_at host.now seat) out.old out.new result }
 {
     if seat < host.seats() {
-        put(host.label(seat).as_bytes(), out)
+        put(host.desktop().label(seat).as_bytes(), out)
     } else {
         put(&[], out)
     }
@@ -119,7 +119,7 @@ fn put_label(host: &Host, seat: u32, out: &mut [u8]) -> usize
 fn code_at(host: &Host, place: u32) -> u32
     ensures { result ≡ number_or_none (slice_get host.now.state.input.held place) }
 {
-    match host.held().get(place as usize) {
+    match host.desktop().held().get(place as usize) {
         Some(code) => u32::from(*code),
         None => number_or_none(None),
     }
@@ -149,6 +149,20 @@ pub extern "C" fn nit_owner(alloc: Global, server: &mut NitServer, x: u32, y: u3
     }
     let host = server.take(alloc);
     let view = view_or_none(host.owner(x, y));
+    *server = NitServer::of(host);
+    view
+}
+
+/// The view that owned the pixel in column `x` and row `y` as the last look had it.
+#[unsafe(no_mangle)]
+pub extern "C" fn nit_shown(alloc: Global, server: &mut NitServer, x: u32, y: u32) -> NitViewState
+    ensures { IsShownAt server.old server.new x y result }
+{
+    if !server.is_live() {
+        return no_view(NO_SERVER);
+    }
+    let host = server.take(alloc);
+    let view = view_or_none(host.owner_shown(x, y));
     *server = NitServer::of(host);
     view
 }

@@ -8,6 +8,6 @@ returns c =
     let before : c.args.server.now.value ≡ c.as_mut.result.now = search rules in
     let after : c.of.result.value ≡ c.refresh-reply.new.host = search rules in
     refreshed_by c.args.server.now c.of.result c.as_mut.result.now c.refresh-reply.new.host
-    c.args.seat c.args.x c.args.y (to_z w32 (of_z w32 c.args.x)) (to_z w32 (of_z w32 c.args.y)) c.args.w c.args.h
+    c.args.client c.client_of.result c.args.x c.args.y (to_z w32 (of_z w32 c.args.x)) (to_z w32 (of_z w32 c.args.y)) c.args.w c.args.h
     c.args.words.now c.refresh-reply.result
-    live c.of.ensures.live before after (to_z-of_z _ _ c.ranges.x) (to_z-of_z _ _ c.ranges.y) c.refresh-reply.ensures
+    live c.of.ensures.live before after c.client_of.ensures (to_z-of_z _ _ c.ranges.x) (to_z-of_z _ _ c.ranges.y) c.refresh-reply.ensures

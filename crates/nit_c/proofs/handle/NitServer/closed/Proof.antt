@@ -1,10 +1,9 @@
 -- `closed` makes a handle that owns nothing.
 use Rattle.std.proofs.Common.{[], ◌∷◌, refl}
-use Rattle.nit_c.proofs.Lemmas.{NitServer, nothing_kept, owner_in, proved, the_type}
-use Rattle.nit_c.proofs.Machine.{agg, !, alloc_all, and_then, done, drop, ends_at, enter, free_all}
-use Rattle.nit_c.proofs.Machine.{ftrue, lit, lit<, look_at, no_more, nothing, null_ptr, on_entry}
-use Rattle.nit_c.proofs.Machine.{pass_all, qed, raw, returns, says, sets, suffices, vint, w64, ‵}
-use Rattle.nit_c.proofs.Machine.{◌$◌, ◌∵◌}
+use Rattle.nit_c.proofs.Lemmas.{ !, NitServer, agg, alloc_all, and_then, done, drop, ends_at, enter}
+use Rattle.nit_c.proofs.Lemmas.{free_all, ftrue, lit, lit<, look_at, no_more, nothing, nothing_kept}
+use Rattle.nit_c.proofs.Lemmas.{null_ptr, on_entry, owner_in, pass_all, proved, qed, raw, returns}
+use Rattle.nit_c.proofs.Lemmas.{says, sets, suffices, the_type, vint, w64, ‵, ◌$◌, ◌∵◌}
 use Rattle.nit_c.specs.contracts.handle.NitServer.closed as f
 use Rattle.nit_c.proofs.handle.NitServer.TheLaws.{lowered}
 use Rattle.nit_c.proofs.handle.NitServer.closed.Statement.{statement}

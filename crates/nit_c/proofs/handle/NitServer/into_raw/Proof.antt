@@ -1,13 +1,13 @@
 -- `into_raw` hands on what a live handle owns.
 use Rattle.std.proofs.Common.{◌≡◌, [], ◌∷◌, refl}
-use Rattle.nit_c.proofs.Lemmas.{held_owns, kept_row, live_mark, owner_in, owner_typed, proved}
-use Rattle.nit_c.proofs.Machine.{Goes-dropped, !, Is, RawPtr-laws, Stays, Struct, Val, agg}
-use Rattle.nit_c.proofs.Machine.{alloc_all, and_then, done, drop, ends_at, enter, fact, fld}
-use Rattle.nit_c.proofs.Machine.{free_all, fsep, fsplit, ftrue, get, get_in, heard, join, keep}
-use Rattle.nit_c.proofs.Machine.{look_at, move, no_more, nothing, of_opd, pass_all, plain, ptr_val}
-use Rattle.nit_c.proofs.Machine.{qed, raw, rawptr_Lawful, returns, rewrite, says, sets, shape}
-use Rattle.nit_c.proofs.Machine.{split, stay_dropped, stop, sub, suffices, to, vcons, vnil, vstruct}
-use Rattle.nit_c.proofs.Machine.{whole, yes, ‵, ◌$◌, ◌∵◌, ◌⊛◌}
+use Rattle.nit_c.proofs.Lemmas.{ !, Goes-dropped, Is, RawPtr-laws, Stays, Struct, Val, agg}
+use Rattle.nit_c.proofs.Lemmas.{alloc_all, and_then, done, drop, ends_at, enter, fact, fld}
+use Rattle.nit_c.proofs.Lemmas.{free_all, fsep, fsplit, ftrue, get, get_in, heard, held_owns, join}
+use Rattle.nit_c.proofs.Lemmas.{keep, kept_row, live_mark, look_at, move, no_more, nothing, of_opd}
+use Rattle.nit_c.proofs.Lemmas.{owner_in, owner_typed, pass_all, plain, proved, ptr_val, qed, raw}
+use Rattle.nit_c.proofs.Lemmas.{rawptr_Lawful, returns, rewrite, says, sets, shape, split}
+use Rattle.nit_c.proofs.Lemmas.{stay_dropped, stop, sub, suffices, to, vcons, vnil, vstruct, whole}
+use Rattle.nit_c.proofs.Lemmas.{yes, ‵, ◌$◌, ◌∵◌, ◌⊛◌}
 use Rattle.nit_c.specs.contracts.raw_box.RawBox as RawBox
 use Rattle.nit_c.specs.contracts.handle.NitServer as NitServer
 use Rattle.nit_c.proofs.handle.NitServer.TheLaws as laws

@@ -1,13 +1,12 @@
 -- `mark` reads a field behind the reference.
 use Rattle.std.proofs.Common.{List, [], ◌∷◌, refl, sym}
-use Rattle.nit_c.proofs.Lemmas.{proved, says_two}
-use Rattle.nit_c.proofs.Machine.{Goes-ref, !, MutRef, Stays, Val, alloc_all, cell_at, closes, done}
-use Rattle.nit_c.proofs.Machine.{ends_at, enter, fld, flft, frame, free_all, fsplit3, ftrue}
-use Rattle.nit_c.proofs.Machine.{full_share, group, join, keep, load, look_at, look_in, move}
-use Rattle.nit_c.proofs.Machine.{mut_Tells, mut_vals, named, nothing, of_opd, opens, owned}
-use Rattle.nit_c.proofs.Machine.{pass_all, peeks, plain, qed, returns, rewrite, sets, shows, split}
-use Rattle.nit_c.proofs.Machine.{stay_ref, stop, sub, suffices, through, u64, uint_Makes, vint, w64}
-use Rattle.nit_c.proofs.Machine.{walk_of, whole, ‵, ◌$◌, ◌∵◌, ◌⊛◌}
+use Rattle.nit_c.proofs.Lemmas.{ !, Goes-ref, MutRef, Stays, Val, alloc_all, cell_at, closes, done}
+use Rattle.nit_c.proofs.Lemmas.{ends_at, enter, fld, flft, frame, free_all, fsplit3, ftrue}
+use Rattle.nit_c.proofs.Lemmas.{full_share, group, join, keep, load, look_at, look_in, move}
+use Rattle.nit_c.proofs.Lemmas.{mut_Tells, mut_vals, named, nothing, of_opd, opens, owned, pass_all}
+use Rattle.nit_c.proofs.Lemmas.{peeks, plain, proved, qed, returns, rewrite, says_two, sets, shows}
+use Rattle.nit_c.proofs.Lemmas.{split, stay_ref, stop, sub, suffices, through, u64, uint_Makes}
+use Rattle.nit_c.proofs.Lemmas.{vint, w64, walk_of, whole, ‵, ◌$◌, ◌∵◌, ◌⊛◌}
 use Rattle.nit_c.specs.contracts.handle.NitServer.{the_row as R}
 use Rattle.nit_c.specs.contracts.handle.NitServer.mark as f
 use Rattle.nit_c.proofs.handle.NitServer.TheLaws.{lowers}

@@ -1,15 +1,14 @@
 -- `of_raw` keeps what the raw box owns.
 use Rattle.std.proofs.Common.{◌≡◌, List, [], ◌∷◌, refl, sym}
-use Rattle.nit_c.proofs.Lemmas.{held_owns, kept_row, live_mark, owner_in, owner_typed, proved}
-use Rattle.nit_c.proofs.Lemmas.{says_two}
-use Rattle.nit_c.proofs.Machine.{Goes-dropped, !, Is, Owning, RawPtr-laws, Stays, Struct}
-use Rattle.nit_c.proofs.Machine.{Tells-lowered, Val, agg, alloc_all, and_then, done, drop, ends_at}
-use Rattle.nit_c.proofs.Machine.{enter, fact, fld, free_all, fsep, fsplit, ftrue, get, get_in}
-use Rattle.nit_c.proofs.Machine.{heard, join, keep, look_at, move, no_more, nothing, of_opd}
-use Rattle.nit_c.proofs.Machine.{pass_all, plain, ptr_val, qed, raw, rawptr_Lawful, returns}
-use Rattle.nit_c.proofs.Machine.{rewrite, row, sets, shape, split, stay_dropped, stop, sub}
-use Rattle.nit_c.proofs.Machine.{suffices, to, u64, uint_Tells, uint_vals, vcons, vint, vnil}
-use Rattle.nit_c.proofs.Machine.{vstruct, w64, whole, yes, ‵, ◌$◌, ◌∵◌, ◌⊛◌}
+use Rattle.nit_c.proofs.Lemmas.{ !, Goes-dropped, Is, Owning, RawPtr-laws, Stays, Struct}
+use Rattle.nit_c.proofs.Lemmas.{Tells-lowered, Val, agg, alloc_all, and_then, done, drop, ends_at}
+use Rattle.nit_c.proofs.Lemmas.{enter, fact, fld, free_all, fsep, fsplit, ftrue, get, get_in, heard}
+use Rattle.nit_c.proofs.Lemmas.{held_owns, join, keep, kept_row, live_mark, look_at, move, no_more}
+use Rattle.nit_c.proofs.Lemmas.{nothing, of_opd, owner_in, owner_typed, pass_all, plain, proved}
+use Rattle.nit_c.proofs.Lemmas.{ptr_val, qed, raw, rawptr_Lawful, returns, rewrite, row, says_two}
+use Rattle.nit_c.proofs.Lemmas.{sets, shape, split, stay_dropped, stop, sub, suffices, to, u64}
+use Rattle.nit_c.proofs.Lemmas.{uint_Tells, uint_vals, vcons, vint, vnil, vstruct, w64, whole, yes}
+use Rattle.nit_c.proofs.Lemmas.{‵, ◌$◌, ◌∵◌, ◌⊛◌}
 use Rattle.nit_c.specs.contracts.raw_box.RawBox as RawBox
 use Rattle.nit_c.specs.contracts.handle.NitServer as NitServer
 use Rattle.nit_c.proofs.handle.NitServer.TheLaws as laws

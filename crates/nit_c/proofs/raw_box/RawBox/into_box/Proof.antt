@@ -1,19 +1,19 @@
 -- `into_box` hands what the raw box owns to `from_raw`.
 use Rattle.std.proofs.Common.{◌≡◌, List, [], ◌∷◌, refl}
-use Rattle.nit_c.proofs.Lemmas.{after, dict, ghosts, owner_typed, proved}
-use Rattle.nit_c.proofs.Machine.{Dict, !, Goes-dropped, Item, Lasts, Lfts, Owning, Ptr, RattleType}
-use Rattle.nit_c.proofs.Machine.{RawPtr-laws, Stays, Tells-lowered, Ty, Val, a_type, alloc_all}
-use Rattle.nit_c.proofs.Machine.{and_then, arg, arg_laws, at_ret, await, blocks, calls_at_last}
-use Rattle.nit_c.proofs.Machine.{dnil, done, drop, emp, ends_at, enter, env, exec, fact, fact_i}
-use Rattle.nit_c.proofs.Machine.{feq_i, first, fjoin, fld, flft, framed, free_all, fsep, fsplit}
-use Rattle.nit_c.proofs.Machine.{ftrue, full_share, get, get_in, glues, heard, id⊢, impl, inst_fn}
-use Rattle.nit_c.proofs.Machine.{join, keep, lands_last, lasts, later, layout, layouts, lft_new}
-use Rattle.nit_c.proofs.Machine.{look_at, move, no, no_more, nothing, of_opd, param, param_laws}
-use Rattle.nit_c.proofs.Machine.{pass_all, peeks, pick, plain, ptr_val, qed, raw, rawptr_Lawful}
-use Rattle.nit_c.proofs.Machine.{returns, row, says, sets, shows, some, split, split3, stay_dropped}
-use Rattle.nit_c.proofs.Machine.{stop, sub, suffices, tables, tcons, tells, tnil, triple_of, use0}
-use Rattle.nit_c.proofs.Machine.{use1, vals, vcons, vnil, vstruct, walk_of, whole, yes, ‵, ⊑_static}
-use Rattle.nit_c.proofs.Machine.{◌$◌, ◌∵◌, ◌⊑◌, ◌⊛◌}
+use Rattle.nit_c.proofs.Lemmas.{ !, Dict, Goes-dropped, Item, Lasts, Lfts, Owning, Ptr, RattleType}
+use Rattle.nit_c.proofs.Lemmas.{RawPtr-laws, Stays, Tells-lowered, Ty, Val, a_type, after}
+use Rattle.nit_c.proofs.Lemmas.{alloc_all, and_then, arg, arg_laws, at_ret, await, blocks}
+use Rattle.nit_c.proofs.Lemmas.{calls_at_last, dict, dnil, done, drop, emp, ends_at, enter, env}
+use Rattle.nit_c.proofs.Lemmas.{exec, fact, fact_i, feq_i, first, fjoin, fld, flft, framed}
+use Rattle.nit_c.proofs.Lemmas.{free_all, fsep, fsplit, ftrue, full_share, get, get_in, ghosts}
+use Rattle.nit_c.proofs.Lemmas.{glues, heard, id⊢, impl, inst_fn, join, keep, lands_last, lasts}
+use Rattle.nit_c.proofs.Lemmas.{later, layout, layouts, lft_new, look_at, move, no, no_more}
+use Rattle.nit_c.proofs.Lemmas.{nothing, of_opd, owner_typed, param, param_laws, pass_all, peeks}
+use Rattle.nit_c.proofs.Lemmas.{pick, plain, proved, ptr_val, qed, raw, rawptr_Lawful, returns, row}
+use Rattle.nit_c.proofs.Lemmas.{says, sets, shows, some, split, split3, stay_dropped, stop, sub}
+use Rattle.nit_c.proofs.Lemmas.{suffices, tables, tcons, tells, tnil, triple_of, use0, use1, vals}
+use Rattle.nit_c.proofs.Lemmas.{vcons, vnil, vstruct, walk_of, whole, yes, ‵, ⊑_static, ◌$◌, ◌∵◌}
+use Rattle.nit_c.proofs.Lemmas.{◌⊑◌, ◌⊛◌}
 use mir.Raw.{raw as bare}
 use Rattle.std_heap.specs.contracts.Global as Heap
 use Rattle.std_heap.proofs.Global.TheLaws as heap

@@ -1,19 +1,17 @@
 -- `of` keeps what `into_raw` hands back.
 use Rattle.std.proofs.Common.{List, [], ◌∷◌, ◌++◌, ◌∙◌, ap, refl}
-use Rattle.nit_c.proofs.Lemmas.{Goes-blank, dict, ghosts, heap_token, met, owner_in, owner_typed}
-use Rattle.nit_c.proofs.Lemmas.{proved}
-use Rattle.nit_c.proofs.Machine.{Dict, !, Is, Item, Lasts, Lfts, Owning, Ptr, RattleType, RawPtr}
-use Rattle.nit_c.proofs.Machine.{RawPtr-laws, Stays, Struct, Tells, Ty, Val, a_type, agg, alloc_all}
-use Rattle.nit_c.proofs.Machine.{and_then, arg, arg_laws, await, bounded, calls_at, dcons, dnil}
-use Rattle.nit_c.proofs.Machine.{done, drop, emp, ends_at, enter, fact, fact_i, feq_l, flft, framed}
-use Rattle.nit_c.proofs.Machine.{free_all, fsep, ftrue, full_share, get, glues, heard, id⊢, impl}
-use Rattle.nit_c.proofs.Machine.{inst_fn, join, keep, lands_as, lasts, later, layout, lft_new}
-use Rattle.nit_c.proofs.Machine.{look_at, move, no, no_more, nothing, of_list, of_opd, only, param}
-use Rattle.nit_c.proofs.Machine.{param_laws, pass_all, pick, plain, ptr_val, qed, raw}
-use Rattle.nit_c.proofs.Machine.{rawptr_Lawful, returns, says, sets, shape, some, split, split3}
-use Rattle.nit_c.proofs.Machine.{stay_dropped, suffices, tables, tcons, tells, tnil, to, triple_of}
-use Rattle.nit_c.proofs.Machine.{use0, use1, val, vcons, vnil, vstruct, walk_of, ‵, ⊑_static, ◌$◌}
-use Rattle.nit_c.proofs.Machine.{◌∵◌, ◌⊑◌, ◌⊛◌}
+use Rattle.nit_c.proofs.Lemmas.{ !, Dict, Goes-blank, Is, Item, Lasts, Lfts, Owning, Ptr, RattleType}
+use Rattle.nit_c.proofs.Lemmas.{RawPtr, RawPtr-laws, Stays, Struct, Tells, Ty, Val, a_type, agg}
+use Rattle.nit_c.proofs.Lemmas.{alloc_all, and_then, arg, arg_laws, await, bounded, calls_at, dcons}
+use Rattle.nit_c.proofs.Lemmas.{dict, dnil, done, drop, emp, ends_at, enter, fact, fact_i, feq_l}
+use Rattle.nit_c.proofs.Lemmas.{flft, framed, free_all, fsep, ftrue, full_share, get, ghosts, glues}
+use Rattle.nit_c.proofs.Lemmas.{heap_token, heard, id⊢, impl, inst_fn, join, keep, lands_as, lasts}
+use Rattle.nit_c.proofs.Lemmas.{later, layout, lft_new, look_at, met, move, no, no_more, nothing}
+use Rattle.nit_c.proofs.Lemmas.{of_list, of_opd, only, owner_in, owner_typed, param, param_laws}
+use Rattle.nit_c.proofs.Lemmas.{pass_all, pick, plain, proved, ptr_val, qed, raw, rawptr_Lawful}
+use Rattle.nit_c.proofs.Lemmas.{returns, says, sets, shape, some, split, split3, stay_dropped}
+use Rattle.nit_c.proofs.Lemmas.{suffices, tables, tcons, tells, tnil, to, triple_of, use0, use1}
+use Rattle.nit_c.proofs.Lemmas.{val, vcons, vnil, vstruct, walk_of, ‵, ⊑_static, ◌$◌, ◌∵◌, ◌⊑◌, ◌⊛◌}
 use mir.Raw.{raw as bare}
 use Rattle.std_alloc.specs.Box.Ownership.{box_owns}
 use Rattle.std_heap.specs.contracts.Global as Heap
