@@ -2,7 +2,7 @@
 
 use nit_events::{Call, Reply};
 use nit_glyph::Label;
-use nit_host::{Host, SeatPlan, plan};
+use nit_host::{Client, Host, SeatPlan, plan};
 use nit_rect::Rect;
 use std::alloc::Global;
 use std::process::Abort;
@@ -55,17 +55,17 @@ fn opened(rt: &impl Abort, alloc: Global) -> Host {
 /// A client with a buffer and a view.
 fn client(rt: &impl Abort, host: &mut Host) {
     let label = Label::new(b"a").expect(rt, "a label");
-    let seated = host.seat(0, label);
-    assert!(rt; seated == Ok(()));
-    done(rt, host, &Call::Buffer(2, 2));
-    let made = host.call(0, &Call::View);
+    let client = host.seat(0, label).expect(rt, "a free seat");
+    assert!(rt; client == Client { seat: 0, turn: 1 });
+    done(rt, host, client, &Call::Buffer(2, 2));
+    let made = host.call(client, &Call::View);
     assert!(rt; made == Ok(Reply::Handle(1)));
-    done(rt, host, &Call::Place(1, 1, 1, 2, 2));
-    let drawn = host.refresh(0, (0, 0), (2, 2), &[1, 2, 3, 4]);
+    done(rt, host, client, &Call::Place(1, 1, 1, 2, 2));
+    let drawn = host.refresh(client, (0, 0), (2, 2), &[1, 2, 3, 4]);
     assert!(rt; drawn == Ok(Reply::Done));
 }
 
-fn done(rt: &impl Abort, host: &mut Host, call: &Call) {
-    let reply = host.call(0, call);
+fn done(rt: &impl Abort, host: &mut Host, client: Client, call: &Call) {
+    let reply = host.call(client, call);
     assert!(rt; reply == Ok(Reply::Done));
 }
