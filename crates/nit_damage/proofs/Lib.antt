@@ -9,4 +9,5 @@ pub mod NextPiece
 pub mod Examples
 pub mod ForCallers
 pub mod Basics
+pub mod Upright
 pub mod Lemmas

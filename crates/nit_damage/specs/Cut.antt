@@ -1,8 +1,8 @@
 -- One cut.
 use Rattle.std.specs.Prelude.{All, ◌≡◌, ℕ, ◌+◌, ◌≤◌, ◌<◌, ◌&&◌, List, ◌++◌, length, map, sum_by}
-use Rattle.std.specs.Prelude.{Option, IfSome, MatchOption}
-use Rattle.nit_damage.specs.Below.{CoversBoth, HasPixels, IsApart, Job, Piece, Point, Rectangle}
-use Rattle.nit_damage.specs.Below.{StackModel, covers, times}
+use Rattle.std.specs.Prelude.{Option, IfSome, MatchOption, pos, ◌-◌}
+use Rattle.nit_damage.specs.Below.{CoversBoth, Edges, HasPixels, IsApart, Job, Piece, Point}
+use Rattle.nit_damage.specs.Below.{Rectangle, StackModel, covers, rectangle, times}
 use Rattle.nit_damage.specs.Damage.{once}
 use Rattle.nit_damage.specs.Cutter.{FitsJobs, IsJob, IsPieceOf, job_at, job_to_come, jobs_to_come}
 use Rattle.nit_damage.specs.Cutter.{piece_times, weight, weight_of}
@@ -10,6 +10,10 @@ use Rattle.nit_damage.specs.Cutter.{piece_times, weight, weight_of}
 -- How often rectangles have the pixel, together.
 abbrev pub times_all : List Rectangle → Point → ℕ
 times_all rs p = sum_by (λ r. times r p) rs
+
+-- the rectangle of these edges
+abbrev pub rectangle_of : Edges → Rectangle
+rectangle_of e = rectangle (pos e.left) (pos e.top) (e.right - e.left) (e.bottom - e.top)
 
 -- A rectangle is cut by another: at most four are put in as its rest, none of them without pixels.
 -- They have each of its pixels once that the other does not cover. The part that both cover is told

@@ -6,6 +6,7 @@ ghost use Rattle.nit_damage.specs.Terms.{FitsJobs, HasPixels, IsCut, IsCutStep, 
 ghost use Rattle.nit_damage.specs.Terms.{IsScreenRectangle, IsSkip, Point, job_at, jobs_to_come};
 ghost use Rattle.nit_damage.specs.Terms.{piece_times, weight, with_pixels};
 
+use crate::rest::rest_of;
 use nit_rect::Rect;
 use nit_stack::{Piece, Stack};
 
@@ -95,7 +96,7 @@ pub(crate) fn cut_out(jobs: &mut Vec<Job>, rect: Rect, by: Rect, at: u32) -> Opt
         put_in(jobs, rect, at);
         return None;
     }
-    let rest = rect.strips(&part);
+    let rest = rest_of(&rect, &part);
     put_in(jobs, rest.bottom, at);
     put_in(jobs, rest.right, at);
     put_in(jobs, rest.left, at);

@@ -21,6 +21,7 @@ mod cutter;
 mod cutting;
 mod laws;
 mod places;
+mod rest;
 
 pub use cutter::Cutter;
 pub use laws::owned_pixels;
