@@ -1,3 +1,4 @@
+use Rattle.std.proofs.Common.{length, ◌<◌}
 use Rattle.nit_labels.proofs.Lemmas.{IsDown, arith, cases_eq, down_step, get_or-set_other}
 use Rattle.nit_labels.proofs.Lemmas.{get_or-set_same, inl, inr, owner_at, refl, slice_index_or}
 use Rattle.nit_labels.proofs.down.count_down.Goals as goal
@@ -15,7 +16,9 @@ columns-preserved c =
     (before.ahead x (omega arith) c.columns-test.true)) in
     record {
       done = λ k lt. elim (cases_eq k x) [
-        | inl same ↦ rw (same, get_or-set_same down x c.counted.result 0 (omega (arith, c.columns.auto.down, c.requires.length, c.columns-test.true))) here
+        | inl same ↦
+            let within : x < length down = omega (arith, c.columns.auto.down, c.requires.length, c.columns-test.true) in
+            rw (same, get_or-set_same down x c.counted.result 0 within) here
         | inr differ ↦ rw (get_or-set_other down x k c.counted.result 0 differ) (before.done k (omega arith))
       ];
       ahead = λ k from lt.
