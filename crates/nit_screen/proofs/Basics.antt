@@ -47,10 +47,10 @@ pub use Rattle.nit_screen.specs.Terms.{layer, length, list_any, loads_at, member
 pub use Rattle.nit_screen.specs.Terms.{new_view, no_sight, no_size, no_slot, number_at, number_of}
 pub use Rattle.nit_screen.specs.Terms.{opened, option_map_or, owner, owner_at, owner_of}
 pub use Rattle.nit_screen.specs.Terms.{owner_passes, owner_word, owns_either, picture_height}
-pub use Rattle.nit_screen.specs.Terms.{picture_width, pieces_left, pixel, pixel_count, place_of}
-pub use Rattle.nit_screen.specs.Terms.{point, position_or_len, put_above, put_again, put_front}
-pub use Rattle.nit_screen.specs.Terms.{raw_in, raw_of, receive, rectangle, refusal, replay}
-pub use Rattle.nit_screen.specs.Terms.{replay_from, route, routed_as, routing_of, same_slot}
+pub use Rattle.nit_screen.specs.Terms.{picture_width, pieces_left, pixel, pixel_at, pixel_count}
+pub use Rattle.nit_screen.specs.Terms.{place_of, point, position_or_len, put_above, put_again}
+pub use Rattle.nit_screen.specs.Terms.{put_front, raw_in, raw_of, receive, rectangle, refusal}
+pub use Rattle.nit_screen.specs.Terms.{replay, replay_from, route, routed_as, routing_of, same_slot}
 pub use Rattle.nit_screen.specs.Terms.{scenery_of, seat_owner, seen, serve, session, session_in}
 pub use Rattle.nit_screen.specs.Terms.{session_owns, shown, shown_by, shown_index, size_of}
 pub use Rattle.nit_screen.specs.Terms.{size_of_buffer, slot_owns_either, slot_view_in, source}
@@ -71,7 +71,7 @@ pub use Rattle.nit_stack.proofs.ForCallers.{found_passes, found_some, has-name, 
 pub use Rattle.nit_stack.proofs.ForCallers.{map-without, owner_named, owner_of_session, place_is}
 pub use Rattle.nit_stack.proofs.ForCallers.{slot_at, views_closed}
 pub use Rattle.nit_word.proofs.ForCallers.{at_place, seen_none}
-pub use Rattle.std.proofs.Common.{ap, arith, length-set, refl, rules, sym, ◌∙◌}
+pub use Rattle.std.proofs.Common.{ap, arith, length-set, option_map, refl, rules, sym, ◌∙◌}
 pub use Rattle.std.proofs.Math.Bool.{and-false}
 pub use Rattle.std.proofs.Math.ListN.{get_or-map}
 pub use Rattle.std.proofs.Math.Nat.{mul-le-mul_right, mul_comm}
@@ -81,7 +81,7 @@ pub use Rattle.std.proofs.lemmas.Bool.{eqb-true, false_from_ne_true, false≢tru
 pub use Rattle.std.proofs.lemmas.Bool.Decides.{nat_tests}
 pub use Rattle.std.proofs.lemmas.Int.{ints}
 pub use Rattle.std.proofs.lemmas.List.{drop-replicate, get_or-append_right, get_or-replicate}
-pub use Rattle.std.proofs.lemmas.List.{get_or_append_left, get_or_past, length-map}
+pub use Rattle.std.proofs.lemmas.List.{get_or_append_left, get_or_past, get_or_read, length-map}
 pub use Rattle.std.proofs.lemmas.List.{length-replicate, map-set, places}
 pub use Rattle.std.proofs.lemmas.List.{replicate-append-replicate, set-get_or}
 pub use Rattle.std.proofs.lemmas.List.Elements.{All-append, All-drop, All-filter, All-head, All-nil}

@@ -1,22 +1,24 @@
 -- What answers use: all that lemmas use, and this crate's lemmas.
 pub use Rattle.nit_screen.proofs.Basics.{All-replicate, AreSet, Configuration, FitsStack, Flat}
-pub use Rattle.nit_screen.proofs.Basics.{IsRawOf, IsRemovedFrom, IsRepaint, IsViewChange, IsWord}
-pub use Rattle.nit_screen.proofs.Basics.{MapRoom, Rectangle, ServerModel, StackModel, State}
-pub use Rattle.nit_screen.proofs.Basics.{all_painted, all_taken, ap, arith, bare_word}
-pub use Rattle.nit_screen.proofs.Basics.{deliveries_of, false≢true, get_or-replicate, goes}
-pub use Rattle.nit_screen.proofs.Basics.{goes_painted, gone_change, gone_painted, has-name, ints}
-pub use Rattle.nit_screen.proofs.Basics.{kills, label_scenery, label_width, length, length-map}
-pub use Rattle.nit_screen.proofs.Basics.{length-replicate, length-set, nat_tests, one_less}
-pub use Rattle.nit_screen.proofs.Basics.{pieces_left, pixel, place_is, places, raw_of, refl}
-pub use Rattle.nit_screen.proofs.Basics.{refused_reply, repainted_words, rules, seat_here}
-pub use Rattle.nit_screen.proofs.Basics.{serve_refused, session, session_in, source_of_number}
-pub use Rattle.nit_screen.proofs.Basics.{state_of, stays, stays_clean, sym, taken_more, taken_none}
-pub use Rattle.nit_screen.proofs.Basics.{uncovered, views_of, without_session, without_views, ◌∙◌}
+pub use Rattle.nit_screen.proofs.Basics.{IsRawOf, IsRemovedFrom, IsRepaint, IsSlotView}
+pub use Rattle.nit_screen.proofs.Basics.{IsViewChange, IsWord, MapRoom, Rectangle, ServerModel}
+pub use Rattle.nit_screen.proofs.Basics.{SlotView, StackModel, State, all_painted, all_taken, ap}
+pub use Rattle.nit_screen.proofs.Basics.{arith, bare_word, deliveries_of, false≢true}
+pub use Rattle.nit_screen.proofs.Basics.{get_or-replicate, get_or_read, goes, goes_painted}
+pub use Rattle.nit_screen.proofs.Basics.{gone_change, gone_painted, has-name, ints, kills}
+pub use Rattle.nit_screen.proofs.Basics.{label_place_of, label_scenery, label_width, length}
+pub use Rattle.nit_screen.proofs.Basics.{length-map, length-replicate, length-set, nat_tests}
+pub use Rattle.nit_screen.proofs.Basics.{one_less, option_map, pieces_left, pixel, pixel_at}
+pub use Rattle.nit_screen.proofs.Basics.{place_is, places, raw_of, refl, refused_reply}
+pub use Rattle.nit_screen.proofs.Basics.{repainted_words, rules, seat_here, serve_refused, session}
+pub use Rattle.nit_screen.proofs.Basics.{session_in, slice_get-get_or, source_of_number, state_of}
+pub use Rattle.nit_screen.proofs.Basics.{stays, stays_clean, sym, taken_more, taken_none, uncovered}
+pub use Rattle.nit_screen.proofs.Basics.{views_of, without_session, without_views, ◌∙◌}
 pub use Rattle.nit_screen.proofs.CallsShown.{can_paint, can_paint_served, can_show_loaded}
 pub use Rattle.nit_screen.proofs.CallsShown.{clean_shown, close_call, part_call, quiet_shown}
 pub use Rattle.nit_screen.proofs.CallsShown.{view_call}
 pub use Rattle.nit_screen.proofs.CleanCalls.{refused_state, unrefused_reply}
-pub use Rattle.nit_screen.proofs.FrameLabelLemmas.{AreWritten, labels_shown, labels_stand}
+pub use Rattle.nit_screen.proofs.FrameLabelLemmas.{AreWritten, holds_at, labels_shown, labels_stand}
 pub use Rattle.nit_screen.proofs.FrameLabelLemmas.{slot_within, written_more}
 pub use Rattle.nit_screen.proofs.Handles.{keeps_below, keeps_own, named_throughout, names_anew}
 pub use Rattle.nit_screen.proofs.KeptFrames.{can_paint_gone, can_paint_rest, can_stay, can_still}

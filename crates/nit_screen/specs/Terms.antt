@@ -27,7 +27,7 @@ pub use Rattle.nit_screen.specs.Below.{label_place_of, layer, length, list_any, 
 pub use Rattle.nit_screen.specs.Below.{most_height, most_slots, most_width, moved, name_of}
 pub use Rattle.nit_screen.specs.Below.{new_view, no_sight, no_size, opened, option_map_or, owner}
 pub use Rattle.nit_screen.specs.Below.{owner_at, owner_of, owner_passes, owner_word, picture_height}
-pub use Rattle.nit_screen.specs.Below.{picture_width, pieces_left, pixel, place_of, point}
+pub use Rattle.nit_screen.specs.Below.{picture_width, pieces_left, pixel, pixel_at, place_of, point}
 pub use Rattle.nit_screen.specs.Below.{position_or_len, put_above, put_again, put_front, receive}
 pub use Rattle.nit_screen.specs.Below.{rectangle, refusal, replay, replay_from, replicate, route}
 pub use Rattle.nit_screen.specs.Below.{routed_as, routing_of, same_slot, seat_owner, seen, serve}
