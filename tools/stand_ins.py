@@ -104,7 +104,7 @@ def plain_library(folder, embed):
 
 def slow_library(folder, embed):
     """The same, but for a call that takes much longer than it may."""
-    head = "struct nit_reply nit_take(struct nit_server *server, uint32_t seat)\n{\n"
+    head = "struct nit_reply nit_take(struct nit_server *server, nit_client client)\n{\n"
     text = (embed / "tests" / "plain.c").read_text()
     slow = text.replace(head, f"{head}    for (volatile int k = 0; k < 2000; k++);\n")
     if slow == text:
@@ -116,7 +116,7 @@ def archived(folder, embed, name, text):
     """An archive of one C source over the library's header."""
     source, part, archive = (folder / f"{name}.{end}" for end in ("c", "o", "a"))
     source.write_text(text)
-    subprocess.run(["gcc", "-w", "-O2", "-I", embed / "include", "-c", source, "-o", part],
-                   check=True)
+    folders = ["-I", embed / "include", "-I", embed / "tests"]
+    subprocess.run(["gcc", "-w", "-O2", *folders, "-c", source, "-o", part], check=True)
     subprocess.run(["ar", "rcs", archive, part], check=True)
     return archive

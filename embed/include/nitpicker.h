@@ -3,17 +3,19 @@
  * The host owns the window, the devices and whatever its clients speak. Each thing that it does is
  * one call of this header. No call waits, none calls back, none keeps a pointer, and none but
  * nit_open_seats, nit_open_config and nit_entry takes memory. There is no global state: servers
- * that stand beside each other know nothing of each other.
+ * that stand beside each other know nothing of each other. A call that takes the server as const
+ * is a reader: it changes nothing.
  *
  * Words. A word of a pixel is 0x00RRGGBB; the highest byte of a word that a client hands in is
  * ignored, and it is 0 in each word that the screen shows. A server has 1 to 16 seats, numbered
- * from 0, and a client sits on each that is taken. The rules by which calls and input go are in
- * docs/RULES.md, with seats in the place of sessions: the session of a client is what its seat
- * does from nit_seat to its end.
+ * from 0, and a client sits on each that is taken; its name says which of the seat's clients it is
+ * (nit_client). The rules by which calls and input go are in docs/RULES.md, with seats in the place
+ * of sessions: the session of a client is what its seat does from nit_seat to its end.
  *
  * Duties of the host. Nothing tests these; all else that a host can get wrong is answered by name.
  *   1. A handle begins as NIT_CLOSED, and none but this library changes it from then on. It is
- *      never copied; between two calls it may be moved.
+ *      never copied; between two calls it may be moved. It is not defined const, nor does it lie
+ *      where nothing can be written: a reader leaves its bytes as they are, but may write them.
  *   2. A pointer is not null, also where its count is 0, and is aligned for what it points to.
  *      Behind it lie as many words or bytes as the count says, and those that are read are set.
  *      While a call runs no other thread and no other process writes what it reads, nor reads or
@@ -27,24 +29,29 @@
  *      of this header.
  *   5. A call has stack enough. Nothing bounds it by proof; by measure (embed/tests/stack.c) an
  *      opening needs less than 64 KB, and any other call less than 16 KB.
- *   6. The header and the archive are of one version, and the machine is an x86-64 one.
- *   7. The words of nit_look are as the last look left them; before the first one, and those of
- *      nit_look_anew, they may be any.
- *   8. What nit_look puts is shown to the user before the next nit_press of a button: a click goes
- *      to the client that the last look showed under the pointer, or is refused (NIT_MOVED). While
- *      nit_state says NIT_MODE_KILL it is well to serve no call of a client but nit_take, and to
- *      seat none: then no click there is refused behind a look.
- *   9. What speaks for a client calls for that client's seat alone. From nit_leave and NIT_KILL on
- *      it calls for none, and what it still has under way is dropped: the next client of the seat
- *      has its number, and its views count from 1 again.
+ *   6. The header and the archive are of one version: two versions do not link, as long as the
+ *      host opens by this header. The machine is an x86-64 one.
+ *   7. The words of nit_look are what the screen showed at the last look: as nit_look or
+ *      nit_look_anew left them, or with the parts of nit_damage copied to them. Before the first
+ *      look, and those of nit_look_anew, they may be any.
+ *   8. What a look tells is shown to the user before the next nit_press of a button: a click goes
+ *      to the client that the last look showed under the pointer, or is refused (NIT_MOVED). The
+ *      parts of nit_damage are copied (nit_copy) and shown before the next call of a client, and
+ *      before all else that is no reader. While nit_state says NIT_MODE_KILL it is well to serve no
+ *      call of a client but nit_take, to seat none, and to raise and lower nothing: then no click
+ *      there is refused behind a look.
+ *   9. What speaks for a client calls by the name that nit_seat answered for this client, and by no
+ *      other: the host keeps the name, and takes none from a client. What is still under way as the
+ *      client leaves or is locked out may come late: a call that names a former client of the seat
+ *      is answered NIT_OTHER_CLIENT, and reaches nobody.
  *  10. Each press has its release. The release of a key or a button that the host has lost sight of
  *      (its window lost the keyboard, a device went) is made up; that of a code which is not held
  *      does nothing. nit_held tells what is held, and nit_release_all lets go of it.
  * Where one of 1 to 6 is not kept, anything may happen. Where one of the others is not, each call
  * does what it says, but: without 7 the words are not what the screen shows; without 8 a click may
- * go to another client than the user saw, or lock it out; without 9 a client calls as the next one
- * of its seat, and is told what is that one's; without 10 all keys, clicks and motions go on to
- * whoever got the press, the focus stays, and the mode keys do nothing.
+ * go to another client than the user saw, or lock it out; without 9 a client calls as another one,
+ * and is told what is that one's; without 10 all keys, clicks and motions go on to whoever got the
+ * press, the focus stays, and the mode keys do nothing.
  */
 #ifndef NITPICKER_H
 #define NITPICKER_H
@@ -56,11 +63,14 @@
 extern "C" {
 #endif
 
+/* The version of this header. The names of the two exports that open end in it. */
+#define NIT_VERSION 2
+
 /* ---- The handle */
 
 /* A server, or none. Where `mark` is not the library's own, it is none. Then each call but the two
- * that open leaves it as it is, and answers NIT_NO_SERVER; nit_seat_for and nit_held answer
- * NIT_NONE, and nit_entry, nit_label and nit_title_at 0. */
+ * that open leaves it as it is, and answers NIT_NO_SERVER; nit_held answers NIT_NONE, and
+ * nit_entry, nit_label and nit_title_at 0. */
 struct nit_server {
     void *at;
     uint64_t mark;
@@ -69,7 +79,7 @@ struct nit_server {
 /* A handle of no server: `struct nit_server server = NIT_CLOSED;` */
 #define NIT_CLOSED { NULL, 0 }
 
-/* No seat, where a number of one is answered. */
+/* No seat, where a number of one is answered, and no code. */
 #define NIT_NONE UINT32_MAX
 
 /* So many bytes hold the line that nit_entry puts, whatever the step was. */
@@ -91,10 +101,23 @@ struct nit_server {
 /* The views of a client. */
 #define NIT_MOST_VIEWS 64
 
+/* ---- Clients */
+
+/* The name of a client: turn * 65,536 + seat. The turn counts the clients that have come to the
+ * server since it opened, on all its seats, 1 for the first one. Who sat on a seat as it opened, or
+ * nobody, has the turn 0, so the seat's number is the name. So a server gives each name once. */
+typedef uint64_t nit_client;
+
+/* The seat on which this client sits, or sat. */
+static inline uint32_t nit_seat_of(nit_client client)
+{
+    return (uint32_t)(client & 0xFFFF);
+}
+
 /* ---- Answers */
 
-/* What a call answers, in the field `kind` or by itself. But nit_seat_for answers a seat,
- * nit_held a code, and nit_entry, nit_label and nit_title_at a length. */
+/* What a call answers, in the field `kind` or by itself. But nit_held answers a code, and
+ * nit_entry, nit_label and nit_title_at a length. */
 enum nit_answer {
     NIT_NO_SERVER = 0,        /* the handle is closed, or was never one of a server */
 
@@ -105,7 +128,8 @@ enum nit_answer {
     NIT_EVENT = 3,            /* `event` was the oldest that waited, and waits no more */
     NIT_NO_EVENT = 4,         /* none waits */
     NIT_NO_SUCH_VIEW = 5,     /* the client has no view of the handle `handle` */
-    NIT_BAD_RECT = 6,         /* a number of a rectangle or an offset is out of range */
+    NIT_BAD_RECT = 6,         /* a number of a rectangle or an offset is out of range; of nit_copy:
+                                 it reaches beyond the screen */
     NIT_BAD_SIZE = 7,         /* a side of a buffer is 0 or over 4,096 */
     NIT_BAD_TITLE = 8,        /* over 12 characters, or one that no title has */
     NIT_TOO_MANY_VIEWS = 9,   /* the client has 64 */
@@ -117,18 +141,23 @@ enum nit_answer {
     /* Not served: no step, and nothing changed. */
     NIT_NO_SEAT = 32,         /* the server has no seat of this number */
     NIT_SEAT_TAKEN = 33,      /* a client sits there */
-    NIT_LABEL_TAKEN = 34,     /* another seat has this label, or had it last */
+    NIT_LABEL_TAKEN = 34,     /* another seat has this label, or had it last; of nit_seat_for: a
+                                 client has it, or a free seat of another layer had it last */
     NIT_BAD_LABEL = 35,       /* no label: 1 to 20 of a..z, 0..9, '-', '.', '_' */
     NIT_BAD_TEXT = 36,        /* over 40 bytes, or one that is not 0x20..0x7E */
     NIT_BAD_DEVICE = 37,      /* a code over 767, a place over 65,535, a turn beyond 127 */
     NIT_SHORT_WORDS = 38,     /* fewer words than the client's buffer has */
-    NIT_WRONG_FRAME = 39,     /* another number of words than the screen has pixels */
+    NIT_WRONG_FRAME = 39,     /* another number of words than the screen has pixels; of nit_copy:
+                                 the words do not hold the part */
     NIT_HANDLES_USED_UP = 40, /* nit_view alone: the client has made 4,294,967,293 views */
-    NIT_WORN_OUT = 41,        /* the server has done its 2^62 steps */
+    NIT_WORN_OUT = 41,        /* the server has done its 2^62 steps; of nit_seat and nit_seat_for:
+                                 it has had its 2^48 - 1 clients */
     NIT_NO_MEMORY = 42,       /* malloc answered NULL */
     NIT_IS_OPEN = 43,         /* the handle has a server */
     NIT_BAD_PLAN = 44,        /* a number of the plan is out of range */
     NIT_MOVED = 45,           /* nit_press alone: the last look showed another client there */
+    NIT_OTHER_CLIENT = 46,    /* the seat has another client than this one, or had one last */
+    NIT_NO_FREE_SEAT = 47,    /* nit_seat_for alone: no seat of this layer is free */
 
     /* Refusals of the text of a configuration, in the order of docs/FORMATS.md. */
     NIT_CONFIG_TOO_LONG = 64, /* over 1,048,576 bytes */
@@ -141,6 +170,29 @@ enum nit_answer {
     NIT_CONFIG_LABEL = 71,
     NIT_CONFIG_TWICE = 72
 };
+
+/* The name of an answer as text: "NIT_DONE" of NIT_DONE; "unknown" of another number. */
+#define NIT_TEXT(name) case name: return #name
+static inline const char *nit_text(uint32_t kind)
+{
+    switch (kind) {
+    NIT_TEXT(NIT_NO_SERVER); NIT_TEXT(NIT_DONE); NIT_TEXT(NIT_HANDLE); NIT_TEXT(NIT_EVENT);
+    NIT_TEXT(NIT_NO_EVENT); NIT_TEXT(NIT_NO_SUCH_VIEW); NIT_TEXT(NIT_BAD_RECT);
+    NIT_TEXT(NIT_BAD_SIZE); NIT_TEXT(NIT_BAD_TITLE); NIT_TEXT(NIT_TOO_MANY_VIEWS);
+    NIT_TEXT(NIT_OUT_OF_QUOTA); NIT_TEXT(NIT_NO_RESERVE); NIT_TEXT(NIT_SESSION_CLOSED);
+    NIT_TEXT(NIT_SESSION_KILLED); NIT_TEXT(NIT_NO_SEAT); NIT_TEXT(NIT_SEAT_TAKEN);
+    NIT_TEXT(NIT_LABEL_TAKEN); NIT_TEXT(NIT_BAD_LABEL); NIT_TEXT(NIT_BAD_TEXT);
+    NIT_TEXT(NIT_BAD_DEVICE); NIT_TEXT(NIT_SHORT_WORDS); NIT_TEXT(NIT_WRONG_FRAME);
+    NIT_TEXT(NIT_HANDLES_USED_UP); NIT_TEXT(NIT_WORN_OUT); NIT_TEXT(NIT_NO_MEMORY);
+    NIT_TEXT(NIT_IS_OPEN); NIT_TEXT(NIT_BAD_PLAN); NIT_TEXT(NIT_MOVED); NIT_TEXT(NIT_OTHER_CLIENT);
+    NIT_TEXT(NIT_NO_FREE_SEAT); NIT_TEXT(NIT_CONFIG_TOO_LONG); NIT_TEXT(NIT_CONFIG_SYNTAX);
+    NIT_TEXT(NIT_CONFIG_KIND); NIT_TEXT(NIT_CONFIG_MISSING); NIT_TEXT(NIT_CONFIG_UNKNOWN);
+    NIT_TEXT(NIT_CONFIG_TOO_MANY); NIT_TEXT(NIT_CONFIG_RANGE); NIT_TEXT(NIT_CONFIG_LABEL);
+    NIT_TEXT(NIT_CONFIG_TWICE);
+    default: return "unknown";
+    }
+}
+#undef NIT_TEXT
 
 /* What a client is told, or what becomes of it. */
 enum nit_event_kind {
@@ -163,6 +215,14 @@ struct nit_event {
     int32_t turn;             /* -127..127 */
 };
 
+/* The answer where a client sits down. All but `kind` is 0 where it says another than NIT_DONE. */
+struct nit_seated {
+    uint32_t kind;            /* enum nit_answer */
+    uint32_t seat;
+    nit_client client;        /* who sits there now; 0 of nit_seat_for */
+    uint64_t zero;            /* 0 */
+};
+
 /* The answer to a client's call. A field that its kind does not name is 0. */
 struct nit_reply {
     uint32_t kind;            /* enum nit_answer */
@@ -171,7 +231,8 @@ struct nit_reply {
     uint64_t need, left;      /* in units: a view costs 256, a word of a buffer 8 */
 };
 
-/* Whom one thing that the user did went to. */
+/* Whom one thing that the user did went to: the client that sits on this seat, or that the user
+ * has just locked out there. */
 struct nit_delivery {
     uint32_t seat;
     struct nit_event event;
@@ -180,7 +241,8 @@ struct nit_delivery {
 /* The answer to what the user did. It went to the first `count` of `to`, in their order; the
  * others are 0. An event waits at its seat until nit_take, or until its client leaves or is locked
  * out; unless 64 wait there already: then it is lost, and stands here all the same. Behind NIT_KILL
- * the seat is free: what speaks for its client speaks for nobody any more. */
+ * the seat is free: what speaks for its client speaks for nobody any more. A lock-out is no ban: a
+ * client of the same label may sit down again. A host that wants a ban keeps the label. */
 struct nit_routed {
     uint32_t kind;            /* NIT_DONE, NIT_NO_SERVER, NIT_BAD_DEVICE, NIT_MOVED, NIT_WORN_OUT */
     uint32_t count;           /* 0..3 */
@@ -191,6 +253,18 @@ struct nit_routed {
 struct nit_rect {
     uint32_t kind;            /* NIT_DONE, NIT_NO_SERVER, NIT_WRONG_FRAME */
     uint32_t x, y, w, h;      /* all 0 where nothing changed */
+};
+
+/* A part of the screen. */
+struct nit_part {
+    uint32_t x, y, w, h;      /* x <= column < x + w, y <= row < y + h */
+};
+
+/* What may have changed on the screen: the first `count` of `part`; the others are 0. */
+struct nit_damage {
+    uint32_t kind;            /* NIT_DONE, NIT_NO_SERVER */
+    uint32_t count;           /* 0..16 */
+    struct nit_part part[16];
 };
 
 /* How the screen is shown. */
@@ -220,6 +294,7 @@ struct nit_seat_state {
     uint32_t waiting;         /* how many events wait, 0..64 */
     uint32_t zero;            /* 0 */
     uint64_t lost;            /* how many were lost since the seat was taken */
+    nit_client client;        /* who sits there, or sat there last */
 };
 
 /* What a seat's client has. All but `kind` is 0 where there is none. */
@@ -260,6 +335,11 @@ struct nit_plan {
     const struct nit_seat_plan *seats;
 };
 
+/* The exports behind the next three calls. A host calls those. */
+uint32_t nit_open_seats_2(struct nit_server *server, uint32_t width, uint32_t height, uint32_t bar,
+                          const uint32_t *seats, size_t words);
+uint32_t nit_open_config_2(struct nit_server *server, const char *text, size_t length);
+
 /* Opens a server whose seats are all free. `seats` has three words for each seat: donation, layer,
  * clicks; so `words` is three times their number.
  *
@@ -271,8 +351,11 @@ struct nit_plan {
  *
  * Answers NIT_DONE; and the first that applies of NIT_IS_OPEN, NIT_BAD_PLAN, NIT_NO_MEMORY: then
  * the handle is as it was before. */
-uint32_t nit_open_seats(struct nit_server *server, uint32_t width, uint32_t height, uint32_t bar,
-                        const uint32_t *seats, size_t words);
+static inline uint32_t nit_open_seats(struct nit_server *server, uint32_t width, uint32_t height,
+                                      uint32_t bar, const uint32_t *seats, size_t words)
+{
+    return nit_open_seats_2(server, width, height, bar, seats, words);
+}
 
 /* The same by a plan. */
 static inline uint32_t nit_open(struct nit_server *server, const struct nit_plan *plan)
@@ -288,12 +371,15 @@ static inline uint32_t nit_open(struct nit_server *server, const struct nit_plan
 }
 
 /* Opens a server by the text of a configuration (docs/FORMATS.md), which is UTF-8 and ends by its
- * length. Its clients sit on the seats from the start, in their order; the names of scripts are
- * read, and stand for nothing.
+ * length. Its clients sit on the seats from the start, in their order, so each has its seat's
+ * number as its name; the names of scripts are read, and stand for nothing.
  * Answers NIT_DONE; and the first that applies of NIT_IS_OPEN, NIT_CONFIG_TOO_LONG, NIT_NO_MEMORY
  * at any point of reading, the other refusals of a configuration, NIT_NO_MEMORY: then the handle
  * is as it was before. */
-uint32_t nit_open_config(struct nit_server *server, const char *text, size_t length);
+static inline uint32_t nit_open_config(struct nit_server *server, const char *text, size_t length)
+{
+    return nit_open_config_2(server, text, length);
+}
 
 /* Frees all of a server, whoever sits there. The handle is NIT_CLOSED then, and may be opened
  * again.
@@ -302,76 +388,85 @@ uint32_t nit_close(struct nit_server *server);
 
 /* ---- Seats */
 
-/* A new client sits down on a free seat. Its label is written where the user has to know whom a
- * view belongs to. It has no view, no buffer and no event, and has lost none; the donation of the
- * seat is as in the plan, its next view has the handle 1, and all words that it has not handed in
- * yet are 0. Nothing of an earlier client of the seat is left. A seat of a plan that was never
- * taken has its number as a label: `.0` to `.9`, `.a` to `.f`.
- * Answers NIT_DONE; and the first that applies of NIT_NO_SERVER, NIT_NO_SEAT, NIT_BAD_LABEL,
- * NIT_SEAT_TAKEN, NIT_LABEL_TAKEN. */
-uint32_t nit_seat(struct nit_server *server, uint32_t seat, const char *label, size_t length);
+/* A new client sits down on a free seat, and gets its name. Its label is written where the user has
+ * to know whom a view belongs to. It has no view, no buffer and no event, and has lost none; the
+ * donation of the seat is as in the plan, its next view has the handle 1, and all words that it has
+ * not handed in yet are 0. Nothing of an earlier client of the seat is left. A seat of a plan that
+ * was never taken has its number as a label: `.0` to `.9`, `.a` to `.f`.
+ * Answers NIT_DONE with the seat and the client; and the first that applies of NIT_NO_SERVER,
+ * NIT_NO_SEAT, NIT_BAD_LABEL, NIT_SEAT_TAKEN, NIT_LABEL_TAKEN, NIT_WORN_OUT (it has had its
+ * 2^48 - 1 clients). */
+struct nit_seated nit_seat(struct nit_server *server, uint32_t seat, const char *label,
+                           size_t length);
 
-/* The seat that takes a new client of this label: the free one that had the label last, else the
- * first free one, whatever its layer, donation and clicks are. So nit_seat on the answer is done.
- * NIT_NONE where no seat takes it: no seat is free, a seat that is taken has the label, it is no
- * label, or there is no server. A client that the user has locked out gets its seat again so, where
- * the host lets it. */
-uint32_t nit_seat_for(struct nit_server *server, const char *label, size_t length);
+/* The seat that takes a new client of this label in this layer: the free one of the layer that had
+ * the label last, else the first free one of the layer, whatever its donation and clicks are. So
+ * nit_seat on the answer is done, and where there is none, it is done on no seat of this layer.
+ * Answers NIT_DONE with the seat, and no client; and the first that applies of NIT_NO_SERVER,
+ * NIT_BAD_LABEL, NIT_LABEL_TAKEN (a client that sits has the label, or a free seat of another layer
+ * had it last: no other seat takes it), NIT_NO_FREE_SEAT (no seat of this layer is free; none has a
+ * layer over 7), NIT_WORN_OUT. A client that the user has locked out gets its seat again so: a host
+ * that wants a ban keeps the label. */
+struct nit_seated nit_seat_for(const struct nit_server *server, const char *label, size_t length,
+                               uint32_t layer);
 
 /* ---- Calls of a client
  *
- * The client of the seat `seat` asks for this. Where one of these applies, the first of them is
- * answered, and its session is not asked: NIT_NO_SERVER, NIT_NO_SEAT, NIT_HANDLES_USED_UP (of
+ * The client `client` asks for this. Where one of these applies, the first of them is answered, and
+ * its session is not asked: NIT_NO_SERVER, NIT_NO_SEAT, NIT_OTHER_CLIENT, NIT_HANDLES_USED_UP (of
  * nit_view), NIT_SHORT_WORDS (of nit_refresh), NIT_WORN_OUT, NIT_BAD_TEXT (of nit_title). Else it
  * is a step, and the answer is the reply of docs/RULES.md; for a refusal the first that applies of
  * NIT_SESSION_CLOSED or NIT_SESSION_KILLED, NIT_NO_SUCH_VIEW, NIT_BAD_RECT, NIT_BAD_SIZE,
  * NIT_BAD_TITLE, NIT_TOO_MANY_VIEWS, NIT_OUT_OF_QUOTA, NIT_NO_RESERVE. Any number may be handed
- * in. */
+ * in. A client that left or was locked out keeps its name until the next one sits down there: until
+ * then its calls answer NIT_SESSION_CLOSED or NIT_SESSION_KILLED, and NIT_OTHER_CLIENT from then
+ * on. Where nobody sat down yet, the seat's number is a name that answers NIT_SESSION_CLOSED. */
 
 /* The client's buffer has this width and height, in words, each 1..4096. A word stays by its
  * index, which is row * w + column, whatever w was before, and is 0 until it is handed in. So a
  * client refreshes all of its buffer next. (The line `buffer` of a script sets its words to 0.) */
-struct nit_reply nit_buffer(struct nit_server *server, uint32_t seat, uint32_t w, uint32_t h);
+struct nit_reply nit_buffer(struct nit_server *server, nit_client client, uint32_t w, uint32_t h);
 
 /* A new view, in front of its layer, with the rectangle (0, 0, 0, 0). Answers NIT_HANDLE, or
  * NIT_HANDLES_USED_UP where no more can be made: nit_leave and nit_seat begin anew. */
-struct nit_reply nit_view(struct nit_server *server, uint32_t seat);
+struct nit_reply nit_view(struct nit_server *server, nit_client client);
 
 /* The view has this rectangle of the screen; x and y -32768..32767, w and h 0..32767. */
-struct nit_reply nit_place(struct nit_server *server, uint32_t seat, uint32_t view,
+struct nit_reply nit_place(struct nit_server *server, nit_client client, uint32_t view,
                            int32_t x, int32_t y, uint32_t w, uint32_t h);
 
 /* The view shows the buffer moved by this many columns and rows, each -32768..32767. */
-struct nit_reply nit_offset(struct nit_server *server, uint32_t seat, uint32_t view,
+struct nit_reply nit_offset(struct nit_server *server, nit_client client, uint32_t view,
                             int32_t x, int32_t y);
 
 /* The view stands in front of all of its layer. */
-struct nit_reply nit_front(struct nit_server *server, uint32_t seat, uint32_t view);
+struct nit_reply nit_front(struct nit_server *server, nit_client client, uint32_t view);
 
 /* The view stands behind all of its layer. */
-struct nit_reply nit_back(struct nit_server *server, uint32_t seat, uint32_t view);
+struct nit_reply nit_back(struct nit_server *server, nit_client client, uint32_t view);
 
 /* The view stands directly in front of `other`, which is one of the client's too. Nothing changes
  * where the two are the same. */
-struct nit_reply nit_above(struct nit_server *server, uint32_t seat, uint32_t view, uint32_t other);
+struct nit_reply nit_above(struct nit_server *server, nit_client client, uint32_t view,
+                           uint32_t other);
 
 /* The view has this title, 0 to 12 of a..z, 0..9, '-', '.', '_' and the space.
  * NIT_BAD_TEXT: the bytes are no text, so its session is not asked. */
-struct nit_reply nit_title(struct nit_server *server, uint32_t seat, uint32_t view,
+struct nit_reply nit_title(struct nit_server *server, nit_client client, uint32_t view,
                            const char *text, size_t length);
 
 /* The view is gone. */
-struct nit_reply nit_destroy(struct nit_server *server, uint32_t seat, uint32_t view);
+struct nit_reply nit_destroy(struct nit_server *server, nit_client client, uint32_t view);
 
 /* Takes the oldest event that waits. Answers NIT_EVENT, NIT_NO_EVENT. */
-struct nit_reply nit_take(struct nit_server *server, uint32_t seat);
+struct nit_reply nit_take(struct nit_server *server, nit_client client);
 
 /* So many units of the client's reserve become donation. */
-struct nit_reply nit_upgrade(struct nit_server *server, uint32_t seat, uint32_t units);
+struct nit_reply nit_upgrade(struct nit_server *server, nit_client client, uint32_t units);
 
 /* The client leaves. Its views, its buffer and the events that wait for it are gone, and its seat
  * is free. */
-struct nit_reply nit_leave(struct nit_server *server, uint32_t seat);
+struct nit_reply nit_leave(struct nit_server *server, nit_client client);
 
 /* What the client has drawn in this part of its buffer is shown: x and y -32768..32767, w and h
  * 0..32767. `words` has the words of its whole buffer, row by row from the top, each row as wide as
@@ -381,14 +476,14 @@ struct nit_reply nit_leave(struct nit_server *server, uint32_t seat);
  * reply but NIT_DONE keeps nothing.
  * NIT_SHORT_WORDS: `count` is below the number of words of the buffer, so its session is not asked.
  */
-struct nit_reply nit_refresh(struct nit_server *server, uint32_t seat, int32_t x, int32_t y,
+struct nit_reply nit_refresh(struct nit_server *server, nit_client client, int32_t x, int32_t y,
                              uint32_t w, uint32_t h, const uint32_t *words, size_t count);
 
 /* ---- The user
  *
- * Each answers the first that applies of NIT_NO_SERVER, NIT_BAD_DEVICE, NIT_MOVED (of nit_press),
- * NIT_WORN_OUT; else it is a step, NIT_DONE. 70 is the X-ray key and 99 the kill key; codes
- * 272..279 are buttons. */
+ * Each of the first four, which are the devices, answers the first that applies of NIT_NO_SERVER,
+ * NIT_BAD_DEVICE, NIT_MOVED (of nit_press), NIT_WORN_OUT; else it is a step, NIT_DONE. 70 is the
+ * X-ray key and 99 the kill key; codes 272..279 are buttons. */
 
 /* A key or a button goes down; 0..767.
  * NIT_MOVED: a button, while nothing is held, where the client under the pointer is not the one
@@ -408,6 +503,16 @@ struct nit_routed nit_motion(struct nit_server *server, uint32_t x, uint32_t y);
 /* The wheel turns by -127..127. */
 struct nit_routed nit_wheel(struct nit_server *server, int32_t turn);
 
+/* The user wants this view in front of all of its layer, as by a click on its frame. It is no call
+ * of the client: this is told nothing, and its replies and events are as they would be without it.
+ * No view changes its layer. nit_entry tells nothing behind it.
+ * Answers NIT_DONE; and the first that applies of NIT_NO_SERVER, NIT_NO_SEAT, NIT_OTHER_CLIENT,
+ * NIT_NO_SUCH_VIEW, NIT_WORN_OUT: then nothing changed. */
+uint32_t nit_raise(struct nit_server *server, nit_client client, uint32_t view);
+
+/* The user wants it behind all of its layer. It answers, and is, as nit_raise. */
+uint32_t nit_lower(struct nit_server *server, nit_client client, uint32_t view);
+
 /* ---- Looking */
 
 /* Brings `out`, which has `count` words, width times height, row by row from the top, up to date
@@ -424,36 +529,59 @@ struct nit_rect nit_look(struct nit_server *server, uint32_t *out, size_t count)
  * the screen shows then, and the rectangle is the least outside of which none was another. */
 struct nit_rect nit_look_anew(struct nit_server *server, uint32_t *out, size_t count);
 
+/* A look without the copying: the parts of the screen in which pixels may have changed since the
+ * last look, of whichever kind. Each has a pixel and is within the screen, no two of them meet, and
+ * all that changed lies in them; those of the first look hold the whole screen. It is a look as
+ * nit_look is: a click goes by it from now on (NIT_MOVED), and the next look tells what changed
+ * since. So the host copies the parts with nit_copy, and shows them, as duties 7 and 8 say. */
+struct nit_damage nit_damage(struct nit_server *server);
+
+/* Puts the words of this part of the screen, as it is now: that of column x + c and row y + r at
+ * out[r * pitch + c]. No other word of `out` changes, whatever is answered. It is no look.
+ * Answers NIT_DONE, also where w or h is 0: then nothing is put; and the first that applies of
+ * NIT_NO_SERVER, NIT_BAD_RECT (x + w is over the screen's width, or y + h over its height),
+ * NIT_WRONG_FRAME (the part has pixels, and w is over `pitch` where h is over 1, or
+ * (h - 1) * pitch + w is over `count`). */
+uint32_t nit_copy(const struct nit_server *server, uint32_t x, uint32_t y, uint32_t w, uint32_t h,
+                  uint32_t *out, size_t count, size_t pitch);
+
+/* ---- Reading */
+
 /* What can be read of the server. */
-struct nit_state nit_state(struct nit_server *server);
+struct nit_state nit_state(const struct nit_server *server);
 
 /* What can be read of a seat. */
-struct nit_seat_state nit_seat_state(struct nit_server *server, uint32_t seat);
+struct nit_seat_state nit_seat_state(const struct nit_server *server, uint32_t seat);
 
 /* What a seat's client has, and what is left. What it has of the donation is
  * donation - 256 * views - 8 * width * height. */
-struct nit_account nit_account(struct nit_server *server, uint32_t seat);
+struct nit_account nit_account(const struct nit_server *server, uint32_t seat);
 
 /* Puts the label of a seat's client, or at a free seat the one that waits there, at the head of
  * `out`, where its `room` bytes hold it, and answers how many bytes it has, 1..20. Where they do
  * not, nothing is put. 0 where there is no server or no seat. */
-size_t nit_label(struct nit_server *server, uint32_t seat, char *out, size_t room);
+size_t nit_label(const struct nit_server *server, uint32_t seat, char *out, size_t room);
 
 /* The view at a place among all, 0 the front-most one. So a host that asks until it is told
  * NIT_NO_SUCH_VIEW has the views of each client, from front to rear. */
-struct nit_view_state nit_view_at(struct nit_server *server, uint32_t place);
+struct nit_view_state nit_view_at(const struct nit_server *server, uint32_t place);
 
 /* The title of that view, put and counted as a label is: 0..12 bytes, 0 where there is no view. */
-size_t nit_title_at(struct nit_server *server, uint32_t place, char *out, size_t room);
+size_t nit_title_at(const struct nit_server *server, uint32_t place, char *out, size_t room);
 
 /* The view that owns the pixel in this column and row, as the server stands: the front-most one
  * that covers it. None has a pixel of the bar, or one that is not on the screen. It shows the word
  * of its client's buffer in column x - view.x - offset_x and row y - view.y - offset_y. */
-struct nit_view_state nit_owner(struct nit_server *server, uint32_t x, uint32_t y);
+struct nit_view_state nit_owner(const struct nit_server *server, uint32_t x, uint32_t y);
+
+/* The view that owned this pixel as the last look had it, of whichever kind: with the seat, the
+ * handle, the rectangle and the offset of then, whoever sits there now. None before the first look,
+ * and none has a pixel of the bar, or one that is not on the screen. */
+struct nit_view_state nit_shown(const struct nit_server *server, uint32_t x, uint32_t y);
 
 /* The code at a place among those that are held, 0 the one that went down first; NIT_NONE where no
  * more are held. */
-uint32_t nit_held(struct nit_server *server, uint32_t place);
+uint32_t nit_held(const struct nit_server *server, uint32_t place);
 
 /* Lets go of all that is held, each by a step of its own: when the host has lost sight of them. */
 static inline void nit_release_all(struct nit_server *server)
@@ -467,8 +595,9 @@ static inline void nit_release_all(struct nit_server *server)
 /* Puts the last step as a line of docs/FORMATS.md's journal, with its line feed, at the head of
  * `out`, where its `room` bytes hold it, and answers how many bytes the line has. Where they do
  * not, nothing is put. 0 where there is no step to tell: no server, none done yet, or a client sat
- * down since. SIZE_MAX where memory ran out: this call takes some for its time. */
-size_t nit_entry(struct nit_server *server, char *out, size_t room);
+ * down or the user restacked since. SIZE_MAX where memory ran out: this call takes some for its
+ * time. */
+size_t nit_entry(const struct nit_server *server, char *out, size_t room);
 
 /* ---- How many bytes the structs have: those of their fields, and no other */
 
@@ -479,12 +608,15 @@ size_t nit_entry(struct nit_server *server, char *out, size_t room);
 #endif
 NIT_BYTES(struct nit_server, 16);
 NIT_BYTES(struct nit_event, 16);
+NIT_BYTES(struct nit_seated, 24);
 NIT_BYTES(struct nit_reply, 40);
 NIT_BYTES(struct nit_delivery, 20);
 NIT_BYTES(struct nit_routed, 68);
 NIT_BYTES(struct nit_rect, 20);
 NIT_BYTES(struct nit_state, 40);
-NIT_BYTES(struct nit_seat_state, 24);
+NIT_BYTES(struct nit_part, 16);
+NIT_BYTES(struct nit_damage, 264);
+NIT_BYTES(struct nit_seat_state, 32);
 NIT_BYTES(struct nit_account, 24);
 NIT_BYTES(struct nit_view_state, 36);
 NIT_BYTES(struct nit_seat_plan, 12);

@@ -1,6 +1,5 @@
 /* Each call of the library in order, and each refusal by its name. The values are worked out from
- * docs/RULES.md and docs/FORMATS.md by hand. This part has handles, opening, seats and the text of
- * the last step. */
+ * docs/RULES.md and docs/FORMATS.md by hand. This part has handles and opening. */
 #include "answers.h"
 #include "parts.h"
 
@@ -23,8 +22,10 @@ static void calls_of_none(struct nit_server *none)
     REPLY(nit_upgrade(none, 0, 1), .kind = NIT_NO_SERVER);
     REPLY(nit_leave(none, 0), .kind = NIT_NO_SERVER);
     REPLY(nit_refresh(none, 0, 0, 0, 1, 1, &word, 1), .kind = NIT_NO_SERVER);
-    CHECK(nit_seat(none, 0, TEXT("a")) == NIT_NO_SERVER);
-    CHECK(nit_seat_for(none, TEXT("a")) == NIT_NONE);
+    SEATED(nit_seat(none, 0, TEXT("a")), .kind = NIT_NO_SERVER);
+    SEATED(nit_seat_for(none, TEXT("a"), 0), .kind = NIT_NO_SERVER);
+    SEATED(nit_seat_for(none, TEXT("A"), 8), .kind = NIT_NO_SERVER);
+    CHECK(nit_raise(none, 0, 1) == NIT_NO_SERVER && nit_lower(none, 0, 1) == NIT_NO_SERVER);
     CHECK(nit_close(none) == NIT_NO_SERVER);
 }
 
@@ -38,7 +39,13 @@ static void others_of_none(struct nit_server *none)
         CHECK(memcmp(&routed[k], &nobody, sizeof nobody) == 0);
     uint32_t word = 7;
     char out[1] = { 'x' };
+    const struct nit_damage nothing = { .kind = NIT_NO_SERVER };
+    struct nit_damage damage = nit_damage(none);
+    CHECK(memcmp(&damage, &nothing, sizeof nothing) == 0);
     RECT(nit_look(none, &word, 1), .kind = NIT_NO_SERVER);
+    CHECK(nit_copy(none, 0, 0, 1, 1, &word, 1, 1) == NIT_NO_SERVER);
+    CHECK(nit_copy(none, 9, 9, 9, 9, &word, 0, 0) == NIT_NO_SERVER);
+    VIEW(nit_shown(none, 0, 0), .kind = NIT_NO_SERVER);
     STATE(nit_state(none), .kind = NIT_NO_SERVER);
     SEAT(nit_seat_state(none, 0), .kind = NIT_NO_SERVER);
     CHECK(nit_entry(none, out, 1) == 0);
@@ -141,6 +148,24 @@ static void plans(void)
     CHECK(nit_open(&server, &plan) == NIT_BAD_PLAN);
 }
 
+/* ---- Texts of answers: each number that has one has another one. */
+
+static void texts(void)
+{
+    static const char none[] = "unknown";
+    uint32_t count = 0;
+    CHECK(strcmp(nit_text(NIT_NO_SERVER), "NIT_NO_SERVER") == 0);
+    CHECK(strcmp(nit_text(NIT_NO_FREE_SEAT), "NIT_NO_FREE_SEAT") == 0);
+    CHECK(strcmp(nit_text(14), none) == 0 && strcmp(nit_text(UINT32_MAX), none) == 0);
+    for (uint32_t kind = 0; kind < 128; kind++) {
+        const char *text = nit_text(kind);
+        count += strcmp(text, none) != 0;
+        for (uint32_t other = 0; other < kind; other++)
+            CHECK(strcmp(text, none) == 0 || strcmp(text, nit_text(other)) != 0);
+    }
+    CHECK(count == 14 + 16 + 9);
+}
+
 /* ---- Configurations. */
 
 #define CLIENT(label) "[[client]]\nlabel = \"" label "\"\ndonation = 65536\nscript = \"s\"\n"
@@ -230,149 +255,18 @@ static void seated_clients(void)
     CHECK(nit_open_config(&server, TEXT(text)) == NIT_DONE);
     CHECK(nit_entry(&server, out, 0) == 0);
     SEAT(nit_seat_state(&server, 0), .kind = NIT_DONE, .status = NIT_SEAT_LIVE);
-    SEAT(nit_seat_state(&server, 1), .kind = NIT_DONE, .status = NIT_SEAT_LIVE);
+    SEAT(nit_seat_state(&server, 1), .kind = NIT_DONE, .status = NIT_SEAT_LIVE, .client = 1);
     SEAT(nit_seat_state(&server, 2), .kind = NIT_NO_SEAT);
     REPLY(nit_view(&server, 1), .kind = NIT_HANDLE, .handle = 1);
-    CHECK(nit_seat_for(&server, TEXT("c")) == NIT_NONE);
+    REPLY(nit_view(&server, 65536), .kind = NIT_OTHER_CLIENT);
+    SEATED(nit_seat_for(&server, TEXT("c"), 0), .kind = NIT_NO_FREE_SEAT);
     REPLY(nit_leave(&server, 0), .kind = NIT_DONE);
-    CHECK(nit_seat_for(&server, TEXT("c")) == 0);
-    CHECK(nit_seat_for(&server, TEXT("b")) == NIT_NONE);
-    CHECK(nit_seat(&server, 0, TEXT("b")) == NIT_LABEL_TAKEN);
-    CHECK(nit_seat(&server, 0, TEXT("c")) == NIT_DONE);
-    close_plain(&server);
-}
-
-/* ---- Seats. */
-
-static void labels(struct nit_server *server)
-{
-    static const char *const bad[] = { "", "abcdefghijklmnopqrstu", "A", "a b", "a:b", "a\n",
-                                       "\xC3\xA4", "a/b" };
-    static const char *const good[] = { "abcdefghijklmnopqrst", "-", "._0", "9z", "seat-1", "0" };
-    for (size_t k = 0; k < sizeof bad / sizeof *bad; k++) {
-        CHECK(nit_seat(server, 0, bad[k], strlen(bad[k])) == NIT_BAD_LABEL);
-        CHECK(nit_seat_for(server, bad[k], strlen(bad[k])) == NIT_NONE);
-    }
-    CHECK(nit_seat(server, 0, "a", 0) == NIT_BAD_LABEL);
-    CHECK(nit_seat(server, 0, "a\0", 2) == NIT_BAD_LABEL);
-    for (size_t k = 0; k < sizeof good / sizeof *good; k++) {
-        CHECK(nit_seat_for(server, good[k], strlen(good[k])) == 0);
-        CHECK(nit_seat(server, 0, good[k], strlen(good[k])) == NIT_DONE);
-        REPLY(nit_leave(server, 0), .kind = NIT_DONE);
-    }
-}
-
-/* A seat that nobody has taken has its number as a label. */
-static void labels_of_free_seats(void)
-{
-    struct nit_server server = NIT_CLOSED;
-    open_plain(&server, 40, 30, 12, 256);
-    CHECK(nit_seat_for(&server, TEXT(".1")) == 1 && nit_seat_for(&server, TEXT(".b")) == 11);
-    CHECK(nit_seat_for(&server, TEXT(".c")) == 0 && nit_seat_for(&server, TEXT("1")) == 0);
-    CHECK(nit_seat(&server, 0, TEXT(".1")) == NIT_LABEL_TAKEN);
-    CHECK(nit_seat(&server, 1, TEXT("a")) == NIT_DONE);
-    CHECK(nit_seat_for(&server, TEXT(".1")) == 0);
-    CHECK(nit_seat(&server, 0, TEXT(".1")) == NIT_DONE);
-    close_plain(&server);
-}
-
-static void seats(void)
-{
-    struct nit_server server = NIT_CLOSED;
-    open_plain(&server, 40, 30, 3, 65536);
-    REPLY(nit_view(&server, 0), .kind = NIT_SESSION_CLOSED);
-    labels(&server);
-    CHECK(nit_seat(&server, 3, TEXT("a")) == NIT_NO_SEAT);
-    CHECK(nit_seat(&server, UINT32_MAX, TEXT("")) == NIT_NO_SEAT);
-    CHECK(nit_seat(&server, 0, TEXT("a")) == NIT_DONE);
-    CHECK(nit_seat(&server, 0, TEXT("b")) == NIT_SEAT_TAKEN);
-    CHECK(nit_seat(&server, 0, TEXT("a")) == NIT_SEAT_TAKEN);
-    CHECK(nit_seat(&server, 0, TEXT("B")) == NIT_BAD_LABEL);
-    CHECK(nit_seat(&server, 1, TEXT("a")) == NIT_LABEL_TAKEN);
-    CHECK(nit_seat_for(&server, TEXT("a")) == NIT_NONE);
-    CHECK(nit_seat_for(&server, TEXT("b")) == 1);
-    CHECK(nit_seat(&server, 1, TEXT("b")) == NIT_DONE);
-    CHECK(nit_seat(&server, 0, TEXT("b")) == NIT_SEAT_TAKEN);
-    REPLY(nit_leave(&server, 1), .kind = NIT_DONE);
-    REPLY(nit_leave(&server, 0), .kind = NIT_DONE);
-    CHECK(nit_seat_for(&server, TEXT("b")) == 1 && nit_seat_for(&server, TEXT("c")) == 0);
-    CHECK(nit_seat(&server, 0, TEXT("b")) == NIT_LABEL_TAKEN);
-    CHECK(nit_seat(&server, 2, TEXT("a")) == NIT_LABEL_TAKEN);
-    CHECK(nit_seat(&server, 1, TEXT("c")) == NIT_DONE);
-    CHECK(nit_seat(&server, 0, TEXT("b")) == NIT_DONE);
-    CHECK(nit_seat_for(&server, TEXT("a")) == 2 && nit_seat(&server, 2, TEXT("a")) == NIT_DONE);
-    CHECK(nit_seat_for(&server, TEXT("d")) == NIT_NONE);
-    close_plain(&server);
-}
-
-/* ---- The text of the last step. */
-
-static void entry_is(struct nit_server *server, const char *line)
-{
-    size_t length = strlen(line);
-    char *out = guarded_text(length);
-    memset(out, 'x', length);
-    if (length > 0) {
-        CHECK(nit_entry(server, out + 1, length - 1) == length);
-        CHECK(memchr(out, '\n', length) == NULL);
-    }
-    CHECK(nit_entry(server, out, length) == length);
-    CHECK(memcmp(out, line, length) == 0);
-}
-
-static void entries(void)
-{
-    struct nit_server server = NIT_CLOSED;
-    open_plain(&server, 40, 30, 2, 1000);
-    entry_is(&server, "");
-    REPLY(nit_view(&server, 1), .kind = NIT_SESSION_CLOSED);
-    entry_is(&server, "call 1 closed < view\n");
-    CHECK(nit_seat(&server, 1, TEXT("a")) == NIT_DONE);
-    entry_is(&server, "");
-    REPLY(nit_view(&server, 1), .kind = NIT_HANDLE, .handle = 1);
-    entry_is(&server, "call 1 handle 1 < view\n");
-    REPLY(nit_title(&server, 1, 1, TEXT("a <b")), .kind = NIT_BAD_TITLE);
-    entry_is(&server, "call 1 bad-title < title 1 =a <b\n");
-    REPLY(nit_buffer(&server, 1, 10, 10), .kind = NIT_OUT_OF_QUOTA, .need = 800, .left = 744);
-    entry_is(&server, "call 1 out-of-quota 800 744 < buffer 10 10\n");
-    REPLY(nit_view(&server, 2), .kind = NIT_NO_SEAT);
-    REPLY(nit_title(&server, 1, 1, TEXT("\t")), .kind = NIT_BAD_TEXT);
-    entry_is(&server, "call 1 out-of-quota 800 744 < buffer 10 10\n");
-    REPLY(nit_place(&server, 1, 1, 0, 0, 40, 30), .kind = NIT_DONE);
-    CHECK(nit_look(&server, guarded_words(1200), 1200).kind == NIT_DONE);
-    ROUTED(nit_press(&server, 272), TOLD(1, NIT_FOCUS_ENTER), PRESS(1, 272));
-    entry_is(&server, "input press 272 > 1 focus-enter > 1 press 272\n");
-    ROUTED(nit_motion(&server, 65535, 7), MOTION(1, 39, 7));
-    entry_is(&server, "input motion 65535 7 > 1 motion 39 7\n");
-    REPLY(nit_take(&server, 1), .kind = NIT_EVENT, .event.kind = NIT_FOCUS_ENTER);
-    entry_is(&server, "call 1 event focus-enter < take\n");
-    REPLY(nit_place(&server, 1, UINT32_MAX, INT32_MIN, INT32_MIN, UINT32_MAX, UINT32_MAX),
-          .kind = NIT_NO_SUCH_VIEW, .handle = UINT32_MAX);
-    entry_is(&server, "call 1 no-such-view 4294967295 < place 4294967295 -2147483648 "
-             "-2147483648 4294967295 4294967295\n");
-    REPLY(nit_leave(&server, 1), .kind = NIT_DONE);
-    entry_is(&server, "call 1 done < close\n");
-    close_plain(&server);
-}
-
-/* The longest lines that the format has; docs/FORMATS.md. */
-static void longest_entries(void)
-{
-    struct nit_server server = NIT_CLOSED;
-    char text[40];
-    memset(text, '~', sizeof text);
-    open_plain(&server, 8, 8, 16, 256);
-    CHECK(nit_seat(&server, 15, TEXT("a")) == NIT_DONE);
-    REPLY(nit_place(&server, 15, UINT32_MAX, INT32_MIN, INT32_MIN, UINT32_MAX, UINT32_MAX),
-          .kind = NIT_NO_SUCH_VIEW, .handle = UINT32_MAX);
-    static const char longest[] = "call 15 no-such-view 4294967295 < place 4294967295 -2147483648 "
-                                  "-2147483648 4294967295 4294967295\n";
-    CHECK(sizeof longest - 1 < NIT_LINE);
-    entry_is(&server, longest);
-    REPLY(nit_title(&server, 15, UINT32_MAX, text, sizeof text), .kind = NIT_NO_SUCH_VIEW,
-          .handle = UINT32_MAX);
-    entry_is(&server, "call 15 no-such-view 4294967295 < title 4294967295 "
-             "=~~~~~~~~~~~~~~~~~~~~~~~~~~~~~~~~~~~~~~~~\n");
+    SEATED(nit_seat_for(&server, TEXT("c"), 0), .kind = NIT_DONE);
+    SEATED(nit_seat_for(&server, TEXT("b"), 0), .kind = NIT_LABEL_TAKEN);
+    SEATED(nit_seat(&server, 0, TEXT("b")), .kind = NIT_LABEL_TAKEN);
+    CHECK(sits_on(&server, 0, "c") == 65536);
+    REPLY(nit_view(&server, 0), .kind = NIT_OTHER_CLIENT);
+    REPLY(nit_view(&server, 1), .kind = NIT_HANDLE, .handle = 2);
     close_plain(&server);
 }
 
@@ -380,21 +274,25 @@ int main(void)
 {
     handles_that_are_none();
     limits();
+    texts();
     screens();
     seats_of_plans();
     plans();
     refused_configurations();
     seated_clients();
-    labels_of_free_seats();
-    seats();
-    entries();
-    longest_entries();
+    seats_answer();
+    clients_answer();
+    steps_answer();
     calls_answer();
     screen_answers();
     refreshes_read();
     views_answer();
     input_answers();
     clicks_answer();
+    restacks_answer();
+    shown_answers();
+    damage_answers();
+    copies_answer();
     puts("answers: each call and each refusal is as the rules say");
     return 0;
 }

@@ -7,6 +7,7 @@
 enum { WIDTH = 64, HEIGHT = 32 };
 
 static struct nit_server server = NIT_CLOSED;
+static nit_client client[2];
 static uint32_t frame[WIDTH * HEIGHT];
 
 static void look(void)
@@ -16,13 +17,13 @@ static void look(void)
 
 static void placed(uint32_t seat, uint32_t view, int32_t x)
 {
-    REPLY(nit_place(&server, seat, view, x, 0, 10, 10), .kind = NIT_DONE);
+    REPLY(nit_place(&server, client[seat], view, x, 0, 10, 10), .kind = NIT_DONE);
 }
 
 static void sits(uint32_t seat, const char *label, int32_t x)
 {
-    CHECK(nit_seat(&server, seat, label, strlen(label)) == NIT_DONE);
-    REPLY(nit_view(&server, seat), .kind = NIT_HANDLE, .handle = 1);
+    client[seat] = sits_on(&server, seat, label);
+    REPLY(nit_view(&server, client[seat]), .kind = NIT_HANDLE, .handle = 1);
     placed(seat, 1, x);
 }
 
@@ -87,9 +88,9 @@ static void jumps(void)
     placed(1, 1, 0);
     RECT(nit_look(&server, frame, WIDTH * HEIGHT + 1), .kind = NIT_WRONG_FRAME);
     moved(272);
-    REPLY(nit_front(&server, 0, 1), .kind = NIT_DONE);
+    REPLY(nit_front(&server, client[0], 1), .kind = NIT_DONE);
     clicked(0, 272);
-    REPLY(nit_front(&server, 1, 1), .kind = NIT_DONE);
+    REPLY(nit_front(&server, client[1], 1), .kind = NIT_DONE);
     moved(272);
     moved(279);
     look();
@@ -118,7 +119,7 @@ static void steps_aside(void)
     moved(272);
     look();
     clicked(0, 272);
-    REPLY(nit_destroy(&server, 0, 1), .kind = NIT_DONE);
+    REPLY(nit_destroy(&server, client[0], 1), .kind = NIT_DONE);
     moved(272);
     look();
     ROUTED(nit_press(&server, 272), TOLD(0, NIT_FOCUS_LEAVE));
@@ -129,11 +130,11 @@ static void steps_aside(void)
 static void own_views(void)
 {
     begin();
-    REPLY(nit_view(&server, 0), .kind = NIT_HANDLE, .handle = 2);
+    REPLY(nit_view(&server, client[0]), .kind = NIT_HANDLE, .handle = 2);
     look();
     placed(0, 2, 2);
     clicked(0, 272);
-    REPLY(nit_destroy(&server, 0, 1), .kind = NIT_DONE);
+    REPLY(nit_destroy(&server, client[0], 1), .kind = NIT_DONE);
     clicked(0, 273);
     close_plain(&server);
 }
@@ -143,13 +144,13 @@ static void the_next_of_a_seat(void)
 {
     begin();
     look();
-    REPLY(nit_leave(&server, 0), .kind = NIT_DONE);
+    REPLY(nit_leave(&server, client[0]), .kind = NIT_DONE);
     moved(272);
     sits(0, "a", 0);
     moved(272);
     look();
     clicked(0, 272);
-    REPLY(nit_leave(&server, 1), .kind = NIT_DONE);
+    REPLY(nit_leave(&server, client[1]), .kind = NIT_DONE);
     sits(1, "c", 20);
     clicked(0, 272);
     close_plain(&server);
@@ -197,7 +198,8 @@ static void in_modes(void)
     placed(1, 1, 20);
     moved(272);
     CHECK(nit_state(&server).mode == NIT_MODE_KILL);
-    SEAT(nit_seat_state(&server, 0), .kind = NIT_DONE, .status = NIT_SEAT_LIVE, .waiting = 2);
+    SEAT(nit_seat_state(&server, 0), .kind = NIT_DONE, .status = NIT_SEAT_LIVE, .waiting = 2,
+         .client = client[0]);
     look();
     ROUTED(nit_press(&server, 272), TOLD(0, NIT_KILL));
     ROUTED(nit_release(&server, 272), NOBODY);

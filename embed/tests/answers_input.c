@@ -6,12 +6,13 @@
 #include "parts.h"
 
 static struct nit_server server = NIT_CLOSED;
+static nit_client client[3];
 
 static void sits(uint32_t seat, const char *label, int32_t x)
 {
-    CHECK(nit_seat(&server, seat, label, strlen(label)) == NIT_DONE);
-    REPLY(nit_view(&server, seat), .kind = NIT_HANDLE, .handle = 1);
-    REPLY(nit_place(&server, seat, 1, x, 0, 10, 10), .kind = NIT_DONE);
+    client[seat] = sits_on(&server, seat, label);
+    REPLY(nit_view(&server, client[seat]), .kind = NIT_HANDLE, .handle = 1);
+    REPLY(nit_place(&server, client[seat], 1, x, 0, 10, 10), .kind = NIT_DONE);
 }
 
 static void look(void)
@@ -61,7 +62,7 @@ static void pointer(void)
     state_is(NIT_MODE_FLAT, NIT_NONE, NIT_NONE, 63, 31);
     ROUTED(nit_motion(&server, 65535, 0), NOBODY);
     state_is(NIT_MODE_FLAT, NIT_NONE, NIT_NONE, 63, 0);
-    REPLY(nit_place(&server, 1, 1, 60, 0, 10, 10), .kind = NIT_DONE);
+    REPLY(nit_place(&server, client[1], 1, 60, 0, 10, 10), .kind = NIT_DONE);
     ROUTED(nit_wheel(&server, 1), WHEEL(1, 1));
     state_is(NIT_MODE_FLAT, NIT_NONE, 1, 63, 0);
     close_plain(&server);
@@ -124,12 +125,13 @@ static void leaving(void)
     begin();
     ROUTED(nit_motion(&server, 5, 5), MOTION(0, 5, 5));
     ROUTED(nit_press(&server, 272), TOLD(0, NIT_FOCUS_ENTER), PRESS(0, 272));
-    REPLY(nit_leave(&server, 0), .kind = NIT_DONE);
+    REPLY(nit_leave(&server, client[0]), .kind = NIT_DONE);
     state_is(NIT_MODE_FLAT, NIT_NONE, NIT_NONE, 5, 5);
     sits(0, "a", 0);
     ROUTED(nit_motion(&server, 6, 5), NOBODY);
     ROUTED(nit_release(&server, 272), NOBODY);
-    SEAT(nit_seat_state(&server, 0), .kind = NIT_DONE, .status = NIT_SEAT_LIVE);
+    SEAT(nit_seat_state(&server, 0), .kind = NIT_DONE, .status = NIT_SEAT_LIVE,
+         .client = client[0]);
     ROUTED(nit_motion(&server, 6, 5), MOTION(0, 6, 5));
     close_plain(&server);
 }
@@ -164,7 +166,8 @@ static void kill_mode(void)
     ROUTED(nit_motion(&server, 25, 5), NOBODY);
     ROUTED(nit_press(&server, 272), TOLD(1, NIT_KILL));
     state_is(NIT_MODE_FLAT, NIT_NONE, NIT_NONE, 25, 5);
-    SEAT(nit_seat_state(&server, 1), .kind = NIT_DONE, .status = NIT_SEAT_KILLED);
+    SEAT(nit_seat_state(&server, 1), .kind = NIT_DONE, .status = NIT_SEAT_KILLED,
+         .client = client[1]);
     ROUTED(nit_release(&server, 272), NOBODY);
     look();
     ROUTED(nit_press(&server, 99), NOBODY);
@@ -184,7 +187,7 @@ static void modes(void)
 
 static void taken(uint32_t seat, struct nit_event event)
 {
-    struct nit_reply reply = nit_take(&server, seat);
+    struct nit_reply reply = nit_take(&server, client[seat]);
     struct nit_reply want = { .kind = NIT_EVENT, .event = event };
     CHECK(memcmp(&reply, &want, sizeof want) == 0);
 }
@@ -192,14 +195,15 @@ static void taken(uint32_t seat, struct nit_event event)
 static void waiting(void)
 {
     begin();
-    REPLY(nit_take(&server, 0), .kind = NIT_NO_EVENT);
+    REPLY(nit_take(&server, client[0]), .kind = NIT_NO_EVENT);
     ROUTED(nit_motion(&server, 5, 6), MOTION(0, 5, 6));
     ROUTED(nit_press(&server, 272), TOLD(0, NIT_FOCUS_ENTER), PRESS(0, 272));
     ROUTED(nit_wheel(&server, -9), WHEEL(0, -9));
     ROUTED(nit_release(&server, 272), RELEASE(0, 272));
     ROUTED(nit_motion(&server, 35, 5), TOLD(0, NIT_LEAVE));
     ROUTED(nit_press(&server, 272), TOLD(0, NIT_FOCUS_LEAVE));
-    SEAT(nit_seat_state(&server, 0), .kind = NIT_DONE, .status = NIT_SEAT_LIVE, .waiting = 7);
+    SEAT(nit_seat_state(&server, 0), .kind = NIT_DONE, .status = NIT_SEAT_LIVE, .waiting = 7,
+         .client = client[0]);
     taken(0, (struct nit_event){ .kind = NIT_MOTION, .x = 5, .y = 6 });
     taken(0, (struct nit_event){ .kind = NIT_FOCUS_ENTER });
     taken(0, (struct nit_event){ .kind = NIT_PRESS, .code = 272 });
@@ -207,8 +211,9 @@ static void waiting(void)
     taken(0, (struct nit_event){ .kind = NIT_RELEASE, .code = 272 });
     taken(0, (struct nit_event){ .kind = NIT_LEAVE });
     taken(0, (struct nit_event){ .kind = NIT_FOCUS_LEAVE });
-    REPLY(nit_take(&server, 0), .kind = NIT_NO_EVENT);
-    SEAT(nit_seat_state(&server, 0), .kind = NIT_DONE, .status = NIT_SEAT_LIVE);
+    REPLY(nit_take(&server, client[0]), .kind = NIT_NO_EVENT);
+    SEAT(nit_seat_state(&server, 0), .kind = NIT_DONE, .status = NIT_SEAT_LIVE,
+         .client = client[0]);
     close_plain(&server);
 }
 
@@ -219,15 +224,17 @@ static void lost(void)
     for (uint16_t k = 0; k < 67; k++)
         ROUTED(nit_motion(&server, 1 + k % 8, 1), MOTION(0, 1 + k % 8, 1));
     SEAT(nit_seat_state(&server, 0), .kind = NIT_DONE, .status = NIT_SEAT_LIVE, .waiting = 64,
-         .lost = 3);
+         .lost = 3,
+         .client = client[0]);
     for (uint16_t k = 0; k < 64; k++)
         taken(0, (struct nit_event){ .kind = NIT_MOTION, .x = 1 + k % 8, .y = 1 });
-    REPLY(nit_take(&server, 0), .kind = NIT_NO_EVENT);
+    REPLY(nit_take(&server, client[0]), .kind = NIT_NO_EVENT);
     ROUTED(nit_wheel(&server, 5), WHEEL(0, 5));
-    REPLY(nit_leave(&server, 0), .kind = NIT_DONE);
-    CHECK(nit_seat(&server, 0, TEXT("d")) == NIT_DONE);
-    SEAT(nit_seat_state(&server, 0), .kind = NIT_DONE, .status = NIT_SEAT_LIVE);
-    REPLY(nit_take(&server, 0), .kind = NIT_NO_EVENT);
+    REPLY(nit_leave(&server, client[0]), .kind = NIT_DONE);
+    client[0] = sits_on(&server, 0, "d");
+    SEAT(nit_seat_state(&server, 0), .kind = NIT_DONE, .status = NIT_SEAT_LIVE,
+         .client = client[0]);
+    REPLY(nit_take(&server, client[0]), .kind = NIT_NO_EVENT);
     close_plain(&server);
 }
 

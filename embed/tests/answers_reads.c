@@ -6,7 +6,8 @@
 #include <unistd.h>
 
 /* A row has two pages, and behind the last row stands one more. */
-enum { PAGE = 1024, WIDE = 2 * PAGE, HIGH = 4, PAGES = 2 * HIGH + 1, COUNT = PAGES * PAGE, SIDE = 8 };
+enum { PAGE = 1024, WIDE = 2 * PAGE, HIGH = 4, PAGES = 2 * HIGH + 1, COUNT = PAGES * PAGE,
+       SIDE = 8 };
 
 struct part {
     int32_t x, y;
@@ -14,6 +15,7 @@ struct part {
 };
 
 static struct nit_server server = NIT_CLOSED;
+static nit_client a;
 static uint32_t *words, turn, frame[SIDE * SIDE];
 
 static void begin(void)
@@ -23,9 +25,9 @@ static void begin(void)
     words = mmap(NULL, bytes, PROT_READ | PROT_WRITE, MAP_PRIVATE | MAP_ANONYMOUS, -1, 0);
     CHECK(words != MAP_FAILED);
     open_plain(&server, SIDE, SIDE, 1, 131072);
-    CHECK(nit_seat(&server, 0, TEXT("a")) == NIT_DONE);
-    REPLY(nit_buffer(&server, 0, WIDE, HIGH), .kind = NIT_DONE);
-    REPLY(nit_view(&server, 0), .kind = NIT_HANDLE, .handle = 1);
+    a = sits_on(&server, 0, "a");
+    REPLY(nit_buffer(&server, a, WIDE, HIGH), .kind = NIT_DONE);
+    REPLY(nit_view(&server, a), .kind = NIT_HANDLE, .handle = 1);
     CHECK(nit_look(&server, frame, SIDE * SIDE).kind == NIT_DONE);
 }
 
@@ -65,7 +67,7 @@ static struct nit_reply refreshed(struct part part, struct part read)
         words[k] = 0x10000 * turn + k;
     allow(0, PAGES, PROT_NONE);
     allow_part(read);
-    struct nit_reply reply = nit_refresh(&server, 0, part.x, part.y, part.w, part.h, words, COUNT);
+    struct nit_reply reply = nit_refresh(&server, a, part.x, part.y, part.w, part.h, words, COUNT);
     allow(0, PAGES, PROT_READ | PROT_WRITE);
     return reply;
 }
@@ -73,7 +75,7 @@ static struct nit_reply refreshed(struct part part, struct part read)
 /* The view shows this place of the buffer in the corner of the screen. */
 static uint32_t shown(int32_t x, int32_t y)
 {
-    REPLY(nit_place(&server, 0, 1, -x, -y, WIDE, HIGH), .kind = NIT_DONE);
+    REPLY(nit_place(&server, a, 1, -x, -y, WIDE, HIGH), .kind = NIT_DONE);
     CHECK(nit_look(&server, frame, SIDE * SIDE).kind == NIT_DONE);
     return frame[0];
 }
@@ -121,11 +123,11 @@ static void refusals_read_nothing(void)
     begin();
     allow(0, PAGES, PROT_NONE);
     REPLY(nit_refresh(&none, 0, 0, 0, 1, 1, words, COUNT), .kind = NIT_NO_SERVER);
-    REPLY(nit_refresh(&server, 1, 0, 0, 1, 1, words, COUNT), .kind = NIT_NO_SEAT);
-    REPLY(nit_refresh(&server, 0, 0, 0, 1, 1, words, WIDE * HIGH - 1), .kind = NIT_SHORT_WORDS);
-    REPLY(nit_refresh(&server, 0, 0, 0, 32768, 1, words, COUNT), .kind = NIT_BAD_RECT);
-    REPLY(nit_leave(&server, 0), .kind = NIT_DONE);
-    REPLY(nit_refresh(&server, 0, 0, 0, 1, 1, words, COUNT), .kind = NIT_SESSION_CLOSED);
+    REPLY(nit_refresh(&server, a + 1, 0, 0, 1, 1, words, COUNT), .kind = NIT_NO_SEAT);
+    REPLY(nit_refresh(&server, a, 0, 0, 1, 1, words, WIDE * HIGH - 1), .kind = NIT_SHORT_WORDS);
+    REPLY(nit_refresh(&server, a, 0, 0, 32768, 1, words, COUNT), .kind = NIT_BAD_RECT);
+    REPLY(nit_leave(&server, a), .kind = NIT_DONE);
+    REPLY(nit_refresh(&server, a, 0, 0, 1, 1, words, COUNT), .kind = NIT_SESSION_CLOSED);
     end();
 }
 

@@ -6,6 +6,7 @@ enum { WIDTH = 32, HEIGHT = 24, BARE = 0x000020, WHITE = 0xFFFFFF, GREY = 0x8080
 
 static struct nit_server server = NIT_CLOSED;
 static uint32_t *frame;
+static nit_client name[16];
 
 static uint32_t at(uint32_t x, uint32_t y)
 {
@@ -42,11 +43,11 @@ static void client(uint32_t seat, const char *label, uint32_t colour, int32_t x,
     uint32_t *words = guarded_words((size_t)w * h);
     for (uint32_t k = 0; k < w * h; k++)
         words[k] = colour;
-    CHECK(nit_seat(&server, seat, label, strlen(label)) == NIT_DONE);
-    REPLY(nit_buffer(&server, seat, w, h), .kind = NIT_DONE);
-    REPLY(nit_view(&server, seat), .kind = NIT_HANDLE, .handle = 1);
-    REPLY(nit_place(&server, seat, 1, x, y, w, h), .kind = NIT_DONE);
-    REPLY(nit_refresh(&server, seat, 0, 0, w, h, words, (size_t)w * h), .kind = NIT_DONE);
+    name[seat] = sits_on(&server, seat, label);
+    REPLY(nit_buffer(&server, name[seat], w, h), .kind = NIT_DONE);
+    REPLY(nit_view(&server, name[seat]), .kind = NIT_HANDLE, .handle = 1);
+    REPLY(nit_place(&server, name[seat], 1, x, y, w, h), .kind = NIT_DONE);
+    REPLY(nit_refresh(&server, name[seat], 0, 0, w, h, words, (size_t)w * h), .kind = NIT_DONE);
 }
 
 /* ---- Looking. */
@@ -67,10 +68,10 @@ static void looks(void)
     RECT(look(), .kind = NIT_DONE);
     CHECK(at(5, 0) == 1);
     frame[5] = BARE;
-    REPLY(nit_place(&server, 0, 1, 11, 20, 4, 3), .kind = NIT_DONE);
+    REPLY(nit_place(&server, name[0], 1, 11, 20, 4, 3), .kind = NIT_DONE);
     RECT(look(), .kind = NIT_DONE, .x = 10, .y = 20, .w = 5, .h = 3);
     CHECK(at(10, 20) == BARE && at(14, 22) == 0x123456);
-    REPLY(nit_leave(&server, 0), .kind = NIT_DONE);
+    REPLY(nit_leave(&server, name[0]), .kind = NIT_DONE);
     RECT(look(), .kind = NIT_DONE, .x = 11, .y = 20, .w = 4, .h = 3);
     close_plain(&server);
 }
@@ -82,18 +83,18 @@ static void words_of_a_buffer(void)
     uint32_t *words = guarded_words(12);
     for (uint32_t k = 0; k < 12; k++)
         words[k] = 0xAB000000 + k;
-    REPLY(nit_refresh(&server, 0, 1, 1, 2, 1, words, 12), .kind = NIT_DONE);
+    REPLY(nit_refresh(&server, name[0], 1, 1, 2, 1, words, 12), .kind = NIT_DONE);
     RECT(look(), .kind = NIT_DONE, .x = 11, .y = 21, .w = 2, .h = 1);
     CHECK(at(11, 21) == 5 && at(12, 21) == 6 && at(13, 21) == 0x123456);
-    REPLY(nit_refresh(&server, 0, -1, -1, 2, 2, words, 12), .kind = NIT_DONE);
+    REPLY(nit_refresh(&server, name[0], -1, -1, 2, 2, words, 12), .kind = NIT_DONE);
     RECT(look(), .kind = NIT_DONE, .x = 10, .y = 20, .w = 1, .h = 1);
     memset(words, 0x55, 48);
     RECT(look(), .kind = NIT_DONE);
-    REPLY(nit_place(&server, 0, 1, 0, 0, 6, 5), .kind = NIT_DONE);
+    REPLY(nit_place(&server, name[0], 1, 0, 0, 6, 5), .kind = NIT_DONE);
     RECT(look(), .kind = NIT_DONE, .w = 14, .h = 23);
     CHECK(at(0, 0) == 0 && at(1, 1) == 5 && at(3, 2) == 0x123456);
     CHECK(at(4, 0) == 0 && at(0, 3) == 0 && at(5, 4) == 0 && at(6, 0) == BARE);
-    REPLY(nit_offset(&server, 0, 1, 2, 1), .kind = NIT_DONE);
+    REPLY(nit_offset(&server, name[0], 1, 2, 1), .kind = NIT_DONE);
     look();
     CHECK(at(0, 0) == 0 && at(3, 2) == 5 && at(5, 3) == 0x123456 && at(1, 1) == 0);
 }
@@ -101,17 +102,17 @@ static void words_of_a_buffer(void)
 /* Words stay by their index when the buffer gets another size. */
 static void other_sizes(void)
 {
-    REPLY(nit_buffer(&server, 0, 3, 4), .kind = NIT_DONE);
+    REPLY(nit_buffer(&server, name[0], 3, 4), .kind = NIT_DONE);
     look();
     CHECK(at(2, 1) == 0 && at(4, 2) == 5 && at(2, 3) == 6 && at(4, 4) == 0x123456);
     CHECK(at(5, 2) == 0 && at(2, 2) == 0x123456);
-    REPLY(nit_buffer(&server, 0, 5, 3), .kind = NIT_DONE);
+    REPLY(nit_buffer(&server, name[0], 5, 3), .kind = NIT_DONE);
     look();
     CHECK(at(2, 2) == 5 && at(3, 2) == 6 && at(3, 3) == 0x123456 && at(4, 3) == 0);
-    REPLY(nit_buffer(&server, 0, 1, 1), .kind = NIT_DONE);
+    REPLY(nit_buffer(&server, name[0], 1, 1), .kind = NIT_DONE);
     look();
     CHECK(at(2, 1) == 0 && at(3, 1) == 0 && at(2, 2) == 0);
-    REPLY(nit_buffer(&server, 0, 4, 3), .kind = NIT_DONE);
+    REPLY(nit_buffer(&server, name[0], 4, 3), .kind = NIT_DONE);
     look();
     CHECK(at(3, 2) == 5 && at(5, 3) == 0x123456);
 }
@@ -121,9 +122,9 @@ static void words_refused(void)
 {
     uint32_t *words = guarded_words(12);
     memset(words, 0x66, 48);
-    REPLY(nit_refresh(&server, 0, 0, 0, 32768, 3, words, 12), .kind = NIT_BAD_RECT);
-    REPLY(nit_refresh(&server, 0, 0, 0, 4, 3, words + 1, 11), .kind = NIT_SHORT_WORDS);
-    REPLY(nit_offset(&server, 0, 1, 0, 0), .kind = NIT_DONE);
+    REPLY(nit_refresh(&server, name[0], 0, 0, 32768, 3, words, 12), .kind = NIT_BAD_RECT);
+    REPLY(nit_refresh(&server, name[0], 0, 0, 4, 3, words + 1, 11), .kind = NIT_SHORT_WORDS);
+    REPLY(nit_offset(&server, name[0], 1, 0, 0), .kind = NIT_DONE);
     look();
     CHECK(at(0, 0) == 0 && at(3, 2) == 0x123456);
 }
@@ -134,11 +135,11 @@ static void words_past_the_buffer(void)
     uint32_t *words = guarded_words(20);
     for (uint32_t k = 0; k < 20; k++)
         words[k] = 0x700 + k;
-    REPLY(nit_refresh(&server, 0, 3, 2, 32767, 32767, words, 20), .kind = NIT_DONE);
+    REPLY(nit_refresh(&server, name[0], 3, 2, 32767, 32767, words, 20), .kind = NIT_DONE);
     RECT(look(), .kind = NIT_DONE, .x = 3, .y = 2, .w = 1, .h = 1);
     CHECK(at(3, 2) == 0x70B);
-    REPLY(nit_refresh(&server, 0, 4, 0, 10, 3, words, 20), .kind = NIT_DONE);
-    REPLY(nit_refresh(&server, 0, 0, 0, 0, 3, words, 20), .kind = NIT_DONE);
+    REPLY(nit_refresh(&server, name[0], 4, 0, 10, 3, words, 20), .kind = NIT_DONE);
+    REPLY(nit_refresh(&server, name[0], 0, 0, 0, 3, words, 20), .kind = NIT_DONE);
     RECT(look(), .kind = NIT_DONE);
 }
 
@@ -170,17 +171,17 @@ static void layers(void)
     client(1, "b", 0xB, 0, 0, 8, 8);
     client(2, "c", 0xC, 0, 0, 8, 8);
     CHECK(front_word() == 0xB);
-    REPLY(nit_front(&server, 2, 1), .kind = NIT_DONE);
+    REPLY(nit_front(&server, name[2], 1), .kind = NIT_DONE);
     CHECK(front_word() == 0xB);
-    REPLY(nit_front(&server, 0, 1), .kind = NIT_DONE);
+    REPLY(nit_front(&server, name[0], 1), .kind = NIT_DONE);
     CHECK(front_word() == 0xA);
-    REPLY(nit_back(&server, 0, 1), .kind = NIT_DONE);
+    REPLY(nit_back(&server, name[0], 1), .kind = NIT_DONE);
     CHECK(front_word() == 0xB);
-    REPLY(nit_back(&server, 1, 1), .kind = NIT_DONE);
+    REPLY(nit_back(&server, name[1], 1), .kind = NIT_DONE);
     CHECK(front_word() == 0xA);
-    REPLY(nit_destroy(&server, 0, 1), .kind = NIT_DONE);
+    REPLY(nit_destroy(&server, name[0], 1), .kind = NIT_DONE);
     CHECK(front_word() == 0xB);
-    REPLY(nit_leave(&server, 1), .kind = NIT_DONE);
+    REPLY(nit_leave(&server, name[1]), .kind = NIT_DONE);
     CHECK(front_word() == 0xC);
     close_plain(&server);
 }
@@ -190,15 +191,15 @@ static void views_above(void)
 {
     begin(0, 1, (const uint32_t[]){ 0 });
     client(0, "a", 0xA, 0, 0, 8, 8);
-    REPLY(nit_view(&server, 0), .kind = NIT_HANDLE, .handle = 2);
-    REPLY(nit_place(&server, 0, 2, 4, 4, 2, 2), .kind = NIT_DONE);
-    REPLY(nit_offset(&server, 0, 2, 100, 100), .kind = NIT_DONE);
+    REPLY(nit_view(&server, name[0]), .kind = NIT_HANDLE, .handle = 2);
+    REPLY(nit_place(&server, name[0], 2, 4, 4, 2, 2), .kind = NIT_DONE);
+    REPLY(nit_offset(&server, name[0], 2, 100, 100), .kind = NIT_DONE);
     CHECK(front_word() == 0);
-    REPLY(nit_above(&server, 0, 1, 2), .kind = NIT_DONE);
+    REPLY(nit_above(&server, name[0], 1, 2), .kind = NIT_DONE);
     CHECK(front_word() == 0xA);
-    REPLY(nit_above(&server, 0, 1, 1), .kind = NIT_DONE);
+    REPLY(nit_above(&server, name[0], 1, 1), .kind = NIT_DONE);
     CHECK(front_word() == 0xA);
-    REPLY(nit_above(&server, 0, 2, 1), .kind = NIT_DONE);
+    REPLY(nit_above(&server, name[0], 2, 1), .kind = NIT_DONE);
     CHECK(front_word() == 0);
     close_plain(&server);
 }
@@ -254,13 +255,13 @@ static void taken_again(void)
     client(0, "a", 0x123456, 10, 20, 4, 3);
     look();
     CHECK(at(10, 20) == 0x123456);
-    REPLY(nit_leave(&server, 0), .kind = NIT_DONE);
-    CHECK(nit_seat(&server, 0, TEXT("b")) == NIT_DONE);
+    REPLY(nit_leave(&server, name[0]), .kind = NIT_DONE);
+    name[0] = sits_on(&server, 0, "b");
     look();
     CHECK(at(10, 20) == BARE);
-    REPLY(nit_buffer(&server, 0, 4, 3), .kind = NIT_DONE);
-    REPLY(nit_view(&server, 0), .kind = NIT_HANDLE, .handle = 1);
-    REPLY(nit_place(&server, 0, 1, 10, 20, 4, 3), .kind = NIT_DONE);
+    REPLY(nit_buffer(&server, name[0], 4, 3), .kind = NIT_DONE);
+    REPLY(nit_view(&server, name[0]), .kind = NIT_HANDLE, .handle = 1);
+    REPLY(nit_place(&server, name[0], 1, 10, 20, 4, 3), .kind = NIT_DONE);
     RECT(look(), .kind = NIT_DONE, .x = 10, .y = 20, .w = 4, .h = 3);
     for (uint32_t k = 0; k < 12; k++)
         CHECK(at(10 + k % 4, 20 + k / 4) == 0);
@@ -274,16 +275,16 @@ static void largest(void)
     enum { SIDE = 4096, COUNT = SIDE * SIDE, LAST = COUNT - 1 };
     uint32_t *words = guarded_words(COUNT), *out = guarded_words(COUNT);
     open_plain(&server, SIDE, SIDE, 1, 134217728 + 256);
-    CHECK(nit_seat(&server, 0, TEXT("a")) == NIT_DONE);
-    REPLY(nit_buffer(&server, 0, SIDE, SIDE), .kind = NIT_DONE);
-    REPLY(nit_view(&server, 0), .kind = NIT_HANDLE, .handle = 1);
-    REPLY(nit_place(&server, 0, 1, 0, 0, SIDE, SIDE), .kind = NIT_DONE);
+    name[0] = sits_on(&server, 0, "a");
+    REPLY(nit_buffer(&server, name[0], SIDE, SIDE), .kind = NIT_DONE);
+    REPLY(nit_view(&server, name[0]), .kind = NIT_HANDLE, .handle = 1);
+    REPLY(nit_place(&server, name[0], 1, 0, 0, SIDE, SIDE), .kind = NIT_DONE);
     words[LAST] = 0x123456;
-    REPLY(nit_refresh(&server, 0, SIDE - 1, SIDE - 1, 1, 1, words, COUNT), .kind = NIT_DONE);
+    REPLY(nit_refresh(&server, name[0], SIDE - 1, SIDE - 1, 1, 1, words, COUNT), .kind = NIT_DONE);
     CHECK(nit_look(&server, out, COUNT).kind == NIT_DONE);
     CHECK(out[0] == 0 && out[LAST - 1] == 0 && out[LAST] == 0x123456);
     words[LAST - SIDE + 1] = 0xABCDEF;
-    REPLY(nit_refresh(&server, 0, 0, SIDE - 1, 1, 1, words, COUNT), .kind = NIT_DONE);
+    REPLY(nit_refresh(&server, name[0], 0, SIDE - 1, 1, 1, words, COUNT), .kind = NIT_DONE);
     RECT(nit_look(&server, out, COUNT - 1), .kind = NIT_WRONG_FRAME);
     RECT(nit_look(&server, out, COUNT), .kind = NIT_DONE, .y = SIDE - 1, .w = 1, .h = 1);
     CHECK(out[LAST - SIDE + 1] == 0xABCDEF && out[LAST] == 0x123456);

@@ -1,16 +1,11 @@
-/* What the test `answers` reads of views, seats and held codes. The values are worked out by hand. */
+/* What can be read of views, seats and held codes. */
 #include "answers.h"
 #include "parts.h"
 
 static struct nit_server server = NIT_CLOSED;
+static nit_client a, b;
 
-#define VIEW_IS(got, ...) same_view((got), (struct nit_view_state){ __VA_ARGS__ })
 #define ACCOUNT_IS(got, ...) same_account((got), (struct nit_account){ __VA_ARGS__ })
-
-static void same_view(struct nit_view_state got, struct nit_view_state want)
-{
-    CHECK(memcmp(&got, &want, sizeof got) == 0);
-}
 
 static void same_account(struct nit_account got, struct nit_account want)
 {
@@ -42,24 +37,24 @@ static void begin(void)
     struct nit_seat_plan seats[] = { { 5000, 3, 1 }, { 1000, 2, 0 }, { 256, 0, 0 } };
     const struct nit_plan plan = { 32, 24, 1, 3, seats };
     CHECK(nit_open(&server, &plan) == NIT_DONE);
-    CHECK(nit_seat(&server, 0, TEXT("a")) == NIT_DONE);
-    CHECK(nit_seat(&server, 1, TEXT("b.longest-label-of-20")) == NIT_BAD_LABEL);
-    CHECK(nit_seat(&server, 1, TEXT("b.longest-label-of20")) == NIT_DONE);
-    REPLY(nit_view(&server, 0), .kind = NIT_HANDLE, .handle = 1);
-    done(nit_place(&server, 0, 1, 4, 9, 10, 8));
-    REPLY(nit_view(&server, 1), .kind = NIT_HANDLE, .handle = 1);
-    done(nit_place(&server, 1, 1, -3, 3, 8, 7));
-    done(nit_offset(&server, 1, 1, -32768, 32767));
-    done(nit_title(&server, 1, 1, TEXT("mail and 12.")));
+    a = sits_on(&server, 0, "a");
+    SEATED(nit_seat(&server, 1, TEXT("b.longest-label-of-20")), .kind = NIT_BAD_LABEL);
+    b = sits_on(&server, 1, "b.longest-label-of20");
+    REPLY(nit_view(&server, a), .kind = NIT_HANDLE, .handle = 1);
+    done(nit_place(&server, a, 1, 4, 9, 10, 8));
+    REPLY(nit_view(&server, b), .kind = NIT_HANDLE, .handle = 1);
+    done(nit_place(&server, b, 1, -3, 3, 8, 7));
+    done(nit_offset(&server, b, 1, -32768, 32767));
+    done(nit_title(&server, b, 1, TEXT("mail and 12.")));
 }
 
 static void views(void)
 {
-    VIEW_IS(nit_view_at(&server, 0), .kind = NIT_DONE, .seat = 1, .view = 1, .x = -3, .y = 3,
+    VIEW(nit_view_at(&server, 0), .kind = NIT_DONE, .seat = 1, .view = 1, .x = -3, .y = 3,
             .w = 8, .h = 7, .offset_x = -32768, .offset_y = 32767);
-    VIEW_IS(nit_view_at(&server, 1), .kind = NIT_DONE, .view = 1, .x = 4, .y = 9, .w = 10, .h = 8);
-    VIEW_IS(nit_view_at(&server, 2), .kind = NIT_NO_SUCH_VIEW);
-    VIEW_IS(nit_view_at(&server, UINT32_MAX), .kind = NIT_NO_SUCH_VIEW);
+    VIEW(nit_view_at(&server, 1), .kind = NIT_DONE, .view = 1, .x = 4, .y = 9, .w = 10, .h = 8);
+    VIEW(nit_view_at(&server, 2), .kind = NIT_NO_SUCH_VIEW);
+    VIEW(nit_view_at(&server, UINT32_MAX), .kind = NIT_NO_SUCH_VIEW);
     title_is(0, "mail and 12.");
     title_is(1, "");
     title_is(2, "");
@@ -77,7 +72,7 @@ static void owners(void)
     const uint32_t none[][2] = { { 0, 6 }, { 4, 6 }, { 5, 7 }, { 0, 10 }, { 14, 9 }, { 4, 17 },
                                  { 32, 9 }, { 4, 24 }, { UINT32_MAX, 9 }, { 4, UINT32_MAX } };
     for (size_t k = 0; k < sizeof none / sizeof *none; k++)
-        VIEW_IS(nit_owner(&server, none[k][0], none[k][1]), .kind = NIT_NO_SUCH_VIEW);
+        VIEW(nit_owner(&server, none[k][0], none[k][1]), .kind = NIT_NO_SUCH_VIEW);
     CHECK(nit_owner(&server, 0, 7).seat == 1 && nit_owner(&server, 4, 9).seat == 1);
     CHECK(nit_owner(&server, 5, 9).kind == NIT_DONE && nit_owner(&server, 5, 9).seat == 0);
     CHECK(nit_owner(&server, 4, 10).seat == 0 && nit_owner(&server, 13, 16).view == 1);
@@ -87,8 +82,8 @@ static void accounts(void)
 {
     ACCOUNT_IS(nit_account(&server, 0), .kind = NIT_DONE, .layer = 3, .donation = 5000,
                .reserve = 5000);
-    done(nit_buffer(&server, 0, 20, 25));
-    done(nit_upgrade(&server, 0, 1200));
+    done(nit_buffer(&server, a, 20, 25));
+    done(nit_upgrade(&server, a, 1200));
     ACCOUNT_IS(nit_account(&server, 0), .kind = NIT_DONE, .layer = 3, .donation = 6200,
                .reserve = 3800, .width = 20, .height = 25);
     ACCOUNT_IS(nit_account(&server, 2), .kind = NIT_DONE, .donation = 256, .reserve = 256);
@@ -119,7 +114,7 @@ static void looks_anew(void)
     const uint32_t place = 10 * 32 + 4;
     const uint32_t red[500] = { 0xFF0000 };
     memset(kept, 0xFF, sizeof kept);
-    done(nit_refresh(&server, 0, 0, 0, 20, 25, red, 500));
+    done(nit_refresh(&server, a, 0, 0, 20, 25, red, 500));
     RECT(nit_look(&server, kept, COUNT), .kind = NIT_DONE, .w = 32, .h = 24);
     memcpy(lost, kept, sizeof lost);
     lost[place] ^= 1;
@@ -135,8 +130,8 @@ static void of_none(void)
 {
     struct nit_server none = NIT_CLOSED;
     char out[1] = { 'x' };
-    VIEW_IS(nit_view_at(&none, 0), .kind = NIT_NO_SERVER);
-    VIEW_IS(nit_owner(&none, 0, 0), .kind = NIT_NO_SERVER);
+    VIEW(nit_view_at(&none, 0), .kind = NIT_NO_SERVER);
+    VIEW(nit_owner(&none, 0, 0), .kind = NIT_NO_SERVER);
     ACCOUNT_IS(nit_account(&none, 0), .kind = NIT_NO_SERVER);
     CHECK(nit_title_at(&none, 0, out, 1) == 0 && nit_label(&none, 0, out, 1) == 0);
     CHECK(nit_held(&none, 0) == NIT_NONE && out[0] == 'x');

@@ -17,6 +17,7 @@ enum { WIDTH = 48, HEIGHT = 32, STEPS_OF_ROUND = 100, TIMES = 20, ROUNDS_OF_TIME
 /* A host's server, and how many steps it has made. */
 struct host {
     struct nit_server server;
+    nit_client client[3];
     uint32_t frame[WIDTH * HEIGHT], rounds;
     uint64_t steps;
 };
@@ -39,13 +40,13 @@ static void routed(struct host *h, struct nit_routed to)
 static void begins(struct host *h, uint32_t seat, const char *label)
 {
     struct nit_server *s = &h->server;
-    CHECK(nit_seat_for(s, label, 1) == seat);
-    CHECK(nit_seat(s, seat, label, 1) == NIT_DONE);
-    REPLY(nit_view(s, seat), .kind = NIT_HANDLE, .handle = 1);
+    SEATED(nit_seat_for(s, label, 1, 0), .kind = NIT_DONE, .seat = seat);
+    nit_client client = h->client[seat] = sits_on(s, seat, label);
+    REPLY(nit_view(s, client), .kind = NIT_HANDLE, .handle = 1);
     h->steps++;
-    served(h, nit_buffer(s, seat, 16, 16), NIT_DONE);
-    served(h, nit_place(s, seat, 1, (int32_t)(seat * 12), 4, 20, 20), NIT_DONE);
-    served(h, nit_refresh(s, seat, 0, 0, 16, 16, words, 256), NIT_DONE);
+    served(h, nit_buffer(s, client, 16, 16), NIT_DONE);
+    served(h, nit_place(s, client, 1, (int32_t)(seat * 12), 4, 20, 20), NIT_DONE);
+    served(h, nit_refresh(s, client, 0, 0, 16, 16, words, 256), NIT_DONE);
 }
 
 static void look(struct host *h)
@@ -53,21 +54,39 @@ static void look(struct host *h)
     CHECK(nit_look(&h->server, h->frame, WIDTH * HEIGHT).kind == NIT_DONE);
 }
 
-/* What the two clients that stay do, and a click on what is shown: eight steps. */
+/* A look by damage and copies. */
+static void copy(struct host *h)
+{
+    struct nit_damage damage = nit_damage(&h->server);
+    CHECK(damage.kind == NIT_DONE && damage.count <= 16);
+    for (uint32_t k = 0; k < damage.count; k++) {
+        struct nit_part part = damage.part[k];
+        size_t at = (size_t)part.y * WIDTH + part.x;
+        CHECK(nit_copy(&h->server, part.x, part.y, part.w, part.h, h->frame + at,
+                       WIDTH * HEIGHT - at, WIDTH) == NIT_DONE);
+    }
+}
+
+/* What the two clients that stay do, and a click on what is shown: eight steps. The user restacks
+ * beside, which is none. */
 static void changes(struct host *h, uint32_t turn)
 {
     struct nit_server *s = &h->server;
-    uint32_t seat = turn % 2;
+    nit_client client = h->client[turn % 2];
     words[turn % 256] += 0x010203;
-    served(h, nit_refresh(s, seat, 2, 2, 8, 8, words, 256), NIT_DONE);
-    served(h, nit_place(s, seat, 1, (int32_t)(turn % 16), 4, 20, 20), NIT_DONE);
-    served(h, nit_front(s, seat, 1), NIT_DONE);
-    served(h, nit_offset(s, seat, 1, (int32_t)(turn % 3), 0), NIT_DONE);
+    served(h, nit_refresh(s, client, 2, 2, 8, 8, words, 256), NIT_DONE);
+    served(h, nit_place(s, client, 1, (int32_t)(turn % 16), 4, 20, 20), NIT_DONE);
+    served(h, nit_front(s, client, 1), NIT_DONE);
+    served(h, nit_offset(s, client, 1, (int32_t)(turn % 3), 0), NIT_DONE);
     routed(h, nit_motion(s, turn % WIDTH, 10));
-    look(h);
+    CHECK(nit_raise(s, client, 1) == NIT_DONE && nit_lower(s, client, 1) == NIT_DONE);
+    if (turn % 2)
+        look(h);
+    else
+        copy(h);
     routed(h, nit_press(s, 272));
     routed(h, nit_release(s, 272));
-    struct nit_reply taken = nit_take(s, seat);
+    struct nit_reply taken = nit_take(s, client);
     served(h, taken, taken.kind == NIT_EVENT ? NIT_EVENT : NIT_NO_EVENT);
 }
 
@@ -75,11 +94,11 @@ static void changes(struct host *h, uint32_t turn)
 static void views(struct host *h)
 {
     struct nit_server *s = &h->server;
-    struct nit_reply made = nit_view(s, 0);
+    struct nit_reply made = nit_view(s, h->client[0]);
     served(h, made, NIT_HANDLE);
-    served(h, nit_place(s, 0, made.handle, 30, 8, 10, 10), NIT_DONE);
-    served(h, nit_title(s, 0, made.handle, TEXT("new")), NIT_DONE);
-    served(h, nit_destroy(s, 0, made.handle), NIT_DONE);
+    served(h, nit_place(s, h->client[0], made.handle, 30, 8, 10, 10), NIT_DONE);
+    served(h, nit_title(s, h->client[0], made.handle, TEXT("new")), NIT_DONE);
+    served(h, nit_destroy(s, h->client[0], made.handle), NIT_DONE);
 }
 
 /* A hundred steps. */
@@ -92,7 +111,7 @@ static void do_round(struct host *h)
     routed(h, nit_press(&h->server, 70));
     look(h);
     routed(h, nit_press(&h->server, 70));
-    served(h, nit_leave(&h->server, 2), NIT_DONE);
+    served(h, nit_leave(&h->server, h->client[2]), NIT_DONE);
     begins(h, 2, h->rounds++ % 2 ? "c" : "d");
     while (h->steps < end)
         routed(h, nit_wheel(&h->server, 1));

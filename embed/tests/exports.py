@@ -9,7 +9,10 @@ OBJECT, a shared one, are compared where they are given. What is compared:
 
 - each function of the header is an export of the sources, and the other way round: its name, the
   names of its arguments in their order, their types, and what it answers. A `Global` takes no
-  place; a slice is a pointer and a length; the length may have any name.
+  place; a slice is a pointer and a length; the length may have any name; a reader may take there
+  what the header has as const.
+- the functions that read, and no others, take a const server.
+- the names of those that open end in the header's version.
 - each struct of the header that is an argument or an answer is a `#[repr(C)]` struct of the
   sources: the names and types of its fields in their order, but for ghost ones. An array may be as
   many fields there, of any names. C's compiler says by `_Static_assert` that its size and the place
@@ -17,6 +20,7 @@ OBJECT, a shared one, are compared where they are given. What is compared:
 - each struct of the header has the bytes of its fields, and no other: so says `_Static_assert` too.
 - each number of an enum of the header is a constant of the sources, of that name without NIT_ and
   of that value.
+- nit_text has the name of each answer.
 - `raw.rs` of embed/rust says the same of functions, structs and those numbers that it has.
 - the archive defines the functions of the header and no other name that another object sees, and
   wants nothing but malloc, realloc, free, memcpy, memmove, memset, memcmp and bcmp.
@@ -38,184 +42,12 @@ import subprocess
 import tempfile
 from pathlib import Path
 
+from exports_read import Binding, Header, Sources, asserts, lengths_in, named_bytes
 from exports_samples import BINDING, BINDINGS, CHANGES, HEADER, OBJECTS, SOURCES
 
+READERS = {"nit_state", "nit_seat_state", "nit_account", "nit_label", "nit_view_at", "nit_title_at",
+           "nit_owner", "nit_shown", "nit_held", "nit_entry", "nit_seat_for", "nit_copy"}
 WANTED = {"malloc", "realloc", "free", "memcpy", "memmove", "memset", "memcmp", "bcmp"}
-
-# What C has for a type of the sources, and its size.
-NUMBERS = {"u8": ("uint8_t", 1), "u16": ("uint16_t", 2), "u32": ("uint32_t", 4),
-           "u64": ("uint64_t", 8), "i8": ("int8_t", 1), "i16": ("int16_t", 2),
-           "i32": ("int32_t", 4), "i64": ("int64_t", 8), "usize": ("size_t", 8),
-           "bool": ("bool", 1)}
-SLICES = {"&[u8]": "const char *", "&mut [u8]": "char *", "&[u32]": "const uint32_t *",
-          "&mut [u32]": "uint32_t *"}
-
-
-def snake(name):
-    """The name that a struct of the sources has in C: NitServer is nit_server."""
-    return re.sub(r"(?<=[a-z])(?=[A-Z])", "_", name).lower()
-
-
-# The header.
-
-
-class Header:
-    """Functions as (answer, [(type, name)]), structs as [(type, name, count)], and numbers."""
-
-    def __init__(self, text):
-        text = re.sub(r"/\*.*?\*/", " ", text, flags=re.S)
-        self.defined = {k: int(value) for k, value in re.findall(r"#define (\w+) (\d+)\n", text)}
-        text = re.sub(r"^\s*#.*$", "", text, flags=re.M)
-        text = re.sub(r"static inline .*?\n}", "", text, flags=re.S)
-        self.structs = {name: self.fields(body) for name, body in
-                        re.findall(r"struct (\w+) \{(.*?)\};", text, re.S)}
-        self.constants = {name: int(value, 0) for body in
-                          re.findall(r"enum \w+ \{(.*?)\};", text, re.S)
-                          for name, value in re.findall(r"(\w+)\s*=\s*(\w+)", body)}
-        text = re.sub(r"(struct|enum) \w+ \{.*?\};", "", text, flags=re.S)
-        self.functions = {
-            name: (answer.strip(), self.arguments(words)) for answer, name, words in
-            re.findall(r"((?:struct )?\w+)\s+(\w+)\(([^)]*)\);", text)}
-
-    @staticmethod
-    def arguments(text):
-        pairs = []
-        for part in text.split(","):
-            match = re.fullmatch(r"(.*?[ *])(\w+)", " ".join(part.split()))
-            pairs.append((match[1].strip(), match[2]))
-        return pairs
-
-    @staticmethod
-    def fields(body):
-        fields = []
-        for line in body.split(";")[:-1]:
-            match = re.fullmatch(r"((?:const )?(?:struct )?\w+)\s+(.*)", line.strip(), re.S)
-            kind, names = match.groups()
-            for name in names.split(","):
-                pointer, word, count = re.fullmatch(r"\s*(\**)(\w+)(?:\[(\d+)\])?", name).groups()
-                fields.append((f"{kind} {pointer}".strip(), word, int(count or 0)))
-        return fields
-
-
-# The sources.
-
-
-class Sources:
-    """The exports and the `#[repr(C)]` structs of a crate, each as the header is to have it."""
-
-    def __init__(self, text):
-        text = re.sub(r"//.*$", "", text, flags=re.M)
-        self.structs = {self.struct_of(name): self.fields(body) for name, body in
-                        re.findall(r"#\[repr\(C\)\][^{]*?struct (\w+) \{(.*?)\n\}", text, re.S)}
-        self.functions = {
-            name: ("void" if answer is None else self.type_of(answer), self.arguments(words))
-            for name, words, answer in self.exports(text)}
-        self.constants = {name: int(value.replace("_", ""), 0) for name, value in
-                          re.findall(r"const (\w+): u32 = (\w+);", text)}
-
-    @staticmethod
-    def struct_of(name):
-        return snake(name)
-
-    @staticmethod
-    def exports(text):
-        pattern = (r"#\[unsafe\(no_mangle\)\]\s*pub extern \"C\" fn (\w+)\s*\(([^)]*)\)"
-                   r"(?:\s*->\s*(\w+))?")
-        return [(name, words, answer or None) for name, words, answer in re.findall(pattern, text)]
-
-    def type_of(self, word):
-        if word in NUMBERS:
-            return NUMBERS[word][0]
-        if word.startswith("*mut "):
-            return "void *"
-        return ("struct " + self.struct_of(word[5:]) + " *") if word.startswith("&mut ") \
-            else "struct " + self.struct_of(word)
-
-    def arguments(self, text):
-        pairs = []
-        for part in filter(None, (" ".join(part.split()) for part in text.split(","))):
-            name, kind = (word.strip() for word in part.split(":"))
-            if kind in SLICES:
-                pairs += [(SLICES[kind], name), ("size_t", None)]
-            elif kind != "Global":
-                pairs.append((self.type_of(kind), name))
-        return pairs
-
-    def fields(self, body):
-        fields = []
-        for line in re.sub(r"\{.*?\}", "", body).split(",\n"):
-            match = re.fullmatch(r"\s*(?:pub )?(ghost )?(\w+): (.*?),?\s*", line, re.S)
-            if match and not match[1] and match[3] != "Global":
-                array = re.fullmatch(r"\[(\w+); (\d+)\]", match[3])
-                kind, count = (array[1], int(array[2])) if array else (match[3], 0)
-                fields.append((self.type_of(kind), match[2], count))
-        return fields
-
-
-class Binding(Sources):
-    """What the Rust crate declares of the library."""
-
-    POINTERS = {"*mut Server": "struct nit_server *", "*const u32": "const uint32_t *",
-                "*mut u32": "uint32_t *", "*const c_char": "const char *", "*mut c_char": "char *",
-                "*mut c_void": "void *"}
-
-    @staticmethod
-    def struct_of(name):
-        return "nit_" + snake(name)
-
-    @staticmethod
-    def exports(text):
-        return re.findall(r"pub fn (\w+)\(([^)]*)\) -> (\w+);", text)
-
-    def type_of(self, word):
-        return self.POINTERS.get(word) or super().type_of(word)
-
-
-# Sizes by the rules of `#[repr(C)]`.
-
-
-def shape_of(structs, kind):
-    """The size and the alignment of a type."""
-    if kind.endswith("*"):
-        return 8, 8
-    for word, size in NUMBERS.values():
-        if word == kind:
-            return size, size
-    _, size, most = layout(structs, kind.removeprefix("struct "))
-    return size, most
-
-
-def layout(structs, name):
-    """The place of each field, the size, and the alignment."""
-    places, at, most = [], 0, 1
-    for kind, field, count in structs[name]:
-        size, align = shape_of(structs, kind)
-        at = -(-at // align) * align
-        places.append((field, at))
-        at, most = at + size * (count or 1), max(most, align)
-    return places, -(-at // most) * most, most
-
-
-def asserts(structs, names):
-    """C that does not compile where a struct of the header has another shape."""
-    lines = ['#include "nitpicker.h"']
-    for name in sorted(names):
-        places, size, align = layout(structs, name)
-        lines.append(f'_Static_assert(sizeof(struct {name}) == {size}, "size of {name}");')
-        lines.append(f'_Static_assert(_Alignof(struct {name}) == {align}, "alignment of {name}");')
-        lines += [f'_Static_assert(offsetof(struct {name}, {field}) == {at}, '
-                  f'"place of {name}.{field}");' for field, at in places]
-    return "\n".join(lines) + "\n"
-
-
-def named_bytes(header):
-    """C that does not compile where a struct of the header has bytes that no field names."""
-    lines = []
-    for name, fields in sorted(header.structs.items()):
-        total = " + ".join(f"sizeof(((struct {name} *)0)->{field})" for _, field, _ in fields)
-        lines.append(f'_Static_assert(sizeof(struct {name}) == {total}, '
-                     f'"{name} has bytes that no field names");')
-    return "\n".join(lines) + "\n"
 
 
 # What differs.
@@ -229,18 +61,42 @@ def both(what, ours, theirs):
     return sorted(ours.keys() & theirs.keys()), faults
 
 
+def is_taken(kind, theirs, is_read):
+    """Whether an argument of the header is one of the sources."""
+    return kind == theirs or is_read and kind == f"const {theirs}"
+
+
 def function_faults(header, sources):
     names, faults = both("function", header.functions, sources.functions)
     for name in names:
         (answer, ours), (theirs_answer, theirs) = header.functions[name], sources.functions[name]
+        is_read = name in READERS and not isinstance(sources, Binding)
         if answer != theirs_answer:
             faults.append(f"{name} answers {answer} and not {theirs_answer}")
-        if [kind for kind, _ in ours] != [kind for kind, _ in theirs]:
+        if len(ours) != len(theirs) or not all(
+                is_taken(kind, other, is_read) for (kind, _), (other, _) in zip(ours, theirs)):
             faults.append(f"{name} takes {ours} and not {theirs}")
         for (_, word), (_, other) in zip(ours, theirs):
             if other is not None and word != other:
                 faults.append(f"{name} takes {word} where it is to take {other}")
     return faults
+
+
+def reader_faults(header):
+    const = {name for name, (_, pairs) in header.functions.items()
+             if pairs[0][0] == "const struct nit_server *"}
+    return [f"{name} takes another server than it is to take"
+            for name in sorted(const ^ (READERS & header.functions.keys()))]
+
+
+def version_faults(header):
+    version = f"_{header.defined.get('NIT_VERSION')}"
+    return [f"{name} is not of version{version}" for name in sorted(header.functions)
+            if name.startswith("nit_open") and not name.endswith(version)]
+
+
+def text_faults(header):
+    return [f"nit_text has no {name}" for name in header.answers if name not in header.texts]
 
 
 def crossing(header):
@@ -249,7 +105,7 @@ def crossing(header):
              for kind in (answer, *(kind for kind, _ in pairs))]
     names = set()
     while kinds:
-        match = re.fullmatch(r"struct (\w+)(?: \*)?", kinds.pop())
+        match = re.fullmatch(r"(?:const )?struct (\w+)(?: \*)?", kinds.pop())
         if match and match[1] not in names and match[1] in header.structs:
             names.add(match[1])
             kinds += [kind for kind, _, _ in header.structs[match[1]]]
@@ -325,15 +181,22 @@ def source_text(folder):
     return "\n".join(path.read_text() for path in sorted(Path(folder).rglob("*.rt")))
 
 
+def lengths_below(folder):
+    """The lengths that the crates beside this one name."""
+    crates = Path(folder).resolve().parents[1]
+    return lengths_in("\n".join(path.read_text() for path in crates.glob("*/src/**/*.rt")))
+
+
 def code_faults(ours, theirs, folder):
     faults = function_faults(ours, theirs) + struct_faults(ours, theirs, folder)
     return faults + constant_faults(ours, theirs)
 
 
-def faults_of(header, text, archive=None, shared=None, binding=None):
+def faults_of(header, theirs, archive=None, shared=None, binding=None):
     """What differs, and what was compared."""
-    ours, theirs = Header(header.read_text()), Sources(text)
+    ours = Header(header.read_text())
     faults = code_faults(ours, theirs, header.parent) + missing_constants(ours, theirs)
+    faults += reader_faults(ours) + version_faults(ours) + text_faults(ours)
     if binding:
         faults += [f"raw.rs: {fault}"
                    for fault in code_faults(ours, Binding(binding), header.parent)]
@@ -357,12 +220,12 @@ def selftest():
         header, object_file = Path(top) / "nitpicker.h", Path(top) / "part.o"
         for old, new, has in [("", "", None), *CHANGES]:
             header.write_text(HEADER.replace(old, new, 1))
-            faults, _ = faults_of(header, SOURCES.replace(old, new, 1))
+            faults, _ = faults_of(header, Sources(SOURCES.replace(old, new, 1)))
             if not is_said(faults, has):
                 yield f"{new!r} in the place of {old!r}: it says {faults} and not {has!r}"
         header.write_text(HEADER)
         for old, new, has in [("", "", None), *BINDINGS]:
-            faults, _ = faults_of(header, SOURCES, binding=BINDING.replace(old, new, 1))
+            faults, _ = faults_of(header, Sources(SOURCES), binding=BINDING.replace(old, new, 1))
             if not is_said(faults, has):
                 yield f"{new!r} in the place of {old!r}: it says {faults} and not {has!r}"
         for text, has in OBJECTS:
@@ -391,7 +254,8 @@ def main(words):
         if not text:
             raise runs.WrongWords(f"{given.sources}: no sources")
         binding = (top / "embed" / "rust" / "src" / "raw.rs").read_text()
-        faults, compared = faults_of(given.header, text, given.archive, given.shared, binding)
+        theirs = Sources(text, lengths_below(given.sources))
+        faults, compared = faults_of(given.header, theirs, given.archive, given.shared, binding)
     print("".join(f"{fault}\n" for fault in faults), end="")
     print(f"exports: {compared}, differences {len(faults)}")
     return 1 if faults else 0

@@ -2,7 +2,9 @@
 
 HEADER = """#include <stddef.h>
 #include <stdint.h>
+#define NIT_VERSION 2
 #define NIT_MOST 4096
+typedef uint64_t nit_client;
 struct nit_server { void *at; uint64_t mark; };
 enum nit_answer { NIT_DONE = 1, /* done */ NIT_LATE = 32 };
 struct nit_pair { uint16_t x, y; int32_t turn; };
@@ -10,6 +12,16 @@ struct nit_told { uint32_t kind; struct nit_pair to[3]; uint32_t zero; uint64_t 
 struct nit_told nit_tell(struct nit_server *server, uint32_t w, int32_t x, const char *text,
                          size_t length);
 uint32_t nit_put(struct nit_server *server, uint32_t *out, size_t count);
+uint32_t nit_held(const struct nit_server *server, nit_client client);
+uint32_t nit_open_2(struct nit_server *server);
+#define NIT_TEXT(name) case name: return #name
+static inline const char *nit_text(uint32_t kind)
+{
+    switch (kind) {
+    NIT_TEXT(NIT_DONE); NIT_TEXT(NIT_LATE);
+    default: return "unknown";
+    }
+}
 static inline uint32_t nit_more(struct nit_server *server)
 {
     return nit_put(server, 0, 0);
@@ -19,6 +31,8 @@ static inline uint32_t nit_more(struct nit_server *server)
 SOURCES = """
 const DONE: u32 = 1;
 const LATE: u32 = 32;
+const THREE: usize = 3;
+const FOUR: usize = 4;
 #[repr(C)]
 #[derive(Drop)]
 pub struct NitServer {
@@ -57,6 +71,14 @@ pub extern "C" fn nit_tell(
 pub extern "C" fn nit_put(alloc: Global, server: &mut NitServer, out: &mut [u32]) -> u32 {
     1
 }
+#[unsafe(no_mangle)]
+pub extern "C" fn nit_held(alloc: Global, server: &mut NitServer, client: u64) -> u32 {
+    1
+}
+#[unsafe(no_mangle)]
+pub extern "C" fn nit_open_2(alloc: Global, server: &mut NitServer) -> u32 {
+    1
+}
 """
 
 # What is changed in the sources or the header, and what is to be said of it.
@@ -68,6 +90,9 @@ CHANGES = [
     ("fn nit_put", "fn nit_get", "nit_put: in the header alone"),
     ("    pub x: u16,\n    pub y: u16,", "    pub y: u16,\n    pub x: u16,", "struct nit_pair is"),
     ("[NitPair; 3]", "[NitPair; 2]", "struct nit_told is"),
+    ("[NitPair; 3]", "[NitPair; THREE]", None),
+    ("[NitPair; 3]", "[NitPair; FOUR]", "struct nit_told is"),
+    ("[NitPair; 3]", "[NitPair; NO_NUMBER]", "struct nit_told is"),
     ("    pub to: [NitPair; 3],", "    pub a: NitPair,\n    pub b: NitPair,\n    pub c: NitPair,",
      None),
     ("    pub to: [NitPair; 3],", "    pub a: NitPair,\n    pub b: NitPair,", "struct nit_told is"),
@@ -79,15 +104,23 @@ CHANGES = [
      "alignment of nit_told"),
     ("struct nit_pair {", "struct nit_plan { uint32_t w; uint64_t h; };\nstruct nit_pair {",
      "nit_plan has bytes that no field names"),
+    ("server: &mut NitServer, client", "server: &NitServer, client", None),
+    ("client: u64", "client: u32", "nit_held takes"),
+    ("nit_held(const struct", "nit_held(struct", "nit_held takes another server"),
+    ("nit_put(struct", "nit_put(const struct", "nit_put takes another server"),
+    ("nit_put(struct", "nit_put(const struct", "nit_put takes [("),
+    ("#define NIT_VERSION 2", "#define NIT_VERSION 3", "nit_open_2 is not of version_3"),
+    ("#define NIT_VERSION 2\n", "", "nit_open_2 is not of version_None"),
+    (" NIT_TEXT(NIT_LATE);", "", "nit_text has no NIT_LATE"),
 ]
 
 # What an archive has, and what is to be said of it.
+REST = "void nit_put(void) {} void nit_held(void) {} void nit_open_2(void) {}"
 OBJECTS = [
-    ("void nit_tell(void) {} void nit_put(void) {} static void of_ours(void) {}", None),
-    ("void nit_tell(void) {} void nit_put(void) {} void open(void) {}", "open is defined"),
-    ("void abort(void); void nit_tell(void) { abort(); } void nit_put(void) {}",
-     "abort is wanted"),
-    ("void nit_tell(void) {}", "nit_put is missing"),
+    (f"void nit_tell(void) {{}} {REST} static void of_ours(void) {{}}", None),
+    (f"void nit_tell(void) {{}} {REST} void open(void) {{}}", "open is defined"),
+    (f"void abort(void); void nit_tell(void) {{ abort(); }} {REST}", "abort is wanted"),
+    (f"void nit_more(void) {{}} {REST}", "nit_tell is missing"),
 ]
 
 # What the Rust crate declares of it, and what is changed there.
@@ -122,6 +155,8 @@ extern "C" {
         length: usize,
     ) -> Told;
     pub fn nit_put(server: *mut Server, out: *mut u32, count: usize) -> u32;
+    pub fn nit_held(server: *const Server, client: u64) -> u32;
+    pub fn nit_open_2(server: *mut Server) -> u32;
 }
 """
 
@@ -132,5 +167,6 @@ BINDINGS = [
     ("    pub mark: u64,\n", "", "raw.rs: struct nit_server is"),
     ("    pub fn nit_put", "    pub fn nit_get", "raw.rs: function nit_put: in the header alone"),
     ("DONE: u32 = 1", "DONE: u32 = 2", "raw.rs: NIT_DONE is 1 and not 2"),
+    ("nit_held(server: *const", "nit_held(server: *mut", "raw.rs: nit_held takes"),
     ("4_096", "4_097", "raw.rs: NIT_MOST is 4096 and not 4097"),
 ]

@@ -79,7 +79,8 @@ void same_rect(struct nit_rect got, struct nit_rect want, const char *file, int 
 
 static void state_text(char *out, size_t room, const struct nit_state *s)
 {
-    snprintf(out, room, "kind %u, %u by %u, seats %u, mode %u, focus %u, hover %u, at %u %u, receiver %u",
+    snprintf(out, room,
+             "kind %u, %u by %u, seats %u, mode %u, focus %u, hover %u, at %u %u, receiver %u",
              s->kind, s->width, s->height, s->seats, s->mode, s->focus, s->hover, s->x, s->y,
              s->receiver);
 }
@@ -97,14 +98,44 @@ void same_state(struct nit_state got, struct nit_state want, const char *file, i
 
 void same_seat(struct nit_seat_state got, struct nit_seat_state want, const char *file, int line)
 {
-    char both[250];
+    char both[300];
     if (memcmp(&got, &want, sizeof got) == 0)
         return;
     snprintf(both, sizeof both,
-             "the seat has kind %u, status %u, waiting %u, zero %u, lost %llu, "
-             "and not %u, %u, %u, %u, %llu",
+             "the seat has kind %u, status %u, waiting %u, zero %u, lost %llu, client %llx, "
+             "and not %u, %u, %u, %u, %llu, %llx",
              got.kind, got.status, got.waiting, got.zero, (unsigned long long)got.lost,
-             want.kind, want.status, want.waiting, want.zero, (unsigned long long)want.lost);
+             (unsigned long long)got.client, want.kind, want.status, want.waiting, want.zero,
+             (unsigned long long)want.lost, (unsigned long long)want.client);
+    failed(file, line, both);
+}
+
+void same_seated(struct nit_seated got, struct nit_seated want, const char *file, int line)
+{
+    char both[200];
+    if (memcmp(&got, &want, sizeof got) == 0)
+        return;
+    snprintf(both, sizeof both, "it is kind %u, seat %u, client %llx, zero %llx, and not "
+             "%u, %u, %llx, %llx", got.kind, got.seat, (unsigned long long)got.client,
+             (unsigned long long)got.zero, want.kind, want.seat,
+             (unsigned long long)want.client, (unsigned long long)want.zero);
+    failed(file, line, both);
+}
+
+static int view_text(char *out, size_t room, const struct nit_view_state *v)
+{
+    return snprintf(out, room, "kind %u, seat %u, view %u: %d %d %u %u, offset %d %d", v->kind,
+                    v->seat, v->view, v->x, v->y, v->w, v->h, v->offset_x, v->offset_y);
+}
+
+void same_view(struct nit_view_state got, struct nit_view_state want, const char *file, int line)
+{
+    char is[150], was[150], both[400];
+    if (memcmp(&got, &want, sizeof got) == 0)
+        return;
+    view_text(was, sizeof was, &got);
+    view_text(is, sizeof is, &want);
+    snprintf(both, sizeof both, "the view is\n  %s\nand not\n  %s", was, is);
     failed(file, line, both);
 }
 
@@ -152,6 +183,14 @@ void open_plain(struct nit_server *server, uint32_t width, uint32_t height, uint
         each[k] = (struct nit_seat_plan){ .donation = donation, .layer = 0, .clicks = 1 };
     struct nit_plan plan = { .width = width, .height = height, .count = seats, .seats = each };
     CHECK(nit_open(server, &plan) == NIT_DONE);
+}
+
+nit_client sits_on(struct nit_server *server, uint32_t seat, const char *label)
+{
+    struct nit_seated seated = nit_seat(server, seat, label, strlen(label));
+    SEATED(seated, .kind = NIT_DONE, .seat = seat, .client = seated.client);
+    CHECK(nit_seat_of(seated.client) == seat && seated.client > UINT16_MAX);
+    return seated.client;
 }
 
 uint32_t room_of(uint32_t donation)

@@ -23,11 +23,16 @@ void check(bool holds, const char *file, int line, const char *what);
 #define STATE(got, ...) same_state((got), (struct nit_state){ __VA_ARGS__ }, __FILE__, __LINE__)
 #define SEAT(got, ...) \
     same_seat((got), (struct nit_seat_state){ __VA_ARGS__ }, __FILE__, __LINE__)
+#define SEATED(got, ...) \
+    same_seated((got), (struct nit_seated){ __VA_ARGS__ }, __FILE__, __LINE__)
+#define VIEW(got, ...) same_view((got), (struct nit_view_state){ __VA_ARGS__ }, __FILE__, __LINE__)
 
 void same_reply(struct nit_reply got, struct nit_reply want, const char *file, int line);
 void same_rect(struct nit_rect got, struct nit_rect want, const char *file, int line);
 void same_state(struct nit_state got, struct nit_state want, const char *file, int line);
 void same_seat(struct nit_seat_state got, struct nit_seat_state want, const char *file, int line);
+void same_seated(struct nit_seated got, struct nit_seated want, const char *file, int line);
+void same_view(struct nit_view_state got, struct nit_view_state want, const char *file, int line);
 
 /* The deliveries that are wanted end where a kind is 0; the answer is NIT_DONE. */
 void same_routed(struct nit_routed got, const struct nit_delivery *want, const char *file,
@@ -66,6 +71,9 @@ char *guarded_text(size_t count);
 /* Opens a server by a plan; its seats all have the donation, layer 0 and clicks. */
 void open_plain(struct nit_server *server, uint32_t width, uint32_t height, uint32_t seats,
                 uint32_t donation);
+
+/* The name of a client that sits down on this seat, which has to be done. */
+nit_client sits_on(struct nit_server *server, uint32_t seat, const char *label);
 
 /* The most units that a client may ever have on a seat of this donation. */
 uint32_t room_of(uint32_t donation);

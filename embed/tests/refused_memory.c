@@ -54,29 +54,51 @@ static void refuse_each(const char *name, uint32_t (*open)(struct nit_server *))
 
 /* ---- No other call makes a request. */
 
+static void client_calls(struct nit_server *server, nit_client a)
+{
+    static uint32_t words[64];
+    REPLY(nit_view(server, a), .kind = NIT_HANDLE, .handle = 1);
+    REPLY(nit_buffer(server, a, 8, 8), .kind = NIT_DONE);
+    REPLY(nit_place(server, a, 1, 0, 0, 64, 32), .kind = NIT_DONE);
+    REPLY(nit_offset(server, a, 1, 1, 1), .kind = NIT_DONE);
+    REPLY(nit_title(server, a, 1, TEXT("t")), .kind = NIT_DONE);
+    REPLY(nit_front(server, a, 1), .kind = NIT_DONE);
+    REPLY(nit_back(server, a, 1), .kind = NIT_DONE);
+    REPLY(nit_above(server, a, 1, 1), .kind = NIT_DONE);
+    REPLY(nit_refresh(server, a, 0, 0, 8, 8, words, 64), .kind = NIT_DONE);
+    REPLY(nit_upgrade(server, a, 4096), .kind = NIT_DONE);
+    REPLY(nit_take(server, a + 65536), .kind = NIT_OTHER_CLIENT);
+}
+
+static void looks(struct nit_server *server)
+{
+    static uint32_t frame[64 * 32];
+    char text[20];
+    CHECK(nit_look(server, frame, 64 * 32).kind == NIT_DONE);
+    CHECK(nit_look_anew(server, frame, 64 * 32).w == 0);
+    CHECK(nit_damage(server).count == 0);
+    CHECK(nit_copy(server, 0, 0, 64, 32, frame, 64 * 32, 64) == NIT_DONE);
+    CHECK(nit_shown(server, 9, 9).view == 1 && nit_owner(server, 9, 9).view == 1);
+    CHECK(nit_view_at(server, 0).view == 1 && nit_title_at(server, 0, text, 20) == 1);
+    CHECK(nit_label(server, 0, text, 20) == 1 && nit_account(server, 0).width == 8);
+}
+
 static void calls(struct nit_server *server)
 {
-    static uint32_t words[64], frame[64 * 32];
-    CHECK(nit_seat_for(server, TEXT("a")) == 0 && nit_seat(server, 0, TEXT("a")) == NIT_DONE);
-    REPLY(nit_view(server, 0), .kind = NIT_HANDLE, .handle = 1);
-    REPLY(nit_buffer(server, 0, 8, 8), .kind = NIT_DONE);
-    REPLY(nit_place(server, 0, 1, 0, 0, 64, 32), .kind = NIT_DONE);
-    REPLY(nit_offset(server, 0, 1, 1, 1), .kind = NIT_DONE);
-    REPLY(nit_title(server, 0, 1, TEXT("t")), .kind = NIT_DONE);
-    REPLY(nit_front(server, 0, 1), .kind = NIT_DONE);
-    REPLY(nit_back(server, 0, 1), .kind = NIT_DONE);
-    REPLY(nit_above(server, 0, 1, 1), .kind = NIT_DONE);
-    REPLY(nit_refresh(server, 0, 0, 0, 8, 8, words, 64), .kind = NIT_DONE);
-    REPLY(nit_upgrade(server, 0, 4096), .kind = NIT_DONE);
+    SEATED(nit_seat_for(server, TEXT("a"), 0), .kind = NIT_DONE);
+    nit_client a = sits_on(server, 0, "a");
+    client_calls(server, a);
+    CHECK(nit_raise(server, a, 1) == NIT_DONE && nit_lower(server, a, 1) == NIT_DONE);
     CHECK(nit_motion(server, 9, 9).count == 1 && nit_wheel(server, 1).count == 1);
-    CHECK(nit_look(server, frame, 64 * 32).kind == NIT_DONE);
-    CHECK(nit_press(server, 272).count == 2 && nit_release(server, 272).count == 1);
-    CHECK(nit_press(server, 70).count == 1 && nit_look(server, frame, 64 * 32).w == 64);
-    CHECK(nit_press(server, 70).count == 0 && nit_take(server, 0).kind == NIT_EVENT);
+    looks(server);
+    CHECK(nit_press(server, 272).count == 2 && nit_held(server, 0) == 272);
+    CHECK(nit_release(server, 272).count == 1);
+    CHECK(nit_press(server, 70).count == 1 && nit_damage(server).count > 0);
+    CHECK(nit_press(server, 70).count == 0 && nit_take(server, a).kind == NIT_EVENT);
     CHECK(nit_state(server).seats == 16 && nit_seat_state(server, 0).waiting == 5);
-    REPLY(nit_destroy(server, 0, 1), .kind = NIT_DONE);
-    REPLY(nit_leave(server, 0), .kind = NIT_DONE);
-    CHECK(nit_seat(server, 0, TEXT("b")) == NIT_DONE);
+    REPLY(nit_destroy(server, a, 1), .kind = NIT_DONE);
+    REPLY(nit_leave(server, a), .kind = NIT_DONE);
+    sits_on(server, 0, "b");
 }
 
 static void calls_make_none(struct nit_server *server)
@@ -93,7 +115,8 @@ static void refuse_text(struct nit_server *server)
     static const char line[] = "call 0 handle 1 < view\n";
     size_t number = 0, held = memory_held, length;
     char out[NIT_LINE];
-    REPLY(nit_view(server, 0), .kind = NIT_HANDLE, .handle = 1);
+    nit_client client = nit_seat_state(server, 0).client;
+    REPLY(nit_view(server, client), .kind = NIT_HANDLE, .handle = 1);
     do {
         memset(out, 'x', sizeof out);
         memory_refuse(++number);

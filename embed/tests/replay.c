@@ -20,9 +20,15 @@ struct drawing {
     uint32_t w, h;
 };
 
+struct part {
+    int32_t x, y;
+    uint32_t w, h;
+};
+
 /* A run, with the servers that it is made with, and what was seen of each. */
 struct run {
     struct nit_server server[2];
+    nit_client client[2][SEATS];
     uint32_t *frame[2];
     uint32_t width, height, bar, count, line;
     struct nit_seat_plan plan[SEATS];
@@ -46,59 +52,61 @@ static struct nit_rect look_at(struct run *run, int k)
 /* ---- Calls. */
 
 /* A call of views by its line; `*is_one` says whether it was one. */
-static struct nit_reply call_views(struct nit_server *s, uint32_t seat, const char *line,
+static struct nit_reply call_views(struct nit_server *s, nit_client client, const char *line,
                                    bool *is_one)
 {
     uint32_t v = 0, w, h;
     int32_t x, y;
     *is_one = true;
     if (begins(line, "view"))
-        return nit_view(s, seat);
+        return nit_view(s, client);
     if (sscanf(line, "place %u %d %d %u %u", &v, &x, &y, &w, &h) == 5)
-        return nit_place(s, seat, v, x, y, w, h);
+        return nit_place(s, client, v, x, y, w, h);
     if (sscanf(line, "offset %u %d %d", &v, &x, &y) == 3)
-        return nit_offset(s, seat, v, x, y);
+        return nit_offset(s, client, v, x, y);
     if (sscanf(line, "front %u", &v) == 1)
-        return nit_front(s, seat, v);
+        return nit_front(s, client, v);
     if (sscanf(line, "back %u", &v) == 1)
-        return nit_back(s, seat, v);
+        return nit_back(s, client, v);
     if (sscanf(line, "above %u %u", &v, &w) == 2)
-        return nit_above(s, seat, v, w);
+        return nit_above(s, client, v, w);
     if (sscanf(line, "title %u =", &v) == 1)
-        return nit_title(s, seat, v, strchr(line, '=') + 1, strlen(strchr(line, '=') + 1));
+        return nit_title(s, client, v, strchr(line, '=') + 1, strlen(strchr(line, '=') + 1));
     if (sscanf(line, "destroy %u", &v) == 1)
-        return nit_destroy(s, seat, v);
+        return nit_destroy(s, client, v);
     *is_one = false;
     return (struct nit_reply){ .kind = NIT_NO_SERVER };
 }
 
-static struct nit_reply refresh(struct run *run, struct nit_server *s, uint32_t seat, int32_t x,
-                                int32_t y, uint32_t w, uint32_t h)
+static struct nit_reply refresh(struct run *run, int k, uint32_t seat, const struct part *part)
 {
     struct drawing *d = &run->drawing[seat];
     size_t count = (size_t)d->w * d->h;
-    return nit_refresh(s, seat, x, y, w, h, d->words + d->room - count, count);
+    return nit_refresh(&run->server[k], run->client[k][seat], part->x, part->y, part->w, part->h,
+                       d->words + d->room - count, count);
 }
 
-static struct nit_reply call(struct run *run, struct nit_server *s, uint32_t seat,
-                             const char *line)
+/* A call of a session: on each server its client has a name of its own. */
+static struct nit_reply call(struct run *run, int k, uint32_t seat, const char *line)
 {
+    struct nit_server *s = &run->server[k];
+    nit_client client = run->client[k][seat];
+    struct part part;
     uint32_t w, h;
-    int32_t x, y;
     bool is_one;
-    struct nit_reply reply = call_views(s, seat, line, &is_one);
+    struct nit_reply reply = call_views(s, client, line, &is_one);
     if (is_one)
         return reply;
     if (sscanf(line, "buffer %u %u", &w, &h) == 2)
-        return nit_buffer(s, seat, w, h);
-    if (sscanf(line, "refresh %d %d %u %u", &x, &y, &w, &h) == 4)
-        return refresh(run, s, seat, x, y, w, h);
+        return nit_buffer(s, client, w, h);
+    if (sscanf(line, "refresh %d %d %u %u", &part.x, &part.y, &part.w, &part.h) == 4)
+        return refresh(run, k, seat, &part);
     if (sscanf(line, "upgrade %u", &w) == 1)
-        return nit_upgrade(s, seat, w);
+        return nit_upgrade(s, client, w);
     if (begins(line, "take"))
-        return nit_take(s, seat);
+        return nit_take(s, client);
     if (begins(line, "close"))
-        return nit_leave(s, seat);
+        return nit_leave(s, client);
     wrong(run, line, "no call");
     return reply;
 }
@@ -147,7 +155,7 @@ static void play_call(struct run *run, const char *line)
     asked += 3;
     struct nit_reply want = reply_in(said);
     for (int k = 0; k < 2; k++) {
-        struct nit_reply got = call(run, &run->server[k], seat, asked);
+        struct nit_reply got = call(run, k, seat, asked);
         if (memcmp(&got, &want, sizeof want) != 0)
             wrong(run, line, "another reply");
         is_entry(run, &run->server[k], line);
@@ -212,11 +220,12 @@ static uint8_t *picture_at(struct run *run, const char *line, const char *name)
     return pixels;
 }
 
-static void refresh_all(struct run *run, struct nit_server *s, const char *line)
+static void refresh_all(struct run *run, int k, const char *line)
 {
+    const struct part all = { 0, 0, 4096, 4096 };
     for (uint32_t seat = 0; seat < run->count; seat++)
-        if (nit_seat_state(s, seat).status == NIT_SEAT_LIVE
-            && refresh(run, s, seat, 0, 0, 4096, 4096).kind != NIT_DONE)
+        if (nit_seat_state(&run->server[k], seat).status == NIT_SEAT_LIVE
+            && refresh(run, k, seat, &all).kind != NIT_DONE)
             wrong(run, line, "a whole refresh is refused");
 }
 
@@ -271,7 +280,7 @@ static void play_picture(struct run *run, const char *line)
     uint8_t *pixels = picture_at(run, line, line + 8);
     show_the_same(run, line);
     for (int k = 0; k < 2; k++) {
-        refresh_all(run, &run->server[k], line);
+        refresh_all(run, k, line);
         look(run, k, pixels, line);
     }
     free(pixels);
@@ -312,8 +321,10 @@ static void open_by_seats(struct run *run)
     CHECK(nit_open(&run->server[1], &plan) == NIT_DONE);
     for (uint32_t k = 0; k < run->count; k++) {
         const char *label = run->label[k];
-        CHECK(nit_seat_for(&run->server[1], label, strlen(label)) == k);
-        CHECK(nit_seat(&run->server[1], k, label, strlen(label)) == NIT_DONE);
+        SEATED(nit_seat_for(&run->server[1], label, strlen(label), run->plan[k].layer),
+               .kind = NIT_DONE, .seat = k);
+        run->client[0][k] = k;
+        run->client[1][k] = sits_on(&run->server[1], k, label);
     }
     for (int k = 0; k < 2; k++) {
         run->frame[k] = guarded_words((size_t)run->width * run->height);

@@ -12,6 +12,7 @@
 enum { MOST = 3840 * 2160, TIMES = 40, VIEWS = 64 };
 
 static struct nit_server server;
+static nit_client client[2];
 static uint32_t width, height, frame[MOST];
 /* What a client draws by turns, so that each refresh changes each pixel. */
 static uint32_t words[2][MOST];
@@ -42,7 +43,7 @@ static void look(uint32_t w, uint32_t h)
 
 static void hand_in(uint32_t seat, uint32_t x, uint32_t y, uint32_t w, uint32_t h)
 {
-    must(nit_refresh(&server, seat, (int32_t)x, (int32_t)y, w, h, words[turn % 2],
+    must(nit_refresh(&server, client[seat], (int32_t)x, (int32_t)y, w, h, words[turn % 2],
                      (size_t)width * height).kind == NIT_DONE, "refused");
 }
 
@@ -77,17 +78,45 @@ static void corners(void)
     look(width, height);
 }
 
+/* A look by damage, whose parts are copied. */
+static void copy_damage(void)
+{
+    struct nit_damage damage = nit_damage(&server);
+    must(damage.kind == NIT_DONE && damage.count > 0, "nothing changed");
+    for (uint32_t k = 0; k < damage.count; k++) {
+        const struct nit_part *part = &damage.part[k];
+        size_t at = (size_t)part->y * width + part->x;
+        must(nit_copy(&server, part->x, part->y, part->w, part->h, frame + at,
+                      (size_t)width * height - at, width) == NIT_DONE, "not copied");
+    }
+}
+
+static void copied_corners(void)
+{
+    turn++;
+    hand_in(0, 0, 0, 1, 1);
+    hand_in(0, width - 1, height - 1, 1, 1);
+    copy_damage();
+}
+
+static void copied_refresh(void)
+{
+    turn++;
+    hand_in(0, 0, 0, 1000, 700);
+    copy_damage();
+}
+
 static void no_event(void)
 {
-    must(nit_take(&server, 0).kind == NIT_NO_EVENT, "an event");
+    must(nit_take(&server, client[0]).kind == NIT_NO_EVENT, "an event");
 }
 
 /* One of 64 views goes one column to the right, or back. */
 static void moved_view(void)
 {
     uint32_t at = turn++ % VIEWS, by = turn / VIEWS % 2;
-    must(nit_place(&server, 1, at + 1, (int32_t)(at % 8 * 120 + by), (int32_t)(at / 8 * 90 + 8),
-                   60, 60).kind == NIT_DONE, "not placed");
+    must(nit_place(&server, client[1], at + 1, (int32_t)(at % 8 * 120 + by),
+                   (int32_t)(at / 8 * 90 + 8), 60, 60).kind == NIT_DONE, "not placed");
     must(nit_look(&server, frame, (size_t)width * height).kind == NIT_DONE, "no look");
 }
 
@@ -112,6 +141,13 @@ static void close_screen(void)
     must(nit_close(&server) == NIT_DONE, "not closed");
 }
 
+static void sit(uint32_t seat, const char *label)
+{
+    struct nit_seated seated = nit_seat(&server, seat, label, 5);
+    must(seated.kind == NIT_DONE, "not seated");
+    client[seat] = seated.client;
+}
+
 static void open_screen(uint32_t w, uint32_t h, uint32_t bar)
 {
     uint32_t donation = w * h > 1048576 ? 1u << 26 : 1u << 23;
@@ -120,16 +156,16 @@ static void open_screen(uint32_t w, uint32_t h, uint32_t bar)
     width = w;
     height = h;
     must(nit_open(&server, &plan) == NIT_DONE, "not opened");
-    must(nit_seat(&server, 0, "large", 5) == NIT_DONE, "not seated");
-    must(nit_seat(&server, 1, "small", 5) == NIT_DONE, "not seated");
-    must(nit_buffer(&server, 0, w, h).kind == NIT_DONE, "no buffer");
-    must(nit_buffer(&server, 1, 60, 60).kind == NIT_DONE, "no buffer");
+    sit(0, "large");
+    sit(1, "small");
+    must(nit_buffer(&server, client[0], w, h).kind == NIT_DONE, "no buffer");
+    must(nit_buffer(&server, client[1], 60, 60).kind == NIT_DONE, "no buffer");
 }
 
 static void open_views(void)
 {
     for (uint32_t at = 0; at < VIEWS; at++)
-        must(nit_view(&server, 1).handle == at + 1, "no view");
+        must(nit_view(&server, client[1]).handle == at + 1, "no view");
     hand_in(1, 0, 0, 60, 60);
     for (uint32_t at = 0; at < VIEWS; at++)
         moved_view();
@@ -145,8 +181,8 @@ static void settle(void)
 
 static void open_large_view(int32_t x, int32_t y, uint32_t w, uint32_t h)
 {
-    must(nit_view(&server, 0).handle == 1, "no view");
-    must(nit_place(&server, 0, 1, x, y, w, h).kind == NIT_DONE, "not placed");
+    must(nit_view(&server, client[0]).handle == 1, "no view");
+    must(nit_place(&server, client[0], 1, x, y, w, h).kind == NIT_DONE, "not placed");
     settle();
 }
 
@@ -168,6 +204,7 @@ static void plain_screen(void)
     open_large_view(10, 20, 1000, 700);
     tell("a refresh of 1000 by 700, and a look", large_refresh, 5);
     tell("a refresh of 200 by 200, and a look", small_refresh, 50);
+    tell("a refresh of 1000 by 700, and damage copied", copied_refresh, 5);
     tell("a call that changes nothing", no_event, 2000);
     close_screen();
 }
@@ -193,6 +230,7 @@ static void widest_screen(void)
     tell("3840 by 2160: a refresh of 200 by 200, and a look", small_refresh, 50);
     settle();
     tell("3840 by 2160: two corners refreshed, and a look", corners, 1);
+    tell("3840 by 2160: two corners refreshed, and damage copied", copied_corners, 1);
     close_screen();
 }
 

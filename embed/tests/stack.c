@@ -8,6 +8,7 @@ enum { WIDTH = 1024, HEIGHT = 768, SEATS = 16, VIEWS = 64, SIZE = 1 << 20, NEAR 
        DEEP = 1 << 20, OPENING = 64 << 10, CALL = 16 << 10 };
 
 static struct nit_server server = NIT_CLOSED;
+static nit_client client[SEATS];
 static unsigned char *lowest;
 static uint32_t words[64 * 64], frame[WIDTH * HEIGHT];
 static char text[DEEP];
@@ -34,12 +35,14 @@ static void opens_deep(void)
 static void client_comes(uint32_t seat)
 {
     char label[1] = { (char)('a' + seat) };
-    CHECK(nit_seat_for(&server, label, 1) == seat);
-    CHECK(nit_seat(&server, seat, label, 1) == NIT_DONE);
-    REPLY(nit_buffer(&server, seat, 64, 64), .kind = NIT_DONE);
+    SEATED(nit_seat_for(&server, label, 1, 0), .kind = NIT_DONE, .seat = seat);
+    struct nit_seated seated = nit_seat(&server, seat, label, 1);
+    CHECK(seated.kind == NIT_DONE);
+    nit_client name = client[seat] = seated.client;
+    REPLY(nit_buffer(&server, name, 64, 64), .kind = NIT_DONE);
     for (uint32_t k = 1; k <= VIEWS; k++) {
-        REPLY(nit_view(&server, seat), .kind = NIT_HANDLE, .handle = k);
-        REPLY(nit_place(&server, seat, k, (int32_t)(16 * k), (int32_t)(40 * seat), 64, 5 * k),
+        REPLY(nit_view(&server, name), .kind = NIT_HANDLE, .handle = k);
+        REPLY(nit_place(&server, name, k, (int32_t)(16 * k), (int32_t)(40 * seat), 64, 5 * k),
               .kind = NIT_DONE);
     }
 }
@@ -52,16 +55,18 @@ static void clients_come(void)
 
 static void client_calls(void)
 {
-    REPLY(nit_refresh(&server, 0, 0, 0, 64, 64, words, 64 * 64), .kind = NIT_DONE);
-    REPLY(nit_offset(&server, 0, 1, 3, 3), .kind = NIT_DONE);
-    REPLY(nit_title(&server, 0, 1, TEXT("title")), .kind = NIT_DONE);
-    REPLY(nit_front(&server, 0, 1), .kind = NIT_DONE);
-    REPLY(nit_back(&server, 0, 1), .kind = NIT_DONE);
-    REPLY(nit_above(&server, 0, 1, 2), .kind = NIT_DONE);
-    REPLY(nit_upgrade(&server, 0, 1), .kind = NIT_DONE);
-    CHECK(nit_take(&server, 0).kind >= NIT_EVENT);
-    REPLY(nit_destroy(&server, 0, 1), .kind = NIT_DONE);
-    REPLY(nit_leave(&server, 0), .kind = NIT_DONE);
+    nit_client a = client[0];
+    REPLY(nit_refresh(&server, a, 0, 0, 64, 64, words, 64 * 64), .kind = NIT_DONE);
+    REPLY(nit_offset(&server, a, 1, 3, 3), .kind = NIT_DONE);
+    REPLY(nit_title(&server, a, 1, TEXT("title")), .kind = NIT_DONE);
+    REPLY(nit_front(&server, a, 1), .kind = NIT_DONE);
+    REPLY(nit_back(&server, a, 1), .kind = NIT_DONE);
+    REPLY(nit_above(&server, a, 1, 2), .kind = NIT_DONE);
+    REPLY(nit_upgrade(&server, a, 1), .kind = NIT_DONE);
+    CHECK(nit_take(&server, a).kind >= NIT_EVENT);
+    CHECK(nit_lower(&server, a, 2) == NIT_DONE && nit_raise(&server, a, 1) == NIT_DONE);
+    REPLY(nit_destroy(&server, a, 1), .kind = NIT_DONE);
+    REPLY(nit_leave(&server, a), .kind = NIT_DONE);
     client_comes(0);
 }
 
@@ -77,6 +82,10 @@ static void looks(void)
     char line[NIT_LINE];
     CHECK(nit_look(&server, frame, WIDTH * HEIGHT).kind == NIT_DONE);
     CHECK(nit_state(&server).kind == NIT_DONE && nit_seat_state(&server, 0).kind == NIT_DONE);
+    CHECK(nit_damage(&server).kind == NIT_DONE);
+    CHECK(nit_copy(&server, 1, 1, 9, 9, frame, WIDTH * HEIGHT, WIDTH) == NIT_DONE);
+    CHECK(nit_shown(&server, 100, 100).kind == NIT_DONE);
+    CHECK(nit_owner(&server, 100, 100).kind == NIT_DONE && nit_label(&server, 0, line, 20) == 1);
     CHECK(nit_entry(&server, line, sizeof line) > 0);
 }
 

@@ -5,9 +5,10 @@
  *
  * So many calls are made, 1,000,000 where no number is given, with the random numbers of the seed,
  * 1 where none is given. Words that are read and frames that are written end where memory ends. In
- * a million calls each reply has to come up, and NIT_MOVED. Each eighth server, the first one too,
- * may have a screen of up to 4096 by 4096 pixels, and then stands for fewer calls; each eighth
- * donation may be any. */
+ * a million calls each reply has to come up, and so have NIT_MOVED and NIT_OTHER_CLIENT. Each
+ * eighth server, the first one too, may have a screen of up to 4096 by 4096 pixels, and then stands
+ * for fewer calls; each eighth donation may be any.
+ */
 #include "storm.h"
 
 enum { LABELS = 8, GOOD = 5 };
@@ -34,47 +35,10 @@ static void reads(struct storm *s)
     named(s, state.hover);
     for (uint32_t seat = 0; seat < s->seats; seat++) {
         struct nit_seat_state one = nit_seat_state(&s->server, seat);
-        CHECK(one.kind == NIT_DONE && one.waiting <= 64);
+        CHECK(one.kind == NIT_DONE && one.waiting <= 64 && one.client == s->client[seat]);
         CHECK(one.status >= NIT_SEAT_LIVE && one.status <= NIT_SEAT_KILLED);
         CHECK(one.status == NIT_SEAT_LIVE || one.waiting == 0);
     }
-}
-
-/* Outside of the part each word is as it was; and all are below 2^24. */
-static void is_outside_the_same(const struct storm *s, struct nit_rect part, const uint32_t *was)
-{
-    uint32_t bits = 0;
-    for (uint32_t y = 0; y < s->height; y++) {
-        const uint32_t *now = s->frame + (size_t)y * s->width;
-        uint32_t left = y - part.y < part.h ? part.x : s->width;
-        uint32_t right = y - part.y < part.h ? part.x + part.w : s->width;
-        CHECK(memcmp(now, was, 4 * (size_t)left) == 0);
-        CHECK(memcmp(now + right, was + right, 4 * (size_t)(s->width - right)) == 0);
-        for (uint32_t x = 0; x < s->width; x++)
-            bits |= now[x];
-        was += s->width;
-    }
-    CHECK(bits <= 0xFFFFFF);
-}
-
-/* A look tells where something changed, and leaves words at which a second look finds nothing. One
- * at a wrong number of words is none. */
-static void looks(struct storm *s)
-{
-    size_t count = (size_t)s->width * s->height;
-    uint32_t *frame = s->frame, *other = s->other;
-    if (below(s, 4) == 0) {
-        CHECK(nit_look(&s->server, frame, any(s) + count + 1).kind == NIT_WRONG_FRAME);
-        return;
-    }
-    memcpy(other, frame, 4 * count);
-    struct nit_rect part = shown_look(s);
-    CHECK(part.x + part.w <= s->width && part.y + part.h <= s->height);
-    is_outside_the_same(s, part, other);
-    memcpy(other, frame, 4 * count);
-    part = shown_look(s);
-    CHECK(part.w == 0 && part.h == 0);
-    CHECK(memcmp(frame, other, 4 * count) == 0);
 }
 
 /* ---- Seats. */
@@ -93,63 +57,86 @@ static uint32_t seat_of(const struct storm *s, int label)
     return NIT_NONE;
 }
 
-static uint32_t seat_for(struct storm *s, int label)
+/* What seats a client of this label in this layer. */
+static struct nit_seated seat_for(struct storm *s, int label, uint32_t layer)
+{
+    uint32_t had = seat_of(s, label), free = 0;
+    if (label >= GOOD)
+        return (struct nit_seated){ .kind = NIT_BAD_LABEL };
+    if (had != NIT_NONE && (is_live(s, had) || s->layer[had] != layer))
+        return (struct nit_seated){ .kind = NIT_LABEL_TAKEN };
+    if (had != NIT_NONE)
+        return (struct nit_seated){ .kind = NIT_DONE, .seat = had };
+    while (free < s->seats && (is_live(s, free) || s->layer[free] != layer))
+        free++;
+    if (free == s->seats)
+        return (struct nit_seated){ .kind = NIT_NO_FREE_SEAT };
+    return (struct nit_seated){ .kind = NIT_DONE, .seat = free };
+}
+
+/* What a seat answers to a client of this label that is to sit there. */
+static uint32_t answer_of(struct storm *s, uint32_t seat, int label)
 {
     uint32_t had = seat_of(s, label);
+    if (seat >= s->seats)
+        return NIT_NO_SEAT;
     if (label >= GOOD)
-        return NIT_NONE;
-    if (had != NIT_NONE)
-        return is_live(s, had) ? NIT_NONE : had;
-    for (uint32_t seat = 0; seat < s->seats; seat++)
-        if (!is_live(s, seat))
-            return seat;
-    return NIT_NONE;
+        return NIT_BAD_LABEL;
+    if (is_live(s, seat))
+        return NIT_SEAT_TAKEN;
+    return had == NIT_NONE || had == seat ? NIT_DONE : NIT_LABEL_TAKEN;
+}
+
+/* A client sits down. Its name has the next turn. */
+static void sits(struct storm *s, uint32_t seat, int label)
+{
+    s->client[seat] = ++s->turns * 65536 + seat;
+    SEATED(nit_seat(&s->server, seat, LABEL[label], strlen(LABEL[label])), .kind = NIT_DONE,
+           .seat = seat, .client = s->client[seat]);
+    s->label[seat] = label;
+    s->handle[seat] = 0;
+    s->length = 0;
+    SEAT(nit_seat_state(&s->server, seat), .kind = NIT_DONE, .status = NIT_SEAT_LIVE,
+         .client = s->client[seat]);
 }
 
 static void takes_seat(struct storm *s)
 {
     int label = (int)below(s, LABELS);
     const char *text = LABEL[label];
-    uint32_t seat = nit_seat_for(&s->server, text, strlen(text)), had = seat_of(s, label), answer;
-    CHECK(seat == seat_for(s, label));
-    if (seat == NIT_NONE || below(s, 3) == 0)
-        seat = any_seat(s);
-    if (seat >= s->seats)
-        answer = NIT_NO_SEAT;
-    else if (label >= GOOD)
-        answer = NIT_BAD_LABEL;
-    else if (is_live(s, seat))
-        answer = NIT_SEAT_TAKEN;
+    uint32_t layer = below(s, 4), seat, answer;
+    struct nit_seated found = nit_seat_for(&s->server, text, strlen(text), layer);
+    same_seated(found, seat_for(s, label, layer), __FILE__, __LINE__);
+    seat = found.kind == NIT_DONE && below(s, 3) != 0 ? found.seat : nit_seat_of(any_client(s));
+    answer = answer_of(s, seat, label);
+    CHECK(found.kind != NIT_DONE || answer_of(s, found.seat, label) == NIT_DONE);
+    if (answer == NIT_DONE)
+        sits(s, seat, label);
     else
-        answer = had == NIT_NONE || had == seat ? NIT_DONE : NIT_LABEL_TAKEN;
-    CHECK(nit_seat(&s->server, seat, text, strlen(text)) == answer);
-    if (answer == NIT_DONE) {
-        s->label[seat] = label;
-        s->handle[seat] = 0;
-        s->has_come[seat] = true;
-        s->length = 0;
-        SEAT(nit_seat_state(&s->server, seat), .kind = NIT_DONE, .status = NIT_SEAT_LIVE);
-    }
+        SEATED(nit_seat(&s->server, seat, text, strlen(text)), .kind = answer);
     told(s, false, "");
 }
 
 /* The client under the pointer leaves, and the next one of its seat, which has its label, stands
- * there; then the user clicks. */
+ * there; then the user clicks. What the client before still asks for reaches nobody. */
 static void comes_again(struct storm *s)
 {
-    uint32_t seat = shown_owner(s, nit_state(&s->server));
-    if (seat == NIT_NONE)
+    const struct placed *there = shown_owner(s, nit_state(&s->server));
+    if (!there)
         return;
-    const char *text = LABEL[s->label[seat]];
+    nit_client before = there->client;
+    uint32_t seat = nit_seat_of(before);
     shown_look(s);
-    CHECK(nit_leave(&s->server, seat).kind == NIT_DONE);
-    shown_gone(s, seat);
-    CHECK(nit_seat(&s->server, seat, text, strlen(text)) == NIT_DONE);
-    s->has_come[seat] = true;
+    CHECK(nit_leave(&s->server, before).kind == NIT_DONE);
+    shown_gone(s, before);
+    sits(s, seat, s->label[seat]);
+    REPLY(shown_view(s, s->client[seat]), .kind = NIT_HANDLE, .handle = 1);
     s->handle[seat] = 1;
-    REPLY(shown_view(s, seat), .kind = NIT_HANDLE, .handle = 1);
-    struct placed all = { .handle = 1, .w = s->width, .h = s->height };
-    REPLY(shown_place(s, seat, all), .kind = NIT_DONE);
+    struct placed all = { .client = s->client[seat], .handle = 1, .w = s->width, .h = s->height };
+    REPLY(shown_place(s, all), .kind = NIT_DONE);
+    all.client = before;
+    all.w = 1;
+    REPLY(shown_place(s, all), .kind = NIT_OTHER_CLIENT);
     told(s, true, "call ");
     told(s, shown_press(s, 272).kind == NIT_DONE, "input ");
 }
@@ -199,7 +186,9 @@ static void opens(struct storm *s)
         s->room = words > s->room ? words : s->room;
         s->layer[k] = seats[k].layer;
         s->label[k] = -1;
+        s->client[k] = k;
     }
+    s->turns = 0;
     s->room = s->room < MOST_WORDS ? s->room : MOST_WORDS;
     struct nit_plan plan = { s->width, s->height, 2 + any(s) % 9, s->seats, seats };
     CHECK(nit_open(&s->server, &plan) == NIT_BAD_PLAN);
@@ -229,8 +218,12 @@ static void does(struct storm *s)
         opens(s);
     } else if (what < 100) {
         looks(s);
+    } else if (what < 150) {
+        copies(s);
     } else if (what < 200) {
         reads(s);
+    } else if (what < 400) {
+        user_restacks(s);
     } else if (what < 800) {
         takes_seat(s);
     } else if (what < 820) {
@@ -250,13 +243,14 @@ int main(int count, char **words)
     s.words = guarded_words(MOST_WORDS) + MOST_WORDS;
     s.frame = guarded_words(MOST_WORDS) + MOST_WORDS;
     s.other = guarded_words(MOST_WORDS);
+    s.scratch = guarded_words(SCRATCH) + SCRATCH;
     opens(&s);
     for (uint64_t k = 0; k < calls; k++)
         does(&s);
     close_plain(&s.server);
     for (uint32_t kind = NIT_DONE; kind <= NIT_SESSION_KILLED; kind++)
         CHECK(calls < 1000000 || (s.seen >> kind & 1) == 1);
-    CHECK(calls < 1000000 || (s.seen >> NIT_MOVED & 1) == 1);
+    CHECK(calls < 1000000 || (s.seen >> NIT_MOVED & s.seen >> NIT_OTHER_CLIENT & 1) == 1);
     printf("storm: %llu calls\n", (unsigned long long)calls);
     return 0;
 }

@@ -27,17 +27,32 @@ static int32_t any_place(struct storm *s)
     return (int32_t)number;
 }
 
-/* Mostly one of the last views that the seat made. */
-static uint32_t any_view(struct storm *s, uint32_t seat)
+/* Mostly one of the last views that the seat's client made. */
+uint32_t any_view(struct storm *s, nit_client client)
 {
+    uint32_t seat = nit_seat_of(client);
     if (seat >= s->seats || below(s, 20) == 0)
         return any(s);
     return s->handle[seat] - below(s, below(s, 4) == 0 ? 64 : 6);
 }
 
-uint32_t any_seat(struct storm *s)
+bool is_its_own(const struct storm *s, nit_client client)
 {
-    return below(s, 100) == 0 ? s->seats + any(s) % 100 : below(s, s->seats);
+    uint32_t seat = nit_seat_of(client);
+    return seat < s->seats && s->client[seat] == client;
+}
+
+/* One call in a hundred is for no seat, and one in forty for another client of the seat: mostly
+ * for one before, or one that is still to come. */
+nit_client any_client(struct storm *s)
+{
+    uint32_t seat = below(s, s->seats);
+    uint64_t turn = s->client[seat] >> 16;
+    if (below(s, 100) == 0)
+        return draw(&s->random, 1 + turn) * 65536 + s->seats + below(s, 65536 - s->seats);
+    if (below(s, 40) == 0)
+        turn = below(s, 4) == 0 ? draw(&s->random, 1ull << 48) : draw(&s->random, s->turns + 2);
+    return turn * 65536 + seat;
 }
 
 /* ---- What a reply may be. */
@@ -89,14 +104,18 @@ void told(struct storm *s, bool is_served, const char *begins)
     s->length = length;
 }
 
-/* What a reply is to a seat of this status, where a live one may answer these kinds. */
-static void is_reply(struct storm *s, uint32_t seat, uint32_t status, struct nit_reply r,
+/* What a reply is to a client whose seat has this status, where a live one may answer these
+ * kinds. */
+static void is_reply(struct storm *s, nit_client client, uint32_t status, struct nit_reply r,
                      uint64_t kinds)
 {
     const uint64_t unserved = KIND(NIT_BAD_TEXT) | KIND(NIT_SHORT_WORDS);
+    uint32_t seat = nit_seat_of(client);
     char begins[20];
     if (seat >= s->seats)
         kinds = KIND(NIT_NO_SEAT);
+    else if (!is_its_own(s, client))
+        kinds = KIND(NIT_OTHER_CLIENT);
     else if (status == NIT_SEAT_CLOSED)
         kinds = (kinds & unserved) | KIND(NIT_SESSION_CLOSED);
     else if (status == NIT_SEAT_KILLED)
@@ -112,94 +131,100 @@ static void is_reply(struct storm *s, uint32_t seat, uint32_t status, struct nit
 
 /* ---- Calls. */
 
-static struct nit_reply refresh(struct storm *s, uint32_t seat)
+static struct nit_reply refresh(struct storm *s, nit_client client)
 {
     size_t count = below(s, 3) == 0 ? below(s, s->room + 1) : s->room;
     s->words[-1 - (ptrdiff_t)below(s, s->room)] = (uint32_t)draw(&s->random, 1ull << 32);
-    return nit_refresh(&s->server, seat, any_place(s), any_place(s), any(s), any(s),
+    return nit_refresh(&s->server, client, any_place(s), any_place(s), any(s), any(s),
                        s->words - count, count);
 }
 
-static struct nit_reply title(struct storm *s, uint32_t seat)
+static struct nit_reply title(struct storm *s, nit_client client)
 {
     char text[64];
     size_t length = below(s, 4) == 0 ? below(s, sizeof text) : below(s, 13);
     for (size_t k = 0; k < length; k++)
         text[k] = (char)(below(s, 20) == 0 ? below(s, 256) : 'a' + below(s, 26));
-    return nit_title(&s->server, seat, any_view(s, seat), text, length);
+    return nit_title(&s->server, client, any_view(s, client), text, length);
 }
 
-static struct nit_reply leave(struct storm *s, uint32_t seat, uint64_t *kinds)
+static struct nit_reply leave(struct storm *s, nit_client client, uint64_t *kinds)
 {
-    struct nit_reply reply = nit_leave(&s->server, seat);
+    struct nit_reply reply = nit_leave(&s->server, client);
     *kinds = KIND(NIT_DONE);
     if (reply.kind == NIT_DONE)
-        shown_gone(s, seat);
+        shown_gone(s, client);
     return reply;
 }
 
-static struct nit_reply rare(struct storm *s, uint32_t seat, uint64_t *kinds)
+static struct nit_reply rare(struct storm *s, nit_client client, uint64_t *kinds)
 {
     struct nit_server *server = &s->server;
     switch (below(s, 8)) {
     case 0:
         if (below(s, 16) == 0)
-            return leave(s, seat, kinds);
+            return leave(s, client, kinds);
         /* fall through */
     case 1:
     case 2:
         *kinds = KIND(NIT_DONE) | KIND(NIT_NO_RESERVE);
-        return nit_upgrade(server, seat, any(s));
+        return nit_upgrade(server, client, any(s));
     case 3:
     case 4:
         *kinds = OF_VIEW;
-        return shown_destroy(s, seat, any_view(s, seat));
+        return shown_destroy(s, client, any_view(s, client));
     default:
         *kinds = KIND(NIT_DONE) | KIND(NIT_BAD_SIZE) | KIND(NIT_OUT_OF_QUOTA);
-        return nit_buffer(server, seat, any(s), any(s));
+        return nit_buffer(server, client, any(s), any(s));
     }
 }
 
-static struct nit_reply usual(struct storm *s, uint32_t seat, uint64_t *kinds)
+static struct placed any_placed(struct storm *s, nit_client client)
+{
+    return (struct placed){ .client = client, .handle = any_view(s, client), .x = any_place(s),
+                            .y = any_place(s), .w = any(s), .h = any(s), .across = any_place(s),
+                            .down = any_place(s) };
+}
+
+static struct nit_reply usual(struct storm *s, nit_client client, uint64_t *kinds)
 {
     struct nit_server *server = &s->server;
     *kinds = OF_VIEW;
     switch (below(s, 8)) {
     case 0:
-    case 1: return shown_moved(s, seat, any_view(s, seat), below(s, 2) == 0);
-    case 2: return shown_above(s, seat, any_view(s, seat), any_view(s, seat));
+    case 1: return shown_moved(s, client, any_view(s, client), below(s, 2) == 0);
+    case 2: return shown_above(s, client, any_view(s, client), any_view(s, client));
     case 3:
         *kinds = KIND(NIT_HANDLE) | KIND(NIT_TOO_MANY_VIEWS) | KIND(NIT_OUT_OF_QUOTA);
-        return shown_view(s, seat);
+        return shown_view(s, client);
     case 4:
         *kinds = OF_VIEW | KIND(NIT_BAD_TITLE) | KIND(NIT_BAD_TEXT);
-        return title(s, seat);
+        return title(s, client);
     case 5:
         *kinds = KIND(NIT_EVENT) | KIND(NIT_NO_EVENT);
-        return nit_take(server, seat);
+        return nit_take(server, client);
     case 6:
         *kinds = OF_RECT;
-        return nit_offset(server, seat, any_view(s, seat), any_place(s), any_place(s));
+        return shown_offset(s, any_placed(s, client));
     default:
         *kinds = OF_RECT;
-        return shown_place(s, seat, (struct placed){ .handle = any_view(s, seat),
-                           .x = any_place(s), .y = any_place(s), .w = any(s), .h = any(s) });
+        return shown_place(s, any_placed(s, client));
     }
 }
 
 void client_calls(struct storm *s)
 {
-    uint32_t seat = any_seat(s);
-    uint32_t status = nit_seat_state(&s->server, seat).status;
+    nit_client client = any_client(s);
+    uint32_t status = nit_seat_state(&s->server, nit_seat_of(client)).status;
     uint64_t kinds = KIND(NIT_DONE) | KIND(NIT_BAD_RECT) | KIND(NIT_SHORT_WORDS);
     struct nit_reply reply;
     if (below(s, 4) == 0)
-        reply = refresh(s, seat);
+        reply = refresh(s, client);
     else if (below(s, 8) == 0)
-        reply = rare(s, seat, &kinds);
+        reply = rare(s, client, &kinds);
     else
-        reply = usual(s, seat, &kinds);
-    is_reply(s, seat, status, reply, kinds);
+        reply = usual(s, client, &kinds);
+    is_reply(s, client, status, reply, kinds);
 }
 
 /* ---- The user. */
@@ -222,7 +247,9 @@ static struct nit_routed press_or_release(struct storm *s, bool *is_served)
     *is_served = code < CODES;
     if (below(s, 8) == 0)
         return shown_release(s, code);
-    if (below(s, 2) == 0)
+    if (below(s, 2) == 0 && below(s, 2) == 0)
+        shown_damage(s);
+    else if (below(s, 2) == 0)
         shown_look(s);
     struct nit_routed routed = shown_press(s, code);
     *is_served = routed.kind == NIT_DONE;
@@ -252,9 +279,34 @@ void user_does(struct storm *s)
             continue;
         }
         CHECK(nit_seat_state(&s->server, r.to[k].seat).status == NIT_SEAT_KILLED);
-        shown_gone(s, r.to[k].seat);
+        shown_gone(s, s->client[r.to[k].seat]);
     }
     for (uint32_t k = r.count; k < 3; k++)
         has_no_event(r.to[k].event);
     told(s, is_served, "input ");
+}
+
+/* What the user restacks is told to nobody: no event waits anywhere, and the focus, the pointer and
+ * what is held stay. */
+void user_restacks(struct storm *s)
+{
+    struct nit_state state = nit_state(&s->server), now;
+    struct nit_seat_state seats[16];
+    nit_client client = any_client(s);
+    for (uint32_t seat = 0; seat < s->seats; seat++)
+        seats[seat] = nit_seat_state(&s->server, seat);
+    uint32_t kind = shown_restacked(s, client, any_view(s, client), below(s, 2) == 0);
+    bool is_done = kind == NIT_DONE;
+    if (nit_seat_of(client) >= s->seats)
+        CHECK(kind == NIT_NO_SEAT);
+    else if (!is_its_own(s, client))
+        CHECK(kind == NIT_OTHER_CLIENT);
+    else
+        CHECK(is_done || kind == NIT_NO_SUCH_VIEW);
+    now = nit_state(&s->server);
+    CHECK(memcmp(&state, &now, sizeof now) == 0);
+    for (uint32_t seat = 0; seat < s->seats; seat++)
+        same_seat(nit_seat_state(&s->server, seat), seats[seat], __FILE__, __LINE__);
+    s->length = is_done ? 0 : s->length;
+    told(s, false, "");
 }

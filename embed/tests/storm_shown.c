@@ -1,6 +1,7 @@
 /* What the test `storm` knows of views: how they stand, and how the last look showed them. By that
  * it says of each press of a button whether it is a click on a client that the user saw. */
 #include "storm.h"
+#include "surface.h"
 
 /* ---- A stack of views, front first. */
 
@@ -21,93 +22,132 @@ static struct placed take_out(struct stack *stack, uint32_t at)
 }
 
 /* Where a view stands that a client has. */
-static uint32_t place_of(const struct stack *stack, uint32_t seat, uint32_t handle)
+static uint32_t place_of(const struct stack *stack, nit_client client, uint32_t handle)
 {
     uint32_t at = 0;
     while (at < stack->count
-           && (stack->views[at].seat != seat || stack->views[at].handle != handle))
+           && (stack->views[at].client != client || stack->views[at].handle != handle))
         at++;
     CHECK(at < stack->count);
     return at;
+}
+
+static struct placed *view_of(struct storm *s, nit_client client, uint32_t handle)
+{
+    return &s->standing.views[place_of(&s->standing, client, handle)];
+}
+
+static uint32_t layer_of(const struct storm *s, nit_client client)
+{
+    return s->layer[nit_seat_of(client)];
 }
 
 /* How many views stand in front of a layer. */
 static uint32_t before_layer(const struct storm *s, uint32_t layer)
 {
     uint32_t at = 0;
-    while (at < s->standing.count && s->layer[s->standing.views[at].seat] < layer)
+    while (at < s->standing.count && layer_of(s, s->standing.views[at].client) < layer)
         at++;
     return at;
 }
 
-static uint32_t owner(const struct storm *s, const struct stack *stack, uint32_t x, uint32_t y)
+/* The view that has a pixel by a stack, or none. */
+static const struct placed *owner(const struct storm *s, const struct stack *stack, uint32_t x,
+                                  uint32_t y)
 {
-    if (s->bar == 1 && y < 7)
-        return NIT_NONE;
+    if (x >= s->width || y >= s->height || (s->bar == 1 && y < 7))
+        return NULL;
     for (uint32_t at = 0; at < stack->count; at++) {
         const struct placed *view = &stack->views[at];
         int64_t column = (int64_t)x - view->x, row = (int64_t)y - view->y;
         if (column >= 0 && row >= 0 && column < view->w && row < view->h)
-            return view->seat;
+            return view;
     }
-    return NIT_NONE;
+    return NULL;
 }
 
 /* ---- Calls, each with what becomes of the stack where it is done. */
 
-struct nit_reply shown_view(struct storm *s, uint32_t seat)
+struct nit_reply shown_view(struct storm *s, nit_client client)
 {
-    struct nit_reply reply = nit_view(&s->server, seat);
+    struct nit_reply reply = nit_view(&s->server, client);
     if (reply.kind == NIT_HANDLE)
-        put_in(&s->standing, before_layer(s, s->layer[seat]),
-               (struct placed){ .seat = seat, .handle = reply.handle });
+        put_in(&s->standing, before_layer(s, layer_of(s, client)),
+               (struct placed){ .client = client, .handle = reply.handle });
     return reply;
 }
 
-struct nit_reply shown_place(struct storm *s, uint32_t seat, struct placed to)
+struct nit_reply shown_place(struct storm *s, struct placed to)
 {
-    struct nit_reply reply = nit_place(&s->server, seat, to.handle, to.x, to.y, to.w, to.h);
-    to.seat = seat;
-    if (reply.kind == NIT_DONE)
-        s->standing.views[place_of(&s->standing, seat, to.handle)] = to;
+    struct nit_reply reply = nit_place(&s->server, to.client, to.handle, to.x, to.y, to.w, to.h);
+    if (reply.kind == NIT_DONE) {
+        struct placed *view = view_of(s, to.client, to.handle);
+        to.across = view->across;
+        to.down = view->down;
+        *view = to;
+    }
+    return reply;
+}
+
+struct nit_reply shown_offset(struct storm *s, struct placed to)
+{
+    struct nit_reply reply = nit_offset(&s->server, to.client, to.handle, to.across, to.down);
+    if (reply.kind == NIT_DONE) {
+        struct placed *view = view_of(s, to.client, to.handle);
+        view->across = to.across;
+        view->down = to.down;
+    }
     return reply;
 }
 
 /* The view goes in front of its layer, or behind it. */
-struct nit_reply shown_moved(struct storm *s, uint32_t seat, uint32_t handle, bool is_front)
+static void moves(struct storm *s, nit_client client, uint32_t handle, bool is_front)
 {
-    struct nit_reply reply = is_front ? nit_front(&s->server, seat, handle)
-                                      : nit_back(&s->server, seat, handle);
-    if (reply.kind == NIT_DONE) {
-        struct placed view = take_out(&s->standing, place_of(&s->standing, seat, handle));
-        put_in(&s->standing, before_layer(s, s->layer[seat] + (is_front ? 0 : 1)), view);
-    }
-    return reply;
+    struct placed view = take_out(&s->standing, place_of(&s->standing, client, handle));
+    put_in(&s->standing, before_layer(s, layer_of(s, client) + (is_front ? 0 : 1)), view);
 }
 
-struct nit_reply shown_above(struct storm *s, uint32_t seat, uint32_t handle, uint32_t other)
+struct nit_reply shown_moved(struct storm *s, nit_client client, uint32_t handle, bool is_front)
 {
-    struct nit_reply reply = nit_above(&s->server, seat, handle, other);
-    if (reply.kind == NIT_DONE && handle != other) {
-        struct placed view = take_out(&s->standing, place_of(&s->standing, seat, handle));
-        put_in(&s->standing, place_of(&s->standing, seat, other), view);
-    }
-    return reply;
-}
-
-struct nit_reply shown_destroy(struct storm *s, uint32_t seat, uint32_t handle)
-{
-    struct nit_reply reply = nit_destroy(&s->server, seat, handle);
+    struct nit_reply reply = is_front ? nit_front(&s->server, client, handle)
+                                      : nit_back(&s->server, client, handle);
     if (reply.kind == NIT_DONE)
-        take_out(&s->standing, place_of(&s->standing, seat, handle));
+        moves(s, client, handle, is_front);
+    return reply;
+}
+
+uint32_t shown_restacked(struct storm *s, nit_client client, uint32_t handle, bool is_front)
+{
+    uint32_t kind = is_front ? nit_raise(&s->server, client, handle)
+                             : nit_lower(&s->server, client, handle);
+    if (kind == NIT_DONE)
+        moves(s, client, handle, is_front);
+    return kind;
+}
+
+struct nit_reply shown_above(struct storm *s, nit_client client, uint32_t handle, uint32_t other)
+{
+    struct nit_reply reply = nit_above(&s->server, client, handle, other);
+    if (reply.kind == NIT_DONE && handle != other) {
+        struct placed view = take_out(&s->standing, place_of(&s->standing, client, handle));
+        put_in(&s->standing, place_of(&s->standing, client, other), view);
+    }
+    return reply;
+}
+
+struct nit_reply shown_destroy(struct storm *s, nit_client client, uint32_t handle)
+{
+    struct nit_reply reply = nit_destroy(&s->server, client, handle);
+    if (reply.kind == NIT_DONE)
+        take_out(&s->standing, place_of(&s->standing, client, handle));
     return reply;
 }
 
 /* A client has left, or is locked out. */
-void shown_gone(struct storm *s, uint32_t seat)
+void shown_gone(struct storm *s, nit_client client)
 {
     for (uint32_t at = s->standing.count; at-- > 0;)
-        if (s->standing.views[at].seat == seat)
+        if (s->standing.views[at].client == client)
             take_out(&s->standing, at);
 }
 
@@ -118,30 +158,33 @@ void shown_opens(struct storm *s)
 {
     s->standing.count = 0;
     s->shown.count = 0;
-    memset(s->has_come, 0, sizeof s->has_come);
     memset(s->is_held, 0, sizeof s->is_held);
+}
+
+/* A view that can be read is this one. */
+static void is_view(struct nit_view_state got, const struct placed *view)
+{
+    struct nit_view_state want = { .kind = NIT_NO_SUCH_VIEW };
+    if (view)
+        want = (struct nit_view_state){ NIT_DONE, nit_seat_of(view->client), view->handle, view->x,
+                                        view->y, view->w, view->h, view->across, view->down };
+    same_view(got, want, __FILE__, __LINE__);
 }
 
 /* The views that can be read are those that stand. */
 static void reads_views(struct storm *s)
 {
-    for (uint32_t at = 0; at < s->standing.count; at++) {
-        const struct placed *view = &s->standing.views[at];
-        struct nit_view_state got = nit_view_at(&s->server, at);
-        CHECK(got.kind == NIT_DONE && got.seat == view->seat && got.view == view->handle);
-        CHECK(got.x == view->x && got.y == view->y && got.w == view->w && got.h == view->h);
-    }
-    CHECK(nit_view_at(&s->server, s->standing.count).kind == NIT_NO_SUCH_VIEW);
+    for (uint32_t at = 0; at < s->standing.count; at++)
+        is_view(nit_view_at(&s->server, at), &s->standing.views[at]);
+    is_view(nit_view_at(&s->server, s->standing.count), NULL);
 }
 
-/* So is the owner of a pixel, also beyond the screen. */
-static void reads_owner(struct storm *s, uint32_t x, uint32_t y)
+/* So are the owner of a pixel, also beyond the screen, and the one that the last look showed. */
+static void reads_owner(struct storm *s)
 {
-    bool is_there = x < s->width && y < s->height;
-    uint32_t seat = is_there ? owner(s, &s->standing, x, y) : NIT_NONE;
-    struct nit_view_state got = nit_owner(&s->server, x, y);
-    CHECK(got.kind == (seat == NIT_NONE ? NIT_NO_SUCH_VIEW : NIT_DONE));
-    CHECK(got.seat == (seat == NIT_NONE ? 0 : seat));
+    uint32_t x = below(s, s->width + 1), y = below(s, s->height + 1);
+    is_view(nit_owner(&s->server, x, y), owner(s, &s->standing, x, y));
+    is_view(nit_shown(&s->server, x, y), owner(s, &s->shown, x, y));
 }
 
 /* The codes that can be read are those that are held, each once. */
@@ -158,22 +201,37 @@ static void reads_held(struct storm *s)
     CHECK(count == held);
 }
 
+/* What was shown is what stands; both were read before. */
+static void is_looked_at(struct storm *s)
+{
+    reads_views(s);
+    reads_held(s);
+    s->shown = s->standing;
+    reads_owner(s);
+}
+
 struct nit_rect shown_look(struct storm *s)
 {
     size_t count = (size_t)s->width * s->height;
+    reads_owner(s);
     struct nit_rect part = below(s, 8) == 0 ? nit_look_anew(&s->server, s->frame, count)
                                             : nit_look(&s->server, s->frame, count);
     CHECK(part.kind == NIT_DONE);
-    reads_views(s);
-    reads_owner(s, below(s, s->width + 1), below(s, s->height + 1));
-    reads_held(s);
-    s->shown = s->standing;
-    memset(s->has_come, 0, sizeof s->has_come);
+    is_looked_at(s);
     return part;
 }
 
-/* The seat whose client is under the pointer, or NIT_NONE. */
-uint32_t shown_owner(const struct storm *s, struct nit_state state)
+/* A look by damage and copies. */
+void shown_damage(struct storm *s)
+{
+    struct surface surface = { s->width, s->height, s->width, s->frame, s->other };
+    reads_owner(s);
+    damaged(&s->server, &surface);
+    is_looked_at(s);
+}
+
+/* The view under the pointer, or none. */
+const struct placed *shown_owner(const struct storm *s, struct nit_state state)
 {
     return owner(s, &s->standing, state.x, state.y);
 }
@@ -181,9 +239,9 @@ uint32_t shown_owner(const struct storm *s, struct nit_state state)
 /* Whether the client under the pointer is the one that the last look showed there. */
 static bool is_as_shown(const struct storm *s, struct nit_state state)
 {
-    uint32_t seat = shown_owner(s, state);
-    return seat == owner(s, &s->shown, state.x, state.y)
-        && (seat == NIT_NONE || !s->has_come[seat]);
+    const struct placed *now = shown_owner(s, state);
+    const struct placed *then = owner(s, &s->shown, state.x, state.y);
+    return now && then ? now->client == then->client : now == then;
 }
 
 /* The first code that is held, or CODES. */

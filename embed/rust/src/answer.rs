@@ -3,7 +3,6 @@
 use crate::raw;
 use std::error::Error;
 use std::fmt;
-use std::ops::Deref;
 
 /// What a call answers: its result, or why it was refused.
 pub type Reply<T = ()> = Result<T, Refusal>;
@@ -15,7 +14,8 @@ pub type Reply<T = ()> = Result<T, Refusal>;
 pub enum Refusal {
     /// The client has no view of this handle.
     NoSuchView(u32),
-    /// A number of a rectangle or an offset is out of range.
+    /// A number of a rectangle or an offset is out of range, or a part that is to be copied reaches
+    /// beyond the screen.
     BadRect,
     /// A side of a buffer is 0 or over 4,096.
     BadSize,
@@ -43,10 +43,15 @@ pub enum Refusal {
     Killed,
     /// The server has no seat of this number.
     NoSeat,
+    /// The seat has another client than this one, or had one last.
+    OtherClient,
     /// A client sits there.
     SeatTaken,
-    /// Another seat has this label, or had it last.
+    /// Another seat has this label, or had it last; where a layer's seat is looked for: a client
+    /// that sits has it, or a free seat of another layer had it last.
     LabelTaken,
+    /// No seat of the layer is free.
+    NoFreeSeat,
     /// The text is no label: 1 to 20 of `a`..`z`, `0`..`9`, `-`, `.`, `_`.
     BadLabel,
     /// The text has over 40 bytes, or one that is not 0x20..=0x7E.
@@ -55,14 +60,15 @@ pub enum Refusal {
     BadDevice,
     /// There are fewer words than the client's buffer has.
     ShortWords,
-    /// There is another number of words than the screen has pixels.
+    /// There is another number of words than the screen has pixels, or than the part needs that is
+    /// to be copied.
     WrongFrame,
     /// The client asks for a view, and has made 4,294,967,293 of them.
     HandlesUsedUp,
     /// A button, while nothing is held, and the client under the pointer is not the one that the
     /// last look showed there.
     Moved,
-    /// The server has done its 2^62 steps.
+    /// The server has done its 2^62 steps, or has had its 2^48 - 1 clients.
     WornOut,
     /// There was no memory.
     NoMemory,
@@ -70,8 +76,6 @@ pub enum Refusal {
     BadPlan,
     /// The text of the configuration is refused.
     Config(ConfigRefusal),
-    /// No seat is free, or a seat that is taken has the label.
-    NoFreeSeat,
     /// The library answers a number that this crate does not know.
     Unknown(u32),
 }
@@ -116,6 +120,22 @@ impl ConfigRefusal {
     }
 }
 
+impl fmt::Display for ConfigRefusal {
+    fn fmt(&self, f: &mut fmt::Formatter<'_>) -> fmt::Result {
+        f.write_str(match self {
+            ConfigRefusal::TooLong => "it has over 1048576 bytes",
+            ConfigRefusal::Syntax => "it is no TOML",
+            ConfigRefusal::Kind => "a value is of another kind",
+            ConfigRefusal::Missing => "a required key or client is missing",
+            ConfigRefusal::Unknown => "a key is none of a configuration",
+            ConfigRefusal::TooMany => "there are more than 16 clients",
+            ConfigRefusal::Range => "a value is out of range",
+            ConfigRefusal::Label => "a label is none",
+            ConfigRefusal::Twice => "two clients have the same label",
+        })
+    }
+}
+
 impl Refusal {
     /// The refusal of a number that is none of those with fields.
     pub(crate) fn of(kind: u32) -> Self {
@@ -127,6 +147,8 @@ impl Refusal {
             raw::SESSION_CLOSED => Refusal::Closed,
             raw::SESSION_KILLED => Refusal::Killed,
             raw::NO_SEAT => Refusal::NoSeat,
+            raw::OTHER_CLIENT => Refusal::OtherClient,
+            raw::NO_FREE_SEAT => Refusal::NoFreeSeat,
             raw::SEAT_TAKEN => Refusal::SeatTaken,
             raw::LABEL_TAKEN => Refusal::LabelTaken,
             raw::BAD_LABEL => Refusal::BadLabel,
@@ -169,20 +191,21 @@ impl Refusal {
             Refusal::Closed => "the client has left",
             Refusal::Killed => "the client is locked out",
             Refusal::NoSeat => "the server has no such seat",
+            Refusal::OtherClient => "the seat has another client",
             Refusal::SeatTaken => "a client sits there",
             Refusal::LabelTaken => "another seat has this label",
+            Refusal::NoFreeSeat => "no seat of this layer is free",
             Refusal::BadLabel => "the text is no label",
             Refusal::BadText => "the bytes are no text",
             Refusal::BadDevice => "a number of the device is out of range",
             Refusal::ShortWords => "there are fewer words than the buffer has",
-            Refusal::WrongFrame => "the words are not as many as the pixels",
+            Refusal::WrongFrame => "the words are not as many as the pixels need",
             Refusal::HandlesUsedUp => "the client has made all views that it ever may",
             Refusal::Moved => "another client is under the pointer than was shown",
-            Refusal::WornOut => "the server has no step left",
+            Refusal::WornOut => "the server has no step or no client left",
             Refusal::NoMemory => "there is no memory",
             Refusal::BadPlan => "a number of the plan is out of range",
             Refusal::Config(_) => "the configuration is refused",
-            Refusal::NoFreeSeat => "no seat is free for this label",
             Refusal::Unknown(_) => "the library answers an unknown number",
         }
     }
@@ -196,7 +219,7 @@ impl fmt::Display for Refusal {
             Refusal::OutOfQuota { need, left } | Refusal::NoReserve { need, left } => {
                 write!(f, ": {need} are needed and {left} are left")
             }
-            Refusal::Config(why) => write!(f, ": {why:?}"),
+            Refusal::Config(why) => write!(f, ": {why}"),
             Refusal::Unknown(number) => write!(f, ": {number}"),
             _ => Ok(()),
         }
@@ -204,97 +227,3 @@ impl fmt::Display for Refusal {
 }
 
 impl Error for Refusal {}
-
-/// What a client is told.
-#[derive(Clone, Copy, Debug, PartialEq, Eq, Hash)]
-pub enum Event {
-    /// A key or a button goes down, by its code 0..=767.
-    Press(u32),
-    /// It goes up.
-    Release(u32),
-    /// The pointer is at this column and row of the screen.
-    Motion(u16, u16),
-    /// The wheel turns by -127..=127.
-    Wheel(i32),
-    /// The pointer is another's from here on: it went to other pixels, or a mode began in which
-    /// clients are told nothing of it.
-    Leave,
-    /// The client has the focus now.
-    FocusEnter,
-    /// The client has lost the focus.
-    FocusLeave,
-}
-
-impl Event {
-    pub(crate) fn of(event: &raw::Event) -> Option<Self> {
-        Some(match event.kind {
-            raw::PRESS => Event::Press(event.code),
-            raw::RELEASE => Event::Release(event.code),
-            raw::MOTION => Event::Motion(event.x, event.y),
-            raw::WHEEL => Event::Wheel(event.turn),
-            raw::LEAVE => Event::Leave,
-            raw::FOCUS_ENTER => Event::FocusEnter,
-            raw::FOCUS_LEAVE => Event::FocusLeave,
-            _ => return None,
-        })
-    }
-}
-
-/// What something that the user did is to a client.
-#[derive(Clone, Copy, Debug, PartialEq, Eq, Hash)]
-pub enum Item {
-    /// The event waits at its seat until it is taken, or its client leaves or is locked out; unless
-    /// 64 wait there already: then it is lost.
-    Event(Event),
-    /// The client is locked out.
-    Kill,
-}
-
-/// An item, and the number of the seat that it went to.
-#[derive(Clone, Copy, Debug, PartialEq, Eq, Hash)]
-pub struct Delivery {
-    /// The seat, from 0.
-    pub seat: u32,
-    /// What it was told.
-    pub item: Item,
-}
-
-/// Whom one thing that the user did went to, in order: a slice of at most three.
-#[derive(Clone, Copy, Debug)]
-pub struct Deliveries {
-    all: [Delivery; 3],
-    count: usize,
-}
-
-impl Deliveries {
-    pub(crate) fn of(routed: &raw::Routed) -> Reply<Self> {
-        let none = Delivery {
-            seat: 0,
-            item: Item::Kill,
-        };
-        let (mut all, count) = ([none; 3], routed.count as usize);
-        if routed.kind != raw::DONE {
-            return Err(Refusal::of(routed.kind));
-        }
-        for (to, from) in all.iter_mut().zip(&routed.to).take(count) {
-            to.seat = from.seat;
-            to.item = match Event::of(&from.event) {
-                Some(event) => Item::Event(event),
-                None if from.event.kind == raw::KILL => Item::Kill,
-                None => return Err(Refusal::Unknown(from.event.kind)),
-            };
-        }
-        Ok(Deliveries {
-            all,
-            count: count.min(3),
-        })
-    }
-}
-
-impl Deref for Deliveries {
-    type Target = [Delivery];
-
-    fn deref(&self) -> &[Delivery] {
-        &self.all[..self.count]
-    }
-}

@@ -28,6 +28,8 @@ pub const WORN_OUT: u32 = 41;
 pub const NO_MEMORY: u32 = 42;
 pub const BAD_PLAN: u32 = 44;
 pub const MOVED: u32 = 45;
+pub const OTHER_CLIENT: u32 = 46;
+pub const NO_FREE_SEAT: u32 = 47;
 
 pub const CONFIG_TOO_LONG: u32 = 64;
 pub const CONFIG_SYNTAX: u32 = 65;
@@ -81,6 +83,15 @@ pub struct Event {
 
 #[repr(C)]
 #[derive(Clone, Copy)]
+pub struct Seated {
+    pub kind: u32,
+    pub seat: u32,
+    pub client: u64,
+    pub zero: u64,
+}
+
+#[repr(C)]
+#[derive(Clone, Copy)]
 pub struct Reply {
     pub kind: u32,
     pub handle: u32,
@@ -116,6 +127,23 @@ pub struct Rect {
 
 #[repr(C)]
 #[derive(Clone, Copy)]
+pub struct Part {
+    pub x: u32,
+    pub y: u32,
+    pub w: u32,
+    pub h: u32,
+}
+
+#[repr(C)]
+#[derive(Clone, Copy)]
+pub struct Damage {
+    pub kind: u32,
+    pub count: u32,
+    pub part: [Part; 16],
+}
+
+#[repr(C)]
+#[derive(Clone, Copy)]
 pub struct State {
     pub kind: u32,
     pub width: u32,
@@ -137,6 +165,7 @@ pub struct SeatState {
     pub waiting: u32,
     pub zero: u32,
     pub lost: u64,
+    pub client: u64,
 }
 
 #[repr(C)]
@@ -165,7 +194,7 @@ pub struct ViewState {
 }
 
 extern "C" {
-    pub fn nit_open_seats(
+    pub fn nit_open_seats_2(
         server: *mut Server,
         width: u32,
         height: u32,
@@ -173,39 +202,44 @@ extern "C" {
         seats: *const u32,
         words: usize,
     ) -> u32;
-    pub fn nit_open_config(server: *mut Server, text: *const c_char, length: usize) -> u32;
+    pub fn nit_open_config_2(server: *mut Server, text: *const c_char, length: usize) -> u32;
     pub fn nit_close(server: *mut Server) -> u32;
-    pub fn nit_seat(server: *mut Server, seat: u32, label: *const c_char, length: usize) -> u32;
-    pub fn nit_seat_for(server: *mut Server, label: *const c_char, length: usize) -> u32;
-    pub fn nit_buffer(server: *mut Server, seat: u32, w: u32, h: u32) -> Reply;
-    pub fn nit_view(server: *mut Server, seat: u32) -> Reply;
+    pub fn nit_seat(server: *mut Server, seat: u32, label: *const c_char, length: usize) -> Seated;
+    pub fn nit_seat_for(
+        server: *const Server,
+        label: *const c_char,
+        length: usize,
+        layer: u32,
+    ) -> Seated;
+    pub fn nit_buffer(server: *mut Server, client: u64, w: u32, h: u32) -> Reply;
+    pub fn nit_view(server: *mut Server, client: u64) -> Reply;
     pub fn nit_place(
         server: *mut Server,
-        seat: u32,
+        client: u64,
         view: u32,
         x: i32,
         y: i32,
         w: u32,
         h: u32,
     ) -> Reply;
-    pub fn nit_offset(server: *mut Server, seat: u32, view: u32, x: i32, y: i32) -> Reply;
-    pub fn nit_front(server: *mut Server, seat: u32, view: u32) -> Reply;
-    pub fn nit_back(server: *mut Server, seat: u32, view: u32) -> Reply;
-    pub fn nit_above(server: *mut Server, seat: u32, view: u32, other: u32) -> Reply;
+    pub fn nit_offset(server: *mut Server, client: u64, view: u32, x: i32, y: i32) -> Reply;
+    pub fn nit_front(server: *mut Server, client: u64, view: u32) -> Reply;
+    pub fn nit_back(server: *mut Server, client: u64, view: u32) -> Reply;
+    pub fn nit_above(server: *mut Server, client: u64, view: u32, other: u32) -> Reply;
     pub fn nit_title(
         server: *mut Server,
-        seat: u32,
+        client: u64,
         view: u32,
         text: *const c_char,
         length: usize,
     ) -> Reply;
-    pub fn nit_destroy(server: *mut Server, seat: u32, view: u32) -> Reply;
-    pub fn nit_take(server: *mut Server, seat: u32) -> Reply;
-    pub fn nit_upgrade(server: *mut Server, seat: u32, units: u32) -> Reply;
-    pub fn nit_leave(server: *mut Server, seat: u32) -> Reply;
+    pub fn nit_destroy(server: *mut Server, client: u64, view: u32) -> Reply;
+    pub fn nit_take(server: *mut Server, client: u64) -> Reply;
+    pub fn nit_upgrade(server: *mut Server, client: u64, units: u32) -> Reply;
+    pub fn nit_leave(server: *mut Server, client: u64) -> Reply;
     pub fn nit_refresh(
         server: *mut Server,
-        seat: u32,
+        client: u64,
         x: i32,
         y: i32,
         w: u32,
@@ -219,13 +253,27 @@ extern "C" {
     pub fn nit_wheel(server: *mut Server, turn: i32) -> Routed;
     pub fn nit_look(server: *mut Server, out: *mut u32, count: usize) -> Rect;
     pub fn nit_look_anew(server: *mut Server, out: *mut u32, count: usize) -> Rect;
-    pub fn nit_state(server: *mut Server) -> State;
-    pub fn nit_seat_state(server: *mut Server, seat: u32) -> SeatState;
-    pub fn nit_account(server: *mut Server, seat: u32) -> Account;
-    pub fn nit_label(server: *mut Server, seat: u32, out: *mut c_char, room: usize) -> usize;
-    pub fn nit_view_at(server: *mut Server, place: u32) -> ViewState;
-    pub fn nit_title_at(server: *mut Server, place: u32, out: *mut c_char, room: usize) -> usize;
-    pub fn nit_owner(server: *mut Server, x: u32, y: u32) -> ViewState;
-    pub fn nit_held(server: *mut Server, place: u32) -> u32;
-    pub fn nit_entry(server: *mut Server, out: *mut c_char, room: usize) -> usize;
+    pub fn nit_raise(server: *mut Server, client: u64, view: u32) -> u32;
+    pub fn nit_lower(server: *mut Server, client: u64, view: u32) -> u32;
+    pub fn nit_damage(server: *mut Server) -> Damage;
+    pub fn nit_copy(
+        server: *const Server,
+        x: u32,
+        y: u32,
+        w: u32,
+        h: u32,
+        out: *mut u32,
+        count: usize,
+        pitch: usize,
+    ) -> u32;
+    pub fn nit_state(server: *const Server) -> State;
+    pub fn nit_seat_state(server: *const Server, seat: u32) -> SeatState;
+    pub fn nit_account(server: *const Server, seat: u32) -> Account;
+    pub fn nit_label(server: *const Server, seat: u32, out: *mut c_char, room: usize) -> usize;
+    pub fn nit_view_at(server: *const Server, place: u32) -> ViewState;
+    pub fn nit_title_at(server: *const Server, place: u32, out: *mut c_char, room: usize) -> usize;
+    pub fn nit_owner(server: *const Server, x: u32, y: u32) -> ViewState;
+    pub fn nit_shown(server: *const Server, x: u32, y: u32) -> ViewState;
+    pub fn nit_held(server: *const Server, place: u32) -> u32;
+    pub fn nit_entry(server: *const Server, out: *mut c_char, room: usize) -> usize;
 }

@@ -2,7 +2,8 @@
 //! the C programs of `embed/tests`.
 
 use nitpicker::{
-    ConfigRefusal, Delivery, Event, Item, Mode, Plan, Rect, Refusal, SeatPlan, Server, Status, View,
+    Client, ConfigRefusal, Delivery, Event, Item, Mode, Plan, Rect, Refusal, SeatPlan, Server,
+    Status, View,
 };
 
 const SEAT: SeatPlan = SeatPlan {
@@ -22,17 +23,18 @@ fn opened() -> Server {
 }
 
 /// A client on each seat, beside each other, 16 by 24 each.
-fn two() -> Server {
+fn two() -> (Server, Client, Client) {
     let mut server = opened();
-    for (label, x) in [("a", 0), ("b", 16)] {
-        let number = server.sit(label).unwrap();
-        let mut seat = server.seat(number);
+    let [a, b] = [("a", 0), ("b", 16)].map(|(label, x)| {
+        let client = server.sit(label, 0).unwrap();
+        let mut seat = server.seat(client);
         seat.buffer(16, 24).unwrap();
         let view = seat.view().unwrap();
         assert_eq!(view, View(1));
         seat.place(view, x, 0, 16, 24).unwrap();
-    }
-    server
+        client
+    });
+    (server, a, b)
 }
 
 fn told(seat: u32, event: Event) -> Delivery {
@@ -73,7 +75,10 @@ fn configurations_are_refused_by_name() {
     let good = "[screen]\nwidth = 8\nheight = 8\n[input]\nscript = \"i\"\n[[client]]\n\
                 label = \"a\"\ndonation = 256\nscript = \"s\"\n";
     let mut server = Server::open_config(good).unwrap();
-    assert_eq!(server.seat(0).state().unwrap().status, Status::Live);
+    let state = server.seat_state(0).unwrap();
+    assert_eq!((state.status, state.client.seat()), (Status::Live, 0));
+    assert_eq!((state.client.turn(), server.label(0)), (0, "a".into()));
+    server.seat(state.client).view().unwrap();
     for (text, refusal) in [
         ("[screen", ConfigRefusal::Syntax),
         ("", ConfigRefusal::Missing),
@@ -88,8 +93,8 @@ fn configurations_are_refused_by_name() {
 
 #[test]
 fn calls_are_refused_by_name() {
-    let mut server = two();
-    let mut seat = server.seat(0);
+    let (mut server, a, b) = two();
+    let mut seat = server.seat(a);
     assert_eq!(seat.buffer(0, 1), Err(Refusal::BadSize));
     assert_eq!(seat.place(View(1), 40000, 0, 1, 1), Err(Refusal::BadRect));
     assert_eq!(seat.front(View(7)), Err(Refusal::NoSuchView(7)));
@@ -104,20 +109,93 @@ fn calls_are_refused_by_name() {
         left: 65536,
     };
     assert_eq!(seat.upgrade(70000), Err(none));
-    assert_eq!(server.seat(2).view(), Err(Refusal::NoSeat));
-    assert_eq!(server.seat(2).state(), None);
-    assert_eq!(server.sit_on(1, "c"), Err(Refusal::SeatTaken));
-    server.seat(1).leave().unwrap();
-    assert_eq!(server.seat(1).view(), Err(Refusal::Closed));
-    assert_eq!(server.sit_on(1, "a"), Err(Refusal::LabelTaken));
+    assert_eq!(server.seat_state(2), None);
+    assert_eq!((server.account(2), server.label(2)), (None, "".into()));
+    server.seat(b).leave().unwrap();
+    assert_eq!(server.seat(b).view(), Err(Refusal::Closed));
     assert_eq!(server.press(768).unwrap_err(), Refusal::BadDevice);
     assert_eq!(server.look(&mut [0; 9]), Err(Refusal::WrongFrame));
 }
 
 #[test]
+fn seats_are_refused_by_name() {
+    let (mut server, a, b) = two();
+    assert_eq!(server.sit_on(2, "c"), Err(Refusal::NoSeat));
+    assert_eq!(server.sit_on(1, "C"), Err(Refusal::BadLabel));
+    assert_eq!(server.sit_on(1, "c"), Err(Refusal::SeatTaken));
+    assert_eq!(server.seat_for("c", 0), Err(Refusal::NoFreeSeat));
+    assert_eq!(server.sit("a", 0), Err(Refusal::LabelTaken));
+    assert_eq!(server.sit("C", 9), Err(Refusal::BadLabel));
+    server.seat(b).leave().unwrap();
+    assert_eq!(server.sit_on(1, "a"), Err(Refusal::LabelTaken));
+    assert_eq!(server.sit("b", 3), Err(Refusal::LabelTaken));
+    assert_eq!(server.sit("c", 3), Err(Refusal::NoFreeSeat));
+    assert_eq!(server.seat_for("b", 0), Ok(1));
+    let again = server.sit("b", 0).unwrap();
+    assert_eq!((again.seat(), again.turn(), a.turn()), (1, 3, 1));
+    assert_eq!(again.to_string(), "client 3 of seat 1");
+}
+
+#[test]
+fn a_former_client_reaches_nobody() {
+    let (mut server, a, b) = two();
+    server.seat(a).leave().unwrap();
+    let next = server.sit("a", 0).unwrap();
+    let view = server.seat(next).view().unwrap();
+    let mut seat = server.seat(a);
+    assert_eq!(seat.client(), a);
+    let refused = [
+        seat.buffer(1, 1),
+        seat.view().map(|_| ()),
+        seat.place(view, 1, 1, 1, 1),
+        seat.offset(view, 1, 1),
+        seat.front(view),
+        seat.back(view),
+        seat.above(view, view),
+        seat.title(view, "\n"),
+        seat.destroy(view),
+        seat.take().map(|_| ()),
+        seat.upgrade(1),
+        seat.refresh(0, 0, 1, 1, &[]),
+        seat.leave(),
+        server.raise(a, view),
+        server.lower(a, view),
+    ];
+    assert_eq!(refused, [Err(Refusal::OtherClient); 15]);
+    assert_eq!(server.seat_state(0).unwrap().client, next);
+    assert_eq!(server.views().len(), 2);
+    assert_eq!(server.seat(b).view(), Ok(View(2)));
+    let mut small = Server::open(&Plan {
+        width: 8,
+        height: 8,
+        bar: false,
+        seats: &[SEAT],
+    })
+    .unwrap();
+    assert_eq!(small.seat(b).view(), Err(Refusal::NoSeat));
+}
+
+#[test]
+fn the_user_restacks() {
+    let (mut server, a, b) = two();
+    let second = server.seat(a).view().unwrap();
+    let order = |server: &Server| -> Vec<_> {
+        let views = server.views();
+        views.iter().map(|view| (view.seat, view.view.0)).collect()
+    };
+    assert_eq!(order(&server), [(0, 2), (1, 1), (0, 1)]);
+    server.raise(b, View(1)).unwrap();
+    server.lower(a, second).unwrap();
+    assert_eq!(order(&server), [(1, 1), (0, 1), (0, 2)]);
+    assert_eq!(server.raise(b, View(9)), Err(Refusal::NoSuchView(9)));
+    assert_eq!(server.entry(), Ok(None));
+    assert_eq!(server.seat(b).take(), Ok(None));
+}
+
+#[test]
 fn views_stand_and_are_gone() {
-    let mut server = two();
-    let mut seat = server.seat(0);
+    let (mut server, a, _) = two();
+    let mut seat = server.seat(a);
     let second = seat.view().unwrap();
     assert_eq!(second, View(2));
     seat.back(second).unwrap();
@@ -130,7 +208,7 @@ fn views_stand_and_are_gone() {
 
 #[test]
 fn input_goes_where_the_user_sends_it() {
-    let mut server = two();
+    let (mut server, a, _) = two();
     let motion = server.motion(3, 4).unwrap();
     assert_eq!(*motion, [told(0, Event::Motion(3, 4))]);
     shown(&mut server);
@@ -142,9 +220,9 @@ fn input_goes_where_the_user_sends_it() {
     assert_eq!(server.state().focus, Some(0));
     server.release(272).unwrap();
     assert_eq!(*server.wheel(-5).unwrap(), [told(0, Event::Wheel(-5))]);
-    assert_eq!(server.seat(0).state().unwrap().waiting, 5);
+    assert_eq!(server.seat_state(0).unwrap().waiting, 5);
     let mut taken = Vec::new();
-    while let Some(event) = server.seat(0).take().unwrap() {
+    while let Some(event) = server.seat(a).take().unwrap() {
         taken.push(event);
     }
     assert_eq!(taken.last(), Some(&Event::Wheel(-5)));
@@ -153,11 +231,11 @@ fn input_goes_where_the_user_sends_it() {
 
 #[test]
 fn a_click_goes_to_the_client_that_was_shown() {
-    let mut server = two();
+    let (mut server, a, _) = two();
     server.motion(20, 4).unwrap();
     assert_eq!(server.press(272).unwrap_err(), Refusal::Moved);
     shown(&mut server);
-    let mut seat = server.seat(0);
+    let mut seat = server.seat(a);
     let cover = seat.view().unwrap();
     seat.place(cover, 16, 0, 16, 24).unwrap();
     assert_eq!(server.press(272).unwrap_err(), Refusal::Moved);
@@ -165,13 +243,13 @@ fn a_click_goes_to_the_client_that_was_shown() {
     shown(&mut server);
     server.press(272).unwrap();
     assert_eq!(server.state().focus, Some(0));
-    server.seat(0).destroy(cover).unwrap();
+    server.seat(a).destroy(cover).unwrap();
     assert_eq!(*server.press(273).unwrap(), [told(0, Event::Press(273))]);
 }
 
 #[test]
 fn the_user_locks_a_client_out() {
-    let mut server = two();
+    let (mut server, _, b) = two();
     server.motion(20, 4).unwrap();
     assert_eq!(*server.press(99).unwrap(), [told(1, Event::Leave)]);
     assert_eq!(server.state().mode, Mode::Kill);
@@ -181,14 +259,14 @@ fn the_user_locks_a_client_out() {
         item: Item::Kill,
     };
     assert_eq!(*server.press(272).unwrap(), [kill]);
-    assert_eq!(server.seat(1).view(), Err(Refusal::Killed));
-    assert_eq!(server.seat(1).state().unwrap().status, Status::Killed);
-    assert_eq!(server.sit("b"), Ok(1));
+    assert_eq!(server.seat(b).view(), Err(Refusal::Killed));
+    assert_eq!(server.seat_state(1).unwrap().status, Status::Killed);
+    assert_eq!(server.seat_for("b", 0), Ok(1));
 }
 
 #[test]
 fn a_look_tells_what_changed() {
-    let mut server = two();
+    let (mut server, _, b) = two();
     let mut frame = vec![u32::MAX; 32 * 24];
     let all = Rect {
         x: 0,
@@ -199,7 +277,7 @@ fn a_look_tells_what_changed() {
     assert_eq!(server.look(&mut frame), Ok(Some(all)));
     assert_eq!(server.look(&mut frame), Ok(None));
     let words: Vec<u32> = (0..384).collect();
-    server.seat(1).refresh(2, 3, 4, 5, &words).unwrap();
+    server.seat(b).refresh(2, 3, 4, 5, &words).unwrap();
     let part = Rect {
         x: 18,
         y: 3,
@@ -208,6 +286,51 @@ fn a_look_tells_what_changed() {
     };
     assert_eq!(server.look(&mut frame), Ok(Some(part)));
     assert_eq!(frame[3 * 32 + 18], 3 * 16 + 2);
+}
+
+#[test]
+fn damage_is_copied() {
+    let (mut server, _, b) = two();
+    let mut surface = vec![7; 40 * 24];
+    let all = Rect {
+        x: 0,
+        y: 0,
+        w: 32,
+        h: 24,
+    };
+    assert_eq!(*server.damage().unwrap(), [all]);
+    server.copy(all, &mut surface, 40).unwrap();
+    assert_eq!((surface[31], surface[32], surface[40]), (0, 7, 0));
+    let words: Vec<u32> = (0..384).collect();
+    server.seat(b).refresh(2, 3, 4, 5, &words).unwrap();
+    let part = Rect {
+        x: 18,
+        y: 3,
+        w: 4,
+        h: 5,
+    };
+    let damage = server.damage().unwrap();
+    assert_eq!(damage.iter().map(|part| part.w * part.h).sum::<u32>(), 20);
+    server.copy(part, &mut surface[3 * 40 + 18..], 40).unwrap();
+    assert_eq!(surface[3 * 40 + 18], 3 * 16 + 2);
+    assert_eq!(surface[3 * 40 + 22], 0);
+    assert!(server.damage().unwrap().is_empty());
+    let out = Rect { w: 15, ..part };
+    assert_eq!(server.copy(out, &mut surface, 40), Err(Refusal::BadRect));
+    assert_eq!(server.copy(part, &mut surface, 3), Err(Refusal::WrongFrame));
+}
+
+#[test]
+fn what_was_shown_stays_shown() {
+    let (mut server, _, b) = two();
+    assert_eq!(server.shown(20, 4), None);
+    shown(&mut server);
+    server.seat(b).place(View(1), 0, 0, 1, 1).unwrap();
+    let view = server.shown(20, 4).unwrap();
+    assert_eq!((view.seat, view.view, view.place), (1, View(1), (16, 0)));
+    assert_eq!((view.size, view.offset), ((16, 24), (0, 0)));
+    assert_eq!(server.owner(20, 4), None);
+    assert_eq!(server.shown(32, 4), None);
 }
 
 #[test]
@@ -221,7 +344,12 @@ fn refusals_say_what_is_wrong() {
         "too few units are left of the donation: 800 are needed and 744 are left"
     );
     assert_eq!(
+        Refusal::OtherClient.to_string(),
+        "the seat has another client"
+    );
+    assert_eq!(Item::Event(Event::Motion(3, 4)).to_string(), "motion 3 4");
+    assert_eq!(
         Refusal::Config(ConfigRefusal::Twice).to_string(),
-        "the configuration is refused: Twice"
+        "the configuration is refused: two clients have the same label"
     );
 }
