@@ -52,6 +52,15 @@ case $1 in
         ;;
 esac
 """
+# A host that opens in both ways.
+OPENS = """#include <nitpicker.h>
+int main(void)
+{
+    const struct nit_plan plan = { 1, 1, 0, 0, NULL };
+    struct nit_server server = NIT_CLOSED;
+    return (int)(nit_open(&server, &plan) + nit_open_config(&server, "", 0));
+}
+"""
 CRATES = """# Each crate, and what it stands on.
 low:
 middle may_wait=1: low slab
@@ -186,6 +195,28 @@ class Installing(Case):
         self.assertEqual(self.pkg_config(self.top / "a/lib", "--modversion"), [self.version])
         self.assertEqual(read(self.embed / "rust/Cargo.lock", r'"nitpicker"\nversion = "(.*)"$'),
                          self.version)
+        self.assertEqual(read(self.embed / "include/nitpicker.h", r"^#define NIT_VERSION (\d+)$"),
+                         self.version.split(".")[0])
+
+    def linked(self, headers, library):
+        """What is said where a host that opens in both ways is linked."""
+        source = self.top / "host.c"
+        source.write_text(OPENS)
+        ended = self.start("cc", "-I", headers, source, "-L", self.top / "a/lib", library)
+        self.assertEqual(ended.returncode == 0, ended.stderr == "")
+        return ended.stderr
+
+    def test_a_header_and_a_library_of_two_versions_do_not_link(self):
+        self.make("install", f"PREFIX={self.top}/a")
+        ours, other = int(self.version.split(".")[0]), self.top / "other"
+        text = (self.embed / "include/nitpicker.h").read_text()
+        other.mkdir()
+        (other / "nitpicker.h").write_text(text.replace(f"_{ours}(", f"_{ours + 1}("))
+        for library in (self.embed / "out/libnitpicker.a", "-lnitpicker"):
+            self.assertEqual(self.linked(self.embed / "include", library), "")
+            said = self.linked(other, library)
+            for name in ("nit_open_seats", "nit_open_config"):
+                self.assertIn(f"undefined reference to `{name}_{ours + 1}'", said)
 
     def test_help_is_said_and_nothing_else(self):
         for said in (self.make("help"), self.make("help", f"NIT_C={self.library}")):
