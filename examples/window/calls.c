@@ -42,30 +42,30 @@ static bool copy(struct host *host, const struct client *client, const struct ca
 }
 
 /* What the library answers to a call that is known and is neither of buffers nor of parts. */
-static struct nit_reply ask(struct nit_server *server, uint32_t seat, const struct call *call)
+static struct nit_reply ask(struct nit_server *server, nit_client client, const struct call *call)
 {
     switch (call->call) {
     case CALL_VIEW:
-        return nit_view(server, seat);
+        return nit_view(server, client);
     case CALL_PLACE:
-        return nit_place(server, seat, call->view, call->x, call->y, call->w, call->h);
+        return nit_place(server, client, call->view, call->x, call->y, call->w, call->h);
     case CALL_OFFSET:
-        return nit_offset(server, seat, call->view, call->x, call->y);
+        return nit_offset(server, client, call->view, call->x, call->y);
     case CALL_FRONT:
-        return nit_front(server, seat, call->view);
+        return nit_front(server, client, call->view);
     case CALL_BACK:
-        return nit_back(server, seat, call->view);
+        return nit_back(server, client, call->view);
     case CALL_ABOVE:
-        return nit_above(server, seat, call->view, call->number);
+        return nit_above(server, client, call->view, call->number);
     case CALL_TITLE:
-        return nit_title(server, seat, call->view, call->title,
+        return nit_title(server, client, call->view, call->title,
                          strnlen(call->title, sizeof call->title));
     case CALL_DESTROY:
-        return nit_destroy(server, seat, call->view);
+        return nit_destroy(server, client, call->view);
     case CALL_TAKE:
-        return nit_take(server, seat);
+        return nit_take(server, client);
     default:
-        return nit_upgrade(server, seat, call->number);
+        return nit_upgrade(server, client, call->number);
     }
 }
 
@@ -82,23 +82,22 @@ static bool answer(struct client *client, const struct nit_reply *told)
 }
 
 /* Serves one call. Answers why the client is to be closed, or NULL. */
-static const char *serve(struct host *host, uint32_t seat, const struct call *call)
+static const char *serve(struct host *host, struct client *client, const struct call *call)
 {
-    struct client *client = &host->clients[seat];
     struct nit_reply reply;
     if (call->call < CALL_BUFFER || call->call > CALL_LAST)
         return "closed: it broke the protocol";
     if (call->call == CALL_BUFFER) {
-        reply = nit_buffer(&host->server, seat, call->w, call->h);
+        reply = nit_buffer(&host->server, client->name, call->w, call->h);
         client->w = reply.kind == NIT_DONE ? call->w : client->w;
         client->h = reply.kind == NIT_DONE ? call->h : client->h;
     } else if (call->call == CALL_REFRESH) {
         if (!copy(host, client, call))
             return "closed: its buffer cannot be read";
-        reply = nit_refresh(&host->server, seat, call->x, call->y, call->w, call->h, host->words,
-                            MOST_WORDS);
+        reply = nit_refresh(&host->server, client->name, call->x, call->y, call->w, call->h,
+                            host->words, MOST_WORDS);
     } else {
-        reply = ask(&host->server, seat, call);
+        reply = ask(&host->server, client->name, call);
     }
     host->changed |= call->call != CALL_TAKE;
     return answer(client, &reply) ? NULL : "closed: it does not read its replies";
@@ -122,9 +121,9 @@ static void serve_client(struct host *host, uint32_t seat)
     const uint64_t begin = spent();
     uint64_t used = 0;
     for (struct call call; !why && used < SLICE && receive(client, &call); used = spent() - begin)
-        why = serve(host, seat, &call);
+        why = serve(host, client, &call);
     if (used > 0)
-        client->rest = now() + (used < SLICE ? 0 : SDL_max(host->period, (SEATS - 1) * used));
+        client->rest = now() + (used < SLICE ? 0 : (SEATS - 1) * used);
     if (why)
         seats_close(host, seat, why);
 }

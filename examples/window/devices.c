@@ -38,6 +38,24 @@ static struct nit_routed code_event(struct host *host, uint32_t code, bool down)
     return routed;
 }
 
+/* In X-ray mode a button of the mouse is the user's own: the right one lowers the view that the
+ * picture shows under the pointer behind all of its layer, and the middle one raises it. Its client
+ * has no part in that. Where that has left since, the name of then is nobody's. */
+static bool restack(struct host *host, uint8_t button)
+{
+    const struct nit_state state = nit_state(&host->server);
+    const bool lowers = button == SDL_BUTTON_RIGHT;
+    if (state.mode != NIT_MODE_XRAY || (!lowers && button != SDL_BUTTON_MIDDLE))
+        return false;
+    struct nit_view_state view = nit_shown(&host->server, state.x, state.y);
+    nit_client client = host->seen[view.seat];
+    if (view.kind == NIT_DONE)
+        (lowers ? nit_lower : nit_raise)(&host->server, client, view.view);
+    host->changed = true;
+    host->next = 0;
+    return true;
+}
+
 static uint32_t key_code(const SDL_KeyboardEvent *event)
 {
     int scancode = event->keysym.scancode;
@@ -58,8 +76,11 @@ static struct nit_routed device_event(struct host *host, const SDL_Event *event)
     case SDL_KEYUP:
         return code_event(host, key_code(&event->key), event->type == SDL_KEYDOWN);
     case SDL_MOUSEBUTTONDOWN:
+        if (restack(host, event->button.button))
+            break;
+        return code_event(host, button_code(&event->button), true);
     case SDL_MOUSEBUTTONUP:
-        return code_event(host, button_code(&event->button), event->type == SDL_MOUSEBUTTONDOWN);
+        return code_event(host, button_code(&event->button), false);
     case SDL_MOUSEMOTION:
         return nit_motion(&host->server, (uint32_t)SDL_clamp(event->motion.x, 0, 65535),
                           (uint32_t)SDL_clamp(event->motion.y, 0, 65535));

@@ -8,7 +8,8 @@
 
 enum {
     SEATS = 16,
-    LABEL = 21,              /* a label and its 0 */
+    LABEL = 20,              /* bytes of the longest label */
+    FRONT = 0, REST = 1,     /* the layers: that of the mark ^, and that of all others */
     DONATION = 4194304,      /* units of each seat at least */
     MOST_WORDS = 16777216,   /* of a buffer, whatever is donated: a side has at most 4096 */
     SLICE = 1000,            /* microseconds for the calls of a client, which rests then */
@@ -18,6 +19,7 @@ enum {
 
 /* Who sits on a seat. Nobody does where `socket` is 0. */
 struct client {
+    nit_client name;         /* which client of its seat it is: each of its calls says so */
     int socket;              /* takes replies away, and brings nothing */
     int bell;                /* an eventfd: as many calls wait */
     int memory;              /* a memfd: the client's calls and pixels */
@@ -27,17 +29,14 @@ struct client {
     bool woken;              /* it was told that events wait, and has not found none since */
     char gone[40];           /* where not empty: why it is closed as soon as calls are served */
     uint64_t rest;           /* it has used up its slice, and is not served before */
-    bool kept;               /* the seat stands in front, and is kept for this label */
-    char label[LABEL];
 };
 
 struct host {
     struct nit_server server;
     struct client clients[SEATS];
+    nit_client seen[SEATS];  /* who sat there as the last look was */
     uint32_t words[MOST_WORDS]; /* the part that a client refreshes is copied to its place here */
     SDL_Window *window;
-    SDL_Surface *picture;    /* over `frame` */
-    uint32_t *frame;         /* as the last look left it */
     int display;             /* the descriptor of the window system */
     bool changed;            /* a look may find something */
     bool whole;              /* the window lacks more than a look finds */
@@ -50,12 +49,12 @@ struct host {
 /* Microseconds of a clock that only goes forward. */
 uint64_t now(void);
 /* True where no client is served: what the user points at stays where it is. */
-bool frozen(struct host *host);
+bool frozen(const struct host *host);
 
 /* In devices.c, seats.c and calls.c. */
 bool devices_name(const char *key, uint16_t code);
 void devices_read(struct host *host);
-const char *seats_start(struct host *host, const char *word);
+const char *seats_start(struct host *host, const char *word, uint32_t layer);
 void seats_close(struct host *host, uint32_t seat, const char *why);
 void seats_left(struct client *client);
 void seats_reap(struct host *host);

@@ -69,25 +69,27 @@ static int spawn(struct client *client, const char *program, int lent)
     return wrong;
 }
 
-/* The seat that the library gives to this label: first one that is kept for it, and none that is
- * kept for another one. Answers why it gives none, or NULL. */
-static const char *sit_down(struct host *host, const char *label, size_t length, uint32_t *seat)
+/* A new client on the seat that the library has for its label in this layer. */
+static struct nit_seated sit_down(struct host *host, const char *label, size_t length,
+                                  uint32_t layer)
 {
-    const char *why = "no seat is free for it";
-    for (uint32_t turn = 0; turn < 2 * SEATS; turn++) {
-        const struct client *client = &host->clients[*seat = turn % SEATS];
-        bool own = strlen(client->label) == length && memcmp(client->label, label, length) == 0;
-        if (client->kept ? !own : turn < SEATS)
-            continue;
-        uint32_t answer = nit_seat(&host->server, *seat, label, length);
-        if (answer == NIT_DONE)
-            return NULL;
-        if (answer == NIT_BAD_LABEL)
-            return "a label is 1 to 20 of a..z, 0..9, '-', '.', '_'";
-        if (answer == NIT_LABEL_TAKEN)
-            why = "another client has this label";
+    struct nit_seated there = nit_seat_for(&host->server, label, length, layer);
+    return there.kind == NIT_DONE ? nit_seat(&host->server, there.seat, label, length) : there;
+}
+
+/* What the user is told where the library has no seat. */
+static const char *no_seat(uint32_t answer)
+{
+    switch (answer) {
+    case NIT_BAD_LABEL:
+        return "a label is 1 to 20 of a..z, 0..9, '-', '.', '_'";
+    case NIT_LABEL_TAKEN:
+        return "the label is taken";
+    case NIT_NO_FREE_SEAT:
+        return "no seat of its layer is free";
+    default:
+        return nit_text(answer);
     }
-    return why;
 }
 
 /* The client has no seat, no channel and no process any more, nor what its process has started. */
@@ -95,7 +97,7 @@ static void leave(struct host *host, uint32_t seat)
 {
     struct client *client = &host->clients[seat];
     const int files[] = { client->socket, client->bell, client->memory };
-    nit_leave(&host->server, seat);
+    nit_leave(&host->server, client->name);
     host->changed = true;
     for (int at = 0; at < 3; at++)
         if (files[at] > 0)
@@ -106,38 +108,44 @@ static void leave(struct host *host, uint32_t seat)
 }
 
 /* A new client by a word NAME=PROGRAM. Answers why there is none, or NULL. */
-const char *seats_start(struct host *host, const char *word)
+const char *seats_start(struct host *host, const char *word, uint32_t layer)
 {
     const char *program = strchr(word, '=');
     if (!program)
         return "a client is NAME=PROGRAM";
-    uint32_t seat;
-    const char *why = sit_down(host, word, (size_t)(program - word), &seat);
-    if (why)
-        return why;
-    struct client *client = &host->clients[seat];
+    struct nit_seated seated = sit_down(host, word, (size_t)(program - word), layer);
+    if (seated.kind != NIT_DONE)
+        return no_seat(seated.kind);
+    struct client *client = &host->clients[seated.seat];
     int lent;
-    *client = (struct client){ .kept = client->kept };
-    memcpy(client->label, word, (size_t)(program - word));
+    *client = (struct client){ .name = seated.client };
     int wrong = open_channel(client, &lent) ? spawn(client, program + 1, lent) : errno;
     if (lent > 0)
         close(lent);
     if (wrong != 0)
-        leave(host, seat);
+        leave(host, seated.seat);
     return wrong != 0 ? strerror(wrong) : NULL;
+}
+
+/* The same of a client that comes later. A seat in front is free only for the label that it had,
+ * and then no other layer takes that. */
+static const char *start_later(struct host *host, const char *word)
+{
+    uint32_t answer = nit_seat_for(&host->server, word, strcspn(word, "="), REST).kind;
+    return seats_start(host, word, answer == NIT_LABEL_TAKEN ? FRONT : REST);
 }
 
 /* A line of the control line: +NAME=PROGRAM starts a client, and quit ends the host. */
 static void control(struct host *host, const char *line)
 {
-    const char *why = line[0] == '+' ? seats_start(host, line + 1) : "+NAME=PROGRAM or quit";
+    const char *why = line[0] == '+' ? start_later(host, line + 1) : "+NAME=PROGRAM or quit";
     if (!strcmp(line, "quit"))
         host->over = true;
     else if (why)
         printf("window: %s: %s\n", line, why);
 }
 
-/* Reads what stands on the standard input, if it still does. A line of over 511 bytes ends it, as
+/* Reads what stands on the standard input, if it still does. A line that is too long ends it, as
  * its end does. */
 void seats_control(struct host *host)
 {
@@ -145,6 +153,8 @@ void seats_control(struct host *host)
     static size_t length;
     ssize_t got = read(STDIN_FILENO, line + length, sizeof line - 1 - length);
     host->listens = got > 0 || (got < 0 && errno == EAGAIN);
+    if (length == sizeof line - 1)
+        printf("window: a line has at most 510 bytes, so no more is read\n");
     length += got > 0 ? (size_t)got : 0;
     line[length] = 0;
     for (char *end; (end = strchr(line, '\n')) != NULL;) {
@@ -161,7 +171,9 @@ void seats_control(struct host *host)
  * user has just locked out. */
 void seats_close(struct host *host, uint32_t seat, const char *why)
 {
-    printf("window: %s: %s\n", host->clients[seat].label, why);
+    char label[LABEL];
+    size_t length = nit_label(&host->server, seat, label, sizeof label);
+    printf("window: %.*s: %s\n", (int)length, label, why);
     leave(host, seat);
 }
 

@@ -16,12 +16,13 @@ import time
 HERE = Path(__file__).resolve().parent
 sys.path.insert(0, str(HERE / "tests"))
 from asks import DESK, TOGGLE, bar, copied, typing  # noqa: E402
+import cases_clicks  # noqa: E402
 import cases_clients  # noqa: E402
 import cases_desk  # noqa: E402
 import cases_host  # noqa: E402
 from desk import Host, Screen, Wrong, until  # noqa: E402
 
-CASES = {name[5:]: case for module in (cases_desk, cases_clients, cases_host)
+CASES = {name[5:]: case for module in (cases_desk, cases_clicks, cases_clients, cases_host)
          for name, case in vars(module).items() if name.startswith("case_")}
 
 
@@ -83,4 +84,7 @@ def main():
 
 
 if __name__ == "__main__":
-    sys.exit(main())
+    try:
+        sys.exit(main())
+    except KeyboardInterrupt:
+        sys.exit(130)

@@ -29,7 +29,7 @@ uint64_t now(void)
     return (uint64_t)time.tv_sec * 1000000 + (uint64_t)time.tv_nsec / 1000;
 }
 
-bool frozen(struct host *host)
+bool frozen(const struct host *host)
 {
     return nit_state(&host->server).mode == NIT_MODE_KILL;
 }
@@ -89,28 +89,27 @@ static uint32_t donation(uint32_t width, uint32_t height)
 }
 
 /* Seats for the words in their order, and free ones behind. The mark ^ puts a client in front of
- * all others, where no click gives it the focus. False where there is no such screen. */
-static bool open_server(struct host *host, const char *size, char **words)
+ * all others, where no click gives it the focus. Answers what is wrong, or NULL. */
+static const char *open_server(struct host *host, const char *size, char **words)
 {
     struct nit_seat_plan seats[SEATS];
     struct nit_plan plan = { 1024, 768, 1, SEATS, seats };
     char more;
     if (size && sscanf(size, "%4ux%4u%c", &plan.width, &plan.height, &more) != 2)
-        return false;
+        plan.width = 0;
     const uint32_t units = donation(plan.width, plan.height);
     for (int seat = 0; seat < SEATS; seat++) {
-        const char *word = *words ? *words++ : "";
-        bool front = word[0] == '^';
-        size_t length = front ? strcspn(word + 1, "=") : 0;
-        seats[seat] = (struct nit_seat_plan){ units, front ? 0 : 1, !front };
-        host->clients[seat].kept = front;
-        if (length < LABEL)
-            memcpy(host->clients[seat].label, word + 1, length);
+        bool front = *words && (*words++)[0] == '^';
+        seats[seat] = (struct nit_seat_plan){ units, front ? FRONT : REST, !front };
     }
-    return nit_open(&host->server, &plan) == NIT_DONE;
+    uint32_t answer = nit_open(&host->server, &plan);
+    if (answer == NIT_BAD_PLAN)
+        return "a window has 1x8 to 4096x4096";
+    return answer == NIT_DONE ? NULL : "there is not so much memory";
 }
 
-/* The window and its picture. The window system is X11, whose descriptor can be waited for. */
+/* The window. The window system is X11, whose descriptor can be waited for. The library's words are
+ * those of the window, as they are on each screen of 24 bits. */
 static bool open_window(struct host *host)
 {
     struct nit_state state = nit_state(&host->server);
@@ -125,17 +124,16 @@ static bool open_window(struct host *host)
         return false;
     SDL_EnableScreenSaver();
     SDL_StopTextInput();
-    host->frame = SDL_calloc((size_t)w * (size_t)h, sizeof *host->frame);
     host->window = SDL_CreateWindow("Nitpicker", 0, 0, w, h, 0);
-    if (!host->frame || !host->window || !SDL_GetWindowWMInfo(host->window, &system))
+    SDL_Surface *surface = host->window ? SDL_GetWindowSurface(host->window) : NULL;
+    if (!surface || !SDL_GetWindowWMInfo(host->window, &system))
         return false;
     host->display = ConnectionNumber(system.info.x11.display);
-    host->picture = SDL_CreateRGBSurfaceWithFormatFrom(host->frame, w, h, 32, 4 * w,
-                                                       SDL_PIXELFORMAT_RGB888);
     SDL_GetCurrentDisplayMode(0, &mode);
     host->period = 1000000 / (uint64_t)(mode.refresh_rate > 0 ? mode.refresh_rate : 60);
     host->changed = host->whole = true;
-    return host->picture && SDL_GetWindowSurface(host->window);
+    return surface->format->format == SDL_PIXELFORMAT_RGB888 ||
+           SDL_SetError("the screen has other colours than those of 24 bits") == 0;
 }
 
 /* ---- A turn */
@@ -175,34 +173,56 @@ static void read_signals(struct host *host)
     seats_reap(host);
 }
 
+/* What is to be shown: the parts that have changed since the last look, or all of the screen. */
+static struct nit_damage look(struct host *host)
+{
+    struct nit_damage parts = nit_damage(&host->server);
+    struct nit_state state = nit_state(&host->server);
+    for (int seat = 0; seat < SEATS; seat++)
+        host->seen[seat] = host->clients[seat].name;
+    if (host->whole)
+        parts = (struct nit_damage){ parts.kind, 1, { { 0, 0, state.width, state.height } } };
+    return parts;
+}
+
+/* Puts a part of the screen to its place in the window, as far as that reaches. */
+static SDL_Rect paint(const struct host *host, SDL_Surface *surface, const struct nit_part *part)
+{
+    const SDL_Rect window = { 0, 0, surface->w, surface->h };
+    SDL_Rect to = { (int)part->x, (int)part->y, (int)part->w, (int)part->h };
+    size_t pitch = (size_t)surface->pitch / sizeof(uint32_t);
+    if (!SDL_IntersectRect(&to, &window, &to))
+        return (SDL_Rect){ 0 };
+    size_t first = (size_t)to.y * pitch + (size_t)to.x, count = (size_t)surface->h * pitch;
+    nit_copy(&host->server, part->x, part->y, (uint32_t)to.w, (uint32_t)to.h,
+             (uint32_t *)surface->pixels + first, count - first, pitch);
+    return to;
+}
+
 /* Shows what has changed, at the display's rate and for half of the time at most; and the whole of
  * a window that is new or that others have changed. A click goes to what the last look showed. So
  * what the user has done by now is handed in first, as it was meant for the picture before; and
  * nothing is looked at that is not shown at once. */
 static void show(struct host *host)
 {
+    SDL_Rect places[16];
     uint64_t begin = now();
     if (!host->changed || begin < host->next)
         return;
     devices_read(host);
     SDL_Surface *surface = SDL_GetWindowSurface(host->window);
     host->next = begin + host->period;
-    if (!surface)
+    if (!surface || (host->whole && SDL_FillRect(surface, NULL, 0) != 0))
         return;
-    size_t count = (size_t)(host->picture->w * host->picture->h);
-    struct nit_rect part = nit_look(&host->server, host->frame, count);
-    SDL_Rect from = { (int)part.x, (int)part.y, (int)part.w, (int)part.h }, to;
-    host->changed = false;
+    struct nit_damage parts = look(host);
+    for (uint32_t at = 0; at < parts.count; at++)
+        places[at] = paint(host, surface, &parts.part[at]);
     host->next = SDL_max(host->next, 2 * now() - begin);
-    if (host->whole) {
-        from = (SDL_Rect){ 0, 0, surface->w, surface->h };
-        host->whole = SDL_FillRect(surface, NULL, 0) != 0;
-    }
-    if (from.w == 0)
-        return;
-    to = from;
-    SDL_BlitSurface(host->picture, &from, surface, &to);
-    SDL_UpdateWindowSurfaceRects(host->window, &from, 1);
+    if (host->whole)
+        SDL_UpdateWindowSurface(host->window);
+    else if (parts.count > 0)
+        SDL_UpdateWindowSurfaceRects(host->window, places, (int)parts.count);
+    host->changed = host->whole = false;
 }
 
 /* ---- All of it */
@@ -226,8 +246,6 @@ static void close_all(struct host *host)
         if (host->clients[seat].socket != 0)
             seats_close(host, seat, "the host ends");
     nit_close(&host->server);
-    SDL_FreeSurface(host->picture);
-    SDL_free(host->frame);
     SDL_Quit();
 }
 
@@ -240,11 +258,13 @@ static int begin(struct host *host, char **words)
             return refuse(*words, why);
     if (!*words)
         return refuse("NAME=PROGRAM", "there is no client, see --help");
-    if (!open_server(host, size, words))
-        return refuse("--size", "a window has 1x8 to 4096x4096");
-    for (; *words; words++)
-        if ((why = seats_start(host, *words + (**words == '^'))) != NULL)
+    if ((why = open_server(host, size, words)) != NULL)
+        return refuse("--size", why);
+    for (; *words; words++) {
+        bool front = **words == '^';
+        if ((why = seats_start(host, *words + front, front ? FRONT : REST)) != NULL)
             return refuse(*words, why);
+    }
     return open_window(host) ? 0 : refuse("the window", SDL_GetError());
 }
 

@@ -1,18 +1,27 @@
 """What the cases ask of a desk, and the clients that they put on it."""
 
+import os
 from pathlib import Path
 import random
 import sys
+import tempfile
 import time
 
 from desk import Wrong, text, until
 
 HERE = Path(__file__).resolve().parent
 BARE, WHITE = 0x000020, 0xFFFFFF
-BLUE, PAPER, BOARD, ACTIVE = 0x304878, 0xD8D8D0, 0x602020, 0xC08020
+BLUE, PAPER, BOARD, ACTIVE, CLOCK = 0x304878, 0xD8D8D0, 0x602020, 0xC08020, 0x101820
+COVER = 0x2060A0
 PROMPT, COPY, BALL = (60, 80, 192, 112), (300, 80, 192, 112), (200, 260, 360, 170)
 TOGGLE = (40, 730)
 DESK = ["^clock=./clock", "login=./login", "game=./game", "pad=./pad"]
+
+
+def dimmed(mode, word):
+    """What a mode shows of a word in a view that has not the focus."""
+    half = word >> 1 & 0x7F7F7F
+    return {"flat": word, "xray": half, "kill": half + 0x800000}[mode]
 
 
 def check(what, holds):
@@ -80,10 +89,40 @@ def copied(screen):
 
 
 def program(folder, deed):
-    """A program of its own for a deed of hostile.py. By the file that is answered, too, it tells
-    that the deed is done."""
+    """A program of its own for a deed of hostile.py, or for the puppet. By the file that is
+    answered, too, it tells that the deed is done."""
     path, done = Path(folder) / deed, Path(folder) / f"{deed}.done"
-    path.write_text(f"#!{sys.executable}\nimport sys\nsys.path.insert(0, {str(HERE)!r})\n"
-                    f"import hostile\nhostile.main({deed!r}, {str(done)!r})\n", encoding="utf-8")
+    does = (f"import puppet\npuppet.main({str(done)!r})" if deed == "puppet" else
+            f"import hostile\nhostile.main({deed!r}, {str(done)!r})")
+    path.write_text(f"#!{sys.executable} -SE\nimport sys\nsys.path.insert(0, {str(HERE)!r})\n"
+                    f"{does}\n", encoding="utf-8")
     path.chmod(0o755)
     return path, done
+
+
+class Puppet:
+    """A client that does what the test says, and nothing else."""
+
+    def __init__(self, folder, label):
+        path, self.told = program(tempfile.mkdtemp(dir=folder), "puppet")
+        self.label, self.word, self.ordered = label, f"{label}={path}", 0
+        os.mkfifo(f"{self.told}.orders")
+        self.orders = open(f"{self.told}.orders", "r+b", buffering=0)
+
+    def lines(self):
+        """What it has written down."""
+        return self.told.read_text(encoding="ascii").splitlines() if self.told.exists() else []
+
+    def order(self, *words):
+        """Says what it shall do."""
+        self.ordered += 1
+        self.orders.write(" ".join(map(str, words)).encode("ascii") + b"\n")
+
+    def does(self, *words):
+        """Says so, and waits until it has done that, and all before."""
+        self.order(*words)
+        until(f"it does {words}", lambda: self.lines().count("done") == self.ordered)
+
+    def events(self):
+        """The events that it has got: kind and code."""
+        return [tuple(map(int, line.split())) for line in self.lines() if line != "done"]

@@ -22,7 +22,7 @@ def case_sixteen(screen, programs):
         focused_toggle(screen)
         typing(screen)
         host.tell("+more=./login")
-        host.says("window: +more=./login: no seat is free for it")
+        host.says("window: +more=./login: no seat of its layer is free")
         os.kill(host.clients()["login"][3], signal.SIGKILL)
         host.says("window: client-")
         host.tell("+more=./login")
@@ -33,7 +33,7 @@ def case_sixteen(screen, programs):
 def case_labels(screen, programs):
     """A label is the host's word: no second client has it, and not each text is one."""
     with Host(screen, programs, ["^clock=./clock", "login=./login"]) as host:
-        for word, why in (("login=./game", "another client has this label"),
+        for word, why in (("login=./game", "the label is taken"),
                           ("game", "a client is NAME=PROGRAM"), ("none=./none", "No such file"),
                           *((label + "=./game", "a label is 1 to 20 of") for label in
                             ("Login", "", "no label", "^login", "a-label-of-21-letters"))):
@@ -43,7 +43,7 @@ def case_labels(screen, programs):
         host.says("window: clock:")
         for seat in range(15):
             host.tell(f"+client-{seat}=./login")
-        host.says("window: +client-14=./login: no seat is free for it")
+        host.says("window: +client-14=./login: no seat of its layer is free")
         host.tell("+clock=./clock")
         until("the seat in front is kept", lambda: "clock" in host.clients())
 

@@ -1,13 +1,14 @@
 """Cases of the test: what the user sees and does."""
 
 import os
+from pathlib import Path
 import signal
 import tempfile
 import time
 
-from asks import (ACTIVE, BALL, BARE, BLUE, BOARD, COPY, DESK, PAPER, PROMPT, TOGGLE, bar, begun,
-                  check, copied, dots, program, shows)
-from desk import Host, until
+from asks import (ACTIVE, BALL, BARE, BLUE, BOARD, CLOCK, COVER, DESK, PAPER, TOGGLE, WHITE,
+                  Puppet, bar, begun, check, copied, dimmed, dots, program, shows, typing)
+from desk import NO_WINDOW, POINTED_WINDOW, Host, until
 
 
 def case_places(screen, programs):
@@ -151,6 +152,61 @@ def case_front(screen, programs):
         bar(screen, "flat:login")
 
 
+def covered(screen, mode):
+    """Whether the toggle is behind another client, and no label says that it is there."""
+    return (screen.pixel(*TOGGLE) == dimmed(mode, COVER) and
+            not any(shows(screen, 10, y, "toggle") for y in range(700, 757)))
+
+
+def cover_all(screen, host, cover):
+    """A client covers all but what stands in front of its layer, and is not lowered by the buttons
+    in flat and in kill mode. In the end nobody has the focus, and X-ray mode has begun."""
+    until("the toggle", lambda: screen.pixel(*TOGGLE) == 0x0000F0)
+    host.tell(f"+{cover.word}")
+    cover.does("draw", 0, 0, 1024, 768, COVER)
+    until("it covers all", lambda: covered(screen, "flat"))
+    screen.user("mousemove 40 730 click 2 click 3")
+    bar(screen, "flat:cover")
+    check("in flat mode these are its buttons", covered(screen, "flat"))
+    screen.user("mousemove 200 0 click 1 key Print")
+    bar(screen, "kill")
+    screen.user("mousemove 40 730 click 2 click 3")
+    time.sleep(0.2)
+    check("in kill mode these are nobody's", covered(screen, "kill"))
+    screen.key("F11")
+    bar(screen, "xray")
+
+
+def case_covered(screen, programs):
+    """In X-ray mode the right button lowers a view and the middle one raises it, each within its
+    layer, and no client is told: so the user gets at one that another covers in each mode."""
+    with tempfile.TemporaryDirectory() as folder:
+        cover = Puppet(folder, "cover")
+        words = ["--xray=F11", "^clock=./clock", "toggle=./toggle"]
+        with Host(screen, programs, words) as host:
+            cover_all(screen, host, cover)
+            cover.does("wait")
+            told = cover.events()
+            screen.user("mousemove 20 20 click 2 click 3")
+            time.sleep(0.2)
+            check("the clock stands in front, and none in its place",
+                  screen.pixel(9, 20) == dimmed("xray", CLOCK) and covered(screen, "xray"))
+            screen.user("mousemove 40 730 click 3")
+            until("the toggle is seen", lambda: shows(screen, 10, 700, "toggle"))
+            screen.user("mousemove 600 300 click 2")
+            until("the toggle is covered again", lambda: covered(screen, "xray"))
+            check("the clock stands in front", screen.pixel(9, 20) == dimmed("xray", CLOCK))
+            screen.user("click 3")
+            until("the toggle is seen again", lambda: shows(screen, 10, 700, "toggle"))
+            cover.does("wait")
+            check("nobody is told", cover.events() == told)
+            screen.user("mousemove 40 730 click 1")
+            bar(screen, "xray:toggle")
+            screen.key("F11")
+            bar(screen, "flat:toggle")
+            typing(screen)
+
+
 def heard(path):
     """The events that a listener has written down: kind, code and turn."""
     return [tuple(map(int, line.split()[1:])) for line in path.read_text().splitlines()]
@@ -184,6 +240,26 @@ def case_events(screen, programs):
             until("the next one", lambda: heard(done)[-2:] == [(1, 46, 0), (2, 46, 0)])
 
 
+def case_lost(screen, programs):
+    """A key that is held as the window loses the keyboard is released, and so is a button that
+    comes up beside the window: then the keys of modes work again."""
+    with tempfile.TemporaryDirectory() as folder:
+        path, done = program(folder, "listen")
+        with Host(screen, programs, ["--size=320x768", f"listen={path}"]):
+            until("it listens", done.exists)
+            until("its view is shown", lambda: screen.pixel(40, 730) == 0x0000F0)
+            screen.user("mousemove 40 730 click 1 keydown t")
+            until("a press", lambda: heard(done)[-1][:2] == (1, 20))
+            screen.keyboard(NO_WINDOW)
+            until("it is released", lambda: heard(done)[-1][:2] == (2, 20))
+            screen.user("keyup t")
+            screen.keyboard(POINTED_WINDOW)
+            screen.user("mousemove 40 731 mousedown 1 mousemove 900 500 mouseup 1")
+            until("the button is released", lambda: heard(done).count((2, 272, 0)) == 2)
+            screen.user("mousemove 40 730 key Scroll_Lock")
+            bar(screen, "xray:listen")
+
+
 def case_resize(screen, programs):
     """A window whose size others change shows all that it has room for."""
     with Host(screen, programs, ["login=./login", "pad=./pad"]):
@@ -194,6 +270,27 @@ def case_resize(screen, programs):
         until("it is small", lambda: screen.pixel(640, 90) != ACTIVE)
         screen.user("search --name Nitpicker windowsize 1024 768")
         until("all is there again", lambda: screen.part(0, 0, 1024, 768) == before)
+
+
+def case_corners(screen, programs):
+    """Of a picture in which two corners change only these go to the screen; and all of it where
+    another window has stood in front."""
+    with tempfile.TemporaryDirectory() as folder:
+        corners = [Puppet(folder, label) for label in ("near", "far")]
+        with Host(screen, Path(programs) / "slow", [corner.word for corner in corners]):
+            for corner, at in zip(corners, ((10, 20), (950, 700))):
+                corner.does("draw", *at, 64, 64, 0x102030)
+            until("a picture", lambda: screen.pixel(20, 30) == 0x102030)
+            until("the other", lambda: screen.pixel(1000, 740) == 0x102030)
+            screen.spoil(100, 100, 800, 500, WHITE)
+            for corner in corners:
+                corner.does("paint", 64, 64, 0x302010)
+            until("a picture", lambda: screen.pixel(20, 30) == 0x302010)
+            check("both corners are in it", screen.pixel(1000, 740) == 0x302010)
+            check("nothing else is", screen.part(100, 100, 800, 500) == [[WHITE] * 800] * 500)
+            screen.pass_over(100, 100, 400, 300, 0x802040)
+            until("the whole window", lambda: screen.part(100, 100, 800, 500) ==
+                  [[BARE] * 800] * 500)
 
 
 def case_large(screen, programs):

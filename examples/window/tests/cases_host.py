@@ -4,6 +4,7 @@ import fcntl
 import os
 from pathlib import Path
 import pty
+import resource
 import signal
 import subprocess
 import tempfile
@@ -11,9 +12,10 @@ import termios
 import time
 
 from asks import ACTIVE, BLUE, DESK, bar, begun, check, focused_toggle, program, typing
-from desk import Host, lives, until
+from desk import Host, Screen, until
 
 PLAIN = "login=./login"
+FULL = [f"client-{seat}=./login" for seat in range(16)]
 WRONG = [
     ([], "there is no client"),
     (["--size=640x480"], "there is no client"),
@@ -26,19 +28,21 @@ WRONG = [
     (["--kill=Nokey", PLAIN], "--kill=Nokey: there is no such key"),
     ([PLAIN, "game"], "game: a client is NAME=PROGRAM"),
     (["Login=./login"], "Login=./login: a label is 1 to 20 of"),
-    ([PLAIN, "login=./game"], "login=./game: another client has this label"),
-    (["^login=./login", "^login=./game"], "^login=./game: another client has this label"),
-    ([f"client-{seat}=./login" for seat in range(17)], "client-16=./login: no seat is free"),
+    ([PLAIN, "login=./game"], "login=./game: the label is taken"),
+    (["^login=./login", "^login=./game"], "^login=./game: the label is taken"),
+    ([*FULL, "late=./login"], "late=./login: no seat of its layer is free"),
+    ([*FULL, "^late=./login"], "^late=./login: no seat of its layer is free"),
+    ([".1=./login", "^clock=./clock"], ".1=./login: the label is taken"),
     ([PLAIN, "none=./none"], "none=./none: No such file"),
     ([PLAIN, "none=/"], "none=/: Permission denied"),
 ]
 
 
-def begin(screen, programs, words):
+def begin(screen, programs, words, **more):
     """The host with words that it does not begin by: its status and what it said."""
     ended = subprocess.run([str(Path(programs).resolve() / "window"), *words], cwd=programs,
-                           env=screen.environment, stdin=subprocess.DEVNULL, timeout=60,
-                           capture_output=True, text=True, check=False)
+                           stdin=subprocess.DEVNULL, timeout=60, capture_output=True, text=True,
+                           check=False, **{"env": screen.environment, **more})
     return ended.returncode, ended.stdout, ended.stderr
 
 
@@ -50,6 +54,43 @@ def case_words(screen, programs):
               error.startswith("window: ") and why in error)
     status, said, error = begin(screen, programs, ["--help"])
     check("--help", status == 0 and not error and "NAME=PROGRAM" in said)
+
+
+def case_memory(screen, programs):
+    """Where memory is short the host says so."""
+    host = (Path(programs) / "window").read_bytes()
+    more = {"env": dict(screen.environment, ASAN_OPTIONS="allocator_may_return_null=1:"
+                        "max_allocation_size_mb=100")}
+    if b"__asan_init" not in host:
+        more["preexec_fn"] = lambda: resource.setrlimit(resource.RLIMIT_AS, (2**30, 2**30))
+    status, _, error = begin(screen, programs, ["--size=4096x4096", PLAIN], **more)
+    check(f"{status} {error}", status == 2 and
+          error.endswith("window: --size: there is not so much memory\n"))
+
+
+def case_long(screen, programs):
+    """A line of over 510 bytes ends the control line, and nothing else."""
+    with Host(screen, programs, ["toggle=./toggle"]) as host:
+        focused_toggle(screen)
+        host.tell("a" * 510)
+        host.says("window: aaa")
+        check(f"it says {host.said}", len(host.said) == 1)
+        host.tell("b" * 511)
+        host.says("window: a line has at most 510 bytes")
+        host.tell("quit")
+        typing(screen)
+        host.process.terminate()
+
+
+def case_bits(_, programs):
+    """A screen of other words than the library's ends the host with the cause."""
+    few = Screen(16)
+    try:
+        status, _, error = begin(few, programs, [PLAIN])
+        check(f"{status} {error}", status == 2 and
+              error == "window: the window: the screen has other colours than those of 24 bits\n")
+    finally:
+        few.close()
 
 
 def case_line(screen, programs):

@@ -8,6 +8,7 @@ import fcntl
 import itertools
 import os
 from pathlib import Path
+import signal
 import socket
 import struct
 import sys
@@ -15,52 +16,11 @@ import termios
 import threading
 import time
 
-BUFFER, VIEW, PLACE, FRONT, REFRESH, TAKE, UPGRADE = 1, 2, 3, 5, 10, 11, 12
-SOCKET, BELL, MEMORY = 3, 4, 5
-CALLS, PIXELS, BYTES = 64, 4096, 4096 + 4 * 16777216
+from channel import (BELL, BUFFER, BYTES, CALLS, FRONT, MEMORY, NO_EVENT, PIXELS, PLACE, REFRESH,
+                     SOCKET, TAKE, UPGRADE, VIEW, ask, draw, reply, ring, send)
+
 WIDTH, HEIGHT = 1024, 768
-SENT = itertools.count()
 ENDLESS = 2 ** 64 - 2
-
-
-# ---- The channel
-
-
-def send(number, view=0, x=0, y=0, w=0, h=0, units=0):
-    """Sends a call as the protocol spells it."""
-    data = struct.pack("<IIiiIII20x", number, view, x, y, w, h, units)
-    os.pwrite(MEMORY, data, next(SENT) % CALLS * len(data))
-    ring(1)
-
-
-def ring(times):
-    """Says that so many calls have been written."""
-    os.write(BELL, struct.pack("<Q", times))
-
-
-def reply():
-    """The next reply: all its numbers."""
-    kind = 128
-    while kind == 128:
-        data = os.read(SOCKET, 64) or sys.exit(0)
-        kind, *others = struct.unpack("<6Ii4x2Q", data)
-    return kind, others
-
-
-def ask(*words, **named):
-    """Makes a call, and answers the kind of its reply and the handle."""
-    send(*words, **named)
-    kind, others = reply()
-    return kind, others[0]
-
-
-def draw(x, y, w, h, word):
-    """A view of one colour."""
-    view = ask(VIEW)[1]
-    ask(BUFFER, w=w, h=h)
-    os.pwrite(MEMORY, struct.pack("<I", word) * (w * h), PIXELS)
-    ask(PLACE, view, x, y, w, h)
-    ask(REFRESH, w=w, h=h)
 
 
 # ---- What the host closes
@@ -238,10 +198,27 @@ def listen(path):
         while True:
             send(TAKE)
             kind, others = reply()
-            if kind == 4:
+            if kind == NO_EVENT:
                 os.read(SOCKET, 64) or sys.exit(0)
             else:
                 file.write(f"{time.monotonic()} {others[1]} {others[2]} {others[5]}\n")
+
+
+def escape(path):
+    """A view, which a child of this program moves for ever. It leaves the program's session, and so
+    lives on; and it calls also where nobody replies any more."""
+    draw(600, 600, 64, 64, 0x00F0F0)
+    child = os.fork()
+    if child != 0:
+        Path(path).write_text(str(child), encoding="ascii")
+        return
+    os.setsid()
+    signal.alarm(60)
+    os.set_blocking(SOCKET, False)
+    while True:
+        send(PLACE, 1, 100, 300, 64, 64)
+        time.sleep(0.001)
+        refused(lambda: os.read(SOCKET, 64))
 
 
 def family(path):
@@ -270,7 +247,7 @@ def steal(path):
 
 
 OTHERS = {"whole-screen": whole_screen, "cover": cover, "jump": jump, "listen": listen,
-          "inject": inject, "steal": steal}
+          "escape": escape, "inject": inject, "steal": steal}
 
 
 def main(deed, path):
