@@ -1,0 +1,314 @@
+/* Surfaces and their commits. Not proved.
+ *
+ * A request changes only what stands here, and costs little. The library is told of it before a
+ * look (publish.c). */
+#include "host.h"
+
+/* ---- Buffers */
+
+static void held_gone(struct wl_listener *listener, void *data)
+{
+    struct held *held = wl_container_of(listener, held, gone);
+    (void)data;
+    wl_list_remove(&held->gone.link);
+    held->buffer = NULL;
+}
+
+/* Keeps a buffer in mind as long as it is there. */
+void hold(struct held *held, struct wl_resource *buffer)
+{
+    if (held->buffer)
+        wl_list_remove(&held->gone.link);
+    held->buffer = buffer;
+    held->gone.notify = held_gone;
+    if (buffer)
+        wl_resource_add_destroy_listener(buffer, &held->gone);
+}
+
+/* ---- Trees: a window, its subsurfaces and its popups */
+
+struct surface *surface_root(struct surface *surface)
+{
+    while (surface->parent)
+        surface = surface->parent;
+    return surface;
+}
+
+bool surface_descends(const struct surface *surface, const struct surface *from)
+{
+    while (surface && surface != from)
+        surface = surface->parent;
+    return surface != NULL;
+}
+
+/* Where the first word of the surface stands on the screen; its size is that of the surface. */
+struct box surface_origin(const struct surface *surface)
+{
+    struct box at = { 0, 0, surface->w, surface->h };
+    for (; surface; surface = surface->parent) {
+        at.x = box_clamp((int64_t)at.x + surface->x - surface->geometry.x);
+        at.y = box_clamp((int64_t)at.y + surface->y - surface->geometry.y);
+        if (surface->role == POPUP && surface->parent) {
+            at.x = box_clamp((int64_t)at.x + surface->parent->geometry.x);
+            at.y = box_clamp((int64_t)at.y + surface->parent->geometry.y);
+        }
+    }
+    return at;
+}
+
+/* The surface belongs to this parent, or to none. */
+void surface_adopt(struct surface *surface, struct surface *parent)
+{
+    surface->parent = parent;
+    wl_list_remove(&surface->sibling);
+    wl_list_init(&surface->sibling);
+    if (parent)
+        wl_list_insert(parent->children.prev, &surface->sibling);
+    else
+        publish_places(surface);
+}
+
+/* ---- Commits */
+
+void surface_changed(struct surface *surface)
+{
+    surface->client->changed = host.changed = true;
+}
+
+/* Takes the view away at once: the surface may be gone before the next look. */
+void surface_unmap(struct surface *surface)
+{
+    surface->mapped = surface->configured = false;
+    surface->room = surface->stale = (struct box){ 0 };
+    surface->w = surface->h = 0;
+    if (surface->held.buffer)
+        wl_buffer_send_release(surface->held.buffer);
+    hold(&surface->held, NULL);
+    publish_places(surface);
+    surface_changed(surface);
+    input_forget(surface);
+}
+
+/* The surface has this size, and so much of it is shown: never more than a screen, and of a window
+ * with a geometry that part. True where all of it is to be copied. */
+static bool resize(struct surface *surface, int32_t w, int32_t h)
+{
+    struct box crop = { 0, 0, w, h }, old = surface->crop;
+    bool window = surface->role == TOPLEVEL;
+    surface->w = w;
+    surface->h = h;
+    if (surface->geometry.w > 0)
+        crop = box_both(crop, surface->geometry);
+    crop.w = SDL_min(crop.w, host.width);
+    crop.h = SDL_min(crop.h, host.height);
+    surface->crop = crop;
+    surface->need_w = window ? SDL_max(crop.w, LEAST_W) : crop.w;
+    surface->need_h = window ? SDL_max(crop.h, LEAST_H) : crop.h;
+    surface->filled |= surface->need_w != crop.w || surface->need_h != crop.h;
+    drag_resized(surface, crop.w - old.w, crop.h - old.h);
+    return !box_same(crop, old) || surface->room.w == 0;
+}
+
+static void outputs_enter(struct surface *surface)
+{
+    struct wl_resource *output;
+    wl_resource_for_each(output, &surface->client->outputs)
+        wl_surface_send_enter(surface->self, output);
+}
+
+/* Takes over the pending buffer. One that was never published is the client's again. */
+static void show(struct surface *surface)
+{
+    struct wl_resource *buffer = surface->next.buffer.buffer;
+    if (!buffer) {
+        if (surface->mapped)
+            surface_unmap(surface);
+        return;
+    }
+    const struct buffer *like = object_data(buffer);
+    if (surface->role != TOPLEVEL && surface->role != POPUP && surface->role != SUBSURFACE) {
+        wl_buffer_send_release(buffer);
+        return;
+    }
+    bool first = !surface->mapped, all = resize(surface, like->w, like->h) || first;
+    surface->mapped = true;
+    surface->stale = all ? (struct box){ 0, 0, like->w, like->h } :
+                     box_around(surface->stale, surface->next.damage);
+    if (surface->held.buffer && surface->held.buffer != buffer)
+        wl_buffer_send_release(surface->held.buffer);
+    hold(&surface->held, buffer);
+    if (first && surface->role == TOPLEVEL)
+        shell_place(surface);
+    if (first)
+        outputs_enter(surface);
+}
+
+/* The callbacks of a surface wait for the next tick of the host's clock, and for nothing else. */
+static void take_frames(struct surface *surface)
+{
+    if (wl_list_empty(&surface->next.frames))
+        return;
+    if (wl_list_empty(&host.frames))
+        host.tick = (now() / host.period + 1) * host.period;
+    wl_list_insert_list(&host.frames, &surface->next.frames);
+    wl_list_init(&surface->next.frames);
+}
+
+/* What is pending holds from now on, and that of subsurfaces that were committed before. The depth
+ * of a tree is bounded by the number of surfaces. */
+void surface_apply(struct surface *surface)
+{
+    struct surface *child;
+    bool was = surface->mapped;
+    surface->geometry = surface->next.geometry;
+    surface->input = surface->next.input;
+    take_frames(surface);
+    if (surface->role == SUBSURFACE) {
+        surface->x = surface->next.x;
+        surface->y = surface->next.y;
+    }
+    if (surface->next.attached)
+        show(surface);
+    hold(&surface->next.buffer, NULL);
+    surface->next.attached = surface->waits = false;
+    surface->next.damage = (struct box){ 0 };
+    wl_list_for_each(child, &surface->children, sibling)
+        if (child->role == SUBSURFACE &&
+            (child->waits || child->x != child->next.x || child->y != child->next.y))
+            surface_apply(child);
+    if (was != surface->mapped)
+        keyboard_choose(surface->client);
+    surface_changed(surface);
+}
+
+static void commit(struct surface *surface)
+{
+    if (surface_is_synced(surface))
+        surface->waits = true;
+    else if (shell_commit(surface))
+        surface_apply(surface);
+}
+
+/* ---- Regions: the least box around what was added, which for input is enough. */
+
+static void region_request(struct wl_resource *self, uint32_t number, union wl_argument *with)
+{
+    struct box *box = object_data(self);
+    if (number == WL_REGION_ADD)
+        *box = box_around(*box, (struct box){ box_clamp(with[0].i), box_clamp(with[1].i),
+                                              box_clamp(with[2].i), box_clamp(with[3].i) });
+}
+
+static void region_gone(struct wl_resource *self)
+{
+    free(object_data(self));
+}
+
+static const struct kind REGION = { &wl_region_interface, region_request, region_gone };
+
+/* ---- Requests */
+
+static const struct box EVERYWHERE = { -32768, -32768, 65535, 65535 };
+
+static const struct kind CALLBACK = { &wl_callback_interface, object_ignores, object_unlisted };
+
+static void surface_request(struct wl_resource *self, uint32_t number, union wl_argument *with)
+{
+    struct surface *surface = object_data(self);
+    struct pending *next = &surface->next;
+    switch (number) {
+    case WL_SURFACE_ATTACH:
+        hold(&next->buffer, (struct wl_resource *)with[0].o);
+        next->attached = true;
+        break;
+    case WL_SURFACE_DAMAGE:
+    case WL_SURFACE_DAMAGE_BUFFER:
+        next->damage = box_around(next->damage,
+            box_both((struct box){ with[0].i, with[1].i, with[2].i, with[3].i },
+                     (struct box){ 0, 0, 32767, 32767 }));
+        break;
+    case WL_SURFACE_FRAME:
+        object_listed(object_new(surface->client, &CALLBACK, 1, with[0].n, NULL), &next->frames);
+        break;
+    case WL_SURFACE_SET_INPUT_REGION:
+        next->input = with[0].o ?
+            *(struct box *)object_data((struct wl_resource *)with[0].o) : EVERYWHERE;
+        break;
+    case WL_SURFACE_SET_BUFFER_SCALE:
+        if (with[0].i != 1)
+            wl_resource_post_error(self, WL_SURFACE_ERROR_INVALID_SCALE, "the scale is 1");
+        break;
+    case WL_SURFACE_SET_BUFFER_TRANSFORM:
+        if (with[0].i != 0)
+            wl_resource_post_error(self, WL_SURFACE_ERROR_INVALID_TRANSFORM, "nothing is turned");
+        break;
+    case WL_SURFACE_COMMIT:
+        commit(surface);
+        break;
+    }
+}
+
+static void leave_children(struct surface *surface)
+{
+    struct surface *child, *next;
+    wl_list_for_each_safe(child, next, &surface->children, sibling)
+        surface_adopt(child, NULL);
+}
+
+static void surface_gone(struct wl_resource *self)
+{
+    struct surface *surface = object_data(self);
+    surface_unmap(surface);
+    shell_drop(surface);
+    leave_children(surface);
+    surface_adopt(surface, NULL);
+    hold(&surface->next.buffer, NULL);
+    while (!wl_list_empty(&surface->next.frames))
+        wl_resource_destroy(wl_resource_from_link(surface->next.frames.next));
+    wl_list_remove(&surface->link);
+    surface->client->surface_count--;
+    free(surface);
+}
+
+static const struct kind SURFACE = { &wl_surface_interface, surface_request, surface_gone };
+
+/* ---- The compositor */
+
+static void surface_new(struct client *client, uint32_t version, uint32_t id)
+{
+    bool room = client->surface_count < SURFACES;
+    struct surface *surface = room ? calloc(1, sizeof *surface) : NULL;
+    if (surface)
+        surface->self = object_new(client, &SURFACE, version, id, surface);
+    if (!surface || !surface->self) {
+        free(surface);
+        wl_client_post_no_memory(client->wl);
+        return;
+    }
+    surface->client = client;
+    surface->next.input = EVERYWHERE;
+    wl_list_init(&surface->children);
+    wl_list_init(&surface->sibling);
+    wl_list_init(&surface->next.frames);
+    wl_list_insert(&client->surfaces, &surface->link);
+    client->surface_count++;
+}
+
+static void region_new(struct client *client, uint32_t id)
+{
+    struct box *box = calloc(1, sizeof *box);
+    if (!box || !object_new(client, &REGION, 1, id, box)) {
+        free(box);
+        wl_client_post_no_memory(client->wl);
+    }
+}
+
+static void compositor_request(struct wl_resource *self, uint32_t number, union wl_argument *with)
+{
+    if (number == WL_COMPOSITOR_CREATE_SURFACE)
+        surface_new(client_of(self), (uint32_t)wl_resource_get_version(self), with[0].n);
+    else if (number == WL_COMPOSITOR_CREATE_REGION)
+        region_new(client_of(self), with[0].n);
+}
+
+const struct kind COMPOSITOR = { &wl_compositor_interface, compositor_request, NULL };
