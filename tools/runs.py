@@ -131,8 +131,12 @@ class Outcome:
 def build(starter):
     """Builds the program, where it is not as the sources are. Ctrl-C leaves it the time that it
     needs to put its work away. Where it fails, it has said why, and the tool ends."""
-    with subprocess.Popen([sys.executable, "-B", starter / "building.py"]) as building:
-        pass
+    building = subprocess.Popen([sys.executable, "-B", starter / "building.py"])
+    try:
+        building.wait()
+    except KeyboardInterrupt:
+        building.wait()
+        raise
     if building.returncode:
         sys.exit(1)
 

@@ -38,8 +38,8 @@ WRONG = {
     "show": [[], ["foo"], ["turns"]], "test-starter": [["NoSuchCase"]],
     "verify": [["--program", STARTER], ["--program", STARTER, "turns", "none.toml", "."]],
 }
-ALONE = {"believe": [], "claims": [], "json-lines": ["-"], "release": ["--selftest"],
-         "test-starter": ["Words"], "verify": ["--selftest"]}
+ALONE = {"believe": [], "claims": [], "json-lines": ["-"], "links": [],
+         "release": ["--selftest"], "test-starter": ["Words"], "verify": ["--selftest"]}
 
 
 def begun(tool, words, **more):
@@ -119,6 +119,9 @@ def try_show(kit):
 def try_claims(kit):
     yield from kit.faults("claims", ["no-such-function"], 1, "nothing is found of no-such-function")
     yield from kit.faults("claims", [""], 2, "an empty word")
+    yield from kit.faults("claims", ["--fields", "Answer"], 0, "2 exactly where the words are no")
+    yield from kit.faults("claims", ["--fields", "no_such_record"], 1, "found of no_such_record")
+    yield from kit.faults("claims", ["--fields", "--clauses"], 2, "--fields of records")
 
 
 def faults_of_failed_build(kit, tool):
@@ -129,6 +132,25 @@ def faults_of_failed_build(kit, tool):
     ended = kit.run(tool, top / "bin" / "nitpicker")
     if (ended.returncode, ended.stdout, ended.stderr) != (1, "", "no build\n"):
         yield f"tools/{tool}: after a failed build status {ended.returncode}, said {ended.stderr}"
+
+
+def faults_of_interrupted_build(kit, tool):
+    """A tool that builds the program waits at Ctrl-C until the build has put its work away."""
+    top, log, away = kit.top / "interrupted", kit.top / "building", kit.top / "put-away"
+    building = (f"import signal, sys, time\n\ndef end(*_):\n    time.sleep(1)\n"
+                f"    open({str(away)!r}, 'w').close()\n    sys.exit(130)\n\n"
+                f"signal.signal(signal.SIGINT, end)\nopen({str(log)!r}, 'w').close()\n"
+                "time.sleep(600)\n")
+    runs.write_files(top, {"crates/nitpicker": None, "bin/building.py": building.encode()})
+    with begun(kit.tools / tool, [top / "bin" / "nitpicker"]) as started:
+        wait_for(log)
+        os.killpg(started.pid, signal.SIGINT)
+        status = started.wait(timeout=SECONDS)
+        if status not in (130, -signal.SIGINT) or not away.exists():
+            yield f"tools/{tool}: status {status}, and Ctrl-C ends it before the build it began"
+        rest = started.communicate(timeout=SECONDS)[1]
+    if "Traceback" in rest:
+        yield f"tools/{tool}: after Ctrl-C in a build it says {rest[-600:]}"
 
 
 def faults_of_wrong_words(kit, tool, unknown):

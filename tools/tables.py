@@ -14,5 +14,10 @@ def cells(values, form):
     return " | ".join(shown)
 
 
+def side_by_side(line, other):
+    """The row of a table with the cells of another one's behind it, but for what names the row."""
+    return line + "|".join(other.split("|")[2:])
+
+
 def milliseconds(value):
     return f"{value:.1f}" if value < 100 else f"{value:,.0f}"
