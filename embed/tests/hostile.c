@@ -1,0 +1,148 @@
+/* What a coalition of clients makes one call cost: sixteen clients with 64 views each, the rear 64
+ * as large as the screen, the others columns of different heights, or columns in front of rows; and
+ * beside it a desk of eight windows. One line for each call and mode, the worst of five by the
+ * processor's time: `CALL<tab>MODE<tab>MILLISECONDS`.
+ *
+ * usage: hostile */
+#include "nitpicker.h"
+#include <stdio.h>
+#include <stdlib.h>
+#include <time.h>
+
+enum {
+    WIDTH = 1024, HEIGHT = 768, BAR = 7, SIDE = 64, SEATS = 16, EACH = 64, LARGE = 64, TIMES = 5
+};
+
+static struct nit_server server;
+static nit_client client[SEATS], asker;
+static uint32_t words[SIDE * SIDE], frame[WIDTH * HEIGHT];
+
+static void must(int holds, const char *what)
+{
+    if (holds)
+        return;
+    fprintf(stderr, "hostile: %s\n", what);
+    exit(1);
+}
+
+static double now(void)
+{
+    struct timespec at;
+    must(clock_gettime(CLOCK_PROCESS_CPUTIME_ID, &at) == 0, "no clock");
+    return 1e3 * (double)at.tv_sec + 1e-6 * (double)at.tv_nsec;
+}
+
+/* ---- The scene */
+
+static void open_server(void)
+{
+    struct nit_seat_plan seats[SEATS];
+    for (uint32_t k = 0; k < SEATS; k++)
+        seats[k] = (struct nit_seat_plan){ 65536, 3, 1 };
+    struct nit_plan plan = { WIDTH, HEIGHT, 1, SEATS, seats };
+    must(nit_open(&server, &plan) == NIT_DONE, "not opened");
+}
+
+static void sit(uint32_t seat)
+{
+    char label = (char)('a' + seat);
+    client[seat] = nit_seat(&server, seat, &label, 1).client;
+    must(nit_buffer(&server, client[seat], SIDE, SIDE).kind == NIT_DONE, "no buffer");
+}
+
+struct scene {
+    const char *name;
+    uint32_t all, large; /* how many views, and how many of them are as large as the screen */
+    int crosses;         /* the others are columns in front of rows, and no columns alone */
+};
+
+static void place(nit_client of, uint32_t x, uint32_t y, uint32_t w, uint32_t h)
+{
+    uint32_t view = nit_view(&server, of).handle;
+    must(nit_place(&server, of, view, (int32_t)x, (int32_t)y, w, h).kind == NIT_DONE, "not placed");
+}
+
+static void place_one(const struct scene *scene, uint32_t n)
+{
+    nit_client of = client[SEATS - 1 - n / EACH];
+    uint32_t k = n - scene->large, small = scene->all - scene->large;
+    if (n < scene->large)
+        place(of, 0, BAR, WIDTH, HEIGHT - BAR);
+    else if (!scene->crosses)
+        place(of, k * WIDTH / small, BAR, 1, 8 + n * 7919 % 700);
+    else if (k < small / 2)
+        place(of, 0, BAR + 2 * (k % 380), WIDTH, 1);
+    else
+        place(of, 2 * (k - small / 2), BAR, 1, HEIGHT - BAR);
+}
+
+static void begin(const struct scene *scene)
+{
+    open_server();
+    for (uint32_t seat = 0; seat < SEATS; seat++)
+        sit(seat);
+    for (uint32_t n = 0; n < scene->all; n++)
+        place_one(scene, n);
+    asker = client[SEATS - 1 - (scene->all - 1) / EACH];
+    must(nit_look(&server, frame, WIDTH * HEIGHT).kind == NIT_DONE, "no look");
+}
+
+/* ---- The calls, of the client whose view was placed last */
+
+static void refresh(void)
+{
+    (void)nit_refresh(&server, asker, 0, 0, 1, 1, words, SIDE * SIDE);
+}
+
+static void title(void)
+{
+    (void)nit_title(&server, asker, 1, "x", 1);
+}
+
+static void front(void)
+{
+    (void)nit_front(&server, asker, 1);
+}
+
+static void mode_key(void)
+{
+    (void)nit_press(&server, 70);
+    (void)nit_release(&server, 70);
+}
+
+static void tell(const char *call, const char *mode, void (*work)(void))
+{
+    double worst = 0;
+    for (int k = 0; k < TIMES; k++) {
+        double began = now();
+        work();
+        double took = now() - began;
+        worst = took > worst ? took : worst;
+    }
+    printf("%s\t%s\t%.3f\n", call, mode, worst);
+}
+
+static void tell_all(const char *mode)
+{
+    tell("a refresh of one pixel", mode, refresh);
+    tell("a title", mode, title);
+    tell("a view to the front", mode, front);
+}
+
+static void tell_scene(struct scene scene)
+{
+    printf("%s\n", scene.name);
+    begin(&scene);
+    tell_all("flat");
+    tell("the X-ray key", "both ways", mode_key);
+    tell_all("X-ray");
+    must(nit_close(&server) == NIT_DONE, "not closed");
+}
+
+int main(void)
+{
+    tell_scene((struct scene){ "1,024 views, columns", SEATS * EACH, LARGE, 0 });
+    tell_scene((struct scene){ "1,024 views, columns in front of rows", SEATS * EACH, LARGE, 1 });
+    tell_scene((struct scene){ "eight views", 8, 4, 0 });
+    return 0;
+}
