@@ -343,11 +343,11 @@ uint32_t nit_open_config_2(struct nit_server *server, const char *text, size_t l
 /* Opens a server whose seats are all free. `seats` has three words for each seat: donation, layer,
  * clicks; so `words` is three times their number.
  *
- * All memory that the server will ever use is taken here, but for nit_entry's: some 67 KB; for
- * each pixel of the screen 8 bytes, of which 4 are written at once, and 4 where X-ray or kill mode
- * first begins; and for each seat as many as its donation has units, at most 4 MiB, or 128 MiB
- * where that is over 8,388,608: these are written as far as clients hand in words. So it is at most
- * 2,176 MiB and these 67 KB.
+ * All memory that the server will ever use is taken here, but for nit_entry's: some 130 KB; for
+ * each pixel of the screen 10 bytes, of which 4 are written at once, 4 where X-ray or kill mode
+ * first begins, and 2 where it shows more than 16 views; and for each seat as many as its donation
+ * has units, at most 4 MiB, or 128 MiB where that is over 8,388,608: these are written as far as
+ * clients hand in words. So it is at most 2,208 MiB and these 130 KB.
  *
  * Answers NIT_DONE; and the first that applies of NIT_IS_OPEN, NIT_BAD_PLAN, NIT_NO_MEMORY: then
  * the handle is as it was before. */
