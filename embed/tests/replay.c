@@ -145,6 +145,16 @@ static void is_entry(struct run *run, struct nit_server *s, const char *line)
         wrong(run, line, "the text of the step is another one");
 }
 
+/* By a name that the seat's client does not have nobody is asked, and no step is done. */
+static void others_reach_nobody(struct run *run, int k, uint32_t seat, const char *line)
+{
+    struct nit_server *s = &run->server[k];
+    nit_client other = run->client[k][seat] + 65536;
+    if (nit_take(s, other).kind != NIT_OTHER_CLIENT || nit_leave(s, other).kind != NIT_OTHER_CLIENT
+        || nit_raise(s, other, 1) != NIT_OTHER_CLIENT)
+        wrong(run, line, "another client is served");
+}
+
 static void play_call(struct run *run, const char *line)
 {
     uint32_t seat = (uint32_t)strtoul(line + 5, NULL, 10), w, h;
@@ -155,6 +165,7 @@ static void play_call(struct run *run, const char *line)
     asked += 3;
     struct nit_reply want = reply_in(said);
     for (int k = 0; k < 2; k++) {
+        others_reach_nobody(run, k, seat, line);
         struct nit_reply got = call(run, k, seat, asked);
         if (memcmp(&got, &want, sizeof want) != 0)
             wrong(run, line, "another reply");
