@@ -17,13 +17,14 @@ pub use Rattle.nit_audit.specs.Terms.{delivered, deliveries_of, delivery, done, 
 pub use Rattle.nit_audit.specs.Terms.{first_session, first_state, followed, get, given, has_key}
 pub use Rattle.nit_audit.specs.Terms.{in_bar, input_after_call, input_closing, insert, is_accepted}
 pub use Rattle.nit_audit.specs.Terms.{is_meant, is_some, is_view, layer, left, list_any, member}
-pub use Rattle.nit_audit.specs.Terms.{moved, new_view, next_phase, option_map, owner, phases_along}
-pub use Rattle.nit_audit.specs.Terms.{pointer, pointer_after, position_or_len, put_above, put_back}
-pub use Rattle.nit_audit.specs.Terms.{put_front, receive, refusal, replay_routing, routed_as}
-pub use Rattle.nit_audit.specs.Terms.{routing, serve, session_in, state_of_replay, swept, taken_if}
-pub use Rattle.nit_audit.specs.Terms.{taking, to_do, user_actions_from, user_actions_of}
-pub use Rattle.nit_audit.specs.Terms.{user_actions_to_do, view_or, view_under, views_at}
-pub use Rattle.nit_audit.specs.Terms.{with_change, with_pointer, without}
+pub use Rattle.nit_audit.specs.Terms.{most_sessions, moved, new_view, next_phase, option_map, owner}
+pub use Rattle.nit_audit.specs.Terms.{phases_along, pointer, pointer_after, position_or_len}
+pub use Rattle.nit_audit.specs.Terms.{put_above, put_back, put_front, receive, refusal}
+pub use Rattle.nit_audit.specs.Terms.{replay_routing, routed_as, routing, serve, session_in}
+pub use Rattle.nit_audit.specs.Terms.{state_of_replay, swept, taken_if, taking, to_do}
+pub use Rattle.nit_audit.specs.Terms.{user_actions_from, user_actions_of, user_actions_to_do}
+pub use Rattle.nit_audit.specs.Terms.{view_or, view_under, views_at, with_change, with_pointer}
+pub use Rattle.nit_audit.specs.Terms.{without}
 pub use Rattle.nit_journal.proofs.ForCallers.{accepted_reply, actions_of-append, actions_same}
 pub use Rattle.nit_journal.proofs.ForCallers.{calls_of-append, calls_same, delivered_length}
 pub use Rattle.nit_journal.proofs.ForCallers.{drop_left, refused_reply, serve_accepted}
@@ -39,6 +40,7 @@ pub use Rattle.std.proofs.lemmas.Bool.{cases_Bool, cases_lt, cond_both, eq-eqb}
 pub use Rattle.std.proofs.lemmas.Bool.Decides.{nat_tests}
 pub use Rattle.std.proofs.lemmas.Fn.{filter_same}
 pub use Rattle.std.proofs.lemmas.Int.{ints, to_z-of_z}
-pub use Rattle.std.proofs.lemmas.List.{append-nil, drop_all, length-map, length-set, set-get_or}
+pub use Rattle.std.proofs.lemmas.List.{append-nil, drop_all, get_or-replicate, length-map}
+pub use Rattle.std.proofs.lemmas.List.{length-set, set-get_or}
 pub use Rattle.std.proofs.lemmas.List.Sorted.{IsNonDecreasingBy-drop, IsNonDecreasingBy-insert}
 pub use Rattle.std.proofs.lemmas.List.Sorted.{IsNonDecreasingBy-short}

@@ -9,10 +9,11 @@ use Rattle.nit_audit.proofs.Basics.{by_life, clicks_on, clicks_on_list, cond, de
 use Rattle.nit_audit.proofs.Basics.{delivered_length, deliveries_of, delivery, first_session}
 use Rattle.nit_audit.proofs.Basics.{followed, get_or, given, input_after_call, input_closing}
 use Rattle.nit_audit.proofs.Basics.{is_accepted, layer, left, length, length-set, map, member}
-use Rattle.nit_audit.proofs.Basics.{nat_lt, next_phase, option_map, owner, pointer, pointer_after}
-use Rattle.nit_audit.proofs.Basics.{receive, refl, refusal, refused_reply, replay_routing}
-use Rattle.nit_audit.proofs.Basics.{routed_as, routing, serve, serve_refused, session_in}
-use Rattle.nit_audit.proofs.Basics.{set-get_or, state_of_replay, taking, to_do, with_pointer}
+use Rattle.nit_audit.proofs.Basics.{most_sessions, nat_lt, next_phase, option_map, owner, pointer}
+use Rattle.nit_audit.proofs.Basics.{pointer_after, receive, refl, refusal, refused_reply}
+use Rattle.nit_audit.proofs.Basics.{replay_routing, routed_as, routing, serve, serve_refused}
+use Rattle.nit_audit.proofs.Basics.{session_in, set-get_or, state_of_replay, taking, to_do}
+use Rattle.nit_audit.proofs.Basics.{with_pointer}
 use Rattle.std.proofs.Common.{Bool, ap, false, set, suc, sym, true, zero, ℕ, ◌++◌, ◌+◌, ◌-◌, ◌<◌}
 use Rattle.std.proofs.Common.{◌∙◌, ◌∷◌, ◌≡◌, ◌≤◌}
 use Rattle.nit_journal.specs.StackAfter.{stack_after_call}
@@ -120,15 +121,15 @@ by_answer config sid call r q old new false h lt is same told back =
 
 pub same_route : (config : Configuration) (stack : List View) (f : FocusModel) (dev : Device) (pointed : Option ℕ)
     → (f.width ≡ config.width) × (f.height ≡ config.height)
-    → ((t : ℕ) → t < 16 → get_or f.clicks t false ≡ (member config t).clicks)
+    → ((t : ℕ) → t < most_sessions → get_or f.clicks t false ≡ (member config t).clicks)
     → pointed ≡ option_map (λ v. v.sid) (owner (bar_rows config) stack (pointer (with_pointer f dev)))
-    → IfSome pointed (λ t. t < 16) → focusing.routing_at f pointed dev ≡ route config f.input stack dev
+    → IfSome pointed (λ t. t < most_sessions) → focusing.routing_at f pointed dev ≡ route config f.input stack dev
 unfolding route
 same_route config stack f dev pointed screen clicks at known =
     λ i. routing ((by_setting pointed known ∙ ap (clicks_on config) (at ∙ here)) i) ((at ∙ here) i)
     (pointer_after (screen.0 i) (screen.1 i) f.input dev) dev
   where
-    by_setting : (o : Option ℕ) → IfSome o (λ t. t < 16) → clicks_on_list f.clicks o ≡ clicks_on config o
+    by_setting : (o : Option ℕ) → IfSome o (λ t. t < most_sessions) → clicks_on_list f.clicks o ≡ clicks_on config o
     by_setting None p = refl
     by_setting (Some t) p = clicks t p
 

@@ -5,9 +5,9 @@ use Rattle.nit_audit.proofs.Basics.{Some, Updates, View, Which, [], above_is, ap
 use Rattle.nit_audit.proofs.Basics.{changed, changed_if, cond, cond_both, eq-eqb, filter, find}
 use Rattle.nit_audit.proofs.Basics.{find-map, front_is, get, has_key, insert, is_meant, is_some}
 use Rattle.nit_audit.proofs.Basics.{map-insert, map-map, map-put_above, map-put_back, map-put_front}
-use Rattle.nit_audit.proofs.Basics.{map-without, moved, option_map, position_or_len, put_above}
-use Rattle.nit_audit.proofs.Basics.{put_back, put_front, swept, taken_if, view_or, view_under}
-use Rattle.nit_audit.proofs.Basics.{views_at, with_change, without}
+use Rattle.nit_audit.proofs.Basics.{map-without, most_sessions, moved, option_map, position_or_len}
+use Rattle.nit_audit.proofs.Basics.{put_above, put_back, put_front, swept, taken_if, view_or}
+use Rattle.nit_audit.proofs.Basics.{view_under, views_at, with_change, without}
 use Rattle.std.proofs.Common.{arith, inl, inr, map, nat_le, refl, suc, sym, true, zero, ℕ, ◌<◌, ◌∷◌}
 use Rattle.std.proofs.Common.{◌≡◌}
 use Rattle.nit_audit.specs.declared.keys.Change.TheVariants as change
@@ -53,8 +53,8 @@ changed_view w c v = cond (is_meant w v) (with_change c v) v
 
 -- ---- views that are changed
 
-there : (o : Option View) (w : Which) (c : Change) → IsSomeAnd o (λ v. v.sid < 16)
-    → (view_or (changed_if w c o) ≡ changed_view w c (view_or o)) × IsSomeAnd (changed_if w c o) (λ v. v.sid < 16)
+there : (o : Option View) (w : Which) (c : Change) → IsSomeAnd o (λ v. v.sid < most_sessions)
+    → (view_or (changed_if w c o) ≡ changed_view w c (view_or o)) × IsSomeAnd (changed_if w c o) (λ v. v.sid < most_sessions)
 there None w c h = absurd h
 there (Some v) w c h = (
   refl,
@@ -82,7 +82,7 @@ LeftViews w new ks views = (views_at new ks ≡ without (is_meant w) views) × A
 
 -- one more key in front, under which a view stood
 left_front : (w : Which) (new : Slab View) (k : ℕ) (o : Option View) (ks : List ℕ) (views : List View)
-    → IsSomeAnd o (λ v. v.sid < 16) → get new k ≡ taken_if w o → LeftViews w new ks views
+    → IsSomeAnd o (λ v. v.sid < most_sessions) → get new k ≡ taken_if w o → LeftViews w new ks views
     → LeftViews w new (cond (is_some (get new k)) (k ∷ ks) ks) (view_or o ∷ views)
 left_front w new k None ks views has left more = absurd has
 left_front w new k (Some v) ks views has left more = elim (cases_Bool (is_meant w v)) [
@@ -154,12 +154,12 @@ module _ (records : Slab View) (keys : List ℕ) (key place : ℕ) where
 
 -- ---- the owner of a pixel
 
-small_at : (o : Option View) → IsSomeAnd o (λ v. v.sid < 16) → (view_or o).sid < 16
+small_at : (o : Option View) → IsSomeAnd o (λ v. v.sid < most_sessions) → (view_or o).sid < most_sessions
 small_at None h = absurd h
 small_at (Some v) h = h
 
 pub owner_small : (records : Slab View) (keys : List ℕ) (test : ℕ → Bool) (o : Option ℕ) → AllHaveViews records keys
-    → find test keys ≡ o → IfSome (option_map (λ k. (view_under records k).sid) o) (λ s. s < 16)
+    → find test keys ≡ o → IfSome (option_map (λ k. (view_under records k).sid) o) (λ s. s < most_sessions)
 owner_small records keys test None kept found = tt
 owner_small records keys test (Some k) kept found =
     small_at (get records k) (found_all (HasView records) test keys k kept found)

@@ -5,12 +5,13 @@ pub use Rattle.nit_audit.proofs.Basics.{IsWhole, Member, SFits, Session, Underwa
 pub use Rattle.nit_audit.proofs.Basics.{accepted, accepted_reply, ap, arith, back_at, back_none}
 pub use Rattle.nit_audit.proofs.Basics.{calls_from, calls_to_make, changed_if, covers, delivered}
 pub use Rattle.nit_audit.proofs.Basics.{delivery, filter_same, find-map, first_audited}
-pub use Rattle.nit_audit.proofs.Basics.{first_session, get, in_bar, ints, is_meant, is_view, layer}
-pub use Rattle.nit_audit.proofs.Basics.{length-map, list_any, map, map_twice, member, new_view}
-pub use Rattle.nit_audit.proofs.Basics.{position_or_len, put_above, put_back, put_front, refl}
-pub use Rattle.nit_audit.proofs.Basics.{refusal, rules, serve_accepted, session_in, swept, sym}
-pub use Rattle.nit_audit.proofs.Basics.{taken_if, to_do, to_z-of_z, user_actions_from}
-pub use Rattle.nit_audit.proofs.Basics.{user_actions_to_do, view_under, views_at, w32, ◌∙◌}
+pub use Rattle.nit_audit.proofs.Basics.{first_session, get, get_or-replicate, in_bar, ints}
+pub use Rattle.nit_audit.proofs.Basics.{is_meant, is_view, layer, length-map, list_any, map}
+pub use Rattle.nit_audit.proofs.Basics.{map_twice, member, most_sessions, new_view, position_or_len}
+pub use Rattle.nit_audit.proofs.Basics.{put_above, put_back, put_front, refl, refusal, rules}
+pub use Rattle.nit_audit.proofs.Basics.{serve_accepted, session_in, swept, sym, taken_if, to_do}
+pub use Rattle.nit_audit.proofs.Basics.{to_z-of_z, user_actions_from, user_actions_to_do}
+pub use Rattle.nit_audit.proofs.Basics.{view_under, views_at, w32, ◌∙◌}
 pub use Rattle.nit_audit.proofs.Entries.{by_answer, closing, follows, fresh, heard_one, if_ok}
 pub use Rattle.nit_audit.proofs.Entries.{input_played, near, played, restacked, same_route}
 pub use Rattle.nit_audit.proofs.GoodEntryLemmas.{keep_many}

@@ -19,7 +19,7 @@ view_under records key = view_or (get records key)
 abbrev pub views_at : Slab View → List ℕ → List View
 views_at records keys = map (view_under records) keys
 
--- the key has a record, of one of 16 sessions
+-- the key has a record, of one of 64 sessions
 abbrev pub HasView : Slab View → ℕ → Type 0
 HasView records key = IsSomeAnd (get records key) (λ v. v.sid < most_sessions)
 

@@ -20,7 +20,7 @@ use nit_config::Config;
 use nit_events::{Call, Delivery, Device, Item, Reply, Routed, Text};
 use nit_focus::Focus;
 use nit_glyph::Title;
-use nit_rect::{NoMemory, Rect};
+use nit_rect::{MOST_SESSIONS, NoMemory, Rect};
 use nit_session::Machine;
 use std::alloc::Global;
 use std::marker::Model;
@@ -318,7 +318,7 @@ fn opened_focus(config: &Config) -> Focus
     ensures input { result.input ≡ first_input }
 {
     let mut focus = Focus::new(config.width, config.height);
-    for sid in 0..16 {
+    for sid in 0..MOST_SESSIONS as u32 {
         if clicks_of(config, sid) {
             continue;
         }

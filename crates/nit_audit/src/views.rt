@@ -16,7 +16,7 @@ use slab::Slab;
 use std::alloc::Global;
 use std::marker::Model;
 
-/// All views, seen as their list, front first. Each belongs to one of 16 sessions.
+/// All views, seen as their list, front first. Each belongs to one of 64 sessions.
 #[derive(Drop)]
 pub(crate) struct Views {
     records: Slab<View>,

@@ -11,9 +11,9 @@ pub use Rattle.nit_c.specs.declared.routed.NitDelivery.{NitDelivery}
 pub use Rattle.nit_c.specs.declared.routed.NitRouted.{NitRouted}
 pub use Rattle.nit_c.specs.declared.seats.NitSeated.{NitSeated}
 pub use Rattle.nit_c.specs.declared.viewing.NitViewState.{NitViewState}
-pub use Rattle.nit_config.specs.Configuration.{Configuration, member}
-pub use Rattle.nit_config.specs.ConfigurationText.{IsConfigAnswer, IsConfigurationOf, MeetsRefusal}
-pub use Rattle.nit_config.specs.ConfigurationText.{UnlessMemory}
+pub use Rattle.nit_config.specs.Configuration.{Configuration, lettered, member}
+pub use Rattle.nit_config.specs.ConfigurationText.{IsConfigAnswer, IsConfigurationOf, IsFaultLine}
+pub use Rattle.nit_config.specs.ConfigurationText.{MeetsRefusal, UnlessMemory}
 pub use Rattle.nit_config.specs.declared.error.ConfigError.{ConfigError}
 pub use Rattle.nit_events.specs.Ranges.{most_code}
 pub use Rattle.nit_events.specs.Text.{is_text}
@@ -25,7 +25,9 @@ pub use Rattle.nit_events.specs.declared.event.Delivery.{Delivery}
 pub use Rattle.nit_events.specs.declared.event.Event.{Event}
 pub use Rattle.nit_events.specs.declared.event.Routed.{Routed}
 pub use Rattle.nit_events.specs.declared.event.Status.{Status}
+pub use Rattle.nit_glyph.specs.Lettering.{plain}
 pub use Rattle.nit_glyph.specs.Texts.{is_label}
+pub use Rattle.nit_glyph.specs.declared.lettering.Glyphs.TheVariants.{Large, Small}
 pub use Rattle.nit_host.specs.Damage.{area_at, uncopied}
 pub use Rattle.nit_host.specs.Host.{HostModel, IsAsSeen, called, client_of, first_host, forgotten}
 pub use Rattle.nit_host.specs.Host.{frame_shown, is_client, looked, most_comings, put, refreshed}
@@ -38,6 +40,7 @@ pub use Rattle.nit_host.specs.Terms.{IsConfiguration, last_text}
 pub use Rattle.nit_host.specs.Viewing.{owner_on, owner_shown}
 pub use Rattle.nit_host.specs.contracts.host.Host.{the_row}
 pub use Rattle.nit_host.specs.declared.client.Client.{Client}
+pub use Rattle.nit_host.specs.declared.planning.ScreenPlan.{ScreenPlan}
 pub use Rattle.nit_host.specs.declared.planning.SeatPlan.{SeatPlan}
 pub use Rattle.nit_host.specs.declared.refusal.PlanError.{PlanError}
 pub use Rattle.nit_host.specs.declared.refusal.Uncopied.{Uncopied}
@@ -48,8 +51,9 @@ pub use Rattle.nit_journal.specs.Steps.{Foremost, Rearmost, Side, vacant_state}
 pub use Rattle.nit_look.specs.Area.{IsAreaOf}
 pub use Rattle.nit_look.specs.Look.{AgreeIn, CoversChange, IsTouched, LiesOn}
 pub use Rattle.nit_look.specs.Parts.{AreParts, has_any}
-pub use Rattle.nit_look.specs.Putting.{IsPut}
+pub use Rattle.nit_look.specs.Putting.{IsPartPut}
 pub use Rattle.nit_look.specs.declared.area.Area.{Area}
+pub use Rattle.nit_rect.specs.Limits.{most_sessions}
 pub use Rattle.nit_rect.specs.Rectangle.{Rectangle, rectangle}
 pub use Rattle.nit_screen.specs.FrameLabels.{ShowsLabels}
 pub use Rattle.nit_screen.specs.StateScenery.{scenery_of}

@@ -1,7 +1,7 @@
 -- What of the screen has changed, and a part of it that is copied.
 use Rattle.std.specs.Prelude.{◌≡◌, ◌≤◌, ◌<◌, ◌-◌, ℕ, All, List, length, map, replicate, take}
 use Rattle.std.specs.Prelude.{slice_index_or}
-use Rattle.nit_c.specs.Below.{AreParts, Area, HostModel, IsAreaOf, IsPut, IsSeenBut, NitDamage}
+use Rattle.nit_c.specs.Below.{AreParts, Area, HostModel, IsAreaOf, IsPartPut, IsSeenBut, NitDamage}
 use Rattle.nit_c.specs.Below.{NitPart, Uncopied, area_at, frame_shown, has_any, looked, uncopied}
 use Rattle.nit_host.specs.declared.refusal.Uncopied.TheVariants as uncopied_for
 use Rattle.nit_c.specs.declared.handle.NitServer.{NitServer}
@@ -61,14 +61,14 @@ uncopied_number uncopied_for.WrongFrame = 39
 -- Row r, column c of the part stands at the place r * pitch + c, as the frame has it, and no other
 -- word has changed. Where the part reaches beyond the screen, or its rows have no room, nothing
 -- has.
-abbrev pub IsCopied : HostModel → Area → ℕ → List ℕ → List ℕ → ℕ → Type 0
-IsCopied h a pitch before now answer =
+abbrev pub IsPartCopied : HostModel → Area → ℕ → List ℕ → List ℕ → ℕ → Type 0
+IsPartCopied h a pitch before now answer =
     Unless (uncopied h a pitch (length before))
-    ((answer ≡ 1) × IsPut h.state.config.width a pitch (frame_shown h) before now)
+    ((answer ≡ 1) × IsPartPut h.state.config.width a pitch (frame_shown h) before now)
     (λ why. (now ≡ before) × (answer ≡ uncopied_number why))
 
 -- by a handle, which stays as it is
 abbrev pub IsCopiedBy : NitServer → NitServer → Area → ℕ → List ℕ → List ℕ → ℕ → Type 0
 IsCopiedBy old new a pitch before now answer =
     Steps old new ((now ≡ before) × (answer ≡ 0))
-    (λ h g. (g ≡ h) × IsCopied h a pitch before now answer)
+    (λ h g. (g ≡ h) × IsPartCopied h a pitch before now answer)

@@ -4,7 +4,8 @@ use base.Fml.{Fml, ftrue}
 use base.Stored.{Coded}
 use denote.RattleType.{RattleType}
 use denote.RawPtr.{Ptr, null_ptr}
-use Rattle.nit_c.specs.Below.{Configuration, HostModel, box_owns, first_host, the_row, vacant_state}
+use Rattle.nit_c.specs.Below.{Configuration, HostModel, box_owns, first_host, plain, the_row}
+use Rattle.nit_c.specs.Below.{vacant_state}
 use Rattle.nit_c.specs.HeapToken.{heap_token}
 
 -- ---- what the box holds
@@ -23,7 +24,7 @@ kept_coded = kept_row.coded
 abbrev pub nothing_kept : Kept
 nothing_kept =
     let config : Configuration =
-    record { width = 0; height = 0; bar = false; input = []; clients = [] } in
+    record { width = 0; height = 0; bar = false; lettering = plain; input = []; clients = [] } in
     first_host (vacant_state config) config
 
 -- ---- the handle

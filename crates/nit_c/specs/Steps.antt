@@ -28,7 +28,8 @@ ByServer (Some h) (Some g) none step = step h g
 -- A call by a handle: where that has no server it stays as it is, and this holds; else it has one
 -- afterwards, and that holds of the server before and after.
 abbrev pub Steps : NitServer → NitServer → Type 0 → (HostModel → HostModel → Type 0) → Type 0
-Steps old new none step = ByServer (server_by_handle old) (server_by_handle new) ((new ≡ old) × none) step
+Steps old new none step =
+    ByServer (server_by_handle old) (server_by_handle new) ((new ≡ old) × none) step
 
 -- where nothing refuses, this holds, and else that of what refuses
 abbrev pub Unless : {A : Type 0} → Option A → Type 0 → (A → Type 0) → Type 0

@@ -2,9 +2,10 @@
 pub use Rattle.nit_c.specs.Below.{All, AreParts, Area, Client, Foremost, HostModel, IsAreaOf}
 pub use Rattle.nit_c.specs.Below.{IsConfiguration, IsSeenBut, NitDamage, NitPart, NitReply}
 pub use Rattle.nit_c.specs.Below.{Rearmost, area_at, box_owns, dict, ghosts, has_any, last_text}
-pub use Rattle.nit_c.specs.Below.{list_all, most_comings, range_with_len}
+pub use Rattle.nit_c.specs.Below.{lettered, list_all, most_comings, plain, range_with_len}
 pub use Rattle.nit_c.specs.Clients.{client_name, client_named}
-pub use Rattle.nit_c.specs.Damage.{HasParts, IsCopied, IsCopiedBy, IsDamage, IsDamageBy, IsNoDamage}
+pub use Rattle.nit_c.specs.Damage.{HasParts, IsCopiedBy, IsDamage, IsDamageBy, IsNoDamage}
+pub use Rattle.nit_c.specs.Damage.{IsPartCopied}
 pub use Rattle.nit_c.specs.Damage.{TellsDamage, c_part, no_part, parts_in, uncopied_number}
 pub use Rattle.nit_c.specs.HeapToken.{heap_token}
 pub use Rattle.nit_c.specs.Held.{IsClosed, held_owns, kept_row, live_mark, nothing_kept}
@@ -12,9 +13,10 @@ pub use Rattle.nit_c.specs.Looking.{IsEntry, IsLine, IsLineOrNone, IsLooked, IsL
 pub use Rattle.nit_c.specs.Looking.{IsLookedAnewBy, IsLookedBy, IsRect, only_rect}
 pub use Rattle.nit_c.specs.Numbers.{config_number, mode_number, number_or_none, status_number}
 pub use Rattle.nit_c.specs.Numbers.{unseated_number, unserved_number}
-pub use Rattle.nit_c.specs.Opening.{IsMadeByPlan, IsOpened, IsOpenedBy, IsRead, IsShut, are_seats}
-pub use Rattle.nit_c.specs.Opening.{has_click, have_clicks, plan_number, planned_config}
-pub use Rattle.nit_c.specs.Opening.{refused_words, seat_at, seat_count, seats_in}
+pub use Rattle.nit_c.specs.Opening.{IsConfigLine, IsMadeByPlan, IsOpened, IsOpenedBy, IsRead}
+pub use Rattle.nit_c.specs.Opening.{IsShut, are_seats, c_line, has_click, have_clicks}
+pub use Rattle.nit_c.specs.Opening.{plan_number, planned_config}
+pub use Rattle.nit_c.specs.Opening.{refused_words, screen_plan, seat_at, seat_count, seats_in}
 pub use Rattle.nit_c.specs.Reading.{IsAccountOf, IsSeatStateOf, IsStateOf, c_account, c_seat_state}
 pub use Rattle.nit_c.specs.Reading.{c_state, no_account, no_seat_state, no_state}
 pub use Rattle.nit_c.specs.Replies.{IsCalled, IsRedrawn, IsRefreshed, IsTitled, IsUntitled}

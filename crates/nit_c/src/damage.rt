@@ -1,7 +1,7 @@
 //! What of the screen has changed, and a part of it that is copied.
 
 ghost use Rattle.std.specs.Prelude.{◌≡◌, ◌≤◌};
-ghost use Rattle.nit_c.specs.Terms.{HasParts, IsCopied, IsCopiedBy, IsDamage, IsDamageBy};
+ghost use Rattle.nit_c.specs.Terms.{HasParts, IsPartCopied, IsCopiedBy, IsDamage, IsDamageBy};
 ghost use Rattle.nit_c.specs.Terms.{IsNoDamage, area_at, c_part, uncopied_number};
 
 use crate::handle::NitServer;
@@ -106,7 +106,7 @@ fn uncopied_number(why: Uncopied) -> u32
 
 /// Copies a part of the frame.
 fn copy(host: &Host, place: (u32, u32), size: (u32, u32), out: &mut [u32], pitch: usize) -> u32
-    ensures { IsCopied host.now (area_at place.0 place.1 size.0 size.1) pitch out.old out.new
+    ensures { IsPartCopied host.now (area_at place.0 place.1 size.0 size.1) pitch out.old out.new
         result }
 {
     match host.copy(place, size, out, pitch) {

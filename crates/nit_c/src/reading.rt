@@ -22,7 +22,7 @@ pub struct NitState {
     pub width: u32,
     /// Its height, 1..=4096.
     pub height: u32,
-    /// How many seats there are, 1..=16.
+    /// How many seats there are, 1..=64.
     pub seats: u32,
     /// 0..=2: flat, X-ray, kill.
     pub mode: u32,

@@ -1,6 +1,7 @@
 -- What is known of a table that no refusal applies to: the values that it holds, and that they are in range.
 use Rattle.nit_config.proofs.Basics.{All, All-cons, All-nil, AllByRecursion, AllPairs}
 use Rattle.nit_config.proofs.Basics.{AllPairs-cons, AllZip, Bool, ConfigError, Configuration, Data}
+use Rattle.nit_config.specs.Terms.{Lettering, picture_height, plain}
 use Rattle.nit_config.proofs.Basics.{Err, HoldsClient, HoldsTable, IfOk, IsConfigAnswer}
 use Rattle.nit_config.proofs.Basics.{All-weaker, IsConfiguration, IsConfigurationOf, IsMember}
 use Rattle.nit_config.proofs.Basics.{IsRunConfiguration, IsRunMember, IsUtf8}
@@ -19,7 +20,7 @@ use Rattle.nit_config.proofs.Basics.{option_and_then, or_parts, parse_document, 
 use Rattle.nit_config.proofs.Basics.{screen_table, slice_index, stands_twice, still_configuration}
 use Rattle.nit_config.proofs.Basics.{string, string_at, suc, true}
 use Rattle.std.proofs.Common.{arith, false, length, map, pos, refl, sym, unwrap_or, zero, ℕ, ℤ}
-use Rattle.std.proofs.Common.{◌&&◌, ◌<◌, ◌∙◌, ◌∷◌, ◌≡◌, ◌≢◌, ◌≤◌, ◌⊎◌}
+use Rattle.std.proofs.Common.{◌&&◌, ◌<◌, ◌∙◌, ◌∷◌, ◌≡◌, ◌≢◌, ◌≤◌, ◌⊎◌, if◌then◌else◌}
 use Rattle.nit_config.specs.Ranges.{has_bad_label, has_bad_script, has_bad_size, has_bad_value}
 use Rattle.nit_config.specs.Refusals.{first_refusal, has_bad_range, has_label_twice}
 use Rattle.nit_config.proofs.Elements.{list_any-map}
@@ -204,6 +205,7 @@ table_holds top a =
         width = nat_of (integer_at (codes "width") (pos 0) (screen_table top));
         height = nat_of (integer_at (codes "height") (pos 0) (screen_table top));
         bar = boolean_at (codes "bar") false (screen_table top);
+        lettering = plain;
         input = string_at (codes "script") [] (input_table top);
         clients = clients.0;
       },
@@ -211,6 +213,7 @@ table_holds top a =
         width = number_there _ 1 1024 (omega arith) a.width;
         height = number_there _ 1 768 (omega arith) a.height;
         bar = refl;
+        lettering = refl;
         input = string_there _ _ refl (file_name_length _ (script_is_name (input_table top) a.script));
         clients = clients.1;
       },
@@ -278,6 +281,12 @@ labels_differ (m ∷ ms) none =
     ∙ list_any_at (λ n. bytes_eq m.label n.label) ms k d lt ((bytes_eq-Decides _ _).1 same)))
     (labels_differ ms behind)
 
+-- a bar of plain letters leaves a row below it, where the screen has 8 rows
+bar_leaves : (bar : Bool) (l : Lettering) (height : ℕ) → l ≡ plain → 1 ≤ height → (bar ≡ true → 8 ≤ height)
+    → (if bar then picture_height l else 0) < height
+bar_leaves true l height is some tall = rw is (tall refl)
+bar_leaves false l height is some tall = some
+
 table_within : (top : Members) (c : Configuration) → IsAccepted top → HoldsTable top c → IsRunConfiguration c
 unfolding has_label_twice
 table_within top c a held =
@@ -286,7 +295,10 @@ table_within top c a held =
     record {
       width = inside_held _ 1 1024 c.width held.width a.width;
       height = inside_held _ 1 768 c.height held.height a.height;
-      bar = λ there. bar_fits_held _ _ c.height held.height a.bar (sym held.bar ∙ there);
+      lettering = rw held.lettering (omega arith, omega arith);
+      bar = bar_leaves c.bar c.lettering c.height held.lettering
+          (inside_held _ 1 768 c.height held.height a.height).0
+          (λ there. bar_fits_held _ _ c.height held.height a.bar (sym held.bar ∙ there));
       input = ap is_file_name (sym (string_held _ _ held.input)) ∙ script_is_name _ a.script;
       count = (grind (arith, nat_tests, a.some, count), grind (arith, nat_tests, a.few, count));
       clients = members_within (client_tables top) c.clients held.clients a.values a.labels;
@@ -307,7 +319,8 @@ still_configured width height some few tall short =
     record {
       width = (some, few);
       height = (tall, short);
-      bar = λ there. absurd (false≢true there);
+      lettering = (omega arith, omega arith);
+      bar = tall;
       input = refl;
       count = (omega arith, omega arith);
       clients = All-cons IsRunMember _ []
@@ -330,9 +343,10 @@ pub run_configured : (c : Configuration) → IsRunConfiguration c → IsConfigur
 run_configured c is = record {
   width = (is.width.0, omega (arith, is.width.1));
   height = (is.height.0, omega (arith, is.height.1));
+  lettering = is.lettering;
   bar = is.bar;
   input = is.input;
-  count = is.count;
+  count = (is.count.0, omega (arith, is.count.1));
   clients = All-weaker IsRunMember IsMember run_member c.clients is.clients;
   labels = is.labels;
 }

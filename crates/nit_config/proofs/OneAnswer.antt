@@ -25,9 +25,17 @@ same_values top a b p q =
     let width : a.width ≡ b.width = cc in
     let height : a.height ≡ b.height = cc in
     let bar : a.bar ≡ b.bar = cc in
+    let lettering : a.lettering ≡ b.lettering = p.lettering ∙ sym q.lettering in
     let input : a.input ≡ b.input = cc in
     let clients = same_members _ a.clients b.clients p.clients q.clients in
-    λ i. record { width = width i; height = height i; bar = bar i; input = input i; clients = clients i }
+    λ i. record {
+      width = width i;
+      height = height i;
+      bar = bar i;
+      lettering = lettering i;
+      input = input i;
+      clients = clients i;
+    }
 
 same_top : (bytes : List ℕ) (a b : Members) → ReadsTable bytes a → ReadsTable bytes b → a ≡ b
 same_top bytes a b p q = same_Some a b (sym p.table ∙ q.table)

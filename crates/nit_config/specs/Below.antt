@@ -10,10 +10,12 @@ pub use Rattle.nit_config.specs.declared.keys.TablePlace.{TablePlace}
 pub use Rattle.nit_config.specs.declared.keys.TablePlace.TheVariants.{Client, Input, Screen, Top}
 pub use Rattle.nit_config.specs.declared.refusals.KeyFault.{KeyFault}
 pub use Rattle.nit_config.specs.declared.refusals.KeyFault.TheVariants.{Lacking, OtherKind}
+pub use Rattle.nit_glyph.specs.Lettering.{IsLettering, picture_height, plain}
 pub use Rattle.nit_glyph.specs.Texts.{is_label}
+pub use Rattle.nit_glyph.specs.declared.lettering.Lettering.{Lettering}
 pub use Rattle.nit_rect.specs.Limits.{first_printable, last_printable, least_units, most_height}
-pub use Rattle.nit_rect.specs.Limits.{most_run_height, most_run_units, most_run_width}
-pub use Rattle.nit_rect.specs.Limits.{most_sessions, most_units, most_width}
+pub use Rattle.nit_rect.specs.Limits.{most_run_height, most_run_sessions, most_run_units}
+pub use Rattle.nit_rect.specs.Limits.{most_run_width, most_sessions, most_units, most_width}
 pub use Rattle.std.specs.BTreeMap.{keys}
 pub use Rattle.std.specs.List.{AllByRecursion, AllZip, list_all, list_any}
 pub use Rattle.std.specs.Map.{keys_of}

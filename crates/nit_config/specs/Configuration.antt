@@ -1,15 +1,17 @@
 -- A configuration, as a value.
 use Rattle.std.specs.Prelude.{ℕ, Bool, true, false, ◌&&◌, nat_le, List, [], ◌∷◌, length}
 use Rattle.std.specs.Prelude.{slice_index_or, codes, if◌then◌else◌}
-use Rattle.nit_config.specs.Below.{first_printable, last_printable, list_all, most_run_units}
+use Rattle.nit_config.specs.Below.{Lettering, first_printable, last_printable, list_all}
+use Rattle.nit_config.specs.Below.{most_run_units, picture_height, plain}
 use Rattle.nit_config.specs.declared.config.Member.{Member}
 
--- the screen's size, whether it has a status bar, the name of the input script, and the clients in
--- order
+-- the screen's size, whether it has a status bar, how texts are drawn there, the name of the input
+-- script, and the clients in order
 pub record Configuration : Type 0 where
   pub width : ℕ
   pub height : ℕ
   pub bar : Bool
+  pub lettering : Lettering
   pub input : List ℕ
   pub clients : List Member
 
@@ -23,9 +25,13 @@ is_file_name text =
     nat_le 1 (length text) && nat_le (length text) most_file_name
     && list_all (λ b. nat_le first_printable b && nat_le b last_printable) text
 
--- the rows of the status bar
+-- the rows of the status bar, which are those of the picture of a text
 abbrev pub bar_rows : Configuration → ℕ
-bar_rows config = if config.bar then 7 else 0
+bar_rows config = if config.bar then picture_height config.lettering else 0
+
+-- the configuration, with texts drawn so
+abbrev pub lettered : Lettering → Configuration → Configuration
+lettered l config = record config { lettering = l }
 
 -- the client of a session; one without a donation where there is none
 abbrev pub member : Configuration → ℕ → Member
@@ -44,6 +50,7 @@ still_configuration width height =
       width = width;
       height = height;
       bar = false;
+      lettering = plain;
       input = codes "still";
       clients = record {
         label = codes "still";

@@ -1,7 +1,8 @@
 -- The configuration that a text is, and the refusal that it meets.
-use Rattle.std.specs.Prelude.{◌≡◌, ℕ, pos, false, List, codes, Some, None, bytes_eq, Result, Ok}
+use Rattle.std.specs.Prelude.{◌≡◌, ◌==◌, ◌≤◌, ◌+◌, ℕ, pos, false, List, codes, Option, Some, None, bytes_eq}
+use Rattle.std.specs.Prelude.{Result, Ok, count_by}
 use Rattle.nit_config.specs.Below.{AllZip, ConfigError, Err, Members, NoMemory, Syntax, get_member}
-use Rattle.nit_config.specs.Below.{integer, string}
+use Rattle.nit_config.specs.Below.{integer, plain, string}
 use Rattle.nit_config.specs.declared.config.Member.{Member}
 use Rattle.nit_config.specs.Configuration.{Configuration}
 use Rattle.nit_config.specs.Tree.{ReadsTable, integer_at, string_at, boolean_at, screen_table}
@@ -19,11 +20,12 @@ pub record HoldsClient (client : Members) (m : Member) : Type 0 where
       ≡ bytes_eq (string_at (codes "focus") (codes "click") client) (codes "click")
 
 -- the configuration holds the values of a table, its clients one by one, with no bar where that key
--- is not there
+-- is not there; its texts are drawn plainly
 pub record HoldsTable (top : Members) (config : Configuration) : Type 0 where
   pub width : get_member (codes "width") (screen_table top) ≡ Some (integer (pos config.width))
   pub height : get_member (codes "height") (screen_table top) ≡ Some (integer (pos config.height))
   pub bar : config.bar ≡ boolean_at (codes "bar") false (screen_table top)
+  pub lettering : config.lettering ≡ plain
   pub input : get_member (codes "script") (input_table top) ≡ Some (string config.input)
   pub clients : AllZip HoldsClient (client_tables top) config.clients
 
@@ -61,3 +63,12 @@ abbrev pub IsConfigAnswer : List ℕ → Result Configuration ConfigError → Ty
 IsConfigAnswer bytes (Ok config) = IsConfigurationOf bytes config
 IsConfigAnswer bytes (Err NoMemory) = Unit {0}
 IsConfigAnswer bytes (Err error) = MeetsRefusal bytes error
+
+-- a text has one line more than line feeds
+abbrev pub line_count : List ℕ → ℕ
+line_count bytes = count_by (λ c. c == 10) bytes + 1
+
+-- `toml` reads the bytes as a table; or as none, and this is one of their lines, counted from 1
+abbrev pub IsFaultLine : List ℕ → Option ℕ → Type 0
+IsFaultLine bytes None = (top : Members) × ReadsTable bytes top
+IsFaultLine bytes (Some line) = HasNoTable bytes × (1 ≤ line) × (line ≤ line_count bytes)

@@ -1,7 +1,7 @@
 -- The refusals of a table, in their order over the whole file.
 use Rattle.std.specs.Prelude.{ℕ, Bool, false, ◌||◌, if◌then◌else◌, nat_lt, List, [], ◌∷◌, length}
 use Rattle.nit_config.specs.Below.{ConfigError, KeyFault, Lacking, Members, None, Option, OtherKind}
-use Rattle.nit_config.specs.Below.{Some, bytes_eq, list_any, map, most_sessions}
+use Rattle.nit_config.specs.Below.{Some, bytes_eq, list_any, map, most_run_sessions}
 use Rattle.nit_config.specs.declared.error.ConfigError.TheVariants as refused
 use Rattle.nit_config.specs.declared.refusals.KeyFault.TheVariants.{Unknown}
 use Rattle.nit_config.specs.Keys.{KeyRow, top_rows, screen_rows, input_rows, client_rows}
@@ -51,7 +51,7 @@ refusals top =
     ∷ (is_somewhere Lacking top, refused.Missing)
     ∷ (nat_lt (length (elements_of top)) 1, refused.Missing)
     ∷ (is_somewhere Unknown top, refused.Unknown)
-    ∷ (nat_lt most_sessions (length (elements_of top)), refused.TooMany)
+    ∷ (nat_lt most_run_sessions (length (elements_of top)), refused.TooMany)
     ∷ (has_bad_range top, refused.Range)
     ∷ (list_any has_bad_label (client_tables top), refused.Label)
     ∷ (has_label_twice top, refused.Twice)

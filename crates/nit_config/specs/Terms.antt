@@ -1,7 +1,7 @@
 -- The words that clauses use: those that come from outside, and those of this crate.
 pub use Rattle.nit_config.specs.Below.{AllByRecursion, AllZip, ConfigError, Data, Err, IfOk, IsUtf8}
 pub use Rattle.nit_config.specs.Below.{TableKey, Kind, Label, Members, Missing, NoMemory, None}
-pub use Rattle.nit_config.specs.Below.{Option}
+pub use Rattle.nit_config.specs.Below.{IsLettering, Lettering, Option, picture_height, plain}
 pub use Rattle.nit_config.specs.Below.{Range, Some, Syntax, TooMany, Twice, Unknown, Value, array}
 pub use Rattle.nit_config.specs.Below.{as_integer, as_str, as_table, boolean, bytes_eq, datetime}
 pub use Rattle.nit_config.specs.Below.{first_printable, float, get_member, int_lt, integer}
@@ -16,7 +16,8 @@ pub use Rattle.nit_config.specs.ConfigurationRanges.{IsMemberWithin, IsRunConfig
 pub use Rattle.nit_config.specs.ConfigurationRanges.{IsRunMember}
 pub use Rattle.nit_config.specs.ConfigurationText.{HasNoTable, HasRefusedTable, HoldsClient}
 pub use Rattle.nit_config.specs.ConfigurationText.{HoldsTable, IsConfigAnswer, IsConfigurationOf}
-pub use Rattle.nit_config.specs.ConfigurationText.{MeetsRefusal, UnlessMemory}
+pub use Rattle.nit_config.specs.ConfigurationText.{IsFaultLine, MeetsRefusal, UnlessMemory}
+pub use Rattle.nit_config.specs.ConfigurationText.{line_count}
 pub use Rattle.nit_config.specs.Keys.{KeyRow, client_rows, has_other_kind, has_unknown_key}
 pub use Rattle.nit_config.specs.Keys.{is_known_key, is_lacking, is_of_kind, is_of_other_kind}
 pub use Rattle.nit_config.specs.Keys.{lacks_key, place_rows, row_of, rows_of}

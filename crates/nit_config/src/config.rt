@@ -27,12 +27,14 @@ pub struct Config {
     pub bar: bool,
     /// The input script.
     pub input: FileName,
-    /// The clients, 1 to 16 of them; session s is the client at place s, counted from 0.
+    /// The clients, 1 to 64 of them, of a run at most 16; session s is the client at place s,
+    /// counted from 0.
     pub clients: Vec<Member>,
 }
 
 impl Model for Config {
     ghost use Rattle.nit_config.specs.Configuration.{Configuration};
+    ghost use Rattle.nit_glyph.specs.Lettering.{plain};
 
     ghost Value = { Configuration };
 
@@ -40,6 +42,7 @@ impl Model for Config {
       width = c.width;
       height = c.height;
       bar = c.bar;
+      lettering = plain;
       input = c.input;
       clients = c.clients.items;
     } };

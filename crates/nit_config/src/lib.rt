@@ -33,6 +33,7 @@
 mod build;
 mod config;
 mod error;
+mod fault;
 mod keys;
 mod laws;
 mod name;
@@ -43,6 +44,7 @@ mod tree;
 
 pub use config::{Config, Member};
 pub use error::ConfigError;
+pub use fault::fault_line;
 pub use laws::{
     configuration_is_one, each_text_is_judged, refusal_is_one, run_is_configured,
     still_is_configured,

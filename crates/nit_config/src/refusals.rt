@@ -11,7 +11,7 @@ use crate::error::ConfigError;
 use crate::keys::{TablePlace, has_other_kind, has_unknown_key, lacks_key};
 use crate::ranges::{has_bad_label, has_bad_script, has_bad_size, has_bad_value, label_of};
 use crate::tree::{elements_of, table_at, table_of};
-use nit_rect::MOST_SESSIONS;
+use nit_rect::MOST_RUN_SESSIONS;
 use toml::{Table, Value};
 
 /// What a table may have wrong by its keys.
@@ -154,7 +154,7 @@ pub(crate) fn refusal(top: &Table, empty: &Table) -> Option<ConfigError>
     if is_somewhere(KeyFault::Unknown, top, empty) {
         return Some(ConfigError::Unknown);
     }
-    if MOST_SESSIONS < count(top) {
+    if MOST_RUN_SESSIONS < count(top) {
         return Some(ConfigError::TooMany);
     }
     if has_bad_range(top, empty) {

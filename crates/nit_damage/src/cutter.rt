@@ -36,7 +36,7 @@ impl Model for Cutter {
 }
 
 impl Cutter {
-    /// A cutter with room for stacks of at most this many views, 0..=1024. Nothing is to come.
+    /// A cutter with room for stacks of at most this many views, 0..=4096. Nothing is to come.
     pub fn with_room(alloc: Global, views: u32) -> Result<Cutter, NoMemory>
         requires { views ≤ most_slots }
         ensures room { IfOk result (λ c. c.room ≡ views) }

@@ -1,5 +1,6 @@
 -- The words of the library and of the crates below that are used here, and the crate's plain types.
-pub use Rattle.nit_config.specs.Configuration.{Configuration, bar_rows, donation_of, member}
+pub use Rattle.nit_config.specs.Configuration.{Configuration, bar_rows, donation_of, lettered}
+pub use Rattle.nit_config.specs.Configuration.{member}
 pub use Rattle.nit_config.specs.ConfigurationRanges.{IsConfiguration}
 pub use Rattle.nit_config.specs.declared.config.Member.{Member}
 pub use Rattle.nit_events.specs.Input.{deliveries_of, first_input, routed_as}
@@ -13,6 +14,7 @@ pub use Rattle.nit_events.specs.declared.device.Device.{Device}
 pub use Rattle.nit_events.specs.declared.entry.Entry.{Entry}
 pub use Rattle.nit_events.specs.declared.event.Delivery.{Delivery}
 pub use Rattle.nit_events.specs.declared.event.Routed.{Routed}
+pub use Rattle.nit_glyph.specs.Lettering.{most_picture_height}
 pub use Rattle.nit_journal.specs.Deliveries.{IsLive, kills}
 pub use Rattle.nit_journal.specs.Live.{AreLive}
 pub use Rattle.nit_journal.specs.Replay.{Agrees}

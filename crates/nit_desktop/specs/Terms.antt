@@ -9,6 +9,7 @@ pub use Rattle.nit_desktop.specs.Below.{ServerModel, Session, ShowsLabels, Sight
 pub use Rattle.nit_desktop.specs.Below.{Title, Upgrade, View, accepted, after, bar_rows, bare_word}
 pub use Rattle.nit_desktop.specs.Below.{by_refusal, deliveries_of, dirty, donation_of, ended}
 pub use Rattle.nit_desktop.specs.Below.{first_input, first_session, first_state, in_bar}
+pub use Rattle.nit_desktop.specs.Below.{lettered, most_picture_height}
 pub use Rattle.nit_desktop.specs.Below.{input_after_call, is_accepted, is_session, kills, layer}
 pub use Rattle.nit_desktop.specs.Below.{member, opened, option_map_or, owner_of, pixel}
 pub use Rattle.nit_desktop.specs.Below.{pixel_count, refusal}

@@ -1,12 +1,13 @@
 -- What lemmas use: the words of clauses, the library's lemmas, and those of the crates below.
 pub use Rattle.arrayvec.proofs.ArrayVecLemmas.{filter-from_retain}
 pub use Rattle.nit_events.proofs.ForCallers.{either}
-pub use Rattle.nit_focus.specs.Terms.{All, AllByRecursion, AllOfInput, Delivery, Device, Event}
-pub use Rattle.nit_focus.specs.Terms.{Flat, FocusModel, HasForgotten, IfSome, InputState, IsDevice}
-pub use Rattle.nit_focus.specs.Terms.{IsFocus, IsForgottenIfKilled, AreHeldCodes, IsItem, IsWithinReach}
-pub use Rattle.nit_focus.specs.Terms.{Item, Kill, Mode, Routing, Xray, clicks_on_list}
-pub use Rattle.nit_focus.specs.Terms.{deliveries_of, eqb, list_any, nat_eq_equiv, outcome}
-pub use Rattle.nit_focus.specs.Terms.{pointer_after, routing_at, with_pointer}
+pub use Rattle.nit_focus.specs.Terms.{All, AllByRecursion, AllOfInput, AreHeldCodes, Delivery}
+pub use Rattle.nit_focus.specs.Terms.{Device, Event, Flat, FocusModel, HasForgotten, IfSome}
+pub use Rattle.nit_focus.specs.Terms.{InputState, IsDevice, IsFocus, IsForgottenIfKilled, IsItem}
+pub use Rattle.nit_focus.specs.Terms.{IsWithinReach, Item, Kill, Mode, Routing, Xray}
+pub use Rattle.nit_focus.specs.Terms.{clicks_on_list, deliveries_of, eqb, list_any, most_sessions}
+pub use Rattle.nit_focus.specs.Terms.{nat_eq_equiv, outcome, pointer_after, routing_at}
+pub use Rattle.nit_focus.specs.Terms.{with_pointer}
 pub use Rattle.std.proofs.Common.{lit<}
 pub use Rattle.std.proofs.lemmas.Bool.{eqb-true}
 pub use Rattle.std.proofs.lemmas.Bool.Decides.{nat_tests}

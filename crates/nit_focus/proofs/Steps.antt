@@ -3,7 +3,8 @@ use Rattle.nit_focus.proofs.Basics.{All, All-append, All-cons, All-nil, All-weak
 use Rattle.nit_focus.proofs.Basics.{Delivery, Device, Event, Flat, FocusModel, HasForgotten, IfSome}
 use Rattle.nit_focus.proofs.Basics.{InputState, IsDevice, IsFocus, IsForgottenIfKilled, IsItem}
 use Rattle.nit_focus.proofs.Basics.{IsWithinReach, Item, Kill, Mode, Routing, Xray, clicks_on_list}
-use Rattle.nit_focus.proofs.Basics.{either, nat_tests, pointer_after, routing_at, with_pointer}
+use Rattle.nit_focus.proofs.Basics.{either, most_sessions, nat_tests, pointer_after, routing_at}
+use Rattle.nit_focus.proofs.Basics.{with_pointer}
 use Rattle.std.proofs.Common.{Bool, List, None, Option, Some, [], arith, false, filter}
 use Rattle.std.proofs.Common.{if◌then◌else◌, inl, inr, not, refl, true, ℕ, ◌&&◌, ◌++◌, ◌<◌, ◌==◌}
 use Rattle.std.proofs.Common.{◌∷◌, ◌≡◌, ◌≢◌}
@@ -210,7 +211,7 @@ module _ (P : ℕ → Type 0) (Q : Item → Type 0) (notices : AllOfNotices Q) w
 pub record IsRouted (f : FocusModel) (pointed : Option ℕ) (r : Routing) : Type 0 where
   pub focusing : IsFocus (record f { input = r.state })
   pub reached : All (λ d. IsWithinReach f.input pointed d.sid) r.deliveries
-  pub sessions : All (λ d. d.sid < 16) r.deliveries
+  pub sessions : All (λ d. d.sid < most_sessions) r.deliveries
   pub ranges : All (λ d. IsItem f.width f.height d.item) r.deliveries
   pub kept : AllOfInput (IsWithinReach f.input pointed) r.state
   pub forgotten : All (λ d. IsForgottenIfKilled r.state d.sid d.item) r.deliveries
@@ -246,14 +247,14 @@ within_reach i pointed = record {
 }
 
 -- one device event, whole
-pub routed : (f : FocusModel) (pointed : Option ℕ) (dev : Device) → IsFocus f → IfSome pointed (λ s. s < 16)
+pub routed : (f : FocusModel) (pointed : Option ℕ) (dev : Device) → IsFocus f → IfSome pointed (λ s. s < most_sessions)
     → IsDevice dev → IsRouted f pointed (routing_at f pointed dev)
 routed f pointed dev h known device =
     let i : InputState = with_pointer f dev in
     let r : Routing = routing_at f pointed dev in
     let place : (i.x < f.width) × (i.y < f.height) = within f dev h in
     let in_screen : Item → Type 0 = IsItem f.width f.height in
-    let below : ℕ → Type 0 = (λ s. s < 16) in
+    let below : ℕ → Type 0 = (λ s. s < most_sessions) in
     let reach : ℕ → Type 0 = IsWithinReach f.input pointed in
     let any : Item → Type 0 = (λ _. Unit {0}) in
     let all : AllOfNotices any = record { leave = tt; focus_enter = tt; focus_leave = tt; kill = tt } in
@@ -271,7 +272,7 @@ routed f pointed dev h known device =
     record {
       focusing = assumption (column, row, step.sessions, h);
       reached = All-weaker (IsDelivery reach any r.state) (λ d. reach d.sid) (λ d t. t.session) _ reaching.told;
-      sessions = All-weaker Told (λ d. d.sid < 16) (λ d t. t.session) r.deliveries step.told;
+      sessions = All-weaker Told (λ d. d.sid < most_sessions) (λ d t. t.session) r.deliveries step.told;
       ranges = All-weaker Told (λ d. in_screen d.item) (λ d t. t.item) r.deliveries step.told;
       kept = reaching.sessions;
       forgotten = All-weaker Told _ (λ d t. t.forgotten) r.deliveries step.told;

@@ -4,7 +4,7 @@ use Rattle.std.specs.Prelude.{slice_index_or, Option, Some, None, IfSome}
 use Rattle.nit_focus.specs.Below.{Device, InputState, Point, Routing, first_input, most_height}
 use Rattle.nit_focus.specs.Below.{most_sessions, most_width, pointer_after, routing}
 
--- the state of the user's input; the screen's size; and for each of 16 sessions whether a click on
+-- the state of the user's input; the screen's size; and for each of 64 sessions whether a click on
 -- it moves the focus
 pub record FocusModel : Type 0 where
   pub input : InputState
@@ -46,7 +46,7 @@ pub record AllOfInput (P : ℕ → Type 0) (i : InputState) : Type 0 where
   pub hover : IfSome i.hover P
   pub focus : IfSome i.focus P
 
--- the screen has a size that is allowed, the pointer is on it, and each session is one of 16
+-- the screen has a size that is allowed, the pointer is on it, and each session is one of 64
 pub record IsFocus (f : FocusModel) : Type 0 where
   pub narrowest : 1 ≤ f.width
   pub widest : f.width ≤ most_width

@@ -11,7 +11,7 @@ use nit_rect::{MOST_SESSIONS, Point};
 use std::marker::Model;
 
 /// Where the user's input goes. It is seen as the state of the input beside the screen's size and,
-/// for each of 16 sessions, whether a click on it moves the focus.
+/// for each of 64 sessions, whether a click on it moves the focus.
 #[derive(Drop)]
 pub struct Focus {
     width: u16,
@@ -54,7 +54,7 @@ impl Focus {
         }
     }
 
-    /// From now on a click on this session, which is below 16, does not move the focus.
+    /// From now on a click on this session, which is below 64, does not move the focus.
     pub fn no_click(&mut self, sid: u32)
         requires { sid < most_sessions }
         ensures { self.new ≡ record self.old { clicks = slice_set self.old.clicks sid false } }
@@ -75,7 +75,7 @@ impl Focus {
     }
 
     /// One device event, whole: its codes are at most 767, and a wheel turns by -127..=127.
-    /// `pointed` is the session that owns the pixel at [`Focus::clamp`], below 16, or none.
+    /// `pointed` is the session that owns the pixel at [`Focus::clamp`], below 64, or none.
     ///
     /// The deliveries stand in their order, at most three, and go to sessions that were receiver,
     /// hovered or focused, or are pointed. Who is one of the three afterwards is among these too,
@@ -134,7 +134,7 @@ impl Focus {
         self.state.held()
     }
 
-    /// The session that gets what is pressed and released while a code is held, below 16; none
+    /// The session that gets what is pressed and released while a code is held, below 64; none
     /// where no session does.
     pub fn receiver(&self) -> Option<u32>
         ensures received { result ≡ self.now.input.receiver }
@@ -143,7 +143,7 @@ impl Focus {
         self.state.receiver()
     }
 
-    /// The session that the pointer was last told to, below 16; none where it is over no session.
+    /// The session that the pointer was last told to, below 64; none where it is over no session.
     pub fn hover(&self) -> Option<u32>
         ensures hovered { result ≡ self.now.input.hover }
         ensures known { IfSome result (λ s. s < most_sessions) }
@@ -151,7 +151,7 @@ impl Focus {
         self.state.hover()
     }
 
-    /// The focused session, below 16; none where no session has the focus.
+    /// The focused session, below 64; none where no session has the focus.
     pub fn focus(&self) -> Option<u32>
         ensures focused { result ≡ self.now.input.focus }
         ensures known { IfSome result (λ s. s < most_sessions) }

@@ -17,7 +17,7 @@
 //!   pointed session out, and the mode is `Flat` again.
 //! - A session that is killed or closed is forgotten: it gets nothing more.
 //!
-//! Codes are at most 767, sessions are below 16, and no call takes memory.
+//! Codes are at most 767, sessions are below 64, and no call takes memory.
 //!
 //! The tests are in `nit_top_tests`.
 #![tactic(auto)]

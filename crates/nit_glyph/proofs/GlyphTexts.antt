@@ -1,7 +1,8 @@
 -- Which texts are texts of the glyphs.
 use Rattle.std.proofs.Common.{Bool, List, Option, Some, [], arith, not, refl, true, ℕ, ◌++◌, ◌<◌}
 use Rattle.std.proofs.Common.{◌||◌, ◌∙◌, ◌∷◌, ◌≡◌}
-use Rattle.nit_glyph.proofs.Basics.{IfSome, IsOfGlyphs, IsTrue, None, agree_below_at, and_from}
+use Rattle.nit_glyph.proofs.Basics.{IfSome, IsOfGlyphs, IsTrue, None, Small, agree_below_at}
+use Rattle.nit_glyph.proofs.Basics.{and_from}
 use Rattle.nit_glyph.proofs.Basics.{and_parts, bar_text_of, codes, is_label, is_label_byte, is_some}
 use Rattle.nit_glyph.proofs.Basics.{is_title, is_title_byte, label_text_of, list_all-append}
 use Rattle.nit_glyph.proofs.Basics.{nat_tests, or_left}
@@ -10,7 +11,7 @@ use Rattle.nit_glyph.proofs.BoolLemmas.{implies, list_all_weaker}
 
 -- whether a character has a glyph
 abbrev has_glyph : ℕ → Bool
-has_glyph c = is_some (glyph_rows c)
+has_glyph c = is_some (glyph_rows Small c)
 
 -- each byte of a title has a glyph: at each byte below 128, by computing
 title_byte_passes : (c : ℕ) → c < 128 → (not (is_title_byte c) || has_glyph c) ≡ true

@@ -1,4 +1,5 @@
 pub mod Glyphs
+pub mod Lettering
 pub mod Padded
 pub mod Pictures
 pub mod Texts

@@ -11,7 +11,7 @@ pub use Rattle.nit_clip.specs.declared.call.ClipEntry.{ClipEntry}
 pub use Rattle.nit_clip.specs.declared.call.ClipReply.{ClipReply}
 pub use Rattle.nit_clip.specs.declared.line.ClipLine.{ClipLine}
 pub use Rattle.nit_config.specs.Configuration.{Configuration, donation_of}
-pub use Rattle.nit_config.specs.ConfigurationRanges.{IsConfiguration}
+pub use Rattle.nit_config.specs.ConfigurationRanges.{IsRunConfiguration}
 pub use Rattle.nit_config.specs.declared.config.Member.{Member}
 pub use Rattle.nit_events.specs.Input.{deliveries_of, routed_as}
 pub use Rattle.nit_events.specs.Ranges.{IsDevice}
@@ -44,7 +44,7 @@ pub use Rattle.nit_plan.specs.ScriptWords.{Painting, after_line, blank, painted_
 pub use Rattle.nit_plan.specs.ScriptWords.{stages_within, table_size, words_after, words_left}
 pub use Rattle.nit_plan.specs.SessionLists.{plan_in, script_in}
 pub use Rattle.nit_plan.specs.Surface.{IsPaintedTo}
-pub use Rattle.nit_rect.specs.Limits.{most_height, most_sessions, most_width}
+pub use Rattle.nit_rect.specs.Limits.{most_height, most_run_sessions, most_width}
 pub use Rattle.nit_rect.specs.declared.point.Point.{Point}
 pub use Rattle.nit_scene.specs.DirtyPixels.{dirty}
 pub use Rattle.nit_scene.specs.RawWords.{Painted, pixel_count, source_at}

@@ -1,8 +1,8 @@
 -- What a room is opened with, and what it and its passes are then.
 use Rattle.std.specs.Prelude.{◌≡◌, ℕ, ◌+◌, ◌*◌, ◌<◌, List, [], length, map, replicate}
-use Rattle.nit_hall.specs.Below.{BookName, BufferName, Configuration, End, InputLine}
-use Rattle.nit_hall.specs.Below.{IsConfiguration, IsPlanOf, Line, PlanModel, Some, bare_word}
-use Rattle.nit_hall.specs.Below.{donation_of, new_sight, plan_in, script_in, slice_get, with_stages}
+use Rattle.nit_hall.specs.Below.{BookName, BufferName, Configuration, End, InputLine, IsPlanOf}
+use Rattle.nit_hall.specs.Below.{IsRunConfiguration, Line, PlanModel, Some, bare_word, donation_of}
+use Rattle.nit_hall.specs.Below.{new_sight, plan_in, script_in, slice_get, with_stages}
 use Rattle.nit_hall.specs.OpeningParts.{OpeningParts}
 use Rattle.nit_hall.specs.ServedLines.{lines_of_all}
 use Rattle.nit_hall.specs.Stretch.{stretch, watching_sight}
@@ -51,7 +51,7 @@ pub record AreBegun (config : Configuration) (scripts : List (List Line)) (canva
 -- the configuration, a setting of it, and a canvas for each client that agrees on its first stretch
 pub record CanOpen (config : Configuration) (scripts : List (List Line)) (plans : List PlanModel)
     (canvases : List End) : Type 0 where
-  pub config_is : IsConfiguration config
+  pub config_is : IsRunConfiguration config
   pub setting : IsSetting config scripts plans
   pub canvases_are : AreBegun config scripts canvases
 

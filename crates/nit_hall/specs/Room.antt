@@ -4,7 +4,7 @@ use Rattle.std.specs.Prelude.{[], ◌∷◌, ◌++◌, nat_lt, length, map, sum,
 use Rattle.nit_hall.specs.Below.{ClipEntry, ClipModel, ClipReply, Colours, Configuration, End}
 use Rattle.nit_hall.specs.Below.{Entry, Ink, InputLine, IsLegal, IsNonDecreasing, IsOpen, Line}
 use Rattle.nit_hall.specs.Below.{SceneModel, Sight, Standing, calls_in, calls_of, calls_to_make}
-use Rattle.nit_hall.specs.Below.{donation_of, glass_in, is_input_phase, is_phase, most_sessions}
+use Rattle.nit_hall.specs.Below.{donation_of, glass_in, is_input_phase, is_phase, most_run_sessions}
 use Rattle.nit_hall.specs.Below.{phases_along, raised, script_in, script_ink, state_now}
 use Rattle.nit_hall.specs.Below.{user_actions_of, user_actions_to_do, with_stages}
 use Rattle.nit_events.specs.declared.entry.Entry.TheVariants as entry
@@ -191,7 +191,7 @@ pub record IsRoom (r : RoomModel) : Type 0 where
   pub config : r.scene.config ≡ r.parts.config
   pub legal : IsLegal r.parts.config r.scene.entries
   pub sessions : length r.parts.scripts ≡ length r.parts.config.clients
-  pub clients : length r.parts.scripts ≤ most_sessions
+  pub clients : length r.parts.scripts ≤ most_run_sessions
   pub follows : Follows r.parts.scripts r.parts.input r.counts r.phase
       (without_final r.scene.entries)
   pub phases : IsServedPhase r.phase r.arrived

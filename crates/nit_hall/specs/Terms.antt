@@ -1,12 +1,12 @@
 -- The words that clauses use: those that come from outside, and those of this crate.
 pub use Rattle.nit_hall.specs.Agreeing.{CanAgree}
-pub use Rattle.nit_hall.specs.Below.{AllByRecursion, AreListedGlasses, AreInPhases, Bare, Black}
+pub use Rattle.nit_hall.specs.Below.{AllByRecursion, AreInPhases, AreListedGlasses, Bare, Black}
 pub use Rattle.nit_hall.specs.Below.{BookModel, BufferName, Call, CanAdd, ClipCall, ClipEntry}
 pub use Rattle.nit_hall.specs.Below.{ClipLine, ClipModel, ClipReply, Colours, Configuration, Device}
 pub use Rattle.nit_hall.specs.Below.{End, Entry, FitsDevice, HasStage, InputLine, IsAdded, IsAmong}
-pub use Rattle.nit_hall.specs.Below.{IsConfiguration, IsDevice, IsDonation, IsGlass, IsInPhase}
-pub use Rattle.nit_hall.specs.Below.{IsLegal, IsLegalClips, IsLoaded, IsNonDecreasing, IsOpen}
-pub use Rattle.nit_hall.specs.Below.{IsPaintedTo, IsThere, IsWhole, IsWholeClips, IsWord}
+pub use Rattle.nit_hall.specs.Below.{IsDevice, IsDonation, IsGlass, IsInPhase, IsLegal}
+pub use Rattle.nit_hall.specs.Below.{IsLegalClips, IsLoaded, IsNonDecreasing, IsOpen, IsPaintedTo}
+pub use Rattle.nit_hall.specs.Below.{IsRunConfiguration, IsThere, IsWhole, IsWholeClips, IsWord}
 pub use Rattle.nit_hall.specs.Below.{IsWordOfSource, LegalFrom, Line, List, Member, None, Painted}
 pub use Rattle.nit_hall.specs.Below.{Painting, PixelSource, Point, Recorded, Reply, Routed}
 pub use Rattle.nit_hall.specs.Below.{SceneModel, ShareModel, Sight, Size, Some, Standing, State}
@@ -19,7 +19,7 @@ pub use Rattle.nit_hall.specs.Below.{donation_of, done, entries_in, first_sessio
 pub use Rattle.nit_hall.specs.Below.{frame, glass_in, glasses_of_call, into_iter_items, is_accepted}
 pub use Rattle.nit_hall.specs.Below.{is_clip_phase, is_input_phase, is_phase, kills, left_after}
 pub use Rattle.nit_hall.specs.Below.{length, most_clips, most_entries, most_height, most_lines}
-pub use Rattle.nit_hall.specs.Below.{most_sessions, most_shares, most_width, negsuc, new_sight}
+pub use Rattle.nit_hall.specs.Below.{most_run_sessions, most_shares, most_width, negsuc, new_sight}
 pub use Rattle.nit_hall.specs.Below.{next_phase, no_sight, owner_of, painted_from, phases_along}
 pub use Rattle.nit_hall.specs.Below.{pixel, pixel_count, pos, raised, raws_in, replay, replicate}
 pub use Rattle.nit_hall.specs.Below.{route, routed_as, scenery_of, script_in, script_ink, seen}
@@ -40,7 +40,8 @@ pub use Rattle.nit_hall.specs.Meeting.{ClipHasMet, HasMet, UserHasMet}
 pub use Rattle.nit_hall.specs.NearWords.{AreNear, IsLastDirtied, IsNear, IsNearBy, IsNearFrame}
 pub use Rattle.nit_hall.specs.NearWords.{IsWordOfScripts, MayHaveDone, is_dirtied, phase_of_entry}
 pub use Rattle.nit_hall.specs.NearWords.{words_at_call}
-pub use Rattle.nit_hall.specs.Opening.{AreAgreed, AreBegun, AreBlank, AreSplitOff, CanOpen, IsFirstPass}
+pub use Rattle.nit_hall.specs.Opening.{AreAgreed, AreBegun, AreBlank, AreSplitOff, CanOpen}
+pub use Rattle.nit_hall.specs.Opening.{IsFirstPass}
 pub use Rattle.nit_hall.specs.Opening.{IsOpening, IsSetting, buffers_of, first_pass, parts_of}
 pub use Rattle.nit_hall.specs.OpeningParts.{OpeningParts}
 pub use Rattle.nit_hall.specs.Pass.{AreDone, Belongs, HasLoaded, IsAtCall, IsAtDevice, IsAtPhase}

@@ -27,12 +27,13 @@ pub trait Name {
 }
 
 impl Name for Brand {
-    ghost use Rattle.std.specs.Prelude.{[], false};
+    ghost use Rattle.std.specs.Prelude.{[]};
+    ghost use Rattle.nit_config.specs.Configuration.{still_configuration};
     ghost use Rattle.nit_ledger.specs.BookSeat.{no_name};
 
     ghost parts = { record {
       name = no_name;
-      config = record { width = 0; height = 0; bar = false; input = []; clients = [] };
+      config = still_configuration 0 0;
       scripts = [];
       plans = [];
       buffers = [];

@@ -15,7 +15,7 @@ ghost use Rattle.std.specs.Prelude.{◌≡◌, ◌+◌, ◌*◌, ◌≤◌, ◌=
 ghost use Rattle.nit_hall.specs.Terms.{AreNear, AreWatching, Belongs, HasAdmitted, HasMet};
 ghost use Rattle.nit_hall.specs.Terms.{HaveInks, IsLegal, IsRoom, UserBelongs, UserHasMet};
 ghost use Rattle.nit_hall.specs.Terms.{bare_word, buffers_of, lines_of_all, most_height};
-ghost use Rattle.nit_hall.specs.Terms.{most_sessions, most_width};
+ghost use Rattle.nit_hall.specs.Terms.{most_run_sessions, most_width};
 
 use crate::parts::Parts;
 use crate::pass::Pass;
@@ -98,7 +98,7 @@ impl<'a> Room<'a> {
     /// and the clip list has no room.
     pub(crate) fn new(scene: Scene<Lens<'a>>, book: Book, parts: Parts<'a>, clip: Clip) -> Room<'a>
         requires clients { (length parts.scripts.now ≡ length scene.config.clients)
-            × (length parts.scripts.now ≤ most_sessions) }
+            × (length parts.scripts.now ≤ most_run_sessions) }
         requires entries { (scene.entries ≡ []) × (book.entries ≡ []) }
         requires room { scene.spare ≡ lines_of_all parts.scripts.now parts.input.now + 1 }
         requires raw { scene.raw ≡ replicate (scene.config.width * scene.config.height) bare_word }

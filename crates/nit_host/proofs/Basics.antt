@@ -4,7 +4,7 @@ pub use Rattle.nit_host.specs.Terms.{AreInLayers, AreLive, AreParts, AreSheets, 
 pub use Rattle.nit_host.specs.Terms.{Bare, Call, Calls, CameBy, CameSince, Client, Comes}
 pub use Rattle.nit_host.specs.Terms.{Configuration, Delivery, DesktopModel, Device, Does, Entry}
 pub use Rattle.nit_host.specs.Terms.{Event, Foremost, HasNoLook, HasPlaces, HasTouched, HoldsBar}
-pub use Rattle.nit_host.specs.Terms.{HoldsBarIn, HoldsTouched, HoldsUnless, HostModel, IsAdded}
+pub use Rattle.nit_host.specs.Terms.{HoldsBarIn, HoldsTouched, HoldsUnless, HostModel, IsAreaAdded}
 pub use Rattle.nit_host.specs.Terms.{IsAreaOf, IsBarArea, IsClickBy, IsConfiguration, IsFirst}
 pub use Rattle.nit_host.specs.Terms.{IsFreeLabel, IsFresh, IsHandedIn, IsHost, IsInPart, IsKillBy}
 pub use Rattle.nit_host.specs.Terms.{IsKillClick, IsLoaded, IsLockedOut, IsNoLook, IsOneOf}
@@ -12,7 +12,8 @@ pub use Rattle.nit_host.specs.Terms.{IsPlainOf, IsRestacked, IsSeenBut, IsServed
 pub use Rattle.nit_host.specs.Terms.{IsTakenByClicks, IsToldArea, IsWord, IsWordOfSource, Item}
 pub use Rattle.nit_host.specs.Terms.{LastLook, Looks, Member, Mode, NoPair, Painted, PixelSource}
 pub use Rattle.nit_host.specs.Terms.{Point, Puts, Rearmost, Rectangle, Refreshes, Reply, Restacks}
-pub use Rattle.nit_host.specs.Terms.{Routed, SeatPlan, Serves, Session, SheetModel, Side, Sight}
+pub use Rattle.nit_host.specs.Terms.{most_scale, picture_height}
+pub use Rattle.nit_host.specs.Terms.{Routed, ScreenPlan, SeatPlan, Serves, Session, SheetModel, Side, Sight}
 pub use Rattle.nit_host.specs.Terms.{Size, State, Status, StaysOutside, Step, SwitchesMode}
 pub use Rattle.nit_host.specs.Terms.{TakesClick, TakesFocus, TakesIn, Touch, Turns, Unseated}
 pub use Rattle.nit_host.specs.Terms.{Unserved, View, WasShown, Word, accepted, after}
@@ -46,9 +47,9 @@ pub use Rattle.nit_host.specs.Terms.{seen, serve, session, session_in, session_o
 pub use Rattle.nit_host.specs.Terms.{sheet_at, sheet_in, sheets_of, shown, shown_index}
 pub use Rattle.nit_host.specs.Terms.{shown_under_pointer, shows_part, shows_place, since_coming}
 pub use Rattle.nit_host.specs.Terms.{size_at, slice_index, source_at, source_of, source_under}
-pub use Rattle.nit_host.specs.Terms.{spans, stands, step_of, step_unless, steps_of, table_size}
+pub use Rattle.nit_host.specs.Terms.{spans, has_live_view, step_of, step_unless, steps_of, table_size}
 pub use Rattle.nit_host.specs.Terms.{taking, told, told_words, touch_of, touched_by, touched_over}
-pub use Rattle.nit_host.specs.Terms.{touched_unless, turn_of, under_pointer, unless_for, unseated}
+pub use Rattle.nit_host.specs.Terms.{touched_unless, seat_turn, under_pointer, unless_for, unseated}
 pub use Rattle.nit_host.specs.Terms.{unserved_call, unserved_input, unserved_refresh}
 pub use Rattle.nit_host.specs.Terms.{unserved_restack, vacant_state, waiting_label, waiting_member}
 pub use Rattle.nit_host.specs.Terms.{with_handed, with_turn, without, word_from, word_of, words_of}
@@ -73,9 +74,9 @@ pub use Rattle.std.proofs.lemmas.Bool.Decides.{nat_tests}
 pub use Rattle.std.proofs.lemmas.Int.{ints}
 pub use Rattle.std.proofs.lemmas.List.{ext_get_or, get_or-replicate, get_or-set_same}
 pub use Rattle.std.proofs.lemmas.List.{get_or_append_left, get_or_default, get_or_past}
-pub use Rattle.std.proofs.lemmas.List.{length-append, length-map, length-take-le, map-append}
-pub use Rattle.std.proofs.lemmas.List.{map-id, map-set, set-get_or, set_past, take_all, take_at}
-pub use Rattle.std.proofs.lemmas.List.{take_more}
+pub use Rattle.std.proofs.lemmas.List.{length-append, length-map, length-replicate, length-take-le}
+pub use Rattle.std.proofs.lemmas.List.{map-append, map-id, map-set, set-get_or, set_past, take_all}
+pub use Rattle.std.proofs.lemmas.List.{take_at, take_more}
 pub use Rattle.std.proofs.lemmas.List.Elements.{All-nil}
 pub use Rattle.std.proofs.lemmas.List.Folds.{find_at, list_any_at, list_any_none}
 pub use Rattle.std.proofs.lemmas.List.FromFn.{get_or-enumerate_from, get_or-map-range_with_len}

@@ -3,10 +3,12 @@ use Rattle.std.proofs.Common.{Bool, IsTrue, List, None, Option, Some, [], ap, ar
 use Rattle.std.proofs.Common.{get_or, if◌then◌else◌, length, map, nat_le, nat_lt, not, refl}
 use Rattle.std.proofs.Common.{replicate, rules, slice_get, sym, take, true, ℕ, ◌&&◌, ◌*◌, ◌++◌, ◌+◌}
 use Rattle.std.proofs.Common.{◌<◌, ◌==◌, ◌||◌, ◌∙◌, ◌∷◌, ◌≡◌, ◌≢◌, ◌≤◌}
+use Rattle.nit_glyph.specs.declared.lettering.Lettering.{Lettering}
+use Rattle.nit_host.specs.Terms.{lettered}
 use Rattle.nit_host.proofs.Basics.{All, AllPass-from_list_all, AreBlank, AreSheets, Area, Bare}
 use Rattle.nit_host.proofs.Basics.{Configuration, DesktopModel, HostModel, IsAreaOf}
 use Rattle.nit_host.proofs.Basics.{IsConfiguration, IsFreeLabel, IsFresh, IsHost, IsPlainOf}
-use Rattle.nit_host.proofs.Basics.{IsSeenBut, Member, Point, SeatPlan, SheetModel, Sight, State}
+use Rattle.nit_host.proofs.Basics.{IsSeenBut, Member, Point, ScreenPlan, SeatPlan, SheetModel, Sight, State}
 use Rattle.nit_host.proofs.Basics.{Turns, View, and_parts, bare_word, blank_sheet, blank_sheets}
 use Rattle.nit_host.proofs.Basics.{bytes_eq-Decides, column_and_row, cond_both, enumerate_from}
 use Rattle.nit_host.proofs.Basics.{eq-eqb, ext_get_or, false_from_ne_true, false≢true, find_at}
@@ -17,12 +19,12 @@ use Rattle.nit_host.proofs.Basics.{is_label_taken, is_screen, is_taken, is_withi
 use Rattle.nit_host.proofs.Basics.{length-append, length-enumerate_from, length-map}
 use Rattle.nit_host.proofs.Basics.{length-range_with_len, length-take-le, length-zeros, list_all}
 use Rattle.nit_host.proofs.Basics.{list_any_at, list_any_none, map-append, member, most_comings}
-use Rattle.nit_host.proofs.Basics.{most_height, most_units, most_width, nat_tests, ne_eqb, no_look}
-use Rattle.nit_host.proofs.Basics.{no_turns, pixel_count, planned, position_or_len_is}
-use Rattle.nit_host.proofs.Basics.{range_with_len, refused_plan, seats_of, sheet_at, sheets_of}
-use Rattle.nit_host.proofs.Basics.{size_at, slice_get-get_or, slice_get_past, source_of, table_size}
-use Rattle.nit_host.proofs.Basics.{take_more, told_words, unseated, waiting_label, waiting_member}
-use Rattle.nit_host.proofs.Basics.{zeros}
+use Rattle.nit_host.proofs.Basics.{most_height, most_scale, most_sessions, most_units, most_width, nat_tests, picture_height}
+use Rattle.nit_host.proofs.Basics.{ne_eqb, no_look, no_turns, pixel_count, planned}
+use Rattle.nit_host.proofs.Basics.{position_or_len_is, range_with_len, refused_plan, seats_of}
+use Rattle.nit_host.proofs.Basics.{sheet_at, sheets_of, size_at, slice_get-get_or, slice_get_past}
+use Rattle.nit_host.proofs.Basics.{source_of, table_size, take_more, told_words, unseated}
+use Rattle.nit_host.proofs.Basics.{waiting_label, waiting_member, zeros}
 use Rattle.nit_host.proofs.Steps.{words_at}
 use Rattle.nit_host.specs.declared.refusal.Unseated.TheVariants as why
 
@@ -68,6 +70,15 @@ module _ {config : Configuration} {n : ℕ} {sheets : List SheetModel} (far : n 
     plain = λ t inside. blank_plain config (are.each t (omega (arith, inside, far))).0;
     room = λ t inside. (are.each t (omega (arith, inside, far))).1;
   }
+
+-- how texts are drawn does not matter to them
+pub drawn_sheets : {l : Lettering} {config : Configuration} {sheets : List SheetModel} → AreSheets config sheets
+    → AreSheets (lettered l config) sheets
+drawn_sheets are = record { count = are.count; plain = are.plain; room = are.room }
+
+pub drawn_blank : {l : Lettering} {config : Configuration} {sheets : List SheetModel} → AreBlank config sheets
+    → AreBlank (lettered l config) sheets
+drawn_blank are = record { count = are.count; blank = are.blank }
 
 -- their words are 0
 pub words_blank : (config : Configuration) (sheets : List SheetModel) → AreBlank config sheets
@@ -228,9 +239,9 @@ one_more {A} {B} f xs i x d made b inside here so is =
 
 -- ---- what a plan that is not refused has
 
-pub record IsPlan (width height : ℕ) (bar : Bool) (seats : List SeatPlan) : Type 0 where
-  pub screen : is_screen width height bar ≡ true
-  pub count : is_within 1 16 (length seats) ≡ true
+pub record IsPlan (screen : ScreenPlan) (seats : List SeatPlan) : Type 0 where
+  pub screen_fits : is_screen screen ≡ true
+  pub count : is_within 1 most_sessions (length seats) ≡ true
   pub donations : list_all (λ s. is_within least_units most_units s.donation) seats ≡ true
   pub layers : list_all (λ s. nat_le s.layer 7) seats ≡ true
 
@@ -240,65 +251,70 @@ within first last n is = (grind (arith, nat_tests), grind (arith, nat_tests))
 -- ---- the labels
 
 -- a digit that is one
-pub hex_label : (n : ℕ) → n < 16 → IsTrue (is_label (waiting_label n))
+pub hex_label : (n : ℕ) → n < most_sessions → IsTrue (is_label (waiting_label n))
 hex_label n few = search rules
 
-labels_differ : (i j : ℕ) → i < j → j < 16 → waiting_label i ≢ waiting_label j
+labels_differ : (i j : ℕ) → i < j → j < most_sessions → waiting_label i ≢ waiting_label j
 labels_differ i j less few same = grind (arith, nat_tests)
 
 -- ---- its ranges
 
-bar_fits : (bar : Bool) (height : ℕ) → (not bar || nat_le 8 height) ≡ true → IsTrue bar → 8 ≤ height
-bar_fits bar height is there = grind (arith, nat_tests)
+abbrev bar_fits : ScreenPlan → Bool
+bar_fits screen = not screen.bar || nat_lt (picture_height screen.lettering) screen.height
 
-module _ (width height : ℕ) (bar : Bool) (seats : List SeatPlan) (none : refused_plan width height bar seats ≡ None)
-  where
-    is : IsPlan width height bar seats
-    is = grind (arith, nat_tests)
+row_left : (screen : ScreenPlan) → 1 ≤ screen.height → bar_fits screen ≡ true
+    → (if screen.bar then picture_height screen.lettering else 0) < screen.height
+row_left screen some fits = grind (arith, nat_tests, cond_both)
 
-    clients : List Member
-    clients = (planned width height bar seats).clients
+module _ (screen : ScreenPlan) (seats : List SeatPlan) (none : refused_plan screen seats ≡ None) where
+  is : IsPlan screen seats
+  is = grind (arith, nat_tests)
 
-    long : length clients ≡ length seats
-    unfolding clients
-    long = length-map (enumerate_from 0 seats) (λ p. waiting_member p.0 p.1) ∙ length-enumerate_from 0 seats
+  clients : List Member
+  clients = (planned screen seats).clients
 
-    few : length seats ≤ 16
-    few = (within 1 16 (length seats) is.count).1
+  long : length clients ≡ length seats
+  unfolding clients
+  long = length-map (enumerate_from 0 seats) (λ p. waiting_member p.0 p.1) ∙ length-enumerate_from 0 seats
 
-    client_at : (k : ℕ) (m : Member) (s : SeatPlan) → k < length seats
-        → get_or clients k m ≡ waiting_member k (get_or seats k s)
-    unfolding clients
-    client_at k m s inside =
-        get_or_default clients k m (waiting_member 0 s) (omega (arith, long))
-        ∙ get_or-map (λ p. waiting_member p.0 p.1) (enumerate_from 0 seats) k (0, s)
-        ∙ ap (λ p. waiting_member p.0 p.1) (get_or-enumerate_from 0 seats k (0, s) inside)
-        ∙ ap (λ (n : ℕ). waiting_member n (get_or seats k s)) (omega arith)
+  few : length seats ≤ most_sessions
+  few = (within 1 most_sessions (length seats) is.count).1
 
-    pub plan_configured : IsConfiguration (planned width height bar seats)
-    unfolding clients
-    plan_configured =
-        let screen = and_parts _ (not bar || nat_le 8 height) is.screen in
-        let size = and_parts _ _ screen.0 in
-        let s : SeatPlan = record { donation = 0; layer = 0; clicks = false } in
-        record {
-          width = within 1 most_width width size.0;
-          height = within 1 most_height height size.1;
-          bar = bar_fits bar height screen.1;
-          input = refl;
-          count = rw long (within 1 16 (length seats) is.count);
-          clients = λ k m inside.
-              let there : k < length seats = omega (arith, long, inside) in
-              let few_layers = AllPass-from_list_all (λ (p : SeatPlan). nat_le p.layer 7) seats is.layers k s there in
-              rw (client_at k m s there) (record {
-                label = hex_label k (omega (arith, there, few));
-                donation = within least_units most_units _ (AllPass-from_list_all
-                    (λ (p : SeatPlan). is_within least_units most_units p.donation) seats is.donations k s there);
-                script = refl;
-                layer = grind (arith, nat_tests, few_layers);
-              });
-          labels = λ i j m less inside.
-              let there : j < length seats = omega (arith, long, inside) in
-              rw (client_at i m s (omega arith), client_at j m s there)
-              (labels_differ i j less (omega (arith, there, few)));
-        }
+  client_at : (k : ℕ) (m : Member) (s : SeatPlan) → k < length seats
+      → get_or clients k m ≡ waiting_member k (get_or seats k s)
+  unfolding clients
+  client_at k m s inside =
+      get_or_default clients k m (waiting_member 0 s) (omega (arith, long))
+      ∙ get_or-map (λ p. waiting_member p.0 p.1) (enumerate_from 0 seats) k (0, s)
+      ∙ ap (λ p. waiting_member p.0 p.1) (get_or-enumerate_from 0 seats k (0, s) inside)
+      ∙ ap (λ (n : ℕ). waiting_member n (get_or seats k s)) (omega arith)
+
+  pub plan_configured : IsConfiguration (planned screen seats)
+  unfolding clients
+  plan_configured =
+      let all = and_parts _ (bar_fits screen) is.screen_fits in
+      let three = and_parts _ (is_within 1 most_scale screen.lettering.scale) all.0 in
+      let size = and_parts _ _ three.0 in
+      let s : SeatPlan = record { donation = 0; layer = 0; clicks = false } in
+      record {
+        width = within 1 most_width screen.width size.0;
+        height = within 1 most_height screen.height size.1;
+        lettering = within 1 most_scale screen.lettering.scale three.1;
+        bar = row_left screen (within 1 most_height screen.height size.1).0 all.1;
+        input = refl;
+        count = rw long (within 1 most_sessions (length seats) is.count);
+        clients = λ k m inside.
+            let there : k < length seats = omega (arith, long, inside) in
+            let few_layers = AllPass-from_list_all (λ (p : SeatPlan). nat_le p.layer 7) seats is.layers k s there in
+            rw (client_at k m s there) (record {
+              label = hex_label k (omega (arith, there, few));
+              donation = within least_units most_units _ (AllPass-from_list_all
+                  (λ (p : SeatPlan). is_within least_units most_units p.donation) seats is.donations k s there);
+              script = refl;
+              layer = grind (arith, nat_tests, few_layers);
+            });
+        labels = λ i j m less inside.
+            let there : j < length seats = omega (arith, long, inside) in
+            rw (client_at i m s (omega arith), client_at j m s there)
+            (labels_differ i j less (omega (arith, there, few)));
+      }

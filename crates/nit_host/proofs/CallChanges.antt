@@ -2,7 +2,7 @@
 use Rattle.std.proofs.Common.{Bool, List, None, Option, Some, [], ap, false, inl, inr, length, refl}
 use Rattle.std.proofs.Common.{sym, true, ℕ, ◌%◌, ◌/◌, ◌<◌, ◌∙◌, ◌∷◌, ◌≡◌}
 use Rattle.nit_host.proofs.Basics.{All, AreParts, Area, Call, Delivery, Device, HasTouched}
-use Rattle.nit_host.proofs.Basics.{HoldsBar, HoldsBarIn, HoldsTouched, HoldsUnless, IsAdded}
+use Rattle.nit_host.proofs.Basics.{HoldsBar, HoldsBarIn, HoldsTouched, HoldsUnless, IsAreaAdded}
 use Rattle.nit_host.proofs.Basics.{IsAreaOf, IsBarArea, IsSeenBut, IsToldArea, Mode, Point, Reply}
 use Rattle.nit_host.proofs.Basics.{Routed, State, StaysOutside, Touch, View, after, after_accepted}
 use Rattle.nit_host.proofs.Basics.{after_deliveries, and_left, and_parts, arith, bar_rows, bar_word}
@@ -227,7 +227,7 @@ pub seen_seated : (s s' : State) (seat : ℕ) (label : List ℕ) (sheets sheets'
     (part : Area) (a1 : List Area) (seen : Option (List ℕ)) → s' ≡ opened seat label s
     → ((k : ℕ) → word_from (sheet_in sheets) (source_at s k)
     ≡ word_from (sheet_in sheets') (source_at (opened seat label s) k))
-    → IsBarArea s part → IsAdded a0 part a1 → AreParts a1 → IsSeenBut s sheets (has_any a0) seen
+    → IsBarArea s part → IsAreaAdded a0 part a1 → AreParts a1 → IsSeenBut s sheets (has_any a0) seen
     → All (IsAreaOf s.config.width s.config.height) a0
     → IsSeenBut s' sheets' (has_any a1) seen × All (IsAreaOf s'.config.width s'.config.height) a1
 seen_seated s s' seat label sheets sheets' a0 part a1 seen is words holds added are known on =

@@ -39,7 +39,7 @@ nothing_held (k ∷ held) = grind (arith, nat_tests)
 
 pub record Keeps (h h' : HostModel) : Type 0 where
   pub views : h'.seen.views ≡ h.seen.views
-  pub bar : h'.state.config.bar ≡ h.state.config.bar
+  pub bar : bar_rows h'.state.config ≡ bar_rows h.state.config
   pub width : h'.state.config.width ≡ h.state.config.width
   pub height : h'.state.config.height ≡ h.state.config.height
   pub came : (seat : ℕ) → get_or h'.seen.came seat true ≡ false → get_or h.seen.came seat true ≡ false
@@ -160,7 +160,7 @@ shown_there h rest none =
     let now = after_acts (looked h) rest in
     let p = point now.state.input.x now.state.input.y in
     let keeps = all (looked h) rest none in
-    λ i. option_map (λ v. v.sid) (owner (if keeps.bar i then 7 else 0) (keeps.views i) p)
+    λ i. option_map (λ v. v.sid) (owner (keeps.bar i) (keeps.views i) p)
 
 -- the view that a look showed at a pixel
 pub shown_at : (h : HostModel) (acts rest : List Act) (x y : ℕ) → HasNoLook rest
@@ -169,7 +169,7 @@ shown_at h acts rest x y none =
     let keeps = all (looked (after_acts h acts)) rest none in
     ap (λ now. owner_shown now x y) (behind h acts rest)
     ∙ (λ i. if nat_lt x (keeps.width i) && nat_lt y (keeps.height i)
-    then owner (if keeps.bar i then 7 else 0) (keeps.views i) (point x y) else None)
+    then owner (keeps.bar i) (keeps.views i) (point x y) else None)
 
 sees : (h : HostModel) (rest : List Act) (k : ℕ) → HasNoLook rest → TakesClick (after_acts (looked h) rest) k
     → Sees h.state (after_acts (looked h) rest)

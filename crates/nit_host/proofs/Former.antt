@@ -9,7 +9,7 @@ use Rattle.nit_host.proofs.Basics.{Unseated, after_act, after_acts, called, case
 use Rattle.nit_host.proofs.Basics.{eq-eqb, first_state, fold-append, get_or-set_same, is_accepted}
 use Rattle.nit_host.proofs.Basics.{is_client, length-set, most_sessions, nat_tests, ne_eqb}
 use Rattle.nit_host.proofs.Basics.{next_client, put, refreshed, reply_to, seated, set_past}
-use Rattle.nit_host.proofs.Basics.{since_coming, told, turn_of, unless_for, unseated, unserved_call}
+use Rattle.nit_host.proofs.Basics.{since_coming, told, seat_turn, unless_for, unseated, unserved_call}
 use Rattle.nit_host.proofs.Basics.{unserved_input, unserved_refresh, unserved_restack, vacant_state}
 use Rattle.nit_host.proofs.Basics.{with_turn}
 use Rattle.nit_events.specs.declared.call.Call.TheVariants as call
@@ -82,8 +82,8 @@ came_on h (act ∷ rest) n many =
     ])
 
 -- a seat whose turn is past n goes on so
-pub past_on : (h : HostModel) (acts : List Act) (seat n : ℕ) → n ≤ h.turns.given → n < turn_of h seat
-    → n < turn_of (after_acts h acts) seat
+pub past_on : (h : HostModel) (acts : List Act) (seat n : ℕ) → n ≤ h.turns.given → n < seat_turn h seat
+    → n < seat_turn (after_acts h acts) seat
 past_on h [] seat n many past = past
 past_on h (act ∷ rest) seat n many past =
     elim (by_act h act) [
@@ -106,7 +106,7 @@ many_on h (act ∷ rest) =
 
 -- where nobody comes to the seat its turn stays
 pub turn_stays : (h : HostModel) (acts : List Act) (seat : ℕ) → (CameBy h acts seat → ⊥)
-    → turn_of (after_acts h acts) seat ≡ turn_of h seat
+    → seat_turn (after_acts h acts) seat ≡ seat_turn h seat
 turn_stays h [] seat none = refl
 turn_stays h (act ∷ rest) seat none =
     turn_stays (after_act h act) rest seat
@@ -143,7 +143,7 @@ module _ (h : HostModel) (seat : ℕ) (label : List ℕ) (takes : unseated h sea
   turns_now : now.turns ≡ with_turn seat h.turns
   turns_now = ap (λ o. (unless_for o (seated seat label h) h).turns) takes
 
-  turn_now : turn_of now seat ≡ h.turns.given + 1
+  turn_now : seat_turn now seat ≡ h.turns.given + 1
   turn_now = ap (λ (t : Turns). get_or t.of seat 0) turns_now
       ∙ get_or-set_same h.turns.of seat (h.turns.given + 1) 0 known
 
@@ -173,12 +173,12 @@ module _ (h : HostModel) (seat : ℕ) (label : List ℕ) (takes : unseated h sea
         ap (λ (t : Turns). length t.of) turns_now,
         length-set h.turns.of seat (h.turns.given + 1),
       ) in
-      let turn_next : turn_of next seat ≡ there.turns.given + 1 =
+      let turn_next : seat_turn next seat ≡ there.turns.given + 1 =
       ap (λ (t : Turns). get_or t.of seat 0) turns_next
       ∙ get_or-set_same there.turns.of seat (there.turns.given + 1) 0 long in
       let past = past_on next came.after seat (h.turns.given + 1)
       (omega (arith, many, ap (λ (t : Turns). t.given) turns_next)) (omega (arith, turn_next, many)) in
-      ne_eqb _ _ (λ same. let wrong = ap (λ m. turn_of m seat) split in omega (arith, same, wrong, past))
+      ne_eqb _ _ (λ same. let wrong = ap (λ m. seat_turn m seat) split in omega (arith, same, wrong, past))
 
 -- ---- since a host opened
 

@@ -17,6 +17,7 @@ pub use Rattle.nit_host.proofs.Basics.{option_map, picture, plain_sight, point, 
 pub use Rattle.nit_host.proofs.Basics.{refreshed, routed_of, scenery_of, serve, session, set}
 pub use Rattle.nit_host.proofs.Basics.{set_where, sheet_in, sheets_of, slice_get_within}
 pub use Rattle.nit_host.proofs.Basics.{slice_index, steps_of, subst, sym, take_all, told_words}
+pub use Rattle.nit_host.specs.Terms.{lettered}
 pub use Rattle.nit_host.proofs.Basics.{touch_of, true_from_ne_false, vacant_state, waiting_member}
 pub use Rattle.nit_host.proofs.Basics.{◌∙◌}
 pub use Rattle.nit_host.proofs.Beginnings.{AreTo, HasRoom, all_blank, all_sheets, begun}
@@ -36,7 +37,9 @@ pub use Rattle.nit_host.proofs.HandedWords.{come_word, handed_in, handed_part, h
 pub use Rattle.nit_host.proofs.HandedWords.{other_word, refused_words, row_fits, row_more}
 pub use Rattle.nit_host.proofs.HandedWords.{rows_begun, rows_sized, sized, stay_word, user_words}
 pub use Rattle.nit_host.proofs.HandedWords.{word_loaded}
-pub use Rattle.nit_host.proofs.PartsKept.{added_on, both_added, copied_on, screen_touched, whole_on}
+pub use Rattle.nit_host.proofs.Beginnings.{drawn_blank, drawn_sheets}
+pub use Rattle.nit_host.proofs.PartsKept.{added_on, area_lies, both_added, copied_on}
+pub use Rattle.nit_host.proofs.PartsKept.{screen_touched, whole_on}
 pub use Rattle.nit_host.proofs.RefusedClicks.{clicks_moved, clicks_refused}
 pub use Rattle.nit_host.proofs.Restacking.{only_restacked, put_behind, put_in_front, stands_if}
 pub use Rattle.nit_host.proofs.Seatings.{WasSeated, may_sit, turn_given, turns_begin, was_seated}

@@ -1,18 +1,19 @@
 -- Areas of the screen to which others are added.
 use Rattle.nit_host.proofs.Basics.{All, All-nil, AreParts, Area, HasPlaces, HasTouched, HoldsUnless}
-use Rattle.nit_host.proofs.Basics.{IsAdded, IsAreaOf, List, State, area_on, arith, has_place}
+use Rattle.nit_host.proofs.Basics.{IsAreaAdded, IsAreaOf, List, State, area_on, arith, has_place}
 use Rattle.nit_host.proofs.Basics.{nat_tests, same_Some}
 use Rattle.std.proofs.Common.{Some, [], false, true, ℕ, ◌<◌, ◌≡◌, ◌≤◌}
-use Rattle.nit_look.specs.Area.{is_within}
+use Rattle.nit_look.specs.Area.{is_area_within, rectangle_over}
+use Rattle.nit_look.specs.Look.{LiesOn}
 use Rattle.nit_host.specs.declared.host.touch.Touch.TheVariants as touch
 
 abbrev screen : ℕ → ℕ → Area
 screen width height = record { left = 0; top = 0; right = width; bottom = height }
 
-on_within : (width height : ℕ) (a : Area) → IsAreaOf width height a → is_within a (screen width height) ≡ true
+on_within : (width height : ℕ) (a : Area) → IsAreaOf width height a → is_area_within a (screen width height) ≡ true
 on_within width height a on = grind (arith, nat_tests, on.wide, on.high)
 
-within_on : (width height : ℕ) (a : Area) → HasPlaces a → is_within a (screen width height) ≡ true
+within_on : (width height : ℕ) (a : Area) → HasPlaces a → is_area_within a (screen width height) ≡ true
     → IsAreaOf width height a
 within_on width height a some within = record {
   across = omega (arith, some.across);
@@ -21,8 +22,12 @@ within_on width height a some within = record {
   high = grind (arith, nat_tests);
 }
 
+-- so does its rectangle
+pub area_lies : (width height : ℕ) (a : Area) → IsAreaOf width height a → LiesOn width height (rectangle_over a)
+area_lies width height a on = grind (arith, nat_tests, on.across, on.down, on.wide, on.high)
+
 -- areas of a screen, and one more
-pub added_on : (width height : ℕ) (old : List Area) (a : Area) (new : List Area) → IsAdded old a new → AreParts new
+pub added_on : (width height : ℕ) (old : List Area) (a : Area) (new : List Area) → IsAreaAdded old a new → AreParts new
     → All (IsAreaOf width height) old → IsAreaOf width height a → All (IsAreaOf width height) new
 added_on width height old a new added are on one =
     let all = added.within (screen width height) (λ k d less. on_within width height _ (on k d less))
@@ -30,14 +35,14 @@ added_on width height old a new added are on one =
     λ k d less. within_on width height _ (are.pixels k d less) (all k d less)
 
 -- the first one is all of the screen
-pub whole_on : (width height : ℕ) (a : Area) (new : List Area) → IsAdded [] a new → AreParts new
+pub whole_on : (width height : ℕ) (a : Area) (new : List Area) → IsAreaAdded [] a new → AreParts new
     → IsAreaOf width height a → All (IsAreaOf width height) new
 whole_on width height a new added are one =
     added_on width height [] a new added are (All-nil (IsAreaOf width height)) one
 
 -- two more
 pub both_added : (old : List Area) (before : Area) (mid : List Area) (after : Area) (new : List Area)
-    → IsAdded old before mid → AreParts mid → IsAdded mid after new → AreParts new
+    → IsAreaAdded old before mid → AreParts mid → IsAreaAdded mid after new → AreParts new
     → HoldsUnless false old before after new
 both_added old before mid after new one are two are' = record {
   screen = λ width height on first second.
@@ -48,7 +53,7 @@ both_added old before mid after new one are two are' = record {
 }
 
 -- all of the screen is touched
-pub screen_touched : (s : State) (seat : ℕ) (old : List Area) (a : Area) (new : List Area) → IsAdded old a new
+pub screen_touched : (s : State) (seat : ℕ) (old : List Area) (a : Area) (new : List Area) → IsAreaAdded old a new
     → AreParts new → IsAreaOf s.config.width s.config.height a
     → ((x y : ℕ) → x < s.config.width → y < s.config.height → has_place a x y ≡ true)
     → HasTouched s seat touch.Screen old new

@@ -135,7 +135,7 @@ not_same came None is = cc
 not_same came (Some seat) is = (seat, refl, grind (arith, nat_tests))
 
 nobody_at : (seat : ℕ) → seat < most_sessions → get_or nobody_came seat true ≡ false
-nobody_at seat few = grind (arith, nat_tests, get_or-replicate)
+nobody_at seat few = get_or-replicate most_sessions seat false true few
 
 since_look : (h : HostModel) (acts rest : List Act) (seat : ℕ) → HasNoLook rest
     → HasCome (after_acts (looked (after_acts h acts)) rest) seat → seat < most_sessions → CameSince h acts rest seat

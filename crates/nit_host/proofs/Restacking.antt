@@ -9,7 +9,7 @@ use Rattle.nit_host.proofs.Basics.{answered, arith, by_status, called, cond_both
 use Rattle.nit_host.proofs.Basics.{first_session, found_passes, has_view, is_client, is_live}
 use Rattle.nit_host.proofs.Basics.{is_some, is_view, layer, list_any, moved, nat_tests, put}
 use Rattle.nit_host.proofs.Basics.{put_back, put_front, refusal, restacked, serve, serve_accepted}
-use Rattle.nit_host.proofs.Basics.{session, set-get_or, stands, unless_for, unserved_restack}
+use Rattle.nit_host.proofs.Basics.{session, set-get_or, has_live_view, unless_for, unserved_restack}
 use Rattle.nit_host.proofs.Basics.{without}
 use Rattle.nit_host.proofs.Beginnings.{passed}
 use Rattle.nit_events.specs.declared.call.Call.TheVariants as call
@@ -27,27 +27,27 @@ by_life status.Live false v = refl
 by_life status.Closed has v = refl
 by_life status.Killed has v = refl
 
-pub refused_to_move : (s : Session) (v : ℕ) → is_some (refusal s (call.Front v)) ≡ not (stands s v)
+pub refused_to_move : (s : Session) (v : ℕ) → is_some (refusal s (call.Front v)) ≡ not (has_live_view s v)
 refused_to_move s v = by_life s.status (has_view s v) v
 
 none_if : (o : Option Reply) (b : Bool) → is_some o ≡ not b → b ≡ true → o ≡ None
-none_if None b is stands = refl
-none_if (Some r) b is stands = let wrong = is ∙ ap not stands in cc
+none_if None b is shown = refl
+none_if (Some r) b is shown = let wrong = is ∙ ap not shown in cc
 
-pub may_move : (s : Session) (v : ℕ) → stands s v ≡ true → refusal s (call.Front v) ≡ None
-may_move s v is = none_if (refusal s (call.Front v)) (stands s v) (refused_to_move s v) is
+pub may_move : (s : Session) (v : ℕ) → has_live_view s v ≡ true → refusal s (call.Front v) ≡ None
+may_move s v is = none_if (refusal s (call.Front v)) (has_live_view s v) (refused_to_move s v) is
 
 -- the user may put the view elsewhere
 pub stands_if : (h : HostModel) (client : Client) (v : ℕ) → None ≡ unserved_restack h client v
-    → stands (session h.state client.seat) v ≡ true
+    → has_live_view (session h.state client.seat) v ≡ true
 stands_if h client v is =
     let known = passed (nat_lt client.seat (length h.state.sessions)) _ _ (sym is) in
     let own = passed (is_client h client) _ _ known.1 in
-    (passed (stands (session h.state client.seat) v) _ _ own.1).0
+    (passed (has_live_view (session h.state client.seat) v) _ _ own.1).0
 
 -- ---- the host behind a call of the kind that the client makes
 
-module _ (h : HostModel) (seat v : ℕ) (is : stands (session h.state seat) v ≡ true) where
+module _ (h : HostModel) (seat v : ℕ) (is : has_live_view (session h.state seat) v ≡ true) where
   abbrev u : Session
   u = session h.state seat
 

@@ -7,12 +7,12 @@ use Rattle.nit_host.proofs.Basics.{HostModel, IsHost, LastLook, Member, Point, S
 use Rattle.nit_host.proofs.Basics.{Status, Turns, View, black_or_word, blank_sheet, buffer_size}
 use Rattle.nit_host.proofs.Basics.{cases_eq, cases_lt, eq-eqb, false≢true, get_or-map}
 use Rattle.nit_host.proofs.Basics.{get_or-replicate, get_or-set_same, get_or_past, is_label_taken}
-use Rattle.nit_host.proofs.Basics.{is_live, length-set, map-set, member, most_comings}
-use Rattle.nit_host.proofs.Basics.{most_sessions, nat_tests, no_turns, opened, owner_of, owns_none}
-use Rattle.nit_host.proofs.Basics.{pixel, relabelled, seated, session, session_owns, set-get_or}
-use Rattle.nit_host.proofs.Basics.{set_past, sheet_in, sheets_of, shown_index, size_at, source_at}
-use Rattle.nit_host.proofs.Basics.{source_of, source_under, table_size, unseated, with_turn}
-use Rattle.nit_host.proofs.Basics.{word_from}
+use Rattle.nit_host.proofs.Basics.{is_live, length-replicate, length-set, map-set, member}
+use Rattle.nit_host.proofs.Basics.{most_comings, most_sessions, nat_tests, no_turns, opened}
+use Rattle.nit_host.proofs.Basics.{owner_of, owns_none, pixel, relabelled, seated, session}
+use Rattle.nit_host.proofs.Basics.{session_owns, set-get_or, set_past, sheet_in, sheets_of}
+use Rattle.nit_host.proofs.Basics.{shown_index, size_at, source_at, source_of, source_under}
+use Rattle.nit_host.proofs.Basics.{table_size, unseated, with_turn, word_from}
 use Rattle.nit_screen.specs.Terms.{is_session, option_map_or}
 use Rattle.nit_host.proofs.Beginnings.{blank_plain, no_client, not_met, passed}
 use Rattle.nit_host.proofs.Steps.{Rest, blank_again_of, host_model, own_room, same_sheets}
@@ -55,11 +55,18 @@ turn_given turns seat are more = record {
 pub turns_begin : {turns : Turns} → turns ≡ no_turns → AreTurns turns
 turns_begin is = rw is (record {
   given = omega arith;
-  each = λ t. none_given t;
+  each = λ t. none_given most_sessions t;
 })
   where
-    none_given : (t : ℕ) → get_or (replicate most_sessions 0) t 0 ≤ 0
-    none_given t = grind (arith, nat_tests, get_or-replicate, get_or_past)
+    none_given : (n t : ℕ) → get_or (replicate n 0) t 0 ≤ 0
+    none_given n t = elim (cases_lt t n) [
+      | inl inside ↦ omega (arith, get_or-replicate {A = ℕ} n t 0 0 inside)
+      | inr past ↦ omega (
+        arith,
+        get_or_past {X = ℕ} (replicate n 0) t 0
+            (omega (arith, past, length-replicate {A = ℕ} n 0)),
+      )
+    ]
 
 -- ---- the configuration with another label
 

@@ -1,6 +1,7 @@
 -- The words of the library and of the crates below that are used here, and the crate's plain types.
-pub use Rattle.nit_config.specs.Configuration.{Configuration, bar_rows, donation_of, member}
-pub use Rattle.nit_config.specs.ConfigurationRanges.{IsConfiguration}
+pub use Rattle.nit_config.specs.Configuration.{Configuration, bar_rows, donation_of, lettered}
+pub use Rattle.nit_config.specs.Configuration.{member}
+pub use Rattle.nit_config.specs.ConfigurationRanges.{IsConfiguration, IsMember}
 pub use Rattle.nit_config.specs.declared.config.Member.{Member}
 pub use Rattle.nit_desktop.specs.Desktop.{DesktopModel, IsServedEntry, asks_view}
 pub use Rattle.nit_events.specs.Input.{deliveries_of, kill_button, kill_key, kill_mode, routed_as}
@@ -16,10 +17,12 @@ pub use Rattle.nit_events.specs.declared.event.Event.{Event}
 pub use Rattle.nit_events.specs.declared.event.Item.{Item}
 pub use Rattle.nit_events.specs.declared.event.Routed.{Routed}
 pub use Rattle.nit_events.specs.declared.event.Status.{Status}
+pub use Rattle.nit_glyph.specs.Lettering.{most_picture_height, most_scale, picture_height}
 pub use Rattle.nit_glyph.specs.Texts.{is_label}
 pub use Rattle.nit_host.specs.declared.client.Client.{Client}
 pub use Rattle.nit_host.specs.declared.client.Turns.{Turns}
 pub use Rattle.nit_host.specs.declared.host.touch.Touch.{Touch}
+pub use Rattle.nit_host.specs.declared.planning.ScreenPlan.{ScreenPlan}
 pub use Rattle.nit_host.specs.declared.planning.SeatPlan.{SeatPlan}
 pub use Rattle.nit_host.specs.declared.refusal.PlanError.{PlanError}
 pub use Rattle.nit_host.specs.declared.refusal.Uncopied.{Uncopied}
@@ -44,10 +47,11 @@ pub use Rattle.nit_journal.specs.Terms.{first_input, is_button, is_held, is_key,
 pub use Rattle.nit_journal.specs.Terms.{opening_of, projection, replies_from, replies_to}
 pub use Rattle.nit_journal.specs.Terms.{since_opening, to, under_pointer}
 pub use Rattle.nit_look.specs.Area.{HasPlaces, IsAreaOf, has_place, rectangle_over}
+pub use Rattle.nit_look.specs.Copy.{is_in_rows}
 pub use Rattle.nit_look.specs.Look.{AgreeIn, AgreeOutside, CoversChange, IsTouched, LiesOn}
 pub use Rattle.nit_look.specs.Look.{place_at}
-pub use Rattle.nit_look.specs.Parts.{AreParts, IsAdded, has_any}
-pub use Rattle.nit_look.specs.Putting.{IsPut, has_room}
+pub use Rattle.nit_look.specs.Parts.{AreParts, IsAreaAdded, has_any}
+pub use Rattle.nit_look.specs.Putting.{IsPartPut, has_room}
 pub use Rattle.nit_look.specs.declared.area.Area.{Area}
 pub use Rattle.nit_overlay.specs.Frame.{bar_word, frame, shown}
 pub use Rattle.nit_overlay.specs.Terms.{is_some}

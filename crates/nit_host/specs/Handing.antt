@@ -1,13 +1,8 @@
 -- Words of a part of a buffer that are handed in row by row.
-use Rattle.std.specs.Prelude.{◌≡◌, ◌≤◌, ℕ, ◌%◌, ◌/◌, Bool, ◌&&◌, List, Option, Some, None}
-use Rattle.nit_host.specs.Below.{Rectangle, is_between, plain_sight, set_where, told_words}
+use Rattle.std.specs.Prelude.{◌≡◌, ◌≤◌, ℕ, List, Option, Some, None}
+use Rattle.nit_host.specs.Below.{Rectangle, plain_sight, set_where, told_words}
 use Rattle.nit_host.specs.Host.{is_handed}
 use Rattle.nit_host.specs.Sheet.{SheetModel, low_bytes}
-
--- the place lies in these columns and in these rows of a buffer of this width
-abbrev pub is_in_rows : ℕ → ℕ → ℕ → ℕ → ℕ → ℕ → Bool
-is_in_rows width left right top bottom n =
-    is_between left right (n % width) && is_between top bottom (n / width)
 
 -- the words of a sheet after a part of a buffer was handed in, where there is a part
 abbrev pub after_handing : ℕ → ℕ → Option Rectangle → List ℕ → List ℕ → List ℕ

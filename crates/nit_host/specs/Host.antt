@@ -18,8 +18,8 @@ use Rattle.nit_host.specs.Shown.{LastLook, is_moved, no_look, nobody_came}
 use Rattle.nit_host.specs.declared.refusal.Unserved.TheVariants as unserved
 
 -- the state; the words that each seat's client handed in, by their places in its buffer; which
--- client each seat has; how many more entries are served; the last entry, where the last step was one; and what is remembered of
--- the last look
+-- client each seat has; how many more entries are served; the last entry, where the last step was
+-- one; and what is remembered of the last look
 pub record HostModel : Type 0 where
   pub state : State
   pub sheets : List (List ℕ)
@@ -98,16 +98,16 @@ last_text (Some e) = journal_text (e ∷ [])
 -- ---- clients
 
 -- the turn of the client that sits on a seat, or sat there last
-abbrev pub turn_of : HostModel → ℕ → ℕ
-turn_of h seat = slice_index_or h.turns.of seat 0
+abbrev pub seat_turn : HostModel → ℕ → ℕ
+seat_turn h seat = slice_index_or h.turns.of seat 0
 
 -- that client
 abbrev pub client_of : HostModel → ℕ → Client
-client_of h seat = record { seat = seat; turn = turn_of h seat }
+client_of h seat = record { seat = seat; turn = seat_turn h seat }
 
 -- the client is the one of its seat
 abbrev pub is_client : HostModel → Client → Bool
-is_client h client = turn_of h client.seat == client.turn
+is_client h client = seat_turn h client.seat == client.turn
 
 -- ---- calls of the clients
 
@@ -180,15 +180,15 @@ is_live status.Live = true
 is_live other = false
 
 -- the session is served, and has a view of this handle
-abbrev pub stands : Session → ℕ → Bool
-stands s view = is_live s.status && has_view s view
+abbrev pub has_live_view : Session → ℕ → Bool
+has_live_view s view = is_live s.status && has_view s view
 
 -- why the user does not put a client's view elsewhere, if it does not
 abbrev pub unserved_restack : HostModel → Client → ℕ → Option Unserved
 unserved_restack h client view =
     if not (nat_lt client.seat (length h.state.sessions)) then Some unserved.NoSeat
     else if not (is_client h client) then Some unserved.OtherClient
-    else if not (stands (session h.state client.seat) view) then Some unserved.NoView
+    else if not (has_live_view (session h.state client.seat) view) then Some unserved.NoView
     else worn_out h
 
 -- the host after the user put a seat's view in front of all of its layer, or behind them: its

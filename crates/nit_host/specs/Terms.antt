@@ -5,13 +5,14 @@ pub use Rattle.nit_host.specs.Area.{HoldsUnless, HoldsWhere, IsInReach, StaysOut
 pub use Rattle.nit_host.specs.Below.{AgreeIn, AgreeOutside, Agrees, All, Answered, AreGlasses}
 pub use Rattle.nit_host.specs.Below.{AreLive, AreParts, AreSteps, Area, Bare, Black, Call, Client}
 pub use Rattle.nit_host.specs.Below.{Configuration, CoversChange, Delivery, DesktopModel, Device}
-pub use Rattle.nit_host.specs.Below.{Entry, Event, Flat, Foremost, Gets, HasPlaces, IsAdded}
+pub use Rattle.nit_host.specs.Below.{Entry, Event, Flat, Foremost, Gets, HasPlaces, IsAreaAdded}
 pub use Rattle.nit_host.specs.Below.{IsAreaOf, IsConfiguration, IsDown, IsFrameShown, IsFreeLabel}
-pub use Rattle.nit_host.specs.Below.{IsLive, IsLoaded, IsPlace, IsPut, IsServedEntry, IsStepOf}
+pub use Rattle.nit_host.specs.Below.{IsLive, IsLoaded, IsPlace, IsPartPut, IsServedEntry, IsStepOf}
 pub use Rattle.nit_host.specs.Below.{IsTouched, IsWord, IsWordOfSource, Item, Kill, KillsPointed}
 pub use Rattle.nit_host.specs.Below.{LiesOn, Member, Mode, NoPair, Observation, Painted}
 pub use Rattle.nit_host.specs.Below.{PixelSource, PlanError, Point, Rearmost, Rectangle, Reply}
-pub use Rattle.nit_host.specs.Below.{Restacks, Routed, SeatPlan, Serves, Session, Side, Sight, Size}
+pub use Rattle.nit_host.specs.Below.{Restacks, Routed, ScreenPlan, SeatPlan, Serves, Session, Side}
+pub use Rattle.nit_host.specs.Below.{Sight, Size}
 pub use Rattle.nit_host.specs.Below.{State, Status, Step, TellsFocus, TellsLeave, Touch, Turns}
 pub use Rattle.nit_host.specs.Below.{Uncopied, Unseated, Unserved, View, Word, Xray, accepted}
 pub use Rattle.nit_host.specs.Below.{after, after_accepted, after_deliveries, after_step}
@@ -20,12 +21,15 @@ pub use Rattle.nit_host.specs.Below.{bare_word, black_or_word, buffer_place, buf
 pub use Rattle.nit_host.specs.Below.{by_refusal, by_status, clicks_on, covers, delivered}
 pub use Rattle.nit_host.specs.Below.{deliveries_of, dirty, dirty_by_call, enumerate_from, falls}
 pub use Rattle.nit_host.specs.Below.{filled_up, first_input, first_session, first_state, frame}
+pub use Rattle.nit_host.specs.Below.{IsMember, lettered, most_picture_height}
 pub use Rattle.nit_host.specs.Below.{glass_in, has_any, has_place, has_view, in_bar, index_at}
 pub use Rattle.nit_host.specs.Below.{input_after_call, is_accepted, is_between, is_button, is_held}
+pub use Rattle.nit_host.specs.Below.{is_in_rows}
 pub use Rattle.nit_host.specs.Below.{is_key, is_kill, is_killed, is_label, is_mode_key, is_owned_by}
 pub use Rattle.nit_host.specs.Below.{is_session, is_some, is_view, is_word_in, kill_button}
 pub use Rattle.nit_host.specs.Below.{kill_key, kill_mode, kills, layer, least_units, list_all}
 pub use Rattle.nit_host.specs.Below.{list_any, member, most_height, most_length, most_sessions}
+pub use Rattle.nit_host.specs.Below.{most_scale, picture_height}
 pub use Rattle.nit_host.specs.Below.{most_slots, most_units, most_width, moved, no_sight, opened}
 pub use Rattle.nit_host.specs.Below.{opening_of, option_map, option_map_or, owner, owner_of}
 pub use Rattle.nit_host.specs.Below.{owns_either, pixel, pixel_count, place_at, plain_sight, point}
@@ -44,13 +48,14 @@ pub use Rattle.nit_host.specs.Damage.{area_at, area_on, uncopied}
 pub use Rattle.nit_host.specs.Former.{CameBy, since_coming}
 pub use Rattle.nit_host.specs.Fresh.{AreBlank, AreSheets, IsFresh, IsHost, IsPlainOf, sheet_at}
 pub use Rattle.nit_host.specs.Fresh.{sheets_of, size_at}
-pub use Rattle.nit_host.specs.Handing.{CanTakeWords, IsHandedIn, after_handing, is_in_rows}
+pub use Rattle.nit_host.specs.Handing.{CanTakeWords, IsHandedIn, after_handing}
 pub use Rattle.nit_host.specs.Host.{AreTurns, HostModel, IsAsSeen, IsFirst, IsOneOf, behind}
 pub use Rattle.nit_host.specs.Host.{blank_sheets, called, client_of, first_host, forgotten}
 pub use Rattle.nit_host.specs.Host.{frame_by, frame_shown, handed, is_client, is_device, is_handed}
 pub use Rattle.nit_host.specs.Host.{is_live, lacks_handles, last_text, looked, most_comings}
 pub use Rattle.nit_host.specs.Host.{no_turns, picture, put, refreshed, reply_to, routed_of}
-pub use Rattle.nit_host.specs.Host.{sheet_in, stands, told, turn_of, unserved_call, unserved_input}
+pub use Rattle.nit_host.specs.Host.{has_live_view, seat_turn, sheet_in, told, unserved_call}
+pub use Rattle.nit_host.specs.Host.{unserved_input}
 pub use Rattle.nit_host.specs.Host.{unserved_refresh, unserved_restack, with_handed, worn_out}
 pub use Rattle.nit_host.specs.Looked.{IsSeenBut, frame_at}
 pub use Rattle.nit_host.specs.Moves.{IsClickBy, IsKillBy, IsKillClick, IsTakenByClicks}

@@ -1,6 +1,6 @@
 //! A display server that a host program drives, with the words of its clients.
 //!
-//! A host has up to 16 seats. A client comes to a free one under a label ([`Host::seat`]), calls
+//! A host has up to 64 seats. A client comes to a free one under a label ([`Host::seat`]), calls
 //! ([`Host::call`]), hands in words ([`Host::refresh`]) and goes. What the user does is one call
 //! ([`Host::input`]), and so is a look at what of the frame changed ([`Host::look`],
 //! [`Host::damage`]). A call names its client ([`Client`]), so that none of a former client of the
@@ -27,5 +27,5 @@ mod sheet;
 
 pub use client::Client;
 pub use host::Host;
-pub use planning::{SeatPlan, plan};
+pub use planning::{ScreenPlan, SeatPlan, plan};
 pub use refusal::{PlanError, Uncopied, Unseated, Unserved};

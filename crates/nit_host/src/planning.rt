@@ -3,15 +3,19 @@
 ghost use Rattle.std.specs.Prelude.{◌≡◌, ◌<◌, ◌≤◌, None, Some, Ok, Err, IfOk, MatchResult, length};
 ghost use Rattle.std.specs.Prelude.{map, nat_le};
 ghost use Rattle.nit_host.specs.Terms.{IsConfiguration, PlanError, enumerate_from, hex_digit};
-ghost use Rattle.nit_host.specs.Terms.{is_screen, is_within, least_units, list_all, most_sessions};
+ghost use Rattle.nit_host.specs.Terms.{is_screen, is_within, least_units, lettered, list_all};
+ghost use Rattle.nit_host.specs.Terms.{most_sessions};
 ghost use Rattle.nit_host.specs.Terms.{most_units, no_script, planned, refused_plan, waiting_label};
 ghost use Rattle.nit_host.specs.Terms.{waiting_member};
 
 use crate::refusal::PlanError;
 use nit_config::{Config, FileName, Member};
-use nit_glyph::Label;
+use nit_glyph::{Label, Lettering, text_size};
 use nit_rect::{LEAST_UNITS, MOST_HEIGHT, MOST_SESSIONS, MOST_UNITS, MOST_WIDTH, NoMemory};
 use std::alloc::Global;
+
+/// The most pixels of the side of a dot.
+const MOST_SCALE: u32 = 8;
 
 /// What a seat gives to whoever sits there.
 #[derive(Clone, Copy, Debug, PartialEq, Eq)]
@@ -24,42 +28,52 @@ pub struct SeatPlan {
     pub clicks: bool,
 }
 
-/// The configuration of a screen of `width`, 1..=4096, by `height`, 1..=4096, pixels, whose seven
-/// topmost rows are the status bar where there is one, with these seats, 1 to 16 of them. At a seat
-/// waits a label, `.0` to `.f`, until a client brings another. The scripts are named `-`.
+/// What a screen has.
+#[derive(Clone, Copy, Debug, PartialEq, Eq)]
+pub struct ScreenPlan {
+    /// The width in pixels: 1..=4096.
+    pub width: u32,
+    /// The height in pixels: 1..=4096.
+    pub height: u32,
+    /// Whether the topmost rows are the status bar. It has as many as a text is high, and leaves a
+    /// row below.
+    pub bar: bool,
+    /// How labels and the status bar are drawn. A dot is 1 to 8 pixels wide and high.
+    pub lettering: Lettering,
+}
+
+/// The configuration of this screen with these seats, 1 to 64 of them; a server of it is opened
+/// with the screen's lettering. At a seat waits a label, `.00` to `.3f`, until a client brings
+/// another. The scripts are named `-`.
 ///
 /// # Errors
 ///
 /// `Screen`, `Seats`, `Donation` and `Layer`, the first of them that applies, and else `NoMemory`
 /// where memory runs out.
-pub fn plan(
-    alloc: Global,
-    width: u32,
-    height: u32,
-    bar: bool,
-    seats: &[SeatPlan],
-) -> Result<Config, PlanError>
-    ensures planned { refused_plan width height bar seats.now ≡ None
-        → MatchResult result (λ config. config ≡ planned width height bar seats.now)
+pub fn plan(alloc: Global, screen: &ScreenPlan, seats: &[SeatPlan]) -> Result<Config, PlanError>
+    ensures planned { refused_plan screen.now seats.now ≡ None
+        → MatchResult result
+        (λ config. lettered screen.now.lettering config ≡ planned screen.now seats.now)
         (λ why. why ≡ PlanError.NoMemory) }
-    ensures refused { (why : PlanError) → refused_plan width height bar seats.now ≡ Some why
+    ensures refused { (why : PlanError) → refused_plan screen.now seats.now ≡ Some why
         → result ≡ Err why }
-    ensures configured { IfOk result (λ config. IsConfiguration config) }
+    ensures configured { IfOk result
+        (λ config. IsConfiguration (lettered screen.now.lettering config)) }
 {
-    if let Some(why) = refusal(width, height, bar, seats) {
+    if let Some(why) = refusal(screen, seats) {
         return Err(why);
     }
-    match configuration(alloc, width, height, bar, seats) {
+    match configuration(alloc, screen, seats) {
         Ok(config) => Ok(config),
         Err(NoMemory) => Err(PlanError::NoMemory),
     }
 }
 
 /// Why a plan is refused, if it is.
-fn refusal(width: u32, height: u32, bar: bool, seats: &[SeatPlan]) -> Option<PlanError>
-    ensures { result ≡ refused_plan width height bar seats.now }
+fn refusal(screen: &ScreenPlan, seats: &[SeatPlan]) -> Option<PlanError>
+    ensures { result ≡ refused_plan screen.now seats.now }
 {
-    if !is_screen(width, height, bar) {
+    if !is_screen(screen) {
         Some(PlanError::Screen)
     } else if !is_count(seats.len()) {
         Some(PlanError::Seats)
@@ -72,11 +86,15 @@ fn refusal(width: u32, height: u32, bar: bool, seats: &[SeatPlan]) -> Option<Pla
     }
 }
 
-/// Whether a screen may have this size, and the status bar fits where there is one.
-fn is_screen(width: u32, height: u32, bar: bool) -> bool
-    ensures { result ≡ is_screen width height bar }
+/// Whether a screen may have this size and draw its texts so, and the status bar fits where there
+/// is one.
+fn is_screen(screen: &ScreenPlan) -> bool
+    ensures { result ≡ is_screen screen.now }
 {
-    is_within(1, MOST_WIDTH, width) && is_within(1, MOST_HEIGHT, height) && (!bar || height >= 8)
+    is_within(1, MOST_WIDTH, screen.width)
+        && is_within(1, MOST_HEIGHT, screen.height)
+        && is_within(1, MOST_SCALE, screen.lettering.scale)
+        && (!screen.bar || text_size(screen.lettering, 1).1 < screen.height)
 }
 
 /// Whether there may be so many seats.
@@ -110,20 +128,15 @@ fn have_layers(seats: &[SeatPlan]) -> bool
 }
 
 /// The configuration of a plan that is not refused.
-fn configuration(
-    alloc: Global,
-    width: u32,
-    height: u32,
-    bar: bool,
-    seats: &[SeatPlan],
-) -> Result<Config, NoMemory>
-    requires { refused_plan width height bar seats.now ≡ None }
-    ensures { IfOk result (λ config. config ≡ planned width height bar seats.now) }
+fn configuration(alloc: Global, screen: &ScreenPlan, seats: &[SeatPlan]) -> Result<Config, NoMemory>
+    requires { refused_plan screen.now seats.now ≡ None }
+    ensures { IfOk result
+        (λ config. lettered screen.now.lettering config ≡ planned screen.now seats.now) }
 {
     Ok(Config {
-        width,
-        height,
-        bar,
+        width: screen.width,
+        height: screen.height,
+        bar: screen.bar,
         input: no_script(alloc)?,
         clients: members(alloc, seats)?,
     })
@@ -168,7 +181,8 @@ fn waiting_label(seat: usize) -> Label
     requires { seat < most_sessions }
     ensures { result ≡ waiting_label seat }
 {
-    match Label::new(&[b'.', hex_digit(seat as u8)]) {
+    let number = seat as u8;
+    match Label::new(&[b'.', hex_digit(number / 16), hex_digit(number % 16)]) {
         Some(label) => label,
         None => unreachable!(),
     }

@@ -50,10 +50,10 @@ pub enum Uncopied {
 pub enum PlanError {
     /// Memory ran out.
     NoMemory,
-    /// The screen is not 1..=4096 pixels wide and 1..=4096 high, or has a bar with fewer than 8
-    /// rows.
+    /// The screen is not 1..=4096 pixels wide and 1..=4096 high, a dot of its texts is not 1..=8
+    /// pixels wide and high, or it has a bar that leaves no row below.
     Screen,
-    /// There are not 1 to 16 seats.
+    /// There are not 1 to 64 seats.
     Seats,
     /// A donation is not 256..=268,435,456 units.
     Donation,

@@ -3,11 +3,11 @@ use Rattle.std.proofs.Common.{[], false, refl, sym, true, ℕ, ◌++◌, ◌+◌
 use Rattle.std.proofs.Common.{arith, cond, get_or, length, take, max, remove, slice_get, suc, zero}
 use Rattle.std.proofs.Common.{◌||◌}
 use Rattle.nit_look.proofs.Basics.{All, All-append, All-drop, All-get_or, All-push, All-take}
-use Rattle.nit_look.proofs.Basics.{AreParts, Area, HasPlaces, IsAdded, IsApartFrom, IsJoined}
+use Rattle.nit_look.proofs.Basics.{AreParts, Area, HasPlaces, IsAreaAdded, IsApartFrom, IsJoined}
 use Rattle.nit_look.proofs.Basics.{IsSomeAnd, around, false≢true, get_or-le-sum_by, has_any}
-use Rattle.nit_look.proofs.Basics.{has_place, is_within, length-append, length-remove, list_any}
-use Rattle.nit_look.proofs.Basics.{meets, most_parts, nat_tests, sum_by-cons, sum_by-remove}
-use Rattle.nit_look.proofs.Basics.{sum_by_push, times}
+use Rattle.nit_look.proofs.Basics.{has_place, is_area_within, length-append, length-remove, list_any}
+use Rattle.nit_look.proofs.Basics.{areas_meet, most_parts, nat_tests, sum_by-cons, sum_by-remove}
+use Rattle.nit_look.proofs.Basics.{sum_by_push, areas_over}
 
 -- what holds of what stands at a place holds of what was read there
 pub read_at : (P : Area → Type 0) (areas : List Area) (k : ℕ) (part : Area) → part ≡ get_or areas k part
@@ -26,41 +26,41 @@ around_own a b x y is = grind (arith, nat_tests)
 pub around_other : (a b : Area) (x y : ℕ) → has_place b x y ≡ true → has_place (around a b) x y ≡ true
 around_other a b x y is = grind (arith, nat_tests)
 
-around_within : (a b c : Area) → is_within a c ≡ true → is_within b c ≡ true → is_within (around a b) c ≡ true
+around_within : (a b c : Area) → is_area_within a c ≡ true → is_area_within b c ≡ true → is_area_within (around a b) c ≡ true
 around_within a b c one other = grind (arith, nat_tests)
 
 around_places : (a b : Area) → HasPlaces a → HasPlaces (around a b)
 around_places a b some = record { across = omega (arith, some.across); down = omega (arith, some.down) }
 
-inside_other : (a b : Area) (x y : ℕ) → is_within a b ≡ true → has_place a x y ≡ true → has_place b x y ≡ true
+inside_other : (a b : Area) (x y : ℕ) → is_area_within a b ≡ true → has_place a x y ≡ true → has_place b x y ≡ true
 inside_other a b x y within is = grind (arith, nat_tests)
 
 first_place : (a : Area) → HasPlaces a → has_place a a.left a.top ≡ true
 first_place a some = grind (arith, nat_tests, some.across, some.down)
 
 -- a pixel of both
-common : (a b : Area) → HasPlaces a → HasPlaces b → meets a b ≡ true
+common : (a b : Area) → HasPlaces a → HasPlaces b → areas_meet a b ≡ true
     → (has_place a (max a.left b.left) (max a.top b.top) ≡ true)
     × (has_place b (max a.left b.left) (max a.top b.top) ≡ true)
 common a b some more met =
     (grind (arith, nat_tests, some.across, some.down), grind (arith, nat_tests, more.across, more.down))
 
-not_met : (a b : Area) (x y : ℕ) → meets a b ≡ false → has_place b x y ≡ true → has_place a x y ≡ false
+not_met : (a b : Area) (x y : ℕ) → areas_meet a b ≡ false → has_place b x y ≡ true → has_place a x y ≡ false
 not_met a b x y apart is = grind (arith, nat_tests)
 
 -- ---- how many areas have a pixel
 
-times-cons : (a : Area) (areas : List Area) (x y : ℕ)
-    → times (a ∷ areas) x y ≡ cond (has_place a x y) 1 0 + times areas x y
-times-cons a areas x y = sum_by-cons (λ (p : Area). cond (has_place p x y) 1 0) a areas
+areas_over-cons : (a : Area) (areas : List Area) (x y : ℕ)
+    → areas_over (a ∷ areas) x y ≡ cond (has_place a x y) 1 0 + areas_over areas x y
+areas_over-cons a areas x y = sum_by-cons (λ (p : Area). cond (has_place p x y) 1 0) a areas
 
 times_push : (areas : List Area) (a : Area) (x y : ℕ)
-    → times (areas ++ a ∷ []) x y ≡ times areas x y + cond (has_place a x y) 1 0
+    → areas_over (areas ++ a ∷ []) x y ≡ areas_over areas x y + cond (has_place a x y) 1 0
 times_push areas a x y = sum_by_push (λ (p : Area). cond (has_place p x y) 1 0) areas a
 
-times-remove : (areas : List Area) (k : ℕ) (d : Area) (x y : ℕ) → k < length areas
-    → times (remove areas k) x y + cond (has_place (get_or areas k d) x y) 1 0 ≡ times areas x y
-times-remove areas k d x y less = sum_by-remove (λ (p : Area). cond (has_place p x y) 1 0) areas k d less
+areas_over-remove : (areas : List Area) (k : ℕ) (d : Area) (x y : ℕ) → k < length areas
+    → areas_over (remove areas k) x y + cond (has_place (get_or areas k d) x y) 1 0 ≡ areas_over areas x y
+areas_over-remove areas k d x y less = sum_by-remove (λ (p : Area). cond (has_place p x y) 1 0) areas k d less
 
 times_at : (areas : List Area) (k : ℕ) (d : Area) (x y : ℕ) → k < length areas
     → has_place (get_or areas k d) x y ≡ true → has_any areas x y ≡ true
@@ -69,21 +69,21 @@ times_at areas k d x y less is =
     grind (arith, nat_tests)
 
 -- none of the areas that a pixel's area does not meet has it
-none_met : (one : Area) (areas : List Area) (x y : ℕ) → list_any (λ a. meets a one) areas ≡ false
-    → has_place one x y ≡ true → times areas x y ≡ 0
+none_met : (one : Area) (areas : List Area) (x y : ℕ) → list_any (λ a. areas_meet a one) areas ≡ false
+    → has_place one x y ≡ true → areas_over areas x y ≡ 0
 none_met one [] x y none is = refl
 none_met one (a ∷ areas) x y none is =
-    grind (arith, nat_tests, times-cons a areas x y, none_met one areas x y, not_met a one x y)
+    grind (arith, nat_tests, areas_over-cons a areas x y, none_met one areas x y, not_met a one x y)
 
-pub apart_from : (one : Area) (areas : List Area) → list_any (λ a. meets a one) areas ≡ false → IsApartFrom one areas
+pub apart_from : (one : Area) (areas : List Area) → list_any (λ a. areas_meet a one) areas ≡ false → IsApartFrom one areas
 apart_from one areas none x y is = let zero = none_met one areas x y none is in grind (arith, nat_tests)
 
 -- an area that lies in one of them
-inside_any : (a : Area) (areas : List Area) (x y : ℕ) → list_any (is_within a) areas ≡ true
-    → has_place a x y ≡ true → 0 < times areas x y
+inside_any : (a : Area) (areas : List Area) (x y : ℕ) → list_any (is_area_within a) areas ≡ true
+    → has_place a x y ≡ true → 0 < areas_over areas x y
 inside_any a [] x y inside is = absurd (false≢true inside)
 inside_any a (p ∷ areas) x y inside is =
-    grind (arith, nat_tests, times-cons p areas x y, inside_any a areas x y, inside_other a p x y)
+    grind (arith, nat_tests, areas_over-cons p areas x y, inside_any a areas x y, inside_other a p x y)
 
 -- ---- a step: one of the areas is taken out
 
@@ -114,13 +114,13 @@ module _ (areas : List Area) (k : ℕ) (part one : Area) (less : k < length area
   kept_parts are = record {
     few = omega (arith, are.few, length-remove areas k less);
     pixels = all_kept HasPlaces are.pixels;
-    once = λ x y. omega (arith, are.once x y, times-remove areas k part x y less);
+    once = λ x y. omega (arith, are.once x y, areas_over-remove areas k part x y less);
   }
 
   kept_own : (x y : ℕ) → (has_place one x y || has_any areas x y) ≡ true
       → (has_place (around one part) x y || has_any (remove areas k) x y) ≡ true
   kept_own x y is =
-      let count = rw (← at) at (times-remove areas k part x y less) in
+      let count = rw (← at) at (areas_over-remove areas k part x y less) in
       grind (arith, nat_tests, count, around_own one part x y, around_other one part x y)
 
   pub joined_one : IsJoined areas one (remove areas k) (around one part)
@@ -130,12 +130,12 @@ module _ (areas : List Area) (k : ℕ) (part one : Area) (less : k < length area
     pixels = around_places one part;
     own = kept_own;
     within = λ a all is.
-        let inside : Area → Type 0 = λ p. is_within p a ≡ true in
+        let inside : Area → Type 0 = λ p. is_area_within p a ≡ true in
         (all_kept inside all, around_within one part a is (rw (← at) at (All-get_or inside areas k part less all)));
   }
 
-  -- it is one that meets the area
-  pub met_not_apart : AreParts areas → HasPlaces one → meets part one ≡ true → IsApartFrom one areas → ⊥
+  -- it is one that areas_meet the area
+  pub met_not_apart : AreParts areas → HasPlaces one → areas_meet part one ≡ true → IsApartFrom one areas → ⊥
   met_not_apart are some met apart =
       let there : HasPlaces part = rw (← at) at (All-get_or HasPlaces areas k part less are.pixels) in
       let pixel = common part one there some met in
@@ -145,7 +145,7 @@ module _ (areas : List Area) (k : ℕ) (part one : Area) (less : k < length area
 
 -- ---- an area is added
 
-pub added_none : (old : List Area) (a : Area) → ((x y : ℕ) → has_place a x y ≡ false) → IsAdded old a old
+pub added_none : (old : List Area) (a : Area) → ((x y : ℕ) → has_place a x y ≡ false) → IsAreaAdded old a old
 added_none old a none = record {
   kept = λ x y is. is;
   own = λ x y is. absurd (false≢true (sym (none x y) ∙ is));
@@ -155,7 +155,7 @@ added_none old a none = record {
   apart = λ some few apart. absurd (false≢true (sym (none a.left a.top) ∙ first_place a some));
 }
 
-pub added_inside : (old : List Area) (a : Area) → list_any (is_within a) old ≡ true → IsAdded old a old
+pub added_inside : (old : List Area) (a : Area) → list_any (is_area_within a) old ≡ true → IsAreaAdded old a old
 added_inside old a inside = record {
   kept = λ x y is. is;
   own = λ x y is. let more = inside_any a old x y inside is in grind (arith, nat_tests);
@@ -179,14 +179,14 @@ module _ (old new : List Area) (a all : Area) (some : HasPlaces a) (joined : IsJ
         once = λ x y. grind (arith, nat_tests, times_push new all x y, parts.once x y, apart x y);
       }
 
-  pub added_last : list_any (is_within a) old ≡ false
-      → (length old < most_parts → IsApartFrom a old → (new ≡ old) × (all ≡ a)) → IsAdded old a (new ++ all ∷ [])
+  pub added_last : list_any (is_area_within a) old ≡ false
+      → (length old < most_parts → IsApartFrom a old → (new ≡ old) × (all ≡ a)) → IsAreaAdded old a (new ++ all ∷ [])
   added_last outside same = record {
     kept = λ x y is. grind (arith, nat_tests, joined.own x y, times_push new all x y);
     own = λ x y is. grind (arith, nat_tests, joined.own x y, times_push new all x y);
     within = λ b held is.
         let at = joined.within b held is in
-        All-push (λ p. is_within p b ≡ true) new all at.0 at.1;
+        All-push (λ p. is_area_within p b ≡ true) new all at.0 at.1;
     empty = λ none. absurd (false≢true (sym (none a.left a.top) ∙ first_place a some));
     inside = λ inside. absurd (false≢true (sym outside ∙ inside));
     apart = λ places few is. let e = same few is in rw (e.0, e.1) refl;

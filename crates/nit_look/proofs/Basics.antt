@@ -1,12 +1,12 @@
 -- What lemmas use: the words of clauses, the library's lemmas, and those of the crates below.
 pub use Rattle.nit_look.specs.Terms.{AgreeIn, AgreeOutside, All, AreEdges, AreParts, Area, Bound}
-pub use Rattle.nit_look.specs.Terms.{CoversChange, Differs, DiffersWhere, Edges, HasPlaces, IsAdded}
+pub use Rattle.nit_look.specs.Terms.{CoversChange, Differs, DiffersWhere, Edges, HasPlaces, IsAreaAdded}
 pub use Rattle.nit_look.specs.Terms.{IsApartFrom, IsAreaOf, IsBetween, IsJoined, IsMerged}
 pub use Rattle.nit_look.specs.Terms.{IsSomeAnd, IsSpan, IsTouched, LiesOn, None, Span, Spans}
-pub use Rattle.nit_look.specs.Terms.{around, drop, has_any, has_place, has_room, high, is_in_rows}
-pub use Rattle.nit_look.specs.Terms.{is_in_span, is_within, list_any, meets, most_parts}
+pub use Rattle.nit_look.specs.Terms.{around, drop, has_any, has_place, area_height, has_room, is_in_rows}
+pub use Rattle.nit_look.specs.Terms.{is_in_span, is_area_within, list_any, areas_meet, most_parts}
 pub use Rattle.nit_look.specs.Terms.{picture_row, place_at, pos, rectangle_between, slice_index}
-pub use Rattle.nit_look.specs.Terms.{take, times, wide}
+pub use Rattle.nit_look.specs.Terms.{take, areas_over, area_width}
 pub use Rattle.std.proofs.Common.{Bool, IfSome, List, Option, Some, ap, arith, cond, false, inl}
 pub use Rattle.std.proofs.Common.{inr, length, max, min, mul_comm, refl, ◌∙◌}
 pub use Rattle.std.proofs.Math.Nat.{le-div_iff_mul-le}

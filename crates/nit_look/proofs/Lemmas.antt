@@ -5,8 +5,8 @@ pub use Rattle.nit_look.proofs.Around.{one_more_in, one_more_on}
 pub use Rattle.nit_look.proofs.Basics.{AgreeIn, AreEdges, AreParts, CoversChange, HasPlaces}
 pub use Rattle.nit_look.proofs.Basics.{IsApartFrom, IsAreaOf, IsJoined, IsMerged, IsTouched, LiesOn}
 pub use Rattle.nit_look.proofs.Basics.{None, Some, arith, around, drop, has_any, has_place, ints}
-pub use Rattle.nit_look.proofs.Basics.{is_in_rows, is_within, length-drop, length-take, list_any}
-pub use Rattle.nit_look.proofs.Basics.{meets, mul_comm, refl, row_fits, ◌∙◌}
+pub use Rattle.nit_look.proofs.Basics.{is_in_rows, is_area_within, length-drop, length-take, list_any}
+pub use Rattle.nit_look.proofs.Basics.{areas_meet, mul_comm, refl, row_fits, ◌∙◌}
 pub use Rattle.nit_look.proofs.Copied.{IsCopied, all_edges, copied_in, kept_outside, none_differs}
 pub use Rattle.nit_look.proofs.Copied.{shown_between, whole_frame}
 pub use Rattle.nit_look.proofs.Merging.{part_copied, row_merged, span_shifted}

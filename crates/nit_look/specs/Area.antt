@@ -20,13 +20,13 @@ pub record IsAreaOf (width height : ℕ) (a : Area) : Type 0 where
   pub high : a.bottom ≤ height
 
 -- its edges are within those of the other
-abbrev pub is_within : Area → Area → Bool
-is_within a b =
+abbrev pub is_area_within : Area → Area → Bool
+is_area_within a b =
     nat_le b.left a.left && nat_le b.top a.top && nat_le a.right b.right && nat_le a.bottom b.bottom
 
 -- of two areas that have pixels: a pixel lies in both
-abbrev pub meets : Area → Area → Bool
-meets a b =
+abbrev pub areas_meet : Area → Area → Bool
+areas_meet a b =
     nat_lt a.left b.right && nat_lt b.left a.right && nat_lt a.top b.bottom && nat_lt b.top a.bottom
 
 -- the area that is bounded by the outermost edges of both

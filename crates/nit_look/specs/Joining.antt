@@ -1,6 +1,6 @@
 -- Areas that become one with another area.
 use Rattle.std.specs.Prelude.{◌≡◌, ◌≤◌, ◌||◌, ℕ, true, false, List, length}
-use Rattle.nit_look.specs.Area.{HasPlaces, has_place, is_within}
+use Rattle.nit_look.specs.Area.{HasPlaces, has_place, is_area_within}
 use Rattle.nit_look.specs.Below.{Area}
 use Rattle.nit_look.specs.Parts.{AreParts, AreWithin, has_any}
 
@@ -12,8 +12,8 @@ pub record IsJoined (old : List Area) (one : Area) (new : List Area) (all : Area
   pub pixels : HasPlaces one → HasPlaces all
   pub own : (x y : ℕ) → (has_place one x y || has_any old x y) ≡ true
       → (has_place all x y || has_any new x y) ≡ true
-  pub within : (a : Area) → AreWithin a old → is_within one a ≡ true
-      → AreWithin a new × (is_within all a ≡ true)
+  pub within : (a : Area) → AreWithin a old → is_area_within one a ≡ true
+      → AreWithin a new × (is_area_within all a ≡ true)
 
 -- it meets none of them
 abbrev pub IsApartFrom : Area → List Area → Type 0

@@ -4,25 +4,26 @@ use Rattle.std.specs.Prelude.{slice_index}
 use Rattle.nit_look.specs.Below.{Area}
 
 -- the columns and the rows of an area
-abbrev pub wide : Area → ℕ
-wide a = a.right - a.left
+abbrev pub area_width : Area → ℕ
+area_width a = a.right - a.left
 
-abbrev pub high : Area → ℕ
-high a = a.bottom - a.top
+abbrev pub area_height : Area → ℕ
+area_height a = a.bottom - a.top
 
 -- The area has no pixel, or as many of its rows as it has fit among so many words, where each row
 -- begins so many words behind the one above: no two overlap, and the last one ends in time.
 abbrev pub has_room : Area → ℕ → ℕ → Bool
 has_room a pitch words =
-    (wide a == 0 || high a == 0)
-    || ((high a == 1 || nat_le (wide a) pitch) && nat_le ((high a - 1) * pitch + wide a) words)
+    (area_width a == 0 || area_height a == 0)
+    || ((area_height a == 1 || nat_le (area_width a) pitch)
+    && nat_le ((area_height a - 1) * pitch + area_width a) words)
 
 -- Each pixel of the area, by its row and column in it, stands at its place among rows of which each
 -- begins so many words behind the one above. No other word has changed.
-pub record IsPut (width : ℕ) (a : Area) (pitch : ℕ) (frame before after : List ℕ) : Type 0 where
-  pub put : (row column : ℕ) → row < high a → column < wide a
+pub record IsPartPut (width : ℕ) (a : Area) (pitch : ℕ) (frame before after : List ℕ) : Type 0 where
+  pub put : (row column : ℕ) → row < area_height a → column < area_width a
       → slice_index after (row * pitch + column)
       ≡ slice_index frame ((a.top + row) * width + (a.left + column))
   pub kept : (k : ℕ)
-      → ((row column : ℕ) → row < high a → column < wide a → k ≢ row * pitch + column)
+      → ((row column : ℕ) → row < area_height a → column < area_width a → k ≢ row * pitch + column)
       → slice_index after k ≡ slice_index before k

@@ -1,7 +1,8 @@
 //! A part of a screen, as columns and rows.
 
 ghost use Rattle.std.specs.Prelude.{◌≡◌, ◌≤◌, ◌<◌, ◌&&◌, ℕ, false, true};
-ghost use Rattle.nit_look.specs.Terms.{HasPlaces, IsAreaOf, around, has_place, is_within, meets};
+ghost use Rattle.nit_look.specs.Terms.{HasPlaces, IsAreaOf, areas_meet, around, has_place};
+ghost use Rattle.nit_look.specs.Terms.{is_area_within};
 ghost use Rattle.nit_look.specs.Terms.{most_height, most_width, rectangle_over};
 
 use nit_rect::Rect;
@@ -78,7 +79,7 @@ impl Area {
 
     /// Whether its edges are within those of the other.
     pub(crate) fn is_within(&self, other: &Area) -> bool
-        ensures { result ≡ is_within self.now other.now }
+        ensures { result ≡ is_area_within self.now other.now }
     {
         other.left <= self.left
             && other.top <= self.top
@@ -88,7 +89,7 @@ impl Area {
 
     /// Whether a pixel lies in both, which have pixels.
     pub(crate) fn meets(&self, other: &Area) -> bool
-        ensures { result ≡ meets self.now other.now }
+        ensures { result ≡ areas_meet self.now other.now }
     {
         self.left < other.right
             && other.left < self.right

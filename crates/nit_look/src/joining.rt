@@ -2,7 +2,8 @@
 
 ghost use Rattle.std.specs.Prelude.{◌≡◌, ◌<◌, None, IfSome, IsSomeAnd, false, length, slice_get};
 ghost use Rattle.std.specs.Prelude.{true};
-ghost use Rattle.nit_look.specs.Terms.{AreParts, HasPlaces, IsApartFrom, IsJoined, list_any, meets};
+ghost use Rattle.nit_look.specs.Terms.{AreParts, HasPlaces, IsApartFrom, IsJoined, areas_meet};
+ghost use Rattle.nit_look.specs.Terms.{list_any};
 ghost use Rattle.nit_look.specs.Terms.{most_parts};
 
 use crate::area::Area;
@@ -64,8 +65,8 @@ fn join_nearest(areas: &mut ArrayVec<Area, MOST_PARTS>, one: &Area) -> Area
 /// The place of the first area that meets another one, which all have pixels.
 fn first_met(areas: &[Area], one: &Area) -> Option<usize>
     ensures some { IfSome result (λ k. IsSomeAnd (slice_get areas.now k)
-        (λ a. meets a one.now ≡ true)) }
-    ensures none { result ≡ None → list_any (λ a. meets a one.now) areas.now ≡ false }
+        (λ a. areas_meet a one.now ≡ true)) }
+    ensures none { result ≡ None → list_any (λ a. areas_meet a one.now) areas.now ≡ false }
 {
     'areas: for place in 0..areas.len() {
         if areas[place].meets(one) {

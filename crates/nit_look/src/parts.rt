@@ -1,8 +1,8 @@
 //! What of a screen may have changed, as a few areas.
 
 ghost use Rattle.std.specs.Prelude.{◌≡◌, ◌<◌, [], ℕ, All, true};
-ghost use Rattle.nit_look.specs.Terms.{AreParts, AreWithin, IsAdded, IsAreaOf, has_any, has_place};
-ghost use Rattle.nit_look.specs.Terms.{is_within, list_any};
+ghost use Rattle.nit_look.specs.Terms.{AreParts, AreWithin, IsAreaAdded, IsAreaOf, has_any};
+ghost use Rattle.nit_look.specs.Terms.{has_place, is_area_within, list_any};
 
 use crate::area::Area;
 use crate::joining::join;
@@ -44,7 +44,7 @@ impl Parts {
     /// Adds the pixels of an area, and takes no memory. Areas that it meets become one with it, as
     /// the area round both. Where there are 16 others, the one that grows least by it does.
     pub fn add(&mut self, area: &Area)
-        ensures added { IsAdded self.old area.now self.new }
+        ensures added { IsAreaAdded self.old area.now self.new }
         ensures parts { AreParts self.new }
     {
         if area.is_empty() || is_inside_one(area, self.areas.as_slice()) {
@@ -82,7 +82,7 @@ impl Parts {
 
 /// Whether an area lies in one of these.
 fn is_inside_one(area: &Area, areas: &[Area]) -> bool
-    ensures { result ≡ list_any (is_within area.now) areas.now }
+    ensures { result ≡ list_any (is_area_within area.now) areas.now }
 {
     areas.iter().any(|part| area.is_within(part))
 }

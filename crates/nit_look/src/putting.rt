@@ -1,7 +1,7 @@
 //! A part of a picture, put among rows of another length.
 
 ghost use Rattle.std.specs.Prelude.{◌≡◌, ◌≤◌, ◌*◌, length, true};
-ghost use Rattle.nit_look.specs.Terms.{IsPut, has_room};
+ghost use Rattle.nit_look.specs.Terms.{IsPartPut, has_room};
 
 use crate::area::Area;
 
@@ -13,7 +13,7 @@ pub fn put_part(frame: &[u32], width: usize, part: &Area, out: &mut [u32], pitch
     requires wide { part.now.right ≤ width }
     requires high { part.now.bottom * width ≤ length frame.now }
     requires room { has_room part.now pitch (length out.old) ≡ true }
-    ensures { IsPut width part.now pitch frame.now out.old out.new }
+    ensures { IsPartPut width part.now pitch frame.now out.old out.new }
 {
     let wide = (part.right - part.left) as usize;
     if wide == 0 {

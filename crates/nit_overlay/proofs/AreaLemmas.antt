@@ -4,7 +4,7 @@ use Rattle.std.proofs.Common.{rules, slice_index, true, ℕ, ◌%◌, ◌*◌, �
 use Rattle.std.proofs.Common.{◌≡◌, ◌≤◌, ◌⊎◌}
 use Rattle.nit_overlay.proofs.Basics.{Area, IsAreaBy, IsOverlaid, IsPainted, Scenery, bar_text}
 use Rattle.nit_overlay.proofs.Basics.{bar_word, between, cases_lt, div-lt_iff_lt-mul, div-mul-add}
-use Rattle.nit_overlay.proofs.Basics.{dot, get_or-between, in_area, ink_of, ints, is_in_picture}
+use Rattle.nit_overlay.proofs.Basics.{get_or-between, in_area, ink_of, ints, is_in_picture, picture_height, text_dot, Lettering}
 use Rattle.nit_overlay.proofs.Basics.{le-div, max, mod-mul-add, nat_lt, nat_tests, picture_width}
 use Rattle.nit_overlay.proofs.Basics.{pixel, places, point, unowned_word}
 use Rattle.nit_overlay.proofs.FrameLemmas.{in_bar_row}
@@ -90,6 +90,18 @@ pub record RowsSoFar (f : ℕ → ℕ → ℕ) (a : Area) (width : ℕ) (raw old
 below : (a : Area) (width k : ℕ) → 0 < width → a.bottom * width ≤ k → in_area a (k % width) (k / width) ≡ false
 below a width k some ge =
     let row : a.bottom ≤ k / width = le-div a.bottom k width some ge in grind (arith, nat_tests)
+
+-- no row so far
+pub no_row : {f : ℕ → ℕ → ℕ} {a : Area} {width : ℕ} {raw old : List ℕ} → 0 < width
+    → a.top ≤ a.bottom → RowsSoFar f a width raw old old a.top
+no_row {f} {a} {width} {raw} {old} some down = record {
+  after = omega arith;
+  inside = down;
+  whole = record { words = λ k lt. grind (arith, nat_tests, above k lt); rest = λ k ge. refl };
+}
+  where
+    above : (k : ℕ) → k < a.top * width → k / width < a.top
+    above k lt = (div-lt_iff_lt-mul some).1 lt
 
 -- a row whose words are told by their indexes
 next_part : {f : ℕ → ℕ → ℕ} {a : Area} {width y : ℕ} {raw old now new : List ℕ} → RowsSoFar f a width raw old now y
@@ -223,30 +235,34 @@ more_columns {f} {a} {width} {x} {next} far le within part = record {
 abbrev pub bar_area : ℕ → ℕ → Area
 bar_area width bar = record { left = 0; top = 0; right = width; bottom = bar }
 
--- in the picture of the text, and after it
-in_text : (s : Scenery) (x y : ℕ) → x < picture_width (length (bar_text s)) → y < 7
-    → ink_of (dot (bar_text s) (x - 0) (y - 0)) ≡ bar_word s (point x y)
-in_text s x y left row =
-    let here : is_in_picture (bar_text s) 0 0 (point x y) ≡ true = grind (arith, ints) in rw here
+-- the columns that the picture of the bar's text has in a row
+abbrev text_end : Lettering → List ℕ → ℕ → ℕ
+text_end l text y = cond (nat_lt y (picture_height l)) (picture_width l (length text)) 0
 
-past_text : (s : Scenery) (x y : ℕ) → picture_width (length (bar_text s)) ≤ x → 0 ≡ bar_word s (point x y)
+-- in the picture of the text, and outside of it
+in_text : (s : Scenery) (x y : ℕ) → x < text_end s.lettering (bar_text s) y
+    → ink_of (text_dot s.lettering (bar_text s) (x - 0) (y - 0)) ≡ bar_word s (point x y)
+in_text s x y left =
+    let here : is_in_picture s.lettering (bar_text s) 0 0 (point x y) ≡ true = grind (arith, nat_tests, ints) in rw here
+
+past_text : (s : Scenery) (x y : ℕ) → text_end s.lettering (bar_text s) y ≤ x → 0 ≡ bar_word s (point x y)
 past_text s x y right =
-    let no : is_in_picture (bar_text s) 0 0 (point x y) ≡ false = grind (arith, ints) in rw no
+    let no : is_in_picture s.lettering (bar_text s) 0 0 (point x y) ≡ false = grind (arith, nat_tests, ints) in rw no
 
--- a row of the bar: the picture of its text, and black after it
+-- a row of the bar: the picture of its text, and black outside of it
 module _ (s : Scenery) (y : ℕ) {from cut to wide : ℕ} {text raw old new : List ℕ} (is : text ≡ bar_text s)
-    (width : wide ≡ picture_width (length text)) (least : cut ≡ max (min wide to) from) (order : from ≤ to) where
+    (width : wide ≡ text_end s.lettering text y) (least : cut ≡ max (min wide to) from) (order : from ≤ to) where
   bar_ground : from ≤ cut → (mid : List ℕ) → IsPainted (λ x w. bar_word s (point x y)) raw old mid from cut
       → IsPainted (λ x w. 0) raw mid new cut to → IsPainted (λ x w. bar_word s (point x y)) raw old new from to
   bar_ground le mid first ground = joined le (omega (arith, least)) first (painted_by ground (λ x w f l.
       let all = rw is at width in past_text s x y (omega (arith, all, least))))
 
-  pub bar_row : y < 7 → from < cut → (mid : List ℕ)
-      → IsPainted (λ x w. ink_of (dot text (x - 0) (y - 0))) raw old mid from cut
+  pub bar_row : from < cut → (mid : List ℕ)
+      → IsPainted (λ x w. ink_of (text_dot s.lettering text (x - 0) (y - 0))) raw old mid from cut
       → IsPainted (λ x w. 0) raw mid new cut to
       → IsPainted (λ x w. bar_word s (point x y)) raw old new from to
-  bar_row row some mid drawn ground = bar_ground (omega (arith, some)) mid (painted_by drawn (λ x w f l.
-      let all = rw is at width in rw is (in_text s x y (omega (arith, all, least, some, l)) row))) ground
+  bar_row some mid drawn ground = bar_ground (omega (arith, some)) mid (painted_by drawn (λ x w f l.
+      let all = rw is at width in rw is (in_text s x y (omega (arith, all, least, some, l))))) ground
 
   pub bar_black : cut ≤ from → IsPainted (λ x w. 0) raw old new cut to
       → IsPainted (λ x w. bar_word s (point x y)) raw old new from to

@@ -1,10 +1,11 @@
 -- What lemmas use: the words of clauses, the library's lemmas, and those of the crates below.
 pub use Rattle.nit_overlay.specs.Terms.{Area, Flat, IsAreaBy, IsBright, IsMark, IsOfNamed}
 pub use Rattle.nit_overlay.specs.Terms.{IsOverlaid, IsPainted, IsPlaced, IsReddish, IsRenewed}
-pub use Rattle.nit_overlay.specs.Terms.{IsShownIn, IsSlotView, IsWord, Kill, Look, Mode, NoPair}
+pub use Rattle.nit_overlay.specs.Terms.{IsShownIn, IsSlotView, IsWord, Kill, LetteredLook, Lettering}
+pub use Rattle.nit_overlay.specs.Terms.{Mode, NoPair, picture_height, plain, plain_look, text_dot}
 pub use Rattle.nit_overlay.specs.Terms.{Point, Rectangle, Scenery, SlotView, Text, View, ViewRef}
 pub use Rattle.nit_overlay.specs.Terms.{Xray, bar_text, bar_word, bare_word, between, by_label}
-pub use Rattle.nit_overlay.specs.Terms.{by_mode, codes, covers, dot, frame, grey_word, has_dot}
+pub use Rattle.nit_overlay.specs.Terms.{by_mode, codes, covers, frame, grey_word, has_dot}
 pub use Rattle.nit_overlay.specs.Terms.{in_area, in_bar, in_label, ink_of, is_dot_of_text}
 pub use Rattle.nit_overlay.specs.Terms.{is_in_picture, is_in_text, is_label_dot, is_on_ring}
 pub use Rattle.nit_overlay.specs.Terms.{is_same, is_slot, is_some, label_place_of, max, nat_lt}

@@ -1,7 +1,7 @@
 -- Worked rows of the screen, computed from the definitions.
 use Rattle.std.proofs.Common.{None, [], false, map, pos, refl, true, ℕ, ◌∷◌, ◌≡◌}
 use Rattle.nit_overlay.proofs.Basics.{Flat, Kill, Scenery, View, Xray, codes, in_label}
-use Rattle.nit_overlay.proofs.Basics.{is_label_dot, point, range_with_len, rectangle, shown}
+use Rattle.nit_overlay.proofs.Basics.{is_label_dot, plain, point, range_with_len, rectangle, shown}
 use Rattle.nit_glyph.specs.Pictures.{dot, glyph_rows}
 
 -- two views on a screen of 12 by 7: that of session 1, of 3 by 7, stands in front of the other, of 12 by 7
@@ -24,6 +24,7 @@ labelled = record {
   labels = codes "ab" ∷ codes "b" ∷ [];
   mode = Xray;
   focus = None;
+  lettering = plain;
 }
 
 abbrev F : ℕ
@@ -64,6 +65,7 @@ with_bar = record {
   labels = codes "a" ∷ [];
   mode = Flat;
   focus = None;
+  lettering = plain;
 }
 
 bar_row : map (λ x. shown with_bar (point x 1) 0xFF0000) (range_with_len 0 12) ≡ 0 ∷ F ∷ F ∷ F ∷ 0 ∷ F ∷ 0 ∷ 0 ∷ 0 ∷ 0

@@ -1,6 +1,7 @@
 -- Frames, word by word: who owns a pixel, what is shown of it, frames that are kept, and the server's marks.
 use Rattle.nit_overlay.proofs.Basics.{Area, Flat, IsBright, IsMark, IsOfNamed, IsReddish, IsRenewed}
-use Rattle.nit_overlay.proofs.Basics.{IsShownIn, IsWord, Kill, Look, Mode, NoPair, Point, Rectangle}
+use Rattle.nit_overlay.proofs.Basics.{IsShownIn, IsWord, Kill, LetteredLook, Lettering, Mode, NoPair}
+use Rattle.nit_overlay.proofs.Basics.{Point, Rectangle}
 use Rattle.nit_overlay.proofs.Basics.{Scenery, SlotView, View, ViewRef, Xray, bar_word, bare_word}
 use Rattle.nit_overlay.proofs.Basics.{by_label, by_mode, column_and_row, covers, ext_get_or}
 use Rattle.nit_overlay.proofs.Basics.{get_or-map-range_with_len, get_or_default, grey_word, has_dot}
@@ -53,13 +54,14 @@ shown_of_owner s p w v owns = grind arith
 mode_fits : (mode : Mode) (is_ring is_focused : Bool) (w : ℕ) → IsWord w → IsWord (by_mode mode is_ring is_focused w)
 mode_fits mode is_ring is_focused w fits = grind arith
 
-label_fits : (text : List ℕ) (place : Option (ℕ × ℕ)) (p : Point) (w : ℕ) → IsWord w → IsWord (by_label text place p w)
-label_fits text place p w fits = grind arith
+label_fits : (l : Lettering) (text : List ℕ) (place : Option (ℕ × ℕ)) (p : Point) (w : ℕ) → IsWord w
+    → IsWord (by_label l text place p w)
+label_fits l text place p w fits = grind arith
 
 view_fits : (mode : Mode) (s : Scenery) (v : View) (p : Point) (w : ℕ) → IsWord w → IsWord (view_word mode s v p w)
 view_fits Flat s v p w fits = fits
-view_fits Xray s v p w fits = label_fits _ _ p _ (mode_fits Xray _ _ w fits)
-view_fits Kill s v p w fits = label_fits _ _ p _ (mode_fits Kill _ _ w fits)
+view_fits Xray s v p w fits = label_fits s.lettering _ _ p _ (mode_fits Xray _ _ w fits)
+view_fits Kill s v p w fits = label_fits s.lettering _ _ p _ (mode_fits Kill _ _ w fits)
 
 owner_fits : (s : Scenery) (p : Point) (w : ℕ) (o : Option View) → IsWord w → IsWord (owner_word s p w o)
 owner_fits s p w None fits = omega arith
@@ -71,30 +73,30 @@ shown_fits s p w fits = grind (arith, owner_fits s p w (owner s.bar s.stack p) f
 -- ---- an area that is shown
 
 -- where the area has the pixels of a rectangle
-pub rect_shown : (a : Area) (look : Look) (r : Rectangle) {raw old now : List ℕ} → IsShownIn a look raw old now
-    → ((x y : ℕ) → x < look.stack.now.width → y < look.stack.now.height → in_area a x y ≡ covers r (point x y))
-    → (k : ℕ) → k < look.stack.now.width * look.stack.now.height
-    → get_or now k 0 ≡ cond (covers r (pixel look.stack.now.width k))
-    (shown (scenery look) (pixel look.stack.now.width k) (get_or raw k 0)) (get_or old k 0)
-rect_shown a look r all same k lt =
-    let on = column_and_row look.stack.now.width look.stack.now.height k lt in
-    rw (← same (k % look.stack.now.width) (k / look.stack.now.width) on.0 on.1) (all.words k lt)
+pub rect_shown : (a : Area) (l : LetteredLook) (r : Rectangle) {raw old now : List ℕ} → IsShownIn a l raw old now
+    → ((x y : ℕ) → x < l.look.stack.now.width → y < l.look.stack.now.height → in_area a x y ≡ covers r (point x y))
+    → (k : ℕ) → k < l.look.stack.now.width * l.look.stack.now.height
+    → get_or now k 0 ≡ cond (covers r (pixel l.look.stack.now.width k))
+    (shown (scenery l) (pixel l.look.stack.now.width k) (get_or raw k 0)) (get_or old k 0)
+rect_shown a l r all same k lt =
+    let on = column_and_row l.look.stack.now.width l.look.stack.now.height k lt in
+    rw (← same (k % l.look.stack.now.width) (k / l.look.stack.now.width) on.0 on.1) (all.words k lt)
 
 pub is_whole : (width height wide high x y : ℕ) → wide ≡ width → high ≡ height → x < width → y < height
     → in_area (record { left = 0; top = 0; right = wide; bottom = high }) x y ≡ true
 is_whole width height wide high x y w h lt less = grind (arith, nat_tests)
 
 -- where the area is the whole screen
-pub is_frame : (a : Area) (look : Look) {raw old now : List ℕ} → IsShownIn a look raw old now
-    → ((x y : ℕ) → x < look.stack.now.width → y < look.stack.now.height → in_area a x y ≡ true)
-    → length now ≡ look.stack.now.width * look.stack.now.height → now ≡ frame (scenery look) raw
-is_frame a look {raw} {old} {now} all same long =
-    same_number_lists now (frame (scenery look) raw) (long ∙ sym (length-frame (scenery look) raw))
+pub is_frame : (a : Area) (l : LetteredLook) {raw old now : List ℕ} → IsShownIn a l raw old now
+    → ((x y : ℕ) → x < l.look.stack.now.width → y < l.look.stack.now.height → in_area a x y ≡ true)
+    → length now ≡ l.look.stack.now.width * l.look.stack.now.height → now ≡ frame (scenery l) raw
+is_frame a l {raw} {old} {now} all same long =
+    same_number_lists now (frame (scenery l) raw) (long ∙ sym (length-frame (scenery l) raw))
     (λ k lt.
-    let within : k < look.stack.now.width * look.stack.now.height = omega arith in
-    let on = column_and_row look.stack.now.width look.stack.now.height k within in
-    (rw (same (k % look.stack.now.width) (k / look.stack.now.width) on.0 on.1) at (all.words k within))
-    ∙ sym (get_or-frame (scenery look) raw k within))
+    let within : k < l.look.stack.now.width * l.look.stack.now.height = omega arith in
+    let on = column_and_row l.look.stack.now.width l.look.stack.now.height k within in
+    (rw (same (k % l.look.stack.now.width) (k / l.look.stack.now.width) on.0 on.1) at (all.words k within))
+    ∙ sym (get_or-frame (scenery l) raw k within))
 
 pub frame_fits : (s : Scenery) (raw : List ℕ) → length raw ≡ s.width * s.height
     → ((k d : ℕ) → k < length raw → IsWord (get_or raw k d))
@@ -215,10 +217,10 @@ bare_run {seats} bar {y = y} far all below z from less =
 -- ---- a view's pixel in mode Xray
 
 -- the pixel is of the focused session, a dot of the label, or on the ring outside the label
-abbrev IsOneOf : List ℕ → Option (ℕ × ℕ) → Point → Bool → Bool → ℕ → Type 0
-IsOneOf text place p ring focused word =
-    (focused ≡ true) ⊎ ((is_dot_of_text text place p ≡ true) × (word ≡ white_word))
-    ⊎ ((is_in_text text place p ≡ false) × (ring ≡ true) × (word ≡ grey_word))
+abbrev IsOneOf : Lettering → List ℕ → Option (ℕ × ℕ) → Point → Bool → Bool → ℕ → Type 0
+IsOneOf l text place p ring focused word =
+    (focused ≡ true) ⊎ ((is_dot_of_text l text place p ≡ true) × (word ≡ white_word))
+    ⊎ ((is_in_text l text place p ≡ false) × (ring ≡ true) × (word ≡ grey_word))
 
 by_text : (inside dot ring focused : Bool) (w : ℕ) → IsWord w
     → IsBright (cond inside (ink_of dot) (by_mode Xray ring focused w))
@@ -231,12 +233,12 @@ by_text false dot ring true w fits bright = inl refl
 by_text false dot true false w fits bright = inr (inr (refl, refl, refl))
 by_text false dot false false w fits bright = absurd (grind arith)
 
-view_bright : (text : List ℕ) (place : Option (ℕ × ℕ)) (p : Point) (ring focused : Bool) (w : ℕ) → IsWord w
-    → IsBright (by_label text place p (by_mode Xray ring focused w))
-    → IsOneOf text place p ring focused (by_label text place p (by_mode Xray ring focused w))
-view_bright text None p ring focused w fits bright = by_text false false ring focused w fits bright
-view_bright text (Some q) p ring focused w fits bright =
-    by_text (is_in_picture text q.0 q.1 p) (has_dot text q.0 q.1 p) ring focused w fits bright
+view_bright : (l : Lettering) (text : List ℕ) (place : Option (ℕ × ℕ)) (p : Point) (ring focused : Bool) (w : ℕ)
+    → IsWord w → IsBright (by_label l text place p (by_mode Xray ring focused w))
+    → IsOneOf l text place p ring focused (by_label l text place p (by_mode Xray ring focused w))
+view_bright l text None p ring focused w fits bright = by_text false false ring focused w fits bright
+view_bright l text (Some q) p ring focused w fits bright =
+    by_text (is_in_picture l text q.0 q.1 p) (has_dot l text q.0 q.1 p) ring focused w fits bright
 
 focus_is : (focus : Option ℕ) (sid : ℕ) → is_same focus (Some sid) ≡ true → focus ≡ Some sid
 focus_is focus sid e = grind (arith, nat_tests)
@@ -244,7 +246,7 @@ focus_is focus sid e = grind (arith, nat_tests)
 owned_bright : (s : Scenery) (p : Point) (w : ℕ) (v : View) → s.mode ≡ Xray → IsWord w → owner s.bar s.stack p ≡ Some v
     → IsBright (view_word Xray s v p w) → IsOfNamed s p ⊎ IsMark s p (view_word Xray s v p w)
 owned_bright s p w v xray fits owns bright =
-    elim (view_bright (view_text s v) (label_place_of s v) p (is_on_ring v.rect p) (is_same s.focus (Some v.sid)) w fits
+    elim (view_bright s.lettering (view_text s v) (label_place_of s v) p (is_on_ring v.rect p) (is_same s.focus (Some v.sid)) w fits
     bright) [
       | inl same ↦
           let focus : s.focus ≡ Some v.sid = focus_is s.focus v.sid same in
@@ -267,9 +269,9 @@ xray_bright s p w xray fits bright = by_owner (in_bar s.bar p) (owner s.bar s.st
 
 -- ---- a label
 
-unlabelled : (text : List ℕ) (place : Option (ℕ × ℕ)) (p : Point) (w : ℕ) → is_in_text text place p ≡ false
-    → by_label text place p w ≡ w
-unlabelled text place p w e = grind arith
+unlabelled : (l : Lettering) (text : List ℕ) (place : Option (ℕ × ℕ)) (p : Point) (w : ℕ)
+    → is_in_text l text place p ≡ false → by_label l text place p w ≡ w
+unlabelled l text place p w e = grind arith
 
 -- ---- a view's pixel in mode Kill
 
@@ -282,7 +284,7 @@ pub kill_tints : (s : Scenery) (p : Point) (w : ℕ) (v : View) → s.mode ≡ K
 kill_tints s p w v kill fits owns out =
     let is : shown s p w ≡ by_mode Kill (is_on_ring v.rect p) (is_same s.focus (Some v.sid)) w =
     shown_of_owner s p w v owns ∙ ap (λ (m : Mode). view_word m s v p w) kill
-    ∙ unlabelled (view_text s v) (label_place_of s v) p _ out in
+    ∙ unlabelled s.lettering (view_text s v) (label_place_of s v) p _ out in
     rw is (kill_reddish (is_on_ring v.rect p) (is_same s.focus (Some v.sid)) w fits)
 
 -- white or black

@@ -1,7 +1,7 @@
 -- Parts of a screen.
 use Rattle.std.specs.Prelude.{◌≡◌, ℕ, ◌%◌, ◌/◌, ◌*◌, ◌<◌, ◌≤◌, Bool, ◌&&◌, nat_le, nat_lt, List}
 use Rattle.std.specs.Prelude.{length, slice_index, if◌then◌else◌}
-use Rattle.nit_overlay.specs.Below.{Area, Look, Rectangle, covers, pixel, point}
+use Rattle.nit_overlay.specs.Below.{Area, LetteredLook, Rectangle, covers, pixel, point}
 use Rattle.nit_overlay.specs.Look.{scenery}
 use Rattle.nit_overlay.specs.Frame.{shown}
 
@@ -32,16 +32,16 @@ IsAreaBy f a width raw old now count =
     raw old now count
 
 -- the pixels of the screen that lie in the area are as shown, and all others as before
-abbrev pub IsShownIn : Area → Look → List ℕ → List ℕ → List ℕ → Type 0
-IsShownIn a look raw old now =
-    IsAreaBy (λ x y w. shown (scenery look) (point x y) w) a look.stack.now.width raw old now
-    (look.stack.now.width * look.stack.now.height)
+abbrev pub IsShownIn : Area → LetteredLook → List ℕ → List ℕ → List ℕ → Type 0
+IsShownIn a l raw old now =
+    IsAreaBy (λ x y w. shown (scenery l) (point x y) w) a l.look.stack.now.width raw old now
+    (l.look.stack.now.width * l.look.stack.now.height)
 
 -- the pixels of the screen that lie in the rectangle are as shown, and all others as before
-pub record IsRectShown (r : Rectangle) (look : Look) (raw old now : List ℕ) : Type 0 where
-  pub pixels : (k : ℕ) → k < look.stack.now.width * look.stack.now.height
+pub record IsRectShown (r : Rectangle) (l : LetteredLook) (raw old now : List ℕ) : Type 0 where
+  pub pixels : (k : ℕ) → k < l.look.stack.now.width * l.look.stack.now.height
       → slice_index now k
-      ≡ (if covers r (pixel look.stack.now.width k)
-      then shown (scenery look) (pixel look.stack.now.width k) (slice_index raw k)
+      ≡ (if covers r (pixel l.look.stack.now.width k)
+      then shown (scenery l) (pixel l.look.stack.now.width k) (slice_index raw k)
       else slice_index old k)
   pub count : length now ≡ length old

@@ -2,9 +2,13 @@
 pub use Rattle.nit_events.specs.Input.{is_same}
 pub use Rattle.nit_events.specs.declared.device.Mode.{Mode}
 pub use Rattle.nit_events.specs.declared.device.Mode.TheVariants.{Flat, Kill, Xray}
-pub use Rattle.nit_glyph.specs.Pictures.{dot, picture_height, picture_width}
+pub use Rattle.nit_glyph.specs.Lettering.{IsLettering, most_picture_height, most_picture_width}
+pub use Rattle.nit_glyph.specs.Lettering.{picture_height, picture_width, plain}
+pub use Rattle.nit_glyph.specs.Pictures.{text_dot}
 pub use Rattle.nit_glyph.specs.Texts.{bar_text_of, label_text_of}
 pub use Rattle.nit_overlay.specs.declared.area.Area.{Area}
+pub use Rattle.nit_glyph.specs.declared.lettering.Lettering.{Lettering}
+pub use Rattle.nit_overlay.specs.declared.look.LetteredLook.{LetteredLook}
 pub use Rattle.nit_overlay.specs.declared.look.Look.{Look}
 pub use Rattle.nit_overlay.specs.declared.owner.Owner.{Owner}
 pub use Rattle.nit_overlay.specs.declared.paint.Rule.{Rule}

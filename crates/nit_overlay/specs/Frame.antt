@@ -2,13 +2,14 @@
 use Rattle.std.specs.Prelude.{ℕ, ◌-◌, ◌*◌, Bool, true, false, ◌&&◌, ◌||◌, ℤ, pos, negsuc, ◌+ℤ◌}
 use Rattle.std.specs.Prelude.{◌-ℤ◌, List, [], map, length, slice_index, slice_index_or, Option}
 use Rattle.std.specs.Prelude.{Some, None, option_map, codes, if◌then◌else◌}
-use Rattle.nit_overlay.specs.Below.{Flat, Kill, Mode, Point, Rectangle, View, Xray, bar_text_of}
-use Rattle.nit_overlay.specs.Below.{bare_word, covers, dim, dot, in_bar, int_eq, is_same}
+use Rattle.nit_overlay.specs.Below.{Flat, Kill, Lettering, Mode, Point, Rectangle, View, Xray}
+use Rattle.nit_overlay.specs.Below.{bar_text_of, bare_word, covers, dim, in_bar, int_eq, is_same}
 use Rattle.nit_overlay.specs.Below.{label_place, label_text_of, owner, picture_height}
-use Rattle.nit_overlay.specs.Below.{picture_width, pixel, range_with_len, rectangle, tint}
+use Rattle.nit_overlay.specs.Below.{picture_width, pixel, range_with_len, rectangle, text_dot, tint}
 
 -- what a frame is made by, but for the words of the clients: the screen's size and the rows of its
--- status bar, all views, front first, the labels of the sessions, the mode, and the focused session
+-- status bar, all views, front first, the labels of the sessions, the mode, the focused session,
+-- and how texts are drawn
 pub record Scenery : Type 0 where
   pub width : ℕ
   pub height : ℕ
@@ -17,6 +18,7 @@ pub record Scenery : Type 0 where
   pub labels : List (List ℕ)
   pub mode : Mode
   pub focus : Option ℕ
+  pub lettering : Lettering
 
 -- ---- the colours of the server's own marks
 
@@ -57,19 +59,20 @@ screen_place (pos n) = n
 screen_place (negsuc n) = 0
 
 -- the picture of a text that stands at a column and row of the screen has this pixel
-abbrev pub is_in_picture : List ℕ → ℕ → ℕ → Point → Bool
-is_in_picture text x y p =
-    covers (rectangle (pos x) (pos y) (picture_width (length text)) picture_height) p
+abbrev pub is_in_picture : Lettering → List ℕ → ℕ → ℕ → Point → Bool
+is_in_picture l text x y p =
+    covers (rectangle (pos x) (pos y) (picture_width l (length text)) (picture_height l)) p
 
 -- whether it has a dot there
-abbrev pub has_dot : List ℕ → ℕ → ℕ → Point → Bool
-has_dot text x y p = dot text (screen_place p.x - x) (screen_place p.y - y)
+abbrev pub has_dot : Lettering → List ℕ → ℕ → ℕ → Point → Bool
+has_dot l text x y p = text_dot l text (screen_place p.x - x) (screen_place p.y - y)
 
 -- ---- rules
 
 -- the status bar: its text stands at the top left, and what is cut off at the right is not shown
 abbrev pub bar_word : Scenery → Point → ℕ
-bar_word s p = ink_of (is_in_picture (bar_text s) 0 0 p && has_dot (bar_text s) 0 0 p)
+bar_word s p =
+    ink_of (is_in_picture s.lettering (bar_text s) 0 0 p && has_dot s.lettering (bar_text s) 0 0 p)
 
 -- the first or last column or row of a rectangle
 abbrev pub is_on_ring : Rectangle → Point → Bool
@@ -86,22 +89,22 @@ by_mode Kill true is_focused w = red_word
 by_mode Kill false is_focused w = tint w
 
 -- the view's own pixel, or its label where that stands there
-abbrev pub by_label : List ℕ → Option (ℕ × ℕ) → Point → ℕ → ℕ
-by_label text None p w = w
-by_label text (Some q) p w =
-    if is_in_picture text q.0 q.1 p then ink_of (has_dot text q.0 q.1 p) else w
+abbrev pub by_label : Lettering → List ℕ → Option (ℕ × ℕ) → Point → ℕ → ℕ
+by_label l text None p w = w
+by_label l text (Some q) p w =
+    if is_in_picture l text q.0 q.1 p then ink_of (has_dot l text q.0 q.1 p) else w
 
 -- where the label of a view stands
 abbrev pub label_place_of : Scenery → View → Option (ℕ × ℕ)
 label_place_of s v =
-    label_place s.width s.height s.bar s.stack v (picture_width (length (view_text s v)))
-    picture_height
+    label_place s.width s.height s.bar s.stack v
+    (picture_width s.lettering (length (view_text s v))) (picture_height s.lettering)
 
 -- a pixel of a view, with its raw word
 abbrev pub view_word : Mode → Scenery → View → Point → ℕ → ℕ
 view_word Flat s v p w = w
 view_word mode s v p w =
-    by_label (view_text s v) (label_place_of s v) p
+    by_label s.lettering (view_text s v) (label_place_of s v) p
     (by_mode mode (is_on_ring v.rect p) (is_same s.focus (Some v.sid)) w)
 
 abbrev pub owner_word : Scenery → Point → ℕ → Option View → ℕ

@@ -9,6 +9,7 @@ pub mod PixelRow
 pub mod Area
 pub mod Stripe
 pub mod Owner
+pub mod OwnerMap
 pub mod Rule
 pub mod Span
 pub mod Stretch

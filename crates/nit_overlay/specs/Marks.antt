@@ -1,7 +1,7 @@
 -- The server's own marks on the pixels of views.
 use Rattle.std.specs.Prelude.{◌≡◌, ◌⊎◌, ℕ, ◌<◌, ◌≤◌, Bool, true, false, ◌&&◌, List, ◌++◌, codes}
 use Rattle.std.specs.Prelude.{Option, None, Some}
-use Rattle.nit_overlay.specs.Below.{Point, View, blue, green, owner, red}
+use Rattle.nit_overlay.specs.Below.{Lettering, Point, View, blue, green, owner, red}
 use Rattle.nit_overlay.specs.Frame.{Scenery, bar_text, grey_word, has_dot, is_in_picture}
 use Rattle.nit_overlay.specs.Frame.{is_on_ring, label_of, label_place_of, view_text, white_word}
 
@@ -20,22 +20,22 @@ pub record IsReddish (w : ℕ) : Type 0 where
 -- ---- labels
 
 -- a text that stands at this column and row, where it stands anywhere, covers the pixel
-abbrev pub is_in_text : List ℕ → Option (ℕ × ℕ) → Point → Bool
-is_in_text text None p = false
-is_in_text text (Some q) p = is_in_picture text q.0 q.1 p
+abbrev pub is_in_text : Lettering → List ℕ → Option (ℕ × ℕ) → Point → Bool
+is_in_text l text None p = false
+is_in_text l text (Some q) p = is_in_picture l text q.0 q.1 p
 
 -- and it has a dot there
-abbrev pub is_dot_of_text : List ℕ → Option (ℕ × ℕ) → Point → Bool
-is_dot_of_text text None p = false
-is_dot_of_text text (Some q) p = is_in_picture text q.0 q.1 p && has_dot text q.0 q.1 p
+abbrev pub is_dot_of_text : Lettering → List ℕ → Option (ℕ × ℕ) → Point → Bool
+is_dot_of_text l text None p = false
+is_dot_of_text l text (Some q) p = is_in_picture l text q.0 q.1 p && has_dot l text q.0 q.1 p
 
 -- the pixel lies in the drawn label of a view
 abbrev pub in_label : Scenery → View → Point → Bool
-in_label s v p = is_in_text (view_text s v) (label_place_of s v) p
+in_label s v p = is_in_text s.lettering (view_text s v) (label_place_of s v) p
 
 -- it is a dot of it
 abbrev pub is_label_dot : Scenery → View → Point → Bool
-is_label_dot s v p = is_dot_of_text (view_text s v) (label_place_of s v) p
+is_label_dot s v p = is_dot_of_text s.lettering (view_text s v) (label_place_of s v) p
 
 -- ---- who shows a word
 

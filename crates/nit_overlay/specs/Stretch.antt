@@ -1,6 +1,6 @@
 -- Columns or rows that follow one another.
 use Rattle.std.specs.Prelude.{ℕ, ◌<◌, ◌≤◌}
-use Rattle.nit_overlay.specs.Below.{Look, Owner, most_height, most_width}
+use Rattle.nit_overlay.specs.Below.{IsLettering, LetteredLook, Owner, most_height, most_width}
 use Rattle.nit_overlay.specs.Look.{IsLook}
 use Rattle.nit_overlay.specs.Owner.{IsOwner}
 
@@ -26,13 +26,14 @@ pub record AreOnRow (x y to : ℕ) : Type 0 where
   pub down : y ≤ most_height
 
 -- these columns of the row y, on a look's screen
-pub record AreOnScreen (l : Look) (x y to : ℕ) : Type 0 where
+pub record AreOnScreen (l : LetteredLook) (x y to : ℕ) : Type 0 where
   pub look : IsLook l
   pub before : x < to
-  pub across : to ≤ l.stack.now.width
-  pub down : y < l.stack.now.height
+  pub across : to ≤ l.look.stack.now.width
+  pub down : y < l.look.stack.now.height
 
 -- these rows, and the owner of pixels there
-pub record AreRowsOf (l : Look) (o : Owner) (y to : ℕ) : Type 0 where
+pub record AreRowsOf (l : LetteredLook) (o : Owner) (y to : ℕ) : Type 0 where
+  pub lettering : IsLettering l.lettering
   pub owner : IsOwner l o
   pub rows : AreRows y to

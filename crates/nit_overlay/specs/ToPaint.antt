@@ -1,7 +1,8 @@
 -- What is needed to paint a part of a row, and an area. Each raw word is below 2^24.
 use Rattle.std.specs.Prelude.{◌≡◌, ℕ, ◌+◌, ◌*◌, ◌<◌, ◌≤◌, List, length, All}
 use Rattle.nit_overlay.specs.Area.{IsArea}
-use Rattle.nit_overlay.specs.Below.{Area, IsWord, Look, RowPart, Rule, most_height, most_width}
+use Rattle.nit_overlay.specs.Below.{Area, IsWord, LetteredLook, RowPart, Rule, most_height}
+use Rattle.nit_overlay.specs.Below.{most_width}
 use Rattle.nit_overlay.specs.Look.{IsLook}
 use Rattle.nit_overlay.specs.PixelRow.{IsRowPart}
 use Rattle.nit_overlay.specs.Rule.{IsTagged}
@@ -33,28 +34,27 @@ pub record IsAreaToPaint (wide : ℕ) (a : Area) (raw out : List ℕ) : Type 0 w
 -- ---- as a look shows it
 
 -- there is a raw word for each pixel of the look's screen, below 2^24, and a word to be set
-pub record AreScreenWords (l : Look) (raws outs : List ℕ) : Type 0 where
+pub record AreScreenWords (l : LetteredLook) (raws outs : List ℕ) : Type 0 where
   pub look : IsLook l
-  pub raw : length raws ≡ l.stack.now.width * l.stack.now.height
-  pub out : length outs ≡ l.stack.now.width * l.stack.now.height
+  pub raw : length raws ≡ l.look.stack.now.width * l.look.stack.now.height
+  pub out : length outs ≡ l.look.stack.now.width * l.look.stack.now.height
   pub words : All IsWord raws
 
 -- such a part of a row of the look's screen
-pub record IsRowToShow (l : Look) (p : RowPart) (raw out : List ℕ) : Type 0 where
+pub record IsRowToShow (l : LetteredLook) (p : RowPart) (raw out : List ℕ) : Type 0 where
   pub look : IsLook l
   pub row : IsRowToPaint p raw out
   pub down : p.y < most_height
 
 -- a part of a row of the bar of the look's screen, which `out` has the words of
-pub record IsBarToShow (l : Look) (p : RowPart) (out : List ℕ) : Type 0 where
+pub record IsBarToShow (l : LetteredLook) (p : RowPart) (out : List ℕ) : Type 0 where
   pub look : IsLook l
   pub part : IsRowPart (length out) p
-  pub down : p.y < 7
 
 -- an area of the look's screen, whose words `raw` and `out` have
-pub record IsAreaToShow (l : Look) (a : Area) (raw out : List ℕ) : Type 0 where
+pub record IsAreaToShow (l : LetteredLook) (a : Area) (raw out : List ℕ) : Type 0 where
   pub look : IsLook l
-  pub count : length raw ≡ l.stack.now.width * l.stack.now.height
+  pub count : length raw ≡ l.look.stack.now.width * l.look.stack.now.height
   pub same_length : length out ≡ length raw
   pub words : All IsWord raw
-  pub area : IsArea l.stack.now.width l.stack.now.height a
+  pub area : IsArea l.look.stack.now.width l.look.stack.now.height a

@@ -2,10 +2,10 @@
 //!
 //! A frame has one word for each pixel of the screen, row by row from the top. [`frame_into`] makes
 //! it from the raw words of the pixels, which the clients have painted, and from a [`Look`]: the
-//! stack of views, the labels, the mode, the focus and the places of the labels. [`overlay_rect`]
-//! does the same for the pixels of a rectangle alone, and [`overlay_piece`] for a rectangle whose
-//! pixels have one owner that is known. [`bar_into`] sets the pixels of the status bar alone. None
-//! takes memory.
+//! stack of views, the labels, the mode, the focus and the places of the labels. [`frame_by_map`]
+//! makes it too, where a map has the owner of each pixel. [`overlay_rect`] does the same for the
+//! pixels of a rectangle alone, and [`overlay_piece`] for a rectangle whose pixels have one owner
+//! that is known. [`bar_into`] sets the pixels of the status bar alone. None takes memory.
 //!
 //! The first rule that applies to a pixel gives its word.
 //!
@@ -31,7 +31,8 @@
 //! five, and a band into runs of columns that have one rule. A piece comes with its owner, so
 //! nothing is searched. Where owners are not known, each row is first cut into pieces that have one
 //! owner or none, and each piece is painted as such an area. So the stack is searched once for each
-//! piece of a row, and not for each pixel.
+//! piece of a row, and not for each pixel. By a map each row is cut into runs of one owner, and no
+//! view is searched for. A narrow run that meets no label is painted pixel by pixel.
 //!
 //! The tests are in `nit_tests`: `parts`.
 #![tactic(auto)]
@@ -40,6 +41,8 @@ mod area;
 mod bar;
 pub mod laws;
 mod look;
+mod mapped;
+mod narrow;
 mod overlay;
 mod owner;
 mod paint;
@@ -49,6 +52,7 @@ mod span;
 mod stripe;
 
 pub use bar::bar_into;
-pub use look::Look;
+pub use look::{LetteredLook, Look};
+pub use mapped::{NO_SLOT, frame_by_map};
 pub use overlay::{frame_into, overlay_rect};
 pub use piece::overlay_piece;

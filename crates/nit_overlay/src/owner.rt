@@ -8,7 +8,7 @@ ghost use Rattle.nit_overlay.specs.Terms.{label_place_of, pixel_at, point, scene
 ghost use Rattle.nit_overlay.specs.Terms.{view_ref};
 
 use crate::bar::is_bar_row;
-use crate::look::Look;
+use crate::look::LetteredLook;
 use crate::span::reach;
 use nit_events::Mode;
 use nit_rect::Point;
@@ -41,31 +41,31 @@ fn view_at(stack: &Stack, i: u32) -> (ViewRef, View)
 }
 
 /// The place of the label of the view in a slot, where labels are drawn.
-fn place_at(look: &Look, v: ViewRef, view: &View) -> Option<Point>
-    requires { IsTrue (draws_labels look.now.mode)
-        → IsPlaced look.now (record { slot = v.0; view = view.now }) }
-    ensures { IsTrue (draws_labels look.now.mode)
-        → result ≡ option_map pixel_at (label_place_of (scenery look.now) view.now) }
+fn place_at(lettered: &LetteredLook, v: ViewRef, view: &View) -> Option<Point>
+    requires { IsTrue (draws_labels lettered.now.look.mode)
+        → IsPlaced lettered.now (record { slot = v.0; view = view.now }) }
+    ensures { IsTrue (draws_labels lettered.now.look.mode)
+        → result ≡ option_map pixel_at (label_place_of (scenery lettered.now) view.now) }
 {
-    match look.mode {
+    match lettered.look.mode {
         Mode::Flat => None,
-        _ => look.places[v.0 as usize],
+        _ => lettered.look.places[v.0 as usize],
     }
 }
 
 /// The view in a slot as an owner, and none where no slot is named.
-pub(crate) fn owner_of(look: &Look, slot: Option<ViewRef>) -> Option<Owner>
-    requires look { IsLook look.now }
-    requires stands { IfSome slot (λ v. has_slot v.0 look.now.stack.now.views ≡ true) }
+pub(crate) fn owner_of(lettered: &LetteredLook, slot: Option<ViewRef>) -> Option<Owner>
+    requires look { IsLook lettered.now }
+    requires stands { IfSome slot (λ v. has_slot v.0 lettered.now.look.stack.now.views ≡ true) }
     ensures owner { (p : Point) → slot ≡ option_map view_ref
-        (seat_owner look.now.stack.now.bar look.now.stack.now.views p)
-        → HasOwner look.now p result }
-    ensures placed { IfSome result (IsOwner look.now) }
+        (seat_owner lettered.now.look.stack.now.bar lettered.now.look.stack.now.views p)
+        → HasOwner lettered.now p result }
+    ensures placed { IfSome result (IsOwner lettered.now) }
 {
     match slot {
         Some(v) => {
-            let view = look.stack.view(v);
-            let place = place_at(look, v, &view);
+            let view = lettered.look.stack.view(v);
+            let place = place_at(lettered, v, &view);
             Some(Owner { view, place })
         }
         None => None,
@@ -74,23 +74,24 @@ pub(crate) fn owner_of(look: &Look, slot: Option<ViewRef>) -> Option<Owner>
 
 /// The owner of the pixel in column x of the row y, and the column, at most `to`, up to which the
 /// pixels to the right have the same. Those of the bar have none.
-pub(crate) fn piece_at(look: &Look, x: u32, y: u32, to: u32) -> OwnedColumns
-    requires { AreOnScreen look.now x y to }
-    ensures owner { HoldsUpTo (λ z. HasOwner look.now (point z y) result.owner) x to result.end }
-    ensures placed { IfSome result.owner (IsOwner look.now) }
+pub(crate) fn piece_at(lettered: &LetteredLook, x: u32, y: u32, to: u32) -> OwnedColumns
+    requires { AreOnScreen lettered.now x y to }
+    ensures owner { HoldsUpTo (λ z. HasOwner lettered.now (point z y) result.owner)
+        x to result.end }
+    ensures placed { IfSome result.owner (IsOwner lettered.now) }
 {
-    if is_bar_row(look, y) {
+    if is_bar_row(lettered, y) {
         return OwnedColumns {
             owner: None,
             end: to,
         };
     }
     let mut end = to;
-    'views: for i in 0..look.stack.len() {
-        let (v, view) = view_at(look.stack, i);
+    'views: for i in 0..lettered.look.stack.len() {
+        let (v, view) = view_at(lettered.look.stack, i);
         let (covered, last) = reach(&view.rect, x, y, end);
         if covered {
-            let place = place_at(look, v, &view);
+            let place = place_at(lettered, v, &view);
             return OwnedColumns {
                 owner: Some(Owner { view, place }),
                 end: last,

@@ -1,17 +1,18 @@
 //! A run of pixels that have one rule.
 
-ghost use Rattle.std.specs.Prelude.{◌≡◌, ℕ, ◌+◌, ◌<◌, ◌≤◌, List, length, slice_index};
+ghost use Rattle.std.specs.Prelude.{◌≡◌, ℕ, ◌+◌, ◌/◌, ◌<◌, ◌≤◌, List, length, slice_index};
 ghost use Rattle.nit_overlay.specs.Terms.{IsInTag, IsPainted, IsRowPart, IsRowToPaint};
 ghost use Rattle.nit_overlay.specs.Terms.{IsRunToPaint, IsTagged, most_width, word_by};
 
 use crate::row_part::RowPart;
-use nit_glyph::{LabelText, label_bit};
+use nit_glyph::{LabelText, Lettering, glyph_bit};
 use nit_word::{dim_row, tint_row};
 
 /// A text on the screen, whose picture has its first pixel in this column and row.
 #[derive(Clone, Copy)]
 pub(crate) struct Tag {
     pub text: LabelText,
+    pub lettering: Lettering,
     pub left: u32,
     pub top: u32,
 }
@@ -97,8 +98,22 @@ fn paint_text(tag: &Tag, out: &mut [u32], x: u32, y: u32)
     ensures { (k : ℕ) → k < length out.old
         → slice_index out.new k ≡ word_by (Rule.Text tag.now) (x + k) y 0 }
 {
+    let scale = tag.lettering.scale;
+    let row = unscaled(y - tag.top, scale);
     'dots: for (k, word) in out.iter_mut().enumerate() {
-        let dot = label_bit(&tag.text, x + k as u32 - tag.left, y - tag.top);
+        let column = unscaled(x + k as u32 - tag.left, scale);
+        let dot = glyph_bit(tag.lettering.glyphs, &tag.text, column, row);
         *word = if dot { 0xFFFFFF } else { 0 };
+    }
+}
+
+/// The column or row of the glyphs that a column or row of pixels lies in.
+fn unscaled(at: u32, scale: u32) -> u32
+    requires { 1 ≤ scale }
+    ensures { result ≡ at / scale }
+{
+    match scale {
+        1 => at,
+        _ => at / scale,
     }
 }

@@ -10,7 +10,7 @@ ghost use Rattle.nit_overlay.specs.Terms.{view_word, word_by};
 
 use crate::area::{Area, area_of};
 use crate::bar::{is_bar_row, overlay_bar};
-use crate::look::Look;
+use crate::look::LetteredLook;
 use crate::owner::{Owner, owner_of};
 use crate::paint::{Rule, paint_part};
 use crate::row_part::RowPart;
@@ -22,53 +22,54 @@ use nit_word::BARE;
 /// the piece has the owner that it names, or none where it names none, so no other view is looked
 /// at. `raw` and `out` have a word for each pixel of the screen, row by row from the top, and each
 /// of `raw` is below 2^24. No memory is taken.
-pub fn overlay_piece(look: &Look, raw: &[u32], piece: &Piece, out: &mut [u32])
-    requires words { AreScreenWords look.now raw.now out.old }
+pub fn overlay_piece(lettered: &LetteredLook, raw: &[u32], piece: &Piece, out: &mut [u32])
+    requires words { AreScreenWords lettered.now raw.now out.old }
     requires owner { (p : Point) → IsTrue (covers piece.now.rect p) → piece.now.owner
         ≡ option_map view_ref
-        (seat_owner look.now.stack.now.bar look.now.stack.now.views p) }
+        (seat_owner lettered.now.look.stack.now.bar lettered.now.look.stack.now.views p) }
     requires stands { IfSome piece.now.owner
-        (λ v. has_slot v.0 look.now.stack.now.views ≡ true) }
-    ensures { IsRectShown piece.now.rect look.now raw.now out.old out.new }
+        (λ v. has_slot v.0 lettered.now.look.stack.now.views ≡ true) }
+    ensures { IsRectShown piece.now.rect lettered.now raw.now out.old out.new }
 {
-    let (width, height) = look.stack.size();
+    let (width, height) = lettered.look.stack.size();
     let area = area_of(&piece.rect, width, height);
-    let owner = owner_of(look, piece.owner);
-    overlay_owned(look, owner, raw, &area, out);
+    let owner = owner_of(lettered, piece.owner);
+    overlay_owned(lettered, owner, raw, &area, out);
 }
 
 /// Sets the words of the pixels of an area, which have this owner or none, to what is shown there.
 pub(crate) fn overlay_owned(
-    look: &Look,
+    lettered: &LetteredLook,
     owner: Option<Owner>,
     raw: &[u32],
     area: &Area,
     out: &mut [u32],
 )
     requires owner { (x y : ℕ) → in_area area.now x y ≡ true
-        → HasOwner look.now (point x y) owner }
-    requires placed { IfSome owner (IsOwner look.now) }
-    requires area { IsAreaToShow look.now area.now raw.now out.old }
-    ensures { IsShownIn area.now look.now raw.now out.old out.new }
+        → HasOwner lettered.now (point x y) owner }
+    requires placed { IfSome owner (IsOwner lettered.now) }
+    requires area { IsAreaToShow lettered.now area.now raw.now out.old }
+    ensures { IsShownIn area.now lettered.now raw.now out.old out.new }
 {
     match owner {
-        Some(owner) => overlay_view(look, &owner, raw, area, out),
-        None => overlay_unowned(look, raw, area, out),
+        Some(owner) => overlay_view(lettered, &owner, raw, area, out),
+        None => overlay_unowned(lettered, raw, area, out),
     }
 }
 
 /// Paints an area as pixels of this view, one band of rows after the other.
-fn overlay_view(look: &Look, owner: &Owner, raw: &[u32], area: &Area, out: &mut [u32])
-    requires owner { IsOwner look.now owner.now }
-    requires area { IsAreaToShow look.now area.now raw.now out.old }
+fn overlay_view(lettered: &LetteredLook, owner: &Owner, raw: &[u32], area: &Area, out: &mut [u32])
+    requires owner { IsOwner lettered.now owner.now }
+    requires area { IsAreaToShow lettered.now area.now raw.now out.old }
     ensures { IsAreaBy
-        (λ x y w. view_word look.now.mode (scenery look.now) owner.now.view (point x y) w)
-        area.now look.now.stack.now.width raw.now out.old out.new (length raw.now) }
+        (λ x y w. view_word lettered.now.look.mode (scenery lettered.now) owner.now.view
+        (point x y) w)
+        area.now lettered.now.look.stack.now.width raw.now out.old out.new (length raw.now) }
 {
-    let (width, _height) = look.stack.size();
+    let (width, _height) = lettered.look.stack.size();
     let mut y = area.top;
     'bands: while y < area.bottom {
-        let band = band_at(look, owner, y, area.bottom);
+        let band = band_at(lettered, owner, y, area.bottom);
         let rows = Area {
             left: area.left,
             top: y,
@@ -119,27 +120,27 @@ fn overlay_block(rule: &Rule, raw: &[u32], area: &Area, width: u32, out: &mut [u
 }
 
 /// Paints an area as pixels that no view owns.
-fn overlay_unowned(look: &Look, raw: &[u32], area: &Area, out: &mut [u32])
-    requires { IsAreaToShow look.now area.now raw.now out.old }
-    ensures { IsAreaBy (λ x y w. unowned_word (scenery look.now) (point x y))
-        area.now look.now.stack.now.width raw.now out.old out.new (length raw.now) }
+fn overlay_unowned(lettered: &LetteredLook, raw: &[u32], area: &Area, out: &mut [u32])
+    requires { IsAreaToShow lettered.now area.now raw.now out.old }
+    ensures { IsAreaBy (λ x y w. unowned_word (scenery lettered.now) (point x y))
+        area.now lettered.now.look.stack.now.width raw.now out.old out.new (length raw.now) }
 {
-    let (width, _height) = look.stack.size();
+    let (width, _height) = lettered.look.stack.size();
     'rows: for y in area.top..area.bottom {
         let at = y as usize * width as usize;
         let end = at + width as usize;
-        bare_row(look, area.row(y), &raw[at..end], &mut out[at..end]);
+        bare_row(lettered, area.row(y), &raw[at..end], &mut out[at..end]);
     }
 }
 
 /// Paints these pixels of a row, which no view owns.
-fn bare_row(look: &Look, part: RowPart, raw: &[u32], out: &mut [u32])
-    requires { IsRowToShow look.now part raw.now out.old }
-    ensures { IsPainted (λ x w. unowned_word (scenery look.now) (point x part.y))
+fn bare_row(lettered: &LetteredLook, part: RowPart, raw: &[u32], out: &mut [u32])
+    requires { IsRowToShow lettered.now part raw.now out.old }
+    ensures { IsPainted (λ x w. unowned_word (scenery lettered.now) (point x part.y))
         raw.now out.old out.new part.from part.to }
 {
-    if is_bar_row(look, part.y) {
-        overlay_bar(look, part, out);
+    if is_bar_row(lettered, part.y) {
+        overlay_bar(lettered, part, out);
     } else {
         paint_part(&Rule::Fill(BARE), part, raw, out);
     }

@@ -3,24 +3,26 @@
 ghost use Rattle.std.specs.Prelude.{◌≡◌, ℕ, ◌+◌, ◌<◌, ◌≤◌, ◌||◌, ◌==◌, true, false, length, Option};
 ghost use Rattle.std.specs.Prelude.{Some, None, IfSome};
 ghost use Rattle.nit_overlay.specs.Terms.{AreColumns, AreRows, AreRowsOf, HoldsUpTo, IsRowOfTag};
+ghost use Rattle.nit_overlay.specs.Terms.{IsLettering, most_picture_height, most_picture_width};
+ghost use Rattle.nit_overlay.specs.Terms.{picture_height};
 ghost use Rattle.nit_overlay.specs.Terms.{IsTagged, Rule, by_label, draws_labels, has_at_end};
 ghost use Rattle.nit_overlay.specs.Terms.{is_on_ring, is_same, label_place_of, mode_rule};
 ghost use Rattle.nit_overlay.specs.Terms.{picture_width, point, scenery, stripe_rule, tag_rule};
 ghost use Rattle.nit_overlay.specs.Terms.{view_text, view_word, word_by};
 
-use crate::look::Look;
+use crate::look::LetteredLook;
 use crate::owner::Owner;
 use crate::paint::{Rule, Tag};
 use crate::span::{SHIFT, Span, span_of, up_to};
 use nit_events::Mode;
-use nit_glyph::{LabelText, label_size, label_text};
+use nit_glyph::{LabelText, Lettering, label_text, text_size};
 use nit_rect::Rect;
 
-const WHITE: u32 = 0xFFFFFF;
+pub(crate) const WHITE: u32 = 0xFFFFFF;
 
-const GREY: u32 = 0x808080;
+pub(crate) const GREY: u32 = 0x808080;
 
-const RED: u32 = 0xFF0000;
+pub(crate) const RED: u32 = 0xFF0000;
 
 /// What a row of a view is painted by.
 #[derive(Clone, Copy)]
@@ -59,7 +61,7 @@ fn draws_labels(mode: Mode) -> bool
     }
 }
 
-fn is_focused(focus: Option<u32>, sid: u32) -> bool
+pub(crate) fn is_focused(focus: Option<u32>, sid: u32) -> bool
     ensures { result ≡ is_same focus (Some sid) }
 {
     match focus {
@@ -69,27 +71,37 @@ fn is_focused(focus: Option<u32>, sid: u32) -> bool
 }
 
 /// The number of columns of the picture of a text.
-pub(crate) fn width_of(text: &LabelText) -> u32
-    ensures width { result ≡ picture_width (length text.now) }
-    ensures short { result ≤ 133 }
+pub(crate) fn width_of(lettering: Lettering, text: &LabelText) -> u32
+    requires { IsLettering lettering }
+    ensures width { result ≡ picture_width lettering (length text.now) }
+    ensures short { result ≤ most_picture_width }
 {
-    label_size(text.as_bytes().len() as u32).0
+    text_size(lettering, text.as_bytes().len() as u32).0
+}
+
+/// The number of rows of the picture of any text.
+pub(crate) fn height_of(lettering: Lettering) -> u32
+    requires { IsLettering lettering }
+    ensures height { result ≡ picture_height lettering }
+    ensures low { result ≤ most_picture_height }
+{
+    text_size(lettering, 1).1
 }
 
 /// The label of a view, where labels are drawn and the row y meets it, and the row, at most `to`,
 /// up to which it is the same.
-fn tag_at(look: &Look, owner: &Owner, y: u32, to: u32) -> (Option<Tag>, u32)
-    requires { AreRowsOf look.now owner.now y to }
+fn tag_at(lettered: &LetteredLook, owner: &Owner, y: u32, to: u32) -> (Option<Tag>, u32)
+    requires { AreRowsOf lettered.now owner.now y to }
     ensures after { y < result.1 }
     ensures within { result.1 ≤ to }
-    ensures undrawn { draws_labels look.now.mode ≡ false → result.0 ≡ None }
-    ensures drawn { draws_labels look.now.mode ≡ true → (rule : Rule) (x z w : ℕ)
+    ensures undrawn { draws_labels lettered.now.look.mode ≡ false → result.0 ≡ None }
+    ensures drawn { draws_labels lettered.now.look.mode ≡ true → (rule : Rule) (x z w : ℕ)
         → y ≤ z → z < result.1 → word_by (tag_rule result.0 x rule) x z w
-        ≡ by_label (view_text (scenery look.now) owner.now.view)
-        (label_place_of (scenery look.now) owner.now.view) (point x z) (word_by rule x z w) }
+        ≡ by_label lettered.now.lettering (view_text (scenery lettered.now) owner.now.view)
+        (label_place_of (scenery lettered.now) owner.now.view) (point x z) (word_by rule x z w) }
     ensures met { (z : ℕ) → y ≤ z → z < result.1 → IfSome result.0 (IsRowOfTag z) }
 {
-    if !draws_labels(look.mode) {
+    if !draws_labels(lettered.look.mode) {
         return (None, to);
     }
     let Some(place) = owner.place else {
@@ -99,17 +111,25 @@ fn tag_at(look: &Look, owner: &Owner, y: u32, to: u32) -> (Option<Tag>, u32)
     if y < top {
         return (None, to.min(top));
     }
-    if top + 7 <= y {
+    let lettering = lettered.lettering;
+    let end = top + height_of(lettering);
+    if end <= y {
         return (None, to);
     }
-    let label = &look.labels[owner.view.sid as usize];
+    let label = &lettered.look.labels[owner.view.sid as usize];
     let text = label_text(label, &owner.view.title);
-    (Some(Tag { text, left, top }), to.min(top + 7))
+    let tag = Tag {
+        text,
+        lettering,
+        left,
+        top,
+    };
+    (Some(tag), to.min(end))
 }
 
 /// Whether the row y is the first or the last one of a rectangle, the rectangle's columns, and the
 /// row, at most `to`, up to which the rows are so as well.
-fn ring_at(rect: &Rect, y: u32, to: u32) -> (bool, Span, u32)
+pub(crate) fn ring_at(rect: &Rect, y: u32, to: u32) -> (bool, Span, u32)
     requires { AreRows y to }
     ensures after { y < result.2 }
     ensures within { result.2 ≤ to }
@@ -122,20 +142,20 @@ fn ring_at(rect: &Rect, y: u32, to: u32) -> (bool, Span, u32)
 }
 
 /// The row y of a view, and the row, at most `to`, up to which the rows are painted as it is.
-pub(crate) fn band_at(look: &Look, owner: &Owner, y: u32, to: u32) -> Band
-    requires { AreRowsOf look.now owner.now y to }
+pub(crate) fn band_at(lettered: &LetteredLook, owner: &Owner, y: u32, to: u32) -> Band
+    requires { AreRowsOf lettered.now owner.now y to }
     ensures after { y < result.end }
     ensures within { result.end ≤ to }
     ensures words { (x z w : ℕ) → y ≤ z → z < result.end
         → word_by (stripe_rule result.stripe x) x z w
-        ≡ view_word look.now.mode (scenery look.now) owner.now.view (point x z) w }
+        ≡ view_word lettered.now.look.mode (scenery lettered.now) owner.now.view (point x z) w }
     ensures met { (z : ℕ) → y ≤ z → z < result.end → IfSome result.stripe.tag (IsRowOfTag z) }
 {
     let (edge, columns, alike) = ring_at(&owner.view.rect, y, to);
-    let (tag, end) = tag_at(look, owner, y, alike);
+    let (tag, end) = tag_at(lettered, owner, y, alike);
     let stripe = Stripe {
-        mode: look.mode,
-        focused: is_focused(look.focus, owner.view.sid),
+        mode: lettered.look.mode,
+        focused: is_focused(lettered.look.focus, owner.view.sid),
         edge,
         columns,
         tag,
@@ -201,7 +221,7 @@ pub(crate) fn run_at(stripe: &Stripe, x: u32, y: u32, to: u32) -> Run
     let Some(tag) = stripe.tag else {
         return run_outside(stripe, x, to);
     };
-    let right = tag.left + width_of(&tag.text);
+    let right = tag.left + width_of(tag.lettering, &tag.text);
     if tag.left <= x && x < right {
         return Run {
             rule: Rule::Text(tag),

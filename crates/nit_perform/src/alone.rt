@@ -10,7 +10,7 @@ use crate::opening::{blank_frame, blank_text, plans_of};
 use crate::ran::{LeftDesk, Ran, leave_desk, leave_pictures};
 use nit_actor::laws::idle_user_does_nothing;
 use nit_actor::run_alone;
-use nit_config::{Config, run_is_configured};
+use nit_config::Config;
 use nit_hall::{Opened, Parts, Pass, Room, UserPass, open};
 use nit_rect::NoMemory;
 use nit_rounds::laws::{each_line_once, one_client_goes_by_rounds};
@@ -34,7 +34,6 @@ pub fn run_one<S: Store>(
     ensures { Runs (S.shown store.old) (setup_of config.now scripts.now input.now false false)
         (S.shown store.new) result }
 {
-    run_is_configured();
     let plans = plans_of(alloc, config, scripts)?;
     let (buffers, keys) = buffers_of(alloc, config, scripts)?;
     let canvases = canvases_of(alloc, &buffers, keys)?;

@@ -10,7 +10,7 @@ use crate::opening::plans_of;
 use crate::ran::{LeftDesk, Ran, leave_desk};
 use crate::texts::leave_texts;
 use nit_actor::{Gate, GatedHall, Unstarted, UserAndDesk};
-use nit_config::{Config, Member, run_is_configured};
+use nit_config::{Config, Member};
 use nit_hall::{Hall, Name, Opened, Parts, Pass, open};
 use nit_rect::NoMemory;
 use nit_rounds::{Desk, PictureName};
@@ -34,7 +34,6 @@ pub fn run_beside<R: Threads + Wait + Sync, S: Store, G: Gate>(
     ensures { Runs (S.shown store.old) (setup_of config.now scripts.now input.now true true)
         (S.shown store.new) result }
 {
-    run_is_configured();
     let alloc = host.alloc;
     let plans = plans_of(alloc, config, scripts)?;
     let (buffers, keys) = buffers_of(alloc, config, scripts)?;

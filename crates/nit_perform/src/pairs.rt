@@ -7,7 +7,7 @@ ghost use Rattle.nit_perform.specs.Terms.{IsSetting, clips_setup, clips_setup_in
 
 use nit_actor::Pair;
 use nit_clip::ClipScript;
-use nit_config::{Config, run_is_configured};
+use nit_config::Config;
 use nit_hall::{ClipOpened, ClipPass, Opened, Parts, Pass, Room, UserPass, open, open_clips};
 use nit_pixels::Canvas;
 use nit_rect::NoMemory;
@@ -43,7 +43,6 @@ pub fn open_pairs<'a>(
     ensures setup { IfOk result (λ p. clips_setup_in p.room.parts
         ≡ clips_setup config.now parts.entry.scripts.now parts.entry.input.now clips.entry.now) }
 {
-    run_is_configured();
     let opened = open(alloc, config, parts, canvases)?;
     let opened = open_clips(alloc, opened, clips)?;
     let pairs = Vec::with_capacity(alloc, parts.scripts.len())?;

@@ -54,7 +54,7 @@ pub fn put_events<S: Store, G: Glass + Drop>(
     ensures { PutsAll (events_files scene.now.config scene.now.entries)
         (put_state_of_run (S.shown store.old) fault) (put_state_of_run (S.shown store.new) result) }
 {
-    // so the clients are at most 16
+    // so the clients are at most 64
     let _ = scene.size();
     let mut fault = fault;
     for (sid, client) in clients.iter().enumerate() {

@@ -11,7 +11,7 @@ use nit_rect::Point;
 use nit_stack::{Stack, ViewRef};
 
 /// The first place, row by row from the top, at which a label of `w` by `h` lies in pixels that the
-/// view owns. None exactly where there is no such place. The width and the height are 1..=133.
+/// view owns. None exactly where there is no such place. The width and the height are 1..=1592.
 pub fn place_label(stack: &Stack, v: ViewRef, w: u32, h: u32) -> Option<Point>
     requires view { has_slot v.0 stack.now.views ≡ true }
     requires width { (1 ≤ w) × (w ≤ most_tag) }

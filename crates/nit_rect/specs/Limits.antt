@@ -33,11 +33,15 @@ most_side = 4096
 
 -- sessions on one screen
 abbrev pub most_sessions : ℕ
-most_sessions = 16
+most_sessions = 64
+
+-- sessions of a run
+abbrev pub most_run_sessions : ℕ
+most_run_sessions = 16
 
 -- views of all sessions together
 abbrev pub most_slots : ℕ
-most_slots = 1024
+most_slots = 4096
 
 -- what a session opens with at least, which is what a view costs, and what it ever has at most, in
 -- units

@@ -25,7 +25,13 @@ pub const MOST_RUN_HEIGHT: u32 = 768;
 pub const MOST_SIDE: u32 = 4096;
 
 /// The most sessions on one screen.
-pub const MOST_SESSIONS: usize = 16;
+pub const MOST_SESSIONS: usize = 64;
+
+/// The most sessions of a run.
+pub const MOST_RUN_SESSIONS: usize = 16;
+
+/// The most views of all sessions together.
+pub const MOST_SLOTS: usize = 4096;
 
 /// What a session opens with at least, in units.
 pub const LEAST_UNITS: u32 = 256;

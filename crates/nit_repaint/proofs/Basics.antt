@@ -8,7 +8,7 @@ pub use Rattle.nit_rect.proofs.ForCallers.{IsSpanned, le_tested, same_tests, spa
 pub use Rattle.nit_rect.proofs.ForCallers.{spans_tells}
 pub use Rattle.nit_repaint.specs.Terms.{AreSet, CanPaint, CoversBoth, CutterModel, FitsStack}
 pub use Rattle.nit_repaint.specs.Terms.{HoldBuffers, IsOnScreen, IsRemovedFrom, IsRepaint, IsStack}
-pub use Rattle.nit_repaint.specs.Terms.{IsViewChange, Look, NoPair, Painter, PixelSource, Point}
+pub use Rattle.nit_repaint.specs.Terms.{IsViewChange, LetteredLook, NoPair, Painter, PixelSource, Point}
 pub use Rattle.nit_repaint.specs.Terms.{Rectangle, Repainted, Sight, SlotView, StackModel, View}
 pub use Rattle.nit_repaint.specs.Terms.{ViewRef, among, black_or_word, buffer_place, changed}
 pub use Rattle.nit_repaint.specs.Terms.{covered, covers, frame, has_come, has_pixel, in_bar}

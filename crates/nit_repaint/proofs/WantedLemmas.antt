@@ -1,5 +1,5 @@
 -- Where a view shows a part of its session's buffer.
-use Rattle.nit_repaint.proofs.Basics.{AreSet, CoversBoth, CutterModel, IsOnScreen, IsSpanned, Look}
+use Rattle.nit_repaint.proofs.Basics.{AreSet, CoversBoth, CutterModel, IsOnScreen, IsSpanned, LetteredLook}
 use Rattle.nit_repaint.proofs.Basics.{NoPair, PixelSource, Point, Rectangle, Repainted, Sight}
 use Rattle.nit_repaint.proofs.Basics.{SlotView, StackModel, View, ViewRef, among, black_or_word}
 use Rattle.nit_repaint.proofs.Basics.{buffer_place, column_of, covered, covers, false_from_ne_true}
@@ -344,8 +344,8 @@ shown_as s c set count come is =
     (λ k l. grind (arith, nat_tests, come (pixel s.width k) (on_screen s.width s.height k (rw count at l)))) is
 
 -- where all pixels are set, that is the frame
-pub whole_shown : (look : Look) (raw : List ℕ) {old new : List ℕ}
-    → length raw ≡ look.stack.now.width * look.stack.now.height → length old ≡ length raw
+pub whole_shown : (look : LetteredLook) (raw : List ℕ) {old new : List ℕ}
+    → length raw ≡ look.look.stack.now.width * look.look.stack.now.height → length old ≡ length raw
     → AreSet (λ k. true) (length raw) (shown_at look raw) old new → new ≡ frame (scenery look) raw
 whole_shown look raw {new = new} count same is =
     same_number_lists new (frame (scenery look) raw) (is.count ∙ same ∙ count ∙ sym (length-frame (scenery look) raw))

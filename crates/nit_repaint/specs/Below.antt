@@ -4,7 +4,7 @@ pub use Rattle.nit_damage.specs.Damage.{covered, is_behind, is_of_moved, is_owne
 pub use Rattle.nit_damage.specs.Damage.{slot_view_covers}
 pub use Rattle.nit_overlay.specs.Frame.{frame, shown}
 pub use Rattle.nit_overlay.specs.Look.{IsLook, scenery}
-pub use Rattle.nit_overlay.specs.declared.look.Look.{Look}
+pub use Rattle.nit_overlay.specs.declared.look.LetteredLook.{LetteredLook}
 pub use Rattle.nit_paint.specs.FrameCopy.{AreSet}
 pub use Rattle.nit_paint.specs.Pieces.{HoldBuffers, has_pixel, source_of_number}
 pub use Rattle.nit_paint.specs.Repaint.{Repainted}

@@ -1,6 +1,6 @@
 -- What painting pixels needs, and what it leaves.
 use Rattle.std.specs.Prelude.{◌≡◌, ◌≤◌, ◌*◌, ℕ, Bool, List, length, All}
-use Rattle.nit_repaint.specs.Below.{HoldBuffers, IsLook, IsWord, Look, Painter, PixelSource}
+use Rattle.nit_repaint.specs.Below.{HoldBuffers, IsLook, IsWord, LetteredLook, Painter, PixelSource}
 use Rattle.nit_repaint.specs.Below.{Repainted, Sight, StackModel}
 
 -- there is a raw word for each pixel of the screen, and each session has the words of its buffer
@@ -30,9 +30,9 @@ pub record IsRepaint (source : ℕ → PixelSource) (is_marked : ℕ → Bool) (
 -- ---- in a frame
 
 -- there is a raw word for each pixel of the look's screen, each below 2^24, and a word of the frame
-pub record IsFrameToShow (l : Look) (raw out : List ℕ) : Type 0 where
+pub record IsFrameToShow (l : LetteredLook) (raw out : List ℕ) : Type 0 where
   pub look : IsLook l
-  pub pixels : length raw ≡ l.stack.now.width * l.stack.now.height
+  pub pixels : length raw ≡ l.look.stack.now.width * l.look.stack.now.height
   pub frame : length out ≡ length raw
   pub words : All IsWord raw
 

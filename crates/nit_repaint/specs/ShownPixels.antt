@@ -1,6 +1,6 @@
 -- What a look shows at a pixel of a number.
-use Rattle.nit_repaint.specs.Below.{List, Look, pixel, scenery, shown, slice_index, ℕ}
+use Rattle.nit_repaint.specs.Below.{List, LetteredLook, pixel, scenery, shown, slice_index, ℕ}
 
 -- what is shown at the pixel, by the raw words
-abbrev pub shown_at : Look → List ℕ → ℕ → ℕ
-shown_at look raw k = shown (scenery look) (pixel look.stack.now.width k) (slice_index raw k)
+abbrev pub shown_at : LetteredLook → List ℕ → ℕ → ℕ
+shown_at look raw k = shown (scenery look) (pixel look.look.stack.now.width k) (slice_index raw k)

@@ -1,6 +1,7 @@
 -- The words that clauses use: those that come from outside, and those of this crate.
 pub use Rattle.nit_repaint.specs.Below.{AreSet, CoversBoth, CutterModel, FitsStack, HoldBuffers}
-pub use Rattle.nit_repaint.specs.Below.{IsOnScreen, IsPlace, IsScreenSize, IsStack, Look, NoPair}
+pub use Rattle.nit_repaint.specs.Below.{IsOnScreen, IsPlace, IsScreenSize, IsStack, LetteredLook}
+pub use Rattle.nit_repaint.specs.Below.{NoPair}
 pub use Rattle.nit_repaint.specs.Below.{Painter, PixelSource, Point, Rectangle, Repainted, Sight}
 pub use Rattle.nit_repaint.specs.Below.{SlotView, StackModel, View, ViewRef, among, black_or_word}
 pub use Rattle.nit_repaint.specs.Below.{buffer_place, changed, covered, covers, frame, has_pixel}

@@ -46,7 +46,8 @@ unfolding generated_configuration
 generated_is_configured = record {
   width = (omega arith, omega arith);
   height = (omega arith, omega arith);
-  bar = λ there. absurd (false≢true there);
+  lettering = (omega arith, omega arith);
+  bar = omega arith;
   input = refl;
   count = (omega arith, omega arith);
   clients = λ k d few. rw (client_at k d few) (member_configured k few);

@@ -15,6 +15,7 @@ pub use Rattle.nit_events.specs.declared.event.Item.{Item}
 pub use Rattle.nit_events.specs.declared.event.Routed.{Routed}
 pub use Rattle.nit_events.specs.declared.event.Status.{Status}
 pub use Rattle.nit_events.specs.declared.event.Status.TheVariants.{Closed, Killed, Live}
+pub use Rattle.nit_glyph.specs.Lettering.{plain}
 pub use Rattle.nit_glyph.specs.Texts.{is_label}
 pub use Rattle.nit_rect.specs.Limits.{most_height, most_width}
 pub use Rattle.nit_rect.specs.Options.{Gives}

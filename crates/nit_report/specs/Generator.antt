@@ -3,8 +3,8 @@
 use Rattle.std.specs.Prelude.{ℕ, ◌+◌, ◌*◌, ◌%◌, ◌^◌, ℤ, pos, ◌-ℤ◌, Bool, true, false, List, [], ◌∷◌}
 use Rattle.std.specs.Prelude.{◌++◌, map, slice_index_or, codes}
 use Rattle.nit_report.specs.Below.{BufferPart, Check, Configuration, Fill, InputLine, Line, Member}
-use Rattle.nit_report.specs.Below.{decimal, flat_map, input_spelling, line_spelling, range_with_len}
-use Rattle.nit_report.specs.Below.{spelled}
+use Rattle.nit_report.specs.Below.{decimal, flat_map, input_spelling, line_spelling, plain}
+use Rattle.nit_report.specs.Below.{range_with_len, spelled}
 use Rattle.nit_events.specs.declared.call.Call.TheVariants as call
 use Rattle.nit_events.specs.declared.device.Device.TheVariants as device
 use Rattle.nit_script.specs.declared.line.Line.TheVariants as line
@@ -265,6 +265,7 @@ generated_configuration =
       width = 320;
       height = 240;
       bar = false;
+      lettering = plain;
       input = codes "gen.in";
       clients = map generated_member (range_with_len 0 8);
     }

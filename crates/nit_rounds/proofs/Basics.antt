@@ -33,19 +33,19 @@ pub use Rattle.nit_rounds.specs.Terms.{glass_in, glasses_of_call, greatest, in_b
 pub use Rattle.nit_rounds.specs.Terms.{input_by_user, input_lines_of, is_active, is_between}
 pub use Rattle.nit_rounds.specs.Terms.{is_in_area, is_input_phase, is_number_in, is_phase}
 pub use Rattle.nit_rounds.specs.Terms.{is_set_by, is_stale, left, left_at, lefts, length, line_by}
-pub use Rattle.nit_rounds.specs.Terms.{lines_of, next_phase, next_shot, no_sight, opening_drawing}
-pub use Rattle.nit_rounds.specs.Terms.{option_map, phase_count, phase_rounds, phases, phases_along}
-pub use Rattle.nit_rounds.specs.Terms.{picture_of, pixel, pixel_count, plan_in, plan_of_script}
-pub use Rattle.nit_rounds.specs.Terms.{range_with_len, replay, replay_from, rest_of_phase, round}
-pub use Rattle.nit_rounds.specs.Terms.{rounds, route, routed_as, script_in, script_of, seen, serve}
-pub use Rattle.nit_rounds.specs.Terms.{session, set_where, settled, shoots, shot_file, shot_name}
-pub use Rattle.nit_rounds.specs.Terms.{shots, shots_after, shots_of, slice_get, slice_index_or}
-pub use Rattle.nit_rounds.specs.Terms.{source_under, state_after, state_now, static, step_of_line}
-pub use Rattle.nit_rounds.specs.Terms.{stepped, table_size, tables_after, take, takes_place, to_do}
-pub use Rattle.nit_rounds.specs.Terms.{told_at, turn_by, turn_of, turns_before, turns_from}
-pub use Rattle.nit_rounds.specs.Terms.{turns_left, turns_of, user_actions_from, user_actions_of}
-pub use Rattle.nit_rounds.specs.Terms.{user_actions_to_do, with_words, word_after_entry, word_from}
-pub use Rattle.nit_rounds.specs.Terms.{words_after, zeros}
+pub use Rattle.nit_rounds.specs.Terms.{lines_of, most_sessions, next_phase, next_shot, no_sight}
+pub use Rattle.nit_rounds.specs.Terms.{opening_drawing, option_map, phase_count, phase_rounds}
+pub use Rattle.nit_rounds.specs.Terms.{phases, phases_along, picture_of, pixel, pixel_count}
+pub use Rattle.nit_rounds.specs.Terms.{plan_in, plan_of_script, range_with_len, replay, replay_from}
+pub use Rattle.nit_rounds.specs.Terms.{rest_of_phase, round, rounds, route, routed_as, script_in}
+pub use Rattle.nit_rounds.specs.Terms.{script_of, seen, serve, session, set_where, settled, shoots}
+pub use Rattle.nit_rounds.specs.Terms.{shot_file, shot_name, shots, shots_after, shots_of}
+pub use Rattle.nit_rounds.specs.Terms.{slice_get, slice_index_or, source_under, state_after}
+pub use Rattle.nit_rounds.specs.Terms.{state_now, static, step_of_line, stepped, table_size}
+pub use Rattle.nit_rounds.specs.Terms.{tables_after, take, takes_place, to_do, told_at, turn_by}
+pub use Rattle.nit_rounds.specs.Terms.{turn_of, turns_before, turns_from, turns_left, turns_of}
+pub use Rattle.nit_rounds.specs.Terms.{user_actions_from, user_actions_of, user_actions_to_do}
+pub use Rattle.nit_rounds.specs.Terms.{with_words, word_after_entry, word_from, words_after, zeros}
 pub use Rattle.nit_word.proofs.ForCallers.{before_row, no_ink, same_set, set_long, word_at, zero_at}
 pub use Rattle.std.proofs.Common.{Bool, List, [], add-one, add-zero, ap, append-nil, append_assoc}
 pub use Rattle.std.proofs.Common.{ap₂, arith, codes, cond, count_by, drop, drop-drop, drop-set-lt}

@@ -4,6 +4,7 @@ use Rattle.nit_rounds.proofs.Basics.{Acts, Buffer, Calls, Client, Configuration,
 use Rattle.nit_rounds.proofs.Basics.{InputLine, Line, Motion, Place, Refresh, Shoots, User}
 use Rattle.nit_rounds.proofs.Basics.{actions_of_turns, bare_word, range_with_len, rounds, shot_file}
 use Rattle.nit_rounds.proofs.Basics.{shot_name, turn_of}
+use Rattle.nit_config.specs.Configuration.{still_configuration}
 use Rattle.nit_events.specs.declared.call.Call.TheVariants.{View}
 use Rattle.nit_rounds.specs.Drawing.{drawn}
 use Rattle.nit_journal.specs.Session.{serve}
@@ -75,10 +76,7 @@ nothing = refl
 
 -- a screen of 3 by 1
 abbrev small : Configuration
-small = record {
-  width = 3;
-  height = 1;
-  bar = false;
+small = record (still_configuration 3 1) {
   input = [];
   clients =
       record { label = []; donation = 512; script = []; layer = 0; clicks = true } ∷ [];

@@ -6,9 +6,9 @@ use Rattle.nit_rounds.proofs.Basics.{Places, Some, [], actors, add-one, ap, arit
 use Rattle.nit_rounds.proofs.Basics.{cases_lt, ends_phase, flat_map, get_or, get_or-map}
 use Rattle.nit_rounds.proofs.Basics.{get_or-replicate, get_or-set_other, get_or-set_same, in_phase}
 use Rattle.nit_rounds.proofs.Basics.{inl, inr, left_at, lefts, length, length-map, length-set, map}
-use Rattle.nit_rounds.proofs.Basics.{nat_tests, phase_count, phase_rounds, range_with_len, refl}
-use Rattle.nit_rounds.proofs.Basics.{replicate, rounds, script_of, slice_get-get_or, stepped, suc}
-use Rattle.nit_rounds.proofs.Basics.{turn_by, turns_left, turns_of}
+use Rattle.nit_rounds.proofs.Basics.{most_sessions, nat_tests, phase_count, phase_rounds}
+use Rattle.nit_rounds.proofs.Basics.{range_with_len, refl, replicate, rounds, script_of}
+use Rattle.nit_rounds.proofs.Basics.{slice_get-get_or, stepped, suc, turn_by, turns_left, turns_of}
 use Rattle.nit_rounds.specs.Places.{left_from}
 use Rattle.std.proofs.Common.{set, slice_get, zero, ℕ, ◌+◌, ◌<◌, ◌∙◌, ◌∷◌, ◌≡◌, ◌≤◌}
 use Rattle.nit_rounds.proofs.PlaceLemmas.{active_parts, actors_long, below, get_lefts, idle}
@@ -27,9 +27,9 @@ abbrev first_place : LinePlace
 first_place = record { line = 0; phase = 0 }
 
 abbrev pub at_first : Places
-at_first = record { places = replicate 17 first_place; phase = 0; actor = 0 }
+at_first = record { places = replicate (most_sessions + 1) first_place; phase = 0; actor = 0 }
 
-pub kept_first : (scripts : List (List Line)) (input : List InputLine) → length scripts ≤ 16
+pub kept_first : (scripts : List (List Line)) (input : List InputLine) → length scripts ≤ most_sessions
     → ArePlaces scripts input at_first
 kept_first scripts input few =
     record {
@@ -37,7 +37,7 @@ kept_first scripts input few =
       long = refl;
       actor = omega arith;
       phase = omega arith;
-      stand = λ k d inside. rw (get_or-replicate 17 k first_place d (omega arith)) (record {
+      stand = λ k d inside. rw (get_or-replicate (most_sessions + 1) k first_place d (omega arith)) (record {
         reached = λ _. omega arith;
         near = λ _. omega arith;
         small = omega arith;
@@ -58,12 +58,12 @@ unfolding left_from
 from_first zero all h = absurd (omega arith)
 from_first (suc n) all h = grind (arith, nat_tests, at_begin)
 
-pub left_first_of : (scripts : List (List Line)) (input : List InputLine) → length scripts ≤ 16
+pub left_first_of : (scripts : List (List Line)) (input : List InputLine) → length scripts ≤ most_sessions
     → turns_left scripts input at_first ≡ rounds scripts input
 left_first_of scripts input few =
     let long : length (actors scripts input) ≡ length scripts + 1 = actors_long scripts input in
     let first = from_first (phase_count scripts input) (map turns_of (actors scripts input)) (omega arith) in
-    rw (lefts_first 17 (actors scripts input) (omega arith), first)
+    rw (lefts_first (most_sessions + 1) (actors scripts input) (omega arith), first)
 
 abbrev pub at_actor : Places → ℕ → Places
 at_actor at b = record { places = at.places; phase = at.phase; actor = b }

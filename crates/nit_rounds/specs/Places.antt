@@ -44,7 +44,7 @@ abbrev pub turns_left : List (List Line) → List InputLine → Places → List 
 turns_left scripts input at =
     left_from (phase_count scripts input) at.phase at.actor (lefts at.places (actors scripts input))
 
--- an actor of at most 17: a client, or the user after them
+-- an actor of at most 65: a client, or the user after them
 pub record IsActorOf (scripts : List (List Line)) (actor : ℕ) : Type 0 where
   pub few : length scripts ≤ most_sessions
   pub among : actor ≤ length scripts
@@ -70,11 +70,11 @@ pub record StandsAt (count phase : ℕ) (place : LinePlace) (doings : List Actor
   pub small : place.phase ≤ place.line
   pub within : AllByRecursion (λ m. m.phase < count) (left_at place doings)
 
--- each of at most 17 actors stands so
+-- each of at most 65 actors stands so
 pub record ArePlaces (scripts : List (List Line)) (input : List InputLine)
     (at : Places) : Type 0 where
   pub few : length scripts ≤ most_sessions
-  pub long : length at.places ≡ 17
+  pub long : length at.places ≡ most_sessions + 1
   pub actor : at.actor ≤ length scripts + 1
   pub phase : at.phase ≤ most_lines
   pub stand : (k : ℕ) (d : LinePlace) → k ≤ length scripts

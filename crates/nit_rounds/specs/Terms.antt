@@ -21,9 +21,10 @@ pub use Rattle.nit_rounds.specs.Below.{phases_along, picture, picture_length, pi
 pub use Rattle.nit_rounds.specs.Below.{plan_in, plan_of_script, range_with_len, replay, replay_from}
 pub use Rattle.nit_rounds.specs.Below.{route, routed_as, script_in, seen, serve, session, set_where}
 pub use Rattle.nit_rounds.specs.Below.{shots, slice_get, slice_index_or, slice_set, source_under}
-pub use Rattle.nit_rounds.specs.Below.{state_now, static, step_of_line, sum, table_size, take, to_do}
-pub use Rattle.nit_rounds.specs.Below.{told_at, unrefused, user_actions_from, user_actions_of}
-pub use Rattle.nit_rounds.specs.Below.{user_actions_to_do, with_words, words_after, zeros}
+pub use Rattle.nit_rounds.specs.Below.{state_now, static, step_of_line, sum, table_size, take}
+pub use Rattle.nit_rounds.specs.Below.{to_do, told_at, unrefused, user_actions_from}
+pub use Rattle.nit_rounds.specs.Below.{user_actions_of, user_actions_to_do, with_words, words_after}
+pub use Rattle.nit_rounds.specs.Below.{zeros}
 pub use Rattle.nit_rounds.specs.Desks.{KeepsFrame}
 pub use Rattle.nit_rounds.specs.Drawing.{Drawing, after_turn, done_after, drawn, drawn_shot}
 pub use Rattle.nit_rounds.specs.Drawing.{entry_of, opening_drawing, picture_of, shot_frames_of}

@@ -8,10 +8,11 @@ ghost use Rattle.nit_rounds.specs.Terms.{most_lines, most_sessions, rounds, scri
 ghost use Rattle.nit_rounds.specs.Terms.{turns_left};
 
 use crate::turn::Turn;
+use nit_rect::MOST_SESSIONS;
 use nit_script::{Client, Input, InputLine, Line};
 
-/// The most actors that there can be: 16 clients and the user.
-const ACTORS: usize = 17;
+/// The most actors that there can be: 64 clients and the user.
+const ACTORS: usize = MOST_SESSIONS + 1;
 
 /// Where an actor stands: its next line, and the phase of that line. Both count from 0.
 #[derive(Clone, Copy, Debug)]

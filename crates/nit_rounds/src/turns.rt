@@ -28,7 +28,7 @@ impl<'a> Model for Turns<'a> {
 }
 
 impl<'a> Turns<'a> {
-    /// The rounds of the scripts of at most 16 clients and of the user, from the first one on.
+    /// The rounds of the scripts of at most 64 clients and of the user, from the first one on.
     pub fn new(scripts: &'a [Client], input: &'a Input) -> Turns<'a>
         requires { length scripts.now ≤ most_sessions }
         ensures { result ≡ rounds scripts.now input.now }

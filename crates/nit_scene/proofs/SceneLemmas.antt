@@ -3,6 +3,7 @@ use Rattle.std.proofs.Common.{All, List, None, Option, Some, [], ap, arith, fals
 use Rattle.std.proofs.Common.{refl}
 use Rattle.std.proofs.Common.{replicate, slice_index_or, subst, sym, zero-add, ℕ, ◌*◌, ◌++◌, ◌+◌}
 use Rattle.std.proofs.Common.{◌-◌, ◌<◌, ◌∙◌, ◌∷◌, ◌≡◌, ◌≤◌}
+use Rattle.nit_glyph.specs.Lettering.{IsLettering}
 use Rattle.nit_scene.proofs.Basics.{Agrees, AreInked, AreRaw, Call, Configuration, Entry, IsAdded}
 use Rattle.nit_scene.proofs.Basics.{IsFrameShown, IsLegal, IsOpen, IsRawOf, IsScene, IsWord}
 use Rattle.nit_scene.proofs.Basics.{JournalModel, Member, Painted, PixelSource, Reply, SceneModel}
@@ -156,14 +157,14 @@ open_more (other ∷ rest) e h k = open_more rest e h k
 
 -- what is shown at a scene that is in such a state
 pub shows : {s : ServerModel} {entries : List Entry} {spare taken : ℕ} {raw words : List ℕ}
-    → IsScene s entries spare raw taken → words ≡ frame (scenery_of (state_of s)) raw → All IsWord words
+    → IsScene s entries spare raw taken → IsLettering s.config.lettering → words ≡ frame (scenery_of (state_of s)) raw → All IsWord words
     → IsFrameShown (scenery_of (replay s.config entries)) raw words
-shows {s} {entries} {raw = raw} i is are =
+shows {s} {entries} {raw = raw} i lettering is are =
     let now = is ∙ ap (λ (t : State). frame (scenery_of t) raw) i.replayed in
     record {
       frame = now;
       labels = subst (ShowsLabels (scenery_of (replay s.config entries))) (sym now)
-          (labels_stand s.config entries raw i.legal);
+          (labels_stand s.config entries raw lettering i.legal);
       words = are;
     }
 

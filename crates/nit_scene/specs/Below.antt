@@ -1,5 +1,6 @@
 -- The words of the library and of the crates below that are used here, and the crate's plain types.
-pub use Rattle.nit_config.specs.Configuration.{Configuration, member}
+pub use Rattle.nit_config.specs.Configuration.{Configuration, lettered, member}
+pub use Rattle.nit_glyph.specs.Lettering.{plain}
 pub use Rattle.nit_config.specs.ConfigurationRanges.{IsConfiguration}
 pub use Rattle.nit_config.specs.declared.config.Member.{Member}
 pub use Rattle.nit_events.specs.Input.{deliveries_of, routed_as}

@@ -14,6 +14,11 @@ pub use Rattle.nit_repaint.proofs.ForCallers.{painted_more, part_of_session, pla
 pub use Rattle.nit_repaint.proofs.ForCallers.{seat_here, stays, stays_clean, taken_held, taken_more}
 pub use Rattle.nit_repaint.proofs.ForCallers.{taken_none, without_changed, without_moved}
 pub use Rattle.nit_repaint.proofs.ForCallers.{without_none}
+pub use Rattle.nit_screen.specs.Terms.{IsMapOf, IsRoomFor}
+pub use Rattle.nit_screen.specs.MapRow.{AreNumbered, AreRects, AreRowsAlike, AreRowsOfRect}
+pub use Rattle.nit_screen.specs.MapRow.{AreSkips}
+pub use Rattle.nit_screen.specs.MapRow.{IsMapRow, IsRowOfMap, IsSkip, is_between, is_filled}
+pub use Rattle.nit_screen.specs.MapRow.{numbered}
 pub use Rattle.nit_screen.specs.Terms.{Above, Agrees, AllByRecursion, AreBelowNext, AreGlasses}
 pub use Rattle.nit_screen.specs.Terms.{AreInked, AreLabelled, AreLabelsApart, AreLive, AreMeasured}
 pub use Rattle.nit_screen.specs.Terms.{ArePixels, ArePlaced, AreRaw, AreSet, Back, Bare, Buffer}
@@ -36,7 +41,8 @@ pub use Rattle.nit_screen.specs.Terms.{Status, Take, Title, Upgrade, View, ViewR
 pub use Rattle.nit_screen.specs.Terms.{after, after_accepted, after_deliveries, after_delivery}
 pub use Rattle.nit_screen.specs.Terms.{bar_rows, bar_word, bare_word, black_or_word, buffer_size}
 pub use Rattle.nit_screen.specs.Terms.{by_life, by_refusal, changed, covering, covers, delivered}
-pub use Rattle.nit_screen.specs.Terms.{deliveries_of, dirty, dirty_by_call, dot, draws_labels}
+pub use Rattle.nit_screen.specs.Terms.{deliveries_of, dirty, dirty_by_call, draws_labels, text_dot}
+pub use Rattle.nit_screen.specs.Terms.{IsLettering, Lettering}
 pub use Rattle.nit_screen.specs.Terms.{ended, first_session, first_state, fits, forget, frame}
 pub use Rattle.nit_screen.specs.Terms.{has_dot, has_pixel, has_slot, in_bar, in_run, ink_of}
 pub use Rattle.nit_screen.specs.Terms.{input_after_call, is_accepted, is_in_picture, is_kill}

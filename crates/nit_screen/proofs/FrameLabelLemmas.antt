@@ -2,7 +2,12 @@
 use Rattle.nit_screen.proofs.Basics.{AreLabelsApart, Configuration, Entry, Flat, HaveOwnNames}
 use Rattle.nit_screen.proofs.Basics.{IsLabelShown, IsLegal, IsSlotView, IsStack, Mode, NoPair}
 use Rattle.nit_screen.proofs.Basics.{Point, Scenery, ShowsLabels, SlotView, StackModel, View}
-use Rattle.nit_screen.proofs.Basics.{ViewRef, any_found, apart, cases_lt, covering, covers, dot}
+use Rattle.nit_screen.proofs.Basics.{ViewRef, any_found, apart, cases_lt, covering, covers, text_dot}
+use Rattle.nit_screen.proofs.Basics.{IsLettering, Lettering}
+use Rattle.nit_glyph.specs.Lettering.{picture_width, rows_of, step_of}
+use Rattle.nit_screen.specs.Terms.{first_state}
+use Rattle.nit_journal.proofs.ForCallers.{kept_config}
+use Rattle.std.proofs.lemmas.Nat.{mul-le}
 use Rattle.nit_screen.proofs.Basics.{draws_labels, false_from_ne_true, fits, fits_within}
 use Rattle.nit_screen.proofs.Basics.{found_passes, frame, get_or-frame, get_or_from_slice_get}
 use Rattle.nit_screen.proofs.Basics.{has_dot, in_bar, ink_of, is_in_picture, is_owner, is_view}
@@ -127,14 +132,14 @@ differ (x ∷ xs) own (suc i) (suc j) d less within = differ xs own.1 i j d (ome
 -- ---- the place of a label
 
 placed : (s : Scenery) (v : View) (q : ℕ × ℕ) → label_place_of s v ≡ Some q
-    → fits s.width s.height s.bar s.stack v (label_width s v) picture_height q.0 q.1 ≡ true
+    → fits s.width s.height s.bar s.stack v (label_width s v) (picture_height s.lettering) q.0 q.1 ≡ true
 placed s v q at = grind (arith, nat_tests, found_passes)
 
 -- ---- a pixel of a label
 
 by_label : (m : Mode) (s : Scenery) (v : View) (q : ℕ × ℕ) (p : Point) (w : ℕ) → draws_labels m ≡ true
     → label_place_of s v ≡ Some q
-    → is_in_picture (view_text s v) q.0 q.1 p ≡ true → view_word m s v p w ≡ ink_of (has_dot (view_text s v) q.0 q.1 p)
+    → is_in_picture s.lettering (view_text s v) q.0 q.1 p ≡ true → view_word m s v p w ≡ ink_of (has_dot s.lettering (view_text s v) q.0 q.1 p)
 by_label Flat s v q p w draws at inside = cc
 by_label other s v q p w draws at inside = rw at (rw inside refl)
 
@@ -156,22 +161,32 @@ number_fits width height x y left above = grind (arith, rows)
 pub pixel_of : (width x y : ℕ) → x < width → pixel width (y * width + x) ≡ point x y
 pixel_of width x y left = grind (arith, nat_tests)
 
-in_its_picture : (text : List ℕ) (left top x y : ℕ) → x < picture_width (length text) → y < picture_height
-    → is_in_picture text left top (point (left + x) (top + y)) ≡ true
-in_its_picture text left top x y wide high = grind (arith, nat_tests)
+in_its_picture : (l : Lettering) (text : List ℕ) (left top x y : ℕ) → x < picture_width l (length text)
+    → y < picture_height l
+    → is_in_picture l text left top (point (left + x) (top + y)) ≡ true
+in_its_picture l text left top x y wide high = grind (arith, nat_tests)
 
-dot_there : (text : List ℕ) (left top x y : ℕ) → has_dot text left top (point (left + x) (top + y)) ≡ dot text x y
-dot_there text left top x y = grind (arith, nat_tests)
+dot_there : (l : Lettering) (text : List ℕ) (left top x y : ℕ)
+    → has_dot l text left top (point (left + x) (top + y)) ≡ text_dot l text x y
+dot_there l text left top x y = grind (arith, nat_tests)
 
 -- ---- the labels of a frame
 
-label_shown : (s : Scenery) (raw : List ℕ) → IsTrue (draws_labels s.mode) → HaveOwnNames s.stack → (i : ℕ) (d v : View)
+-- a picture has a pixel
+picture_some : (l : Lettering) (n : ℕ) → IsLettering l → (1 ≤ picture_width l n) × (1 ≤ picture_height l)
+picture_some l n is = (
+  mul-le 1 1 l.scale (step_of l.glyphs * n + 1) is.0 (omega arith),
+  mul-le 1 1 l.scale (rows_of l.glyphs + 2) is.0 (omega arith),
+)
+
+label_shown : (s : Scenery) (raw : List ℕ) → IsLettering s.lettering → IsTrue (draws_labels s.mode) → HaveOwnNames s.stack → (i : ℕ) (d v : View)
     → i < length s.stack
     → slice_index_or s.stack i d ≡ v → (q : ℕ × ℕ) → label_place_of s v ≡ Some q → IsLabelShown s (frame s raw) v q
-label_shown s raw draws own i d v within at q place =
+label_shown s raw lettering draws own i d v within at q place =
+    let some = picture_some s.lettering (length (view_text s v)) lettering in
     let all = placed s v q place in
-    let inside = fits_within s.width s.height s.bar s.stack v (label_width s v) picture_height q.0 q.1 (omega arith)
-    (omega arith) all in
+    let inside = fits_within s.width s.height s.bar s.stack v (label_width s v) (picture_height s.lettering) q.0 q.1 some.0
+    some.1 all in
     record {
       right = inside.0;
       bottom = inside.1;
@@ -179,13 +194,13 @@ label_shown s raw draws own i d v within at q place =
           let p = point (q.0 + x) (q.1 + y) in
           let k = (q.1 + y) * s.width + (q.0 + x) in
           let w = slice_index raw k in
-          let mine = pixel_owned s.width s.height s.bar s.stack v (label_width s v) picture_height q.0 q.1 all (q.0 + x)
+          let mine = pixel_owned s.width s.height s.bar s.stack v (label_width s v) (picture_height s.lettering) q.0 q.1 all (q.0 + x)
           (q.1 + y) (omega arith) (omega arith) (omega arith) (omega arith) in
           get_or-frame s raw k (number_fits s.width s.height (q.0 + x) (q.1 + y) mine.in_width mine.in_height)
           ∙ ap (λ (p : Point). shown s p w) (pixel_of s.width (q.0 + x) (q.1 + y) mine.in_width)
           ∙ shown_by s p w v (found_itself (λ (u : View). covers u.rect p) s.stack own i d v within at) mine.owner
-          ∙ by_label s.mode s v q p w draws place (in_its_picture (view_text s v) q.0 q.1 x y wide high)
-          ∙ ap ink_of (dot_there (view_text s v) q.0 q.1 x y);
+          ∙ by_label s.mode s v q p w draws place (in_its_picture s.lettering (view_text s v) q.0 q.1 x y wide high)
+          ∙ ap ink_of (dot_there s.lettering (view_text s v) q.0 q.1 x y);
     }
 
 if_some : {A : Type 0} (P : A → Type 0) (o : Option A) → ((a : A) → o ≡ Some a → P a) → IfSome o P
@@ -197,20 +212,22 @@ labels_apart : (s : Scenery) (v u : View) → is_view v.sid v.handle u ≡ false
 labels_apart s v u other =
     if_some _ (label_place_of s v) (λ q at.
     if_some _ (label_place_of s u) (λ r there.
-    apart s.width s.height s.bar s.stack v u (label_width s v) picture_height q.0 q.1 (label_width s u) picture_height
+    apart s.width s.height s.bar s.stack v u (label_width s v) (picture_height s.lettering) q.0 q.1 (label_width s u) (picture_height s.lettering)
     r.0 r.1 other (placed s v q at) (placed s u r there)))
 
-pub labels_shown : (s : Scenery) (raw : List ℕ) → HaveOwnNames s.stack → ShowsLabels s (frame s raw)
-labels_shown s raw own = λ draws. record {
+pub labels_shown : (s : Scenery) (raw : List ℕ) → IsLettering s.lettering → HaveOwnNames s.stack → ShowsLabels s (frame s raw)
+labels_shown s raw lettering own = λ draws. record {
   each = λ i d within.
       let v = slice_index_or s.stack i d in
-      if_some (IsLabelShown s (frame s raw) v) (label_place_of s v) (label_shown s raw draws own i d v within refl);
+      if_some (IsLabelShown s (frame s raw) v) (label_place_of s v) (label_shown s raw lettering draws own i d v within refl);
   apart = λ i j d less within. labels_apart s (slice_index_or s.stack i d) (slice_index_or s.stack j d)
       (differ s.stack own i j d less within);
 }
 
 -- in a state that a legal journal leads to
-pub labels_stand : (config : Configuration) (journal : List Entry) (raw : List ℕ) → IsLegal config journal
+pub labels_stand : (config : Configuration) (journal : List Entry) (raw : List ℕ) → IsLettering config.lettering
+    → IsLegal config journal
     → ShowsLabels (scenery_of (replay config journal)) (frame (scenery_of (replay config journal)) raw)
-labels_stand config journal raw legal =
-    labels_shown (scenery_of (replay config journal)) raw (named_throughout config journal legal).0
+labels_stand config journal raw lettering legal =
+    let same = ap (λ (c : Configuration). c.lettering) (kept_config (first_state config) journal) in
+    labels_shown (scenery_of (replay config journal)) raw (rw same lettering) (named_throughout config journal legal).0

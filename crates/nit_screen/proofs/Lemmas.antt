@@ -29,9 +29,11 @@ pub use Rattle.nit_screen.proofs.OneList.{bar_again, bar_is_bare, bare_unbarred,
 pub use Rattle.nit_screen.proofs.OneList.{flat_below, made_one, other_focus, painted_in}
 pub use Rattle.nit_screen.proofs.OneViewChanges.{change_of_call, ended_painted, ended_server}
 pub use Rattle.nit_screen.proofs.OneViewChanges.{gone_by_slot}
-pub use Rattle.nit_screen.proofs.OwnerMapLemmas.{IsMapSoFar, all_placed, in_rows, map_more}
-pub use Rattle.nit_screen.proofs.OwnerMapLemmas.{none_mapped, rect_set, row_fits, rows_more}
-pub use Rattle.nit_screen.proofs.OwnerMapLemmas.{rows_none, run_set, seat_slot, written}
+pub use Rattle.nit_screen.proofs.Basics.{AreSkips, is_between, is_filled, numbered}
+pub use Rattle.nit_screen.proofs.MapRows.{MapUnderWay, RowUnderWay, columns_same}
+pub use Rattle.nit_screen.proofs.MapRows.{RowsCopied, map_done, next_rows, no_copy, no_map_row}
+pub use Rattle.nit_screen.proofs.MapRows.{one_copy, next_view, row_mapped, rows_alike}
+pub use Rattle.nit_screen.proofs.OwnerMapLemmas.{all_placed, seat_slot, written}
 pub use Rattle.nit_screen.proofs.ScreenLemmas.{can_relabel, few_views, kill_alone, kill_is_live}
 pub use Rattle.nit_screen.proofs.ScreenLemmas.{killed_painted, killed_state, no_kill, none_dirty}
 pub use Rattle.nit_screen.proofs.ScreenLemmas.{opens_below, opens_raw, opens_sources, painted_whole}

@@ -3,6 +3,7 @@ pub mod CallsShown
 pub mod KeptFrames
 pub mod FrameLabelLemmas
 pub mod OwnerMapLemmas
+pub mod MapRows
 pub mod Handles
 pub mod ScreenLemmas
 pub mod OneList

@@ -1,4 +1,5 @@
 -- A stack has room for its views, and as much after a call.
+use Rattle.nit_screen.proofs.Basics.{Lettering}
 use Rattle.nit_screen.proofs.Basics.{All-head, All-tail, AllByRecursion, All_found, AreBelowNext}
 use Rattle.nit_screen.proofs.Basics.{AreGlasses, AreLabelled, AreLive, ArePlaced, AreRaw, Call}
 use Rattle.nit_screen.proofs.Basics.{CanShow, CanShowBy, Configuration, Delivery, Device, Entry}
@@ -73,17 +74,19 @@ pub same_config : {sid : ℕ} {call : Call} {r : Reply} {before after' : ServerM
 same_config s = ap (λ (t : State). t.config) s.state
 
 -- places of labels stay right where the views and the screen stay
-labelled_still : (t t' : StackModel) (labels : List (List ℕ)) (places : List (Option Point)) → t'.views ≡ t.views
+labelled_still : (l : Lettering) (t t' : StackModel) (labels : List (List ℕ)) (places : List (Option Point)) → t'.views ≡ t.views
     → t'.width ≡ t.width → t'.height ≡ t.height → t'.bar ≡ t.bar
-    → AreLabelled t labels places → AreLabelled t' labels places
-labelled_still t t' labels places views width height bar h = rw (views, width, height, bar) h
+    → AreLabelled l t labels places → AreLabelled l t' labels places
+labelled_still l t t' labels places views width height bar h = rw (views, width, height, bar) h
 
 pub still_placed : (s s' : ServerModel) (p : Pixels) → IsServer s → IsServer s' → s'.config ≡ s.config
     → s'.stack.views ≡ s.stack.views → ArePlaced s p → ArePlaced s' p
-still_placed s s' p hb ha config views = labelled_still s.stack s'.stack p.labels.texts.items p.labels.places.items views
+still_placed s s' p hb ha config views h =
+    rw (ap (λ (c : Configuration). c.lettering) config)
+    (labelled_still s.config.lettering s.stack s'.stack p.labels.texts.items p.labels.places.items views
     (ha.screen.0 ∙ ap (λ (c : Configuration). c.width) config ∙ sym hb.screen.0)
     (ha.screen.1 ∙ ap (λ (c : Configuration). c.height) config ∙ sym hb.screen.1)
-    (ha.screen.2 ∙ ap (λ (c : Configuration). bar_rows c) config ∙ sym hb.screen.2)
+    (ha.screen.2 ∙ ap (λ (c : Configuration). bar_rows c) config ∙ sym hb.screen.2) h)
 
 -- each session has a word for each of its buffer's
 pub holds : (s : ServerModel) (sights : ℕ → Sight) → IsServer s → AreGlasses s.config sights → HoldBuffers s.stack sights

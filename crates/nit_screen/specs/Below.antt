@@ -1,5 +1,5 @@
 -- The words of the library and of the crates below that are used here, and the crate's plain types.
-pub use Rattle.nit_config.specs.Configuration.{Configuration, bar_rows, member}
+pub use Rattle.nit_config.specs.Configuration.{Configuration, bar_rows, lettered, member}
 pub use Rattle.nit_config.specs.ConfigurationRanges.{IsConfiguration}
 pub use Rattle.nit_damage.specs.Cutter.{CutterModel, FitsStack, pieces_left, to_come}
 pub use Rattle.nit_events.specs.Input.{InputState, Routing, deliveries_of, forget, routed_as}
@@ -20,7 +20,9 @@ pub use Rattle.nit_events.specs.declared.event.Item.{Item}
 pub use Rattle.nit_events.specs.declared.event.Routed.{Routed}
 pub use Rattle.nit_events.specs.declared.event.Status.{Status}
 pub use Rattle.nit_focus.specs.Reach.{IsForgottenIfKilled}
-pub use Rattle.nit_glyph.specs.Pictures.{dot, picture_height, picture_width}
+pub use Rattle.nit_glyph.specs.Lettering.{IsLettering, picture_height, picture_width}
+pub use Rattle.nit_glyph.specs.Pictures.{text_dot}
+pub use Rattle.nit_glyph.specs.declared.lettering.Lettering.{Lettering}
 pub use Rattle.nit_journal.specs.Deliveries.{IsKillAlone, IsLive, is_kill, kills}
 pub use Rattle.nit_journal.specs.Live.{AreLive}
 pub use Rattle.nit_journal.specs.Replay.{Agrees, IsLegal, LegalFrom, replay, replay_from}
@@ -36,6 +38,7 @@ pub use Rattle.nit_labels.specs.Places.{IsFree, IsLeastPlace, owner_at}
 pub use Rattle.nit_overlay.specs.Frame.{Scenery, bar_word, frame, has_dot, ink_of, is_in_picture}
 pub use Rattle.nit_overlay.specs.Frame.{label_place_of, owner_word, shown, view_text, view_word}
 pub use Rattle.nit_overlay.specs.Look.{draws_labels, pixel_at}
+pub use Rattle.nit_overlay.specs.OwnerMap.{IsMap, IsMapOf, no_slot, number_at, number_of}
 pub use Rattle.nit_paint.specs.FrameCopy.{AreSet, IsCopied}
 pub use Rattle.nit_paint.specs.Pieces.{HoldBuffers, has_pixel, source_of_number}
 pub use Rattle.nit_paint.specs.Repaint.{IsAmongLoads, IsWordOfSource, Repainted, loads_at}

@@ -1,24 +1,26 @@
 -- What a frame shows of the labels of views.
 use Rattle.std.specs.Prelude.{◌≡◌, ℕ, ◌+◌, ◌*◌, ◌<◌, ◌≤◌, pos, List, length, slice_index, All}
 use Rattle.nit_screen.specs.Below.{AllPairs, IfSome, IsApart, IsTrue, IsWord, Rectangle, Scenery}
-use Rattle.nit_screen.specs.Below.{View, dot, draws_labels, frame, ink_of, label_place_of}
-use Rattle.nit_screen.specs.Below.{picture_height, picture_width, rectangle, view_text}
+use Rattle.nit_screen.specs.Below.{View, draws_labels, frame, ink_of, label_place_of}
+use Rattle.nit_screen.specs.Below.{picture_height, picture_width, rectangle, text_dot, view_text}
 
 -- how many columns the label of a view has
 abbrev pub label_width : Scenery → View → ℕ
-label_width s v = picture_width (length (view_text s v))
+label_width s v = picture_width s.lettering (length (view_text s v))
 
 -- The whole label of a view lies on the screen, with its first pixel in this column and row. Each
 -- of its pixels in the frame is white where the view's text has a dot, and black where it has none.
 pub record IsLabelShown (s : Scenery) (words : List ℕ) (v : View) (q : ℕ × ℕ) : Type 0 where
   pub right : q.0 + label_width s v ≤ s.width
-  pub bottom : q.1 + picture_height ≤ s.height
-  pub dots : (x y : ℕ) → x < label_width s v → y < picture_height
-      → slice_index words ((q.1 + y) * s.width + (q.0 + x)) ≡ ink_of (dot (view_text s v) x y)
+  pub bottom : q.1 + picture_height s.lettering ≤ s.height
+  pub dots : (x y : ℕ) → x < label_width s v → y < picture_height s.lettering
+      → slice_index words ((q.1 + y) * s.width + (q.0 + x))
+      ≡ ink_of (text_dot s.lettering (view_text s v) x y)
 
 -- what the label of a view covers, with its first pixel in this column and row
 abbrev pub label_area : Scenery → View → ℕ × ℕ → Rectangle
-label_area s v q = rectangle (pos q.0) (pos q.1) (label_width s v) picture_height
+label_area s v q = rectangle (pos q.0) (pos q.1) (label_width s v)
+    (picture_height s.lettering)
 
 -- where the labels of both views have a place, they share no pixel
 abbrev pub AreLabelsApart : Scenery → View → View → Type 0

@@ -19,7 +19,8 @@ pub mod DirtyPixels
 pub mod FrameLabels
 pub mod LabelSlots
 pub mod MapRoom
-pub mod OwnerMap
+pub mod LabelWidths
+pub mod MapRow
 pub mod Pixels
 pub mod RawWords
 pub mod Screen

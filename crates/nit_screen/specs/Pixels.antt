@@ -6,7 +6,7 @@ use Rattle.nit_screen.specs.Below.{draws_labels, drop, frame, in_bar, length, ma
 use Rattle.nit_screen.specs.Below.{shown, slice_index, state_of, vec_capacity}
 use Rattle.nit_screen.specs.declared.screen.pixels.Pixels.{Pixels}
 use Rattle.nit_screen.specs.LabelSlots.{AreLabelled}
-use Rattle.nit_screen.specs.MapRoom.{MapRoom}
+use Rattle.nit_screen.specs.MapRoom.{IsRoomFor, MapRoom}
 use Rattle.nit_screen.specs.StateScenery.{scenery_of}
 
 -- the words with the bare word in place of the first so many, where the bar stands
@@ -37,8 +37,7 @@ pub record CanShow (s : ServerModel) (raw : List ℕ) (reached most room : ℕ)
   pub cuts : s.stack.most ≤ room
   pub named : labels ≡ map (λ m. m.label) s.config.clients
   pub placed : s.stack.most ≤ places
-  pub mapped : owners
-      ≡ record { width = s.config.width; height = s.config.height; slots = places }
+  pub mapped : IsRoomFor s.config.width s.config.height places owners
   pub bar : first ≡ s.config.width * bar_rows s.config
   pub fits : first ≤ length raw
 
@@ -66,7 +65,8 @@ IsFrameOf s p = kept_frame p ≡ frame (scenery_of (state_of s)) (raw_of p)
 
 -- at the slot of each view stands the place of its label
 abbrev pub ArePlaced : ServerModel → Pixels → Type 0
-ArePlaced s p = AreLabelled s.stack p.labels.texts.items p.labels.places.items
+ArePlaced s p =
+    AreLabelled s.config.lettering s.stack p.labels.texts.items p.labels.places.items
 
 -- and so it is; where labels are drawn, the raw words stand apart, and the places of the labels are
 -- those of the views as they stand

@@ -12,4 +12,5 @@ scenery_of s =
       labels = map (λ m. m.label) s.config.clients;
       mode = s.input.mode;
       focus = s.input.focus;
+      lettering = s.config.lettering;
     }

@@ -17,8 +17,9 @@ pub use Rattle.nit_screen.specs.Below.{Upgrade, View, ViewRef, Word, accepted, a
 pub use Rattle.nit_screen.specs.Below.{after_accepted, after_deliveries, after_delivery, bar_rows}
 pub use Rattle.nit_screen.specs.Below.{bar_word, bare_word, black_or_word, buffer_size, by_life}
 pub use Rattle.nit_screen.specs.Below.{by_refusal, changed, covering, covers, delivered}
-pub use Rattle.nit_screen.specs.Below.{deliveries_of, dot, draws_labels, ended, false}
+pub use Rattle.nit_screen.specs.Below.{deliveries_of, draws_labels, ended, false, text_dot}
 pub use Rattle.nit_screen.specs.Below.{first_session, first_state, fits, forget, frame, has_dot}
+pub use Rattle.nit_screen.specs.Below.{IsLettering, Lettering, lettered}
 pub use Rattle.nit_screen.specs.Below.{has_pixel, has_slot, has_view, in_bar, in_run, ink_of}
 pub use Rattle.nit_screen.specs.Below.{input_after_call, is_accepted, is_in_picture, is_kill}
 pub use Rattle.nit_screen.specs.Below.{is_named, is_of_session, is_owner, is_rectangle, is_session}
@@ -44,8 +45,13 @@ pub use Rattle.nit_screen.specs.DirtyPixels.{dirty, dirty_by_call, is_killed, ow
 pub use Rattle.nit_screen.specs.DirtyPixels.{session_owns, view_owns}
 pub use Rattle.nit_screen.specs.FrameLabels.{AreLabelsApart, IsLabelShown, ShowsLabels, label_width}
 pub use Rattle.nit_screen.specs.LabelSlots.{AreLabelled, label_scenery}
-pub use Rattle.nit_screen.specs.MapRoom.{MapRoom}
-pub use Rattle.nit_screen.specs.OwnerMap.{AreMeasured, IsMap, no_slot, number_at, number_of}
+pub use Rattle.nit_screen.specs.LabelWidths.{AreMeasured}
+pub use Rattle.nit_screen.specs.MapRoom.{IsRoomFor, MapRoom}
+pub use Rattle.nit_screen.specs.MapRow.{AreNumbered, AreRects, AreRowsAlike, AreRowsOfRect}
+pub use Rattle.nit_screen.specs.MapRow.{AreSkips}
+pub use Rattle.nit_screen.specs.MapRow.{IsMapRow, IsRowOfMap, IsSkip, is_between, is_filled}
+pub use Rattle.nit_screen.specs.MapRow.{numbered}
+pub use Rattle.nit_screen.specs.Below.{IsMap, IsMapOf, no_slot, number_at, number_of}
 pub use Rattle.nit_screen.specs.Pixels.{ArePixels, ArePlaced, CanShow, CanShowBy, IsFrameOf}
 pub use Rattle.nit_screen.specs.Pixels.{IsPartShown, IsShown, ShowsBelow, kept_frame, raw_in}
 pub use Rattle.nit_screen.specs.Pixels.{raw_of, shown_by, unbarred}

@@ -3,8 +3,9 @@
 
 ghost use Rattle.std.specs.Prelude.{◌≡◌, ◌≢◌, ℕ, List, None, Some, false};
 ghost use Rattle.nit_screen.specs.Terms.{Agrees, AreBelowNext, AreInked, AreLive, AreRaw, Call};
-ghost use Rattle.nit_screen.specs.Terms.{Configuration, Entry, HaveOwnNames, IsLegal, IsNamedBy};
-ghost use Rattle.nit_screen.specs.Terms.{IsNewlyNamed, IsOn, IsServed, IsServer, IsViewChange};
+ghost use Rattle.nit_screen.specs.Terms.{Configuration, Entry, HaveOwnNames, IsLegal, IsLettering};
+ghost use Rattle.nit_screen.specs.Terms.{IsNamedBy, IsNewlyNamed, IsOn, IsServed, IsServer};
+ghost use Rattle.nit_screen.specs.Terms.{IsViewChange};
 ghost use Rattle.nit_screen.specs.Terms.{Painted, Point, Reply, Scenery, ServerModel, ShowsLabels};
 ghost use Rattle.nit_screen.specs.Terms.{Sight, SlotView, State, after, dirty, frame, opened};
 ghost use Rattle.nit_screen.specs.Terms.{place_of, refusal, replay, scenery_of, session};
@@ -65,7 +66,7 @@ pub fn names_stay_own()
 /// pixel. Which raw words the frame is made of does not matter.
 pub fn labels_stand()
     ensures { (config : Configuration) (journal : List Entry) (raw : List ℕ)
-        → IsLegal config journal
+        → IsLettering config.lettering → IsLegal config journal
         → ShowsLabels (scenery_of (replay config journal))
         (frame (scenery_of (replay config journal)) raw) }
 {}
@@ -74,7 +75,8 @@ pub fn labels_stand()
 /// draws them: each view for whose label there is a place has its whole label there, and no two
 /// labels share a pixel. Which raw words the frame is made of does not matter.
 pub fn own_names_show_labels()
-    ensures { (s : Scenery) (raw : List ℕ) → HaveOwnNames s.stack → ShowsLabels s (frame s raw) }
+    ensures { (s : Scenery) (raw : List ℕ) → IsLettering s.lettering → HaveOwnNames s.stack
+        → ShowsLabels s (frame s raw) }
 {}
 
 /// Where whoever has a view is live, a session that is over and opens again leaves each pixel the

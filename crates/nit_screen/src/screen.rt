@@ -5,6 +5,8 @@ ghost use Rattle.nit_screen.specs.Terms.{IsServer, IsWord};
 
 mod calls;
 mod frames;
+mod framing;
+mod free;
 mod input;
 mod labels;
 mod last;

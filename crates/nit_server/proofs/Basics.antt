@@ -20,19 +20,20 @@ pub use Rattle.nit_server.specs.Terms.{first_stack, forget, fresh, fresh_in, has
 pub use Rattle.nit_server.specs.Terms.{input_after_call, is_label, is_named, is_of_session}
 pub use Rattle.nit_server.specs.Terms.{is_place, is_rectangle, is_slot, is_slot_among}
 pub use Rattle.nit_server.specs.Terms.{is_slot_taken, is_view, kept_session_at, layer, layer_of}
-pub use Rattle.nit_server.specs.Terms.{list_any, member, most_units, moved, moved_above, name_in}
-pub use Rattle.nit_server.specs.Terms.{name_of, no_kept_session, no_size, on_view, option_map_or}
-pub use Rattle.nit_server.specs.Terms.{owner, owner_in, pairs_of, pointed_by, pointer}
-pub use Rattle.nit_server.specs.Terms.{pointer_after, put_above, put_again, put_back, put_front}
-pub use Rattle.nit_server.specs.Terms.{put_own_back, put_own_front, receive, rectangle, refusal}
-pub use Rattle.nit_server.specs.Terms.{relabelled, routed_as, routing, routing_of, serve, server_of}
-pub use Rattle.nit_server.specs.Terms.{session, session_in, size_of_buffer, slot_layer, slot_of}
-pub use Rattle.nit_server.specs.Terms.{slot_view_in, slot_view_layer, slots_of_all, spare}
-pub use Rattle.nit_server.specs.Terms.{stack_after_call, taking, unless_it_is, view_layer, view_ref}
-pub use Rattle.nit_server.specs.Terms.{view_slots, views_of, with_delivered, with_ended}
-pub use Rattle.nit_server.specs.Terms.{with_offset, with_opened, with_pointer, with_rect, with_slot}
-pub use Rattle.nit_server.specs.Terms.{with_title, without, without_handle, without_slot}
-pub use Rattle.nit_server.specs.Terms.{without_view, without_views}
+pub use Rattle.nit_server.specs.Terms.{list_any, member, most_sessions, most_slots, most_units}
+pub use Rattle.nit_server.specs.Terms.{moved, moved_above, name_in, name_of, no_kept_session}
+pub use Rattle.nit_server.specs.Terms.{no_size, on_view, option_map_or, owner, owner_in, pairs_of}
+pub use Rattle.nit_server.specs.Terms.{pointed_by, pointer, pointer_after, put_above, put_again}
+pub use Rattle.nit_server.specs.Terms.{put_back, put_front, put_own_back, put_own_front, receive}
+pub use Rattle.nit_server.specs.Terms.{rectangle, refusal, relabelled, routed_as, routing}
+pub use Rattle.nit_server.specs.Terms.{routing_of, serve, server_of, session, session_in}
+pub use Rattle.nit_server.specs.Terms.{size_of_buffer, slot_layer, slot_of, slot_view_in}
+pub use Rattle.nit_server.specs.Terms.{slot_view_layer, slots_of_all, spare, stack_after_call}
+pub use Rattle.nit_server.specs.Terms.{taking, unless_it_is, view_layer, view_ref, view_slots}
+pub use Rattle.nit_server.specs.Terms.{views_of, with_delivered, with_ended, with_offset}
+pub use Rattle.nit_server.specs.Terms.{with_opened, with_pointer, with_rect, with_slot, with_title}
+pub use Rattle.nit_server.specs.Terms.{without, without_handle, without_slot, without_view}
+pub use Rattle.nit_server.specs.Terms.{without_views}
 pub use Rattle.nit_stack.proofs.ForCallers.{All-insert, All_found, agree_by, found_in_slot}
 pub use Rattle.nit_stack.proofs.ForCallers.{found_passes, found_some, has-name, has-put_front}
 pub use Rattle.nit_stack.proofs.ForCallers.{has-without, insert_apart, keeps_above, keeps_back}
@@ -49,8 +50,8 @@ pub use Rattle.std.proofs.lemmas.Bool.{and_parts, false_from_ne_true}
 pub use Rattle.std.proofs.lemmas.Bool.Decides.{nat_tests, not_from_Decides}
 pub use Rattle.std.proofs.lemmas.Grind.{get_or-set_at}
 pub use Rattle.std.proofs.lemmas.Int.{to_z-of_z}
-pub use Rattle.std.proofs.lemmas.List.{get_or_default, length-map, length-replicate, map-set}
-pub use Rattle.std.proofs.lemmas.List.{set-get_or}
+pub use Rattle.std.proofs.lemmas.List.{get_or-replicate, get_or_default, length-map}
+pub use Rattle.std.proofs.lemmas.List.{length-replicate, map-set, set-get_or}
 pub use Rattle.std.proofs.lemmas.List.Elements.{All-from_get_or, All-get_or, All-head, All-map}
 pub use Rattle.std.proofs.lemmas.List.Elements.{All-nil, All-replicate, All-tail, All-weaker}
 pub use Rattle.std.proofs.lemmas.List.Folds.{sum_by-replicate}

@@ -2,15 +2,17 @@
 pub use Rattle.nit_server.proofs.AcceptedCalls.{backed, buffered, fronted, offset_by, placed}
 pub use Rattle.nit_server.proofs.AcceptedCalls.{put_above_next, refreshed, same_layer, taken, there}
 pub use Rattle.nit_server.proofs.AcceptedCalls.{titled, told, upgraded}
+pub use Rattle.nit_server.specs.Terms.{lettered}
 pub use Rattle.nit_server.proofs.Basics.{All_found, Configuration, Destroy, Done, IfNone, IsServed}
 pub use Rattle.nit_server.proofs.Basics.{IsSlotView, KeptSessionModel, Routing, ServerModel, ap}
 pub use Rattle.nit_server.proofs.Basics.{arith, bytes_eq-Decides, client_in, delivered_length}
-pub use Rattle.nit_server.proofs.Basics.{ended, first_kept_session, first_session, get_or-set_same}
-pub use Rattle.nit_server.proofs.Basics.{get_or_default, has_handle, is_of_session, is_slot}
-pub use Rattle.nit_server.proofs.Basics.{kept_session_at, length-set, list_any, map-map, name_of}
-pub use Rattle.nit_server.proofs.Basics.{nat_tests, not_from_Decides, owner_is, pairs_of, routed_as}
-pub use Rattle.nit_server.proofs.Basics.{routing_of, session_in, slot_of, slots_of_all, subst, sym}
-pub use Rattle.nit_server.proofs.Basics.{to_z-of_z, without_slot, without_views, ◌∙◌}
+pub use Rattle.nit_server.proofs.Basics.{ended, first_kept_session, first_session, get_or-replicate}
+pub use Rattle.nit_server.proofs.Basics.{get_or-set_same, get_or_default, has_handle, is_of_session}
+pub use Rattle.nit_server.proofs.Basics.{is_slot, kept_session_at, length-set, list_any, map-map}
+pub use Rattle.nit_server.proofs.Basics.{most_sessions, name_of, nat_tests, not_from_Decides}
+pub use Rattle.nit_server.proofs.Basics.{owner_is, pairs_of, routed_as, routing_of, session_in}
+pub use Rattle.nit_server.proofs.Basics.{slot_of, slots_of_all, subst, sym, to_z-of_z, without_slot}
+pub use Rattle.nit_server.proofs.Basics.{without_views, ◌∙◌}
 pub use Rattle.nit_server.proofs.Openings.{begun, handles_without, has_as_held, none_of}
 pub use Rattle.nit_server.proofs.Openings.{opened_server, seat_holds, seat_leaves}
 pub use Rattle.nit_server.proofs.ServerInputLemmas.{attends_less, each_one, is_client, is_few}

@@ -2,31 +2,44 @@
 use Rattle.std.proofs.Common.{Bool, IsTrue, List, [], ap, arith, cond, false, filter}
 use Rattle.std.proofs.Common.{get_or-set_other, inl, inr, length, length-set, map, mul-zero, not}
 use Rattle.std.proofs.Common.{refl, replicate, set, sum, sym, true, ℕ, ◌+◌, ◌-◌, ◌<◌, ◌==◌, ◌∙◌}
-use Rattle.std.proofs.Common.{◌∷◌, ◌≡◌, ◌≢◌, ◌≤◌}
+use Rattle.std.proofs.Common.{◌∷◌, ◌≡◌, ◌≢◌, ◌≤◌, ◌*◌, if◌then◌else◌}
 use Rattle.nit_server.proofs.ServerLemmas.{has_member, machine_is, no_client, repaid, same_sizes}
 use Rattle.nit_server.proofs.Basics.{All-from_get_or, All-get_or, All-map, All-nil, All-replicate}
-use Rattle.nit_server.proofs.Basics.{All-weaker, AreServerParts, Configuration, FocusModel, IsBar}
+use Rattle.nit_server.proofs.Basics.{All-weaker, AreServerParts, Configuration, FocusModel}
 use Rattle.nit_server.proofs.Basics.{IsBufferSize, IsConfiguration, IsFreeLabel, IsMember}
 use Rattle.nit_server.proofs.Basics.{IsServerInput, IsSlotView, IsStack, KeptSessionModel, Member}
-use Rattle.nit_server.proofs.Basics.{ServerModel, SlotsModel, StackModel, bar_rows, client_in}
+use Rattle.nit_server.proofs.Basics.{ServerModel, SlotsModel, StackModel, client_in}
+use Rattle.nit_glyph.specs.Lettering.{IsLettering, most_picture_height, most_scale}
+use Rattle.nit_glyph.specs.Lettering.{picture_height, rows_of}
+use Rattle.nit_glyph.specs.declared.lettering.Glyphs.{Glyphs}
+use Rattle.nit_glyph.specs.declared.lettering.Glyphs.TheVariants.{Large, Small}
+use Rattle.nit_glyph.specs.declared.lettering.Lettering.{Lettering}
 use Rattle.nit_server.proofs.Basics.{first_kept_session, first_session, first_stack, get_or-map}
 use Rattle.nit_server.proofs.Basics.{get_or-set_at, get_or_default, has_handle, is_label}
 use Rattle.nit_server.proofs.Basics.{kept_session_at, length-map, length-replicate, list_any}
-use Rattle.nit_server.proofs.Basics.{map-map, map-set, map-set_same, member, most_units, nat_tests}
-use Rattle.nit_server.proofs.Basics.{no_size, relabelled, server_of, session_in, size_of_buffer}
-use Rattle.nit_server.proofs.Basics.{slots_of_all, splat_is_map, sum_by-replicate, view_slots}
-use Rattle.nit_server.proofs.Basics.{with_opened, without_handle}
+use Rattle.nit_server.proofs.Basics.{map-map, map-set, map-set_same, member, most_slots, most_units}
+use Rattle.nit_server.proofs.Basics.{nat_tests, no_size, relabelled, server_of, session_in}
+use Rattle.nit_server.proofs.Basics.{size_of_buffer, slots_of_all, splat_is_map, sum_by-replicate}
+use Rattle.nit_server.proofs.Basics.{view_slots, with_opened, without_handle}
 
 -- no slot is taken
 abbrev pub none_taken : ℕ → SlotsModel
 none_taken total = record { total = total; taken = [] }
 
-opened_bar : (bar : Bool) (height : ℕ) → 1 ≤ height → (IsTrue bar → 8 ≤ height) → (rows : ℕ) → rows ≡ (cond bar 7 0)
-    → IsBar rows height
-opened_bar true height some tall rows e = let h = tall refl in (inr e, omega arith)
-opened_bar false height some tall rows e = (inl e, omega arith)
+-- the picture of a text has few rows
+scaled_low : (g : Glyphs) (scale : ℕ) → scale ≤ most_scale → scale * (rows_of g + 2) ≤ most_picture_height
+scaled_low Small scale few = omega arith
+scaled_low Large scale few = omega arith
 
-opened_stands : (config : Configuration) → IsConfiguration config → slots_of_all config.clients ≤ 1024
+picture_low : (l : Lettering) → IsLettering l → picture_height l ≤ most_picture_height
+picture_low l is = scaled_low l.glyphs l.scale is.1
+
+-- the rows of the bar are those of the picture of a text, or none
+opened_bar : (bar : Bool) (l : Lettering) → IsLettering l → (if bar then picture_height l else 0) ≤ most_picture_height
+opened_bar true l is = picture_low l is
+opened_bar false l is = omega arith
+
+opened_stands : (config : Configuration) → IsConfiguration config → slots_of_all config.clients ≤ most_slots
     → IsStack (first_stack config)
 opened_stands config c few =
     let n = length-replicate (length config.clients) no_size in
@@ -40,7 +53,7 @@ opened_stands config c few =
           (All-weaker IsMember (λ (m : Member). m.layer ≤ 7) (λ m h. h.layer) config.clients c.clients);
       sessions = rw n (c.count.0, c.count.1, length-map config.clients (λ (m : Member). m.layer));
       screen = (c.width.0, c.width.1, c.height.0, c.height.1);
-      bar = opened_bar config.bar config.height c.height.0 c.bar (bar_rows config) refl;
+      bar = (opened_bar config.bar config.lettering c.lettering, c.bar);
       room = few;
     }
 
@@ -56,7 +69,7 @@ no_views clients =
     ∙ sym (splat_is_map clients (length clients) 0 refl)) ∙ sum_by-replicate (λ (n : ℕ). n) (length clients) 0
     ∙ mul-zero (length clients))
 
-opened_is : (config : Configuration) → IsConfiguration config → slots_of_all config.clients ≤ 1024
+opened_is : (config : Configuration) → IsConfiguration config → slots_of_all config.clients ≤ most_slots
     → AreServerParts config (first_stack config) (map first_kept_session config.clients)
     (none_taken (slots_of_all config.clients))
 opened_is config c few = record {
@@ -96,7 +109,7 @@ pub opened_server : {config copy : Configuration} {stack : StackModel} {clients 
     → members ≡ map first_kept_session clients
     → slots ≡ none_taken total
     → total ≡ slots_of_all clients
-    → total ≤ 1024
+    → total ≤ most_slots
     → AreServerParts copy stack members slots
 opened_server {config} {total = total} c given copied stacked joined free sum few =
     let all : total ≡ slots_of_all config.clients = rw given at sum in
@@ -154,6 +167,7 @@ module _ (config : Configuration) (sid : ℕ) (label : List ℕ) where
   still_configured h there good free = record {
     width = h.width;
     height = h.height;
+    lettering = h.lettering;
     bar = h.bar;
     input = h.input;
     count = rw as_many h.count;

@@ -6,11 +6,11 @@ use Rattle.nit_server.proofs.Basics.{Point, Routed, ServerModel, Session, SlotVi
 use Rattle.nit_server.proofs.Basics.{StackModel, State, Status, Take, View, accepted, after}
 use Rattle.nit_server.proofs.Basics.{all_kept, at_most_one, bar_rows, by_life, clicks_on}
 use Rattle.nit_server.proofs.Basics.{clicks_on_list, delivered, deliveries_of, delivery}
-use Rattle.nit_server.proofs.Basics.{first_session, forget, known_after, length-map, nat_tests}
-use Rattle.nit_server.proofs.Basics.{owner, owner_in, owner_of_views, pointed_by, pointer}
-use Rattle.nit_server.proofs.Basics.{pointer_after, receive, routed_as, routing, routing_of}
-use Rattle.nit_server.proofs.Basics.{server_of, session, session_in, size_of_buffer, unless_it_is}
-use Rattle.nit_server.proofs.Basics.{view_ref, views_of, with_delivered, with_pointer}
+use Rattle.nit_server.proofs.Basics.{first_session, forget, known_after, length-map, most_sessions}
+use Rattle.nit_server.proofs.Basics.{nat_tests, owner, owner_in, owner_of_views, pointed_by}
+use Rattle.nit_server.proofs.Basics.{pointer, pointer_after, receive, routed_as, routing}
+use Rattle.nit_server.proofs.Basics.{routing_of, server_of, session, session_in, size_of_buffer}
+use Rattle.nit_server.proofs.Basics.{unless_it_is, view_ref, views_of, with_delivered, with_pointer}
 use Rattle.std.proofs.Common.{All, IfSome, List, None, Option, Some, [], ap, arith, length}
 use Rattle.std.proofs.Common.{length-append, option_map, refl, set, sym, ℕ, ◌++◌, ◌+◌, ◌<◌, ◌∙◌}
 use Rattle.std.proofs.Common.{◌∷◌, ◌≡◌, ◌≢◌, ◌≤◌}
@@ -98,7 +98,7 @@ module _ {config : Configuration} {stack : StackModel} {members : List KeptSessi
   pub is_client : t < length now.config.clients
   is_client = rw (← is) client
 
-  pub is_few : t < 16
+  pub is_few : t < most_sessions
   is_few = omega (arith, client, h.configured.count.1)
 
 -- ---- who is forgotten is forgotten again

@@ -1,6 +1,6 @@
 -- The words of the library and of the crates below that are used here, and the crate's plain types.
 pub use Rattle.nit_config.specs.Configuration.{Configuration, bar_rows, donation_of, is_file_name}
-pub use Rattle.nit_config.specs.Configuration.{member}
+pub use Rattle.nit_config.specs.Configuration.{lettered, member}
 pub use Rattle.nit_config.specs.ConfigurationRanges.{IsConfiguration, IsMember}
 pub use Rattle.nit_config.specs.declared.config.Member.{Member}
 pub use Rattle.nit_events.specs.Input.{InputState, Routing, deliveries_of, delivery, first_input}
@@ -20,7 +20,9 @@ pub use Rattle.nit_events.specs.declared.event.Routed.{Routed}
 pub use Rattle.nit_events.specs.declared.event.Status.{Status}
 pub use Rattle.nit_focus.specs.Focus.{AllOfInput, FocusModel, clicks_on_list, pointer, with_pointer}
 pub use Rattle.nit_focus.specs.Reach.{HasForgotten, IsForgottenIfKilled}
+pub use Rattle.nit_glyph.specs.Lettering.{IsLettering, picture_height, plain}
 pub use Rattle.nit_glyph.specs.Texts.{is_label}
+pub use Rattle.nit_glyph.specs.declared.lettering.Lettering.{Lettering}
 pub use Rattle.nit_journal.specs.Deliveries.{is_kill, kills}
 pub use Rattle.nit_journal.specs.Projection.{reserved, views_in_use}
 pub use Rattle.nit_journal.specs.Session.{Session, accepted, answered, by_call, by_handle, by_life}
@@ -42,7 +44,8 @@ pub use Rattle.nit_stack.specs.LabelPlaces.{is_view}
 pub use Rattle.nit_stack.specs.Orders.{changed, moved, put_above, put_again, put_back, put_front}
 pub use Rattle.nit_stack.specs.Orders.{without}
 pub use Rattle.nit_stack.specs.Sources.{Size, no_size, owner, owner_in, point}
-pub use Rattle.nit_stack.specs.Stack.{IsBar, IsBufferSize, IsRectInRange, IsSlotView, IsStack}
+pub use Rattle.nit_stack.specs.Stack.{IsBar, IsBufferSize, IsRectInRange, IsScreenSize, IsSlotView}
+pub use Rattle.nit_stack.specs.Stack.{IsStack}
 pub use Rattle.nit_stack.specs.Stack.{NoPair, SlotView, StackModel, fresh, fresh_in, has_slot}
 pub use Rattle.nit_stack.specs.Stack.{is_named, is_of_session, is_slot, layer_of, moved_above}
 pub use Rattle.nit_stack.specs.Stack.{on_view, put_own_back, put_own_front, slot_layer}

@@ -1,4 +1,6 @@
 -- The words that clauses use: those that come from outside, and those of this crate.
+pub use Rattle.nit_server.specs.Below.{IsLettering, IsScreenSize, Lettering, lettered}
+pub use Rattle.nit_server.specs.Below.{picture_height, plain}
 pub use Rattle.nit_server.specs.Below.{AllByRecursion, Buffer, Call, Close, Configuration, Delivery}
 pub use Rattle.nit_server.specs.Below.{Destroy, Device, Done, Entry, Event, FocusModel}
 pub use Rattle.nit_server.specs.Below.{HasForgotten, InputState, IsBar, IsBufferSize}

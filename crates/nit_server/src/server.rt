@@ -19,6 +19,7 @@ pub use input::killed;
 use nit_config::Config;
 use nit_events::{Call, Reply};
 use nit_focus::Focus;
+use nit_glyph::Lettering;
 use nit_slots::Slots;
 use nit_stack::{Stack, ViewRef};
 use opening::slots_of_all;
@@ -30,6 +31,7 @@ use std::marker::Model;
 #[derive(Drop)]
 pub struct Server {
     pub(crate) config: Config,
+    pub(crate) lettering: Lettering,
     pub(crate) stack: Stack,
     pub(crate) members: Vec<KeptSession>,
     pub(crate) slots: Slots,
@@ -37,15 +39,18 @@ pub struct Server {
 }
 
 impl Model for Server {
+    ghost use Rattle.nit_config.specs.Configuration.{lettered};
     ghost use Rattle.nit_server.specs.ServerInput.{IsServerInput};
     ghost use Rattle.nit_server.specs.Server.{ServerModel, AreServerParts, server_of};
 
     ghost Value = { ServerModel };
 
-    ghost view = { λ s. server_of s.config s.stack s.members.items s.focus.input };
+    ghost view = { λ s. server_of (lettered s.lettering s.config) s.stack s.members.items
+        s.focus.input };
 
-    ghost invariant = { λ s. AreServerParts s.config s.stack s.members.items s.slots
-        × IsServerInput s.config s.focus };
+    ghost invariant = { λ s. AreServerParts (lettered s.lettering s.config) s.stack s.members.items
+        s.slots
+        × IsServerInput (lettered s.lettering s.config) s.focus };
 }
 
 impl Server {

@@ -31,7 +31,7 @@ impl Model for Slots {
 }
 
 impl Slots {
-    /// This many slots, at most 1024, of which none is taken. All memory for them is taken here.
+    /// This many slots, at most 4096, of which none is taken. All memory for them is taken here.
     pub fn new(alloc: Global, total: u32) -> Result<Slots, NoMemory>
         requires { total ≤ most_slots }
         ensures { IfOk result (λ s. s ≡ record { total = total; taken = [] }) }

@@ -1,4 +1,5 @@
 -- The words of the library and of the crates below that are used here, and the crate's plain types.
+pub use Rattle.nit_glyph.specs.Lettering.{most_picture_height, most_picture_width}
 pub use Rattle.nit_rect.specs.Limits.{most_height, most_length, most_sessions, most_side}
 pub use Rattle.nit_rect.specs.Limits.{most_slots, most_width}
 pub use Rattle.nit_rect.specs.Rectangle.{IsPlace, Rectangle, covers, rectangle}

@@ -1,6 +1,7 @@
 -- Where a label stands on the screen.
 use Rattle.std.specs.Prelude.{ℕ, ◌==◌, Bool, false, ◌&&◌, pos, int_lt, List, map, find, Option}
-use Rattle.nit_stack.specs.Below.{None, Point, Some, View, flat_map, list_all, range_with_len}
+use Rattle.nit_stack.specs.Below.{None, Point, Some, View, flat_map, list_all, most_picture_width}
+use Rattle.nit_stack.specs.Below.{range_with_len}
 use Rattle.nit_stack.specs.Sources.{point, owner}
 
 -- the pixels of a rectangle from a column and a row on, row by row from the top
@@ -8,9 +9,9 @@ abbrev pub pixels : ℕ → ℕ → ℕ → ℕ → List Point
 pixels x y w h =
     flat_map (λ row. map (λ column. point column row) (range_with_len x w)) (range_with_len y h)
 
--- the most columns and rows of a label on the screen: the picture of the longest text is so wide
+-- the most columns and rows of a label on the screen: the widest picture of a text has so many
 abbrev pub most_tag : ℕ
-most_tag = 133
+most_tag = most_picture_width
 
 -- a view of a session is named by its handle
 abbrev pub is_view : ℕ → ℕ → View → Bool

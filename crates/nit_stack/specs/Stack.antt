@@ -1,11 +1,11 @@
 -- What contracts see of a stack: its views with their slots, front first, and what the screen and
 -- the sessions have.
-use Rattle.std.specs.Prelude.{◌≡◌, ℕ, ◌<◌, ◌≤◌, ◌⊎◌, ◌==◌, Bool, false, nat_lt, ℤ, pos, List, []}
+use Rattle.std.specs.Prelude.{◌≡◌, ℕ, ◌<◌, ◌≤◌, ◌==◌, Bool, false, nat_lt, ℤ, pos, List, []}
 use Rattle.std.specs.Prelude.{◌∷◌, length, find, replicate, slice_index, slice_index_or, All}
 use Rattle.std.specs.Prelude.{Option, if◌then◌else◌}
 use Rattle.nit_stack.specs.Below.{IsPlace, Point, Rectangle, View, ViewRef, list_any, most_height}
-use Rattle.nit_stack.specs.Below.{most_length, most_sessions, most_side, most_slots, most_width}
-use Rattle.nit_stack.specs.Below.{option_map, position_or_len, rectangle}
+use Rattle.nit_stack.specs.Below.{most_length, most_picture_height, most_sessions, most_side}
+use Rattle.nit_stack.specs.Below.{most_slots, most_width, option_map, position_or_len, rectangle}
 pub use Rattle.nit_rect.specs.Screen.{IsOnScreen}
 use Rattle.nit_stack.specs.LabelPlaces.{is_view}
 use Rattle.nit_stack.specs.Orders.{put_front, put_back, put_above, moved}
@@ -163,9 +163,9 @@ pub record IsSlotView (most sessions : ℕ) (s : SlotView) : Type 0 where
 abbrev pub IsBufferSize : Size → Type 0
 IsBufferSize z = (z.w ≤ most_side) × (z.h ≤ most_side)
 
--- the bar has 0 or 7 rows, and leaves a row of the screen below it
+-- the bar has at most as many rows as a picture of a text, and leaves a row of the screen below it
 abbrev pub IsBar : ℕ → ℕ → Type 0
-IsBar rows height = ((rows ≡ 0) ⊎ (rows ≡ 7)) × (rows < height)
+IsBar rows height = (rows ≤ most_picture_height) × (rows < height)
 
 -- the screen is 1..=4096 by 1..=4096
 abbrev pub IsScreenSize : ℕ → ℕ → Type 0

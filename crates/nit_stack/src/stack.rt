@@ -90,7 +90,8 @@ impl Stack {
         self.layers[sid as usize] = layer;
     }
 
-    /// Gives the status bar 0 or 7 rows, while no view is there.
+    /// Gives the status bar this number of rows, 0..=72 and fewer than the screen has, while no view
+    /// is there.
     pub fn set_bar(&mut self, rows: u32)
         requires empty { self.old.views ≡ [] }
         requires rows { IsBar rows self.old.height }
@@ -322,7 +323,7 @@ impl Stack {
         (self.width, self.height)
     }
 
-    /// The number of bar rows, 0 or 7.
+    /// The number of bar rows, 0..=72.
     pub fn bar(&self) -> u32
         ensures rows { result ≡ self.now.bar }
         ensures range { IsBar result self.now.height }

@@ -3,12 +3,13 @@ use Rattle.std.proofs.Common.{◌≡◌, ◌∙◌, ℕ, ◌+◌, ◌*◌, ◌<�
 use Rattle.std.proofs.Common.{refl, sym, ap, subst, arith}
 use Rattle.std.specs.Prelude.{pos, Option, Some, None, IfSome, option_map, slice_get}
 use Rattle.std.specs.Prelude.{slice_index_or}
+use Rattle.nit_glyph.specs.Lettering.{picture_width, plain}
 use Rattle.nit_stack.specs.Stack.{SlotView, StackModel, slot_view_in}
 use Rattle.nit_stack.specs.LabelPlaces.{label_place}
 use Rattle.nit_overlay.specs.Below.{Mode, Point, Rectangle, views_of}
 use Rattle.nit_overlay.specs.declared.look.Look.{Look}
 use Rattle.nit_overlay.specs.Frame.{Scenery, label_place_of}
-use Rattle.nit_overlay.specs.Look.{IsLook, pixel_at}
+use Rattle.nit_overlay.specs.Look.{IsLook, pixel_at, plain_look}
 use Rattle.nit_tests.specs.Painted.{two_views}
 
 -- the place, or that there is none, is that of a label of this width for the view in this slot
@@ -28,6 +29,7 @@ scenery_of S labels mode focus =
       mode =
           mode;
       focus = focus;
+      lettering = plain;
     }
 
 abbrev IsPlacedIn : StackModel → List (List ℕ) → Mode → Option ℕ → List (Option Point) → SlotView → Type 0
@@ -48,7 +50,8 @@ view_placed back front a b mode focus p q a_long b_long at_p at_q zero d inside 
       view =
           record { sid = 1; handle = 1; rect = front; ox = pos 0; oy = pos 0; title = [] };
     } in
-    ap Some (subst (λ (n : ℕ). q ≡ option_map pixel_at (label_place 12 7 0 (views_of S.views) s.view (4 * n + 1) 7))
+    ap Some (subst (λ (n : ℕ).
+    q ≡ option_map pixel_at (label_place 12 7 0 (views_of S.views) s.view (picture_width plain n) 7))
     (sym b_long) (at_q s refl))
 view_placed back front a b mode focus p q a_long b_long at_p at_q (suc zero) d inside =
     let S = two_views back front in
@@ -57,7 +60,8 @@ view_placed back front a b mode focus p q a_long b_long at_p at_q (suc zero) d i
       view =
           record { sid = 0; handle = 1; rect = back; ox = pos 0; oy = pos 0; title = [] };
     } in
-    ap Some (subst (λ (n : ℕ). p ≡ option_map pixel_at (label_place 12 7 0 (views_of S.views) s.view (4 * n + 1) 7))
+    ap Some (subst (λ (n : ℕ).
+    p ≡ option_map pixel_at (label_place 12 7 0 (views_of S.views) s.view (picture_width plain n) 7))
     (sym a_long) (at_p s refl))
 view_placed back front a b mode focus p q a_long b_long at_p at_q (suc (suc k)) d inside =
     absurd (omega (arith, inside))
@@ -80,7 +84,7 @@ two_sizes S back front are = sym (ap (λ (T : StackModel). length T.sizes) are)
 pub look_of_two : (look : Look) (back front : Rectangle) (a b : List ℕ) (p q : Option Point)
     → look.stack.now ≡ two_views back front → look.labels.now ≡ a ∷ b ∷ []
     → look.focus ≡ None → look.places.now ≡ p ∷ q ∷ [] → length a ≡ 2 → length b ≡ 1 → IsPlaceOf look.stack.now 0 9 p
-    → IsPlaceOf look.stack.now 1 5 q → IsLook look
+    → IsPlaceOf look.stack.now 1 5 q → IsLook (plain_look look)
 look_of_two look back front a b p q are labels focus places a_long b_long at_p at_q =
     let S = look.stack.now in
     record {
@@ -92,4 +96,5 @@ look_of_two look back front a b p q are labels focus places a_long b_long at_p a
           (subst (λ (ps : List (Option Point)). All (IsPlacedIn S (a ∷ b ∷ []) look.mode look.focus ps) S.views)
           (sym places)
           (views_placed S back front a b look.mode look.focus p q are a_long b_long at_p at_q));
+      lettering = (omega arith, omega arith);
     }

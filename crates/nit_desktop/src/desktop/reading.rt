@@ -3,7 +3,8 @@
 ghost use Rattle.std.specs.Prelude.{◌≡◌, ◌<◌, ◌≤◌, ◌*◌, IfSome, IsTrue, false, length, Some};
 ghost use Rattle.std.specs.Prelude.{slice_get};
 ghost use Rattle.nit_desktop.specs.Terms.{AreLive, IsConfiguration, IsFreeLabel, IsPlace};
-ghost use Rattle.nit_desktop.specs.Terms.{bar_rows, member, most_slots, owner_of, refusal};
+ghost use Rattle.nit_desktop.specs.Terms.{bar_rows, member, most_picture_height, most_slots};
+ghost use Rattle.nit_desktop.specs.Terms.{owner_of, refusal};
 ghost use Rattle.nit_desktop.specs.Terms.{session, table_size, under_pointer};
 
 use crate::desktop::Desktop;
@@ -39,7 +40,7 @@ impl Desktop {
         self.screen.server().refused(sid, call)
     }
 
-    /// How many sessions there are, 1..=16.
+    /// How many sessions there are, 1..=64.
     pub fn sessions(&self) -> u32
         ensures { result ≡ length self.now.state.sessions }
     {
@@ -123,7 +124,7 @@ impl Desktop {
         self.screen.server().stack().buffer(sid)
     }
 
-    /// How many views there are, at most 1,024.
+    /// How many views there are, at most 4,096.
     pub fn views(&self) -> u32
         ensures count { result ≡ length self.now.state.stack }
         ensures most { result ≤ most_slots }
@@ -201,11 +202,12 @@ impl Desktop {
         self.screen.server().under_pointer()
     }
 
-    /// The rows of the status bar, none or 7.
+    /// The rows of the status bar, at most 72. 0: there is none.
     pub fn bar(&self) -> u32
         ensures rows { result ≡ bar_rows self.now.state.config }
-        ensures few { result ≤ 7 }
+        ensures few { result ≤ most_picture_height }
     {
+        self.screen.facts();
         self.screen.server().stack().bar()
     }
 

@@ -3,7 +3,7 @@
 ghost use Rattle.std.specs.Prelude.{◌≡◌, ◌+◌, ◌≤◌, ◌++◌, ℕ, IfOk, Some};
 ghost use Rattle.nit_hall.specs.Terms.{AreFirstClipPasses, ClipPassModel, IsUnserved};
 ghost use Rattle.nit_hall.specs.Terms.{clip_script_in, entries_in, length, lines_of_clips};
-ghost use Rattle.nit_hall.specs.Terms.{most_clips, most_sessions, most_shares, replicate};
+ghost use Rattle.nit_hall.specs.Terms.{most_clips, most_run_sessions, most_shares, replicate};
 ghost use Rattle.nit_hall.specs.Terms.{slice_get, with_clip_scripts};
 
 use crate::clip_pass::ClipPass;
@@ -102,7 +102,7 @@ fn clip_passes<'a>(
 
 /// How many lines all clip scripts have.
 fn line_count(scripts: &[ClipScript]) -> usize
-    requires { length scripts.now ≤ most_sessions }
+    requires { length scripts.now ≤ most_run_sessions }
     ensures count { result ≡ lines_of_clips scripts.now }
     ensures most { result ≤ most_clips }
 {

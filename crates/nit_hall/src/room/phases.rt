@@ -3,7 +3,7 @@
 ghost use Rattle.std.specs.Prelude.{◌≡◌, ◌<◌, ◌≤◌};
 ghost use Rattle.nit_hall.specs.Terms.{HasArrived, IsAtPhase, IsAtUserPhase, IsReadyAt};
 ghost use Rattle.nit_hall.specs.Terms.{UserHasArrived, UserIsReadyAt, after_arrival, most_lines};
-ghost use Rattle.nit_hall.specs.Terms.{most_sessions};
+ghost use Rattle.nit_hall.specs.Terms.{most_run_sessions};
 
 use crate::pass::Pass;
 use crate::room::Room;
@@ -54,7 +54,7 @@ impl<'a> Room<'a> {
 
 /// The phase that is served, and how many actors have ended it, when one more has.
 fn after_arrival(clients: usize, phase: u32, arrived: u32) -> (u32, u32)
-    requires { (phase < most_lines) × (arrived ≤ clients) × (clients ≤ most_sessions) }
+    requires { (phase < most_lines) × (arrived ≤ clients) × (clients ≤ most_run_sessions) }
     ensures { result ≡ after_arrival clients phase arrived }
 {
     if arrived as usize == clients {

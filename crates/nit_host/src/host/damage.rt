@@ -1,7 +1,7 @@
 //! What of the frame has changed, and a part of the frame, put among rows of another length.
 
 ghost use Rattle.std.specs.Prelude.{◌≡◌, All, Err, None, Ok, Some, length};
-ghost use Rattle.nit_host.specs.Terms.{AreParts, IsAreaOf, IsPut, IsSeenBut, Looks, Uncopied};
+ghost use Rattle.nit_host.specs.Terms.{AreParts, IsAreaOf, IsPartPut, IsSeenBut, Looks, Uncopied};
 ghost use Rattle.nit_host.specs.Terms.{after_act, area_at, area_on, frame_shown, has_any, looked};
 ghost use Rattle.nit_host.specs.Terms.{uncopied};
 
@@ -52,11 +52,12 @@ impl Host {
     ) -> Result<(), Uncopied>
         ensures copied { let area = area_at place.0 place.1 size.0 size.1 in
             uncopied self.now area pitch (length out.old) ≡ None
-            → (result ≡ Ok tt) ×
-            IsPut self.now.state.config.width area pitch (frame_shown self.now) out.old out.new }
+            → (result ≡ Ok tt)
+            × IsPartPut self.now.state.config.width area pitch (frame_shown self.now)
+            out.old out.new }
         ensures uncopied { (why : Uncopied) →
-            uncopied self.now (area_at place.0 place.1 size.0 size.1) pitch (length out.old) ≡ Some why
-            → (result ≡ Err why) × (out.new ≡ out.old) }
+            uncopied self.now (area_at place.0 place.1 size.0 size.1) pitch (length out.old)
+            ≡ Some why → (result ≡ Err why) × (out.new ≡ out.old) }
     {
         self.facts();
         let (width, height) = self.size();

@@ -1,8 +1,9 @@
 //! A host before its first step.
 
-ghost use Rattle.std.specs.Prelude.{◌≡◌, IfOk};
-ghost use Rattle.nit_host.specs.Terms.{AreBlank, AreSheets, IsConfiguration, first_host};
-ghost use Rattle.nit_host.specs.Terms.{first_state, no_turns, vacant_state};
+ghost use Rattle.std.specs.Prelude.{◌≡◌, ◌≤◌, IfOk, length};
+ghost use Rattle.nit_host.specs.Terms.{All, AreBlank, AreSheets, IsConfiguration, IsMember};
+ghost use Rattle.nit_host.specs.Terms.{first_host, first_state, lettered, most_sessions, no_turns};
+ghost use Rattle.nit_host.specs.Terms.{vacant_state};
 
 use crate::client::Turns;
 use crate::host::Host;
@@ -10,25 +11,24 @@ use crate::host::area::whole;
 use crate::sheet::Sheet;
 use nit_config::Config;
 use nit_desktop::Desktop;
-use nit_rect::{MOST_SESSIONS, NoMemory};
+use nit_glyph::Lettering;
+use nit_rect::{MOST_SESSIONS, MOST_SLOTS, NoMemory};
 use nit_slots::table_size;
 use std::alloc::Global;
-
-/// How many views there are at most, of all clients.
-const MOST_VIEWS: usize = 1024;
 
 impl Host {
     /// A host whose seats are all free. A seat has the donation, the layer and the setting on
     /// clicks of its client in the configuration; its label waits there until a client brings
-    /// another. All memory that the host will ever use is taken here.
-    pub fn vacant(alloc: Global, config: &Config) -> Result<Host, NoMemory>
-        requires { IsConfiguration config.now }
-        ensures { IfOk result (λ h. h ≡ first_host (vacant_state config.now) config.now) }
+    /// another. Texts are drawn so. All memory that the host will ever use is taken here.
+    pub fn vacant(alloc: Global, config: &Config, lettering: Lettering) -> Result<Host, NoMemory>
+        requires { IsConfiguration (lettered lettering config.now) }
+        ensures { let drawn = lettered lettering config.now in
+            IfOk result (λ h. h ≡ first_host (vacant_state drawn) drawn) }
     {
         let mut sheets = sheets(alloc, config)?;
-        let shown = Vec::with_capacity(alloc, MOST_VIEWS)?;
+        let shown = Vec::with_capacity(alloc, MOST_SLOTS)?;
         Ok(Host {
-            desktop: Desktop::vacant(alloc, config, &mut sheets)?,
+            desktop: Desktop::vacant(alloc, config, lettering, &mut sheets)?,
             sheets,
             turns: no_turns(),
             last: None,
@@ -39,16 +39,17 @@ impl Host {
         })
     }
 
-    /// A host whose seats are all taken, by the clients of the configuration. All memory that the
-    /// host will ever use is taken here.
-    pub fn seated(alloc: Global, config: &Config) -> Result<Host, NoMemory>
-        requires { IsConfiguration config.now }
-        ensures { IfOk result (λ h. h ≡ first_host (first_state config.now) config.now) }
+    /// A host whose seats are all taken, by the clients of the configuration. Texts are drawn so.
+    /// All memory that the host will ever use is taken here.
+    pub fn seated(alloc: Global, config: &Config, lettering: Lettering) -> Result<Host, NoMemory>
+        requires { IsConfiguration (lettered lettering config.now) }
+        ensures { let drawn = lettered lettering config.now in
+            IfOk result (λ h. h ≡ first_host (first_state drawn) drawn) }
     {
         let sheets = sheets(alloc, config)?;
-        let shown = Vec::with_capacity(alloc, MOST_VIEWS)?;
+        let shown = Vec::with_capacity(alloc, MOST_SLOTS)?;
         Ok(Host {
-            desktop: Desktop::new(alloc, config)?,
+            desktop: Desktop::new(alloc, config, lettering)?,
             sheets,
             turns: no_turns(),
             last: None,
@@ -72,7 +73,8 @@ fn no_turns() -> Turns
 
 /// A sheet for each seat, in order, whose words are 0.
 fn sheets(alloc: Global, config: &Config) -> Result<Vec<Sheet>, NoMemory>
-    requires { IsConfiguration config.now }
+    requires few { length config.now.clients ≤ most_sessions }
+    requires clients { All IsMember config.now.clients }
     ensures blank { IfOk result (λ v. AreBlank config.now v.items) }
     ensures room { IfOk result (λ v. AreSheets config.now v.items) }
 {

@@ -40,7 +40,7 @@ impl Host {
         })
     }
 
-    /// How many seats there are, 1..=16. They are counted from 0.
+    /// How many seats there are, 1..=64. They are counted from 0.
     pub fn seats(&self) -> u32
         ensures { result ≡ length self.now.state.sessions }
     {
@@ -93,7 +93,8 @@ impl Host {
     pub fn seat_for(&self, label: &Label, layer: u32) -> Result<u32, Unseated>
         ensures seat { result ≡ seat_for self.now label.now layer }
         ensures takes { IfOk result (λ seat. TakesIn self.now label.now layer seat) }
-        ensures none { IfErr result (λ why. (seat : ℕ) → TakesIn self.now label.now layer seat → ⊥) }
+        ensures none { IfErr result
+            (λ why. (seat : ℕ) → TakesIn self.now label.now layer seat → ⊥) }
     {
         self.facts();
         self.sought(label, layer)

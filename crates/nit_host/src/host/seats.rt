@@ -2,7 +2,7 @@
 
 ghost use Rattle.std.specs.Prelude.{◌≡◌, ◌≤◌, None, Some, Ok, Err, IfOk};
 ghost use Rattle.nit_host.specs.Terms.{Comes, Unseated, after_act, most_comings, next_client};
-ghost use Rattle.nit_host.specs.Terms.{seated, turn_of, unseated};
+ghost use Rattle.nit_host.specs.Terms.{seated, seat_turn, unseated};
 
 use crate::client::Client;
 use crate::host::Host;

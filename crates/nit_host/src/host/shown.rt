@@ -1,7 +1,8 @@
 //! What is remembered of the last look: whose view each pixel showed.
 
 ghost use Rattle.std.specs.Prelude.{◌≡◌, ◌≤◌, drop, find, vec_capacity};
-ghost use Rattle.nit_host.specs.Terms.{covers, is_same_client, most_slots, owner, owner_shown};
+ghost use Rattle.nit_host.specs.Terms.{covers, is_same_client, most_picture_height, most_slots};
+ghost use Rattle.nit_host.specs.Terms.{owner, owner_shown};
 
 use crate::host::Host;
 use nit_desktop::Desktop;
@@ -42,7 +43,7 @@ pub(crate) fn remember(desktop: &Desktop, shown: &mut Vec<View>)
 
 /// The view that owns a pixel among these, front first, below a bar of so many rows.
 pub(crate) fn owner_among(views: &[View], rows: u32, p: Point) -> Option<View>
-    requires { rows ≤ 7 }
+    requires { rows ≤ most_picture_height }
     ensures { result ≡ owner rows views.now p }
 {
     if p.y < rows as i32 {

@@ -5,6 +5,7 @@ ghost use Rattle.nit_scene.specs.Terms.{AreListedGlasses, IsConfiguration, bare_
 
 use crate::scene::Scene;
 use nit_config::Config;
+use nit_glyph::Lettering;
 use nit_journal::Journal;
 use nit_rect::NoMemory;
 use nit_screen::Screen;
@@ -33,7 +34,9 @@ impl<G: Glass + Drop> Scene<G> {
           glasses = glasses.items;
         }) }
     {
-        let screen = Screen::new(alloc, config)?;
+        // a configuration that is read has plain texts: so says its model, which reading it shows
+        let _bar = config.bar;
+        let screen = Screen::new(alloc, config, Lettering::PLAIN)?;
         let journal = Journal::with_room(alloc, room)?;
         Ok(Scene {
             screen,

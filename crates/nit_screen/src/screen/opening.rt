@@ -1,9 +1,9 @@
 //! A screen before its first entry.
 
 ghost use Rattle.std.specs.Prelude.{◌≡◌, ◌+◌, ◌-◌, ◌<◌, ◌≤◌, None, IfOk, length, ◌*◌, map};
-ghost use Rattle.nit_screen.specs.Terms.{IsConfiguration, Point, bar_rows, bare_word, false};
-ghost use Rattle.nit_screen.specs.Terms.{first_state, most_slots, replicate, state_of};
-ghost use Rattle.nit_screen.specs.Terms.{vec_capacity};
+ghost use Rattle.nit_screen.specs.Terms.{IsConfiguration, IsRoomFor, IsScreenSize, Point, bar_rows};
+ghost use Rattle.nit_screen.specs.Terms.{bare_word, false, first_state, lettered, most_slots};
+ghost use Rattle.nit_screen.specs.Terms.{replicate, state_of, vec_capacity};
 
 use crate::screen::Screen;
 use crate::screen::labels::Labels;
@@ -11,25 +11,23 @@ use crate::screen::owners::OwnerMap;
 use crate::screen::pixels::Pixels;
 use nit_config::Config;
 use nit_damage::Cutter;
-use nit_glyph::Label;
-use nit_rect::{NoMemory, Point};
+use nit_glyph::{Label, Lettering};
+use nit_rect::{MOST_SLOTS, NoMemory, Point};
 use nit_repaint::Painter;
 use nit_server::Server;
 use nit_word::BARE;
 use std::alloc::Global;
 
-/// The most views that all sessions together may have.
-const MOST_VIEWS: usize = 1024;
-
 impl Screen {
-    /// A screen of this configuration without any view.
-    pub fn new(alloc: Global, config: &Config) -> Result<Screen, NoMemory>
-        requires config { IsConfiguration config.now }
-        ensures state { IfOk result (λ s. state_of s.serving ≡ first_state config.now) }
+    /// A screen of this configuration without any view, with its texts drawn so.
+    pub fn new(alloc: Global, config: &Config, lettering: Lettering) -> Result<Screen, NoMemory>
+        requires config { IsConfiguration (lettered lettering config.now) }
+        ensures state { IfOk result
+            (λ s. state_of s.serving ≡ first_state (lettered lettering config.now)) }
         ensures raw { IfOk result (λ s. s.raw ≡ replicate
             (config.now.width * config.now.height) bare_word) }
     {
-        let server = Server::new(alloc, config)?;
+        let server = Server::new(alloc, config, lettering)?;
         server.facts();
         let mut pixels = bare_pixels(alloc, config, bar_pixels(&server))?;
         pixels.show_again(&server);
@@ -39,7 +37,7 @@ impl Screen {
 
 /// The pixels of a bare screen in mode Flat, without the bar.
 fn bare_pixels(alloc: Global, config: &Config, bar: usize) -> Result<Pixels, NoMemory>
-    requires { IsConfiguration config.now }
+    requires { IsScreenSize config.now.width config.now.height }
     ensures raw { IfOk result (λ p. p.painter.raw.items
         ≡ replicate (config.now.width * config.now.height) bare_word) }
     ensures one { IfOk result (λ p. p.is_apart ≡ false) }
@@ -51,19 +49,16 @@ fn bare_pixels(alloc: Global, config: &Config, bar: usize) -> Result<Pixels, NoM
         p.labels.texts.items ≡ map (λ m. m.label) config.now.clients) }
     ensures room { IfOk result (λ p.
         (most_slots ≤ p.painter.cutter.room) × (most_slots ≤ length p.labels.places.items)) }
-    ensures mapped { IfOk result (λ p. p.labels.owners ≡ record {
-      width = config.now.width;
-      height = config.now.height;
-      slots = length p.labels.places.items;
-    }) }
+    ensures mapped { IfOk result (λ p. IsRoomFor config.now.width config.now.height
+        (length p.labels.places.items) p.labels.owners) }
 {
-    let cutter = Cutter::with_room(alloc, MOST_VIEWS as u32)?;
+    let cutter = Cutter::with_room(alloc, MOST_SLOTS as u32)?;
     let raw = bare_words(alloc, config)?;
     let frame = Vec::with_capacity(alloc, raw.len())?;
     let labels = Labels {
         texts: labels_of(alloc, config)?,
         places: no_places(alloc)?,
-        owners: OwnerMap::new(alloc, config.width, config.height, MOST_VIEWS)?,
+        owners: OwnerMap::new(alloc, config.width, config.height, MOST_SLOTS)?,
     };
     let painter = Painter { cutter, raw };
     Ok(Pixels {
@@ -99,7 +94,7 @@ fn labels_of(alloc: Global, config: &Config) -> Result<Vec<Label>, NoMemory>
 
 /// The bare word for each pixel of the screen.
 fn bare_words(alloc: Global, config: &Config) -> Result<Vec<u32>, NoMemory>
-    requires { IsConfiguration config.now }
+    requires { IsScreenSize config.now.width config.now.height }
     ensures words { IfOk result (λ v. v.items ≡ replicate
         (config.now.width * config.now.height) bare_word) }
     ensures count { IfOk result (λ v. length v.items ≡ config.now.width * config.now.height) }
@@ -112,5 +107,5 @@ fn bare_words(alloc: Global, config: &Config) -> Result<Vec<u32>, NoMemory>
 fn no_places(alloc: Global) -> Result<Vec<Option<Point>>, NoMemory>
     ensures { IfOk result (λ v. length v.items ≡ most_slots) }
 {
-    Ok(vec![in alloc; None; MOST_VIEWS]?)
+    Ok(vec![in alloc; None; MOST_SLOTS]?)
 }

@@ -1,22 +1,23 @@
-//! Who owns each pixel, by which the places of labels are found.
+//! Who owns each pixel, by which the places of labels are found and the frame is made.
 
 ghost use Rattle.std.specs.Prelude.{◌≡◌, ◌*◌, ◌<◌, ◌≤◌, IfOk, Some, length, slice_get};
 ghost use Rattle.std.specs.Prelude.{vec_capacity};
-ghost use Rattle.nit_screen.specs.Terms.{AreLabelled, AreMeasured, IsStack, SlotView};
-ghost use Rattle.nit_screen.specs.Terms.{label_scenery, label_width, most_height, most_slots};
-ghost use Rattle.nit_screen.specs.Terms.{most_width};
+ghost use Rattle.nit_screen.specs.Terms.{AreLabelled, AreMeasured, IsLettering, IsMapOf, IsRoomFor};
+ghost use Rattle.nit_screen.specs.Terms.{IsStack, SlotView, label_scenery, label_width};
+ghost use Rattle.nit_screen.specs.Terms.{most_height, most_slots, most_width};
 
-use crate::screen::map::{NO_SLOT, map_owners};
-use nit_damage::Cutter;
-use nit_glyph::{Label, label_size, label_text};
+use crate::screen::map::{collect, map_owners};
+use nit_glyph::{Label, Lettering, label_text, text_size};
 use nit_labels::places;
-use nit_rect::{NoMemory, Point};
+use nit_overlay::NO_SLOT;
+use nit_rect::{NoMemory, Point, Rect};
 use nit_stack::Stack;
 use std::alloc::Global;
 use std::marker::Model;
 
-/// Room for a map of the screen, which has the slot of each pixel's owner, and for what the places
-/// of labels are found by besides. Between two calls nothing of it has a meaning.
+/// A map of the screen, which has the slot of each pixel's owner, and room for what the places of
+/// labels are found by besides. It is made anew before it is read, and the rest has no meaning
+/// between two calls.
 #[derive(Drop)]
 pub struct OwnerMap {
     owners: Vec<u16>,
@@ -24,11 +25,15 @@ pub struct OwnerMap {
     widths: Vec<u32>,
     /// How far down the pixels of a row go on with one owner.
     down: Vec<u8>,
+    /// From each column of a row, one to which all pixels between have their owners.
+    next: Vec<u16>,
+    /// The rectangles of the views, front first.
+    rects: Vec<Rect>,
     height: u32,
 }
 
 impl Model for OwnerMap {
-    ghost use Rattle.std.specs.Prelude.{◌≤◌, ◌*◌, length, vec_capacity};
+    ghost use Rattle.std.specs.Prelude.{◌≡◌, ◌≤◌, ◌*◌, length, vec_capacity};
     ghost use Rattle.nit_screen.specs.MapRoom.{MapRoom};
 
     ghost Value = { MapRoom };
@@ -37,10 +42,13 @@ impl Model for OwnerMap {
       width = length m.down.items;
       height = m.height;
       slots = length m.widths.items;
+      map = m.owners.items;
     } };
 
     ghost invariant = { λ m. (length m.owners.items ≤ length m.down.items * m.height)
-        × (length m.down.items * m.height ≤ vec_capacity m.owners) };
+        × (length m.down.items * m.height ≤ vec_capacity m.owners)
+        × (length m.next.items ≡ length m.down.items)
+        × (length m.rects.items ≡ length m.widths.items) };
 }
 
 impl OwnerMap {
@@ -53,46 +61,71 @@ impl OwnerMap {
     ) -> Result<OwnerMap, NoMemory>
         requires screen { (width ≤ most_width) × (height ≤ most_height) }
         requires slots { slots ≤ most_slots }
-        ensures { IfOk result (λ m. m ≡ record { width = width; height = height; slots = slots }) }
+        ensures { IfOk result (IsRoomFor width height slots) }
     {
         let owners = Vec::with_capacity(alloc, width as usize * height as usize)?;
         let widths = vec![in alloc; 0; slots]?;
         let down = vec![in alloc; 0; width as usize]?;
+        let next = vec![in alloc; 0; width as usize]?;
+        let rects = vec![in alloc; Rect::of(0, 0, 0, 0); slots]?;
         Ok(OwnerMap {
             owners,
             widths,
             down,
+            next,
+            rects,
             height,
         })
     }
 
+    /// Gives each pixel of the screen the number of its owner. No memory is taken.
+    pub(crate) fn map(&mut self, stack: &Stack)
+        requires width { self.old.width ≡ stack.now.width }
+        requires height { self.old.height ≡ stack.now.height }
+        requires slots { stack.now.most ≤ self.old.slots }
+        ensures map { IsMapOf stack.now self.new.map }
+        ensures room { self.new ≡ record self.old { map = self.new.map } }
+    {
+        let (width, height) = stack.size();
+        reach(&mut self.owners, width as usize * height as usize);
+        collect(stack, self.rects.as_mut_slice());
+        map_owners(
+            stack,
+            self.rects.as_slice(),
+            self.owners.as_mut_slice(),
+            self.next.as_mut_slice(),
+        );
+    }
+
+    /// The number of each pixel, as it was mapped.
+    pub(crate) fn numbers(&self) -> &[u16]
+        ensures { result.now ≡ self.now.map }
+    {
+        self.owners.as_slice()
+    }
+
     /// Sets `found` at the slot of each view of the stack to the place of the view's label, or to
-    /// none where it fits nowhere. `labels` has the label of each session. No memory is taken.
+    /// none where it fits nowhere, by the map. `labels` has the label of each session. No memory is
+    /// taken.
     pub(crate) fn place_labels(
         &mut self,
         stack: &Stack,
         labels: &[Label],
-        cutter: &mut Cutter,
+        lettering: Lettering,
         found: &mut [Option<Point>],
     )
+        requires lettering { IsLettering lettering }
         requires labels { length labels.now ≡ length stack.now.sizes }
         requires slots { stack.now.most ≤ length found.old }
-        requires cuts { length stack.now.views ≤ cutter.old.room }
-        requires room { self.old ≡ record {
-          width = stack.now.width;
-          height = stack.now.height;
-          slots = length found.old;
-        } }
-        ensures placed { AreLabelled stack.now labels.now found.new }
+        requires map { IsMapOf stack.now self.old.map }
+        requires room { IsRoomFor stack.now.width stack.now.height (length found.old) self.old }
+        ensures placed { AreLabelled lettering stack.now labels.now found.new }
         ensures count { length found.new ≡ length found.old }
-        ensures cuts { cutter.new.room ≡ cutter.old.room }
         ensures room { self.new ≡ self.old }
     {
         let (width, height) = stack.size();
-        let (_, tall) = label_size(1);
-        measure(stack, labels, self.widths.as_mut_slice());
-        reach(&mut self.owners, width as usize * height as usize);
-        map_owners(cutter, stack, self.owners.as_mut_slice());
+        let (_, tall) = text_size(lettering, 1);
+        measure(stack, labels, lettering, self.widths.as_mut_slice());
         places(
             self.owners.as_slice(),
             width as usize,
@@ -120,29 +153,31 @@ fn reach(owners: &mut Vec<u16>, count: usize)
 }
 
 /// Sets `widths` at the slot of each view to how wide the view's label is.
-fn measure(stack: &Stack, labels: &[Label], widths: &mut [u32])
+fn measure(stack: &Stack, labels: &[Label], lettering: Lettering, widths: &mut [u32])
+    requires lettering { IsLettering lettering }
     requires labels { length labels.now ≡ length stack.now.sizes }
     requires slots { stack.now.most ≤ length widths.old }
     ensures standing { IsStack stack.now }
-    ensures measured { AreMeasured stack.now labels.now widths.new }
+    ensures measured { AreMeasured lettering stack.now labels.now widths.new }
     ensures count { length widths.new ≡ length widths.old }
 {
     'views: for i in 0..stack.len() {
         let v = stack.at(i);
         let slot = v.0 as usize;
-        widths[slot] = width_of_label(stack, labels, i);
+        widths[slot] = width_of_label(stack, labels, lettering, i);
     }
 }
 
 /// How wide the label of the view at place `i` from the front is.
-fn width_of_label(stack: &Stack, labels: &[Label], i: u32) -> u32
+fn width_of_label(stack: &Stack, labels: &[Label], lettering: Lettering, i: u32) -> u32
+    requires lettering { IsLettering lettering }
     requires labels { length labels.now ≡ length stack.now.sizes }
     requires view { i < length stack.now.views }
     ensures { (s : SlotView) → slice_get stack.now.views i ≡ Some s
-        → result ≡ label_width (label_scenery stack.now labels.now) s.view }
+        → result ≡ label_width (label_scenery lettering stack.now labels.now) s.view }
 {
     let view = stack.view(stack.at(i));
     let text = label_text(&labels[view.sid as usize], &view.title);
-    let (width, _) = label_size(text.as_bytes().len() as u32);
+    let (width, _) = text_size(lettering, text.as_bytes().len() as u32);
     width
 }

@@ -7,10 +7,11 @@ ghost use Rattle.nit_screen.specs.Terms.{IsPartShown, IsServer, IsShown, IsWord,
 ghost use Rattle.nit_screen.specs.Terms.{bar_rows, bar_word, draws_labels, frame, kept_frame};
 ghost use Rattle.nit_screen.specs.Terms.{pixel, raw_of, scenery_of, state_of, wanted};
 
+use crate::screen::framing::frame_of;
 use crate::screen::labels::Labels;
 use crate::screen::lists::{reach, take_bar_off};
 use nit_events::Mode;
-use nit_overlay::{Look, bar_into};
+use nit_overlay::{LetteredLook, Look, bar_into};
 use nit_rect::Rect;
 use nit_repaint::Painter;
 use nit_server::Server;
@@ -149,51 +150,19 @@ impl Pixels {
             self.old self.new }
     {
         server.facts();
-        let look = Look {
-            stack: server.stack(),
-            labels: self.labels.texts.as_slice(),
-            mode: server.mode(),
-            focus: server.focus(),
-            places: self.labels.places.as_slice(),
+        let look = LetteredLook {
+            look: Look {
+                stack: server.stack(),
+                labels: self.labels.texts.as_slice(),
+                mode: server.mode(),
+                focus: server.focus(),
+                places: self.labels.places.as_slice(),
+            },
+            lettering: server.lettering(),
         };
         self.painter
             .show_session(&look, of, part, self.frame.as_mut_slice());
     }
-}
-
-/// Sets `out` to the whole frame. Where the mode draws labels, their places are worked out first.
-fn frame_of(server: &Server, painter: &mut Painter, labels: &mut Labels, out: &mut [u32])
-    requires room { server.now.stack.most ≤ painter.old.cutter.room }
-    requires named { labels.old.texts.items ≡ map (λ m. m.label) server.now.config.clients }
-    requires placed { server.now.stack.most ≤ length labels.old.places.items }
-    requires mapped { labels.old.owners ≡ record {
-      width = server.now.config.width;
-      height = server.now.config.height;
-      slots = length labels.old.places.items;
-    } }
-    requires pixels { length painter.old.raw.items
-        ≡ server.now.config.width * server.now.config.height }
-    requires out { length out.old ≡ server.now.config.width * server.now.config.height }
-    requires words { All IsWord painter.old.raw.items }
-    ensures kept { IsOnlyCut painter.old painter.new }
-    ensures shown { out.new ≡ frame (scenery_of (state_of server.now)) painter.old.raw.items }
-    ensures places { length labels.new.places.items ≡ length labels.old.places.items }
-    ensures placed { IsTrue (draws_labels server.now.input.mode)
-        → AreLabelled server.now.stack labels.new.texts.items labels.new.places.items }
-    ensures texts { labels.new.texts ≡ labels.old.texts }
-    ensures owners { labels.new.owners ≡ labels.old.owners }
-{
-    server.facts();
-    let mode = server.mode();
-    labels.place(mode, server.stack(), &mut painter.cutter);
-    let look = Look {
-        stack: server.stack(),
-        labels: labels.texts.as_slice(),
-        mode,
-        focus: server.focus(),
-        places: labels.places.as_slice(),
-    };
-    painter.show_whole(&look, out);
 }
 
 /// Sets the words of the bar's pixels to what is shown there in mode Flat.
@@ -209,12 +178,15 @@ fn draw_bar(server: &Server, labels: &Labels, words: &mut Vec<u32>)
     ensures length { length words.new.items ≡ length words.old.items }
 {
     server.facts();
-    let look = Look {
-        stack: server.stack(),
-        labels: labels.texts.as_slice(),
-        mode: Mode::Flat,
-        focus: server.focus(),
-        places: labels.places.as_slice(),
+    let look = LetteredLook {
+        look: Look {
+            stack: server.stack(),
+            labels: labels.texts.as_slice(),
+            mode: Mode::Flat,
+            focus: server.focus(),
+            places: labels.places.as_slice(),
+        },
+        lettering: server.lettering(),
     };
     bar_into(&look, words.as_mut_slice());
 }

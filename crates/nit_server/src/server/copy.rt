@@ -1,7 +1,7 @@
 //! A copy of a configuration.
 
 ghost use Rattle.std.specs.Prelude.{◌≡◌, ◌-◌, ◌<◌, IfOk, All, IsTrue};
-ghost use Rattle.nit_server.specs.Terms.{IsConfiguration, IsMember, is_file_name};
+ghost use Rattle.nit_server.specs.Terms.{IsMember, is_file_name};
 
 use nit_config::{Config, FileName, Member};
 use nit_rect::NoMemory;
@@ -9,7 +9,8 @@ use std::alloc::Global;
 
 /// A configuration of the same values, in memory of its own.
 pub(crate) fn copied(alloc: Global, config: &Config) -> Result<Config, NoMemory>
-    requires { IsConfiguration config.now }
+    requires input { IsTrue (is_file_name config.now.input) }
+    requires clients { All IsMember config.now.clients }
     ensures { IfOk result (λ c. c ≡ config.now) }
 {
     let input = copied_name(alloc, &config.input)?;

@@ -2,7 +2,7 @@
 
 ghost use Rattle.std.specs.Prelude.{◌≡◌, ◌-◌, ◌<◌, ◌≤◌, true, None, length, All, ℕ, false, Some};
 ghost use Rattle.std.specs.Prelude.{slice_index_or, [], IfSome, ◌∷◌};
-ghost use Rattle.nit_server.specs.Terms.{IsConfiguration, IsDevice, IsForgottenIfKilled};
+ghost use Rattle.nit_server.specs.Terms.{IsDevice, IsForgottenIfKilled, IsScreenSize};
 ghost use Rattle.nit_server.specs.Terms.{IsServerInput, MayLose, bar_rows, client_in};
 ghost use Rattle.nit_server.specs.Terms.{deliveries_of, delivery, first_input, is_kill, killed_in};
 ghost use Rattle.nit_server.specs.Terms.{kills, most_sessions, option_map, owner, point};
@@ -168,7 +168,8 @@ pub fn killed(routed: &Routed) -> Option<u32>
 /// The user's input before its first event: a click moves the focus to those clients that take it
 /// so.
 pub(crate) fn opened_focus(config: &Config) -> Focus
-    requires { IsConfiguration config.now }
+    requires screen { IsScreenSize config.now.width config.now.height }
+    requires few { length config.now.clients ≤ most_sessions }
     ensures attending { IsServerInput config.now result }
     ensures input { result.input ≡ first_input }
 {

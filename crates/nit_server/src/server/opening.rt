@@ -2,9 +2,10 @@
 
 ghost use Rattle.std.specs.Prelude.{◌≡◌, ◌+◌, ◌-◌, ◌<◌, ◌≤◌, IfOk, length, All, IsTrue, map, []};
 ghost use Rattle.std.specs.Prelude.{if◌then◌else◌};
-ghost use Rattle.nit_server.specs.Terms.{IsConfiguration, IsMember, first_kept_session};
-ghost use Rattle.nit_server.specs.Terms.{first_stack, first_state, most_sessions, most_slots};
-ghost use Rattle.nit_server.specs.Terms.{slots_of_all, state_of, view_slots};
+ghost use Rattle.nit_server.specs.Terms.{IsConfiguration, IsLettering, IsMember};
+ghost use Rattle.nit_server.specs.Terms.{first_kept_session, first_stack, first_state, lettered};
+ghost use Rattle.nit_server.specs.Terms.{most_sessions, most_slots, picture_height, slots_of_all};
+ghost use Rattle.nit_server.specs.Terms.{state_of, view_slots};
 ghost use Rattle.nit_events.specs.declared.entry.Entry.TheVariants as entry;
 
 use crate::member::KeptSession;
@@ -12,29 +13,28 @@ use crate::server::Server;
 use crate::server::copy::copied;
 use crate::server::input::opened_focus;
 use nit_config::Config;
+use nit_glyph::{Lettering, text_size};
 use nit_rect::NoMemory;
 use nit_slots::{Slots, view_slots};
 use nit_stack::Stack;
 use std::alloc::Global;
 
-/// The rows of the status bar.
-const BAR_ROWS: u32 = 7;
-
 impl Server {
-    /// A server of this configuration, before its first entry. All memory that it will ever use is
-    /// taken here.
-    pub fn new(alloc: Global, config: &Config) -> Result<Server, NoMemory>
-        requires { IsConfiguration config.now }
-        ensures { IfOk result (λ s. state_of s ≡ first_state config.now) }
+    /// A server of this configuration with its texts drawn so, before its first entry. All memory
+    /// that it will ever use is taken here.
+    pub fn new(alloc: Global, config: &Config, lettering: Lettering) -> Result<Server, NoMemory>
+        requires { IsConfiguration (lettered lettering config.now) }
+        ensures { IfOk result (λ s. state_of s ≡ first_state (lettered lettering config.now)) }
     {
         let clients = config.clients.as_slice();
         let slots = Slots::new(alloc, slots_of_all(clients))?;
-        let stack = opened_stack(alloc, config)?;
+        let stack = opened_stack(alloc, config, lettering)?;
         let members = opened_members(alloc, clients)?;
         let focus = opened_focus(config);
         let config = copied(alloc, config)?;
         Ok(Server {
             config,
+            lettering,
             stack,
             members,
             slots,
@@ -73,9 +73,9 @@ fn opened_members(
 }
 
 /// A stack of no view on the configuration's screen, with a layer for each client.
-fn opened_stack(alloc: Global, config: &Config) -> Result<Stack, NoMemory>
-    requires { IsConfiguration config.now }
-    ensures { IfOk result (λ s. s ≡ first_stack config.now) }
+fn opened_stack(alloc: Global, config: &Config, lettering: Lettering) -> Result<Stack, NoMemory>
+    requires { IsConfiguration (lettered lettering config.now) }
+    ensures { IfOk result (λ s. s ≡ first_stack (lettered lettering config.now)) }
 {
     let clients = config.clients.as_slice();
     let most = slots_of_all(clients);
@@ -87,7 +87,7 @@ fn opened_stack(alloc: Global, config: &Config) -> Result<Stack, NoMemory>
         most,
     )?;
     set_layers(&mut stack, clients);
-    set_bar(&mut stack, config.bar);
+    stack.set_bar(bar_rows(config.bar, lettering));
     Ok(stack)
 }
 
@@ -105,14 +105,14 @@ fn set_layers(stack: &mut Stack, clients: &[nit_config::Member])
     }
 }
 
-/// Gives the status bar its rows, where there is to be one.
-fn set_bar(stack: &mut Stack, bar: bool)
-    requires empty { stack.old.views ≡ [] }
-    requires none { stack.old.bar ≡ 0 }
-    requires height { IsTrue bar → 8 ≤ stack.old.height }
-    ensures { stack.new ≡ record stack.old { bar = if bar then 7 else 0 } }
+/// The rows of the status bar, where there is to be one.
+fn bar_rows(bar: bool, lettering: Lettering) -> u32
+    requires { IsLettering lettering }
+    ensures { result ≡ if bar then picture_height lettering else 0 }
 {
-    if bar {
-        stack.set_bar(BAR_ROWS);
+    if !bar {
+        return 0;
     }
+    let (_, rows) = text_size(lettering, 1);
+    rows
 }

@@ -6,6 +6,7 @@ ghost use Rattle.nit_server.specs.Terms.{views_in_use};
 
 use crate::server::{Server, slots_of_all};
 use nit_events::Status;
+use nit_glyph::Lettering;
 
 /// How many slots of views the sessions have for their opening donations, how many views there are,
 /// and how many sessions.
@@ -67,6 +68,13 @@ impl Server {
         ensures { result ≡ (session_in self.now.sessions sid).status }
     {
         self.members[sid as usize].status()
+    }
+
+    /// How texts are drawn.
+    pub fn lettering(&self) -> Lettering
+        ensures { result ≡ self.now.config.lettering }
+    {
+        self.lettering
     }
 
     /// The width and the height of the screen, each 1..=4096 pixels.

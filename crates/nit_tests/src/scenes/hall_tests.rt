@@ -16,7 +16,7 @@ use crate::scenes::acting::{Way, act, act_clips};
 use crate::scenes::actors::{Client, User, clients};
 use crate::scenes::hall_opening::{buffers_of, canvases_of, plans_of};
 use nit_clip::{ClipEntry, ClipReply, ClipScript, clip_text, parse_clip};
-use nit_config::{Config, read_config, run_is_configured};
+use nit_config::{Config, read_config};
 use nit_hall::{ClipOpened, ClipPass, Hall, Name, Opened, Parts, Pass, UserPass, open, open_clips};
 use nit_script::{Client as ClientScript, Input, parse_client, parse_input, phases};
 use std::alloc::Global;
@@ -172,7 +172,6 @@ fn serve_texts<R: Abort + Threads + Wait + Sync>(
 )
     requires configured { IsRunConfiguration config.now }
 {
-    run_is_configured();
     let clients = read.scripts.as_slice();
     let clips = read.clips.as_slice();
     must(rt, "scripts", clients.len() == config.clients.len());

@@ -1,8 +1,8 @@
 //! One client on a screen of six columns and four rows. The words were worked out by hand.
 
 use nit_events::{Call, Reply};
-use nit_glyph::Label;
-use nit_host::{Client, Host, SeatPlan, plan};
+use nit_glyph::{Label, Lettering};
+use nit_host::{Client, Host, ScreenPlan, SeatPlan, plan};
 use nit_rect::Rect;
 use std::alloc::Global;
 use std::process::Abort;
@@ -48,8 +48,14 @@ fn opened(rt: &impl Abort, alloc: Global) -> Host {
         layer: 0,
         clicks: true,
     }];
-    let config = plan(alloc, 6, 4, false, &seats).expect(rt, "a plan");
-    Host::vacant(alloc, &config).expect(rt, "memory")
+    let screen = ScreenPlan {
+        width: 6,
+        height: 4,
+        bar: false,
+        lettering: Lettering::PLAIN,
+    };
+    let config = plan(alloc, &screen, &seats).expect(rt, "a plan");
+    Host::vacant(alloc, &config, screen.lettering).expect(rt, "memory")
 }
 
 /// A client with a buffer and a view.

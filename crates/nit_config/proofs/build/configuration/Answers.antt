@@ -1,6 +1,7 @@
 use Rattle.nit_config.proofs.Lemmas.{accepted, arith, codes, has_bad_label, has_bad_value}
 use Rattle.nit_config.proofs.Lemmas.{integer_at, members_of_values, on_clients, pos, screen_table}
 use Rattle.nit_config.proofs.Lemmas.{table_view, wider, ◌∙◌}
+use Rattle.std.proofs.Common.{refl}
 use Rattle.nit_config.proofs.build.configuration.Goals as goal
 
 pub required_at-width-requires : goal.required_at-width-requires
@@ -29,6 +30,7 @@ returns c = record {
   width = rw (← c.table_at-screen.ensures) c.required_at-width.ensures;
   height = rw (← c.table_at-screen.ensures) c.required_at-height.ensures;
   bar = rw (← c.table_at-screen.ensures) c.boolean_at-bar.ensures;
+  lettering = refl;
   input = rw (← c.table_at.ensures) c.in_ok-input.ensures;
   clients = rw (members_of_values _ _ c.elements_of.ensures) at c.in_ok-clients.ensures;
 }

@@ -1,5 +1,5 @@
 use Rattle.std.proofs.Common.{true, ◌≡◌}
-use Rattle.nit_look.proofs.Lemmas.{apart_from, joined_more, joined_one, meets, met_not_apart}
+use Rattle.nit_look.proofs.Lemmas.{apart_from, joined_more, joined_one, areas_meet, met_not_apart}
 use Rattle.nit_look.proofs.Lemmas.{read_at, refl}
 use Rattle.nit_look.proofs.joining.take_in.Goals as goal
 
@@ -9,7 +9,7 @@ areas-preserved c =
     let place = c.in-Some.place in
     let part = c.remove-part.result in
     let known = c.areas.invariant in
-    let found = read_at (λ a. meets a c.areas.all ≡ true) areas place part c.remove-part.ensures.value
+    let found = read_at (λ a. areas_meet a c.areas.all ≡ true) areas place part c.remove-part.ensures.value
     (rw c.as_slice.ensures.value at c.in-Some.ensures.some) in
     let step = joined_one areas place part c.areas.all found.0 c.remove-part.ensures.value in
     rw (c.remove-part.ensures.items, c.around-all.ensures) (record {

@@ -16,7 +16,7 @@ returns c =
     let wide = ap (λ (size : ℕ × ℕ). size.0) c.size-width.ensures.size in
     let high = ap (λ (size : ℕ × ℕ). size.1) c.size-width.ensures.size in
     record {
-      pixels = rect_shown c.area_of-area.result c.args.look.now c.args.piece.now.rect c.overlay_owned.ensures
+      pixels = rect_shown c.area_of-area.result c.args.lettered.now c.args.piece.now.rect c.overlay_owned.ensures
           (λ x y lt less. c.area_of-area.ensures.same x y (omega arith) (omega arith));
       count = search rules;
     }

@@ -10,7 +10,7 @@ pub bands-preserved : goal.bands-preserved
 bands-preserved c =
     let band = c.band_at-band.result in
     let rows = record c.args.area.now { top = c.bands.y; bottom = band.end } in
-    let f = λ (x y w : ℕ). view_word c.args.look.now.mode (scenery c.args.look.now) c.args.owner.now.view (point x y) w
+    let f = λ (x y w : ℕ). view_word c.args.lettered.now.look.mode (scenery c.args.lettered.now) c.args.owner.now.view (point x y) w
     in
     more_rows c.bands.invariant (omega arith) c.band_at-band.ensures.within
     (area_as (λ x y w. word_by (stripe_rule band.stripe x) x y w) f rows c.size-width.result.0

@@ -16,7 +16,7 @@ overlay_piece-requires-clause-words c =
 
 pub pieces-preserved : goal.pieces-preserved
 pieces-preserved c =
-    let s = c.args.look.now.stack.now in
+    let s = c.args.lettered.now.look.stack.now in
     let n = length c.args.raw.now in
     let i = c.pieces.invariant in
     let e = c.in-Some.ensures in
@@ -25,7 +25,7 @@ pieces-preserved c =
       room = e.room ∙ i.room;
       less = λ p. let was = i.less p in let now = e.count p in omega arith;
       shown = one_shown s n c.args.cutter.now c.pieces.cutter c.next.new.self c.in-Some.piece.rect
-          (shown_at c.args.look.now c.args.raw.now) (shown_at c.args.look.now c.args.raw.now) c.args.frame.now
+          (shown_at c.args.lettered.now c.args.raw.now) (shown_at c.args.lettered.now c.args.raw.now) c.args.frame.now
           c.pieces.frame c.overlay_piece.new.out
           i.less e.count e.came (λ k out. refl) i.shown
           (record {
@@ -36,5 +36,5 @@ pieces-preserved c =
 
 pub returns-clause-shown : goal.returns-clause-shown
 returns-clause-shown c =
-    set_same _ _ _ _ _ _ (λ k l. rw (c.in_default.ensures.came (pixel c.args.look.now.stack.now.width k)))
+    set_same _ _ _ _ _ _ (λ k l. rw (c.in_default.ensures.came (pixel c.args.lettered.now.look.stack.now.width k)))
     c.pieces.invariant.shown

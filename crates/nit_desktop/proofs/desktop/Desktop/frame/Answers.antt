@@ -7,6 +7,6 @@ returns-clause-shown c =
     rw (← c.self.view_is) (record {
       frame = c.frame.ensures.frame;
       labels = rw c.frame.ensures.frame (c.own_names_show_labels.ensures (scenery_of s) c.self.inside.screen.raw
-          c.self.invariant.named.0);
+          c.facts.ensures.serving.configured.lettering c.self.invariant.named.0);
       words = c.frame.ensures.words;
     })

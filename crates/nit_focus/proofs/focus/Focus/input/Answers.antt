@@ -1,6 +1,7 @@
 use Rattle.std.proofs.Common.{subst, sym, ◌<◌, ◌≡◌}
 use Rattle.nit_focus.proofs.Lemmas.{All-same, FocusModel, IsForgottenIfKilled, IsItem, IsRouted}
-use Rattle.nit_focus.proofs.Lemmas.{IsWithinReach, deliveries_of, outcome, routed, routing_at}
+use Rattle.nit_focus.proofs.Lemmas.{IsWithinReach, deliveries_of, most_sessions, outcome, routed}
+use Rattle.nit_focus.proofs.Lemmas.{routing_at}
 use Rattle.nit_focus.proofs.focus.Focus.input.Goals as goal
 
 -- the value before, as its fields show it
@@ -24,7 +25,7 @@ returns-clause-reached c = rw (← c.self.view_is)
     c.route.result c.routed.ensures.all (whole c).reached)
 
 pub returns-clause-sessions : goal.returns-clause-sessions
-returns-clause-sessions c = All-same (λ d. d.sid < 16) (deliveries_of c.routed.result) c.route.result
+returns-clause-sessions c = All-same (λ d. d.sid < most_sessions) (deliveries_of c.routed.result) c.route.result
     c.routed.ensures.all (whole c).sessions
 
 pub returns-clause-ranges : goal.returns-clause-ranges

@@ -1,5 +1,5 @@
 use Rattle.std.proofs.Common.{ap, subst, sym, ℕ, ◌∙◌, ◌≡◌}
-use Rattle.nit_host.proofs.Lemmas.{AgreeOutside, agree_outside, frame_by, frame_shown, sheets_of}
+use Rattle.nit_host.proofs.Lemmas.{AgreeOutside, agree_outside, area_lies, frame_by, frame_shown, sheets_of}
 use Rattle.nit_host.proofs.host.Host.look.Goals as goal
 
 pub returns-clause-frame : goal.returns-clause-frame
@@ -15,3 +15,10 @@ returns-clause-frame c = λ as_seen.
     (subst (λ (size : ℕ × ℕ). AgreeOutside size.0 c.args.out.now c.frame.result.now c.rect-part.result)
     (sym c.size-width.ensures) (rw (framed, c.rect-part.ensures) agree))
     ∙ c.frame.ensures.shown.frame
+
+pub look-found-requires-clause-part : goal.look-found-requires-clause-part
+look-found-requires-clause-part c =
+    let d = c.self.inside.desktop in
+    let on = c.around.ensures.area d.state.config.width d.state.config.height c.self.invariant.2 in
+    rw (c.size-width.ensures, c.rect-part.ensures)
+    (area_lies d.state.config.width d.state.config.height c.around.result on)

@@ -48,5 +48,8 @@ pub returns-clause-seated : goal.returns-clause-seated
 returns-clause-seated c = λ _.
     (ap (λ (h : HostModel). Ok (next_client h c.args.seat)) c.self.view_is, (done c).now)
 
+pub returns-clause-turn : goal.returns-clause-turn
+returns-clause-turn c = omega (arith, (may_sit c.self.view_is c.in_default.ensures).more)
+
 pub returns-clause-act : goal.returns-clause-act
 returns-clause-act c = when_served c.args.self.now c.in_default.ensures (done c).now

@@ -1,5 +1,5 @@
 use Rattle.std.proofs.Common.{false, refl, sym, ◌≡◌}
-use Rattle.nit_look.proofs.Lemmas.{added_inside, added_last, added_none, added_parts, is_within}
+use Rattle.nit_look.proofs.Lemmas.{added_inside, added_last, added_none, added_parts, is_area_within}
 use Rattle.nit_look.proofs.Lemmas.{list_any}
 use Rattle.nit_look.proofs.parts.Parts.add.Goals as goal
 use Rattle.nit_look.proofs.parts.Parts.add.Goals.{then-is_empty-via-then-is_empty}
@@ -22,7 +22,7 @@ invariant_of-self c =
 
 pub returns-clause-added : goal.returns-clause-added
 returns-clause-added c =
-    let outside : list_any (is_within c.args.area.now) c.self.inside.areas.items ≡ false =
+    let outside : list_any (is_area_within c.args.area.now) c.self.inside.areas.items ≡ false =
     rw c.as_slice.ensures.value at (sym c.if-is_inside_one.ensures) in
     rw (c.push.ensures.items, ← c.self.view_is) (added_last c.self.inside.areas.items c.join-all.new.areas.items
     c.args.area.now c.join-all.result (c.if-is_empty.ensures.some refl) c.join-all.ensures.joined

@@ -13,8 +13,8 @@ views-init c = record {
 
 pub views-preserved : goal.views-preserved
 views-preserved c =
-    let s = c.args.look.now.stack.now in
-    let word = shown_at c.args.look.now c.args.self.now.raw.items in
+    let s = c.args.lettered.now.look.stack.now in
+    let word = shown_at c.args.lettered.now c.args.self.now.raw.items in
     let v = c.views.invariant in
     let e = c.show_to_come.ensures in
     let x = seat_there s.views c.views.i (omega (arith, c.views-test.true, c.len-views.ensures.count)) in
@@ -31,8 +31,8 @@ views-preserved c =
 
 pub views-preserved-then-not-is_of_session : goal.views-preserved-then-not-is_of_session
 views-preserved-then-not-is_of_session c =
-    let s = c.args.look.now.stack.now in
-    let word = shown_at c.args.look.now c.args.self.now.raw.items in
+    let s = c.args.lettered.now.look.stack.now in
+    let word = shown_at c.args.lettered.now c.args.self.now.raw.items in
     let v = c.views.invariant in
     let x = seat_there s.views c.views.i (omega (arith, c.views-test.true, c.len-views.ensures.count)) in
     record {
@@ -46,5 +46,5 @@ views-preserved-then-not-is_of_session c =
 
 pub returns-clause-shown : goal.returns-clause-shown
 returns-clause-shown c =
-    last_shown c.args.look.now.stack.now c.args.of c.args.part.now c.views.i
+    last_shown c.args.lettered.now.look.stack.now c.args.of c.args.part.now c.views.i
     (omega (arith, c.views-test.false, c.len-views.ensures.count)) c.views.invariant.shown

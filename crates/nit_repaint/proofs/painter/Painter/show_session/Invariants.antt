@@ -6,6 +6,6 @@ abbrev pub invariant-views : goal.invariant-views
 invariant-views l = record {
   room : l.self.cutter.room ≡ l.initial.self.cutter.room;
   raw : l.self.raw ≡ l.initial.self.raw;
-  shown : AreSet (λ k. wanted_of_first l.i l.of l.part l.look.stack.now (pixel l.look.stack.now.width k))
-      (length l.initial.self.raw.items) (shown_at l.look l.initial.self.raw.items) l.initial.frame l.frame;
+  shown : AreSet (λ k. wanted_of_first l.i l.of l.part l.lettered.look.stack.now (pixel l.lettered.look.stack.now.width k))
+      (length l.initial.self.raw.items) (shown_at l.lettered l.initial.self.raw.items) l.initial.frame l.frame;
 }

@@ -1,12 +1,13 @@
 use Rattle.nit_screen.proofs.Lemmas.{All-replicate, Configuration, IsWord, State, bare_unbarred}
 use Rattle.nit_screen.proofs.Lemmas.{bare_word, flat_below, get_or-replicate, length-replicate}
+use Rattle.nit_screen.specs.Terms.{lettered}
 use Rattle.nit_screen.proofs.Lemmas.{nat_tests}
 use Rattle.std.proofs.Common.{ap, arith, length, ◌*◌, ◌∙◌, ◌≡◌}
 use Rattle.nit_screen.proofs.screen.Screen.new.Goals as goal
 
 pub show_again-requires-clause-can : goal.show_again-requires-clause-can
 show_again-requires-clause-can c =
-    let same : c.in_ok-server.server.config ≡ c.args.config.now = ap (λ (t : State). t.config) c.in_ok-server.ensures in
+    let same : c.in_ok-server.server.config ≡ lettered c.args.lettering c.args.config.now = ap (λ (t : State). t.config) c.in_ok-server.ensures in
     let e = c.in_ok-pixels.ensures in
     let n = c.args.config.now.width * c.args.config.now.height in
     let few = c.facts.ensures.standing.room in

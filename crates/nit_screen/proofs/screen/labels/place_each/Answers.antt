@@ -9,7 +9,7 @@ bounds-places-slot c = grind (arith, nat_tests, slot_within)
 pub views-preserved : goal.views-preserved
 views-preserved c =
     written_more c.args.stack.now
-    (λ v. option_map pixel_at (label_place_of (label_scenery c.args.stack.now c.args.labels.now) v.view))
+    (λ v. option_map pixel_at (label_place_of (label_scenery c.args.lettering c.args.stack.now c.args.labels.now) v.view))
     c.views.i (length c.args.places.now) c.views.places c.at-v.result c.place_of_view.result
     c.len-i-end.ensures.standing c.requires.slots c.at-v.ensures.place c.place_of_view.ensures c.views.invariant
 

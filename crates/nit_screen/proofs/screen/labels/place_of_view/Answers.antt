@@ -17,4 +17,4 @@ returns c =
     let one : a ≡ s = cc (sym seat ∙ at) in
     let many = ap length c.as_bytes.ensures.bytes in
     let text = c.label_text-text.ensures in
-    rw (← one, c.place_label.ensures.place a e.value, c.label_size-width.ensures, many, text, label)
+    rw (← one, c.place_label.ensures.place a e.value, c.text_size-width.ensures.size, many, text, label)

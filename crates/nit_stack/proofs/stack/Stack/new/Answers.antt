@@ -1,4 +1,4 @@
-use Rattle.std.proofs.Common.{arith, inl, length, refl, replicate, rules, ℕ, ◌≡◌, ◌≤◌}
+use Rattle.std.proofs.Common.{arith, length, replicate, rules, ℕ, ◌≡◌, ◌≤◌}
 use Rattle.nit_stack.proofs.Lemmas.{All-nil, All-replicate, IsBufferSize, IsSlotView}
 use Rattle.nit_stack.proofs.Lemmas.{length-replicate, no_size, opened_as}
 use Rattle.nit_stack.proofs.stack.Stack.new.Goals as goal
@@ -22,7 +22,7 @@ invariant_of-result c =
             layers = All-replicate (λ (l : ℕ). l ≤ 7) c.args.sessions 0 (omega arith);
             sessions = (omega (arith, n), omega (arith, n), cc);
             screen = c.requires.screen;
-            bar = (inl refl, c.requires.screen.2);
+            bar = (omega arith, c.requires.screen.2);
             room = c.requires.most;
           });
       space = omega (arith, room, c.in_ok-order.ensures.capacity);

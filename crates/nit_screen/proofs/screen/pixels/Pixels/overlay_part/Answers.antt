@@ -23,6 +23,7 @@ returns c =
       labels = (c.as_slice.ensures.value ∙ c.requires.can.named) i;
       mode = c.mode.ensures i;
       focus = c.focus.ensures.focus i;
+      lettering = c.lettering.ensures i;
     }) e.shown in
     record {
       can = rw back (search rules);

@@ -1,8 +1,7 @@
 -- A map of the screen: for each pixel the slot of the view that owns it.
-use Rattle.std.specs.Prelude.{◌≡◌, ℕ, ◌*◌, ◌<◌, List, slice_get, Option, Some, None}
-use Rattle.nit_screen.specs.Below.{SlotView, StackModel, pixel, seat_owner, slice_index}
-use Rattle.nit_screen.specs.FrameLabels.{label_width}
-use Rattle.nit_screen.specs.LabelSlots.{label_scenery}
+use Rattle.std.specs.Prelude.{◌≡◌, ℕ, ◌*◌, ◌<◌, List, length, slice_index, Option, Some, None}
+use Rattle.nit_overlay.specs.Below.{SlotView, pixel, seat_owner}
+use Rattle.nit_stack.specs.Stack.{StackModel}
 
 -- the number of a pixel that no view owns, which is no slot
 abbrev pub no_slot : ℕ
@@ -21,8 +20,7 @@ number_at s k = number_of (seat_owner s.bar s.views (pixel s.width k))
 abbrev pub IsMap : StackModel → List ℕ → Type 0
 IsMap s map = (k : ℕ) → k < s.width * s.height → slice_index map k ≡ number_at s k
 
--- at the slot of each view stands how wide its label is
-abbrev pub AreMeasured : StackModel → List (List ℕ) → List ℕ → Type 0
-AreMeasured s labels widths =
-    (k : ℕ) (v : SlotView) → slice_get s.views k ≡ Some v
-    → slice_get widths v.slot ≡ Some (label_width (label_scenery s labels) v.view)
+-- and no other
+pub record IsMapOf (s : StackModel) (map : List ℕ) : Type 0 where
+  pub count : length map ≡ s.width * s.height
+  pub numbers : IsMap s map
