@@ -2,12 +2,12 @@
  *
  * The host owns the window, the devices and whatever its clients speak. Each thing that it does is
  * one call of this header. No call waits, none calls back, none keeps a pointer, and none but
- * nit_open_seats, nit_open_config and nit_entry takes memory. There is no global state: servers
- * that stand beside each other know nothing of each other. A call that takes the server as const
- * is a reader: it changes nothing.
+ * nit_open, nit_open_config, nit_config_line and nit_entry takes memory. There is no global state:
+ * servers that stand beside each other know nothing of each other. A call that takes the server as
+ * const is a reader: it changes nothing.
  *
  * Words. A word of a pixel is 0x00RRGGBB; the highest byte of a word that a client hands in is
- * ignored, and it is 0 in each word that the screen shows. A server has 1 to 16 seats, numbered
+ * ignored, and it is 0 in each word that the screen shows. A server has 1 to 64 seats, numbered
  * from 0, and a client sits on each that is taken; its name says which of the seat's clients it is
  * (nit_client). The rules by which calls and input go are in docs/RULES.md, with seats in the place
  * of sessions: the session of a client is what its seat does from nit_seat to its end.
@@ -64,7 +64,7 @@ extern "C" {
 #endif
 
 /* The version of this header. The names of the two exports that open end in it. */
-#define NIT_VERSION 2
+#define NIT_VERSION 3
 
 /* ---- The handle */
 
@@ -92,7 +92,7 @@ struct nit_server {
 #define NIT_MOST_HEIGHT 4096
 
 /* The seats of a server: 1 to so many. */
-#define NIT_MOST_SEATS 16
+#define NIT_MOST_SEATS 64
 
 /* The units of a donation. */
 #define NIT_LEAST_UNITS 256
@@ -274,7 +274,7 @@ enum nit_mode { NIT_MODE_FLAT = 0, NIT_MODE_XRAY = 1, NIT_MODE_KILL = 2 };
 struct nit_state {
     uint32_t kind;            /* NIT_DONE, NIT_NO_SERVER */
     uint32_t width, height;   /* of the screen, in pixels */
-    uint32_t seats;           /* how many, 1..16 */
+    uint32_t seats;           /* how many, 1..64 */
     uint32_t mode;            /* enum nit_mode */
     uint32_t focus;           /* the seat that has the focus, or NIT_NONE */
     uint32_t hover;           /* the seat that gets `leave` when the pointer goes, or NIT_NONE */
@@ -327,59 +327,68 @@ struct nit_seat_plan {
     uint32_t clicks;          /* 1: a click on a view gives its client the focus; 0: none does */
 };
 
-/* A server. */
+/* A server. A field that is not named in an initializer is 0, so texts are small and plain there.
+ *
+ * The picture of a text of n characters is scale * (4 * n + 1) pixels wide and scale * 7 high in
+ * small glyphs, and scale * (6 * n + 1) wide and scale * 9 high in large ones. A label is such a
+ * picture; the status bar is as high, and as wide as the screen. */
 struct nit_plan {
     uint32_t width, height;   /* of the screen: 1..4096 pixels each */
-    uint32_t bar;             /* 1: the 7 topmost rows are a status bar (height 8 or more); or 0 */
-    uint32_t count;           /* of the seats, 1..16 */
+    uint32_t bar;             /* 1: the topmost rows are a status bar, and one is left; or 0 */
+    uint32_t count;           /* of the seats, 1..64 */
     const struct nit_seat_plan *seats;
+    uint32_t glyphs;          /* 0: small ones, of 3 by 5 dots; 1: large ones, of 5 by 7 dots, any
+                                 two of which differ in at least five dots */
+    uint32_t scale;           /* a dot is so many pixels wide and high: 1..8; 0 is as 1 */
 };
 
-/* The exports behind the next three calls. A host calls those. */
-uint32_t nit_open_seats_2(struct nit_server *server, uint32_t width, uint32_t height, uint32_t bar,
-                          const uint32_t *seats, size_t words);
-uint32_t nit_open_config_2(struct nit_server *server, const char *text, size_t length);
+/* The exports behind the next two calls. A host calls those. Of the first, `seats` has three words
+ * for each seat, donation, layer and clicks, and a scale of 0 is refused. */
+uint32_t nit_open_seats_3(struct nit_server *server, uint32_t width, uint32_t height, uint32_t bar,
+                          uint32_t glyphs, uint32_t scale, const uint32_t *seats, size_t words);
+uint32_t nit_open_config_3(struct nit_server *server, const char *text, size_t length);
 
-/* Opens a server whose seats are all free. `seats` has three words for each seat: donation, layer,
- * clicks; so `words` is three times their number.
+/* Opens a server by a plan. Its seats are all free.
  *
- * All memory that the server will ever use is taken here, but for nit_entry's: some 130 KB; for
- * each pixel of the screen 10 bytes, of which 4 are written at once, 4 where X-ray or kill mode
- * first begins, and 2 where it shows more than 16 views; and for each seat as many as its donation
- * has units, at most 4 MiB, or 128 MiB where that is over 8,388,608: these are written as far as
- * clients hand in words. So it is at most 2,208 MiB and these 130 KB.
+ * All memory that the server will ever use is taken here, but for nit_entry's: up to 770 KB; for
+ * each pixel of the screen 10 bytes, of which 8 are written at once, and 2 where X-ray or kill mode
+ * first shows more than 16 views; and for each seat as many as its donation has units, at most
+ * 4 MiB, or 128 MiB where that is over 8,388,608: these are written as far as clients hand in
+ * words. So it is at most 8,352 MiB and these 770 KB.
  *
  * Answers NIT_DONE; and the first that applies of NIT_IS_OPEN, NIT_BAD_PLAN, NIT_NO_MEMORY: then
  * the handle is as it was before. */
-static inline uint32_t nit_open_seats(struct nit_server *server, uint32_t width, uint32_t height,
-                                      uint32_t bar, const uint32_t *seats, size_t words)
-{
-    return nit_open_seats_2(server, width, height, bar, seats, words);
-}
-
-/* The same by a plan. */
 static inline uint32_t nit_open(struct nit_server *server, const struct nit_plan *plan)
 {
-    uint32_t seats[48] = { 0 };
-    uint32_t count = plan->count <= 16 ? plan->count : 0;
+    uint32_t seats[3 * NIT_MOST_SEATS] = { 0 };
+    uint32_t count = plan->count <= NIT_MOST_SEATS ? plan->count : 0;
+    uint32_t scale = plan->scale == 0 ? 1 : plan->scale;
     for (uint32_t k = 0; k < count; k++) {
         seats[3 * k] = plan->seats[k].donation;
         seats[3 * k + 1] = plan->seats[k].layer;
         seats[3 * k + 2] = plan->seats[k].clicks;
     }
-    return nit_open_seats(server, plan->width, plan->height, plan->bar, seats, 3 * (size_t)count);
+    return nit_open_seats_3(server, plan->width, plan->height, plan->bar, plan->glyphs, scale,
+                            seats, 3 * (size_t)count);
 }
 
 /* Opens a server by the text of a configuration (docs/FORMATS.md), which is UTF-8 and ends by its
  * length. Its clients sit on the seats from the start, in their order, so each has its seat's
- * number as its name; the names of scripts are read, and stand for nothing.
+ * number as its name; the names of scripts are read, and stand for nothing. Its texts have small
+ * glyphs, and dots of one pixel.
  * Answers NIT_DONE; and the first that applies of NIT_IS_OPEN, NIT_CONFIG_TOO_LONG, NIT_NO_MEMORY
  * at any point of reading, the other refusals of a configuration, NIT_NO_MEMORY: then the handle
  * is as it was before. */
 static inline uint32_t nit_open_config(struct nit_server *server, const char *text, size_t length)
 {
-    return nit_open_config_2(server, text, length);
+    return nit_open_config_3(server, text, length);
 }
+
+/* The line, counted from 1, in which a text of at most 1,048,576 bytes stops being TOML: where
+ * nit_open_config answers NIT_CONFIG_SYNTAX, a person looks there first. 0 where the text is TOML,
+ * whatever else refuses it; NIT_NONE where it is longer or memory runs out. What memory it takes it
+ * frees again. */
+uint32_t nit_config_line(const char *text, size_t length);
 
 /* Frees all of a server, whoever sits there. The handle is NIT_CLOSED then, and may be opened
  * again.
@@ -392,7 +401,7 @@ uint32_t nit_close(struct nit_server *server);
  * to know whom a view belongs to. It has no view, no buffer and no event, and has lost none; the
  * donation of the seat is as in the plan, its next view has the handle 1, and all words that it has
  * not handed in yet are 0. Nothing of an earlier client of the seat is left. A seat of a plan that
- * was never taken has its number as a label: `.0` to `.9`, `.a` to `.f`.
+ * was never taken has its number as a label, by two digits to the base 16: `.00` to `.3f`.
  * Answers NIT_DONE with the seat and the client; and the first that applies of NIT_NO_SERVER,
  * NIT_NO_SEAT, NIT_BAD_LABEL, NIT_SEAT_TAKEN, NIT_LABEL_TAKEN, NIT_WORN_OUT (it has had its
  * 2^48 - 1 clients). */
@@ -620,7 +629,7 @@ NIT_BYTES(struct nit_seat_state, 32);
 NIT_BYTES(struct nit_account, 24);
 NIT_BYTES(struct nit_view_state, 36);
 NIT_BYTES(struct nit_seat_plan, 12);
-NIT_BYTES(struct nit_plan, 24);
+NIT_BYTES(struct nit_plan, 32);
 #undef NIT_BYTES
 
 #ifdef __cplusplus

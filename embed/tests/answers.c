@@ -67,32 +67,42 @@ static void handles_that_are_none(void)
 /* ---- Opening. */
 
 /* What opening answers; a refusal has to leave the handle as it is. */
-static uint32_t opened(uint32_t width, uint32_t height, uint32_t bar, const uint32_t *seats,
-                       size_t words)
+static uint32_t opened(struct nit_plan screen, const uint32_t *seats, size_t words)
 {
     struct nit_server server = NIT_CLOSED;
-    uint32_t answer = nit_open_seats(&server, width, height, bar, seats, words);
+    uint32_t answer = nit_open_seats_3(&server, screen.width, screen.height, screen.bar,
+                                       screen.glyphs, screen.scale, seats, words);
     if (answer == NIT_DONE)
         close_plain(&server);
     CHECK(server.at == NULL && server.mark == 0);
     return answer;
 }
 
+static uint32_t with_letters(uint32_t height, uint32_t bar, uint32_t glyphs, uint32_t scale)
+{
+    const struct nit_plan screen = { .width = 1, .height = height, .bar = bar, .glyphs = glyphs,
+                                     .scale = scale };
+    return opened(screen, (const uint32_t[]){ 256, 0, 0 }, 3);
+}
+
 static uint32_t with_screen(uint32_t width, uint32_t height, uint32_t bar)
 {
-    return opened(width, height, bar, (const uint32_t[]){ 256, 0, 0 }, 3);
+    const struct nit_plan screen = { .width = width, .height = height, .bar = bar, .scale = 1 };
+    return opened(screen, (const uint32_t[]){ 256, 0, 0 }, 3);
 }
+
+static const struct nit_plan small_screen = { .width = 8, .height = 8, .scale = 1 };
 
 static uint32_t with_seat(uint32_t donation, uint32_t layer, uint32_t clicks)
 {
-    return opened(8, 8, 0, (const uint32_t[]){ 256, 7, 1, donation, layer, clicks }, 6);
+    return opened(small_screen, (const uint32_t[]){ 256, 7, 1, donation, layer, clicks }, 6);
 }
 
 /* The numbers of the header are those that the next tests stand on. */
 static void limits(void)
 {
     CHECK(NIT_MOST_WIDTH == 4096 && NIT_MOST_HEIGHT == 4096);
-    CHECK(NIT_MOST_SEATS == 16 && NIT_MOST_VIEWS == 64);
+    CHECK(NIT_MOST_SEATS == 64 && NIT_MOST_VIEWS == 64);
     CHECK(NIT_LEAST_UNITS == 256 && NIT_MOST_UNITS == 268435456);
 }
 
@@ -107,6 +117,46 @@ static void screens(void)
     CHECK(with_screen(8, 8, 2) == NIT_BAD_PLAN && with_screen(8, 8, 256) == NIT_BAD_PLAN);
 }
 
+/* A bar fits where it leaves a row. It has 7 rows of dots in small glyphs, and 9 in large ones. */
+static void letterings(void)
+{
+    CHECK(with_letters(1, 0, 0, 1) == NIT_DONE && with_letters(1, 0, 1, 8) == NIT_DONE);
+    CHECK(with_letters(4096, 1, 0, 0) == NIT_BAD_PLAN && with_letters(1, 0, 0, 0) == NIT_BAD_PLAN);
+    CHECK(with_letters(4096, 1, 0, 9) == NIT_BAD_PLAN && with_letters(1, 0, 1, 9) == NIT_BAD_PLAN);
+    CHECK(with_letters(4096, 1, 0, 256) == NIT_BAD_PLAN);
+    CHECK(with_letters(4096, 1, 0, UINT32_MAX) == NIT_BAD_PLAN);
+    CHECK(with_letters(4096, 1, 2, 1) == NIT_BAD_PLAN && with_letters(1, 0, 2, 1) == NIT_BAD_PLAN);
+    CHECK(with_letters(4096, 1, 256, 1) == NIT_BAD_PLAN);
+    CHECK(with_letters(4096, 1, UINT32_MAX, 1) == NIT_BAD_PLAN);
+    for (uint32_t scale = 1; scale <= 8; scale++) {
+        CHECK(with_letters(7 * scale, 1, 0, scale) == NIT_BAD_PLAN);
+        CHECK(with_letters(7 * scale + 1, 1, 0, scale) == NIT_DONE);
+        CHECK(with_letters(9 * scale, 1, 1, scale) == NIT_BAD_PLAN);
+        CHECK(with_letters(9 * scale + 1, 1, 1, scale) == NIT_DONE);
+    }
+}
+
+/* A plan without a scale has dots of one pixel, and one without glyphs has small ones. */
+static void plain_plans(void)
+{
+    const struct nit_seat_plan seat = { .donation = 256 };
+    struct nit_plan plan = { .width = 1, .height = 8, .bar = 1, .count = 1, .seats = &seat };
+    struct nit_server server = NIT_CLOSED;
+    CHECK(nit_open(&server, &plan) == NIT_DONE);
+    close_plain(&server);
+    plan.height = 7;
+    CHECK(nit_open(&server, &plan) == NIT_BAD_PLAN);
+    plan.bar = 0;
+    plan.scale = 9;
+    CHECK(nit_open(&server, &plan) == NIT_BAD_PLAN);
+    plan.scale = 8;
+    plan.glyphs = 2;
+    CHECK(nit_open(&server, &plan) == NIT_BAD_PLAN);
+    plan.glyphs = 1;
+    CHECK(nit_open(&server, &plan) == NIT_DONE);
+    close_plain(&server);
+}
+
 static void seats_of_plans(void)
 {
     CHECK(with_seat(256, 0, 0) == NIT_DONE && with_seat(268435456, 7, 1) == NIT_DONE);
@@ -115,18 +165,20 @@ static void seats_of_plans(void)
     CHECK(with_seat(0, 0, 0) == NIT_BAD_PLAN && with_seat(UINT32_MAX, 0, 0) == NIT_BAD_PLAN);
     CHECK(with_seat(256, 8, 0) == NIT_BAD_PLAN && with_seat(256, 256, 0) == NIT_BAD_PLAN);
     CHECK(with_seat(256, 0, 2) == NIT_BAD_PLAN && with_seat(256, 0, 256) == NIT_BAD_PLAN);
-    for (size_t words = 0; words <= 54; words++) {
+    for (size_t words = 0; words <= 198; words++) {
         uint32_t *seats = guarded_words(words);
         for (size_t k = 0; k < words; k++)
             seats[k] = k % 3 == 0 ? 256 : 0;
-        bool fits = words % 3 == 0 && words >= 3 && words <= 48;
-        CHECK(opened(8, 8, 0, seats, words) == (fits ? NIT_DONE : NIT_BAD_PLAN));
+        bool fits = words % 3 == 0 && words >= 3 && words <= 192;
+        CHECK(opened(small_screen, seats, words) == (fits ? NIT_DONE : NIT_BAD_PLAN));
     }
 }
 
 static void plans(void)
 {
-    struct nit_seat_plan seats[17] = { { .donation = 256, .layer = 7, .clicks = 1 } };
+    struct nit_seat_plan seats[65];
+    for (uint32_t k = 0; k < 65; k++)
+        seats[k] = (struct nit_seat_plan){ .donation = 256, .layer = 7, .clicks = 1 };
     struct nit_plan plan = { .width = 9, .height = 8, .bar = 1, .count = 1, .seats = seats };
     struct nit_server server = NIT_CLOSED;
     CHECK(nit_open(&server, &plan) == NIT_DONE);
@@ -136,12 +188,15 @@ static void plans(void)
     SEAT(nit_seat_state(&server, 1), .kind = NIT_NO_SEAT);
     struct nit_server before = server;
     CHECK(nit_open(&server, &plan) == NIT_IS_OPEN);
-    plan.count = 17;
+    plan.count = 65;
     CHECK(nit_open(&server, &plan) == NIT_IS_OPEN);
     CHECK(nit_open_config(&server, TEXT("no table")) == NIT_IS_OPEN);
     CHECK(server.at == before.at && server.mark == before.mark);
     close_plain(&server);
     CHECK(nit_open(&server, &plan) == NIT_BAD_PLAN);
+    plan.count = 64;
+    CHECK(nit_open(&server, &plan) == NIT_DONE && nit_state(&server).seats == 64);
+    close_plain(&server);
     plan.count = 0;
     CHECK(nit_open(&server, &plan) == NIT_BAD_PLAN);
     plan.count = UINT32_MAX;
@@ -211,6 +266,18 @@ static void long_configurations(void)
     CHECK(nit_open_config(&server, text, most + 1) == NIT_CONFIG_TOO_LONG);
     CHECK(nit_open_config(&server, text + 1, most) == NIT_CONFIG_MISSING);
     CHECK(nit_open_config(&server, text + most + 1, 0) == NIT_CONFIG_MISSING);
+    CHECK(nit_config_line(text, most + 1) == NIT_NONE && nit_config_line(text + 1, most) == 0);
+    text[most] = '=';
+    CHECK(nit_config_line(text + 1, most) == most);
+}
+
+/* The line in which a text stops being TOML. */
+static void config_lines(void)
+{
+    CHECK(nit_config_line(TEXT("")) == 0 && nit_config_line(TEXT("a = 1\nb = 2\n")) == 0);
+    CHECK(nit_config_line(TEXT("a")) == 1 && nit_config_line(TEXT("[a\nb = 1\n")) == 1);
+    CHECK(nit_config_line(TEXT("a = 1\n# b\n\nb = no\nc = \n")) == 4);
+    CHECK(nit_config_line(TEXT("a = 1\r\nb = \"\xFF\"\n")) == 2);
 }
 
 static void many_clients(uint32_t count, uint32_t answer)
@@ -242,6 +309,7 @@ static void refused_configurations(void)
     CHECK(configured("", CLIENT("a") "layer = 7\nfocus = \"none\"\n") == NIT_DONE);
     many_clients(16, NIT_DONE);
     many_clients(17, NIT_CONFIG_TOO_MANY);
+    config_lines();
     long_configurations();
 }
 
@@ -276,6 +344,8 @@ int main(void)
     limits();
     texts();
     screens();
+    letterings();
+    plain_plans();
     seats_of_plans();
     plans();
     refused_configurations();

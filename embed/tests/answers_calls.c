@@ -267,7 +267,7 @@ static void sessions_that_are_over(void)
 {
     begin(65536);
     each_call(1, NIT_NO_SEAT);
-    each_call(16, NIT_NO_SEAT);
+    each_call(64, NIT_NO_SEAT);
     each_call(UINT32_MAX, NIT_NO_SEAT);
     each_call(UINT64_MAX, NIT_NO_SEAT);
     each_call(a + 1, NIT_NO_SEAT);

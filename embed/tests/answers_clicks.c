@@ -212,7 +212,8 @@ static void in_modes(void)
 static void on_the_bar(void)
 {
     const struct nit_seat_plan seat = { 65536, 0, 1 };
-    const struct nit_plan plan = { WIDTH, HEIGHT, 1, 1, &seat };
+    const struct nit_plan plan = { .width = WIDTH, .height = HEIGHT, .bar = 1,
+                                   .count = 1, .seats = &seat };
     CHECK(nit_open(&server, &plan) == NIT_DONE);
     sits(0, "a", 0);
     ROUTED(nit_motion(&server, 5, 6), NOBODY);

@@ -43,7 +43,8 @@ static void begin(void)
 {
     static const struct nit_seat_plan seats[] = { { 65536, 0, 1 }, { 65536, 0, 1 },
                                                   { 65536, 1, 1 } };
-    const struct nit_plan plan = { WIDTH, HEIGHT, bar, 3, seats };
+    const struct nit_plan plan = { .width = WIDTH, .height = HEIGHT, .bar = bar,
+                                   .count = 3, .seats = seats };
     CHECK(nit_open(&server, &plan) == NIT_DONE);
     surface = surface_of(&server);
     a = comes(0, "a", 2, 9);
@@ -76,10 +77,18 @@ static void dot(nit_client client)
     done(nit_refresh(&server, client, 1, 1, 1, 1, words, BUFFER * BUFFER));
 }
 
+/* A view goes in front of one that lay over it. */
+static void above(void)
+{
+    done(nit_place(&server, a, 2, 6, 12, BUFFER, BUFFER));
+    damaged(&server, &surface);
+    done(nit_above(&server, a, 1, 2));
+}
+
 enum { STEPS = 23, CLICK = 18 };
 
 /* Which of the steps have to change a pixel in mode Flat. So has a click, but in the bar alone. */
-static const bool CHANGES[STEPS] = { true, true, true, true, true, true, true, false, true, true,
+static const bool CHANGES[STEPS] = { true, true, true, true, true, true, true, true, true, true,
                                      false, true, false, true, true, true, true, true };
 
 /* A step of each kind. */
@@ -93,7 +102,7 @@ static void step(int number)
     case 4: done(nit_offset(&server, a, 2, 5, -3)); break;
     case 5: done(nit_front(&server, a, 1)); break;
     case 6: done(nit_back(&server, b, 1)); break;
-    case 7: done(nit_above(&server, a, 2, 1)); break;
+    case 7: above(); break;
     case 8: done(nit_destroy(&server, b, 1)); break;
     case 9: done(nit_buffer(&server, a, 10, 12)); break;
     case 10: done(nit_title(&server, a, 1, TEXT("two"))); break;

@@ -25,7 +25,7 @@ static void begin(void)
 {
     static const struct nit_seat_plan seats[] = {
         { 65536, 0, 1 }, { 65536, 0, 1 }, { 65536, 0, 0 } };
-    const struct nit_plan plan = { 64, 32, 0, 3, seats };
+    const struct nit_plan plan = { .width = 64, .height = 32, .count = 3, .seats = seats };
     CHECK(nit_open(&server, &plan) == NIT_DONE);
     sits(0, "a", 0);
     sits(1, "b", 20);

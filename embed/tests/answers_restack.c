@@ -12,7 +12,7 @@ static void begin(void)
     static const struct nit_seat_plan seats[] = { { 65536, 1, 1 }, { 65536, 1, 1 },
                                                   { 65536, 0, 1 }, { 65536, 2, 1 } };
     static const char *const labels[] = { "a", "b", "c", "d" };
-    const struct nit_plan plan = { 32, 24, 0, 4, seats };
+    const struct nit_plan plan = { .width = 32, .height = 24, .count = 4, .seats = seats };
     CHECK(nit_open(&server, &plan) == NIT_DONE);
     for (uint32_t seat = 0; seat < 4; seat++) {
         name[seat] = sits_on(&server, seat, labels[seat]);

@@ -27,7 +27,8 @@ static void begin(uint32_t bar, uint32_t count, const uint32_t *layers)
     struct nit_seat_plan seats[16];
     for (uint32_t k = 0; k < count; k++)
         seats[k] = (struct nit_seat_plan){ .donation = 65536, .layer = layers[k], .clicks = 1 };
-    struct nit_plan plan = { WIDTH, HEIGHT, bar, count, seats };
+    struct nit_plan plan = { .width = WIDTH, .height = HEIGHT, .bar = bar,
+                             .count = count, .seats = seats };
     CHECK(nit_open(&server, &plan) == NIT_DONE);
     frame = guarded_words(WIDTH * HEIGHT);
     for (uint32_t k = 0; k < WIDTH * HEIGHT; k++)

@@ -51,14 +51,21 @@ static void labels(void)
 static void labels_of_free_seats(void)
 {
     open_plain(&server, 40, 30, 12, 256);
-    goes_to(1, ".1");
-    goes_to(11, ".b");
-    goes_to(0, ".c");
-    goes_to(0, "1");
-    refused(NIT_LABEL_TAKEN, 0, ".1");
-    sits_on(&server, 1, "a");
+    goes_to(1, ".01");
+    goes_to(11, ".0b");
+    goes_to(0, ".0c");
     goes_to(0, ".1");
-    sits_on(&server, 0, ".1");
+    refused(NIT_LABEL_TAKEN, 0, ".01");
+    sits_on(&server, 1, "a");
+    goes_to(0, ".01");
+    sits_on(&server, 0, ".01");
+    close_plain(&server);
+    open_plain(&server, 40, 30, 64, 256);
+    goes_to(15, ".0f");
+    goes_to(16, ".10");
+    goes_to(63, ".3f");
+    goes_to(0, ".40");
+    refused(NIT_LABEL_TAKEN, 15, ".3f");
     close_plain(&server);
 }
 
@@ -102,7 +109,7 @@ static void open_layers(void)
 {
     static const struct nit_seat_plan plans[] = { { 256, 1, 1 }, { 256, 0, 1 }, { 256, 1, 1 },
                                                   { 256, 7, 1 } };
-    const struct nit_plan plan = { 40, 30, 0, 4, plans };
+    const struct nit_plan plan = { .width = 40, .height = 30, .count = 4, .seats = plans };
     CHECK(nit_open(&server, &plan) == NIT_DONE);
 }
 
@@ -121,15 +128,15 @@ static void layers(void)
     is_for(2, "a", NIT_NO_FREE_SEAT, 0);
     is_for(8, "a", NIT_NO_FREE_SEAT, 0);
     is_for(UINT32_MAX, "a", NIT_NO_FREE_SEAT, 0);
-    is_for(1, ".2", NIT_DONE, 2);
-    is_for(0, ".2", NIT_LABEL_TAKEN, 0);
-    is_for(UINT32_MAX, ".2", NIT_LABEL_TAKEN, 0);
+    is_for(1, ".02", NIT_DONE, 2);
+    is_for(0, ".02", NIT_LABEL_TAKEN, 0);
+    is_for(UINT32_MAX, ".02", NIT_LABEL_TAKEN, 0);
     is_for(UINT32_MAX, "B", NIT_BAD_LABEL, 0);
     nit_client a = sits_on(&server, 1, "a");
     is_for(0, "b", NIT_NO_FREE_SEAT, 0);
     is_for(0, "a", NIT_LABEL_TAKEN, 0);
     is_for(1, "a", NIT_LABEL_TAKEN, 0);
-    is_for(1, ".1", NIT_DONE, 0);
+    is_for(1, ".01", NIT_DONE, 0);
     left(a);
     is_for(0, "a", NIT_DONE, 1);
     is_for(0, "b", NIT_DONE, 1);
@@ -151,7 +158,7 @@ static void labels_in_layers(void)
     is_for(1, "d", NIT_DONE, 2);
     is_for(1, "e", NIT_DONE, 0);
     is_for(0, "d", NIT_LABEL_TAKEN, 0);
-    is_for(0, ".3", NIT_LABEL_TAKEN, 0);
+    is_for(0, ".03", NIT_LABEL_TAKEN, 0);
     refused(NIT_LABEL_TAKEN, 1, "d");
     sits_on(&server, 1, "e");
     is_for(0, "d", NIT_LABEL_TAKEN, 0);
@@ -181,11 +188,11 @@ static void locked_out(void)
 
 static void names(void)
 {
-    open_plain(&server, 40, 30, 16, 256);
-    SEAT(nit_seat_state(&server, 15), .kind = NIT_DONE, .status = NIT_SEAT_CLOSED, .client = 15);
-    SEAT(nit_seat_state(&server, 16), .kind = NIT_NO_SEAT);
+    open_plain(&server, 40, 30, 64, 256);
+    SEAT(nit_seat_state(&server, 63), .kind = NIT_DONE, .status = NIT_SEAT_CLOSED, .client = 63);
+    SEAT(nit_seat_state(&server, 64), .kind = NIT_NO_SEAT);
     CHECK(sits_on(&server, 2, "a") == 65536 + 2);
-    CHECK(sits_on(&server, 15, "b") == 2 * 65536 + 15);
+    CHECK(sits_on(&server, 63, "b") == 2 * 65536 + 63);
     refused(NIT_SEAT_TAKEN, 2, "c");
     refused(NIT_LABEL_TAKEN, 0, "a");
     goes_to(0, "c");
@@ -195,12 +202,31 @@ static void names(void)
     SEAT(nit_seat_state(&server, 2), .kind = NIT_DONE, .status = NIT_SEAT_CLOSED,
          .client = 65536 + 2);
     CHECK(sits_on(&server, 2, "a") == 3 * 65536 + 2);
-    SEAT(nit_seat_state(&server, 15), .kind = NIT_DONE, .status = NIT_SEAT_LIVE,
-         .client = 2 * 65536 + 15);
+    SEAT(nit_seat_state(&server, 63), .kind = NIT_DONE, .status = NIT_SEAT_LIVE,
+         .client = 2 * 65536 + 63);
     SEAT(nit_seat_state(&server, 0), .kind = NIT_DONE, .status = NIT_SEAT_CLOSED);
     close_plain(&server);
     open_plain(&server, 40, 30, 1, 256);
     CHECK(sits_on(&server, 0, "a") == 65536);
+    close_plain(&server);
+}
+
+/* The last of all seats is told as 63, wherever a seat is told. */
+static void last_seat(void)
+{
+    open_plain(&server, 40, 30, 64, 65536);
+    nit_client last = sits_on(&server, 63, "a");
+    REPLY(nit_view(&server, last), .kind = NIT_HANDLE, .handle = 1);
+    REPLY(nit_place(&server, last, 1, 0, 0, 40, 30), .kind = NIT_DONE);
+    CHECK(nit_damage(&server).kind == NIT_DONE);
+    ROUTED(nit_motion(&server, 5, 6), MOTION(63, 5, 6));
+    ROUTED(nit_press(&server, 272), TOLD(63, NIT_FOCUS_ENTER), PRESS(63, 272));
+    STATE(nit_state(&server), .kind = NIT_DONE, .width = 40, .height = 30, .seats = 64,
+          .focus = 63, .hover = 63, .x = 5, .y = 6, .receiver = 63);
+    CHECK(nit_owner(&server, 5, 6).seat == 63 && nit_shown(&server, 5, 6).seat == 63);
+    CHECK(nit_view_at(&server, 0).seat == 63 && nit_account(&server, 63).donation == 65536);
+    ROUTED(nit_press(&server, 30), PRESS(63, 30));
+    CHECK(nit_seat_state(&server, 63).waiting == 4);
     close_plain(&server);
 }
 
@@ -230,5 +256,6 @@ void seats_answer(void)
     labels_in_layers();
     locked_out();
     names();
+    last_seat();
     many_turns();
 }

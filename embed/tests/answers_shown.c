@@ -28,7 +28,8 @@ static void shows_none(uint32_t x, uint32_t y)
 static void begin(void)
 {
     static const struct nit_seat_plan seats[] = { { 65536, 1, 1 }, { 65536, 0, 1 } };
-    const struct nit_plan plan = { WIDTH, HEIGHT, 1, 2, seats };
+    const struct nit_plan plan = { .width = WIDTH, .height = HEIGHT, .bar = 1,
+                                   .count = 2, .seats = seats };
     CHECK(nit_open(&server, &plan) == NIT_DONE);
     a = sits_on(&server, 0, "a");
     b = sits_on(&server, 1, "b");

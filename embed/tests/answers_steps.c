@@ -86,17 +86,17 @@ static void longest_entries(void)
     struct nit_server server = NIT_CLOSED;
     char text[40];
     memset(text, '~', sizeof text);
-    open_plain(&server, 8, 8, 16, 256);
-    nit_client a = sits_on(&server, 15, "a");
+    open_plain(&server, 8, 8, 64, 256);
+    nit_client a = sits_on(&server, 63, "a");
     REPLY(nit_place(&server, a, UINT32_MAX, INT32_MIN, INT32_MIN, UINT32_MAX, UINT32_MAX),
           .kind = NIT_NO_SUCH_VIEW, .handle = UINT32_MAX);
-    static const char longest[] = "call 15 no-such-view 4294967295 < place 4294967295 -2147483648 "
+    static const char longest[] = "call 63 no-such-view 4294967295 < place 4294967295 -2147483648 "
                                   "-2147483648 4294967295 4294967295\n";
     CHECK(sizeof longest - 1 < NIT_LINE);
     entry_is(&server, longest);
     REPLY(nit_title(&server, a, UINT32_MAX, text, sizeof text), .kind = NIT_NO_SUCH_VIEW,
           .handle = UINT32_MAX);
-    entry_is(&server, "call 15 no-such-view 4294967295 < title 4294967295 "
+    entry_is(&server, "call 63 no-such-view 4294967295 < title 4294967295 "
              "=~~~~~~~~~~~~~~~~~~~~~~~~~~~~~~~~~~~~~~~~\n");
     close_plain(&server);
 }

@@ -35,7 +35,8 @@ static void done(struct nit_reply reply)
 static void begin(void)
 {
     struct nit_seat_plan seats[] = { { 5000, 3, 1 }, { 1000, 2, 0 }, { 256, 0, 0 } };
-    const struct nit_plan plan = { 32, 24, 1, 3, seats };
+    const struct nit_plan plan = { .width = 32, .height = 24, .bar = 1,
+                                   .count = 3, .seats = seats };
     CHECK(nit_open(&server, &plan) == NIT_DONE);
     a = sits_on(&server, 0, "a");
     SEATED(nit_seat(&server, 1, TEXT("b.longest-label-of-20")), .kind = NIT_BAD_LABEL);
@@ -90,7 +91,7 @@ static void accounts(void)
     ACCOUNT_IS(nit_account(&server, 3), .kind = NIT_NO_SEAT);
     label_is(0, "a");
     label_is(1, "b.longest-label-of20");
-    label_is(2, ".2");
+    label_is(2, ".02");
     label_is(3, "");
 }
 

@@ -1,7 +1,7 @@
 // A C++ program that uses each kind of thing of the header.
 #include "nitpicker.h"
 
-static_assert(NIT_VERSION == 2, "another header");
+static_assert(NIT_VERSION == 3, "another header");
 
 namespace {
 
@@ -10,7 +10,7 @@ public:
     Screen()
     {
         const struct nit_seat_plan seats[] = {{65536, 0, 1}};
-        const struct nit_plan plan = {8, 8, 0, 1, seats};
+        const struct nit_plan plan = {8, 8, 0, 1, seats, 1, 2};
         if (nit_open(&server, &plan) == NIT_DONE)
             client = nit_seat(&server, 0, "a", 1).client;
     }

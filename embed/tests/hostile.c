@@ -1,7 +1,8 @@
-/* What a coalition of clients makes one call cost: sixteen clients with 64 views each, the rear 64
- * as large as the screen, the others columns of different heights, or columns in front of rows; and
- * beside it a desk of eight windows. One line for each call and mode, the worst of five by the
- * processor's time: `CALL<tab>MODE<tab>MILLISECONDS`.
+/* What a coalition of clients makes one call cost: sixteen clients with 64 views each, or 64 of
+ * them. The rear 64 views are as large as the screen, the others columns of different heights,
+ * columns in front of rows, or narrow strips all over the screen. And beside it a desk of eight
+ * windows. One line for each call and mode, the worst of five by the processor's time:
+ * `CALL<tab>MODE<tab>MILLISECONDS`.
  *
  * usage: hostile */
 #include "nitpicker.h"
@@ -10,8 +11,9 @@
 #include <time.h>
 
 enum {
-    WIDTH = 1024, HEIGHT = 768, BAR = 7, SIDE = 64, SEATS = 16, EACH = 64, LARGE = 64, TIMES = 5
+    WIDTH = 1024, HEIGHT = 768, BAR = 7, SIDE = 64, SEATS = 64, EACH = 64, LARGE = 64, TIMES = 5
 };
+enum layout { COLUMNS, CROSSES, STRIPS };
 
 static struct nit_server server;
 static nit_client client[SEATS], asker;
@@ -39,21 +41,22 @@ static void open_server(void)
     struct nit_seat_plan seats[SEATS];
     for (uint32_t k = 0; k < SEATS; k++)
         seats[k] = (struct nit_seat_plan){ 65536, 3, 1 };
-    struct nit_plan plan = { WIDTH, HEIGHT, 1, SEATS, seats };
+    struct nit_plan plan = { .width = WIDTH, .height = HEIGHT, .bar = 1,
+                             .count = SEATS, .seats = seats };
     must(nit_open(&server, &plan) == NIT_DONE, "not opened");
 }
 
 static void sit(uint32_t seat)
 {
-    char label = (char)('a' + seat);
-    client[seat] = nit_seat(&server, seat, &label, 1).client;
+    char label[2] = { (char)('a' + seat % 26), (char)('a' + seat / 26) };
+    client[seat] = nit_seat(&server, seat, label, 2).client;
     must(nit_buffer(&server, client[seat], SIDE, SIDE).kind == NIT_DONE, "no buffer");
 }
 
 struct scene {
     const char *name;
     uint32_t all, large; /* how many views, and how many of them are as large as the screen */
-    int crosses;         /* the others are columns in front of rows, and no columns alone */
+    enum layout others;
 };
 
 static void place(nit_client of, uint32_t x, uint32_t y, uint32_t w, uint32_t h)
@@ -62,18 +65,26 @@ static void place(nit_client of, uint32_t x, uint32_t y, uint32_t w, uint32_t h)
     must(nit_place(&server, of, view, (int32_t)x, (int32_t)y, w, h).kind == NIT_DONE, "not placed");
 }
 
-static void place_one(const struct scene *scene, uint32_t n)
+/* The small view `k` of so many. */
+static void place_small(nit_client of, enum layout layout, uint32_t k, uint32_t small)
 {
-    nit_client of = client[SEATS - 1 - n / EACH];
-    uint32_t k = n - scene->large, small = scene->all - scene->large;
-    if (n < scene->large)
-        place(of, 0, BAR, WIDTH, HEIGHT - BAR);
-    else if (!scene->crosses)
-        place(of, k * WIDTH / small, BAR, 1, 8 + n * 7919 % 700);
+    if (layout == COLUMNS)
+        place(of, k * WIDTH / small, BAR, 1, 8 + k * 7919 % 700);
+    else if (layout == STRIPS)
+        place(of, k * 7919 % WIDTH, BAR + k * 104729 % 760, 1 + k % 3, 40 + k * 31 % 400);
     else if (k < small / 2)
         place(of, 0, BAR + 2 * (k % 380), WIDTH, 1);
     else
-        place(of, 2 * (k - small / 2), BAR, 1, HEIGHT - BAR);
+        place(of, 2 * (k - small / 2) % WIDTH, BAR, 1, HEIGHT - BAR);
+}
+
+static void place_one(const struct scene *scene, uint32_t n)
+{
+    nit_client of = client[SEATS - 1 - n / EACH];
+    if (n < scene->large)
+        place(of, 0, BAR, WIDTH, HEIGHT - BAR);
+    else
+        place_small(of, scene->others, n - scene->large, scene->all - scene->large);
 }
 
 static void begin(const struct scene *scene)
@@ -129,10 +140,10 @@ static void tell_all(const char *mode)
     tell("a view to the front", mode, front);
 }
 
-static void tell_scene(struct scene scene)
+static void tell_scene(const struct scene *scene)
 {
-    printf("%s\n", scene.name);
-    begin(&scene);
+    printf("%s\n", scene->name);
+    begin(scene);
     tell_all("flat");
     tell("the X-ray key", "both ways", mode_key);
     tell_all("X-ray");
@@ -141,8 +152,15 @@ static void tell_scene(struct scene scene)
 
 int main(void)
 {
-    tell_scene((struct scene){ "1,024 views, columns", SEATS * EACH, LARGE, 0 });
-    tell_scene((struct scene){ "1,024 views, columns in front of rows", SEATS * EACH, LARGE, 1 });
-    tell_scene((struct scene){ "eight views", 8, 4, 0 });
+    static const struct scene scenes[] = {
+        { "1,024 views, columns", 1024, LARGE, COLUMNS },
+        { "1,024 views, columns in front of rows", 1024, LARGE, CROSSES },
+        { "4,096 views, columns", SEATS * EACH, LARGE, COLUMNS },
+        { "4,096 views, columns in front of rows", SEATS * EACH, LARGE, CROSSES },
+        { "4,096 views, strips", SEATS * EACH, LARGE, STRIPS },
+        { "eight views", 8, 4, COLUMNS },
+    };
+    for (size_t k = 0; k < sizeof scenes / sizeof *scenes; k++)
+        tell_scene(scenes + k);
     return 0;
 }

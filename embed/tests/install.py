@@ -56,7 +56,7 @@ esac
 OPENS = """#include <nitpicker.h>
 int main(void)
 {
-    const struct nit_plan plan = { 1, 1, 0, 0, NULL };
+    const struct nit_plan plan = { .width = 1, .height = 1, .seats = NULL };
     struct nit_server server = NIT_CLOSED;
     return (int)(nit_open(&server, &plan) + nit_open_config(&server, "", 0));
 }

@@ -178,8 +178,8 @@ char *guarded_text(size_t count)
 void open_plain(struct nit_server *server, uint32_t width, uint32_t height, uint32_t seats,
                 uint32_t donation)
 {
-    struct nit_seat_plan each[16];
-    for (uint32_t k = 0; k < 16; k++)
+    struct nit_seat_plan each[NIT_MOST_SEATS];
+    for (uint32_t k = 0; k < NIT_MOST_SEATS; k++)
         each[k] = (struct nit_seat_plan){ .donation = donation, .layer = 0, .clicks = 1 };
     struct nit_plan plan = { .width = width, .height = height, .count = seats, .seats = each };
     CHECK(nit_open(server, &plan) == NIT_DONE);

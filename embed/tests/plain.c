@@ -5,8 +5,8 @@
 
 /* ---- Opening and seats */
 
-uint32_t nit_open_seats_2(struct nit_server *server, uint32_t w, uint32_t h, uint32_t bar,
-                          const uint32_t *plan, size_t words)
+uint32_t nit_open_seats_3(struct nit_server *server, uint32_t w, uint32_t h, uint32_t bar,
+                          uint32_t glyphs, uint32_t scale, const uint32_t *plan, size_t words)
 {
     for (size_t seat = 0; seat < words / 3 && seat < SEATS; seat++) {
         seats[seat].most = plan[3 * seat] / 8;

@@ -10,7 +10,7 @@
 /* There is one server, and no text is kept. */
 #pragma GCC diagnostic ignored "-Wunused-parameter"
 
-enum { SEATS = 16, VIEWS = 1024, QUEUE = 64, BARE = 0x20 };
+enum { SEATS = NIT_MOST_SEATS, VIEWS = SEATS * NIT_MOST_VIEWS, QUEUE = 64, BARE = 0x20 };
 
 struct view {
     uint32_t seat, handle, w, h;

@@ -7,7 +7,8 @@ uint32_t plugin_serves(void);
 uint32_t plugin_serves(void)
 {
     const struct nit_seat_plan seat = { 65536, 0, 1 };
-    const struct nit_plan plan = { 16, 16, 1, 1, &seat };
+    const struct nit_plan plan = { .width = 16, .height = 16, .bar = 1,
+                                   .count = 1, .seats = &seat };
     struct nit_server server = NIT_CLOSED;
     uint32_t word = 0xABCDEF, shown = 0;
     if (nit_open(&server, &plan) != NIT_DONE)

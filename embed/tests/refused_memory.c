@@ -18,7 +18,7 @@ static uint32_t open_by_seats(struct nit_server *server)
     uint32_t seats[48];
     for (size_t k = 0; k < 48; k++)
         seats[k] = (const uint32_t[]){ 4096, 0, 1 }[k % 3];
-    return nit_open_seats(server, 64, 32, 1, seats, 48);
+    return nit_open_seats_3(server, 64, 32, 1, 1, 2, seats, 48);
 }
 
 /* Closes a server that was opened, after which nothing is held that was not held before. */
@@ -78,7 +78,7 @@ static void looks(struct nit_server *server)
     CHECK(nit_look_anew(server, frame, 64 * 32).w == 0);
     CHECK(nit_damage(server).count == 0);
     CHECK(nit_copy(server, 0, 0, 64, 32, frame, 64 * 32, 64) == NIT_DONE);
-    CHECK(nit_shown(server, 9, 9).view == 1 && nit_owner(server, 9, 9).view == 1);
+    CHECK(nit_shown(server, 9, 20).view == 1 && nit_owner(server, 9, 20).view == 1);
     CHECK(nit_view_at(server, 0).view == 1 && nit_title_at(server, 0, text, 20) == 1);
     CHECK(nit_label(server, 0, text, 20) == 1 && nit_account(server, 0).width == 8);
 }
@@ -89,7 +89,7 @@ static void calls(struct nit_server *server)
     nit_client a = sits_on(server, 0, "a");
     client_calls(server, a);
     CHECK(nit_raise(server, a, 1) == NIT_DONE && nit_lower(server, a, 1) == NIT_DONE);
-    CHECK(nit_motion(server, 9, 9).count == 1 && nit_wheel(server, 1).count == 1);
+    CHECK(nit_motion(server, 9, 20).count == 1 && nit_wheel(server, 1).count == 1);
     looks(server);
     CHECK(nit_press(server, 272).count == 2 && nit_held(server, 0) == 272);
     CHECK(nit_release(server, 272).count == 1);
@@ -130,6 +130,21 @@ static void refuse_text(struct nit_server *server)
     printf("refused_memory: the text of a step, %zu requests\n", number - 1);
 }
 
+/* ---- So does the line in which a text stops being TOML. */
+
+static void refuse_line(void)
+{
+    size_t number = 0, held = memory_held;
+    for (bool refused = true; refused;) {
+        memory_refuse(++number);
+        uint32_t line = nit_config_line(TEXT("a = [ 1, 2 ]\nb = { c = \"d\" }\n=\n"));
+        refused = memory_was_refused();
+        memory_refuse(0);
+        CHECK(line == (refused ? NIT_NONE : 3) && memory_held == held);
+    }
+    printf("refused_memory: the line of a text, %zu requests\n", number - 1);
+}
+
 int main(void)
 {
     struct nit_server server = NIT_CLOSED;
@@ -138,6 +153,7 @@ int main(void)
     CHECK(open_by_seats(&server) == NIT_DONE);
     calls_make_none(&server);
     refuse_text(&server);
+    refuse_line();
     close_plain(&server);
     return 0;
 }

@@ -2,13 +2,14 @@
  *
  * usage: replay PLAY
  *
- * PLAY is a file that replay.py makes of a run: first `config NAME`, `screen W H BAR`, a line
- * `seat DONATION LAYER CLICKS LABEL` for each client, and `begin`; then the run in order: each
- * entry of its journal, `stroke CLIENT LINE` for what a client draws, and `picture NAME` where all
- * clients refresh all they have and the screen is to show the picture of that name. The run is made
- * with two servers in turn, one that the configuration opens and one that the seats open. Both are
- * looked at before the press of a button, and the second one behind each step. The first difference
- * ends it with status 1. */
+ * PLAY is a file that replay.py makes of a run: first `config NAME`, if a configuration says it
+ * all, then `screen W H BAR GLYPHS SCALE`, a line `seat DONATION LAYER CLICKS LABEL` for each
+ * client, and `begin`; then the run in order: each entry of its journal, `stroke CLIENT LINE` for
+ * what a client draws, and `picture NAME` where all clients refresh all they have and the screen is
+ * to show the picture of that name. The run is made with two servers in turn, one that the
+ * configuration opens, or as many seats as there are clients, and one that 64 seats open, of which
+ * nobody takes the last ones. Both are looked at before the press of a button, and the second one
+ * behind each step. The first difference ends it with status 1. */
 #include "replay_read.h"
 
 enum { SEATS = 16, LINE = 400 };
@@ -30,8 +31,8 @@ struct run {
     struct nit_server server[2];
     nit_client client[2][SEATS];
     uint32_t *frame[2];
-    uint32_t width, height, bar, count, line;
-    struct nit_seat_plan plan[SEATS];
+    uint32_t width, height, bar, glyphs, scale, count, line;
+    struct nit_seat_plan plan[NIT_MOST_SEATS]; /* behind those of the clients nobody sits */
     char label[SEATS][32];
     struct drawing drawing[SEATS];
 };
@@ -218,19 +219,6 @@ static void play_stroke(struct run *run, const char *line)
 
 /* ---- Pictures. */
 
-static uint8_t *picture_at(struct run *run, const char *line, const char *name)
-{
-    uint32_t w, h;
-    size_t size = 3 * (size_t)run->width * run->height;
-    FILE *file = fopen(name, "rb");
-    uint8_t *pixels = malloc(size);
-    if (!file || !pixels || fscanf(file, "P6 %u %u 255", &w, &h) != 2 || fgetc(file) != '\n'
-        || w != run->width || h != run->height || fread(pixels, 1, size, file) != size)
-        wrong(run, line, "no picture of this screen");
-    fclose(file);
-    return pixels;
-}
-
 static void refresh_all(struct run *run, int k, const char *line)
 {
     const struct part all = { 0, 0, 4096, 4096 };
@@ -288,7 +276,9 @@ static void show_the_same(struct run *run, const char *line)
 
 static void play_picture(struct run *run, const char *line)
 {
-    uint8_t *pixels = picture_at(run, line, line + 8);
+    uint8_t *pixels = picture_in(line + 8, run->width, run->height);
+    if (!pixels)
+        wrong(run, line, "no picture of this screen");
     show_the_same(run, line);
     for (int k = 0; k < 2; k++) {
         refresh_all(run, k, line);
@@ -325,36 +315,55 @@ static void add_seat(struct run *run, const char *line)
     d->words = guarded_words(d->room);
 }
 
-/* Opens by the seats what the configuration has opened already. */
-static void open_by_seats(struct run *run)
+/* Opens a server by so many seats, and all clients sit down. */
+static void open_by_seats(struct run *run, int k, uint32_t seats)
 {
-    const struct nit_plan plan = { run->width, run->height, run->bar, run->count, run->plan };
-    CHECK(nit_open(&run->server[1], &plan) == NIT_DONE);
-    for (uint32_t k = 0; k < run->count; k++) {
-        const char *label = run->label[k];
-        SEATED(nit_seat_for(&run->server[1], label, strlen(label), run->plan[k].layer),
-               .kind = NIT_DONE, .seat = k);
-        run->client[0][k] = k;
-        run->client[1][k] = sits_on(&run->server[1], k, label);
+    const struct nit_plan plan = { .width = run->width, .height = run->height, .bar = run->bar,
+                                   .count = seats, .seats = run->plan, .glyphs = run->glyphs,
+                                   .scale = run->scale };
+    for (uint32_t seat = run->count; seat < seats; seat++)
+        run->plan[seat] = (struct nit_seat_plan){ .donation = NIT_LEAST_UNITS };
+    CHECK(nit_open(&run->server[k], &plan) == NIT_DONE);
+    for (uint32_t seat = 0; seat < run->count; seat++) {
+        const char *label = run->label[seat];
+        SEATED(nit_seat_for(&run->server[k], label, strlen(label), run->plan[seat].layer),
+               .kind = NIT_DONE, .seat = seat);
+        run->client[k][seat] = sits_on(&run->server[k], seat, label);
     }
+}
+
+/* Opens by seats what no configuration has opened already. */
+static void begin(struct run *run)
+{
+    for (uint32_t seat = 0; seat < run->count; seat++)
+        run->client[0][seat] = seat;
+    if (nit_state(&run->server[0]).kind == NIT_NO_SERVER)
+        open_by_seats(run, 0, run->count);
+    open_by_seats(run, 1, NIT_MOST_SEATS);
     for (int k = 0; k < 2; k++) {
         run->frame[k] = guarded_words((size_t)run->width * run->height);
         struct nit_state state = nit_state(&run->server[k]);
         CHECK(state.width == run->width && state.height == run->height);
-        CHECK(state.seats == run->count);
+        CHECK(state.seats == (k == 0 ? run->count : NIT_MOST_SEATS));
     }
+}
+
+static bool read_screen(struct run *run, const char *line)
+{
+    return sscanf(line, "screen %u %u %u %u %u", &run->width, &run->height, &run->bar,
+                  &run->glyphs, &run->scale) == 5;
 }
 
 static void play(struct run *run, const char *line)
 {
     if (begins(line, "config "))
         open_by_text(run, line, line + 7);
-    else if (sscanf(line, "screen %u %u %u", &run->width, &run->height, &run->bar) == 3)
+    else if (read_screen(run, line))
         return;
     else if (begins(line, "seat "))
         add_seat(run, line);
     else if (begins(line, "begin"))
-        open_by_seats(run);
+        begin(run);
     else if (begins(line, "call "))
         play_call(run, line);
     else if (begins(line, "input "))

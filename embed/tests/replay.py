@@ -13,7 +13,9 @@ REPLAY makes the calls and the input of the journal with two servers, one that t
 opens and one that is opened by seats. Of each step are compared the reply or the deliveries, and
 the text. At each shot, and at the end, each live client refreshes all that its script has drawn by
 then; then the screen is to show the picture that tools/screen.py gives, and at the end also
-`final.ppm` of PROGRAM, and a look is to tell the least part that changed.
+`final.ppm` of PROGRAM, and a look is to tell the least part that changed. Then the run is made once
+more, by seats alone, on a screen whose texts are drawn in random letters (letters.py), by the
+journal that the rules give there.
 
 The status is 1 where a run differs. Its files are then kept, and said.
 """
@@ -25,13 +27,15 @@ sys.path.insert(0, os.path.join(HERE, os.pardir, os.pardir, "tools"))
 
 import runs  # first: it looks at the Python
 import argparse
+import random
 import subprocess
 import tempfile
 from pathlib import Path
 
 import model
 from cases import case_of
-from expected import expected_of
+from expected import expected_of, outputs_by_turns
+from letters import LetteredScene, Letters
 from screen import Scene
 
 
@@ -50,6 +54,11 @@ def cases_from(seed):
         seed += 1
 
 
+def files_of(files):
+    """The journal's lines and the last picture of what a run puts."""
+    return files["journal.txt"].decode("latin-1").split("\n")[:-1], files["final.ppm"]
+
+
 def files_of_run(case, want, program, folder):
     """The journal's lines and the last picture: the program's, or those of the rules."""
     files = want.puts
@@ -60,22 +69,33 @@ def files_of_run(case, want, program, folder):
         if outcome.status != 0:
             raise Refused(f"the program ends with {outcome.status}: {outcome.said!r}")
         files = outcome.files
-    return files["journal.txt"].decode("latin-1").split("\n")[:-1], files["final.ppm"]
+    return files_of(files)
+
+
+def letters_for(config, seed):
+    """Letters whose status bar leaves a row of the screen, where it has one."""
+    rng, screen = random.Random(f"letters {seed}"), config["screen"]
+    while True:
+        letters = Letters(rng.random() < 0.5, rng.choice([1, 1, 1, 2, 2, 3, 4, 5, 6, 7, 8]))
+        if not screen.get("bar") or letters.height < screen["height"]:
+            return letters
 
 
 class Play:
     """The lines of a play, and its files. It goes along the journal with the rules beside."""
 
-    def __init__(self, setup, folder):
-        self.scene, self.folder = Scene(setup.config), folder
+    def __init__(self, setup, folder, letters=None):
+        self.scene = LetteredScene(setup.config, letters) if letters else Scene(setup.config)
+        self.folder, self.pictures = folder, 0
         self.scripts = [list(lines) for lines in setup.clients]
-        self.lines, self.pictures = self.head(setup.config), 0
+        self.lines = self.head(setup.config, letters)
 
     @staticmethod
-    def head(config):
-        screen = config["screen"]
-        lines = ["config c.toml"]
-        lines.append(f"screen {screen['width']} {screen['height']} {int(screen.get('bar', False))}")
+    def head(config, letters):
+        screen, lines = config["screen"], [] if letters else ["config c.toml"]
+        drawn = f"{int(letters.is_large)} {letters.scale}" if letters else "0 1"
+        lines.append(f"screen {screen['width']} {screen['height']} {int(screen.get('bar', False))} "
+                     f"{drawn}")
         for client in config["client"]:
             clicks = int(client.get("focus", "click") == "click")
             lines.append(f"seat {client['donation']} {client.get('layer', 0)} {clicks} "
@@ -121,10 +141,10 @@ class Play:
             raise Refused(f"no entry: {entry!r}")
 
 
-def make_play(case, want, program, folder):
+def make_play(case, want, files, folder, letters=None):
     """Puts the play of a case and its files into the folder."""
-    journal, last = files_of_run(case, want, program, folder / "run")
-    play = Play(want.setup, folder)
+    journal, last = files
+    play = Play(want.setup, folder, letters)
     (folder / "c.toml").write_bytes(case.files["c.toml"])
     for entry in journal[:-1]:
         play.entry(entry)
@@ -133,22 +153,36 @@ def make_play(case, want, program, folder):
     play.picture()
     play.picture(last)
     (folder / "play").write_text("".join(line + "\n" for line in play.lines))
-    return len(journal)
 
 
-def fault_of(replay, case, want, program, folder):
-    """What is wrong with a case, or none; and how many entries it has."""
-    try:
-        entries = make_play(case, want, program, folder)
-    except Refused as why:
-        return str(why), 0
+def fault_of_play(replay, folder):
+    """What is wrong with a play, or none."""
     try:
         ended = subprocess.run([replay, "play"], cwd=folder, capture_output=True, text=True,
                                errors="replace", timeout=runs.SECONDS, check=False)
     except subprocess.TimeoutExpired:
-        return f"not over after {runs.SECONDS} s", entries
+        return f"not over after {runs.SECONDS} s"
     if ended.returncode != 0:
-        return f"status {ended.returncode}: {ended.stderr.strip()[:2000]}", entries
+        return f"status {ended.returncode}: {ended.stderr.strip()[:2000]}"
+    return None
+
+
+def fault_of(replay, numbered, program, folder):
+    """What is wrong with a case, or none; and how many entries it has. It is played once as it is,
+    and once in letters of its seed."""
+    seed, case, want = numbered
+    letters, entries = letters_for(want.setup.config, seed), 0
+    try:
+        for lettered in (None, letters):
+            files = files_of_run(case, want, program, folder / "run") if not lettered else \
+                files_of(outputs_by_turns(want.setup, LetteredScene(want.setup.config, letters)))
+            make_play(case, want, files, folder, lettered)
+            entries += len(files[0])
+            fault = fault_of_play(replay, folder)
+            if fault:
+                return f"{fault} (lettered)" if lettered else fault, entries
+    except Refused as why:
+        return str(why), entries
     return None, entries
 
 
@@ -173,9 +207,10 @@ def main(words):
     progress, cases = runs.Progress(given.runs), cases_from(given.seed)
     for number in range(given.runs):
         progress.tell(number, "run")
-        seed, case, want = next(cases)
+        numbered = next(cases)
+        seed = numbered[0]
         with tempfile.TemporaryDirectory(prefix="replay-") as top:
-            fault, count = fault_of(replay, case, want, program, Path(top))
+            fault, count = fault_of(replay, numbered, program, Path(top))
             entries += count
             if fault:
                 failed += 1

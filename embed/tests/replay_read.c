@@ -65,3 +65,19 @@ struct nit_routed routed_in(const char *line)
     }
     return routed;
 }
+
+uint8_t *picture_in(const char *name, uint32_t width, uint32_t height)
+{
+    uint32_t w = 0, h = 0;
+    size_t size = 3 * (size_t)width * height;
+    FILE *file = fopen(name, "rb");
+    uint8_t *pixels = file ? malloc(size) : NULL;
+    bool is_one = pixels && fscanf(file, "P6 %u %u 255", &w, &h) == 2 && fgetc(file) == '\n'
+                  && w == width && h == height && fread(pixels, 1, size, file) == size;
+    if (file)
+        fclose(file);
+    if (is_one)
+        return pixels;
+    free(pixels);
+    return NULL;
+}

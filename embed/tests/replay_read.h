@@ -1,4 +1,4 @@
-/* Replies and deliveries by their spelling in docs/FORMATS.md. */
+/* Replies, deliveries and pictures by their form in docs/FORMATS.md. */
 #ifndef REPLAY_READ_H
 #define REPLAY_READ_H
 
@@ -11,5 +11,8 @@ struct nit_reply reply_in(const char *text);
 
 /* The deliveries behind the line of a device event. */
 struct nit_routed routed_in(const char *line);
+
+/* The bytes of the pixels of a picture file of this size, to be freed, or NULL where it is none. */
+uint8_t *picture_in(const char *name, uint32_t width, uint32_t height);
 
 #endif

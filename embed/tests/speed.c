@@ -3,13 +3,15 @@
  * kilobytes that are resident then, of which each program has some 2,000 by itself. Linked with
  * plain.c in the place of the archive it times a plain compositor instead.
  *
+ * A work is done again and again for LONG nanoseconds or more, TIMES times.
+ *
  * usage: speed */
 #include "nitpicker.h"
 #include <stdio.h>
 #include <stdlib.h>
 #include <time.h>
 
-enum { MOST = 3840 * 2160, TIMES = 40, VIEWS = 64 };
+enum { MOST = 3840 * 2160, TIMES = 20, LONG = 2000000, VIEWS = 64 };
 
 static struct nit_server server;
 static nit_client client[2];
@@ -33,10 +35,26 @@ static double now(void)
     return 1e9 * (double)at.tv_sec + (double)at.tv_nsec;
 }
 
+/* ---- Looks. */
+
+/* A look at words of the whole screen, which changes this part. */
 static void look(uint32_t w, uint32_t h)
 {
     struct nit_rect part = nit_look(&server, frame, (size_t)width * height);
     must(part.kind == NIT_DONE && part.w == w && part.h == h, "another part changed");
+}
+
+/* A look by damage, whose parts are copied to these words. */
+static void copy(void)
+{
+    struct nit_damage damage = nit_damage(&server);
+    must(damage.kind == NIT_DONE && damage.count > 0, "nothing changed");
+    for (uint32_t k = 0; k < damage.count; k++) {
+        const struct nit_part *part = &damage.part[k];
+        size_t at = (size_t)part->y * width + part->x;
+        must(nit_copy(&server, part->x, part->y, part->w, part->h, frame + at,
+                      (size_t)width * height - at, width) == NIT_DONE, "not copied");
+    }
 }
 
 /* ---- The works. Each is one step of a host, with what follows it. */
@@ -51,59 +69,68 @@ static void refresh(uint32_t w, uint32_t h)
 {
     turn++;
     hand_in(0, 0, 0, w, h);
-    look(w, h);
 }
 
-static void small_refresh(void)
+static void small_look(void)
 {
     refresh(200, 200);
+    look(200, 200);
 }
 
-static void large_refresh(void)
+static void small_copy(void)
+{
+    refresh(200, 200);
+    copy();
+}
+
+static void large_look(void)
 {
     refresh(1000, 700);
+    look(1000, 700);
 }
 
-static void whole_refresh(void)
+static void large_copy(void)
+{
+    refresh(1000, 700);
+    copy();
+}
+
+static void whole_look(void)
 {
     refresh(width, height);
+    look(width, height);
+}
+
+static void whole_copy(void)
+{
+    refresh(width, height);
+    copy();
+}
+
+/* The first pixel changes. */
+static void one_corner(void)
+{
+    refresh(1, 1);
+    copy();
 }
 
 /* The first and the last pixel change, and nothing between. */
 static void corners(void)
 {
-    turn++;
-    hand_in(0, 0, 0, 1, 1);
+    refresh(1, 1);
     hand_in(0, width - 1, height - 1, 1, 1);
+}
+
+static void corners_look(void)
+{
+    corners();
     look(width, height);
 }
 
-/* A look by damage, whose parts are copied. */
-static void copy_damage(void)
+static void corners_copy(void)
 {
-    struct nit_damage damage = nit_damage(&server);
-    must(damage.kind == NIT_DONE && damage.count > 0, "nothing changed");
-    for (uint32_t k = 0; k < damage.count; k++) {
-        const struct nit_part *part = &damage.part[k];
-        size_t at = (size_t)part->y * width + part->x;
-        must(nit_copy(&server, part->x, part->y, part->w, part->h, frame + at,
-                      (size_t)width * height - at, width) == NIT_DONE, "not copied");
-    }
-}
-
-static void copied_corners(void)
-{
-    turn++;
-    hand_in(0, 0, 0, 1, 1);
-    hand_in(0, width - 1, height - 1, 1, 1);
-    copy_damage();
-}
-
-static void copied_refresh(void)
-{
-    turn++;
-    hand_in(0, 0, 0, 1000, 700);
-    copy_damage();
+    corners();
+    copy();
 }
 
 static void no_event(void)
@@ -112,23 +139,44 @@ static void no_event(void)
 }
 
 /* One of 64 views goes one column to the right, or back. */
-static void moved_view(void)
+static void move(void)
 {
     uint32_t at = turn++ % VIEWS, by = turn / VIEWS % 2;
     must(nit_place(&server, client[1], at + 1, (int32_t)(at % 8 * 120 + by),
                    (int32_t)(at / 8 * 90 + 8), 60, 60).kind == NIT_DONE, "not placed");
+}
+
+static void move_look(void)
+{
+    move();
     must(nit_look(&server, frame, (size_t)width * height).kind == NIT_DONE, "no look");
 }
 
-static void tell(const char *name, void (*step)(void), uint32_t steps)
+static void move_copy(void)
+{
+    move();
+    copy();
+}
+
+/* ---- Timing. */
+
+static double steps_take(void (*step)(void), uint32_t steps)
+{
+    double begun = now();
+    for (uint32_t at = 0; at < steps; at++)
+        step();
+    return now() - begun;
+}
+
+static void tell(const char *name, void (*step)(void))
 {
     double least = 1e18;
+    uint32_t steps = 1;
     step();
+    while (steps_take(step, steps) < LONG)
+        steps *= 2;
     for (int k = 0; k < TIMES; k++) {
-        double begun = now();
-        for (uint32_t at = 0; at < steps; at++)
-            step();
-        double took = (now() - begun) / steps;
+        double took = steps_take(step, steps) / steps;
         least = took < least ? took : least;
     }
     printf("%s\t%.1f\n", name, least);
@@ -168,7 +216,7 @@ static void open_views(void)
         must(nit_view(&server, client[1]).handle == at + 1, "no view");
     hand_in(1, 0, 0, 60, 60);
     for (uint32_t at = 0; at < VIEWS; at++)
-        moved_view();
+        move();
 }
 
 /* All words of the large view are of one turn, so that the next one changes each. */
@@ -200,37 +248,39 @@ static void plain_screen(void)
 {
     open_screen(1024, 768, 1);
     open_views();
-    tell("one of 64 views moved, and a look", moved_view, 1000);
+    tell("one of 64 views moved, and a look", move_look);
+    tell("one of 64 views moved, and damage copied", move_copy);
     open_large_view(10, 20, 1000, 700);
-    tell("a refresh of 1000 by 700, and a look", large_refresh, 5);
-    tell("a refresh of 200 by 200, and a look", small_refresh, 50);
-    tell("a refresh of 1000 by 700, and damage copied", copied_refresh, 5);
-    tell("a call that changes nothing", no_event, 2000);
+    tell("a refresh of 1000 by 700, and a look", large_look);
+    tell("a refresh of 1000 by 700, and damage copied", large_copy);
+    tell("a refresh of 200 by 200, and a look", small_look);
+    tell("a refresh of 200 by 200, and damage copied", small_copy);
+    tell("a call that changes nothing", no_event);
     close_screen();
 }
 
-static void wide_screen(void)
+/* A work by its name behind the size of the screen. */
+static void tell_there(const char *name, void (*step)(void))
 {
-    open_screen(1920, 1080, 0);
-    open_views();
-    open_large_view(0, 0, width, height);
-    tell("a refresh of 1920 by 1080, and a look", whole_refresh, 1);
-    tell("1920 by 1080: a refresh of 200 by 200, and a look", small_refresh, 50);
+    char whole[100];
+    snprintf(whole, sizeof whole, "%u by %u: %s", width, height, name);
     settle();
-    tell("1920 by 1080: two corners refreshed, and a look", corners, 1);
-    close_screen();
+    tell(whole, step);
 }
 
-static void widest_screen(void)
+/* One view has the whole of a larger screen, and 64 stand behind it. */
+static void large_screen(uint32_t w, uint32_t h)
 {
-    open_screen(3840, 2160, 0);
+    open_screen(w, h, 0);
     open_views();
-    open_large_view(0, 0, width, height);
-    tell("a refresh of 3840 by 2160, and a look", whole_refresh, 1);
-    tell("3840 by 2160: a refresh of 200 by 200, and a look", small_refresh, 50);
-    settle();
-    tell("3840 by 2160: two corners refreshed, and a look", corners, 1);
-    tell("3840 by 2160: two corners refreshed, and damage copied", copied_corners, 1);
+    open_large_view(0, 0, w, h);
+    tell_there("all refreshed, and a look", whole_look);
+    tell_there("all refreshed, and damage copied", whole_copy);
+    tell_there("a refresh of 200 by 200, and a look", small_look);
+    tell_there("a refresh of 200 by 200, and damage copied", small_copy);
+    tell_there("a corner refreshed, and damage copied", one_corner);
+    tell_there("two corners refreshed, and a look", corners_look);
+    tell_there("two corners refreshed, and damage copied", corners_copy);
     close_screen();
 }
 
@@ -274,7 +324,7 @@ int main(void)
     opening();
     draw_words();
     plain_screen();
-    wide_screen();
-    widest_screen();
+    large_screen(1920, 1080);
+    large_screen(3840, 2160);
     return 0;
 }

@@ -7,7 +7,8 @@
  * 1 where none is given. Words that are read and frames that are written end where memory ends. In
  * a million calls each reply has to come up, and so have NIT_MOVED and NIT_OTHER_CLIENT. Each
  * eighth server, the first one too, may have a screen of up to 4096 by 4096 pixels, and then stands
- * for fewer calls; each eighth donation may be any.
+ * for fewer calls; one in eight may have up to 64 seats, and each eighth donation may be any. Texts
+ * are drawn in both kinds of glyphs and at each scale, and a hundred labels have to be found.
  */
 #include "storm.h"
 
@@ -173,12 +174,10 @@ static void sizes(struct storm *s)
     s->side = s->side < SIDE ? SIDE : s->side;
 }
 
-/* Opens a server of random size. A plan with a number too much is refused. */
-static void opens(struct storm *s)
+/* Seats of a plan, and what is remembered of them. */
+static void seats_of(struct storm *s, struct nit_seat_plan *seats)
 {
-    struct nit_seat_plan seats[16];
-    sizes(s);
-    s->seats = 1 + below(s, 4);
+    s->seats = 1 + below(s, below(s, 8) == 0 ? NIT_MOST_SEATS : 4);
     s->room = 0;
     for (uint32_t k = 0; k < s->seats; k++) {
         seats[k] = (struct nit_seat_plan){ any_donation(s), below(s, 3), below(s, 2) };
@@ -190,9 +189,45 @@ static void opens(struct storm *s)
     }
     s->turns = 0;
     s->room = s->room < MOST_WORDS ? s->room : MOST_WORDS;
-    struct nit_plan plan = { s->width, s->height, 2 + any(s) % 9, s->seats, seats };
+}
+
+/* How texts are drawn: mostly small on a screen of a few pixels. */
+static struct letters any_letters(struct storm *s)
+{
+    uint32_t most = s->side > SIDE || below(s, 8) == 0 ? 8 : 1 + below(s, 2);
+    return (struct letters){ .glyphs = below(s, 2), .scale = 1 + below(s, most) };
+}
+
+/* A plan with a number too much is refused, and so is a bar that leaves no row. Answers one that is
+ * not. */
+static struct nit_plan good_plan(struct storm *s, const struct nit_seat_plan *seats)
+{
+    struct nit_plan plan = { .width = s->width, .height = s->height, .bar = 2 + any(s) % 9,
+                             .count = s->seats, .seats = seats };
     CHECK(nit_open(&s->server, &plan) == NIT_BAD_PLAN);
-    plan.bar = s->bar = below(s, 2);
+    plan.bar = below(s, 2);
+    plan.glyphs = 2 + any(s) % 9;
+    CHECK(nit_open(&s->server, &plan) == NIT_BAD_PLAN);
+    s->letters = any_letters(s);
+    plan.glyphs = s->letters.glyphs;
+    plan.scale = 9 + any(s) % 9;
+    CHECK(nit_open(&s->server, &plan) == NIT_BAD_PLAN);
+    plan.scale = s->letters.scale;
+    if (plan.bar == 1 && letters_height(s->letters) >= s->height) {
+        CHECK(nit_open(&s->server, &plan) == NIT_BAD_PLAN);
+        plan.bar = 0;
+    }
+    return plan;
+}
+
+/* Opens a server of random size. */
+static void opens(struct storm *s)
+{
+    struct nit_seat_plan seats[NIT_MOST_SEATS];
+    sizes(s);
+    seats_of(s, seats);
+    const struct nit_plan plan = good_plan(s, seats);
+    s->bar = plan.bar == 1 ? letters_height(s->letters) : 0;
     CHECK(nit_open(&s->server, &plan) == NIT_DONE);
     CHECK(nit_open(&s->server, &plan) == NIT_IS_OPEN);
     s->length = 0;
@@ -251,6 +286,7 @@ int main(int count, char **words)
     for (uint32_t kind = NIT_DONE; kind <= NIT_SESSION_KILLED; kind++)
         CHECK(calls < 1000000 || (s.seen >> kind & 1) == 1);
     CHECK(calls < 1000000 || (s.seen >> NIT_MOVED & s.seen >> NIT_OTHER_CLIENT & 1) == 1);
+    CHECK(calls < 1000000 || s.labels >= 100);
     printf("storm: %llu calls\n", (unsigned long long)calls);
     return 0;
 }

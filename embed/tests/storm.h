@@ -2,13 +2,14 @@
 #ifndef STORM_H
 #define STORM_H
 
+#include "letters.h"
 #include "parts.h"
 
 /* The sides of most screens, those of the largest one, and the words of the largest buffer. */
 enum { SIDE = 64, MOST_SIDE = 4096, MOST_WORDS = MOST_SIDE * MOST_SIDE };
 
-/* The views of four clients, and the codes of keys and buttons. */
-enum { STANDING = 4 * NIT_MOST_VIEWS, CODES = 768 };
+/* The views of as many clients as there are labels, and the codes of keys and buttons. */
+enum { STANDING = 5 * NIT_MOST_VIEWS, CODES = 768 };
 
 /* The most words that a part is copied to. */
 enum { SCRATCH = 1 << 14 };
@@ -31,23 +32,26 @@ struct stack {
 /* The server, what the host remembers of it, and the memory that it lends: its size, below what
  * most numbers are, and how many words are lent; how many servers there were; the label of each
  * seat as a number, the name of its client and this one's last view; how many clients have come;
- * which kinds of replies there were; the text of the last step; and, for clicks, how views stand,
- * how the last look showed them, and which codes are held. */
+ * which kinds of replies there were; the text of the last step; for clicks, how views stand, how
+ * the last look showed them, and which codes are held; and for texts, how they are drawn, how many
+ * rows the status bar has, and how many labels were found. */
 struct storm {
     struct random random;
     struct nit_server server;
     uint32_t width, height, seats, side, room, servers;
-    int label[16];
-    nit_client client[16];
+    int label[NIT_MOST_SEATS];
+    nit_client client[NIT_MOST_SEATS];
     uint64_t turns;
-    uint32_t handle[16];
+    uint32_t handle[NIT_MOST_SEATS];
     uint64_t seen;
     uint32_t *words, *frame, *other, *scratch; /* but for `other` they end where memory ends */
     char line[NIT_LINE];
     size_t length;
     struct stack standing, shown;
-    uint32_t layer[16], bar;
+    uint32_t layer[NIT_MOST_SEATS], bar;
     bool is_held[CODES];
+    struct letters letters;
+    uint64_t labels;
 };
 
 /* Random numbers: below `most`, one of any size, and a client that mostly sits there. */
@@ -74,6 +78,9 @@ void user_restacks(struct storm *s);
 /* Random looks and copies, and what has to hold of them: storm_looks.c. */
 void looks(struct storm *s);
 void copies(struct storm *s);
+
+/* The status bar and the labels are on the screen, which was looked at: storm_texts.c. */
+void shows_texts(struct storm *s);
 
 /* Calls whose effect on clicks is followed, and what else has one: storm_shown.c. `to` of a place
  * names its view by the handle. It is checked that a press is refused where it has to be. */

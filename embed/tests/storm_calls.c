@@ -258,12 +258,13 @@ static struct nit_routed press_or_release(struct storm *s, bool *is_served)
 
 void user_does(struct storm *s)
 {
-    uint32_t x = any(s), y = any(s), live = 0;
+    uint32_t x = any(s), y = any(s);
     int32_t turn = (int32_t)(any(s) - SIDE / 2);
+    uint64_t live = 0;
     bool is_served;
     struct nit_routed r;
     for (uint32_t seat = 0; seat < s->seats; seat++)
-        live |= (nit_seat_state(&s->server, seat).status == NIT_SEAT_LIVE ? 1u : 0u) << seat;
+        live |= (uint64_t)(nit_seat_state(&s->server, seat).status == NIT_SEAT_LIVE) << seat;
     switch (below(s, 4)) {
     case 0:
     case 1: r = press_or_release(s, &is_served); break;
@@ -291,7 +292,7 @@ void user_does(struct storm *s)
 void user_restacks(struct storm *s)
 {
     struct nit_state state = nit_state(&s->server), now;
-    struct nit_seat_state seats[16];
+    struct nit_seat_state seats[NIT_MOST_SEATS];
     nit_client client = any_client(s);
     for (uint32_t seat = 0; seat < s->seats; seat++)
         seats[seat] = nit_seat_state(&s->server, seat);

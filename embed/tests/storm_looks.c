@@ -20,8 +20,8 @@ static void is_outside_the_same(const struct storm *s, struct nit_rect part, con
     CHECK(bits <= 0xFFFFFF);
 }
 
-/* A look tells where something changed, and leaves words at which a second look finds nothing. One
- * at a wrong number of words is none. */
+/* A look tells where something changed, and leaves words at which a second look finds nothing, and
+ * which have the texts of the screen. One at a wrong number of words is none. */
 void looks(struct storm *s)
 {
     size_t count = (size_t)s->width * s->height;
@@ -38,6 +38,7 @@ void looks(struct storm *s)
     part = shown_look(s);
     CHECK(part.w == 0 && part.h == 0);
     CHECK(memcmp(frame, other, 4 * count) == 0);
+    shows_texts(s);
 }
 
 /* ---- Copies. */

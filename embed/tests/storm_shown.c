@@ -55,7 +55,7 @@ static uint32_t before_layer(const struct storm *s, uint32_t layer)
 static const struct placed *owner(const struct storm *s, const struct stack *stack, uint32_t x,
                                   uint32_t y)
 {
-    if (x >= s->width || y >= s->height || (s->bar == 1 && y < 7))
+    if (x >= s->width || y >= s->height || y < s->bar)
         return NULL;
     for (uint32_t at = 0; at < stack->count; at++) {
         const struct placed *view = &stack->views[at];

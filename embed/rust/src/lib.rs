@@ -8,7 +8,8 @@
 //!
 //! # fn main() -> Result<(), Refusal> {
 //! let seats = [SeatPlan { donation: 65536, layer: 0, clicks: true }; 4];
-//! let mut server = Server::open(&Plan { width: 64, height: 48, bar: true, seats: &seats })?;
+//! let plan = Plan { width: 64, height: 48, bar: true, seats: &seats, ..Plan::default() };
+//! let mut server = Server::open(&plan)?;
 //!
 //! let client = server.sit("clock", 0)?; // a client has come
 //! let mut clock = server.seat(client);
@@ -89,16 +90,51 @@ pub struct SeatPlan {
     pub clicks: bool,
 }
 
-/// A server that is to be opened.
-#[derive(Clone, Copy, Debug)]
+/// The glyphs that a text is drawn in.
+#[derive(Clone, Copy, Debug, PartialEq, Eq)]
+pub enum Glyphs {
+    /// Each has 3 by 5 dots.
+    Small,
+    /// Each has 5 by 7 dots, and any two differ in at least five of them.
+    Large,
+}
+
+/// How labels and the status bar are drawn.
+///
+/// The picture of a text of n characters is `scale * (4 * n + 1)` pixels wide and `scale * 7` high
+/// in small glyphs, and `scale * (6 * n + 1)` wide and `scale * 9` high in large ones. A label is
+/// such a picture; the status bar is as high, and as wide as the screen.
+#[derive(Clone, Copy, Debug, PartialEq, Eq)]
+pub struct Lettering {
+    /// The glyphs of each text.
+    pub glyphs: Glyphs,
+    /// A dot is so many pixels wide and high, 1..=8.
+    pub scale: u32,
+}
+
+/// Small glyphs, and dots of one pixel.
+impl Default for Lettering {
+    fn default() -> Self {
+        Lettering {
+            glyphs: Glyphs::Small,
+            scale: 1,
+        }
+    }
+}
+
+/// A server that is to be opened. The default has no pixel and no seat, which is refused; it is
+/// there for what a plan leaves out: `Plan { width, height, seats, ..Plan::default() }`.
+#[derive(Clone, Copy, Debug, Default)]
 pub struct Plan<'a> {
     /// The width of the screen, 1..=4096 pixels.
     pub width: u32,
     /// The height of the screen, 1..=4096 pixels.
     pub height: u32,
-    /// Whether the seven topmost rows are the status bar; then there are at least eight.
+    /// Whether the topmost rows are the status bar; a row is left below.
     pub bar: bool,
-    /// The seats, 1..=16 of them.
+    /// How labels and the status bar are drawn.
+    pub lettering: Lettering,
+    /// The seats, 1..=64 of them.
     pub seats: &'a [SeatPlan],
 }
 
@@ -153,27 +189,48 @@ impl Server {
         let words: Vec<u32> = plan
             .seats
             .iter()
-            .take(17)
+            .take(MOST_SEATS as usize + 1)
             .flat_map(|seat| [seat.donation, seat.layer, u32::from(seat.clicks)])
             .collect();
-        let (mut raw, bar) = (closed(), u32::from(plan.bar));
-        let (seats, count) = (words.as_ptr(), words.len());
-        // SAFETY: the handle is closed, and the words are `count` ones that nobody else has.
-        let answer =
-            unsafe { raw::nit_open_seats_2(&mut raw, plan.width, plan.height, bar, seats, count) };
+        let mut raw = closed();
+        // SAFETY: the handle is closed, and the words are so many that nobody else has.
+        let answer = unsafe {
+            raw::nit_open_seats_3(
+                &mut raw,
+                plan.width,
+                plan.height,
+                u32::from(plan.bar),
+                u32::from(plan.lettering.glyphs == Glyphs::Large),
+                plan.lettering.scale,
+                words.as_ptr(),
+                words.len(),
+            )
+        };
         Server::of(answer, raw)
     }
 
     /// Opens a server by the text of a configuration (`docs/FORMATS.md`). Its clients sit on the
-    /// seats from the start, in their order.
+    /// seats from the start, in their order. Its texts are drawn by [`Lettering::default`].
     ///
     /// # Errors
     /// [`Refusal::Config`], [`Refusal::NoMemory`].
     pub fn open_config(text: &str) -> Reply<Self> {
         let mut raw = closed();
         // SAFETY: the handle is closed, and the text has so many bytes.
-        let answer = unsafe { raw::nit_open_config_2(&mut raw, text.as_ptr().cast(), text.len()) };
+        let answer = unsafe { raw::nit_open_config_3(&mut raw, text.as_ptr().cast(), text.len()) };
         Server::of(answer, raw)
+    }
+
+    /// The line, counted from 1, in which the text of a configuration stops being TOML: where
+    /// opening refuses it as [`ConfigRefusal::Syntax`], a person looks there first. None where the
+    /// text is TOML, is longer than 1,048,576 bytes, or memory runs out.
+    #[must_use]
+    pub fn config_line(text: &str) -> Option<u32> {
+        // SAFETY: the text has so many bytes.
+        match unsafe { raw::nit_config_line(text.as_ptr().cast(), text.len()) } {
+            0 | raw::NONE => None,
+            line => Some(line),
+        }
     }
 
     /// A key or a button goes down: 0..=767, as in Linux's `input-event-codes.h`.
@@ -226,7 +283,7 @@ impl Server {
     /// ```
     /// # use nitpicker::{Plan, Refusal, SeatPlan, Server};
     /// # let seats = [SeatPlan { donation: 512, layer: 0, clicks: true }];
-    /// # let plan = Plan { width: 8, height: 8, bar: false, seats: &seats };
+    /// # let plan = Plan { width: 8, height: 8, seats: &seats, ..Plan::default() };
     /// # let mut server = Server::open(&plan)?;
     /// let client = server.sit("a", 0)?;
     /// let first = server.seat(client).view()?;

@@ -88,7 +88,7 @@ impl Server {
     /// ```
     /// # use nitpicker::{Plan, Refusal, SeatPlan, Server};
     /// # let seats = [SeatPlan { donation: 256, layer: 0, clicks: true }];
-    /// # let plan = Plan { width: 8, height: 8, bar: false, seats: &seats };
+    /// # let plan = Plan { width: 8, height: 8, seats: &seats, ..Plan::default() };
     /// # let mut server = Server::open(&plan)?;
     /// let mut surface = [0; 8 * 10]; // of rows that are 10 words apart
     /// for part in server.damage()?.iter() {

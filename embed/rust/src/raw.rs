@@ -59,7 +59,7 @@ pub const NONE: u32 = u32::MAX;
 
 pub const MOST_WIDTH: u32 = 4096;
 pub const MOST_HEIGHT: u32 = 4096;
-pub const MOST_SEATS: u32 = 16;
+pub const MOST_SEATS: u32 = 64;
 pub const LEAST_UNITS: u32 = 256;
 pub const MOST_UNITS: u32 = 268_435_456;
 pub const MOST_VIEWS: u32 = 64;
@@ -194,15 +194,18 @@ pub struct ViewState {
 }
 
 extern "C" {
-    pub fn nit_open_seats_2(
+    pub fn nit_open_seats_3(
         server: *mut Server,
         width: u32,
         height: u32,
         bar: u32,
+        glyphs: u32,
+        scale: u32,
         seats: *const u32,
         words: usize,
     ) -> u32;
-    pub fn nit_open_config_2(server: *mut Server, text: *const c_char, length: usize) -> u32;
+    pub fn nit_open_config_3(server: *mut Server, text: *const c_char, length: usize) -> u32;
+    pub fn nit_config_line(text: *const c_char, length: usize) -> u32;
     pub fn nit_close(server: *mut Server) -> u32;
     pub fn nit_seat(server: *mut Server, seat: u32, label: *const c_char, length: usize) -> Seated;
     pub fn nit_seat_for(

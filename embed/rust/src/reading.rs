@@ -146,7 +146,7 @@ impl Server {
     /// ```
     /// # use nitpicker::{Plan, Refusal, SeatPlan, Server};
     /// # let seats = [SeatPlan { donation: 256, layer: 0, clicks: true }];
-    /// # let plan = Plan { width: 8, height: 8, bar: false, seats: &seats };
+    /// # let plan = Plan { width: 8, height: 8, seats: &seats, ..Plan::default() };
     /// # let mut server = Server::open(&plan)?;
     /// server.motion(3, 9)?;
     /// assert_eq!(server.entry()?.as_deref(), Some("input motion 3 9\n"));

@@ -73,7 +73,7 @@ impl Server {
     /// ```
     /// # use nitpicker::{Plan, Refusal, SeatPlan, Server};
     /// # let seats = [SeatPlan { donation: 256, layer: 0, clicks: true }; 2];
-    /// # let plan = Plan { width: 8, height: 8, bar: false, seats: &seats };
+    /// # let plan = Plan { width: 8, height: 8, seats: &seats, ..Plan::default() };
     /// # let mut server = Server::open(&plan)?;
     /// let (a, b) = (server.sit("a", 0)?, server.sit("b", 0)?);
     /// assert_eq!((a.seat(), b.seat()), (0, 1));
@@ -137,7 +137,7 @@ impl Seat<'_> {
     /// ```
     /// # use nitpicker::{Plan, Refusal, SeatPlan, Server};
     /// # let seats = [SeatPlan { donation: 1000, layer: 0, clicks: true }];
-    /// # let plan = Plan { width: 8, height: 8, bar: false, seats: &seats };
+    /// # let plan = Plan { width: 8, height: 8, seats: &seats, ..Plan::default() };
     /// # let mut server = Server::open(&plan)?;
     /// # let client = server.sit("a", 0)?;
     /// let mut seat = server.seat(client); // of 1000 units

@@ -41,7 +41,7 @@ impl Server {
     /// ```
     /// # use nitpicker::{Plan, Refusal, SeatPlan, Server};
     /// # let seats = [SeatPlan { donation: 1000, layer: 0, clicks: true }];
-    /// # let plan = Plan { width: 8, height: 8, bar: false, seats: &seats };
+    /// # let plan = Plan { width: 8, height: 8, seats: &seats, ..Plan::default() };
     /// # let mut server = Server::open(&plan)?;
     /// # let client = server.sit("a", 0)?;
     /// let view = server.seat(client).view()?;
@@ -114,7 +114,7 @@ impl Server {
     /// ```
     /// # use nitpicker::{Plan, Refusal, SeatPlan, Server};
     /// # let seats = [SeatPlan { donation: 256, layer: 0, clicks: true }];
-    /// # let plan = Plan { width: 8, height: 8, bar: false, seats: &seats };
+    /// # let plan = Plan { width: 8, height: 8, seats: &seats, ..Plan::default() };
     /// # let mut server = Server::open(&plan)?;
     /// server.press(30)?;
     /// server.press(48)?;

@@ -2,8 +2,8 @@
 //! the C programs of `embed/tests`.
 
 use nitpicker::{
-    Client, ConfigRefusal, Delivery, Event, Item, Mode, Plan, Rect, Refusal, SeatPlan, Server,
-    Status, View,
+    Client, ConfigRefusal, Delivery, Event, Glyphs, Item, Lettering, Mode, Plan, Rect, Refusal,
+    SeatPlan, Server, Status, View,
 };
 
 const SEAT: SeatPlan = SeatPlan {
@@ -16,8 +16,8 @@ fn opened() -> Server {
     let plan = Plan {
         width: 32,
         height: 24,
-        bar: false,
         seats: &[SEAT; 2],
+        ..Plan::default()
     };
     Server::open(&plan).unwrap()
 }
@@ -57,7 +57,7 @@ fn plans_are_refused_by_name() {
         (8, nitpicker::MOST_HEIGHT + 1, false, 1),
         (8, 7, true, 1),
         (8, 8, false, 0),
-        (8, 8, false, 17),
+        (8, 8, false, nitpicker::MOST_SEATS as usize + 1),
     ] {
         let seats = vec![SEAT; count];
         let plan = Plan {
@@ -65,9 +65,32 @@ fn plans_are_refused_by_name() {
             height,
             bar,
             seats: &seats,
+            ..Plan::default()
         };
         assert_eq!(Server::open(&plan).unwrap_err(), Refusal::BadPlan);
     }
+}
+
+/// A bar of large glyphs, each dot `scale` by `scale` pixels, has `9 * scale` rows, and leaves one.
+#[test]
+fn a_lettering_has_its_bar() {
+    let opened = |glyphs, scale, height| {
+        Server::open(&Plan {
+            width: 1,
+            height,
+            bar: true,
+            lettering: Lettering { glyphs, scale },
+            seats: &[SEAT],
+        })
+        .map(|_| ())
+    };
+    assert_eq!(opened(Glyphs::Small, 8, 57), Ok(()));
+    assert_eq!(opened(Glyphs::Small, 8, 56), Err(Refusal::BadPlan));
+    assert_eq!(opened(Glyphs::Large, 2, 19), Ok(()));
+    assert_eq!(opened(Glyphs::Large, 2, 18), Err(Refusal::BadPlan));
+    assert_eq!(opened(Glyphs::Small, 0, 4096), Err(Refusal::BadPlan));
+    assert_eq!(opened(Glyphs::Large, 9, 4096), Err(Refusal::BadPlan));
+    assert_eq!(Lettering::default().scale, 1);
 }
 
 #[test]
@@ -89,6 +112,8 @@ fn configurations_are_refused_by_name() {
         let refused = Server::open_config(text).unwrap_err();
         assert_eq!(refused, Refusal::Config(refusal));
     }
+    assert_eq!(Server::config_line(good), None);
+    assert_eq!(Server::config_line("a = 1\n[screen"), Some(2));
 }
 
 #[test]
@@ -168,8 +193,8 @@ fn a_former_client_reaches_nobody() {
     let mut small = Server::open(&Plan {
         width: 8,
         height: 8,
-        bar: false,
         seats: &[SEAT],
+        ..Plan::default()
     })
     .unwrap();
     assert_eq!(small.seat(b).view(), Err(Refusal::NoSeat));
