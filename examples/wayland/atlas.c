@@ -3,7 +3,7 @@
  *
  * So a surface is one view, which shows just its room. The atlas never changes its shape, and a
  * room moves only where its surface has another size. */
-#include "host.h"
+#include "desk.h"
 #include <string.h>
 
 /* ---- Rooms */
@@ -14,7 +14,7 @@ static bool is_free(const struct surface *surface, struct box room)
     wl_list_for_each(other, &surface->client->surfaces, link)
         if (other != surface && box_both(other->room, room).w > 0)
             return false;
-    return room.x + room.w <= host.atlas_w && room.y + room.h <= host.atlas_h;
+    return room.x + room.w <= desk.atlas_w && room.y + room.h <= desk.atlas_h;
 }
 
 /* The surface has a room of the size that it needs: its old one, or one at the right of another or
@@ -50,7 +50,7 @@ bool atlas_take(struct surface *surface)
 static void refresh(const struct client *client, struct box part)
 {
     nit_refresh(&host.server, client->name, part.x, part.y, (uint32_t)part.w, (uint32_t)part.h,
-                client->words, (size_t)host.atlas_w * (size_t)host.atlas_h);
+                client->words, (size_t)desk.atlas_w * (size_t)desk.atlas_h);
 }
 
 /* What stands below a row of a surface: the parent's words, and else the bare screen. */
@@ -67,7 +67,7 @@ static void under(const struct surface *surface, struct box row, uint32_t *words
     struct box both = box_both(row, (struct box){ 0, 0, room.w, room.h });
     if (both.w > 0)
         memcpy(words + (both.x - row.x), surface->client->words + (size_t)(room.y + both.y) *
-               (size_t)host.atlas_w + room.x + both.x, 4 * (size_t)both.w);
+               (size_t)desk.atlas_w + room.x + both.x, 4 * (size_t)both.w);
 }
 
 /* A row of words over what stands below it. The core knows no alpha, so this is done once, when the
@@ -88,7 +88,7 @@ void atlas_fill(struct surface *surface)
 {
     const struct box room = surface->room;
     for (int32_t row = room.y; row < room.y + room.h; row++) {
-        uint32_t *to = surface->client->words + (size_t)row * (size_t)host.atlas_w + room.x;
+        uint32_t *to = surface->client->words + (size_t)row * (size_t)desk.atlas_w + room.x;
         SDL_memset4(to, 0x607080, (size_t)room.w);
     }
     refresh(surface->client, room);
@@ -104,7 +104,7 @@ void atlas_copy(struct surface *surface)
     struct box part = box_both(surface->stale, box_both(crop, kept));
     int32_t x = room.x + part.x - crop.x, y = room.y + part.y - crop.y;
     for (int32_t row = 0; row < part.h; row++) {
-        uint32_t *to = surface->client->words + (size_t)(y + row) * (size_t)host.atlas_w + x;
+        uint32_t *to = surface->client->words + (size_t)(y + row) * (size_t)desk.atlas_w + x;
         if (!buffer_read(buffer, part.x, part.y + row, part.w, buffer->opaque ? to : own)) {
             wl_resource_post_error(surface->held.buffer, WL_SHM_ERROR_INVALID_FD, "no such words");
             return;

@@ -1,5 +1,5 @@
 /* Rectangles. */
-#include "host.h"
+#include "desk.h"
 
 /* What both have, or nothing. */
 struct box box_both(struct box a, struct box b)

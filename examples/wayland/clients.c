@@ -3,11 +3,8 @@
  * A label says on which socket a client came: `foot` is the first connection to the socket of the
  * program foot, `foot.2` the next one beside it. What a client says of itself is nowhere in it. The
  * connection itself is in the hands of a porter (porter.c). */
-#include "host.h"
-
-#include <poll.h>
+#include "desk.h"
 #include <signal.h>
-#include <spawn.h>
 #include <stdio.h>
 #include <string.h>
 #include <sys/eventfd.h>
@@ -16,7 +13,7 @@
 
 enum {
     MOST_OF_A_PROGRAM = 9,
-    PORTERS = 64,             /* at once, also those that a program makes wait */
+    PORTERS = 4 * SEATS,      /* at once, also those that a program makes wait */
     KNOCK = 50,               /* milliseconds between two connections of a program */
     REST = 1000               /* microseconds between two pieces of a client's requests */
 };
@@ -27,7 +24,7 @@ static void left(struct wl_listener *listener, void *data)
 {
     struct client *client = wl_container_of(listener, client, left);
     (void)data;
-    printf("desk: %s: left\n", client->label);
+    say("%s: left", client->label);
     nit_leave(&host.server, client->name);
     close(client->bell);
     xkb_state_unref(client->keys);
@@ -37,7 +34,7 @@ static void left(struct wl_listener *listener, void *data)
     client->wl = NULL;
     client->focused = false;
     client->typed = client->pointed = client->dragged = NULL;
-    host.mover = host.mover == client ? NULL : host.mover;
+    desk.mover = desk.mover == client ? NULL : desk.mover;
     host.changed = true;
     program_forget(client->program);
 }
@@ -47,8 +44,8 @@ static void left(struct wl_listener *listener, void *data)
 void client_end(struct client *client)
 {
     struct program *program = client->program;
-    printf("desk: %s: locked out by the user\n", client->label);
-    for (struct client *other = host.clients; other < host.clients + SEATS; other++)
+    say("%s: locked out by the user", client->label);
+    for (struct client *other = desk.clients; other < desk.clients + SEATS; other++)
         if (other->wl && other->program == program) {
             kill(other->porter, SIGKILL);
             wl_client_destroy(other->wl);
@@ -64,9 +61,7 @@ static bool sit_down(const struct program *program, char *label, uint32_t *turn,
 {
     for (*turn = 1; *turn <= MOST_OF_A_PROGRAM; ++*turn) {
         int length = snprintf(label, LABEL, *turn > 1 ? "%s.%u" : "%s", program->name, *turn);
-        *seated = nit_seat_for(&host.server, label, (size_t)length, LAYER);
-        if (seated->kind == NIT_DONE)
-            *seated = nit_seat(&host.server, seated->seat, label, (size_t)length);
+        *seated = server_seat(label, (size_t)length, LAYER);
         if (seated->kind == NIT_DONE)
             return true;
     }
@@ -81,9 +76,9 @@ static bool come(struct program *program, int descriptor)
     struct nit_seated seated;
     if (!sit_down(program, label, &turn, &seated))
         return false;
-    struct client *client = &host.clients[seated.seat];
-    uint32_t *words = calloc((size_t)host.atlas_w * (size_t)host.atlas_h, sizeof *words);
-    struct wl_client *wl = words ? wl_client_create(host.display, descriptor) : NULL;
+    struct client *client = &desk.clients[seated.seat];
+    uint32_t *words = calloc((size_t)desk.atlas_w * (size_t)desk.atlas_h, sizeof *words);
+    struct wl_client *wl = words ? wl_client_create(desk.display, descriptor) : NULL;
     if (!wl) {
         nit_leave(&host.server, seated.client);
         free(words);
@@ -91,7 +86,7 @@ static bool come(struct program *program, int descriptor)
     }
     *client = (struct client){ .wl = wl, .name = seated.client, .program = program, .turn = turn,
                                .porter = program->porter, .bell = program->bell, .words = words,
-                               .left.notify = left, .keys = xkb_state_new(host.keymap) };
+                               .left.notify = left, .keys = xkb_state_new(desk.keymap) };
     memcpy(client->label, label, LABEL);
     struct wl_list *lists[] = { &client->surfaces, &client->keyboards, &client->pointers,
                                 &client->devices, &client->outputs };
@@ -99,8 +94,8 @@ static bool come(struct program *program, int descriptor)
         wl_list_init(lists[at]);
     wl_client_add_destroy_listener(wl, &client->left);
     objects_watch(client);
-    nit_buffer(&host.server, client->name, (uint32_t)host.atlas_w, (uint32_t)host.atlas_h);
-    printf("desk: %s: seat %u\n", label, seated.seat);
+    nit_buffer(&host.server, client->name, (uint32_t)desk.atlas_w, (uint32_t)desk.atlas_h);
+    say("%s: seat %u", label, seated.seat);
     return true;
 }
 
@@ -136,28 +131,16 @@ static bool beside(char *path, size_t room)
     return length > 0;
 }
 
-/* Starts a porter with these descriptors as its 3, 4 and 5. */
+/* Starts a porter with these descriptors as its 3, 4 and 5. Its standard error is the host's. */
 static pid_t porter(int listener, int end, int bell)
 {
     static char *const nothing[] = { NULL };
     char path[512];
     char *const words[] = { path, NULL };
-    posix_spawn_file_actions_t actions;
+    const int files[] = { -1, -1, STDERR_FILENO, listener, end, bell };
+    const struct start start = { path, words, nothing, files, 6 };
     pid_t process = 0;
-    int high = SDL_max(5, SDL_max(listener, SDL_max(end, bell))) + 1; /* free in the new process */
-    if (!beside(path, sizeof path))
-        return 0;
-    posix_spawn_file_actions_init(&actions);
-    posix_spawn_file_actions_adddup2(&actions, listener, high);
-    posix_spawn_file_actions_adddup2(&actions, end, high + 1);
-    posix_spawn_file_actions_adddup2(&actions, bell, high + 2);
-    posix_spawn_file_actions_adddup2(&actions, high, 3);
-    posix_spawn_file_actions_adddup2(&actions, high + 1, 4);
-    posix_spawn_file_actions_adddup2(&actions, high + 2, 5);
-    posix_spawn_file_actions_addclosefrom_np(&actions, 6);
-    int wrong = posix_spawn(&process, path, &actions, NULL, words, nothing);
-    posix_spawn_file_actions_destroy(&actions);
-    return wrong ? 0 : process;
+    return beside(path, sizeof path) && process_start(&start, &process) == 0 ? process : 0;
 }
 
 /* Somebody connects to a program's socket: a porter goes to the door, and the socket rests. */
@@ -168,15 +151,15 @@ int client_knocked(int socket, uint32_t mask, void *data)
     (void)mask;
     wl_event_source_fd_update(program->source, 0);
     wl_event_source_timer_update(program->timer, KNOCK);
-    if (program->door >= 0 || host.porters >= PORTERS ||
+    if (program->door >= 0 || desk.porters >= PORTERS ||
         socketpair(AF_UNIX, SOCK_STREAM | SOCK_CLOEXEC, 0, pair) < 0)
         return 0;
     program->bell = eventfd(0, EFD_CLOEXEC | EFD_NONBLOCK);
     program->porter = porter(socket, pair[1], program->bell);
-    host.porters += program->porter != 0;
+    desk.porters += program->porter != 0;
     program->door = pair[0];
     close(pair[1]);
-    program->arrival = wl_event_loop_add_fd(wl_display_get_event_loop(host.display), pair[0],
+    program->arrival = wl_event_loop_add_fd(wl_display_get_event_loop(desk.display), pair[0],
                                             WL_EVENT_READABLE, arrived, program);
     return 0;
 }
@@ -193,7 +176,7 @@ int client_rested(void *data)
 static void look_at_bells(struct pollfd *any)
 {
     for (int at = 0; at < SEATS; at++)
-        any[at] = (struct pollfd){ host.clients[at].wl ? host.clients[at].bell : -1, POLLIN, 0 };
+        any[at] = (struct pollfd){ desk.clients[at].wl ? desk.clients[at].bell : -1, POLLIN, 0 };
     poll(any, SEATS, 0);
 }
 
@@ -204,8 +187,8 @@ void clients_credit(uint64_t *next)
     const uint64_t time = now(), one = 1;
     struct pollfd any[SEATS];
     look_at_bells(any);
-    for (struct client *client = host.clients; client < host.clients + SEATS; client++) {
-        if (!client->wl || any[client - host.clients].revents != 0)
+    for (struct client *client = desk.clients; client < desk.clients + SEATS; client++) {
+        if (!client->wl || any[client - desk.clients].revents != 0)
             continue;
         if (client->rest > time) {
             *next = SDL_min(*next, client->rest);

@@ -3,7 +3,7 @@
  * What a client puts there is copied to the host at once, within bounds, and its source is told
  * that it is over. So no descriptor of one client reaches another, who copied learns nothing of who
  * pastes, and what was copied outlives it. All pipes here are those of porters. */
-#include "host.h"
+#include "desk.h"
 #include <errno.h>
 #include <fcntl.h>
 #include <string.h>
@@ -85,7 +85,7 @@ static void paste_begin(const struct form *form, int file)
         return;
     }
     *paste = (struct paste){ file, form, 0, NULL };
-    paste->to = wl_event_loop_add_fd(wl_display_get_event_loop(host.display), file,
+    paste->to = wl_event_loop_add_fd(wl_display_get_event_loop(desk.display), file,
                                      WL_EVENT_WRITABLE, paste_on, paste);
     if (!paste->to)
         close(file);
@@ -160,7 +160,7 @@ static void forget(struct copied *copied)
 
 static void tell_all(void)
 {
-    for (struct client *client = host.clients; client < host.clients + SEATS; client++)
+    for (struct client *client = desk.clients; client < desk.clients + SEATS; client++)
         if (client->wl && client->focused)
             clip_tell(client);
 }
@@ -228,7 +228,7 @@ static void ask(struct wl_resource *from, struct form *form)
     close(pair[1]);
     fcntl(pair[0], F_SETFL, O_NONBLOCK);
     form->file = pair[0];
-    form->from = wl_event_loop_add_fd(wl_display_get_event_loop(host.display), pair[0],
+    form->from = wl_event_loop_add_fd(wl_display_get_event_loop(desk.display), pair[0],
                                       WL_EVENT_READABLE, comes, form);
 }
 
@@ -237,7 +237,7 @@ static void choose(struct wl_resource *from)
 {
     const struct source *source = from ? object_data(from) : NULL;
     if (!patience)
-        patience = wl_event_loop_add_timer(wl_display_get_event_loop(host.display), impatient,
+        patience = wl_event_loop_add_timer(wl_display_get_event_loop(desk.display), impatient,
                                            NULL);
     if (origin)
         wl_data_source_send_cancelled(origin);
@@ -291,20 +291,12 @@ static void device_request(struct wl_resource *self, uint32_t number, union wl_a
 
 static const struct kind DEVICE = { &wl_data_device_interface, device_request, object_unlisted };
 
-static void source_new(struct client *client, uint32_t version, uint32_t id)
-{
-    struct source *source = calloc(1, sizeof *source);
-    if (!source || !object_new(client, &SOURCE, version, id, source)) {
-        free(source);
-        wl_client_post_no_memory(client->wl);
-    }
-}
-
 static void clipboard_request(struct wl_resource *self, uint32_t number, union wl_argument *with)
 {
     struct client *client = client_of(self);
     if (number == WL_DATA_DEVICE_MANAGER_CREATE_DATA_SOURCE) {
-        source_new(client, (uint32_t)wl_resource_get_version(self), with[0].n);
+        object_with(client, &SOURCE, (uint32_t)wl_resource_get_version(self), with[0].n,
+                    sizeof(struct source));
     } else if (number == WL_DATA_DEVICE_MANAGER_GET_DATA_DEVICE) {
         struct wl_resource *device = listener_new(self, &DEVICE, with[0].n, &client->devices);
         if (device && client->focused)

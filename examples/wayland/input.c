@@ -3,15 +3,15 @@
  * The library says which client an event goes to, and each client is told just what it takes from
  * its seat. Whose pixel the pointer is on says the library too; which of its surfaces that is, the
  * client's own views. */
-#include "host.h"
+#include "desk.h"
 
 /* The surface that a view of the library's shows, or NULL where nobody has it any more. */
 struct surface *input_surface(const struct nit_view_state *view)
 {
     struct surface *surface;
-    if (view->kind != NIT_DONE || !host.clients[view->seat].wl)
+    if (view->kind != NIT_DONE || !desk.clients[view->seat].wl)
         return NULL;
-    wl_list_for_each(surface, &host.clients[view->seat].surfaces, link)
+    wl_list_for_each(surface, &desk.clients[view->seat].surfaces, link)
         if (surface->view == view->view)
             return surface;
     return NULL;
@@ -89,7 +89,7 @@ static void motion(struct client *client, int32_t x, int32_t y)
     struct surface *old = client->pointed;
     client->x = x;
     client->y = y;
-    if (client->dragged && !host.mover)
+    if (client->dragged && !desk.mover)
         drag_to(client, x, y);
     if (client->dragged)
         return;
@@ -125,7 +125,7 @@ static void button(struct client *client, uint32_t code, bool down)
         pressed(client);
     client->buttons = down ? client->buttons + 1 : less;
     if (client->dragged && client->buttons == 0) {
-        client->dragged = NULL;
+        drag_end(client);
         point(client);
         return;
     }
@@ -216,10 +216,10 @@ static void take(struct client *client)
         tell(client, &reply.event);
 }
 
-void input_deliver(const struct nit_routed *routed)
+void host_delivers(const struct nit_routed *routed)
 {
     for (uint32_t at = 0; at < routed->count; at++) {
-        struct client *client = &host.clients[routed->to[at].seat];
+        struct client *client = &desk.clients[routed->to[at].seat];
         if (routed->to[at].event.kind != NIT_KILL)
             take(client);
         else if (client->wl)

@@ -1,7 +1,7 @@
 /* Keys: which of a client's surfaces is told of them, and its modifiers. Not proved.
  *
  * Modifiers come from the keys that went to this client, and no others. */
-#include "host.h"
+#include "desk.h"
 #include <string.h>
 #include <sys/mman.h>
 #include <unistd.h>
@@ -123,9 +123,9 @@ bool keyboard_start(void)
 {
     struct xkb_context *context = xkb_context_new(XKB_CONTEXT_NO_FLAGS);
     if (context)
-        host.keymap = xkb_keymap_new_from_names(context, NULL, XKB_KEYMAP_COMPILE_NO_FLAGS);
+        desk.keymap = xkb_keymap_new_from_names(context, NULL, XKB_KEYMAP_COMPILE_NO_FLAGS);
     xkb_context_unref(context);
-    if (host.keymap)
-        map = xkb_keymap_get_as_string(host.keymap, XKB_KEYMAP_FORMAT_TEXT_V1);
+    if (desk.keymap)
+        map = xkb_keymap_get_as_string(desk.keymap, XKB_KEYMAP_FORMAT_TEXT_V1);
     return map != NULL;
 }

@@ -3,7 +3,7 @@
  * Each interface is a function over the numbers of its requests. What it does not name does
  * nothing; a request `destroy` or `release` ends the object. A client that wants more objects than
  * it may have is told so by the protocol's own error, which ends it. */
-#include "host.h"
+#include "desk.h"
 #include <string.h>
 
 enum { OBJECTS = 4096, LISTENERS = 16, REGISTRIES = 16, NUMBERS = 65536 };
@@ -66,6 +66,24 @@ struct wl_resource *object_new(struct client *client, const struct kind *kind, u
     client->objects++;
     wl_resource_set_dispatcher(any, dispatch, object, object, gone);
     return any;
+}
+
+/* The same with data of its own, which is 0 at first. */
+struct wl_resource *object_with(struct client *client, const struct kind *kind, uint32_t version,
+                                uint32_t id, size_t size)
+{
+    void *data = calloc(1, size);
+    struct wl_resource *any = data ? object_new(client, kind, version, id, data) : NULL;
+    if (!data)
+        wl_client_post_no_memory(client->wl);
+    if (!any)
+        free(data);
+    return any;
+}
+
+void object_free(struct wl_resource *self)
+{
+    free(object_data(self));
 }
 
 void object_listed(struct wl_resource *any, struct wl_list *list)
@@ -140,7 +158,7 @@ static void output_tell(struct wl_resource *output)
 static void bind(struct wl_client *wl, void *data, uint32_t version, uint32_t id)
 {
     const struct kind *kind = data;
-    struct client *client = host.clients;
+    struct client *client = desk.clients;
     while (client->wl != wl)
         client++;
     bool many = kind == &OUTPUT && wl_list_length(&client->outputs) >= LISTENERS;
@@ -168,6 +186,6 @@ void objects_start(void)
     } globals[] = { { &COMPOSITOR, 4 }, { &SUBCOMPOSITOR, 1 }, { &CLIPBOARD, 3 }, { &SHELL, 2 },
                     { &DECORATIONS, 1 }, { &OUTPUT, 2 }, { &SEAT, 5 }, { &SHM, 1 } };
     for (size_t at = 0; at < sizeof globals / sizeof *globals; at++)
-        wl_global_create(host.display, globals[at].kind->interface, globals[at].version,
+        wl_global_create(desk.display, globals[at].kind->interface, globals[at].version,
                          (void *)globals[at].kind, bind);
 }

@@ -1,5 +1,5 @@
 /* Popups: menus and the like, and where they stand. Not proved. */
-#include "host.h"
+#include "desk.h"
 
 enum { FLIP_X = 4, FLIP_Y = 8, SLIDE_X = 1, SLIDE_Y = 2 };
 
@@ -85,21 +85,13 @@ static void positioner_request(struct wl_resource *self, uint32_t number, union 
     }
 }
 
-static void positioner_gone(struct wl_resource *self)
-{
-    free(object_data(self));
-}
-
 static const struct kind POSITIONER = { &xdg_positioner_interface, positioner_request,
-                                        positioner_gone };
+                                        object_free };
 
-void positioner_new(struct client *client, uint32_t version, uint32_t id)
+struct wl_resource *positioner_new(struct wl_resource *shell, uint32_t id)
 {
-    struct positioner *by = calloc(1, sizeof *by);
-    if (!by || !object_new(client, &POSITIONER, version, id, by)) {
-        free(by);
-        wl_client_post_no_memory(client->wl);
-    }
+    return object_with(client_of(shell), &POSITIONER, (uint32_t)wl_resource_get_version(shell), id,
+                       sizeof(struct positioner));
 }
 
 /* ---- Popups */

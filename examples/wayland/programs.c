@@ -1,5 +1,5 @@
-/* Programs, the sockets that they connect to, and the control line. Not proved. */
-#include "host.h"
+/* Programs, and the sockets that they connect to. Not proved. */
+#include "desk.h"
 #include <errno.h>
 #include <fcntl.h>
 #include <signal.h>
@@ -29,10 +29,10 @@ static void close_socket(struct program *program)
 
 static bool has_client(const struct program *program)
 {
-    const struct client *client = host.clients;
-    while (client < host.clients + SEATS && (!client->wl || client->program != program))
+    const struct client *client = desk.clients;
+    while (client < desk.clients + SEATS && (!client->wl || client->program != program))
         client++;
-    return client < host.clients + SEATS;
+    return client < desk.clients + SEATS;
 }
 
 /* A program whose process has ended, and of which no client is left, has no socket any more. */
@@ -56,7 +56,7 @@ void program_end(struct program *program)
 /* The program of a process, or NULL. */
 static struct program *program_of(pid_t process)
 {
-    for (struct program *program = host.programs; program < host.programs + PROGRAMS; program++)
+    for (struct program *program = desk.programs; program < desk.programs + PROGRAMS; program++)
         if (program->process == process)
             return program;
     return NULL;
@@ -69,10 +69,10 @@ void programs_reap(void)
     for (pid_t ended; (ended = waitpid(-1, NULL, WNOHANG)) > 0;) {
         struct program *program = program_of(ended);
         if (!program) {
-            host.porters--;
+            desk.porters--;
             continue;
         }
-        printf("desk: %s: ended\n", program->name);
+        say("%s: ended", program->name);
         program->process = 0;
         program_forget(program);
     }
@@ -83,7 +83,7 @@ void programs_reap(void)
 static bool listen_at(struct program *program)
 {
     struct sockaddr_un address = { .sun_family = AF_UNIX };
-    int length = snprintf(program->path, sizeof program->path, "%s/%s", host.folder, program->name);
+    int length = snprintf(program->path, sizeof program->path, "%s/%s", desk.folder, program->name);
     if (length >= (int)sizeof address.sun_path)
         return false;
     memcpy(address.sun_path, program->path, (size_t)length + 1);
@@ -97,7 +97,7 @@ static bool listen_at(struct program *program)
 static struct program *place(const char *name, size_t length)
 {
     struct program *found = NULL;
-    for (struct program *program = host.programs; program < host.programs + PROGRAMS; program++)
+    for (struct program *program = desk.programs; program < desk.programs + PROGRAMS; program++)
         if (program->source && strlen(program->name) == length &&
             !memcmp(program->name, name, length))
             return NULL;
@@ -112,68 +112,32 @@ static bool is_name(const char *name, size_t length)
            strspn(name, "abcdefghijklmnopqrstuvwxyz0123456789-_") == length;
 }
 
-static bool refuse(const char *word, const char *why)
-{
-    printf("desk: %s: %s\n", word, why);
-    return false;
-}
-
 /* Starts a program by a word NAME[,WORD ..]=COMMAND. A name has no dot, so that none is another's
- * second connection, and is used once at a time. */
-bool program_start(const char *word)
+ * second connection, and is used once at a time. Answers why it does not start, or NULL. */
+const char *host_starts(const char *word)
 {
     const char *command = strchr(word, '=');
     size_t length = strcspn(word, ",=");
     if (!command || !is_name(word, length))
-        return refuse(word, "a program is NAME[,WORD ..]=COMMAND, its name a..z 0..9 - _");
+        return "a program is NAME[,WORD ..]=COMMAND, its name a..z 0..9 - _";
     struct program *program = place(word, length);
     if (!program)
-        return refuse(word, "another program has this name, or there are sixteen");
+        return "another program has this name, or there are sixteen";
     *program = (struct program){ .x = 40, .y = 40, .door = -1 };
     memcpy(program->name, word, length);
     const char *at = strstr(word, ",at:");
     if (at && at < command)
         sscanf(at, ",at:%5d:%5d", &program->x, &program->y);
-    struct wl_event_loop *loop = wl_display_get_event_loop(host.display);
+    struct wl_event_loop *loop = wl_display_get_event_loop(desk.display);
     if (!listen_at(program))
-        return refuse(word, strerror(errno));
+        return strerror(errno);
     program->source = wl_event_loop_add_fd(loop, program->socket, WL_EVENT_READABLE,
                                            client_knocked, program);
     program->timer = wl_event_loop_add_timer(loop, client_rested, program);
     program->process = sandbox_spawn(program, word + length, command + 1);
     if (program->process == 0) {
         close_socket(program);
-        return refuse(word, "a wrong word, or it does not start");
+        return "a wrong word, or it does not start";
     }
-    return true;
-}
-
-/* ---- The control line */
-
-static void control(const char *line)
-{
-    if (line[0] == '+')
-        program_start(line + 1);
-    else if (!strcmp(line, "quit"))
-        host.over = true;
-    else
-        refuse(line, "+NAME[,WORD ..]=COMMAND, or quit");
-}
-
-/* Reads what stands on the standard input, if it still does. A line of over 2,047 bytes ends it, as
- * its end does. */
-void programs_control(void)
-{
-    static char line[2048];
-    static size_t length;
-    ssize_t got = read(STDIN_FILENO, line + length, sizeof line - 1 - length);
-    host.listens = got > 0 || (got < 0 && errno == EAGAIN);
-    length += got > 0 ? (size_t)got : 0;
-    line[length] = 0;
-    for (char *end; (end = strchr(line, '\n')) != NULL;) {
-        *end = 0;
-        control(line);
-        length -= (size_t)(end + 1 - line);
-        memmove(line, end + 1, length + 1);
-    }
+    return NULL;
 }

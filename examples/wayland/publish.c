@@ -6,7 +6,7 @@
  * Whatever a client asks for and however often, a look has at most its 64 views and its atlas from
  * it. Of all clients a look has what can be told in half of its time; those that wait longest come
  * first, and the others at the next look. */
-#include "host.h"
+#include "desk.h"
 #include <stdio.h>
 #include <string.h>
 
@@ -114,7 +114,7 @@ static void publish_tree(struct surface *surface, uint32_t *below)
 static struct client *longest(uint64_t begin)
 {
     struct client *found = NULL;
-    for (struct client *client = host.clients; client < host.clients + SEATS; client++)
+    for (struct client *client = desk.clients; client < desk.clients + SEATS; client++)
         if (client->wl && client->changed && client->published < begin &&
             (!found || client->published < found->published))
             found = client;
@@ -125,7 +125,7 @@ static struct client *longest(uint64_t begin)
 struct client *client_with_focus(void)
 {
     uint32_t seat = nit_state(&host.server).focus;
-    return seat != NIT_NONE && host.clients[seat].changed ? &host.clients[seat] : NULL;
+    return seat != NIT_NONE && desk.clients[seat].changed ? &desk.clients[seat] : NULL;
 }
 
 static void publish_client(struct client *client)

@@ -3,10 +3,7 @@
  * A program has a Wayland socket, which is its own, programs and libraries to read, an empty home,
  * and nothing else: no X server, no socket of another program's, no network, no other processes,
  * no files of the user. Words of the user give it more. */
-#include "host.h"
-#include <fcntl.h>
-#include <signal.h>
-#include <spawn.h>
+#include "desk.h"
 #include <stdio.h>
 #include <stdlib.h>
 #include <string.h>
@@ -22,7 +19,7 @@ struct line {
     bool full, open;          /* a word did not fit; the program has no sandbox */
 };
 
-static void say(struct line *line, const char *word, size_t length)
+static void add(struct line *line, const char *word, size_t length)
 {
     if (line->count == WORDS || line->used + length + 1 > TEXT) {
         line->full = true;
@@ -35,14 +32,14 @@ static void say(struct line *line, const char *word, size_t length)
     line->words[line->count++] = to;
 }
 
-static void say_all(struct line *line, const char *const *words, size_t count)
+static void add_all(struct line *line, const char *const *words, size_t count)
 {
     for (size_t at = 0; at < count; at++)
-        say(line, words[at], strlen(words[at]));
+        add(line, words[at], strlen(words[at]));
 }
 
-#define SAY(line, ...) \
-    say_all(line, (const char *const[]){ __VA_ARGS__ }, \
+#define ADD(line, ...) \
+    add_all(line, (const char *const[]){ __VA_ARGS__ }, \
             sizeof (const char *const[]){ __VA_ARGS__ } / sizeof(char *))
 
 static const char *const PATH = "/usr/local/bin:/usr/bin:/bin:/usr/games";
@@ -61,7 +58,7 @@ static void common(struct line *line, const struct program *program)
         "/etc/gtk-3.0", "/etc/gtk-4.0", "/etc/mpv", "/etc/mime.types", "/etc/zathurarc",
         "/etc/imv_config", "/var/cache/fontconfig"
     };
-    SAY(line, "/usr/bin/bwrap", "--unshare-all", "--die-with-parent", "--new-session",
+    ADD(line, "/usr/bin/bwrap", "--unshare-all", "--die-with-parent", "--new-session",
         "--cap-drop", "ALL", "--clearenv", "--ro-bind", "/usr", "/usr",
         "--symlink", "usr/bin", "/bin", "--symlink", "usr/sbin", "/sbin",
         "--symlink", "usr/lib", "/lib", "--symlink", "usr/lib64", "/lib64",
@@ -73,22 +70,22 @@ static void common(struct line *line, const struct program *program)
         "--setenv", "GDK_BACKEND", "wayland", "--setenv", "GSK_RENDERER", "cairo",
         "--setenv", "NO_AT_BRIDGE", "1", "--setenv", "GTK_A11Y", "none");
     for (size_t at = 0; at < sizeof etc / sizeof *etc; at++)
-        SAY(line, "--ro-bind-try", etc[at], etc[at]);
+        ADD(line, "--ro-bind-try", etc[at], etc[at]);
 }
 
 /* What a word of the user adds: a home that stays, a folder to read, the network. */
 static bool more(struct line *line, const char *word, size_t length)
 {
     if (length > 5 && !strncmp(word, "home:", 5)) {
-        SAY(line, "--bind");
-        say(line, word + 5, length - 5);
-        SAY(line, "/home/me");
+        ADD(line, "--bind");
+        add(line, word + 5, length - 5);
+        ADD(line, "/home/me");
     } else if (length > 4 && !strncmp(word, "see:", 4)) {
-        SAY(line, "--ro-bind");
-        say(line, word + 4, length - 4);
-        say(line, word + 4, length - 4);
+        ADD(line, "--ro-bind");
+        add(line, word + 4, length - 4);
+        add(line, word + 4, length - 4);
     } else if (length == 3 && !strncmp(word, "net", 3)) {
-        SAY(line, "--share-net", "--ro-bind-try", "/etc/resolv.conf", "/etc/resolv.conf",
+        ADD(line, "--share-net", "--ro-bind-try", "/etc/resolv.conf", "/etc/resolv.conf",
             "--ro-bind-try", "/etc/ssl", "/etc/ssl", "--ro-bind-try", "/etc/hosts", "/etc/hosts");
     } else if (length == 4 && !strncmp(word, "open", 4)) {
         line->open = true;
@@ -107,7 +104,7 @@ static bool boxed(struct line *line, const struct program *program, const char *
         length = strcspn(words + 1, ",=");
         good = good && more(line, words + 1, length);
     }
-    SAY(line, "--chdir", "/home/me", "--");
+    ADD(line, "--chdir", "/home/me", "--");
     return good && !line->full;
 }
 
@@ -117,37 +114,23 @@ static void open_environment(struct line *line, const struct program *program)
     static const char *const kept[] = { "HOME", "PATH", "LANG", "USER" };
     char text[256];
     snprintf(text, sizeof text, "WAYLAND_DISPLAY=%s", program->path);
-    SAY(line, text);
-    snprintf(text, sizeof text, "XDG_RUNTIME_DIR=%s", host.folder);
-    SAY(line, text, "GDK_BACKEND=wayland", "GSK_RENDERER=cairo");
+    ADD(line, text);
+    snprintf(text, sizeof text, "XDG_RUNTIME_DIR=%s", desk.folder);
+    ADD(line, text, "GDK_BACKEND=wayland", "GSK_RENDERER=cairo");
     for (size_t at = 0; at < sizeof kept / sizeof *kept; at++)
         if (getenv(kept[at])) {
             snprintf(text, sizeof text, "%s=%s", kept[at], getenv(kept[at]));
-            SAY(line, text);
+            ADD(line, text);
         }
 }
 
-/* Starts it in a session of its own, with nothing of the host's: what it prints is lost. */
-static pid_t spawn(struct line *line, struct line *environment)
+/* Starts it with nothing of the host's: what it prints is lost. */
+static pid_t spawn(const struct line *line, const struct line *environment)
 {
-    posix_spawn_file_actions_t actions;
-    posix_spawnattr_t attributes;
-    sigset_t none;
+    static const int nowhere[] = { -1, -1, -1 };
+    const struct start start = { line->words[0], line->words, environment->words, nowhere, 3 };
     pid_t process = 0;
-    sigemptyset(&none);
-    posix_spawn_file_actions_init(&actions);
-    posix_spawn_file_actions_addopen(&actions, 0, "/dev/null", O_RDWR, 0);
-    posix_spawn_file_actions_adddup2(&actions, 0, 1);
-    posix_spawn_file_actions_adddup2(&actions, 0, 2);
-    posix_spawn_file_actions_addclosefrom_np(&actions, 3);
-    posix_spawnattr_init(&attributes);
-    posix_spawnattr_setflags(&attributes, POSIX_SPAWN_SETSIGMASK | POSIX_SPAWN_SETSID);
-    posix_spawnattr_setsigmask(&attributes, &none);
-    int wrong = posix_spawn(&process, line->words[0], &actions, &attributes, line->words,
-                            environment->words);
-    posix_spawnattr_destroy(&attributes);
-    posix_spawn_file_actions_destroy(&actions);
-    return wrong ? 0 : process;
+    return process_start(&start, &process) == 0 ? process : 0;
 }
 
 /* Starts a program by its words, from the first comma to the =, and its command. 0 where a word is
@@ -157,12 +140,12 @@ pid_t sandbox_spawn(const struct program *program, const char *words, const char
     static struct line line, environment;
     line = environment = (struct line){ 0 };
     bool good = boxed(&line, program, words);
-    if (good && line.open && host.sandboxes)
+    if (good && line.open && desk.sandboxes)
         notice("%s: no sandbox", program->name);
-    if (line.open || !host.sandboxes) {
+    if (line.open || !desk.sandboxes) {
         line = (struct line){ 0 };
         open_environment(&environment, program);
     }
-    SAY(&line, "/bin/sh", "-c", command);
+    ADD(&line, "/bin/sh", "-c", command);
     return good && !line.full ? spawn(&line, &environment) : 0;
 }

@@ -1,7 +1,7 @@
 /* Windows: what they are told, and where they stand. Not proved.
  *
  * A client does not know where on the screen it stands, and asks for no place. */
-#include "host.h"
+#include "desk.h"
 #include <string.h>
 
 enum { BY_SERVER = ZXDG_TOPLEVEL_DECORATION_V1_MODE_SERVER_SIDE, STEP = 32 };
@@ -16,10 +16,13 @@ static bool is_active(const struct surface *surface)
 
 void shell_configure(struct surface *surface, int32_t w, int32_t h)
 {
-    uint32_t list[2], count = 0;
+    const struct client *client = surface->client;
+    uint32_t list[3], count = 0;
     if (!surface->shell || !surface->as)
         return;
     if (surface->role == TOPLEVEL) {
+        if (client->dragged == surface && client->edges)
+            list[count++] = XDG_TOPLEVEL_STATE_RESIZING;
         if (surface->state)
             list[count++] = surface->state;
         if (is_active(surface))
@@ -29,7 +32,10 @@ void shell_configure(struct surface *surface, int32_t w, int32_t h)
     } else {
         xdg_popup_send_configure(surface->as, surface->x, surface->y, w, h);
     }
-    xdg_surface_send_configure(surface->shell, serial(surface->client));
+    surface->asked_w = w;
+    surface->asked_h = h;
+    surface->asked = serial(surface->client);
+    xdg_surface_send_configure(surface->shell, surface->asked);
 }
 
 /* Before a commit of a window. False where it is the first one, or breaks the protocol. */
@@ -61,6 +67,9 @@ static void fill(struct surface *surface, uint32_t state)
     if (is && !was)
         surface->home = (struct box){ surface->x, surface->y, surface->crop.w, surface->crop.h };
     surface->state = state;
+    surface->pulled = 0;
+    if (surface->client->dragged == surface)
+        surface->client->dragged = NULL;
     surface->x = is ? 0 : surface->home.x;
     surface->y = is ? BAR : surface->home.y;
     if (surface->configured)
@@ -109,6 +118,15 @@ static void title(struct surface *surface, const char *text)
     surface_changed(surface);
 }
 
+/* The client wants one of its four edges pulled at, or a corner. */
+static void pull(struct surface *surface, uint32_t edges)
+{
+    if (edges > XDG_TOPLEVEL_RESIZE_EDGE_BOTTOM_RIGHT || edges % 4 == 3)
+        wl_resource_post_error(surface->as, XDG_TOPLEVEL_ERROR_INVALID_RESIZE_EDGE, "no edge");
+    else if (edges > 0)
+        drag_begin(surface, edges);
+}
+
 static void toplevel_request(struct wl_resource *self, uint32_t number, union wl_argument *with)
 {
     struct surface *surface = object_data(self);
@@ -122,7 +140,7 @@ static void toplevel_request(struct wl_resource *self, uint32_t number, union wl
         drag_begin(surface, 0);
         break;
     case XDG_TOPLEVEL_RESIZE:
-        drag_begin(surface, with[2].u);
+        pull(surface, with[2].u);
         break;
     case XDG_TOPLEVEL_SET_MAXIMIZED:
         fill(surface, XDG_TOPLEVEL_STATE_MAXIMIZED);
@@ -180,6 +198,8 @@ static void shell_surface_request(struct wl_resource *self, uint32_t number,
         role_new(surface, TOPLEVEL, with);
     else if (number == XDG_SURFACE_GET_POPUP)
         role_new(surface, POPUP, with);
+    else if (number == XDG_SURFACE_ACK_CONFIGURE)
+        surface->heard = with[0].u;
     else if (number == XDG_SURFACE_SET_WINDOW_GEOMETRY && with[2].i > 0 && with[3].i > 0)
         surface->next.geometry = (struct box){ box_clamp(with[0].i), box_clamp(with[1].i),
                                                box_clamp(with[2].i), box_clamp(with[3].i) };
@@ -223,7 +243,7 @@ static void shell_surface_new(struct wl_resource *shell, uint32_t id, struct sur
 static void shell_request(struct wl_resource *self, uint32_t number, union wl_argument *with)
 {
     if (number == XDG_WM_BASE_CREATE_POSITIONER)
-        positioner_new(client_of(self), (uint32_t)wl_resource_get_version(self), with[0].n);
+        positioner_new(self, with[0].n);
     else if (number == XDG_WM_BASE_GET_XDG_SURFACE)
         shell_surface_new(self, with[0].n, object_data((struct wl_resource *)with[1].o));
 }

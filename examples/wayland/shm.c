@@ -4,7 +4,7 @@
  * the host at a page. Here a pool is memory of the kernel's, which the porter has looked at and
  * this looks at again, and whatever a client does to it a read comes back at once. It is closed by
  * a thread of its own, since to free much memory takes long. */
-#include "host.h"
+#include "desk.h"
 #include <fcntl.h>
 #include <pthread.h>
 #include <unistd.h>
@@ -82,13 +82,10 @@ static void buffer_new(struct pool *pool, struct wl_resource *self, union wl_arg
         wl_resource_post_error(self, WL_SHM_ERROR_INVALID_STRIDE, "no such rows");
         return;
     }
-    struct buffer *buffer = malloc(sizeof *buffer);
-    if (!buffer || !object_new(pool->client, &BUFFER, 1, with[0].n, buffer)) {
-        wl_client_post_no_memory(pool->client->wl);
-        free(buffer);
+    struct wl_resource *any = object_with(pool->client, &BUFFER, 1, with[0].n, sizeof like);
+    if (!any)
         return;
-    }
-    *buffer = like;
+    *(struct buffer *)object_data(any) = like;
     pool->users++;
 }
 

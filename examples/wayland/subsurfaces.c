@@ -1,5 +1,9 @@
-/* Subsurfaces. Not proved. */
-#include "host.h"
+/* Subsurfaces. Not proved.
+ *
+ * Where one stands is its parent's: it changes with the next state of that. What it shows is its
+ * own; while it is synchronized, or a parent is, what it commits is kept until the state of its
+ * parent holds. */
+#include "desk.h"
 
 /* True where what a subsurface commits waits for its parent. */
 bool surface_is_synced(const struct surface *surface)
@@ -10,16 +14,34 @@ bool surface_is_synced(const struct surface *surface)
     return false;
 }
 
-/* The subsurface stands in front of or behind another one of its parent. Behind the parent itself
- * there is no place: it stands directly in front of that. */
+/* A state of the parent holds now: its subsurfaces stand where they were put last, behind its
+ * popups, and then what they have committed holds too. */
+void subsurfaces_settle(struct surface *parent)
+{
+    struct surface *child;
+    wl_list_for_each_reverse(child, &parent->order, place) {
+        wl_list_remove(&child->sibling);
+        wl_list_insert(&parent->children, &child->sibling);
+        child->x = child->next_x;
+        child->y = child->next_y;
+    }
+    wl_list_for_each(child, &parent->order, place)
+        if (child->waits)
+            surface_apply(child);
+}
+
+/* The subsurface is to stand in front of or behind another one of its parent. Behind the parent
+ * itself there is no place: it stands directly in front of that. */
 static void restack(struct surface *surface, struct surface *other, bool above)
 {
-    if (other == surface || (other != surface->parent && other->parent != surface->parent))
+    bool beside = other->role == SUBSURFACE && other->parent == surface->parent;
+    if (other == surface || (other != surface->parent && !beside)) {
+        wl_resource_post_error(surface->as, WL_SUBSURFACE_ERROR_BAD_SURFACE, "it is not beside it");
         return;
-    wl_list_remove(&surface->sibling);
-    wl_list_insert(other == surface->parent ? &other->children :
-                   above ? &other->sibling : other->sibling.prev, &surface->sibling);
-    surface_changed(surface);
+    }
+    wl_list_remove(&surface->place);
+    wl_list_insert(other == surface->parent ? &other->order :
+                   above ? &other->place : other->place.prev, &surface->place);
 }
 
 static void subsurface_request(struct wl_resource *self, uint32_t number, union wl_argument *with)
@@ -29,8 +51,8 @@ static void subsurface_request(struct wl_resource *self, uint32_t number, union 
         return;
     switch (number) {
     case WL_SUBSURFACE_SET_POSITION:
-        surface->next.x = box_clamp(with[0].i);
-        surface->next.y = box_clamp(with[1].i);
+        surface->next_x = box_clamp(with[0].i);
+        surface->next_y = box_clamp(with[1].i);
         break;
     case WL_SUBSURFACE_PLACE_ABOVE:
     case WL_SUBSURFACE_PLACE_BELOW:
@@ -75,6 +97,7 @@ static void subcompositor_request(struct wl_resource *self, uint32_t number,
         return;
     surface->role = SUBSURFACE;
     surface->desynced = false;
+    surface->next_x = surface->next_y = 0;
     surface_adopt(surface, parent);
 }
 

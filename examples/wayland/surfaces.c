@@ -2,7 +2,7 @@
  *
  * A request changes only what stands here, and costs little. The library is told of it before a
  * look (publish.c). */
-#include "host.h"
+#include "desk.h"
 
 /* ---- Buffers */
 
@@ -56,16 +56,25 @@ struct box surface_origin(const struct surface *surface)
     return at;
 }
 
-/* The surface belongs to this parent, or to none. */
+static void unlist(struct wl_list *link)
+{
+    wl_list_remove(link);
+    wl_list_init(link);
+}
+
+/* The surface belongs to this parent, or to none. A subsurface is seen from the parent's next state
+ * on. */
 void surface_adopt(struct surface *surface, struct surface *parent)
 {
     surface->parent = parent;
-    wl_list_remove(&surface->sibling);
-    wl_list_init(&surface->sibling);
-    if (parent)
-        wl_list_insert(parent->children.prev, &surface->sibling);
-    else
+    unlist(&surface->sibling);
+    unlist(&surface->place);
+    if (!parent)
         publish_places(surface);
+    else if (surface->role == SUBSURFACE)
+        wl_list_insert(parent->order.prev, &surface->place);
+    else
+        wl_list_insert(parent->children.prev, &surface->sibling);
 }
 
 /* ---- Commits */
@@ -116,10 +125,10 @@ static void outputs_enter(struct surface *surface)
         wl_surface_send_enter(surface->self, output);
 }
 
-/* Takes over the pending buffer. One that was never published is the client's again. */
+/* Takes over the committed buffer. One that was never published is the client's again. */
 static void show(struct surface *surface)
 {
-    struct wl_resource *buffer = surface->next.buffer.buffer;
+    struct wl_resource *buffer = surface->committed.buffer.buffer;
     if (!buffer) {
         if (surface->mapped)
             surface_unmap(surface);
@@ -133,7 +142,7 @@ static void show(struct surface *surface)
     bool first = !surface->mapped, all = resize(surface, like->w, like->h) || first;
     surface->mapped = true;
     surface->stale = all ? (struct box){ 0, 0, like->w, like->h } :
-                     box_around(surface->stale, surface->next.damage);
+                     box_around(surface->stale, surface->committed.damage);
     if (surface->held.buffer && surface->held.buffer != buffer)
         wl_buffer_send_release(surface->held.buffer);
     hold(&surface->held, buffer);
@@ -146,46 +155,65 @@ static void show(struct surface *surface)
 /* The callbacks of a surface wait for the next tick of the host's clock, and for nothing else. */
 static void take_frames(struct surface *surface)
 {
-    if (wl_list_empty(&surface->next.frames))
+    if (wl_list_empty(&surface->committed.frames))
         return;
-    if (wl_list_empty(&host.frames))
-        host.tick = (now() / host.period + 1) * host.period;
-    wl_list_insert_list(&host.frames, &surface->next.frames);
-    wl_list_init(&surface->next.frames);
+    if (wl_list_empty(&desk.frames))
+        desk.tick = (now() / host.period + 1) * host.period;
+    wl_list_insert_list(&desk.frames, &surface->committed.frames);
+    wl_list_init(&surface->committed.frames);
 }
 
-/* What is pending holds from now on, and that of subsurfaces that were committed before. The depth
- * of a tree is bounded by the number of surfaces. */
+/* What is committed holds from now on, and then what its subsurfaces have committed before. The
+ * depth of a tree is bounded by the number of surfaces. */
 void surface_apply(struct surface *surface)
 {
-    struct surface *child;
     bool was = surface->mapped;
-    surface->geometry = surface->next.geometry;
-    surface->input = surface->next.input;
+    surface->geometry = surface->committed.geometry;
+    surface->input = surface->committed.input;
     take_frames(surface);
-    if (surface->role == SUBSURFACE) {
-        surface->x = surface->next.x;
-        surface->y = surface->next.y;
-    }
-    if (surface->next.attached)
+    if (surface->committed.attached)
         show(surface);
-    hold(&surface->next.buffer, NULL);
-    surface->next.attached = surface->waits = false;
-    surface->next.damage = (struct box){ 0 };
-    wl_list_for_each(child, &surface->children, sibling)
-        if (child->role == SUBSURFACE &&
-            (child->waits || child->x != child->next.x || child->y != child->next.y))
-            surface_apply(child);
+    hold(&surface->committed.buffer, NULL);
+    surface->committed.attached = surface->waits = false;
+    surface->committed.damage = (struct box){ 0 };
+    drag_settle(surface);
+    subsurfaces_settle(surface);
     if (was != surface->mapped)
         keyboard_choose(surface->client);
     surface_changed(surface);
 }
 
+/* The buffer that is attached takes the place of one that was committed and has never held. */
+static void join_buffer(struct surface *surface)
+{
+    struct wl_resource *buffer = surface->next.buffer.buffer;
+    struct wl_resource *old = surface->committed.buffer.buffer;
+    if (old && old != buffer && old != surface->held.buffer)
+        wl_buffer_send_release(old);
+    hold(&surface->committed.buffer, buffer);
+    hold(&surface->next.buffer, NULL);
+    surface->committed.attached = true;
+    surface->next.attached = false;
+}
+
+/* What is set joins what is committed. That holds at once, but of a surface that goes with its
+ * parent. */
 static void commit(struct surface *surface)
 {
-    if (surface_is_synced(surface))
-        surface->waits = true;
-    else if (shell_commit(surface))
+    struct state *from = &surface->next, *to = &surface->committed;
+    bool synced = surface_is_synced(surface);
+    if (!synced && !shell_commit(surface))
+        return;
+    if (from->attached)
+        join_buffer(surface);
+    to->damage = box_around(to->damage, from->damage);
+    to->geometry = from->geometry;
+    to->input = from->input;
+    wl_list_insert_list(to->frames.prev, &from->frames);
+    wl_list_init(&from->frames);
+    from->damage = (struct box){ 0 };
+    surface->waits = true;
+    if (!synced)
         surface_apply(surface);
 }
 
@@ -199,12 +227,7 @@ static void region_request(struct wl_resource *self, uint32_t number, union wl_a
                                               box_clamp(with[2].i), box_clamp(with[3].i) });
 }
 
-static void region_gone(struct wl_resource *self)
-{
-    free(object_data(self));
-}
-
-static const struct kind REGION = { &wl_region_interface, region_request, region_gone };
+static const struct kind REGION = { &wl_region_interface, region_request, object_free };
 
 /* ---- Requests */
 
@@ -215,7 +238,7 @@ static const struct kind CALLBACK = { &wl_callback_interface, object_ignores, ob
 static void surface_request(struct wl_resource *self, uint32_t number, union wl_argument *with)
 {
     struct surface *surface = object_data(self);
-    struct pending *next = &surface->next;
+    struct state *next = &surface->next;
     switch (number) {
     case WL_SURFACE_ATTACH:
         hold(&next->buffer, (struct wl_resource *)with[0].o);
@@ -253,6 +276,15 @@ static void leave_children(struct surface *surface)
     struct surface *child, *next;
     wl_list_for_each_safe(child, next, &surface->children, sibling)
         surface_adopt(child, NULL);
+    wl_list_for_each_safe(child, next, &surface->order, place)
+        surface_adopt(child, NULL);
+}
+
+static void drop(struct state *state)
+{
+    hold(&state->buffer, NULL);
+    while (!wl_list_empty(&state->frames))
+        wl_resource_destroy(wl_resource_from_link(state->frames.next));
 }
 
 static void surface_gone(struct wl_resource *self)
@@ -262,9 +294,8 @@ static void surface_gone(struct wl_resource *self)
     shell_drop(surface);
     leave_children(surface);
     surface_adopt(surface, NULL);
-    hold(&surface->next.buffer, NULL);
-    while (!wl_list_empty(&surface->next.frames))
-        wl_resource_destroy(wl_resource_from_link(surface->next.frames.next));
+    drop(&surface->next);
+    drop(&surface->committed);
     wl_list_remove(&surface->link);
     surface->client->surface_count--;
     free(surface);
@@ -276,31 +307,23 @@ static const struct kind SURFACE = { &wl_surface_interface, surface_request, sur
 
 static void surface_new(struct client *client, uint32_t version, uint32_t id)
 {
-    bool room = client->surface_count < SURFACES;
-    struct surface *surface = room ? calloc(1, sizeof *surface) : NULL;
-    if (surface)
-        surface->self = object_new(client, &SURFACE, version, id, surface);
-    if (!surface || !surface->self) {
-        free(surface);
+    struct wl_resource *self = client->surface_count < SURFACES ?
+        object_with(client, &SURFACE, version, id, sizeof(struct surface)) : NULL;
+    if (!self) {
         wl_client_post_no_memory(client->wl);
         return;
     }
+    struct surface *surface = object_data(self);
+    surface->self = self;
     surface->client = client;
-    surface->next.input = EVERYWHERE;
-    wl_list_init(&surface->children);
-    wl_list_init(&surface->sibling);
-    wl_list_init(&surface->next.frames);
+    surface->next.input = surface->committed.input = EVERYWHERE;
+    struct wl_list *lists[] = { &surface->children, &surface->sibling, &surface->order,
+                                &surface->place, &surface->next.frames,
+                                &surface->committed.frames };
+    for (size_t at = 0; at < sizeof lists / sizeof *lists; at++)
+        wl_list_init(lists[at]);
     wl_list_insert(&client->surfaces, &surface->link);
     client->surface_count++;
-}
-
-static void region_new(struct client *client, uint32_t id)
-{
-    struct box *box = calloc(1, sizeof *box);
-    if (!box || !object_new(client, &REGION, 1, id, box)) {
-        free(box);
-        wl_client_post_no_memory(client->wl);
-    }
 }
 
 static void compositor_request(struct wl_resource *self, uint32_t number, union wl_argument *with)
@@ -308,7 +331,7 @@ static void compositor_request(struct wl_resource *self, uint32_t number, union 
     if (number == WL_COMPOSITOR_CREATE_SURFACE)
         surface_new(client_of(self), (uint32_t)wl_resource_get_version(self), with[0].n);
     else if (number == WL_COMPOSITOR_CREATE_REGION)
-        region_new(client_of(self), with[0].n);
+        object_with(client_of(self), &REGION, 1, with[0].n, sizeof(struct box));
 }
 
 const struct kind COMPOSITOR = { &wl_compositor_interface, compositor_request, NULL };

@@ -31,7 +31,7 @@ def run(names, programs):
     bad, shots = 0, HERE / "out" / "shots"
     os.makedirs(shots, exist_ok=True)
     for name in names:
-        begin, screen = time.monotonic(), Screen()
+        begin, screen = time.monotonic(), Screen(*getattr(CASES[name], "size", ()))
         screen.shot = shots / f"{name}.png"
         try:
             CASES[name](screen, programs)

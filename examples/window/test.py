@@ -15,19 +15,21 @@ import time
 
 HERE = Path(__file__).resolve().parent
 sys.path.insert(0, str(HERE / "tests"))
-from asks import DESK, TOGGLE, bar, copied, typing  # noqa: E402
+from asks import ACTIVE, COPY, DESK, PROMPT, TOGGLE, bar, copied, typing  # noqa: E402
 import cases_clicks  # noqa: E402
 import cases_clients  # noqa: E402
 import cases_desk  # noqa: E402
 import cases_host  # noqa: E402
-from desk import Host, Screen, Wrong, until  # noqa: E402
+from host import Host, Screen, Wrong, large, stands, until  # noqa: E402
 
+LARGE = ["--size=1920x1080", "--scale=3", "--glyphs=large", "login=./login", "fun=./game",
+         "pad=./pad"]
 CASES = {name[5:]: case for module in (cases_desk, cases_clicks, cases_clients, cases_host)
          for name, case in vars(module).items() if name.startswith("case_")}
 
 
 def pictures(screen, programs):
-    """The three pictures of the README."""
+    """The four pictures of the README."""
     with Host(screen, programs, DESK):
         copied(screen)
         screen.picture(HERE / "flat.png")
@@ -38,6 +40,23 @@ def pictures(screen, programs):
         bar(screen, "kill:game")
         screen.picture(HERE / "kill.png")
         screen.user("key Print")
+    larger(programs)
+
+
+def larger(programs):
+    """The one of a larger screen, on which texts are larger too."""
+    screen = Screen(1920, 1080)
+    try:
+        with Host(screen, programs, LARGE):
+            until("the notes", lambda: screen.pixel(600, 80) == ACTIVE)
+            screen.user("mousemove 400 300 click 1 key f")
+            until("the copy", lambda: screen.part(*COPY) == screen.part(*PROMPT))
+            screen.user("key Scroll_Lock")
+            stands(screen, 0, 0, large("xray:fun", 3))
+            stands(screen, *COPY[:2], large("fun:log in", 3))
+            screen.picture(HERE / "large.png")
+    finally:
+        screen.close()
 
 
 def measure(screen, programs):

@@ -6,7 +6,8 @@ import statistics
 import sys
 import time
 
-from stage import BARE, FOOT, Desk, Wrong, bar, check, label, shown, steady, until
+from stage import (BARE, FOOT, Desk, Wrong, bar, check, label, large, shown, stands, steady,
+                   until)
 
 SOURCES = Path(__file__).resolve().parent
 ENDS = {"stride": "disconnected", "beyond": "disconnected", "file": "disconnected",
@@ -210,13 +211,25 @@ def case_labels(screen, folder):
         desk.says("desk: one.9: seat")
         desk.says("desk: no seat for one")
         desk.tell("+One=true")
-        desk.says("desk: One=true: a program is NAME")
+        desk.says("desk: +One=true: a program is NAME")
         desk.tell("+one.2=true")
-        desk.says("desk: one.2=true: a program is NAME")
+        desk.says("desk: +one.2=true: a program is NAME")
         screen.user("key Scroll_Lock")
         bar(screen, "xray")
         label(screen, 20, 60, "one:listen")
         label(screen, 52, 92, "one.2:listen")
+
+
+def case_letters(screen, folder):
+    """Labels and the bar have the glyphs and the scale of the words, and are as large as the rest
+    in a window of twice the size."""
+    words = ["--zoom=2", "--scale=2", "--glyphs=large", "--size=512x384"]
+    with Desk(screen, folder, words) as desk:
+        desk.start("one,at:20:60", "listen f00000")
+        shown(screen, 100, 160, 0xF00000)
+        screen.user("mousemove 100 160 click 1 key Scroll_Lock")
+        stands(screen, 0, 0, large("xray:one", 4))
+        stands(screen, 40, 120, large("one:listen", 4))
 
 
 def late(screen, keys, row):

@@ -164,9 +164,55 @@ def case_resize(screen, folder):
         screen.user("key Scroll_Lock")
 
 
+def stands(screen, box, word):
+    """Waits until a window of one colour has just this place: its left, top, right and bottom."""
+    left, top, right, bottom = box
+    x, y = (left + right) // 2, (top + bottom) // 2
+    sides = (((left, y), (left - 1, y)), ((right - 1, y), (right, y)),
+             ((x, top), (x, top - 1)), ((x, bottom - 1), (x, bottom)))
+    until(f"it has the place {box}", lambda: all(
+        screen.pixel(*inside) == word and screen.pixel(*outside) == BARE
+        for inside, outside in sides))
+
+
+def pull(screen, box, across, down, words):
+    """Pulls at the edges of this third of a window, and answers where it is to stand then."""
+    press, release = words
+    left, top, right, bottom = box
+    x = left + (2 * across + 1) * (right - left) // 6
+    y = top + (2 * down + 1) * (bottom - top) // 6
+    screen.user(f"mousemove {x} {y} {press}")
+    time.sleep(0.3)
+    screen.user(f"mousemove {x + 10} {y + 10} mousemove {x + 24} {y + 18} {release}")
+    middle = across == down == 1
+    return (left + 24 * (across == 0), top + 18 * (down == 0),
+            right + 24 * (across == 2 or middle), bottom + 18 * (down == 2 or middle))
+
+
+def case_edges(screen, folder):
+    """Each edge and corner is pulled, by a client's request and by the move key; the rest stays."""
+    with Desk(screen, folder, []) as desk:
+        desk.start("one,at:300:200", "listen f00000 pulls")
+        box = (300, 200, 600, 400)
+        stands(screen, box, 0xF00000)
+        thirds = [(across, down) for down in range(3) for across in range(3)]
+        for words in (("mousedown 1", "mouseup 1"),
+                      ("keydown super mousedown 3", "mouseup 3 keyup super")):
+            for across, down in thirds:
+                if across == down == 1 and "super" not in words[0]:
+                    continue
+                box = pull(screen, box, across, down, words)
+                stands(screen, box, 0xF00000)
+        desk.start("two,at:40:500", "listen 00f000 slow")
+        box = (40, 500, 340, 700)
+        stands(screen, box, 0x00F000)
+        box = pull(screen, box, 0, 0, words)
+        stands(screen, box, 0x00F000)
+
+
 def case_scale(screen, folder):
     """On a window of twice the size a pixel is two by two, and a click goes where it seems to."""
-    with Desk(screen, folder, ["--scale=2", "--size=512x384"]) as desk:
+    with Desk(screen, folder, ["--zoom=2", "--size=512x384"]) as desk:
         desk.start("one,at:50:60", "listen f00000")
         shown(screen, 100, 120, 0xF00000)
         check("its corner", screen.part(98, 118, 4, 4) ==
@@ -179,7 +225,13 @@ def case_scale(screen, folder):
 def case_words(screen, folder):
     """Wrong words are refused with status 2, and say what is wrong."""
     for words, says in ((["--size=5000x10"], "4096x4096"), (["--size=10x7"], "4096x4096"),
-                        (["--scale=5"], "no such word"), (["--kill=Nokey"], "no such key"),
+                        (["--zoom=5"], "--zoom=5: a zoom is 1 to 4"),
+                        (["--zoom="], "--zoom=: a zoom is 1 to 4"),
+                        (["--zoom=22"], "--zoom=22: a zoom is 1 to 4"),
+                        (["--scale=9"], "--scale=9: a scale is 1 to 8"),
+                        (["--scale=0"], "--scale=0: a scale is 1 to 8"),
+                        (["--glyphs=tall"], "--glyphs=tall: glyphs are small or large"),
+                        (["--kill=Nokey"], "no such key"),
                         (["--what"], "no such word"), (["A=true"], "a program is"),
                         (["a,what=true"], "wrong word"), (["a=true", "a=true"], "this name")):
         ended = subprocess.run([Path(folder) / "desk", *words], env=screen.environment, text=True,

@@ -3,7 +3,8 @@
 import subprocess
 import time
 
-from stage import BARE, Desk, bar, check, shown, steady, until
+from stage import BARE, Desk, Wrong, bar, check, shown, steady, until
+import video
 
 VIDEO = ("ffmpeg -loglevel error -f lavfi -i testsrc=size=320x240:rate=30 -t 20 "
          "-pix_fmt yuv420p {}/video.mp4")
@@ -71,16 +72,20 @@ def case_weston_terminal(screen, folder):
         shown(screen, 1000, 700)
 
 
+def rows_of(desk):
+    """The rows of a terminal that has written them down, or 0."""
+    return int((desk.wrote("size").split() or [0])[0])
+
+
 def case_foot(screen, folder):
     """foot is resized by the host's key, and fills its window."""
     with Desk(screen, folder, ["foot,at:20:40,home:HOME=foot sh -c "
                                "'while sleep 0.2; do stty size > size; done'"]) as desk:
-        until("its size", lambda: desk.wrote("size").strip())
-        rows = int(desk.wrote("size").split()[0])
-        screen.user("keydown super mousemove 300 200 mousedown 3 mousemove 350 300 "
-                    "mousemove 360 350 mouseup 3 keyup super")
-        until("it is larger", lambda: desk.wrote("size").strip() and
-              int(desk.wrote("size").split()[0]) > rows + 3)
+        until("its size", lambda: rows_of(desk))
+        rows = rows_of(desk)
+        screen.user("keydown super mousemove 650 480 mousedown 3 mousemove 680 560 "
+                    "mousemove 700 630 mouseup 3 keyup super")
+        until("it is larger", lambda: rows_of(desk) > rows + 3)
 
 
 def case_gtk_demo(screen, folder):
@@ -166,12 +171,71 @@ def case_mpv(screen, folder):
         check(f"it goes on, on the whole screen: {count / 3}", 8 < count / 3 < 34)
 
 
+def case_fullscreen(screen, folder):
+    """mpv shows thirty pictures a second on the whole of a screen of 1920 by 1080."""
+    with Desk(screen, folder, ["--size=1920x1080"]) as desk:
+        video.make(desk.folder)
+        desk.tell("+mpv,home:HOME=" + video.PLAY.format("numbers.mp4", "said"))
+        video.seen(screen, 1)
+        for _ in range(5):  # other work on the machine is not the host's
+            before = video.dropped(desk.wrote("said"))
+            rate = video.seen(screen, 5)
+            given = video.RATE - (video.dropped(desk.wrote("said")) - before) / 5
+            print(f"    mpv gives {given:.1f} a second, and {rate:.1f} were seen by looking")
+            if given > 29 and rate > 15:
+                return
+        raise Wrong("mpv cannot give its pictures in time")
+
+
+case_fullscreen.size = (1920, 1080)
+
+
 def case_subsurfaces(screen, folder):
     """weston-subsurfaces and weston-stacking run."""
     with Desk(screen, folder, ["sub,at:20:40=weston-subsurfaces",
                                "stack,at:500:300=weston-stacking"]):
         shown(screen, 100, 100)
         shown(screen, 600, 400)
+
+
+RED, GREEN, BLUE, YELLOW, WHITE = 0xF00000, 0x00F000, 0x0000F0, 0xF0F000, 0xF0F0F0
+LEFT, RIGHT, INNER = (150, 160), (300, 160), (235, 105)
+STEPS = (                     # what is seen after each step of the client, and where
+    ("what is committed first waits for the parent", RED, RED, RED),
+    ("the parent commits", GREEN, RED, RED),
+    ("one is committed and another one attached", GREEN, RED, RED),
+    ("the parent commits", BLUE, RED, RED),
+    ("two more are committed", BLUE, RED, RED),
+    ("the parent commits", WHITE, RED, RED),
+    ("without waiting", GREEN, RED, RED),
+    ("the place waits", GREEN, RED, RED),
+    ("the parent commits", RED, GREEN, GREEN),
+    ("another one, in front", RED, BLUE, BLUE),
+    ("the order waits", RED, BLUE, BLUE),
+    ("the parent commits", RED, GREEN, GREEN),
+    ("one in another one waits with it", RED, GREEN, GREEN),
+    ("the parent commits", RED, GREEN, YELLOW),
+    ("one waits again", RED, GREEN, YELLOW),
+    ("and waits no more", RED, WHITE, YELLOW))
+
+
+def case_synced(screen, folder):
+    """What a synchronized subsurface commits is seen with its parent's next state."""
+    with Desk(screen, folder, []) as desk:
+        desk.start("subs,at:50:60", "subs")
+        shown(screen, 60, 70, RED)
+        for number, (what, *colors) in enumerate(STEPS):
+            until(f"step {number}", lambda: f"step {number}\n" in desk.wrote("subs.said"))
+            time.sleep(0.1)
+            said = desk.wrote("subs.said")
+            until(f"step {number}, {what}: {colors}", lambda: colors == [
+                screen.pixel(*place) for place in (LEFT, RIGHT, INNER)], 3)
+            check(f"step {number}: a frame comes with the parent's",
+                  ("frame" in said) == (number > 0))
+            check(f"step {number}: what was never shown comes back: {said}",
+                  ("released f0f000" in said) == (number > 3))
+            (desk.folder / f"step{number + 1}").touch()
+        until("a wrong order ends it", lambda: "disconnected" in desk.wrote("subs.said"))
 
 
 def case_nested(screen, folder):

@@ -1,10 +1,12 @@
-/* A client that writes down all that it is told: listen COLOR [drags | late]. A line is a word and
- * numbers. It draws 300 by 200, and a frame whenever it may. With `drags` it asks to be moved at
- * each press, with `late` at each release. */
+/* A client that writes down all that it is told: listen COLOR [drags | late | pulls | slow]. A line
+ * is a word and numbers. It draws 300 by 200, and a frame whenever it may. With `drags` it asks to
+ * be moved at each press, with `late` at each release, with `pulls` it asks at each press that the
+ * edges are pulled which the pointer is at, and with `slow` it takes its time to have a new size,
+ * and shows each. */
 #include "client.h"
 
 static struct wl_data_device *device;
-static int drags, late, width = 300, height = 200;
+static int drags, late, pulls, slow, width = 300, height = 200, place_x, place_y;
 static uint32_t color;
 
 /* ---- The keyboard */
@@ -57,7 +59,9 @@ static void enter(void *none, struct wl_pointer *self, uint32_t serial, struct w
                   wl_fixed_t x, wl_fixed_t y)
 {
     (void)none, (void)self, (void)where;
-    printf("enter %u %d %d\n", serial, wl_fixed_to_int(x), wl_fixed_to_int(y));
+    place_x = wl_fixed_to_int(x);
+    place_y = wl_fixed_to_int(y);
+    printf("enter %u %d %d\n", serial, place_x, place_y);
 }
 
 static void leave(void *none, struct wl_pointer *self, uint32_t serial, struct wl_surface *where)
@@ -69,7 +73,16 @@ static void leave(void *none, struct wl_pointer *self, uint32_t serial, struct w
 static void motion(void *none, struct wl_pointer *self, uint32_t time, wl_fixed_t x, wl_fixed_t y)
 {
     (void)none, (void)self, (void)time;
-    printf("motion %d %d\n", wl_fixed_to_int(x), wl_fixed_to_int(y));
+    place_x = wl_fixed_to_int(x);
+    place_y = wl_fixed_to_int(y);
+    printf("motion %d %d\n", place_x, place_y);
+}
+
+/* The edges of the third of the window, across and down, that the pointer is in. */
+static uint32_t edges(void)
+{
+    return (3 * place_x < width ? 4u : 3 * place_x > 2 * width ? 8u : 0u) |
+           (3 * place_y < height ? 1u : 3 * place_y > 2 * height ? 2u : 0u);
 }
 
 static void button(void *none, struct wl_pointer *self, uint32_t serial, uint32_t time,
@@ -79,6 +92,8 @@ static void button(void *none, struct wl_pointer *self, uint32_t serial, uint32_
     printf("button %u %u %u\n", serial, code, state);
     if (state == 1 ? drags : late)
         xdg_toplevel_move(top, seat, serial);
+    if (state == 1 && pulls)
+        xdg_toplevel_resize(top, seat, serial, edges());
 }
 
 static void axis(void *none, struct wl_pointer *self, uint32_t time, uint32_t which, wl_fixed_t by)
@@ -158,10 +173,14 @@ static void toplevel(void *none, struct xdg_toplevel *self, int32_t w, int32_t h
 {
     (void)none, (void)self;
     printf("size %d %d states %zu\n", w, h, states->size / 4);
+    if (slow)
+        usleep(200000);
     if (w > 0 && h > 0) {
         width = w;
         height = h;
     }
+    if (slow)
+        show(plain(width, height, 0xFF000000 | color), width, height);
 }
 
 static void closes(void *none, struct xdg_toplevel *self)
@@ -176,6 +195,8 @@ int main(int count, char **words)
     color = count > 1 ? (uint32_t)strtoul(words[1], NULL, 16) : 0;
     drags = count > 2 && !strcmp(words[2], "drags");
     late = count > 2 && !strcmp(words[2], "late");
+    pulls = count > 2 && !strcmp(words[2], "pulls");
+    slow = count > 2 && !strcmp(words[2], "slow");
     setvbuf(stdout, NULL, _IOLBF, 0);
     if (!begin())
         return 1;

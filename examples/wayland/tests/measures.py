@@ -2,17 +2,22 @@
 
 import os
 from pathlib import Path
+import shutil
+import statistics
 import subprocess
 import tempfile
 import time
 
 from cases_apart import late
-from cases_programs import VIDEO, changes
-from stage import Desk, Screen, bar, shown
+from cases_programs import VIDEO
+from running import Running
+from stage import Desk, Screen, bar, shown, until
+import video
 
 HERE = Path(__file__).resolve().parent.parent
-FOOT = "foot -F sh -c 'clear; exec cat'"
-MPV = "mpv --fs --no-audio --vo=wlshm --loop {}/video.mp4"
+FOOT = "foot -F -o colors.background=242424 sh -c 'clear; exec cat'"
+PAPER = 0x242424              # of foot
+TURNS, KEYS, LONG = 3, 200, 10
 
 
 class Weston:
@@ -20,16 +25,19 @@ class Weston:
 
     def __init__(self, screen, command):
         self.folder = tempfile.TemporaryDirectory(prefix="weston-")
-        environment = dict(screen.environment, XDG_RUNTIME_DIR=self.folder.name)
-        os.chmod(self.folder.name, 0o700)
-        quiet = {"stdout": subprocess.DEVNULL, "stderr": subprocess.DEVNULL}
+        environment = dict(screen.environment, XDG_RUNTIME_DIR=self.folder.name,
+                           WAYLAND_DISPLAY="measured")
+        quiet = {"env": environment, "stdout": subprocess.DEVNULL, "stderr": subprocess.DEVNULL}
         self.processes = [subprocess.Popen(
-            ["weston", "--backend=x11-backend.so", "--width=1024", "--height=768",
-             "--socket=measured", "--idle-time=0"], env=environment, **quiet)]
+            ["weston", "--backend=x11-backend.so", f"--width={screen.width}",
+             f"--height={screen.height}", "--socket=measured", "--idle-time=0"], **quiet)]
         while not (Path(self.folder.name) / "measured").exists():
             time.sleep(0.05)
-        environment["WAYLAND_DISPLAY"] = "measured"
-        self.processes.append(subprocess.Popen(["sh", "-c", command], env=environment, **quiet))
+        self.processes.append(subprocess.Popen(["sh", "-c", command], **quiet))
+
+    def ticks(self):
+        """The hundredths of a second of a processor that weston has used."""
+        return Running.used([self.processes[0].pid])
 
     def __enter__(self):
         return self
@@ -41,34 +49,50 @@ class Weston:
         self.folder.cleanup()
 
 
-def compositor(name, screen, programs, command, folder):
-    """One of the two, with a program."""
-    if name == "weston":
-        return Weston(screen, command)
-    return Desk(screen, programs, [f"one,see:{folder}={command}"])
+def keys(screen, it):
+    """From a key to the changed pixel in a terminal, and what is done while nothing happens."""
+    until("foot", lambda: screen.pixel(500, 400) == PAPER, 60)
+    screen.user("mousemove 500 400 click 1")
+    time.sleep(1)
+    median, last = late(screen, KEYS, 7)
+    time.sleep(1)
+    before = it.ticks()
+    time.sleep(LONG)
+    return {f"key to pixel in foot, median of {KEYS}, ms": median,
+            "the same, 99th percentile": last,
+            "idle beside foot, % of a processor": (it.ticks() - before) / LONG}
+
+
+def pictures_seen(screen, it):
+    """Pictures of a video on the whole screen."""
+    rate, before = video.seen(screen, LONG), it.ticks()
+    time.sleep(5)
+    return {f"pictures a second, of {video.RATE}, {screen.width}x{screen.height}": rate,
+            "meanwhile, % of a processor": (it.ticks() - before) / 5}
 
 
 def measure(programs):
-    """Keys and frames, by turns on the desk and in weston."""
+    """A table: on the desk and in weston, by turns; each number is the median of its turns."""
+    found = {"desk": {}, "weston": {}}
     with tempfile.TemporaryDirectory() as folder:
-        subprocess.run(VIDEO.format(folder), shell=True, check=True)
-        for turn in range(2):
-            for name in ("desk", "weston"):
-                screen = Screen()
-                with compositor(name, screen, programs, FOOT, folder):
-                    time.sleep(3)
-                    screen.user("mousemove 500 400 click 1")
-                    time.sleep(1)
-                    median, last = late(screen, 50, 7)
+        video.make(folder)
+        play = video.PLAY.format(f"{folder}/numbers.mp4", "/dev/null")
+        for name in [name for name in found if name == "desk" or shutil.which(name)] * TURNS:
+            for size, command, ask in (((1024, 768), FOOT, keys),
+                                       ((1920, 1080), play, pictures_seen)):
+                screen = Screen(*size)
+                words = [f"--size={size[0]}x{size[1]}", f"one,see:{folder}={command}"]
+                with (Weston(screen, command) if name == "weston" else
+                      Desk(screen, programs, words)) as it:
+                    for what, value in ask(screen, it).items():
+                        found[name].setdefault(what, []).append(value)
                 screen.close()
-                screen = Screen()
-                with compositor(name, screen, programs, MPV.format(folder), folder):
-                    time.sleep(5)
-                    frames = changes(screen, 400, 700, 4) / 4
-                screen.close()
-                print(f"{turn} {name}: key {median:.1f} ms, 99th percentile {last:.1f} ms; "
-                      f"fullscreen video {frames:.1f} frames a second; "
-                      f"load {os.getloadavg()[0]:.1f}", flush=True)
+    print("|what|desk|weston|", "|---|--:|--:|", sep="\n")
+    for what, values in found["desk"].items():
+        other = found["weston"].get(what)
+        print(f"|{what}|{statistics.median(values):.1f}|"
+              f"{statistics.median(other) if other else float('nan'):.1f}|")
+    print(f"load {os.getloadavg()[0]:.1f}, {os.cpu_count()} processors, {TURNS} turns")
 
 
 def pictures(programs):

@@ -24,16 +24,16 @@ BUGS = {
         "drags", "drag.c", "surface->client->buttons > 0 && ", ""),
     "each client is told of all": (
         "untold", "input.c", "        tell(client, &reply.event);",
-        "        for (struct client *any = host.clients; any < host.clients + SEATS; any++)\n"
+        "        for (struct client *any = desk.clients; any < desk.clients + SEATS; any++)\n"
         "            if (any->wl)\n                tell(any, &reply.event);"),
     "modifiers are another client's": (
         "untold", "keyboard.c", "struct xkb_state *keys = client->keys;",
-        "struct xkb_state *keys = host.clients[client == host.clients].keys;"),
+        "struct xkb_state *keys = desk.clients[client == desk.clients].keys;"),
     "serials are of one counter": (
-        "untold", "host.h", "{ return ++client->serial; }",
-        "{ return client->serial = ++host.clients[SEATS - 1].serial; }"),
+        "untold", "desk.h", "{ return ++client->serial; }",
+        "{ return client->serial = ++desk.clients[SEATS - 1].serial; }"),
     "frames come as soon as they are asked for": (
-        "frames", "desk.c", "    if (now() < host.tick)\n        return;\n", ""),
+        "frames", "desk.c", "    if (now() < desk.tick)\n        return;\n", ""),
     "the clipboard is set without the focus": (
         "misdeeds", "clip.c", "SET_SELECTION && client->focused;", "SET_SELECTION;"),
     "the clipboard is read without the focus": (
@@ -47,6 +47,12 @@ BUGS = {
         "misdeeds", "surfaces.c", "client->surface_count < SURFACES", "true"),
     "who is locked out comes again": (
         "kill", "clients.c", "    program_end(program);\n}", "    program_forget(program);\n}"),
+    "a window that is let go of has no edge any more": (
+        "edges", "drag.c", "dragged != surface && surface->heard == surface->asked)",
+        "dragged != surface)"),
+    "a subsurface does not wait for its parent": (
+        "synced", "surfaces.c", "bool synced = surface_is_synced(surface);",
+        "bool synced = false;"),
     "a sandbox has the network": (
         "sandbox", "sandbox.c", '"--unshare-all",', '"--unshare-all", "--share-net",'),
 }
@@ -61,8 +67,7 @@ class Copy:
                       f"HEADER={header}", "FLAGS=-std=c11 -O1 -D_GNU_SOURCE"]
         shutil.copytree(HERE.parent, self.place,
                         ignore=shutil.ignore_patterns("out", "__pycache__"))
-        shutil.copytree(ROOT / "examples" / "window" / "tests",
-                        Path(folder) / "examples" / "window" / "tests")
+        shutil.copytree(ROOT / "examples" / "shared", Path(folder) / "examples" / "shared")
         subprocess.run(self.words, check=True)
 
     def finds(self, name):

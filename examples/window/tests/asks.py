@@ -7,7 +7,7 @@ import sys
 import tempfile
 import time
 
-from desk import Wrong, text, until
+from host import Wrong, bar, check, text, until  # noqa: F401
 
 HERE = Path(__file__).resolve().parent
 BARE, WHITE = 0x000020, 0xFFFFFF
@@ -24,22 +24,9 @@ def dimmed(mode, word):
     return {"flat": word, "xray": half, "kill": half + 0x800000}[mode]
 
 
-def check(what, holds):
-    """Something holds, or the case ends."""
-    if not holds:
-        raise Wrong(what)
-
-
 def shows(screen, x, y, words):
     """Whether this text of the server stands there."""
     return screen.part(x, y, 4 * len(words) + 1, 7) == text(words)
-
-
-def bar(screen, words):
-    """Waits until the bar says this, and nothing more."""
-    wide = 4 * 30 + 1
-    rows = [row + [0] * (wide - len(row)) for row in text(words)]
-    until(f"the bar says {words}", lambda: screen.part(0, 0, wide, 7) == rows)
 
 
 def dots(screen, place=PROMPT):

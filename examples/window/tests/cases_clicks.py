@@ -9,7 +9,7 @@ import tempfile
 import time
 
 from asks import BARE, Puppet, bar, check, dimmed, program
-from desk import Host, Wrong, lives, until
+from host import Host, Wrong, lives, until
 
 AT, ASIDE, BARED = (330, 330), (730, 630), (450, 350)
 REAR, TOP, NEW = 0x602020, 0x206020, 0x202060

@@ -9,16 +9,16 @@ import statistics
 import tempfile
 import time
 
-from asks import HERE, BARE, TOGGLE, bar, check, focused_toggle, program, typing
-from desk import Host, Wrong, lives, until
+from asks import BARE, TOGGLE, bar, check, focused_toggle, program, typing
+from host import LEAKS, SEATS, Host, Wrong, lives, until
 from hostile import LIBERTIES, MISDEEDS
 
 
-def case_sixteen(screen, programs):
-    """Sixteen clients, no seventeenth, and another in the place of one that is killed."""
-    words = [f"client-{seat}=./login" for seat in range(15)]
+def case_full(screen, programs):
+    """A client on each seat, no further one, and another in the place of one that is killed."""
+    words = [f"client-{seat}=./login" for seat in range(SEATS - 1)]
     with Host(screen, programs, [*words, "toggle=./toggle"]) as host:
-        until("sixteen", lambda: sum(map(len, host.clients().values())) == 16)
+        until("all", lambda: sum(map(len, host.clients().values())) == SEATS)
         focused_toggle(screen)
         typing(screen)
         host.tell("+more=./login")
@@ -26,7 +26,7 @@ def case_sixteen(screen, programs):
         os.kill(host.clients()["login"][3], signal.SIGKILL)
         host.says("window: client-")
         host.tell("+more=./login")
-        until("sixteen again", lambda: sum(map(len, host.clients().values())) == 16)
+        until("all again", lambda: sum(map(len, host.clients().values())) == SEATS)
         typing(screen)
 
 
@@ -35,15 +35,16 @@ def case_labels(screen, programs):
     with Host(screen, programs, ["^clock=./clock", "login=./login"]) as host:
         for word, why in (("login=./game", "the label is taken"),
                           ("game", "a client is NAME=PROGRAM"), ("none=./none", "No such file"),
+                          (".1=./none", "No such file"),
                           *((label + "=./game", "a label is 1 to 20 of") for label in
                             ("Login", "", "no label", "^login", "a-label-of-21-letters"))):
             host.tell("+" + word)
             host.says(f"window: +{word}: {why}")
         os.kill(host.clients()["clock"][0], signal.SIGTERM)
         host.says("window: clock:")
-        for seat in range(15):
+        for seat in range(SEATS - 1):
             host.tell(f"+client-{seat}=./login")
-        host.says("window: +client-14=./login: no seat of its layer is free")
+        host.says(f"window: +client-{SEATS - 2}=./login: no seat of its layer is free")
         host.tell("+clock=./clock")
         until("the seat in front is kept", lambda: "clock" in host.clients())
 
@@ -236,7 +237,7 @@ def case_alone(screen, programs):
     by the system's list of processes. Root may look at all of these, so another user starts it."""
     with tempfile.TemporaryDirectory() as folder:
         os.chmod(folder, 0o755)
-        for path in (Path(programs) / "window", Path(programs) / "alone", HERE / "leaks"):
+        for path in (Path(programs) / "window", Path(programs) / "alone", LEAKS):
             shutil.copy(path, folder)
         more = {"env": dict(screen.environment, LSAN_OPTIONS="suppressions=leaks:"
                             "print_suppressions=0", SECRET="of the user")}

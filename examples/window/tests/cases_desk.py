@@ -8,7 +8,7 @@ import time
 
 from asks import (ACTIVE, BALL, BARE, BLUE, BOARD, CLOCK, COVER, DESK, PAPER, TOGGLE, WHITE,
                   Puppet, bar, begun, check, copied, dimmed, dots, program, shows, typing)
-from desk import NO_WINDOW, POINTED_WINDOW, Host, until
+from host import NO_WINDOW, POINTED_WINDOW, Host, until
 
 
 def case_places(screen, programs):

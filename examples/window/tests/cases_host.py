@@ -12,18 +12,24 @@ import termios
 import time
 
 from asks import ACTIVE, BLUE, DESK, bar, begun, check, focused_toggle, program, typing
-from desk import Host, Screen, until
+from host import SEATS, Host, Screen, large, stands, text, until
 
 PLAIN = "login=./login"
-FULL = [f"client-{seat}=./login" for seat in range(16)]
+FULL = [f"client-{seat}=./login" for seat in range(SEATS)]
 WRONG = [
     ([], "there is no client"),
     (["--size=640x480"], "there is no client"),
     (["--other", PLAIN], "--other: there is no such word"),
     (["--size=640", PLAIN], "--size: "),
-    (["--size=4097x768", PLAIN], "--size: a window has 1x8 to 4096x4096"),
-    (["--size=1024x4097", PLAIN], "--size: a window has 1x8 to 4096x4096"),
+    (["--size=4097x768", PLAIN], "--size: a screen has up to 4096x4096"),
+    (["--size=1024x4097", PLAIN], "--size: a screen has up to 4096x4096"),
     (["--size=64x7", PLAIN], "--size: "),
+    (["--glyphs=large", "--scale=8", "--size=64x72", PLAIN], "and a row below the bar"),
+    *(([f"--scale={scale}", PLAIN], f"--scale={scale}: a scale is 1 to 8")
+      for scale in ("", "0", "9", "-1", "10", "1x", "two")),
+    *(([f"--glyphs={glyphs}", PLAIN], f"--glyphs={glyphs}: glyphs are small or large")
+      for glyphs in ("", "1", "Large", "larger")),
+    (["--zoom=2", PLAIN], "--zoom=2: there is no such word"),
     (["--size=4294967360x64", PLAIN], "--size: "),
     (["--kill=Nokey", PLAIN], "--kill=Nokey: there is no such key"),
     ([PLAIN, "game"], "game: a client is NAME=PROGRAM"),
@@ -32,7 +38,6 @@ WRONG = [
     (["^login=./login", "^login=./game"], "^login=./game: the label is taken"),
     ([*FULL, "late=./login"], "late=./login: no seat of its layer is free"),
     ([*FULL, "^late=./login"], "^late=./login: no seat of its layer is free"),
-    ([".1=./login", "^clock=./clock"], ".1=./login: the label is taken"),
     ([PLAIN, "none=./none"], "none=./none: No such file"),
     ([PLAIN, "none=/"], "none=/: Permission denied"),
 ]
@@ -56,6 +61,21 @@ def case_words(screen, programs):
     check("--help", status == 0 and not error and "NAME=PROGRAM" in said)
 
 
+def case_letters(screen, programs):
+    """Labels and the bar have the glyphs and the scale of the words."""
+    thrice = [[word for word in row for _ in range(3)] for row in text("login") for _ in range(3)]
+    for words, label, bar_says in (
+            (["--scale=3"], thrice, None), (["--glyphs=small"], text("login"), text("xray:login")),
+            (["--glyphs=large"], large("login", 1), large("xray:login", 1)),
+            (["--glyphs=large", "--scale=3"], large("login", 3), large("xray:login", 3))):
+        with Host(screen, programs, [*words, PLAIN]):
+            until("the prompt", lambda: screen.pixel(60, 80) == BLUE)
+            screen.user("mousemove 100 100 click 1 key Scroll_Lock")
+            stands(screen, 60, 80, label)
+            if bar_says:
+                stands(screen, 0, 0, bar_says)
+
+
 def case_memory(screen, programs):
     """Where memory is short the host says so."""
     host = (Path(programs) / "window").read_bytes()
@@ -69,14 +89,14 @@ def case_memory(screen, programs):
 
 
 def case_long(screen, programs):
-    """A line of over 510 bytes ends the control line, and nothing else."""
+    """A line of over 2,046 bytes ends the control line, and nothing else."""
     with Host(screen, programs, ["toggle=./toggle"]) as host:
         focused_toggle(screen)
-        host.tell("a" * 510)
+        host.tell("a" * 2046)
         host.says("window: aaa")
         check(f"it says {host.said}", len(host.said) == 1)
-        host.tell("b" * 511)
-        host.says("window: a line has at most 510 bytes")
+        host.tell("b" * 2047)
+        host.says("window: a line has at most 2046 bytes")
         host.tell("quit")
         typing(screen)
         host.process.terminate()
@@ -84,7 +104,7 @@ def case_long(screen, programs):
 
 def case_bits(_, programs):
     """A screen of other words than the library's ends the host with the cause."""
-    few = Screen(16)
+    few = Screen(bits=16)
     try:
         status, _, error = begin(few, programs, [PLAIN])
         check(f"{status} {error}", status == 2 and

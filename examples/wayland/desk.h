@@ -1,10 +1,8 @@
 /* The parts of the host, which is an example and not proved: see desk.c. */
-#ifndef HOST_H
-#define HOST_H
+#ifndef DESK_H
+#define DESK_H
 
-#include <SDL.h>
-#include <nitpicker.h>
-#include <stdbool.h>
+#include "shared.h"
 #include <wayland-server.h>
 #include <xdg-shell.h>
 #include <xdg-decoration.h>
@@ -12,7 +10,6 @@
 #include <requests.h>
 
 enum {
-    SEATS = NIT_MOST_SEATS,
     PROGRAMS = 16,
     LABEL = 21,               /* a label and its 0 */
     LAYER = 1,
@@ -21,10 +18,7 @@ enum {
     LEAST_W = 136,            /* of a window: its label has room, and a click finds it */
     LEAST_H = 24,
     BARE = 0x20,              /* the bare screen's word */
-    FIRST_BUTTON = 272,
     LEFT_BUTTON = 272,
-    XRAY_KEY = 70,            /* Linux's codes of the keys of modes */
-    KILL_KEY = 99,
     MOVE_KEY = 125            /* the left logo key: with a button held it moves a window */
 };
 
@@ -54,13 +48,12 @@ struct buffer {
 
 enum role { NO_ROLE, TOPLEVEL, POPUP, SUBSURFACE, CURSOR };
 
-/* What requests have set, until a commit takes it over. */
-struct pending {
+/* What requests have set, and does not hold yet. */
+struct state {
     struct held buffer;
     bool attached;
     struct box damage, geometry, input;
     struct wl_list frames;
-    int32_t x, y;             /* of a subsurface */
 };
 
 struct surface {
@@ -68,7 +61,7 @@ struct surface {
     struct client *client;
     struct wl_list link;      /* in the client's surfaces, the newest first */
     enum role role;
-    struct pending next;
+    struct state next, committed; /* until it is committed, and until it holds from then on */
 
     int32_t w, h;             /* of its last buffer; 0 where it has none */
     struct box geometry, input;
@@ -85,9 +78,13 @@ struct surface {
 
     struct surface *parent;   /* of a popup or a subsurface */
     struct wl_list children, sibling; /* the rear-most first */
+    struct wl_list order, place; /* its subsurfaces, as they stand from its next state on */
     int32_t x, y;             /* on the screen, or in the parent */
-    int32_t asked_w, asked_h; /* of a popup, by its positioner */
-    bool desynced, waits;     /* a subsurface; it was committed and its parent not yet */
+    int32_t next_x, next_y;   /* of a subsurface: from the next state of its parent on */
+    int32_t asked_w, asked_h; /* the size that it was asked to have last */
+    uint32_t asked, heard;    /* the serial of that, and the one that it has answered */
+    uint32_t pulled;          /* edges of a toplevel that move with its size, until it has that */
+    bool desynced, waits;     /* of a subsurface; something is committed and does not hold yet */
     bool configured, mapped, grabs;
     uint32_t state;           /* of a toplevel: maximized, fullscreen, or 0 */
     struct box home;          /* where it stands when it is neither */
@@ -130,8 +127,8 @@ struct program {
     char name[LABEL], path[108];
 };
 
-struct host {
-    struct nit_server server;
+/* What this host has beside what each has (shared.h). */
+struct desk {
     struct wl_display *display;
     struct client clients[SEATS];
     struct program programs[PROGRAMS];
@@ -139,24 +136,18 @@ struct host {
     struct wl_list frames;    /* callbacks that wait for the next tick */
     uint64_t tick;
     struct xkb_keymap *keymap;
-    SDL_Window *window;
-    int32_t width, height;    /* of the screen */
-    int32_t scale;            /* of the window: so many of its pixels are one of the screen */
     int32_t atlas_w, atlas_h; /* of each client */
-    bool changed, whole;      /* a look may find something; the window lacks more than it finds */
-    uint64_t period;          /* microseconds between two looks */
-    uint64_t next, soon;      /* when the next may be, and one for the client with the focus */
+    uint64_t soon;            /* when the next look may be for the client with the focus */
     char folder[64];
-    bool sandboxes, moves, sideways, listens, over;
-    struct client *mover;     /* whose window the user moves by the move key */
+    bool sandboxes;
+    bool moves;               /* the move key is held */
+    struct client *mover;     /* whose window the user moves by it */
 };
 
-extern struct host host;
+extern struct desk desk;
 
 /* desk.c */
-uint64_t now(void);
 uint32_t milliseconds(void);
-bool frozen(void);
 void notice(const char *format, ...) __attribute__((format(printf, 1, 2)));
 
 /* box.c */
@@ -171,6 +162,9 @@ void *object_data(struct wl_resource *any);
 void object_forget(struct wl_resource *any);
 struct wl_resource *object_new(struct client *client, const struct kind *kind, uint32_t version,
                                uint32_t id, void *data);
+struct wl_resource *object_with(struct client *client, const struct kind *kind, uint32_t version,
+                                uint32_t id, size_t size);
+void object_free(struct wl_resource *self);
 void object_listed(struct wl_resource *any, struct wl_list *list);
 struct wl_resource *listener_new(struct wl_resource *from, const struct kind *kind, uint32_t id,
                                  struct wl_list *list);
@@ -193,6 +187,7 @@ void surface_unmap(struct surface *surface);
 void surface_changed(struct surface *surface);
 bool surface_is_synced(const struct surface *surface);
 void surface_adopt(struct surface *surface, struct surface *parent);
+void subsurfaces_settle(struct surface *parent);
 bool surface_descends(const struct surface *surface, const struct surface *from);
 struct surface *surface_root(struct surface *surface);
 struct box surface_origin(const struct surface *surface);
@@ -213,17 +208,17 @@ void shell_configure(struct surface *surface, int32_t w, int32_t h);
 void shell_place(struct surface *surface);
 void shell_drop(struct surface *surface);
 void role_gone(struct wl_resource *self);
-void positioner_new(struct client *client, uint32_t version, uint32_t id);
+struct wl_resource *positioner_new(struct wl_resource *shell, uint32_t id);
 void popup_new(struct surface *surface, union wl_argument *with);
 void popups_dismiss(struct client *client);
 void drag_begin(struct surface *surface, uint32_t edges);
-void drag_grab(struct surface *root, uint32_t edges);
 void drag_to(struct client *client, int32_t x, int32_t y);
+void drag_end(struct client *client);
 void drag_resized(struct surface *surface, int32_t w, int32_t h);
+void drag_settle(struct surface *surface);
 
 /* input.c, keyboard.c */
 extern const struct kind SEAT, KEYBOARD;
-void input_deliver(const struct nit_routed *routed);
 void input_forget(struct surface *surface);
 void input_leave(struct client *client);
 struct surface *input_surface(const struct nit_view_state *view);
@@ -237,23 +232,14 @@ void keyboard_into(struct client *client, struct surface *surface);
 extern const struct kind CLIPBOARD;
 void clip_tell(struct client *client);
 
-/* screen.c, devices.c */
-bool screen_open(int *x11);
-uint64_t screen_due(void);
-void screen_show(void);
-bool devices_name(const char *key, uint16_t code);
-void devices_read(void);
-
 /* clients.c, programs.c, sandbox.c */
 int client_knocked(int socket, uint32_t mask, void *data);
 int client_rested(void *data);
 void client_end(struct client *client);
 void clients_credit(uint64_t *next);
-bool program_start(const char *word);
 void program_forget(struct program *program);
 void program_end(struct program *program);
 void programs_reap(void);
-void programs_control(void);
 bool sandbox_is_there(void);
 pid_t sandbox_spawn(const struct program *program, const char *words, const char *command);
 
