@@ -78,6 +78,19 @@ def wrong_picture(folder, program):
     return wrapped(folder, "wrong-picture", program, "", behind)
 
 
+def planted_tests(folder, status):
+    """A folder of tests of the library, each of which ends so where a wrong body is planted."""
+    tests = folder / f"planted-{status}"
+    tests.mkdir()
+    for name in ("answers", "storm", "replay"):
+        executable(tests / f"{name}-planted", f"""#!/bin/sh
+[ -z "$PLANTED" ] && exit 0
+: >"$PLANTED_DONE"
+exit {status}
+""")
+    return tests
+
+
 def copied(folder, source):
     """A copy of a folder of the repository without what was made in it."""
     target = folder / source.name
@@ -102,14 +115,31 @@ def plain_library(folder, embed):
     return archived(folder, embed, "plain", (embed / "tests" / "plain.c").read_text())
 
 
+def changed_library(folder, embed, name, *changes):
+    """The same, with other words in the place of some, each of which stands there."""
+    text = (embed / "tests" / "plain.c").read_text()
+    for old, new in changes:
+        if old not in text:
+            raise AssertionError(f"plain.c does not have {old!r}")
+        text = text.replace(old, new)
+    return archived(folder, embed, name, text)
+
+
+def quick_library(folder, embed):
+    """The same, but that it tells of one pixel alone: so it takes no longer than it may."""
+    head = "struct nit_damage nit_damage(struct nit_server *server)\n{\n"
+    pixel = "struct nit_damage told = all(server); told.part[0].w = told.part[0].h = 1; return told;"
+    return changed_library(
+        folder, embed, "quick", ("nit_damage(server).part", "all(server).part"),
+        (head, head.replace("nit_damage(", "all(")),
+        ("struct nit_rect nit_look(", f"{head}{pixel}}}\n\nstruct nit_rect nit_look("))
+
+
 def slow_library(folder, embed):
     """The same, but for a call that takes much longer than it may."""
     head = "struct nit_reply nit_take(struct nit_server *server, nit_client client)\n{\n"
-    text = (embed / "tests" / "plain.c").read_text()
-    slow = text.replace(head, f"{head}    for (volatile int k = 0; k < 2000; k++);\n")
-    if slow == text:
-        raise AssertionError("plain.c has no nit_take")
-    return archived(folder, embed, "slow", slow)
+    slow = f"{head}    for (volatile int k = 0; k < 2000; k++);\n"
+    return changed_library(folder, embed, "slow", (head, slow))
 
 
 def archived(folder, embed, name, text):
