@@ -105,9 +105,10 @@ fn uncopied_number(why: Uncopied) -> u32
 }
 
 /// Copies a part of the frame.
-fn copy(host: &Host, place: (u32, u32), size: (u32, u32), out: &mut [u32], pitch: usize) -> u32
-    ensures { IsPartCopied host.now (area_at place.0 place.1 size.0 size.1) pitch out.old out.new
-        result }
+fn copy(host: &mut Host, place: (u32, u32), size: (u32, u32), out: &mut [u32], pitch: usize) -> u32
+    ensures same { host.new ≡ host.old }
+    ensures copied { IsPartCopied host.old (area_at place.0 place.1 size.0 size.1) pitch out.old
+        out.new result }
 {
     match host.copy(place, size, out, pitch) {
         Ok(()) => DONE,
@@ -131,7 +132,8 @@ pub extern "C" fn nit_damage(alloc: Global, server: &mut NitServer) -> NitDamage
 }
 
 /// Puts the part of the frame with its left upper pixel at (`x`, `y`), `w` pixels wide and `h`
-/// high, into `out`, whose rows begin `pitch` words behind one another.
+/// high, into `out`, whose rows begin `pitch` words behind one another. What is seen of the server
+/// stays.
 #[unsafe(no_mangle)]
 pub extern "C" fn nit_copy(
     alloc: Global,
@@ -148,8 +150,8 @@ pub extern "C" fn nit_copy(
     if !server.is_live() {
         return NO_SERVER;
     }
-    let host = server.take(alloc);
-    let answer = copy(host.as_ref(), (x, y), (w, h), out, pitch);
+    let mut host = server.take(alloc);
+    let answer = copy(host.as_mut(), (x, y), (w, h), out, pitch);
     *server = NitServer::of(host);
     answer
 }

@@ -1,6 +1,6 @@
 //! A look at the screen, and at the last step.
 
-ghost use Rattle.std.specs.Prelude.{◌≡◌, ◌≤ℤ◌, IfSome, pos};
+ghost use Rattle.std.specs.Prelude.{◌≡◌, ◌*◌, ◌≤ℤ◌, IfSome, nat_eq, pos};
 ghost use Rattle.nit_c.specs.Terms.{IsEntry, IsLine, IsLineOrNone, IsLooked, IsLookedAnew};
 ghost use Rattle.nit_c.specs.Terms.{IsLookedAnewBy, IsLookedBy, IsRect, last_text, only_rect};
 
@@ -60,11 +60,20 @@ fn rect_of(rect: &Option<Rect>) -> NitRect
     }
 }
 
+/// Whether these are as many words as the screen has pixels.
+fn is_whole(host: &Host, words: usize) -> bool
+    ensures { result ≡ nat_eq words (host.now.state.config.width * host.now.state.config.height) }
+{
+    host.facts();
+    let (width, height) = host.size();
+    words == width as usize * height as usize
+}
+
 /// Brings `out` up to date, where it has as many words as the screen has pixels.
 fn show(host: &mut Host, out: &mut [u32]) -> NitRect
     ensures { IsLooked host.old host.new out.old out.new result }
 {
-    if host.frame().len() == out.len() {
+    if is_whole(host, out.len()) {
         rect_of(&host.look(out))
     } else {
         only_rect(WRONG_FRAME)
@@ -75,7 +84,7 @@ fn show(host: &mut Host, out: &mut [u32]) -> NitRect
 fn show_anew(host: &mut Host, out: &mut [u32]) -> NitRect
     ensures { IsLookedAnew host.old host.new out.old out.new result }
 {
-    if host.frame().len() == out.len() {
+    if is_whole(host, out.len()) {
         rect_of(&host.look_anew(out))
     } else {
         only_rect(WRONG_FRAME)

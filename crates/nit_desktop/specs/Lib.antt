@@ -1,3 +1,4 @@
 pub mod Desktop
+pub mod Lending
 pub mod Below
 pub mod Terms

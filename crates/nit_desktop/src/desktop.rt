@@ -42,6 +42,9 @@ impl Model for Desktop {
 }
 
 impl Desktop {
+    ghost use Rattle.std.specs.Borrow.{sem};
+    ghost use Rattle.nit_desktop.specs.Lending.{StaysSame};
+
     /// Serves a call of the session `sid`: each pixel that it makes dirty is loaded once, and no
     /// other. A refused call changes nothing but the count of entries. A session makes at most
     /// 2^32 - 3 views since it opens.
@@ -99,14 +102,16 @@ impl Desktop {
     }
 
     /// The frame that the screen shows now: a word for each pixel, row by row from the top, each
-    /// below 2^24. It is kept, so that nothing is worked out here.
-    pub fn frame(&self) -> &[u32]
-        ensures shown { IsFrameShown (scenery_of self.now.state) self.now.raw result.now }
+    /// below 2^24. What is seen of the desktop stays as it is.
+    pub fn frame(&mut self) -> &[u32]
+        ensures shown { IsFrameShown (scenery_of self.old.state) self.old.raw result.now }
         ensures pixels { length result.now
-            ≡ self.now.state.config.width * self.now.state.config.height }
+            ≡ self.old.state.config.width * self.old.state.config.height }
+        ensures* same { sem 𝓛 (StaysSame self.entry) }
     {
         own_names_show_labels();
         self.screen.facts();
+        self.screen.show();
         self.screen.frame()
     }
 }

@@ -12,7 +12,7 @@ use Rattle.nit_host.proofs.Basics.{handed, is_accepted, is_handed, is_word_in, l
 use Rattle.nit_host.proofs.Basics.{pixel, plain_sight, put, rectangle, refreshed, refusal}
 use Rattle.nit_host.proofs.Basics.{refused_reply, reply_to, route, routed_as, routed_of, serve}
 use Rattle.nit_host.proofs.Basics.{serve_accepted, serve_refused, session, set_long, set_where}
-use Rattle.nit_host.proofs.Basics.{sheet_in, sheets_of, source_at, step_of, step_unless, steps_of}
+use Rattle.nit_host.proofs.Basics.{sheet_in, sheets_of, source_at, step_of_act, step_unless, steps_of}
 use Rattle.nit_host.proofs.Basics.{told, told_words, unless_for, unserved_input, unserved_restack}
 use Rattle.nit_host.proofs.Basics.{word_from}
 use Rattle.nit_host.proofs.Seatings.{may_sit}
@@ -45,7 +45,7 @@ pub same_call : (h : HostModel) (seat : ℕ) (x y : Rattle.std.specs.Prelude.ℤ
     (reply_to h seat (call.Refresh x y w height))))
 same_call h seat x y w height words = grind (arith, nat_tests, cond_both)
 
-pub one_act : (h : HostModel) (act : Act) → Goes h (after_act h act) (step_of h act)
+pub one_act : (h : HostModel) (act : Act) → Goes h (after_act h act) (step_of_act h act)
 one_act h (Calls client c) = grind (arith, nat_tests, is_seat)
 one_act h (Refreshes client x y w height words) = grind (arith, nat_tests, is_seat)
 one_act h (Puts side client view) =

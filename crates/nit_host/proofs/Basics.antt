@@ -1,5 +1,5 @@
 -- What lemmas use: the words of clauses, the library's lemmas, and those of the crates below.
-pub use Rattle.nit_host.specs.Terms.{Act, AgreeOutside, Agrees, All, Answered, AreBlank, AreGlasses}
+pub use Rattle.nit_host.specs.Terms.{Act, AgreeOutside, Agrees, All, Answered, AreBlankSheets, AreGlasses}
 pub use Rattle.nit_host.specs.Terms.{AreInLayers, AreLive, AreParts, AreSheets, AreTurns, Area}
 pub use Rattle.nit_host.specs.Terms.{Bare, Call, Calls, CameBy, CameSince, Client, Comes}
 pub use Rattle.nit_host.specs.Terms.{Configuration, Delivery, DesktopModel, Device, Does, Entry}
@@ -27,7 +27,7 @@ pub use Rattle.nit_host.specs.Terms.{filled_up, first_host, first_session, first
 pub use Rattle.nit_host.specs.Terms.{frame_at, frame_by, frame_shown, free_seat, glass_in, handed}
 pub use Rattle.nit_host.specs.Terms.{handed_over, has_any, has_label, has_place, has_view}
 pub use Rattle.nit_host.specs.Terms.{holds_nothing, in_bar, index_at, input_after_call, is_accepted}
-pub use Rattle.nit_host.specs.Terms.{is_as_shown, is_between, is_button, is_client, is_device}
+pub use Rattle.nit_host.specs.Terms.{is_as_shown, is_between, is_button, is_client, is_input}
 pub use Rattle.nit_host.specs.Terms.{is_free_in, is_handed, is_held_after, is_in_rows, is_inside}
 pub use Rattle.nit_host.specs.Terms.{is_kill, is_killed, is_label, is_label_taken, is_live}
 pub use Rattle.nit_host.specs.Terms.{is_moved, is_owned_by, is_same_client, is_screen, is_session}
@@ -37,7 +37,7 @@ pub use Rattle.nit_host.specs.Terms.{list_all, list_any, looked, low_bytes, memb
 pub use Rattle.nit_host.specs.Terms.{most_height, most_sessions, most_units, most_width, moved}
 pub use Rattle.nit_host.specs.Terms.{next_client, no_look, no_sight, no_turns, nobody_came, opened}
 pub use Rattle.nit_host.specs.Terms.{option_map, option_map_or, owner, owner_of, owner_on}
-pub use Rattle.nit_host.specs.Terms.{owner_shown, owner_then, owns_either, picture, pixel}
+pub use Rattle.nit_host.specs.Terms.{owner_shown, owner_then, owns_either, picture_now, pixel}
 pub use Rattle.nit_host.specs.Terms.{pixel_count, place_at, plain_sight, planned, point}
 pub use Rattle.nit_host.specs.Terms.{position_or_len, put, put_back, put_front, range_with_len}
 pub use Rattle.nit_host.specs.Terms.{receive, rectangle, rectangle_over, refreshed, refusal}
@@ -47,12 +47,12 @@ pub use Rattle.nit_host.specs.Terms.{seen, serve, session, session_in, session_o
 pub use Rattle.nit_host.specs.Terms.{sheet_at, sheet_in, sheets_of, shown, shown_index}
 pub use Rattle.nit_host.specs.Terms.{shown_under_pointer, shows_part, shows_place, since_coming}
 pub use Rattle.nit_host.specs.Terms.{size_at, slice_index, source_at, source_of, source_under}
-pub use Rattle.nit_host.specs.Terms.{spans, has_live_view, step_of, step_unless, steps_of, table_size}
+pub use Rattle.nit_host.specs.Terms.{spans, has_live_view, step_of_act, step_unless, steps_of, table_size}
 pub use Rattle.nit_host.specs.Terms.{taking, told, told_words, touch_of, touched_by, touched_over}
 pub use Rattle.nit_host.specs.Terms.{touched_unless, seat_turn, under_pointer, unless_for, unseated}
 pub use Rattle.nit_host.specs.Terms.{unserved_call, unserved_input, unserved_refresh}
 pub use Rattle.nit_host.specs.Terms.{unserved_restack, vacant_state, waiting_label, waiting_member}
-pub use Rattle.nit_host.specs.Terms.{with_handed, with_turn, without, word_from, word_of, words_of}
+pub use Rattle.nit_host.specs.Terms.{with_handed, with_turn, without, word_from, sheet_word, words_of}
 pub use Rattle.nit_host.specs.Terms.{worn_out, zeros}
 pub use Rattle.nit_journal.proofs.ForCallers.{refused_reply, serve_accepted, serve_refused}
 pub use Rattle.nit_overlay.proofs.ForCallers.{flat_shown, get_or-frame, length-frame, same_frame}

@@ -5,7 +5,7 @@ use Rattle.std.proofs.Common.{replicate, rules, slice_get, sym, take, true, ℕ,
 use Rattle.std.proofs.Common.{◌<◌, ◌==◌, ◌||◌, ◌∙◌, ◌∷◌, ◌≡◌, ◌≢◌, ◌≤◌}
 use Rattle.nit_glyph.specs.declared.lettering.Lettering.{Lettering}
 use Rattle.nit_host.specs.Terms.{lettered}
-use Rattle.nit_host.proofs.Basics.{All, AllPass-from_list_all, AreBlank, AreSheets, Area, Bare}
+use Rattle.nit_host.proofs.Basics.{All, AllPass-from_list_all, AreBlankSheets, AreSheets, Area, Bare}
 use Rattle.nit_host.proofs.Basics.{Configuration, DesktopModel, HostModel, IsAreaOf}
 use Rattle.nit_host.proofs.Basics.{IsConfiguration, IsFreeLabel, IsFresh, IsHost, IsPlainOf}
 use Rattle.nit_host.proofs.Basics.{IsSeenBut, Member, Point, ScreenPlan, SeatPlan, SheetModel, Sight, State}
@@ -61,7 +61,7 @@ pub blank_plain : (config : Configuration) {seat : ℕ} {sight : Sight} → sigh
 blank_plain config {seat} is = rw is (refl, length-zeros (size_at config seat))
 
 module _ {config : Configuration} {n : ℕ} {sheets : List SheetModel} (far : n ≡ length config.clients) where
-  pub all_blank : AreTo (HasRoom config) n sheets → AreBlank config sheets
+  pub all_blank : AreTo (HasRoom config) n sheets → AreBlankSheets config sheets
   all_blank are = grind (arith, nat_tests)
 
   pub all_sheets : AreTo (HasRoom config) n sheets → AreSheets config sheets
@@ -76,12 +76,12 @@ pub drawn_sheets : {l : Lettering} {config : Configuration} {sheets : List Sheet
     → AreSheets (lettered l config) sheets
 drawn_sheets are = record { count = are.count; plain = are.plain; room = are.room }
 
-pub drawn_blank : {l : Lettering} {config : Configuration} {sheets : List SheetModel} → AreBlank config sheets
-    → AreBlank (lettered l config) sheets
+pub drawn_blank : {l : Lettering} {config : Configuration} {sheets : List SheetModel} → AreBlankSheets config sheets
+    → AreBlankSheets (lettered l config) sheets
 drawn_blank are = record { count = are.count; blank = are.blank }
 
 -- their words are 0
-pub words_blank : (config : Configuration) (sheets : List SheetModel) → AreBlank config sheets
+pub words_blank : (config : Configuration) (sheets : List SheetModel) → AreBlankSheets config sheets
     → sheets_of sheets ≡ blank_sheets config
 words_blank config sheets are =
     let zeros_of : Member → List ℕ = λ m. zeros (table_size m.donation) in
@@ -126,7 +126,7 @@ begun d {s} {config} {sheets} are is raw configured bare a all on =
     by_test test all = grind (arith, nat_tests, bare_fresh, column_and_row)
 
 pub first_now : (s : State) (config : Configuration) (d : DesktopModel) (sheets : List SheetModel) (turns : Turns) (views : List View)
-    → turns ≡ no_turns → views ≡ [] → d.state ≡ s → d.left ≡ 4611686018427387904 → AreBlank config sheets
+    → turns ≡ no_turns → views ≡ [] → d.state ≡ s → d.left ≡ 4611686018427387904 → AreBlankSheets config sheets
     → record {
       state = d.state;
       sheets = sheets_of sheets;

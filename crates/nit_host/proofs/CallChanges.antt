@@ -1,6 +1,6 @@
 -- What of the frame a call, the user or a client that comes changes.
 use Rattle.std.proofs.Common.{Bool, List, None, Option, Some, [], ap, false, inl, inr, length, refl}
-use Rattle.std.proofs.Common.{sym, true, ℕ, ◌%◌, ◌/◌, ◌<◌, ◌∙◌, ◌∷◌, ◌≡◌}
+use Rattle.std.proofs.Common.{sym, true, ℕ, ℤ, ◌%◌, ◌/◌, ◌<◌, ◌∙◌, ◌∷◌, ◌≡◌}
 use Rattle.nit_host.proofs.Basics.{All, AreParts, Area, Call, Delivery, Device, HasTouched}
 use Rattle.nit_host.proofs.Basics.{HoldsBar, HoldsBarIn, HoldsTouched, HoldsUnless, IsAreaAdded}
 use Rattle.nit_host.proofs.Basics.{IsAreaOf, IsBarArea, IsSeenBut, IsToldArea, Mode, Point, Reply}
@@ -8,18 +8,20 @@ use Rattle.nit_host.proofs.Basics.{Routed, State, StaysOutside, Touch, View, aft
 use Rattle.nit_host.proofs.Basics.{after_deliveries, and_left, and_parts, arith, bar_rows, bar_word}
 use Rattle.nit_host.proofs.Basics.{cases_Bool, column_and_row, cond_both, deliveries_of, dirty}
 use Rattle.nit_host.proofs.Basics.{dirty_by_call, false_from_ne_true, false≢true, frame_by, has_any}
-use Rattle.nit_host.proofs.Basics.{has_place, in_bar, input_after_call, is_accepted, is_inside}
+use Rattle.nit_host.proofs.Basics.{has_place, in_bar, input_after_call, is_accepted, is_inside, point}
 use Rattle.nit_host.proofs.Basics.{is_killed, kills, layer, list_any, nat_tests, opened, pixel}
 use Rattle.nit_host.proofs.Basics.{pixel_count, refusal, refused_reply, route, routed_as}
 use Rattle.nit_host.proofs.Basics.{scenery_of, seen, serve, serve_refused, session, sheet_in}
 use Rattle.nit_host.proofs.Basics.{source_at, told, touch_of, touched_by, touched_over}
 use Rattle.nit_host.proofs.Basics.{touched_unless, unaccepted_state, word_from}
 use Rattle.nit_journal.specs.StackAfter.{stack_after_call}
+use Rattle.nit_host.specs.Touch.{is_touched_bare, moves_views}
 use Rattle.nit_host.proofs.PartsKept.{added_on}
 use Rattle.nit_host.proofs.Steps.{KeepSources, Words}
 use Rattle.nit_host.proofs.Frames.{call_inside, flat_stays, same_pixel, seen_after, touched_more}
 use Rattle.nit_host.proofs.Frames.{whole_stays}
 use Rattle.nit_events.specs.declared.call.Call.TheVariants as call
+use Rattle.nit_host.specs.declared.host.touch.Touch.TheVariants as touch
 use Rattle.nit_events.specs.declared.device.Mode.TheVariants as mode
 use Rattle.nit_events.specs.declared.entry.Entry.TheVariants as entry
 
@@ -112,6 +114,22 @@ module _ (s : State) (seat : ℕ) (r : Reply) (sheets sheets' : List (List ℕ))
           (λ k less off. clean_stays c kept k (clean_outside c holds k less off)) (bar_stays c holds)
       by_refusal_and_mode None other is mode_is holds = over_stays c kept holds
 
+-- ---- what is remembered of the views
+
+-- a call that moves no view leaves the stack as it is
+leaves_stack : (s : State) (seat : ℕ) (c : Call) (r : Reply) → moves_views c ≡ false
+    → (after s (entry.Call seat c r)).stack ≡ s.stack
+leaves_stack s seat (call.Buffer w h) r none = stack_steady (layer s.config) seat (call.Buffer w h) r s.stack refl
+leaves_stack s seat (call.Refresh x y w h) r none = stack_steady (layer s.config) seat (call.Refresh x y w h) r s.stack refl
+leaves_stack s seat call.Take r none = stack_steady (layer s.config) seat call.Take r s.stack refl
+leaves_stack s seat (call.Upgrade n) r none = stack_steady (layer s.config) seat (call.Upgrade n) r s.stack refl
+leaves_stack s seat other r none = absurd (false≢true (sym none))
+
+-- views that stand as they are remembered do so after such a call
+pub stand_after : (s : State) {s' : State} (seat : ℕ) (c : Call) (r : Reply) {shown : List View}
+    → s' ≡ after s (entry.Call seat c r) → moves_views c ≡ false → shown ≡ s.stack → shown ≡ s'.stack
+stand_after s seat c r is none stood = rw (is, leaves_stack s seat c r none) stood
+
 -- what a call left of what was seen, and the areas of what has changed since
 pub seen_called : {s s' : State} {seat : ℕ} (c : Call) {r : Reply} (sheets sheets' : List (List ℕ)) {t : Touch}
     {a0 a1 a2 : List Area} (seen : Option (List ℕ)) → HasTouched s seat t a0 a1 → HasTouched s' seat t a1 a2
@@ -130,6 +148,33 @@ seen_called {s} {s'} {seat} c {r} sheets sheets' {t} {a0} {a1} {a2} seen old new
             new_.touched,
           ))),
       new_.screen (old.screen on),
+    )
+
+-- ---- a refresh
+
+-- where no view is, a call touches the same before it and after it
+bare_same : (t : Touch) (s : State) (seat : ℕ) (c : Call) (r : Reply) (p : Point)
+    → is_touched_bare t (after s (entry.Call seat c r)) p ≡ is_touched_bare t s p
+bare_same touch.Views s seat c r p = refl
+bare_same other s seat c r p = refl
+
+-- a refresh moves no view: what is touched after it is what is touched before it
+pub refresh_touches : {s s' : State} {seat : ℕ} (x y : ℤ) (w h : ℕ) (r : Reply) {t : Touch} {a0 a1 : List Area}
+    → s' ≡ after s (entry.Call seat (call.Refresh x y w h) r) → HasTouched s' seat t a0 a1
+    → HasTouched s seat t a0 a1 × HasTouched s' seat t a1 a1
+refresh_touches {s} {s'} {seat} x y w h r {t} {a0} {a1} is new =
+    let refresh = call.Refresh x y w h in
+    let touched : HoldsTouched (after s (entry.Call seat refresh r)) seat t (has_any a1) = rw is at new.touched in
+    let views = leaves_stack s seat refresh r refl in (
+      record {
+        screen = rw is at new.screen;
+        own = new.own;
+        touched = record {
+          bare = λ x y wide high t_is. touched.bare x y wide high (bare_same t s seat refresh r (point x y) ∙ t_is);
+          views = λ i x y v there wide high t_is. touched.views i x y v (rw views there) wide high t_is;
+        };
+      },
+      record { screen = λ on. on; own = λ x y in_. in_; touched = new.touched },
     )
 
 -- What of the frame the user changes, and a client that comes.
@@ -185,6 +230,13 @@ module _ (s s' : State) (dev : Device) (routed : Routed) (sheets sheets' : List 
       ≡ word_from (sheet_in sheets') (source_at after_it k)
   words_told none k = rw same (ap (word_from (sheet_in sheets)) (sym (keep s 0 (entry.Input dev routed)
       (pixel s.config.width k) agrees (none_killed s (pixel s.config.width k) (deliveries_of routed) none))))
+
+  -- nor does a view move
+  pub stand_told : {shown : List View} → deliveries_of routed ≡ (route s.config s.input s.stack dev).deliveries
+      → kills (deliveries_of routed) ≡ false → shown ≡ s.stack → shown ≡ s'.stack
+  stand_told told none stood =
+      let stays = kept_views (route s.config s.input s.stack dev).deliveries s.stack (sym (ap kills told) ∙ none) in
+      rw (is, stays) stood
 
   -- what the user does, by whether the screen shows the same, and the areas of what has changed since
   pub seen_input : (is_same : Bool) (before now : Area)

@@ -1,18 +1,18 @@
 -- Clicks go where the user saw them go.
-use Rattle.std.proofs.Common.{Bool, List, None, Option, Some, [], ap, arith, false, find, get_or}
+use Rattle.std.proofs.Common.{Bool, List, None, Option, Some, [], ap, arith, false, get_or}
 use Rattle.std.proofs.Common.{get_or-set_other, if◌then◌else◌, inl, inr, length, nat_lt, not, refl}
 use Rattle.std.proofs.Common.{set, slice_get, subst, sym, take, true, ℕ, ◌&&◌, ◌++◌, ◌+◌, ◌<◌, ◌==◌}
 use Rattle.std.proofs.Common.{◌∙◌, ◌∷◌, ◌≡◌, ◌≢◌, ◌⊎◌}
-use Rattle.nit_host.proofs.Basics.{Act, Calls, CameSince, Comes, Configuration, Does, HasNoLook}
+use Rattle.nit_host.proofs.Basics.{Act, Calls, CameSince, Comes, Does, HasNoLook}
 use Rattle.nit_host.proofs.Basics.{HostModel, IsClickBy, IsKillBy, IsLockedOut, IsNoLook, LastLook}
 use Rattle.nit_host.proofs.Basics.{Looks, Point, Puts, Refreshes, State, TakesClick, Unserved, View}
 use Rattle.nit_host.proofs.Basics.{WasShown, after_act, after_acts, after_look, bar_rows, cases_eq}
-use Rattle.nit_host.proofs.Basics.{cases_lt, covers, false≢true, fold-append, get_or-set_same}
+use Rattle.nit_host.proofs.Basics.{cases_lt, false≢true, fold-append, get_or-set_same}
 use Rattle.nit_host.proofs.Basics.{get_or_from_slice_get, get_or_past, holds_nothing, in_bar}
-use Rattle.nit_host.proofs.Basics.{is_accepted, is_as_shown, is_button, is_device, is_moved}
-use Rattle.nit_host.proofs.Basics.{is_same_client, kill_button, length-set, looked, map-append}
-use Rattle.nit_host.proofs.Basics.{nat_tests, no_look, option_map, owner, owner_of, owner_on}
-use Rattle.nit_host.proofs.Basics.{owner_shown, owner_then, point, put, reply_to, same_Some, seated}
+use Rattle.nit_host.proofs.Basics.{is_accepted, is_as_shown, is_button, is_input, is_moved}
+use Rattle.nit_host.proofs.Basics.{is_same_client, kill_button, length-set, looked}
+use Rattle.nit_host.proofs.Basics.{nat_tests, no_look, option_map, owner, owner_on}
+use Rattle.nit_host.proofs.Basics.{owner_shown, owner_then, point, reply_to, same_Some, seated}
 use Rattle.nit_host.proofs.Basics.{shown_under_pointer, take_more, told, under_pointer, unless_for}
 use Rattle.nit_host.proofs.Basics.{unseated, unserved_call, unserved_input, unserved_refresh}
 use Rattle.nit_host.proofs.Basics.{unserved_restack, worn_out}
@@ -136,7 +136,7 @@ as_shown h k takes =
     let x = is_as_shown h.seen h.state in
     let moved : is_moved h.seen h.state (device.Press k) ≡ not x =
     λ i. takes.button i && (holds_nothing (takes.free i) && not x) in
-    from_not x (sym moved ∙ no_reason (is_device (device.Press k)) (is_moved h.seen h.state (device.Press k))
+    from_not x (sym moved ∙ no_reason (is_input (device.Press k)) (is_moved h.seen h.state (device.Press k))
     (worn_out h) takes.served)
 
 clicked : (h : HostModel) (k : ℕ) → TakesClick h k → (shown_under_pointer h.seen h.state ≡ under_pointer h.state)

@@ -1,16 +1,16 @@
 -- A client of before is never the one of its seat again.
 use Rattle.std.proofs.Common.{Bool, List, None, Option, Some, [], ap, arith, false, get_or}
-use Rattle.std.proofs.Common.{get_or-set_other, if◌then◌else◌, inl, inr, length, not, refl}
-use Rattle.std.proofs.Common.{replicate, set, sym, true, ℕ, ℤ, ◌++◌, ◌+◌, ◌<◌, ◌==◌, ◌∙◌, ◌∷◌, ◌≡◌}
+use Rattle.std.proofs.Common.{get_or-set_other, if◌then◌else◌, inl, inr, length, refl}
+use Rattle.std.proofs.Common.{set, true, ℕ, ℤ, ◌+◌, ◌<◌, ◌∙◌, ◌∷◌, ◌≡◌}
 use Rattle.std.proofs.Common.{◌≢◌, ◌≤◌, ◌⊎◌}
-use Rattle.nit_host.proofs.Basics.{Act, Call, Calls, CameBy, Client, Comes, Configuration, Does}
+use Rattle.nit_host.proofs.Basics.{Act, Call, Calls, CameBy, Client, Comes, Does}
 use Rattle.nit_host.proofs.Basics.{HostModel, IsFirst, Looks, Puts, Refreshes, Side, Turns}
 use Rattle.nit_host.proofs.Basics.{Unseated, after_act, after_acts, called, cases_eq, cases_lt}
-use Rattle.nit_host.proofs.Basics.{eq-eqb, first_state, fold-append, get_or-set_same, is_accepted}
+use Rattle.nit_host.proofs.Basics.{eq-eqb, fold-append, get_or-set_same, is_accepted}
 use Rattle.nit_host.proofs.Basics.{is_client, length-set, most_sessions, nat_tests, ne_eqb}
 use Rattle.nit_host.proofs.Basics.{next_client, put, refreshed, reply_to, seated, set_past}
 use Rattle.nit_host.proofs.Basics.{since_coming, told, seat_turn, unless_for, unseated, unserved_call}
-use Rattle.nit_host.proofs.Basics.{unserved_input, unserved_refresh, unserved_restack, vacant_state}
+use Rattle.nit_host.proofs.Basics.{unserved_input, unserved_refresh, unserved_restack}
 use Rattle.nit_host.proofs.Basics.{with_turn}
 use Rattle.nit_events.specs.declared.call.Call.TheVariants as call
 

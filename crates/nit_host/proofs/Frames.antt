@@ -10,7 +10,7 @@ use Rattle.nit_host.proofs.Basics.{get_or_from_slice_get, get_or_past, has_any, 
 use Rattle.nit_host.proofs.Basics.{index_at, ints, is_between, is_inside, is_owned_by, is_session}
 use Rattle.nit_host.proofs.Basics.{is_touched, is_word_in, length-frame, mod-mul-add, nat_tests}
 use Rattle.nit_host.proofs.Basics.{option_map_or, or_cases, owner_of, owns_either, passes_at_first}
-use Rattle.nit_host.proofs.Basics.{picture, pixel, pixel_count, place_at, point, position_or_len}
+use Rattle.nit_host.proofs.Basics.{picture_now, pixel, pixel_count, place_at, point, position_or_len}
 use Rattle.nit_host.proofs.Basics.{rectangle, rectangle_over, same_Some, scenery_of, session}
 use Rattle.nit_host.proofs.Basics.{sheet_in, shown, shown_index, shows_part, shows_place}
 use Rattle.nit_host.proofs.Basics.{slice_get_within, source_at, source_under, spans, touched_by}
@@ -183,7 +183,7 @@ touched_more s seat t a b holds more = grind (arith, nat_tests)
 -- ---- which word a pixel of a host's picture shows
 
 pub by_source : (h : HostModel) (k : ℕ) (source : PixelSource) → k < pixel_count h.state → source_at h.state k ≡ source
-    → slice_index (picture h) k ≡ word_from (sheet_in h.sheets) source
+    → slice_index (picture_now h) k ≡ word_from (sheet_in h.sheets) source
 by_source h k source less is = grind (arith, nat_tests, get_or-map-range_with_len)
 
 no_index : (columns rows : ℕ) (a b : ℤ)
@@ -197,11 +197,11 @@ pub of_past : (h : HostModel) (k : ℕ) (v : View) → k < pixel_count h.state
     → ((i j : ℕ) → (pos (k % h.state.config.width) -ℤ v.rect.x) -ℤ v.ox ≡ pos i
     → i < (session h.state v.sid).bw
     → (pos (k / h.state.config.width) -ℤ v.rect.y) -ℤ v.oy ≡ pos j → j < (session h.state v.sid).bh → ⊥)
-    → slice_index (picture h) k ≡ 0
+    → slice_index (picture_now h) k ≡ 0
 of_past h k v less owned none = grind (arith, nat_tests, by_source, no_index)
 
 pub of_none : (h : HostModel) (k : ℕ) → k < pixel_count h.state
-    → owner_of h.state (pixel h.state.config.width k) ≡ None → slice_index (picture h) k ≡ bare_word
+    → owner_of h.state (pixel h.state.config.width k) ≡ None → slice_index (picture_now h) k ≡ bare_word
 of_none h k less none = by_source h k Bare less (rw none refl)
 
 -- ---- what of a view is touched, as an area

@@ -12,7 +12,7 @@ use Rattle.nit_host.proofs.Basics.{none_past, none_set, plain_sight, rectangle, 
 use Rattle.nit_host.proofs.Basics.{same_filled, same_set, seated, session, set_long, set_past}
 use Rattle.nit_host.proofs.Basics.{set_where, sheet_in, spans, take_at, told_words, unless_for}
 use Rattle.nit_host.proofs.Basics.{unseated, unserved_call, unserved_input, unserved_refresh}
-use Rattle.nit_host.proofs.Basics.{with_handed, word_at, word_of, zero_at, zeros}
+use Rattle.nit_host.proofs.Basics.{with_handed, word_at, sheet_word, zero_at, zeros}
 use Rattle.std.proofs.Common.{All, Bool, List, None, Option, Some, [], ap, false, get_or-set_other}
 use Rattle.std.proofs.Common.{get_or-set_same, int_le, length, nat_le, pos, refl, set, slice_index}
 use Rattle.std.proofs.Common.{subst, sym, take, true, ℕ, ℤ, ◌%◌, ◌&&◌, ◌*◌, ◌++◌, ◌+ℤ◌, ◌+◌, ◌-◌}
@@ -75,16 +75,16 @@ module _ (h : HostModel) (client : Client) (x y : ℤ) (w height : ℕ) (words :
 
   pub handed_word : (i j : ℕ) → unserved_refresh h client words ≡ None → is_accepted (reply_to h seat asked) ≡ true
       → s.bw * s.bh ≤ length (sheet_in h.sheets seat) → IsInPart s x y w height i j
-      → word_of (after_act h (Refreshes client x y w height words)) seat (j * s.bw + i)
+      → sheet_word (after_act h (Refreshes client x y w height words)) seat (j * s.bw + i)
       ≡ slice_index words (j * s.bw + i) % 2 ^ 24
   handed_word i j none accepted fits is =
       grind (arith, nat_tests, get_or-set_same, get_or_past, word_at, mul-add-lt, in_part)
 
   pub other_word : (t n : ℕ) → (t ≡ seat → (i j : ℕ) → IsInPart s x y w height i j → n ≢ j * s.bw + i)
-      → word_of (after_act h (Refreshes client x y w height words)) t n ≡ word_of h t n
+      → sheet_word (after_act h (Refreshes client x y w height words)) t n ≡ sheet_word h t n
   other_word t n none = kept_for (unserved_refresh h client words) (refreshed seat x y w height words h) h
-      (λ m. word_of m t n ≡ word_of h t n) (cond_both (is_accepted (reply_to h seat asked))
-      (called seat asked (with_handed seat part words h)) (called seat asked h) (λ m. word_of m t n ≡ word_of h t n)
+      (λ m. sheet_word m t n ≡ sheet_word h t n) (cond_both (is_accepted (reply_to h seat asked))
+      (called seat asked (with_handed seat part words h)) (called seat asked h) (λ m. sheet_word m t n ≡ sheet_word h t n)
       (λ _. word_elsewhere h.sheets seat t n (handed s part words (sheet_in h.sheets seat))
       (λ e. not_here (is_handed s.bw s.bh part) (low_bytes words) (sheet_in h.sheets seat) n
       (false_from_ne_true (is_handed s.bw s.bh part n) (λ is. none e (n % s.bw) (n / s.bw)
@@ -105,13 +105,13 @@ user_words h dev = same_sheets_for (unserved_input h dev) (Rattle.nit_host.specs
 -- ---- a client that comes
 
 pub come_word : (h : HostModel) (seat : ℕ) (label : List ℕ) (n : ℕ) → unseated h seat label ≡ None
-    → word_of (after_act h (Comes seat label)) seat n ≡ 0
+    → sheet_word (after_act h (Comes seat label)) seat n ≡ 0
 come_word h seat label n none = grind (arith, nat_tests, get_or-set_same, zero_at, get_or_past, length-set)
 
 pub stay_word : (h : HostModel) (seat : ℕ) (label : List ℕ) (t n : ℕ) → t ≢ seat
-    → word_of (after_act h (Comes seat label)) t n ≡ word_of h t n
+    → sheet_word (after_act h (Comes seat label)) t n ≡ sheet_word h t n
 stay_word h seat label t n other =
-    kept_for (unseated h seat label) (seated seat label h) h (λ m. word_of m t n ≡ word_of h t n)
+    kept_for (unseated h seat label) (seated seat label h) h (λ m. sheet_word m t n ≡ sheet_word h t n)
     (word_elsewhere h.sheets seat t n _ (λ e. absurd (other e))) refl
 
 -- A part of a buffer that is handed in row by row.

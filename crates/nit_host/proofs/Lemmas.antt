@@ -13,7 +13,7 @@ pub use Rattle.nit_host.proofs.Basics.{frame_shown, get_or-eq_default, get_or_de
 pub use Rattle.nit_host.proofs.Basics.{has_any, has_label, holds_nothing, ints, is_between}
 pub use Rattle.nit_host.proofs.Basics.{is_free_in, is_in_rows, is_touched, low_bytes, mul-le}
 pub use Rattle.nit_host.proofs.Basics.{nat_tests, next_between, next_client, none_between}
-pub use Rattle.nit_host.proofs.Basics.{option_map, picture, plain_sight, point, put, refl}
+pub use Rattle.nit_host.proofs.Basics.{option_map, picture_now, plain_sight, point, put, refl}
 pub use Rattle.nit_host.proofs.Basics.{refreshed, routed_of, scenery_of, serve, session, set}
 pub use Rattle.nit_host.proofs.Basics.{set_where, sheet_in, sheets_of, slice_get_within}
 pub use Rattle.nit_host.proofs.Basics.{slice_index, steps_of, subst, sym, take_all, told_words}
@@ -24,7 +24,7 @@ pub use Rattle.nit_host.proofs.Beginnings.{AreTo, HasRoom, all_blank, all_sheets
 pub use Rattle.nit_host.proofs.Beginnings.{blank_plain, first_now, first_seat, free_not_taken}
 pub use Rattle.nit_host.proofs.Beginnings.{free_of, is_seat, label_decides, no_seat, one_more}
 pub use Rattle.nit_host.proofs.Beginnings.{one_sheet, plan_configured, seen_none, sized_at}
-pub use Rattle.nit_host.proofs.CallChanges.{seen_called, seen_input, seen_seated}
+pub use Rattle.nit_host.proofs.CallChanges.{refresh_touches, seen_called, seen_input, seen_seated, stand_after, stand_told}
 pub use Rattle.nit_host.proofs.Clicks.{clicks_client, clicks_first, clicks_focus, clicks_locked}
 pub use Rattle.nit_host.proofs.Clicks.{clicks_seat, clicks_unseen, nothing_held, one_shown}
 pub use Rattle.nit_host.proofs.Clicks.{shown_at}

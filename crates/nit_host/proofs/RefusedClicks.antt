@@ -1,12 +1,12 @@
 -- Which clicks are refused since another client is there than the last look showed.
 use Rattle.std.proofs.Common.{Bool, List, None, Option, Some, [], ap, arith, false, get_or}
 use Rattle.std.proofs.Common.{get_or-set_other, if◌then◌else◌, inl, inr, not, refl, sym, true, ℕ}
-use Rattle.std.proofs.Common.{◌++◌, ◌<◌, ◌==◌, ◌∙◌, ◌∷◌, ◌≡◌, ◌⊎◌}
+use Rattle.std.proofs.Common.{◌<◌, ◌==◌, ◌∙◌, ◌∷◌, ◌≡◌, ◌⊎◌}
 use Rattle.nit_host.proofs.Basics.{Act, Calls, CameBy, CameSince, Comes, Device, Does, HasNoLook}
 use Rattle.nit_host.proofs.Basics.{HostModel, IsNoLook, Looks, Puts, Refreshes, Unseated, after_act}
 use Rattle.nit_host.proofs.Basics.{after_acts, after_look, and_parts, called, cases_eq, false≢true}
 use Rattle.nit_host.proofs.Basics.{get_or-replicate, holds_nothing, is_accepted, is_as_shown}
-use Rattle.nit_host.proofs.Basics.{is_button, is_device, is_moved, is_same_client, looked}
+use Rattle.nit_host.proofs.Basics.{is_button, is_input, is_moved, is_same_client, looked}
 use Rattle.nit_host.proofs.Basics.{most_sessions, nat_tests, nobody_came, owner_then, put}
 use Rattle.nit_host.proofs.Basics.{refreshed, reply_to, seated, told, under_pointer, unless_for}
 use Rattle.nit_host.proofs.Basics.{unseated, unserved_call, unserved_input, unserved_refresh}
@@ -57,7 +57,7 @@ refused h (device.Wheel n) is = cc
 refused h (device.Motion x y) is = cc
 
 why_refused : (h : HostModel) (dev : Device) → unserved_input h dev ≡ Some why.Moved → Refused h dev
-why_refused h dev is = refused h dev (because (is_device dev) (is_moved h.seen h.state dev) h.left is)
+why_refused h dev is = refused h dev (because (is_input dev) (is_moved h.seen h.state dev) h.left is)
 
 pub clicks_refused : (h : HostModel) (dev : Device) → unserved_input h dev ≡ Some why.Moved
     → (k : ℕ) × (dev ≡ device.Press k) × (is_button k ≡ true) × (h.state.input.held ≡ [])

@@ -1,13 +1,13 @@
 -- What the user's restacking of a view leaves.
-use Rattle.std.proofs.Common.{Bool, List, None, Option, Some, [], ap, false, filter, find, length}
-use Rattle.std.proofs.Common.{nat_lt, not, refl, set, sym, true, ℕ, ◌&&◌, ◌-◌, ◌<◌, ◌==◌, ◌∙◌, ◌∷◌}
+use Rattle.std.proofs.Common.{Bool, List, None, Option, Some, [], ap, false, find, length}
+use Rattle.std.proofs.Common.{nat_lt, not, refl, set, sym, true, ℕ, ◌&&◌, ◌-◌, ◌==◌, ◌∙◌, ◌∷◌}
 use Rattle.std.proofs.Common.{◌≡◌}
-use Rattle.nit_host.proofs.Basics.{Answered, AreInLayers, Client, Foremost, HostModel, IsRestacked}
+use Rattle.nit_host.proofs.Basics.{Answered, Client, Foremost, HostModel, IsRestacked}
 use Rattle.nit_host.proofs.Basics.{NoPair, NoPair-back, NoPair-filter, NoPair-front, Puts, Rearmost}
 use Rattle.nit_host.proofs.Basics.{Reply, Session, Side, State, Status, View, after_act, and_parts}
 use Rattle.nit_host.proofs.Basics.{answered, arith, by_status, called, cond_both, eqb-true, falls}
 use Rattle.nit_host.proofs.Basics.{first_session, found_passes, has_view, is_client, is_live}
-use Rattle.nit_host.proofs.Basics.{is_some, is_view, layer, list_any, moved, nat_tests, put}
+use Rattle.nit_host.proofs.Basics.{is_some, is_view, layer, moved, nat_tests, put}
 use Rattle.nit_host.proofs.Basics.{put_back, put_front, refusal, restacked, serve, serve_accepted}
 use Rattle.nit_host.proofs.Basics.{session, set-get_or, has_live_view, unless_for, unserved_restack}
 use Rattle.nit_host.proofs.Basics.{without}

@@ -1,6 +1,6 @@
 -- The seat for a label: a client of this label may sit there, and where there is none it may sit nowhere.
 use Rattle.std.proofs.Common.{Bool, Err, IfErr, IfOk, List, None, Ok, Option, Result, Some, ap}
-use Rattle.std.proofs.Common.{arith, false, find, nat_lt, if◌then◌else◌, inl, inr, length, not}
+use Rattle.std.proofs.Common.{arith, false, find, nat_lt, if◌then◌else◌, inl, inr, length}
 use Rattle.std.proofs.Common.{refl, slice_get, sym, true, ℕ, ◌<◌, ◌∙◌, ◌≡◌, ◌≢◌}
 use Rattle.nit_host.proofs.Basics.{HostModel, IsConfiguration, IsFreeLabel, State, TakesIn}
 use Rattle.nit_host.proofs.Basics.{Unseated, and_parts, bytes_eq-Decides, cases_lt}

@@ -46,22 +46,22 @@ step_unless None step = step ∷ []
 step_unless (Some why) step = []
 
 -- the step that an act is, if it is served; a look is none
-abbrev pub step_of : HostModel → Act → List Step
-step_of h (Calls client call) =
+abbrev pub step_of_act : HostModel → Act → List Step
+step_of_act h (Calls client call) =
     step_unless (unserved_call h client call)
     (Serves (entry.Call client.seat call (reply_to h client.seat call)))
-step_of h (Refreshes client x y w height words) =
+step_of_act h (Refreshes client x y w height words) =
     let refresh = call.Refresh x y w height in
     step_unless (unserved_refresh h client words)
     (Serves (entry.Call client.seat refresh (reply_to h client.seat refresh)))
-step_of h (Does dev) =
+step_of_act h (Does dev) =
     step_unless (unserved_input h dev) (Serves (entry.Input dev (routed_of h dev)))
-step_of h (Puts side client view) =
+step_of_act h (Puts side client view) =
     step_unless (unserved_restack h client view) (Restacks side client.seat view)
-step_of h (Comes seat label) = step_unless (unseated h seat label) (Opens seat label)
-step_of h Looks = []
+step_of_act h (Comes seat label) = step_unless (unseated h seat label) (Opens seat label)
+step_of_act h Looks = []
 
 -- the steps of all acts
 abbrev pub steps_of : HostModel → List Act → List Step
 steps_of h [] = []
-steps_of h (act ∷ rest) = step_of h act ++ steps_of (after_act h act) rest
+steps_of h (act ∷ rest) = step_of_act h act ++ steps_of (after_act h act) rest

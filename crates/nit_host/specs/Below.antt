@@ -64,7 +64,7 @@ pub use Rattle.nit_repaint.specs.PixelOwners.{is_word_in}
 pub use Rattle.nit_report.specs.JournalText.{journal_text}
 pub use Rattle.nit_screen.specs.DirtyPixels.{dirty, dirty_by_call, is_killed, is_owned_by}
 pub use Rattle.nit_screen.specs.DirtyPixels.{owns_either, session_owns, shows_part}
-pub use Rattle.nit_screen.specs.FrameLabels.{IsFrameShown}
+pub use Rattle.nit_screen.specs.FrameLabels.{IsFrameShown, ShowsLabels}
 pub use Rattle.nit_screen.specs.RawWords.{Painted, pixel_count, source_at, word_from, words_of}
 pub use Rattle.nit_screen.specs.Screen.{AreGlasses}
 pub use Rattle.nit_screen.specs.StateScenery.{scenery_of}

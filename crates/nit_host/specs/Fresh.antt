@@ -30,7 +30,7 @@ pub record AreSheets (config : Configuration) (sheets : List SheetModel) : Type 
   pub room : (t : ℕ) → t < length config.clients → size_at config t ≤ (sheet_at sheets t).room
 
 -- each seat has a sheet, all of whose words are 0
-pub record AreBlank (config : Configuration) (sheets : List SheetModel) : Type 0 where
+pub record AreBlankSheets (config : Configuration) (sheets : List SheetModel) : Type 0 where
   pub count : length sheets ≡ length config.clients
   pub blank : (t : ℕ) → t < length config.clients → (sheet_at sheets t).sight ≡ blank_sheet t
       (size_at config t)

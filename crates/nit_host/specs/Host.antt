@@ -37,8 +37,8 @@ sheet_in sheets seat = slice_index_or sheets seat []
 abbrev pub picture_from : State → List (List ℕ) → List ℕ
 picture_from s sheets = words_of s (λ k. word_from (sheet_in sheets) (source_at s k))
 
-abbrev pub picture : HostModel → List ℕ
-picture h = picture_from h.state h.sheets
+abbrev pub picture_now : HostModel → List ℕ
+picture_now h = picture_from h.state h.sheets
 
 -- the frame: what the screen shows of it
 abbrev pub frame_by : State → List (List ℕ) → List ℕ
@@ -200,16 +200,16 @@ put side seat view h =
 -- ---- what the user does
 
 -- the code of a key or a button is at most 767, and a wheel turns by -127..=127
-abbrev pub is_device : Device → Bool
-is_device (device.Press k) = nat_le k most_code
-is_device (device.Release k) = nat_le k most_code
-is_device (device.Wheel n) = int_le (negsuc 126) n
-is_device (device.Motion x y) = true
+abbrev pub is_input : Device → Bool
+is_input (device.Press k) = nat_le k most_code
+is_input (device.Release k) = nat_le k most_code
+is_input (device.Wheel n) = int_le (negsuc 126) n
+is_input (device.Motion x y) = true
 
 -- why a device event is not served, if it is not
 abbrev pub unserved_input : HostModel → Device → Option Unserved
 unserved_input h dev =
-    if not (is_device dev) then Some unserved.BadDevice
+    if not (is_input dev) then Some unserved.BadDevice
     else if is_moved h.seen h.state dev then Some unserved.Moved
     else worn_out h
 

@@ -14,6 +14,7 @@ pub mod Stacking
 pub mod Area
 pub mod Damage
 pub mod Touch
+pub mod Lending
 pub mod Looked
 pub mod Viewing
 pub mod Below

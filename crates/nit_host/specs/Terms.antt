@@ -1,6 +1,6 @@
 -- The words that clauses use: those that come from outside, and those of this crate.
 pub use Rattle.nit_host.specs.Acts.{Act, Calls, Comes, Does, Looks, Puts, Refreshes, after_act}
-pub use Rattle.nit_host.specs.Acts.{after_acts, step_of, step_unless, steps_of, unless_for}
+pub use Rattle.nit_host.specs.Acts.{after_acts, step_of_act, step_unless, steps_of, unless_for}
 pub use Rattle.nit_host.specs.Area.{HoldsUnless, HoldsWhere, IsInReach, StaysOutside, is_inside}
 pub use Rattle.nit_host.specs.Below.{AgreeIn, AgreeOutside, Agrees, All, Answered, AreGlasses}
 pub use Rattle.nit_host.specs.Below.{AreLive, AreParts, AreSteps, Area, Bare, Black, Call, Client}
@@ -21,7 +21,7 @@ pub use Rattle.nit_host.specs.Below.{bare_word, black_or_word, buffer_place, buf
 pub use Rattle.nit_host.specs.Below.{by_refusal, by_status, clicks_on, covers, delivered}
 pub use Rattle.nit_host.specs.Below.{deliveries_of, dirty, dirty_by_call, enumerate_from, falls}
 pub use Rattle.nit_host.specs.Below.{filled_up, first_input, first_session, first_state, frame}
-pub use Rattle.nit_host.specs.Below.{IsMember, lettered, most_picture_height}
+pub use Rattle.nit_host.specs.Below.{IsMember, ShowsLabels, lettered, most_picture_height}
 pub use Rattle.nit_host.specs.Below.{glass_in, has_any, has_place, has_view, in_bar, index_at}
 pub use Rattle.nit_host.specs.Below.{input_after_call, is_accepted, is_between, is_button, is_held}
 pub use Rattle.nit_host.specs.Below.{is_in_rows}
@@ -46,14 +46,14 @@ pub use Rattle.nit_host.specs.Clicks.{CameSince, HasNoLook, IsLockedOut, IsNoLoo
 pub use Rattle.nit_host.specs.Clicks.{WasShown, after_look, owner_then}
 pub use Rattle.nit_host.specs.Damage.{area_at, area_on, uncopied}
 pub use Rattle.nit_host.specs.Former.{CameBy, since_coming}
-pub use Rattle.nit_host.specs.Fresh.{AreBlank, AreSheets, IsFresh, IsHost, IsPlainOf, sheet_at}
+pub use Rattle.nit_host.specs.Fresh.{AreBlankSheets, AreSheets, IsFresh, IsHost, IsPlainOf, sheet_at}
 pub use Rattle.nit_host.specs.Fresh.{sheets_of, size_at}
 pub use Rattle.nit_host.specs.Handing.{CanTakeWords, IsHandedIn, after_handing}
 pub use Rattle.nit_host.specs.Host.{AreTurns, HostModel, IsAsSeen, IsFirst, IsOneOf, behind}
 pub use Rattle.nit_host.specs.Host.{blank_sheets, called, client_of, first_host, forgotten}
-pub use Rattle.nit_host.specs.Host.{frame_by, frame_shown, handed, is_client, is_device, is_handed}
+pub use Rattle.nit_host.specs.Host.{frame_by, frame_shown, handed, is_client, is_input, is_handed}
 pub use Rattle.nit_host.specs.Host.{is_live, lacks_handles, last_text, looked, most_comings}
-pub use Rattle.nit_host.specs.Host.{no_turns, picture, put, refreshed, reply_to, routed_of}
+pub use Rattle.nit_host.specs.Host.{no_turns, picture_now, put, refreshed, reply_to, routed_of}
 pub use Rattle.nit_host.specs.Host.{has_live_view, seat_turn, sheet_in, told, unserved_call}
 pub use Rattle.nit_host.specs.Host.{unserved_input}
 pub use Rattle.nit_host.specs.Host.{unserved_refresh, unserved_restack, with_handed, worn_out}
@@ -73,4 +73,4 @@ pub use Rattle.nit_host.specs.Touch.{HasTouched, HoldsBar, HoldsBarIn, HoldsTouc
 pub use Rattle.nit_host.specs.Touch.{IsToldArea, is_touched, part_touched, shows_place, touch_of}
 pub use Rattle.nit_host.specs.Touch.{touched_by, touched_in, touched_over, touched_unless}
 pub use Rattle.nit_host.specs.Viewing.{owner_on, owner_shown}
-pub use Rattle.nit_host.specs.Words.{IsInPart, word_of}
+pub use Rattle.nit_host.specs.Words.{IsInPart, sheet_word}

@@ -35,6 +35,14 @@ touched_over call.Take = touch.Nothing
 touched_over (call.Upgrade n) = touch.Nothing
 touched_over other = touch.Screen
 
+-- a call can move views, or make or end them
+abbrev pub moves_views : Call → Bool
+moves_views (call.Buffer w h) = false
+moves_views (call.Refresh x y w h) = false
+moves_views call.Take = false
+moves_views (call.Upgrade n) = false
+moves_views other = true
+
 -- what it can change in a mode
 abbrev pub touched_in : Mode → Call → Touch
 touched_in mode.Flat call = touched_by call

@@ -4,8 +4,8 @@ use Rattle.nit_host.specs.Below.{Session}
 use Rattle.nit_host.specs.Host.{HostModel, sheet_in}
 
 -- the word of a seat at an index; 0 where it has none
-abbrev pub word_of : HostModel → ℕ → ℕ → ℕ
-word_of h seat n = slice_index (sheet_in h.sheets seat) n
+abbrev pub sheet_word : HostModel → ℕ → ℕ → ℕ
+sheet_word h seat n = slice_index (sheet_in h.sheets seat) n
 
 -- the word in column i and row j is one of the session's buffer, and lies in the part of it that
 -- begins at (x, y) and is w wide and `height` high

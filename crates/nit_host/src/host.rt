@@ -1,7 +1,7 @@
 //! The server with the words of its clients.
 
 ghost use Rattle.std.specs.Prelude.{◌≡◌, ◌*◌, ◌<◌, length, ℕ};
-ghost use Rattle.nit_host.specs.Terms.{AreTurns, IsConfiguration, IsFrameShown, picture};
+ghost use Rattle.nit_host.specs.Terms.{AreTurns, IsConfiguration, IsFrameShown, picture_now};
 ghost use Rattle.nit_host.specs.Terms.{scenery_of, sheet_in, size_at};
 
 mod area;
@@ -41,6 +41,8 @@ pub struct Host {
     pub(crate) changed: Parts,
     /// The views that the last look showed, front first, with room for all that there may be.
     pub(crate) shown: Vec<View>,
+    /// Whether it is known that the views still stand so.
+    pub(crate) stand: bool,
     /// For each seat, whether a client has come to it since the last look.
     pub(crate) came: [bool; MOST_SESSIONS],
     pub(crate) seen: Option<Seen>,
@@ -54,7 +56,7 @@ pub(crate) struct Seen {
 }
 
 impl Model for Host {
-    ghost use Rattle.std.specs.Prelude.{All, option_map, ◌≤◌, vec_capacity};
+    ghost use Rattle.std.specs.Prelude.{All, option_map, ◌≡◌, ◌≤◌, true, vec_capacity};
     ghost use Rattle.nit_host.specs.Below.{IsAreaOf, has_any};
     ghost use Rattle.nit_host.specs.Fresh.{IsHost, sheets_of};
     ghost use Rattle.nit_host.specs.Host.{AreTurns, HostModel};
@@ -80,17 +82,22 @@ impl Model for Host {
         × IsSeenBut h.desktop.state (sheets_of h.sheets.items) (has_any h.changed)
         (option_map (λ s. frame_at s.desktop.value s.sheets.value.items) h.seen)
         × All (IsAreaOf h.desktop.state.config.width h.desktop.state.config.height) h.changed
-        × (most_slots ≤ vec_capacity h.shown) × AreTurns h.turns };
+        × (most_slots ≤ vec_capacity h.shown) × AreTurns h.turns
+        × (h.stand ≡ true → h.shown.items ≡ h.desktop.state.stack) };
 }
 
 impl Host {
+    ghost use Rattle.std.specs.Borrow.{sem};
+    ghost use Rattle.nit_host.specs.Lending.{HostStays};
+
     /// The frame that the screen shows now: a word for each pixel, row by row from the top, each
     /// below 2^24. Each pixel shows, as the mode has it, the word that its session handed in last
-    /// for the place. It is kept, so that nothing is worked out here.
-    pub fn frame(&self) -> &[u32]
-        ensures shown { IsFrameShown (scenery_of self.now.state) (picture self.now) result.now }
+    /// for the place. What is seen of the host stays as it is.
+    pub fn frame(&mut self) -> &[u32]
+        ensures shown { IsFrameShown (scenery_of self.old.state) (picture_now self.old) result.now }
         ensures pixels { length result.now
-            ≡ self.now.state.config.width * self.now.state.config.height }
+            ≡ self.old.state.config.width * self.old.state.config.height }
+        ensures* same { sem 𝓛 (HostStays self.entry) }
     {
         self.desktop.frame()
     }

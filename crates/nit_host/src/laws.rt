@@ -15,11 +15,11 @@ ghost use Rattle.nit_host.specs.Terms.{after_steps, bare_word, deliveries_of, fi
 ghost use Rattle.nit_host.specs.Terms.{is_accepted, is_button, is_client, is_held, is_held_after};
 ghost use Rattle.nit_host.specs.Terms.{is_key, is_mode_key, kill_button, kill_key, kill_mode};
 ghost use Rattle.nit_host.specs.Terms.{most_sessions, next_client, no_look, opening_of, owner_of};
-ghost use Rattle.nit_host.specs.Terms.{owner_on, owner_shown, owner_then, picture, pixel};
+ghost use Rattle.nit_host.specs.Terms.{owner_on, owner_shown, owner_then, picture_now, pixel};
 ghost use Rattle.nit_host.specs.Terms.{pixel_count, projection, replies_from, replies_to, reply_to};
 ghost use Rattle.nit_host.specs.Terms.{routed_of, session, sheet_in, since_coming, since_opening};
 ghost use Rattle.nit_host.specs.Terms.{source_at, steps_of, to, under_pointer, unseated};
-ghost use Rattle.nit_host.specs.Terms.{unserved_input, unserved_refresh, word_of, xray_key};
+ghost use Rattle.nit_host.specs.Terms.{unserved_input, unserved_refresh, sheet_word, xray_key};
 ghost use Rattle.nit_host.specs.Terms.{xray_mode};
 ghost use Rattle.nit_host.specs.declared.refusal.Unserved.TheVariants as why;
 ghost use Rattle.nit_journal.specs.Terms.{AreLive, Call, Delivery, Device};
@@ -288,7 +288,8 @@ pub fn laws_hold_since_opening()
 /// What a client has handed in, word by word. A refresh that is served and accepted sets the words
 /// of the part, each by its index in the buffer, to the low three bytes of those that stand there,
 /// and no other word of any seat; one that is refused sets none. Neither does a call, what the user
-/// does ([`restacking_is_the_users`] too), or a look. A client that comes finds each of its words 0, and no other seat's changed.
+/// does ([`restacking_is_the_users`] too), or a look. A client that comes finds each of its words 0,
+/// and no other seat's changed.
 ///
 /// A seat has at least the words of its buffer ([`Host::buffer`](crate::Host::buffer)).
 pub fn words_are_those_handed_in()
@@ -298,13 +299,13 @@ pub fn words_are_those_handed_in()
         → is_accepted (reply_to h seat (call.Refresh x y w height)) ≡ true
         → let s = session h.state seat in
         s.bw * s.bh ≤ length (sheet_in h.sheets seat) → IsInPart s x y w height i j
-        → word_of (after_act h (Refreshes client x y w height words)) seat (j * s.bw + i)
+        → sheet_word (after_act h (Refreshes client x y w height words)) seat (j * s.bw + i)
         ≡ slice_index words (j * s.bw + i) % 2 ^ 24 }
     ensures others { (h : HostModel) (client : Client) (x y : ℤ) (w height : ℕ) (words : List ℕ)
         (t n : ℕ)
         → let s = session h.state client.seat in
         (t ≡ client.seat → (i j : ℕ) → IsInPart s x y w height i j → n ≢ j * s.bw + i)
-        → word_of (after_act h (Refreshes client x y w height words)) t n ≡ word_of h t n }
+        → sheet_word (after_act h (Refreshes client x y w height words)) t n ≡ sheet_word h t n }
     ensures refused { (h : HostModel) (client : Client) (x y : ℤ) (w height : ℕ) (words : List ℕ)
         → is_accepted (reply_to h client.seat (call.Refresh x y w height)) ≡ false
         → (after_act h (Refreshes client x y w height words)).sheets ≡ h.sheets }
@@ -313,9 +314,9 @@ pub fn words_are_those_handed_in()
     ensures user { (h : HostModel) (dev : Device) → (after_act h (Does dev)).sheets ≡ h.sheets }
     ensures looks { (h : HostModel) → (after_act h Looks).sheets ≡ h.sheets }
     ensures comes { (h : HostModel) (seat : ℕ) (label : List ℕ) (n : ℕ)
-        → unseated h seat label ≡ None → word_of (after_act h (Comes seat label)) seat n ≡ 0 }
+        → unseated h seat label ≡ None → sheet_word (after_act h (Comes seat label)) seat n ≡ 0 }
     ensures stay { (h : HostModel) (seat : ℕ) (label : List ℕ) (t n : ℕ)
-        → t ≢ seat → word_of (after_act h (Comes seat label)) t n ≡ word_of h t n }
+        → t ≢ seat → sheet_word (after_act h (Comes seat label)) t n ≡ sheet_word h t n }
 {}
 
 /// Which of these words each pixel shows, before the mode lays anything over it. Where a view is
@@ -325,22 +326,22 @@ pub fn words_are_those_handed_in()
 /// is.
 pub fn pixels_show_words_of_their_seats()
     ensures source { (h : HostModel) (k seat n : ℕ) → k < pixel_count h.state
-        → source_at h.state k ≡ Word seat n → slice_index (picture h) k ≡ word_of h seat n }
+        → source_at h.state k ≡ Word seat n → slice_index (picture_now h) k ≡ sheet_word h seat n }
     ensures shown { (h : HostModel) (k i j : ℕ) (v : View) → k < pixel_count h.state
         → let width = h.state.config.width in let s = session h.state v.sid in
         owner_of h.state (pixel width k) ≡ Some v
         → (pos (k % width) -ℤ v.rect.x) -ℤ v.ox ≡ pos i → i < s.bw
         → (pos (k / width) -ℤ v.rect.y) -ℤ v.oy ≡ pos j → j < s.bh
-        → slice_index (picture h) k ≡ word_of h v.sid (j * s.bw + i) }
+        → slice_index (picture_now h) k ≡ sheet_word h v.sid (j * s.bw + i) }
     ensures past { (h : HostModel) (k : ℕ) (v : View) → k < pixel_count h.state
         → let width = h.state.config.width in let s = session h.state v.sid in
         owner_of h.state (pixel width k) ≡ Some v
         → ((i j : ℕ) → (pos (k % width) -ℤ v.rect.x) -ℤ v.ox ≡ pos i → i < s.bw
         → (pos (k / width) -ℤ v.rect.y) -ℤ v.oy ≡ pos j → j < s.bh → ⊥)
-        → slice_index (picture h) k ≡ 0 }
+        → slice_index (picture_now h) k ≡ 0 }
     ensures black { (h : HostModel) (k : ℕ) → k < pixel_count h.state
-        → source_at h.state k ≡ Black → slice_index (picture h) k ≡ 0 }
+        → source_at h.state k ≡ Black → slice_index (picture_now h) k ≡ 0 }
     ensures bare { (h : HostModel) (k : ℕ) → k < pixel_count h.state
         → owner_of h.state (pixel h.state.config.width k) ≡ None
-        → slice_index (picture h) k ≡ bare_word }
+        → slice_index (picture_now h) k ≡ bare_word }
 {}

@@ -1,12 +1,12 @@
 -- What the count of a pixel says of the column below it.
 use Rattle.std.proofs.Common.{Bool, arith, false, inl, inr, min, refl, sym, true, ℕ, ◌+◌, ◌<◌, ◌==◌}
 use Rattle.std.proofs.Common.{◌∙◌, ◌≡◌, ◌≤◌}
-use Rattle.nit_labels.proofs.Basics.{IsColumn, IsDown, cases_lt, counted, nat_tests}
+use Rattle.nit_labels.proofs.Basics.{OwnsDown, CountsDown, cases_lt, counted, nat_tests}
 
 module _ (at : ℕ → ℕ → ℕ) (height h : ℕ) where
   -- the pixel below goes on
-  down_more : (x y d : ℕ) → 1 ≤ h → y + 1 < height → at x (y + 1) ≡ at x y → IsDown at height h x (y + 1) d
-      → IsDown at height h x y (min (d + 1) h)
+  down_more : (x y d : ℕ) → 1 ≤ h → y + 1 < height → at x (y + 1) ≡ at x y → CountsDown at height h x (y + 1) d
+      → CountsDown at height h x y (min (d + 1) h)
   down_more x y d high inside same below = record {
     most = omega arith;
     within = omega (arith, below.within);
@@ -23,7 +23,7 @@ module _ (at : ℕ → ℕ → ℕ) (height h : ℕ) where
 
   -- the pixel stands alone
   down_alone : (x y : ℕ) → 1 ≤ h → y < height → (y + 1 < height → at x (y + 1) ≡ at x y → ⊥)
-      → IsDown at height h x y 1
+      → CountsDown at height h x y 1
   down_alone x y high inside other = record {
     most = high;
     within = omega arith;
@@ -33,7 +33,7 @@ module _ (at : ℕ → ℕ → ℕ) (height h : ℕ) where
 
   pub down_step : (x y d below : ℕ) (goes_on : Bool) → 1 ≤ h → y < height → (y + 1 < height → below ≡ y + 1)
       → goes_on ≡ (at x below == at x y)
-      → IsDown at height h x (y + 1) d → IsDown at height h x y (counted goes_on d h)
+      → CountsDown at height h x (y + 1) d → CountsDown at height h x y (counted goes_on d h)
   down_step x y d below goes_on high inside next e down = elim (cases_lt (y + 1) height) [
     | inl low ↦ goes_further goes_on low (e ∙ rw (next low) refl)
     | inr le ↦
@@ -46,18 +46,18 @@ module _ (at : ℕ → ℕ → ℕ) (height h : ℕ) where
       alone true = omega arith
       alone false = refl
 
-      goes_further : (b : Bool) → y + 1 < height → b ≡ (at x (y + 1) == at x y) → IsDown at height h x y (counted b d h)
+      goes_further : (b : Bool) → y + 1 < height → b ≡ (at x (y + 1) == at x y) → CountsDown at height h x y (counted b d h)
       goes_further true low e = down_more x y d high low (grind (arith, nat_tests)) down
       goes_further false low e = down_alone x y high inside (λ low same. grind (arith, nat_tests))
 
   -- a count is full exactly where the column is of one owner
-  pub down_column : (o x y d : ℕ) → IsDown at height h x y d → o ≡ at x y → d ≡ h → IsColumn at height h o x y
+  pub down_column : (o x y d : ℕ) → CountsDown at height h x y d → o ≡ at x y → d ≡ h → OwnsDown at height h o x y
   down_column o x y d down e full = record {
     bottom = omega (arith, down.within);
     own = λ j from to. grind (arith, down.same j);
   }
 
-  pub column_down : (o x y d : ℕ) → IsDown at height h x y d → o ≡ at x y → IsColumn at height h o x y → d ≡ h
+  pub column_down : (o x y d : ℕ) → CountsDown at height h x y d → o ≡ at x y → OwnsDown at height h o x y → d ≡ h
   column_down o x y d down e column = elim (cases_lt d h) [
     | inl less ↦ absurd (down.more less (omega (arith, column.bottom)) (column.own (y + d) (omega arith) (omega arith) ∙ e))
     | inr le ↦ omega (arith, down.most)

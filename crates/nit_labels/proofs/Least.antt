@@ -1,6 +1,6 @@
 -- Least places among those from one place on.
-use Rattle.std.proofs.Common.{None, Option, Some, arith, inl, inr, refl, ℕ, ◌+◌, ◌<◌, ◌≡◌}
-use Rattle.nit_labels.proofs.Basics.{IsLeastFrom, IsLeastPlace, Point, cases_lt, point}
+use Rattle.std.proofs.Common.{None, Option, Some, arith, inl, inr, refl, ℕ, ◌+◌, ◌<◌, ◌≡◌, ◌≤◌}
+use Rattle.nit_labels.proofs.Basics.{IsLeastFrom, IsLeastPlace, Point, cases_lt, spot}
 
 -- what holds of the same places has the same least one
 least_same : (P Q : ℕ → ℕ → Type 0) (q : Option Point) → ((x y : ℕ) → P x y → Q x y) → ((x y : ℕ) → Q x y → P x y)
@@ -11,23 +11,24 @@ least_same P Q (Some q) to back (x, y, is, holds, least) =
 
 module _ (Is : ℕ → ℕ → Type 0) where
   -- it is so here
-  pub least_here : (x y : ℕ) → Is x y → IsLeastFrom Is x y (Some (point x y))
+  pub least_here : (x y : ℕ) → Is x y → IsLeastFrom Is x y (Some (spot x y))
   least_here x y holds =
       (x, y, refl, (inr (refl, omega arith), holds), λ i j before other. grind arith)
 
-  -- it is not so here
-  pub least_on : (x y : ℕ) (q : Option Point) → (Is x y → ⊥) → IsLeastFrom Is (x + 1) y q → IsLeastFrom Is x y q
-  least_on x y q not = least_same _ _ q
+  -- it is so in none of the next columns
+  pub least_span : (x r y : ℕ) (q : Option Point) → ((i : ℕ) → x ≤ i → i < x + r → Is i y → ⊥)
+      → IsLeastFrom Is (x + r) y q → IsLeastFrom Is x y q
+  least_span x r y q not = least_same _ _ q
       (λ i j (from, holds). (grind arith, holds))
       (λ i j (from, holds). (
-        elim (cases_lt x i) [
-          | inl less ↦ grind arith
-          | inr le ↦ elim (cases_lt y j) [
-            | inl below ↦ inl below
-            | inr above ↦
-                let e : i ≡ x = grind arith in
-                let e' : j ≡ y = grind arith in
-                absurd (not (rw (← e, ← e') holds))
+        elim (cases_lt y j) [
+          | inl below ↦ inl below
+          | inr above ↦ elim (cases_lt i (x + r)) [
+            | inl less ↦
+                let e : j ≡ y = grind arith in
+                let left : x ≤ i = grind arith in
+                absurd (not i left less (rw e at holds))
+            | inr far ↦ grind arith
           ]
         ],
         holds,

@@ -1,7 +1,7 @@
 -- What answers use: all that lemmas use, and this crate's lemmas.
-pub use Rattle.nit_labels.proofs.Basics.{AreDown, AreFoundFrom, IsAgainAbove, IsDown, IsRun, arith}
+pub use Rattle.nit_labels.proofs.Basics.{AreDown, AreFoundFrom, IsAgainAbove, CountsDown, IsRun, arith, counted}
 pub use Rattle.nit_labels.proofs.Basics.{cases_eq, get_or-set_other, get_or-set_same, inl, inr}
-pub use Rattle.nit_labels.proofs.Basics.{owner_at, refl, slice_index_or}
+pub use Rattle.nit_labels.proofs.Basics.{IsOfRun, IsRowOf, owner_at, refl, slice_index_or, sym}
 pub use Rattle.nit_labels.proofs.Counts.{down_step}
-pub use Rattle.nit_labels.proofs.Found.{found_all, found_row, found_skip, found_step}
-pub use Rattle.nit_labels.proofs.Runs.{run_end, run_step}
+pub use Rattle.nit_labels.proofs.Found.{found_all, found_row, found_run, found_short, found_skip}
+pub use Rattle.nit_labels.proofs.Runs.{run_row}

@@ -1,75 +1,40 @@
 -- Runs of columns of one owner, and where its rectangle is free.
-use Rattle.std.proofs.Common.{Bool, arith, false, refl, true, ℕ, ◌+◌, ◌<◌, ◌≡◌, ◌≤◌, ◌==◌, inl, inr}
+use Rattle.std.proofs.Common.{List, arith, ℕ, ◌+◌, ◌-◌, ◌<◌, ◌≡◌, ◌≤◌, inl, inr}
 use Rattle.std.proofs.Common.{sym, ◌∙◌}
-use Rattle.nit_labels.proofs.Basics.{IsColumn, IsDown, IsFree, IsRun, cases_lt, longer, nat_tests}
+use Rattle.nit_labels.proofs.Basics.{AreDown, OwnsDown, OwnsArea, IsOfRun, IsRowOf, IsRun}
+use Rattle.nit_labels.proofs.Basics.{cases_lt, slice_index_or}
 use Rattle.nit_labels.proofs.Counts.{column_down, down_column}
 
 module _ (at : ℕ → ℕ → ℕ) (width height h : ℕ) where
   -- the top of a column is of its owner
-  column_top : (o x y : ℕ) → 1 ≤ h → IsColumn at height h o x y → at x y ≡ o
+  column_top : (o x y : ℕ) → 1 ≤ h → OwnsDown at height h o x y → at x y ≡ o
   column_top o x y high column = column.own y (omega arith) (omega arith)
 
-  -- one column more
-  run_more : (x y d r : ℕ) → IsDown at height h x y d → d ≡ h → x + 1 < width → at (x + 1) y ≡ at x y
-      → IsRun at width height h (x + 1) y r → IsRun at width height h x y (r + 1)
-  run_more x y d r down full inside same right = record {
-    within = omega (arith, right.within);
-    own = λ i from to. elim (cases_lt x i) [
-      | inl less ↦ rw (← same) (right.own i (omega arith) (omega arith))
-      | inr le ↦ let e : i ≡ x = omega arith in rw e (down_column at height h (at x y) x y d down refl full)
-    ];
+  -- the columns of a run, before one that does not go on
+  pub run_row : (x s n y : ℕ) (row down : List ℕ) → 1 ≤ h → IsRowOf at width y row → AreDown at width height h y down
+      → n ≡ x + 1 → n ≤ width → s ≤ x → ((k : ℕ) → s ≤ k → k ≤ x → IsOfRun row down h x k)
+      → (n < width → slice_index_or down n 0 ≡ h → IsOfRun row down h n x → ⊥) → IsRun at width height h s y (n - s)
+  run_row x s n y row down high is are next within from all other = record {
+    within = omega arith;
+    own = λ i left to.
+        let here = all i left (omega arith) in
+        down_column at height h (at s y) i y _ (are i (omega arith))
+        (sym first ∙ sym here.0 ∙ is.owners i (omega arith)) here.1;
     more = λ low column.
-        let e : x + (r + 1) ≡ (x + 1) + r = omega arith in
-        right.more (omega arith) (rw (same, ← e) column);
+        let e : s + (n - s) ≡ n = omega arith in
+        let lt : n < width = omega arith in
+        let column' = rw e at column in
+        let top = column_top (at s y) n y high column' in
+        other lt (column_down at height h (at s y) n y _ (are n lt) (sym top) column')
+        (first ∙ sym top ∙ sym (is.owners n lt), (all x from (omega arith)).1);
   }
-
-  -- the column alone
-  run_alone : (x y d : ℕ) → IsDown at height h x y d → d ≡ h → x < width
-      → (x + 1 < width → IsColumn at height h (at x y) (x + 1) y → ⊥)
-      → IsRun at width height h x y 1
-  run_alone x y d down full inside other = record {
-    within = omega arith;
-    own = λ i from to. let e : i ≡ x = omega arith in rw e (down_column at height h (at x y) x y d down refl full);
-    more = other;
-  }
-
-  -- no column
-  run_none : (x y d : ℕ) → IsDown at height h x y d → (d ≡ h → ⊥) → x < width → IsRun at width height h x y 0
-  run_none x y d down short inside = record {
-    within = omega arith;
-    own = λ i from to. absurd (omega arith);
-    more = λ low column.
-        let e : x + 0 ≡ x = omega arith in
-        short (column_down at height h (at x y) x y d down refl (rw e at column));
-  }
-
-  pub run_step : (x y d r right o : ℕ) (same is_tall : Bool) → 1 ≤ h → x < width
-      → o ≡ at x y → same ≡ (o == right) → is_tall ≡ (d == h)
-      → (x + 1 < width → right ≡ at (x + 1) y) → IsDown at height h x y d
-      → IsRun at width height h (x + 1) y r → IsRun at width height h x y (longer same is_tall r)
-  run_step x y d r right o same false high inside is e f next down run =
-      run_none x y d down (grind (arith, nat_tests)) inside
-  run_step x y d r right o false true high inside is e f next down run =
-      run_alone x y d down (grind (arith, nat_tests)) inside
-      (λ low column. let top = column_top (at x y) (x + 1) y high column in grind (arith, nat_tests, next low))
-  run_step x y d r right o true true high inside is e f next down run = elim (cases_lt (x + 1) width) [
-    | inl low ↦ run_more x y d r down (grind (arith, nat_tests)) low (grind (arith, nat_tests, next low)) run
-    | inr le ↦
-        let e' : r ≡ 0 = omega (arith, run.within) in
-        rw e' (run_alone x y d down (grind (arith, nat_tests)) inside (λ low column. absurd (omega arith)))
-  ]
-
-  -- before the last column
-  pub run_end : (y : ℕ) → IsRun at width height h width y 0
-  run_end y = record {
-    within = omega arith;
-    own = λ i from to. absurd (omega arith);
-    more = λ low column. absurd (omega arith);
-  }
+    where
+      first : slice_index_or row x 0 ≡ at s y
+      first = sym (all s (omega arith) from).0 ∙ is.owners s (omega arith)
 
   -- the rectangle is free exactly where the run is as long as it is wide
   pub run_free : (o w x y r : ℕ) → 1 ≤ w → o ≡ at x y → w ≤ r → IsRun at width height h x y r
-      → IsFree at width height o w h x y
+      → OwnsArea at width height o w h x y
   run_free o w x y r wide is long run = record {
     right = omega (arith, run.within);
     bottom = (run.own x (omega arith) (omega arith)).bottom;
@@ -77,15 +42,18 @@ module _ (at : ℕ → ℕ → ℕ) (width height h : ℕ) where
         (run.own i left (omega arith)).own j top bottom ∙ sym is;
   }
 
-  pub free_run : (o w x y r : ℕ) → 1 ≤ w → 1 ≤ h → IsRun at width height h x y r → IsFree at width height o w h x y
-      → (at x y ≡ o) × (w ≤ r)
-  free_run o w x y r wide high run free =
-      let top : at x y ≡ o = free.own x y (omega arith) (omega arith) (omega arith) (omega arith) in (
+  -- no other owner's rectangle is free in a run, nor one that is wider
+  pub free_run : (o w x y r i : ℕ) → 1 ≤ w → 1 ≤ h → IsRun at width height h x y r → x ≤ i → i < x + r
+      → OwnsArea at width height o w h i y → (at x y ≡ o) × (w ≤ r)
+  free_run o w x y r i wide high run from to free =
+      let here : at i y ≡ o = free.own i y (omega arith) (omega arith) (omega arith) (omega arith) in
+      let top : at x y ≡ o = sym (column_top (at x y) i y high (run.own i from to)) ∙ here in (
         top,
         elim (cases_lt r w) [
           | inl less ↦ absurd (run.more (omega (arith, free.right)) (record {
             bottom = free.bottom;
-            own = λ j from to. free.own (x + r) j (omega arith) (omega arith) from to ∙ sym top;
+            own = λ j above below.
+                free.own (x + r) j (omega arith) (omega arith) above below ∙ sym top;
           }))
           | inr le ↦ le
         ],

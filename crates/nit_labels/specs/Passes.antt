@@ -2,7 +2,7 @@
 use Rattle.std.specs.Prelude.{◌≡◌, ℕ, ◌+◌, ◌-◌, ◌<◌, ◌≤◌, ◌⊎◌, ◌&&◌, Bool, List, Option, None}
 use Rattle.std.specs.Prelude.{length, Some, min, nat_le, nat_lt, set, if◌then◌else◌}
 use Rattle.nit_labels.specs.Below.{Point, slice_index_or}
-use Rattle.nit_labels.specs.Places.{IsFree, IsLeastPlace}
+use Rattle.nit_labels.specs.Places.{OwnsArea, IsLeastPlace}
 
 -- ---- down
 
@@ -11,33 +11,39 @@ abbrev pub counted : Bool → ℕ → ℕ → ℕ
 counted goes_on d h = if goes_on then min (d + 1) h else 1
 
 -- how many pixels from this one downwards have its owner, counted up to h
-pub record IsDown (at : ℕ → ℕ → ℕ) (height h x y d : ℕ) : Type 0 where
+pub record CountsDown (at : ℕ → ℕ → ℕ) (height h x y d : ℕ) : Type 0 where
   pub most : d ≤ h
   pub within : y + d ≤ height
   pub same : (j : ℕ) → y ≤ j → j < y + d → at x j ≡ at x y
   pub more : d < h → y + d < height → at x (y + d) ≡ at x y → ⊥
 
+-- a row of the map of owners
+pub record IsRowOf (at : ℕ → ℕ → ℕ) (width y : ℕ) (row : List ℕ) : Type 0 where
+  pub count : length row ≡ width
+  pub owners : (x : ℕ) → x < width → slice_index_or row x 0 ≡ at x y
+
 -- the counts of a row
 abbrev pub AreDown : (ℕ → ℕ → ℕ) → ℕ → ℕ → ℕ → ℕ → List ℕ → Type 0
 AreDown at width height h y down =
-    (x : ℕ) → x < width → IsDown at height h x y (slice_index_or down x 0)
+    (x : ℕ) → x < width → CountsDown at height h x y (slice_index_or down x 0)
 
 -- ---- along a row
 
 -- the h pixels from this one downwards are owned by o
-pub record IsColumn (at : ℕ → ℕ → ℕ) (height h o x y : ℕ) : Type 0 where
+pub record OwnsDown (at : ℕ → ℕ → ℕ) (height h o x y : ℕ) : Type 0 where
   pub bottom : y + h ≤ height
   pub own : (j : ℕ) → y ≤ j → j < y + h → at x j ≡ o
 
--- a column more; or the column alone; none where it is not tall
-abbrev pub longer : Bool → Bool → ℕ → ℕ
-longer same is_tall r = if is_tall then (if same then r + 1 else 1) else 0
+-- the column k is as tall as h, and of the owner of the column x
+abbrev pub IsOfRun : List ℕ → List ℕ → ℕ → ℕ → ℕ → Type 0
+IsOfRun row down h x k =
+    (slice_index_or row k 0 ≡ slice_index_or row x 0) × (slice_index_or down k 0 ≡ h)
 
 -- how many columns from this one to the right are as tall as h and of its owner
 pub record IsRun (at : ℕ → ℕ → ℕ) (width height h x y r : ℕ) : Type 0 where
   pub within : x + r ≤ width
-  pub own : (i : ℕ) → x ≤ i → i < x + r → IsColumn at height h (at x y) i y
-  pub more : x + r < width → IsColumn at height h (at x y) (x + r) y → ⊥
+  pub own : (i : ℕ) → x ≤ i → i < x + r → OwnsDown at height h (at x y) i y
+  pub more : x + r < width → OwnsDown at height h (at x y) (x + r) y → ⊥
 
 -- ---- places
 
@@ -63,11 +69,11 @@ abbrev pub AreFoundFrom : (ℕ → ℕ → ℕ) → ℕ → ℕ → List ℕ →
 AreFoundFrom at width height widths h x y found =
     (o : ℕ) → o < length widths → 1 ≤ slice_index_or widths o 0
     → IsLeastFrom
-    (λ i j. IsTop at width j × IsFree at width height o (slice_index_or widths o 0) h i j) x y
+    (λ i j. IsTop at width j × OwnsArea at width height o (slice_index_or widths o 0) h i j) x y
     (slice_index_or found o None)
 
 -- the places with this one for an owner, where the run is as long as its width
 abbrev pub put_where : List ℕ → ℕ → ℕ → Point → List (Option Point) → List (Option Point)
 put_where widths o run q found =
-    if (nat_lt o (length widths) && nat_le (slice_index_or widths o 0) run) then set found o (Some q)
-    else found
+    if (nat_lt o (length widths) && nat_le (slice_index_or widths o 0) run)
+    then set found o (Some q) else found

@@ -1,23 +1,33 @@
 //! How far down the pixels of a row go on with the same owner.
 
-ghost use Rattle.std.specs.Prelude.{◌≡◌, ◌+◌, ◌*◌, ◌<◌, ◌≤◌, length};
-ghost use Rattle.nit_labels.specs.Terms.{AreDown, counted, owner_at};
+ghost use Rattle.std.specs.Prelude.{◌≡◌, ℕ, ◌+◌, ◌*◌, ◌<◌, ◌≤◌, ◌==◌, length};
+ghost use Rattle.nit_labels.specs.Terms.{AreDown, counted, owner_at, slice_index_or};
 
-use crate::map::{owner, row_below};
+use crate::map::{row_below, row_of};
 
 /// One more row on top of these, up to `tall`; or the row alone, where the next one has another
 /// owner.
 fn counted(goes_on: bool, rows: u8, tall: u8) -> u8
-    requires rows { rows ≤ tall }
     requires tall { 1 ≤ tall }
     ensures { result ≡ counted goes_on rows tall }
 {
-    if !goes_on {
-        1
-    } else if rows < tall {
-        rows + 1
-    } else {
-        tall
+    let below = if goes_on { rows } else { 0 };
+    below.min(tall - 1) + 1
+}
+
+/// From the counts of a row to those of the row above it. It takes the rows as slices of one
+/// length, which are compared many pixels at a time.
+#[inline(never)]
+fn count_row(row: &[u16], below: &[u16], tall: u8, down: &mut [u8])
+    requires tall { 1 ≤ tall }
+    requires row { length row.now ≡ length down.old }
+    requires below { length below.now ≡ length down.old }
+    ensures { (x : ℕ) → x < length down.old → slice_index_or down.new x 0
+        ≡ counted (slice_index_or below.now x 0 == slice_index_or row.now x 0)
+        (slice_index_or down.old x 0) tall }
+{
+    'columns: for x in 0..row.len() {
+        down[x] = counted(below[x] == row[x], down[x], tall);
     }
 }
 
@@ -38,9 +48,7 @@ pub(crate) fn count_down(
     requires below { AreDown (owner_at own.now width) width height tall (y + 1) down.old }
     ensures { AreDown (owner_at own.now width) width height tall y down.new }
 {
-    let below = row_below(y, height);
-    'columns: for x in 0..width {
-        let goes_on = owner(own, width, height, x, below) == owner(own, width, height, x, y);
-        down[x] = counted(goes_on, down[x], tall);
-    }
+    let row = row_of(own, width, height, y);
+    let below = row_of(own, width, height, row_below(y, height));
+    count_row(row, below, tall, down);
 }

@@ -1,7 +1,8 @@
 //! The places of all labels.
 
 ghost use Rattle.std.specs.Prelude.{◌≡◌, ℕ, ◌*◌, ◌<◌, ◌≤◌, length, None};
-ghost use Rattle.nit_labels.specs.Terms.{IsFree, IsLeastPlace, most_edge, owner_at, slice_index_or};
+ghost use Rattle.nit_labels.specs.Terms.{IsLeastPlace, OwnsArea, most_edge, owner_at};
+ghost use Rattle.nit_labels.specs.Terms.{slice_index_or};
 
 use crate::down::count_down;
 use crate::map::is_again_above;
@@ -30,7 +31,7 @@ pub fn places(
     requires down { length down.old ≡ width }
     ensures { (o : ℕ) → o < length widths.now → 1 ≤ slice_index_or widths.now o 0
         → IsLeastPlace
-        (IsFree (owner_at own.now width) width height o (slice_index_or widths.now o 0) tall)
+        (OwnsArea (owner_at own.now width) width height o (slice_index_or widths.now o 0) tall)
         (slice_index_or found.new o None) }
 {
     found.fill(None);

@@ -1,7 +1,7 @@
 //! The map of owners.
 
 ghost use Rattle.std.specs.Prelude.{◌≡◌, ◌+◌, ◌*◌, ◌<◌, true, false, length};
-ghost use Rattle.nit_labels.specs.Terms.{IsAgainAbove, owner_at};
+ghost use Rattle.nit_labels.specs.Terms.{IsAgainAbove, IsRowOf, owner_at};
 
 /// Who owns the pixel in this column and row.
 pub(crate) fn owner(own: &[u16], width: usize, height: usize, x: usize, y: usize) -> u16
@@ -11,6 +11,16 @@ pub(crate) fn owner(own: &[u16], width: usize, height: usize, x: usize, y: usize
     ensures { result ≡ owner_at own.now width x y }
 {
     own[y * width + x]
+}
+
+/// The owners of the pixels of a row.
+pub(crate) fn row_of(own: &[u16], width: usize, height: usize, y: usize) -> &[u16]
+    requires map { length own.now ≡ height * width }
+    requires row { y < height }
+    ensures { IsRowOf (owner_at own.now width) width y result.now }
+{
+    let at = y * width;
+    &own[at..at + width]
 }
 
 /// The row below; the last row has none, and stands for its own.

@@ -1,25 +1,28 @@
 //! The places in one row.
 
-ghost use Rattle.std.specs.Prelude.{◌≡◌, ◌+◌, ◌*◌, ◌<◌, ◌≤◌, ◌^◌, length};
-ghost use Rattle.nit_labels.specs.Terms.{AreDown, AreFoundFrom, IsTop, longer, most_edge, owner_at};
-ghost use Rattle.nit_labels.specs.Terms.{point, put_where};
+ghost use Rattle.std.specs.Prelude.{◌≡◌, ℕ, ◌+◌, ◌-◌, ◌*◌, ◌<◌, ◌≤◌, ◌^◌, length};
+ghost use Rattle.nit_labels.specs.Terms.{AreDown, AreFoundFrom, IsOfRun, IsTop, most_edge};
+ghost use Rattle.nit_labels.specs.Terms.{owner_at, spot, put_where, slice_index_or};
 
-use crate::map::owner;
+use crate::map::row_of;
 use nit_rect::Point;
 
-/// One more column in front of these, where it is of the same owner; that column alone, where it is
-/// not; and none, where it is not tall.
-fn longer(same: bool, is_tall: bool, run: usize) -> usize
-    requires { run ≤ most_edge }
-    ensures { result ≡ longer same is_tall run }
+/// The first column of the run that ends with the column `x`: from there on up to `x` all columns
+/// are tall and of one owner.
+fn run_start(row: &[u16], down: &[u8], tall: u8, x: usize) -> usize
+    requires column { x < length row.now }
+    requires length { length down.now ≡ length row.now }
+    requires tall { slice_index_or down.now x 0 ≡ tall }
+    ensures within { result ≤ x }
+    ensures run { (k : ℕ) → result ≤ k → k ≤ x → IsOfRun row.now down.now tall x k }
+    ensures more { 0 < result → IsOfRun row.now down.now tall x (result - 1) → ⊥ }
 {
-    if !is_tall {
-        0
-    } else if same {
-        run + 1
-    } else {
-        1
+    let owner = row[x];
+    let mut start = x;
+    'columns: while start > 0 && row[start - 1] == owner && down[start - 1] == tall {
+        start -= 1;
     }
+    start
 }
 
 /// Takes down the place for this owner, where the columns from there on are as many as its width.
@@ -27,7 +30,7 @@ fn put(found: &mut [Option<Point>], widths: &[u32], o: u16, run: usize, x: usize
     requires found { length found.old ≡ length widths.now }
     requires column { x ≤ most_edge }
     requires row { y ≤ most_edge }
-    ensures { found.new ≡ put_where widths.now o run (point x y) found.old }
+    ensures { found.new ≡ put_where widths.now o run (spot x y) found.old }
 {
     let o = o as usize;
     if o < widths.len() && widths[o] as usize <= run {
@@ -38,7 +41,8 @@ fn put(found: &mut [Option<Point>], widths: &[u32], o: u16, run: usize, x: usize
     }
 }
 
-/// From the places in the rows below to those from the row `y` on.
+/// From the places in the rows below to those from the row `y` on. Each run of tall columns of one
+/// owner is passed at once: its first column is the least place in it.
 pub(crate) fn place_row(
     own: &[u16],
     width: usize,
@@ -62,14 +66,15 @@ pub(crate) fn place_row(
         found.old }
     ensures { AreFoundFrom (owner_at own.now width) width height widths.now tall 0 y found.new }
 {
-    let mut run = 0;
-    let mut right = 0;
+    let row = row_of(own, width, height, y);
     let mut x = width;
     'columns: while x > 0 {
+        let end = x;
         x -= 1;
-        let o = owner(own, width, height, x, y);
-        run = longer(o == right, down[x] == tall, run);
-        right = o;
-        put(found, widths, o, run, x, y);
+        if down[x] != tall {
+            continue;
+        }
+        x = run_start(row, down, tall, x);
+        put(found, widths, row[x], end - x, x, y);
     }
 }

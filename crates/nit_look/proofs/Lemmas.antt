@@ -14,4 +14,5 @@ pub use Rattle.nit_look.proofs.Patches.{copied_more, nothing_yet}
 pub use Rattle.nit_look.proofs.Rectangles.{bottom_below, covers_change, holds_of_it, lies_on}
 pub use Rattle.nit_look.proofs.Rectangles.{touched}
 pub use Rattle.nit_look.proofs.Rows.{first_found, more_found, nothing_more}
-pub use Rattle.nit_look.proofs.RowsPut.{kept_more, put_more, row_of, row_within}
+pub use Rattle.nit_look.proofs.RowsPut.{kept_more, put_more, row_of, row_within, rows_at_once}
+pub use Rattle.nit_look.proofs.RowsPut.{rows_fit}

@@ -1,7 +1,9 @@
 -- Rows of a part that are put among others, one after the other.
-use Rattle.nit_look.proofs.Basics.{Area, List, arith, cases_lt, drop, area_height, has_room, inl, inr}
-use Rattle.nit_look.proofs.Basics.{mul-le, nat_tests, places, slice_index, take, area_width}
-use Rattle.std.proofs.Common.{length, true, ℕ, ◌*◌, ◌+◌, ◌-◌, ◌<◌, ◌≡◌, ◌≢◌, ◌≤◌}
+use Rattle.nit_look.proofs.Basics.{Area, IsPartPut, List, ap, arith, cases_lt, div_below, drop}
+use Rattle.nit_look.proofs.Basics.{area_height, has_room, inl, inr, div-add-mod', mod_below, mul-le}
+use Rattle.nit_look.proofs.Basics.{mul-sub, nat_tests, places, row_fits, slice_index, take, area_width}
+use Rattle.nit_look.proofs.Basics.{◌∙◌}
+use Rattle.std.proofs.Common.{length, true, ℕ, ◌*◌, ◌+◌, ◌++◌, ◌-◌, ◌/◌, ◌%◌, ◌<◌, ◌≡◌, ◌≢◌, ◌≤◌}
 use borrow.Rule.Slice.PartMut.{put_mid}
 
 -- a row of the part ends in time, and the one above it before it begins
@@ -68,3 +70,50 @@ module _ (a : Area) (width pitch row from end count : ℕ) (frame old out part :
           | inr far ↦ rw (outside_high k far) as_was
         ]
       ]
+
+-- so many rows have so many words
+rows_between : (top bottom width : ℕ) → top ≤ bottom → bottom * width ≡ top * width + (bottom - top) * width
+rows_between top bottom width down =
+    let rows = mul-sub width bottom top in
+    let less : top * width ≤ bottom * width = mul-le top width bottom width down (omega arith) in
+    omega (arith, rows, less)
+
+-- rows as wide as the pitch stand one behind the other, and end in time
+pub rows_fit : (a : Area) (words : ℕ) → a.left ≡ 0 → a.top ≤ a.bottom → 0 < a.right
+    → has_room a a.right words ≡ true → a.bottom * a.right - a.top * a.right ≤ words
+rows_fit a words left down some room =
+    let rows = rows_between a.top a.bottom a.right down in
+    grind (arith, nat_tests, mul-sub)
+
+-- and each word of them stands at its place
+module _ (a : Area) (frame out : List ℕ) (left : a.left ≡ 0) (down : a.top ≤ a.bottom) (some : 0 < a.right)
+    (high : a.bottom * a.right ≤ length frame) (fits : a.bottom * a.right - a.top * a.right ≤ length out) where
+  abbrev words : ℕ
+  words = a.bottom * a.right - a.top * a.right
+
+  abbrev rows_put : List ℕ
+  rows_put = take words (drop (a.top * a.right) frame) ++ drop words out
+
+  known : a.bottom * a.right ≡ a.top * a.right + area_height a * a.right
+  known = rows_between a.top a.bottom a.right down
+
+  within : (k : ℕ) → k < words → slice_index rows_put k ≡ slice_index frame (a.top * a.right + k)
+  within k less = grind (arith, places)
+
+  beyond : (k : ℕ) → words ≤ k → slice_index rows_put k ≡ slice_index out k
+  beyond k past = grind (arith, places)
+
+  pub rows_at_once : IsPartPut a.right a a.right frame out rows_put
+  rows_at_once = record {
+    put = λ row column below less.
+        let fit = row_fits row a.right (area_height a) a.right below (omega arith) in
+        let word : a.top * a.right + (row * a.right + column) ≡ (a.top + row) * a.right + (a.left + column) = omega arith in
+        within (row * a.right + column) (omega (arith, fit, known)) ∙ ap (slice_index frame) word;
+    kept = λ k none. elim (cases_lt k words) [
+      | inl inside ↦
+          let row = div_below k a.right (area_height a) some (omega (arith, known)) in
+          let at = div-add-mod' k a.right in
+          absurd (none (k / a.right) (k % a.right) row (omega (arith, mod_below k a.right some)) (omega (arith, at)))
+      | inr past ↦ beyond k past
+    ];
+  }

@@ -8,6 +8,10 @@ use Rattle.nit_overlay.proofs.Basics.{get_or-between, in_area, ink_of, ints, is_
 use Rattle.nit_overlay.proofs.Basics.{le-div, max, mod-mul-add, nat_lt, nat_tests, picture_width}
 use Rattle.nit_overlay.proofs.Basics.{pixel, places, point, unowned_word}
 use Rattle.nit_overlay.proofs.FrameLemmas.{in_bar_row}
+use Rattle.std.proofs.Common.{Bool, set, sym}
+use Rattle.std.proofs.lemmas.Bool.{cases_eq}
+use Rattle.std.proofs.lemmas.List.{get_or-set_other, get_or-set_same}
+use Rattle.std.proofs.lemmas.Nat.{div-add-mod'}
 use borrow.Rule.Slice.PartMut.{put_mid}
 
 -- ---- a row is painted part by part
@@ -227,6 +231,39 @@ more_columns {f} {a} {width} {x} {next} far le within part = record {
   inside = within;
   painted = more_part f width (record a { right = x }) (record a { left = x; right = next })
       (record a { right = next }) (λ u v. let from = far.after in grind (arith, nat_tests)) far.painted part;
+}
+
+-- ---- one pixel is set
+
+elsewhere : (a : Area) (width k : ℕ) → a.right ≡ a.left + 1 → a.bottom ≡ a.top + 1
+    → (k ≡ a.top * width + a.left → ⊥) → (b : Bool) → in_area a (k % width) (k / width) ≡ b → b ≡ false
+elsewhere a width k one row differ false e = refl
+elsewhere a width k one row differ true e =
+    let left : k % width ≡ a.left = omega (arith, in_columns a (k % width) (k / width) e) in
+    let top : k / width ≡ a.top = omega (arith, in_rows a (k % width) (k / width) e) in
+    absurd (differ (sym (rw (left, top) at (div-add-mod' k width))))
+
+pub one_pixel : (f : ℕ → ℕ → ℕ → ℕ) (a : Area) (width word : ℕ) {raw old : List ℕ} {count : ℕ}
+    → a.right ≡ a.left + 1 → a.bottom ≡ a.top + 1 → a.left < width → a.top * width + a.left < length old
+    → a.top * width + a.left < count
+    → word ≡ f a.left a.top (slice_index raw (a.top * width + a.left))
+    → IsAreaBy f a width raw old (set old (a.top * width + a.left) word) count
+one_pixel f a width word {raw} {old} {count} one row left long within is = record {
+  words = λ k lt. elim (cases_eq k (a.top * width + a.left)) [
+    | inl same ↦
+        let on : in_area a a.left a.top ≡ true = grind (arith, nat_tests) in
+        rw (
+          same,
+          mod-mul-add a.top width a.left left,
+          div-mul-add a.top width a.left left,
+          on,
+          get_or-set_same old (a.top * width + a.left) word 0 long,
+        ) is
+    | inr differ ↦
+        rw (elsewhere a width k one row differ (in_area a (k % width) (k / width)) refl)
+        (get_or-set_other old (a.top * width + a.left) k word 0 differ)
+  ];
+  rest = λ k ge. get_or-set_other old (a.top * width + a.left) k word 0 (λ e. absurd (omega arith));
 }
 
 -- ---- the rows of the status bar

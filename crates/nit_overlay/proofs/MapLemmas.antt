@@ -70,20 +70,19 @@ stands_here s p slot is = rw is (by_case (seat_owner s.bar s.views p) refl)
     by_case (Some a) at = seated a at
 
 -- so it is with a run of pixels of one number
-pub run_named : (s : StackModel) (map : List ℕ) (x y to end : ℕ) (slot : Option ViewRef) (P : Point → Type 0)
-    → IsStack s → IsMapOf s map → x < to → to ≤ s.width → y < s.height
+pub run_named : (s : StackModel) (map : List ℕ) (x y to end : ℕ) (slot : Option ViewRef) → IsStack s → IsMapOf s map
+    → x < to → to ≤ s.width → y < s.height
     → HoldsUpTo (λ k. slice_index map k ≡ slice_index map (y * s.width + x)) (y * s.width + x) (y * s.width + to) end
     → ((o : Option SlotView) → slice_index map (y * s.width + x) ≡ number_of o → IfSome o (λ a. a.slot < no_slot)
     → slot ≡ option_map view_ref o)
-    → ((p : Point) → slot ≡ option_map view_ref (seat_owner s.bar s.views p) → P p)
-    → HoldsUpTo (λ z. P (point z y)) x to (end - y * s.width)
-run_named s map x y to end slot P standing is some across down run names owned = record {
+    → HoldsUpTo (λ z. slot ≡ option_map view_ref (seat_owner s.bar s.views (point z y))) x to (end - y * s.width)
+run_named s map x y to end slot standing is some across down run names = record {
   after = omega (arith, run.after);
   within = omega (arith, run.within);
   all = λ z from less.
       let within = run.within in
       let after = run.after in
       let left : z < s.width = omega arith in
-      owned (point z y) (named_here s map z y (y * s.width + x) slot standing is left down
-      (sym (run.all (y * s.width + z) (omega arith) (omega arith))) names);
+      named_here s map z y (y * s.width + x) slot standing is left down
+      (sym (run.all (y * s.width + z) (omega arith) (omega arith))) names;
 }

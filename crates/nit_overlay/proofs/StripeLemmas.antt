@@ -1,7 +1,7 @@
 -- The rows of a view: its label there, and what is shown beside it.
 use Rattle.std.proofs.Common.{nat_le, Bool, List, None, Option, Some, ap, arith, false, length, pos, refl, sym, true}
 use Rattle.std.proofs.Common.{ℕ, ◌&&◌, ◌+◌, ◌<◌, ◌||◌, ◌∙◌, ◌≡◌, ◌≤◌}
-use Rattle.nit_overlay.proofs.Basics.{Flat, Kill, Lettering, Mode, Point, Scenery, Text, View, Xray}
+use Rattle.nit_overlay.proofs.Basics.{Flat, Kill, Lettering, Mode, Point, Scenery, View, Xray}
 use Rattle.nit_overlay.proofs.Basics.{by_label, by_mode, covers, ints, is_on_ring, is_same}
 use Rattle.nit_overlay.proofs.Basics.{label_place_of, nat_lt, nat_tests, option_map, picture_height}
 use Rattle.nit_overlay.proofs.Basics.{picture_width, point, rectangle, stripe_rule, view_text}
@@ -9,7 +9,7 @@ use Rattle.nit_overlay.proofs.Basics.{view_word, word_by}
 use Rattle.nit_overlay.specs.Below.{Rule, Span, Tag}
 use Rattle.nit_overlay.specs.Look.{draws_labels, pixel_at}
 use Rattle.nit_overlay.specs.Span.{has_at_end}
-use Rattle.nit_overlay.specs.Stripe.{in_tag, mode_rule, tag_rule}
+use Rattle.nit_overlay.specs.Stripe.{mode_rule, tag_rule}
 
 -- in the rows of a picture, its columns alone tell whether a pixel lies in it
 in_columns_of : (left top wide high x z : ℕ) → top ≤ z → z < top + high

@@ -21,7 +21,7 @@ pub use Rattle.nit_overlay.specs.Look.{IsLook, IsPlaced, draws_labels, pixel_at,
 pub use Rattle.nit_overlay.specs.Look.{scenery}
 pub use Rattle.nit_overlay.specs.Marks.{IsBright, IsMark, IsOfNamed, IsReddish, in_label}
 pub use Rattle.nit_overlay.specs.Marks.{is_dot_of_text, is_in_text, is_label_dot}
-pub use Rattle.nit_overlay.specs.Owner.{HasOwner, IsOwner}
+pub use Rattle.nit_overlay.specs.Owner.{HasOwner, HasSlot, IsClear, IsOwner, StandsIn}
 pub use Rattle.nit_overlay.specs.PixelRow.{IsPainted, IsRowPart}
 pub use Rattle.nit_overlay.specs.Rule.{IsInTag, IsTagged, word_by}
 pub use Rattle.nit_overlay.specs.Span.{has_at_end, moved_of, span_has}

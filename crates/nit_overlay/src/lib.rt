@@ -32,7 +32,8 @@
 //! nothing is searched. Where owners are not known, each row is first cut into pieces that have one
 //! owner or none, and each piece is painted as such an area. So the stack is searched once for each
 //! piece of a row, and not for each pixel. By a map each row is cut into runs of one owner, and no
-//! view is searched for. A narrow run that meets no label is painted pixel by pixel.
+//! view is searched for. A narrow run that meets no label is painted pixel by pixel. Where it has at
+//! most four pixels, each is looked up by its slot, and the end of the run is not sought.
 //!
 //! The tests are in `nit_tests`: `parts`.
 #![tactic(auto)]

@@ -3,9 +3,9 @@
 ghost use Rattle.std.specs.Prelude.{◌≡◌, ◌<◌, true, length, option_map, slice_get, Some, IfSome};
 ghost use Rattle.std.specs.Prelude.{IsTrue};
 ghost use Rattle.nit_overlay.specs.Terms.{AreOnScreen, HasOwner, HoldsUpTo, IsLook, IsOwner};
-ghost use Rattle.nit_overlay.specs.Terms.{IsPlaced, IsStack, Point, draws_labels, has_slot};
+ghost use Rattle.nit_overlay.specs.Terms.{IsStack, Point, StandsIn, View, draws_labels, has_slot};
 ghost use Rattle.nit_overlay.specs.Terms.{label_place_of, pixel_at, point, scenery, seat_owner};
-ghost use Rattle.nit_overlay.specs.Terms.{view_ref};
+ghost use Rattle.nit_overlay.specs.Terms.{slot_view_in, view_ref};
 
 use crate::bar::is_bar_row;
 use crate::look::LetteredLook;
@@ -34,6 +34,9 @@ fn view_at(stack: &Stack, i: u32) -> (ViewRef, View)
     requires { i < length stack.now.views }
     ensures place { slice_get stack.now.views i
         ≡ Some (record { slot = result.0.0; view = result.1 }) }
+    ensures stands { has_slot result.0.0 stack.now.views ≡ true }
+    ensures slot { slot_view_in result.0.0 stack.now.views
+        ≡ Some (record { slot = result.0.0; view = result.1 }) }
     ensures standing { IsStack stack.now }
 {
     let v = stack.at(i);
@@ -41,11 +44,12 @@ fn view_at(stack: &Stack, i: u32) -> (ViewRef, View)
 }
 
 /// The place of the label of the view in a slot, where labels are drawn.
-fn place_at(lettered: &LetteredLook, v: ViewRef, view: &View) -> Option<Point>
-    requires { IsTrue (draws_labels lettered.now.look.mode)
-        → IsPlaced lettered.now (record { slot = v.0; view = view.now }) }
-    ensures { IsTrue (draws_labels lettered.now.look.mode)
-        → result ≡ option_map pixel_at (label_place_of (scenery lettered.now) view.now) }
+pub(crate) fn place_at(lettered: &LetteredLook, v: ViewRef) -> Option<Point>
+    requires look { IsLook lettered.now }
+    requires stands { has_slot v.0 lettered.now.look.stack.now.views ≡ true }
+    ensures { IsTrue (draws_labels lettered.now.look.mode) → (view : View)
+        → StandsIn lettered.now v view
+        → result ≡ option_map pixel_at (label_place_of (scenery lettered.now) view) }
 {
     match lettered.look.mode {
         Mode::Flat => None,
@@ -65,7 +69,7 @@ pub(crate) fn owner_of(lettered: &LetteredLook, slot: Option<ViewRef>) -> Option
     match slot {
         Some(v) => {
             let view = lettered.look.stack.view(v);
-            let place = place_at(lettered, v, &view);
+            let place = place_at(lettered, v);
             Some(Owner { view, place })
         }
         None => None,
@@ -91,7 +95,7 @@ pub(crate) fn piece_at(lettered: &LetteredLook, x: u32, y: u32, to: u32) -> Owne
         let (v, view) = view_at(lettered.look.stack, i);
         let (covered, last) = reach(&view.rect, x, y, end);
         if covered {
-            let place = place_at(lettered, v, &view);
+            let place = place_at(lettered, v);
             return OwnedColumns {
                 owner: Some(Owner { view, place }),
                 end: last,

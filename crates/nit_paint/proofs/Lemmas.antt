@@ -11,3 +11,4 @@ pub use Rattle.nit_paint.proofs.Pixels.{black_after, black_before, filled, row_l
 pub use Rattle.nit_paint.proofs.Pixels.{words_within}
 pub use Rattle.nit_paint.proofs.RepaintLemmas.{other_count, repainted_both, repainted_none}
 pub use Rattle.nit_paint.proofs.RepaintLemmas.{repainted_same, repainted_union, repainted_words}
+pub use Rattle.nit_paint.proofs.WholeRows.{rows_within, run_of_rows, words_shown}

@@ -2,6 +2,7 @@ pub mod RepaintLemmas
 pub mod FrameCopyLemmas
 pub mod Pixels
 pub mod Blocks
+pub mod WholeRows
 pub mod PieceOwners
 pub mod Examples
 pub mod OneMore

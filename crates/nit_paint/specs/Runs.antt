@@ -1,8 +1,8 @@
 -- Pixels that stand side by side, and what they show of one row of a buffer.
-use Rattle.std.specs.Prelude.{ℕ, ◌+◌, ◌-◌, ◌*◌, ◌&&◌, Bool, nat_le, nat_lt, pos, Option, Some, None}
-use Rattle.std.specs.Prelude.{if◌then◌else◌}
+use Rattle.std.specs.Prelude.{◌≡◌, ℕ, ◌+◌, ◌-◌, ◌*◌, ◌&&◌, Bool, nat_le, nat_lt, pos, ◌+ℤ◌, ◌≤ℤ◌}
+use Rattle.std.specs.Prelude.{Option, Some, None, if◌then◌else◌}
 use Rattle.nit_paint.specs.Below.{Bare, Black, PixelSource, Word, bare_word, black_or_word}
-use Rattle.nit_paint.specs.Below.{rectangle}
+use Rattle.nit_paint.specs.Below.{rectangle, ℤ}
 use Rattle.nit_paint.specs.declared.reach.Reach.{Reach}
 use Rattle.nit_paint.specs.declared.block.Block.{Block}
 use Rattle.nit_paint.specs.Pieces.{has_pixel}
@@ -45,3 +45,9 @@ in_rows b rows k = has_pixel b.width (rectangle (pos b.left) (pos b.top) b.wide 
 -- the number of the first pixel of a row of the block
 abbrev pub row_at : Block → ℕ → ℕ
 row_at b j = (b.top + j) * b.width + b.left
+
+-- the block's rows are whole rows of the screen, and show whole rows of a buffer of w columns and
+-- h rows, from its row `row` on
+abbrev pub ShowsWholeRows : Block → Reach → ℤ → ℕ → ℕ → Type 0
+ShowsWholeRows b r row w h =
+    ((r.words ≡ b.width) × (w ≡ b.width)) × ((pos 0 ≤ℤ row) × ((row +ℤ pos b.tall) ≤ℤ pos h))

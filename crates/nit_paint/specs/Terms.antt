@@ -13,7 +13,7 @@ pub use Rattle.nit_paint.specs.Pieces.{HoldBuffers, IsPiece, has_pixel, source_o
 pub use Rattle.nit_paint.specs.Ranges.{least_place, most_buffer, most_place}
 pub use Rattle.nit_paint.specs.Repaint.{IsAmongLoads, IsWordOfSource, Repainted, is_word_of}
 pub use Rattle.nit_paint.specs.Repaint.{loads_at, loads_of, times_shown}
-pub use Rattle.nit_paint.specs.Runs.{in_rows, in_run, index_from, long, own_word, reached, row_at}
-pub use Rattle.nit_paint.specs.Runs.{row_source}
+pub use Rattle.nit_paint.specs.Runs.{ShowsWholeRows, in_rows, in_run, index_from, long}
+pub use Rattle.nit_paint.specs.Runs.{own_word, reached, row_at, row_source}
 pub use Rattle.nit_paint.specs.declared.block.Block.{Block}
 pub use Rattle.nit_paint.specs.declared.reach.Reach.{Reach}

@@ -1,15 +1,15 @@
 //! Pieces of the screen, row by row.
 
 ghost use Rattle.std.specs.Prelude.{◌≡◌, ℕ, ◌+◌, ◌*◌, ◌<◌, ◌≤◌, All, length, pos, ◌+ℤ◌, ◌≤ℤ◌};
-ghost use Rattle.std.specs.Prelude.{IfSome, true};
+ghost use Rattle.std.specs.Prelude.{◌↔◌, IfSome, IsTrue, true};
 ghost use Rattle.nit_paint.specs.Terms.{Bare, HoldBuffers, IsPiece, IsWord, PixelSource, Repainted};
-ghost use Rattle.nit_paint.specs.Terms.{Sight, among, black_or_word, has_pixel, has_slot, in_rows};
-ghost use Rattle.nit_paint.specs.Terms.{index_at, least_place, long, most_place, most_side};
-ghost use Rattle.nit_paint.specs.Terms.{reached, row_at, source_of_number};
+ghost use Rattle.nit_paint.specs.Terms.{ShowsWholeRows, Sight, among, black_or_word, has_pixel};
+ghost use Rattle.nit_paint.specs.Terms.{has_slot, in_rows, index_at, least_place, long, most_place};
+ghost use Rattle.nit_paint.specs.Terms.{most_side, reached, row_at, source_of_number};
 
 use crate::block::Block;
 use crate::reach::{Reach, buffer_place, row_start};
-use crate::runs::{fill_run, paint_row};
+use crate::runs::{fill_run, load_run, paint_row};
 use nit_stack::{Piece, Stack};
 use nit_word::{BARE, Glasses};
 
@@ -46,7 +46,8 @@ pub fn paint_piece<L: Glasses>(stack: &Stack, raw: &mut [u32], piece: &Piece, gl
 }
 
 /// Paints a block by a session's buffer of `size.0` columns and `size.1` rows. The block's first
-/// row would show the buffer's row `row`.
+/// row would show the buffer's row `row`. Rows that are whole on the screen and in the buffer are
+/// loaded at once.
 fn paint_rows<L: Glasses>(
     raw: &mut [u32],
     block: &Block,
@@ -70,11 +71,32 @@ fn paint_rows<L: Glasses>(
         (L.sights glasses.old) (L.sights glasses.new) raw.old raw.new }
     ensures rest { L.rest glasses.new ≡ L.rest glasses.old }
 {
+    if shows_whole_rows(block, reach, row, size) {
+        let at = block.top * block.width;
+        let start = row as u32 * size.0;
+        let count = block.tall * block.width;
+        load_run(raw, at as usize, count, start, sid, glasses);
+        return;
+    }
     'rows: for j in 0..block.tall {
         let at = (block.top + j) * block.width + block.left;
         let start = row_start(row + j as i32, size.0, size.1);
         paint_row(raw, at as usize, reach, start, sid, glasses);
     }
+}
+
+/// Whether the block's rows are whole rows of the screen, and show whole rows of a buffer of
+/// `size.0` columns and `size.1` rows, from its row `row` on. All their words stand side by side
+/// then, both on the screen and in the buffer.
+fn shows_whole_rows(block: &Block, reach: &Reach, row: i32, size: (u32, u32)) -> bool
+    requires row { (least_place ≤ℤ row) × (row ≤ℤ most_place) }
+    requires size { size.1 ≤ most_side }
+    ensures { IsTrue result ↔ ShowsWholeRows block.now reach.now row size.0 size.1 }
+{
+    reach.words == block.width
+        && size.0 == block.width
+        && 0 <= row
+        && row + block.tall as i32 <= size.1 as i32
 }
 
 /// Gives each pixel of a block the word of the bare screen.

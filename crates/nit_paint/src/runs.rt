@@ -20,6 +20,28 @@ pub(crate) fn fill_run(raw: &mut [u32], at: usize, count: u32, word: u32)
     raw[at..at + count as usize].fill(word);
 }
 
+/// Loads `count` pixels from `at` on at once: they show words of a session's buffer that stand side
+/// by side too, the first one at `start`.
+pub(crate) fn load_run<L: Glasses>(
+    raw: &mut [u32],
+    at: usize,
+    count: u32,
+    start: u32,
+    sid: u32,
+    glasses: &mut L,
+)
+    requires pixels { at + count ≤ length raw.old }
+    requires words { start + count ≤ (L.sights glasses.old sid).size }
+    ensures painted { (source : ℕ → PixelSource)
+        → ((j : ℕ) → j < count → source (at + j) ≡ Word sid (start + j))
+        → Repainted source (in_run at count) (length raw.old)
+        (L.sights glasses.old) (L.sights glasses.new) raw.old raw.new }
+    ensures size { (L.sights glasses.new sid).size ≡ (L.sights glasses.old sid).size }
+    ensures rest { L.rest glasses.new ≡ L.rest glasses.old }
+{
+    glasses.load_row(sid, start as usize, &mut raw[at..at + count as usize]);
+}
+
 /// Paints the pixels of a row from `at` on, by a session's buffer. The words of the buffer's row
 /// begin at `start`; where the buffer has no such row all pixels are black.
 pub(crate) fn paint_row<L: Glasses>(
@@ -48,6 +70,6 @@ pub(crate) fn paint_row<L: Glasses>(
     let words = at + reach.before as usize;
     let after = words + reach.words as usize;
     fill_run(raw, at, reach.before, BLACK);
-    glasses.load_row(sid, (start + reach.from) as usize, &mut raw[words..after]);
+    load_run(raw, words, reach.words, start + reach.from, sid, glasses);
     fill_run(raw, after, reach.after, BLACK);
 }

@@ -3,7 +3,7 @@
 ghost use Rattle.std.specs.Prelude.{◌≡◌, ℕ, ◌+◌, ◌≤◌, List, Option, false, true, pos};
 ghost use Rattle.nit_place.specs.Terms.{IsApart, IsLeast, IsLeastPlace, IsNumberOf, Point, View};
 ghost use Rattle.nit_place.specs.Terms.{fits, is_view, label_place, option_map, point, rectangle};
-ghost use Rattle.nit_labels.specs.Places.{IsFree};
+ghost use Rattle.nit_labels.specs.Places.{OwnsArea};
 
 /// Two labels that stand where they fit views of different names share no pixel. Each has a size of
 /// its own.
@@ -37,6 +37,6 @@ pub fn mapped_place()
         → 1 ≤ w → 1 ≤ h
         → IsNumberOf at width height rows stack v o
         → (q : Option Point)
-        → IsLeastPlace (IsFree at width height o w h) q
+        → IsLeastPlace (OwnsArea at width height o w h) q
         → q ≡ option_map (λ p. point p.0 p.1) (label_place width height rows stack v w h) }
 {}

@@ -8,4 +8,4 @@ pub use Rattle.std.proofs.Common.{arith, refl}
 pub use Rattle.std.proofs.lemmas.Bool.Decides.{nat_tests}
 pub use Rattle.std.proofs.lemmas.Option.{slice_get_read}
 pub use Rattle.nit_scene.proofs.SceneLemmas.{adds, config_, inks_now, open_more, played, played_begun}
-pub use Rattle.nit_scene.proofs.SceneLemmas.{raws_after, replays, scene_of, shots_fit, shows}
+pub use Rattle.nit_scene.proofs.SceneLemmas.{raws_after, raws_painted, replays, scene_of, shots_fit, shows}

@@ -47,6 +47,21 @@ shots_more [] e = sym (zero-add (shots (e ∷ [])))
 shots_more (entry.Shot n ∷ rest) e = omega (arith, shots_more rest e)
 shots_more (other ∷ rest) e = shots_more rest e
 
+-- what the law on raw words says
+abbrev pub StaysRaw : Type 0
+StaysRaw = (s : State) (taken : ℕ) (e : Entry) (glasses glasses_after : ℕ → Sight) (raw raw_after : List ℕ)
+    → Agrees s taken e
+    → Painted s e (after s e) glasses glasses_after raw raw_after → AreRaw s raw → AreRaw (after s e) raw_after
+
+-- and so at servers
+pub raws_painted : (s s' : ServerModel) (taken : ℕ) (e : Entry) (glasses glasses' : ℕ → Sight) (raw raw' : List ℕ)
+    → StaysRaw → state_of s' ≡ after (state_of s) e → Agrees (state_of s) taken e
+    → Painted (state_of s) e (state_of s') glasses glasses' raw raw' → AreRaw (state_of s) raw → AreRaw (state_of s') raw'
+raws_painted s s' taken e glasses glasses' raw raw' law state_ agrees painted before =
+    subst (λ (t : State). AreRaw t raw') (sym state_)
+    (law (state_of s) taken e glasses glasses' raw raw' agrees
+    (subst (λ (t : State). Painted (state_of s) e t glasses glasses' raw raw') state_ painted) before)
+
 -- what is seen of a scene
 abbrev pub scene_of : {G : Type 0} → ServerModel → JournalModel → List ℕ → List G → SceneModel G
 scene_of s j raw glasses =
@@ -68,18 +83,10 @@ module _ {s : ServerModel} (s' : ServerModel) {entries : List Entry} {spare take
       (subst (λ (n : ℕ). Agrees (replay s.config entries) n e) (h.shots ∙ sym (zero-add (shots entries)))
       (subst (λ (t : State). Agrees t taken e) h.replayed agrees)))
 
-  -- what the law on raw words says
-  abbrev pub StaysRaw : Type 0
-  StaysRaw = (s : State) (taken : ℕ) (e : Entry) (glasses glasses_after : ℕ → Sight) (raw raw_after : List ℕ)
-      → Agrees s taken e
-      → Painted s e (after s e) glasses glasses_after raw raw_after → AreRaw s raw → AreRaw (after s e) raw_after
-
   pub raws_after : StaysRaw → Agrees (state_of s) taken e → (glasses glasses' : ℕ → Sight) (raw' : List ℕ)
       → Painted (state_of s) e (state_of s') glasses glasses' raw raw' → AreRaw (state_of s') raw'
   raws_after law agrees glasses glasses' raw' painted =
-      subst (λ (t : State). AreRaw t raw') (sym state_)
-      (law (state_of s) taken e glasses glasses' raw raw' agrees
-      (subst (λ (t : State). Painted (state_of s) e t glasses glasses' raw raw') state_ painted) h.raw_words)
+      raws_painted s s' taken e glasses glasses' raw raw' law state_ agrees painted h.raw_words
 
   pub raws_now : (raw' : List ℕ) → AreRaw (state_of s') raw' → AreRaw (replay s'.config (entries ++ e ∷ [])) raw'
   raws_now raw' raws = subst (λ (t : State). AreRaw t raw') replays raws

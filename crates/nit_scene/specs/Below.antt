@@ -27,6 +27,7 @@ pub use Rattle.nit_screen.specs.RawWords.{source_at}
 pub use Rattle.nit_screen.specs.Screen.{AreGlasses, IsGlass}
 pub use Rattle.nit_screen.specs.StateScenery.{scenery_of}
 pub use Rattle.nit_server.specs.Server.{ServerModel, state_of}
+pub use Rattle.nit_server.specs.ServerInput.{MayLose, routing_of}
 pub use Rattle.nit_slots.specs.Slots.{spare}
 pub use Rattle.nit_stack.specs.Sources.{Bare, Black, PixelSource, Word, pixel}
 pub use Rattle.nit_word.specs.Channels.{bare_word}

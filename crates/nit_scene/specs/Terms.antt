@@ -7,7 +7,7 @@ pub use Rattle.nit_scene.specs.Below.{PixelSource, Reply, Scenery, ServerModel, 
 pub use Rattle.nit_scene.specs.Below.{ShowsLabels, Sight, State, Take, View, Word, accepted, after}
 pub use Rattle.nit_scene.specs.Below.{alone, bare_word, by_refusal, deliveries_of, first_session}
 pub use Rattle.nit_scene.specs.Below.{first_state, frame, glass_in, is_accepted, lettered}
-pub use Rattle.nit_scene.specs.Below.{plain}
+pub use Rattle.nit_scene.specs.Below.{MayLose, plain, routing_of}
 pub use Rattle.nit_scene.specs.Below.{is_between, kills, map, member, no_sight, pixel, pixel_count}
 pub use Rattle.nit_scene.specs.Below.{projection, refusal, replay, replies_to, reserved, route}
 pub use Rattle.nit_scene.specs.Below.{routed_as, scenery_of, serve, session, session_in, set_where}

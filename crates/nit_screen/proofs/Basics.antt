@@ -15,10 +15,10 @@ pub use Rattle.nit_repaint.proofs.ForCallers.{seat_here, stays, stays_clean, tak
 pub use Rattle.nit_repaint.proofs.ForCallers.{taken_none, without_changed, without_moved}
 pub use Rattle.nit_repaint.proofs.ForCallers.{without_none}
 pub use Rattle.nit_screen.specs.Terms.{IsMapOf, IsRoomFor}
-pub use Rattle.nit_screen.specs.MapRow.{AreNumbered, AreRects, AreRowsAlike, AreRowsOfRect}
-pub use Rattle.nit_screen.specs.MapRow.{AreSkips}
-pub use Rattle.nit_screen.specs.MapRow.{IsMapRow, IsRowOfMap, IsSkip, is_between, is_filled}
-pub use Rattle.nit_screen.specs.MapRow.{numbered}
+pub use Rattle.nit_screen.specs.Terms.{AreNumbered, AreSkips, IsRowOfMap, SkipsFilled, is_between}
+pub use Rattle.nit_screen.specs.Terms.{is_filled, numbered, ArePatches, IsBegun, IsPatch, first_at}
+pub use Rattle.nit_screen.specs.Terms.{AreOfViews, has, number_in, number_or_none}
+pub use Rattle.nit_screen.specs.declared.screen.patches.Patch.{Patch}
 pub use Rattle.nit_screen.specs.Terms.{Above, Agrees, AllByRecursion, AreBelowNext, AreGlasses}
 pub use Rattle.nit_screen.specs.Terms.{AreInked, AreLabelled, AreLabelsApart, AreLive, AreMeasured}
 pub use Rattle.nit_screen.specs.Terms.{ArePixels, ArePlaced, AreRaw, AreSet, Back, Bare, Buffer}
@@ -26,7 +26,7 @@ pub use Rattle.nit_screen.specs.Terms.{Call, CanAccept, CanRepaint, CanServe, Ca
 pub use Rattle.nit_screen.specs.Terms.{Close, Configuration, CutterModel, Delivery, Destroy, Device}
 pub use Rattle.nit_screen.specs.Terms.{Entry, Event, FitsStack, Flat, Front, HaveOwnNames}
 pub use Rattle.nit_screen.specs.Terms.{HoldBuffers, InputState, IsAmongLoads, IsCallShown, IsClean}
-pub use Rattle.nit_screen.specs.Terms.{IsCopied, IsForgottenIfKilled, IsFrameOf, IsFree, IsInkedBy}
+pub use Rattle.nit_screen.specs.Terms.{IsCopied, IsForgottenIfKilled, IsFrameOf, OwnsArea, IsInkedBy}
 pub use Rattle.nit_screen.specs.Terms.{IsKillAlone, IsLabelShown, IsLeastPlace, IsLegal, IsLive}
 pub use Rattle.nit_screen.specs.Terms.{IsMap, IsNamedBy, IsNewlyNamed, IsNumberOf, IsOn, IsOnScreen}
 pub use Rattle.nit_screen.specs.Terms.{IsPartOf, IsPartShown, IsQuiet, IsRawOf, IsRemovedFrom}

@@ -6,14 +6,14 @@ use Rattle.nit_screen.proofs.Basics.{IsQuiet, IsRepaint, IsServed, IsServer, IsS
 use Rattle.nit_screen.proofs.Basics.{KeepsPainter, KeepsViews, Painted, Painter, PixelSource}
 use Rattle.nit_screen.proofs.Basics.{Pixels, Point, Rectangle, Refresh, Repainted, Reply, Scenery}
 use Rattle.nit_screen.proofs.Basics.{ScreenModel, ServerModel, Sight, SlotView, StackModel, Take}
-use Rattle.nit_screen.proofs.Basics.{Upgrade, closed, dirty, draws_labels, false_from_ne_true}
+use Rattle.nit_screen.proofs.Basics.{Upgrade, cases_Bool, closed, false≢true, dirty, draws_labels, false_from_ne_true}
 use Rattle.nit_screen.proofs.Basics.{frame, is_of_session, kept_frame, layer, length-frame}
 use Rattle.nit_screen.proofs.Basics.{nat_tests, no_sight, nothing_set, owner_passes, pixel}
 use Rattle.nit_screen.proofs.Basics.{place_of, raw_of, renewed, repainted_same, repainted_words}
 use Rattle.nit_screen.proofs.Basics.{scenery_of, shown, slot_owns_either, slot_view_in, state_of}
 use Rattle.nit_screen.proofs.Basics.{unbarred, wanted, with_ended, without_session, without_views}
-use Rattle.std.proofs.Common.{Bool, IsTrue, Option, Some, ap, arith, false, length, nat_lt, refl}
-use Rattle.std.proofs.Common.{slice_index, subst, sym, true, ℕ, ◌*◌, ◌<◌, ◌∙◌, ◌≡◌}
+use Rattle.std.proofs.Common.{Bool, IsTrue, Option, Some, ap, arith, false, inl, inr, length, nat_lt}
+use Rattle.std.proofs.Common.{refl, slice_index, subst, sym, true, ℕ, ◌*◌, ◌<◌, ◌∙◌, ◌≡◌}
 use Rattle.nit_screen.proofs.KeptFrames.{bar_clean, can_stay, can_still, clean_call, kept_served}
 use Rattle.nit_screen.proofs.KeptFrames.{part_stays, quiet_stays, same_scenery}
 use Rattle.nit_screen.proofs.OneViewChanges.{change_of_call, dirty_by_change, dirty_by_views}
@@ -29,7 +29,7 @@ use Rattle.nit_paint.specs.Pieces as pieces
 
 -- what contracts see of a screen
 abbrev pub screen_of : ServerModel → Pixels → ScreenModel
-screen_of s p = record { serving = s; raw = raw_of p }
+screen_of s p = record { serving = s; raw = raw_of p; is_stale = p.is_stale }
 
 -- ---- calls that change no view
 
@@ -88,9 +88,10 @@ module _ {sights sights' : ℕ → Sight} {sid : ℕ} {call : Call} {reply : Rep
 
 -- in mode Flat one list was the frame of what was loaded, and in the other modes all was shown again
 pub shown_by_mode : (s : ServerModel) (before now : Pixels) → CanShowBy s before
+    → (before.is_apart ≡ false → before.is_stale ≡ false)
     → (s.input.mode ≡ Flat → IsFrameOf s before) → (s.input.mode ≡ Flat → now ≡ before)
     → (IsTrue (draws_labels s.input.mode) → IsShown s before now) → IsShown s before now
-shown_by_mode s before now can flat same labelled = grind (arith, nat_tests, still_shown)
+shown_by_mode s before now can one flat same labelled = grind (arith, nat_tests, still_shown)
 
 -- ---- a call on views
 
@@ -127,7 +128,7 @@ module _ (sights sights' : ℕ → Sight) {s s' : ServerModel} {t : StackModel} 
 
       -- in mode Flat the one list is the frame of what was loaded
       flat_frame : s'.input.mode ≡ Flat → IsFrameOf s' loaded
-      flat_frame flat =
+      flat_frame flat fresh =
           let before = made.pixels.0 in
           let config = same_config served in
           let one_ = single (sym (mode_stays other served) ∙ flat) in
@@ -144,29 +145,30 @@ module _ (sights sights' : ℕ → Sight) {s s' : ServerModel} {t : StackModel} 
           let clean = bar_clean (state_of s) (state_of s') sid call reply (pixel s.config.width k) config there in
           let same = is_dirty k in cc))
           (λ k l d. dirty_painted.others k (λ lt. sym (is_dirty k) ∙ d)) kept.count)
-          (rw one_ at made.pixels.1))
+          (rw one_ at (made.pixels.1 fresh)))
 
       -- where labels are drawn, the words of the frame stand apart before the call
       labelled_before : IsTrue (draws_labels s'.input.mode) → one.is_apart ≡ true
       labelled_before m = made.pixels.2 (rw (← mode_stays other served) m)
 
-      frame_before : IsTrue (draws_labels s'.input.mode)
+      frame_before : one.is_stale ≡ false → IsTrue (draws_labels s'.input.mode)
           → one.frame.items ≡ frame (scenery_of (state_of s)) one.painter.raw.items
-      frame_before m = rw (labelled_before m) at made.pixels.1
+      frame_before fresh m = rw (labelled_before m) at (made.pixels.1 fresh)
 
-      apart_before : IsTrue (draws_labels s'.input.mode) → length one.frame.items ≡ length painter.raw.items
-      apart_before m = grind (arith, nat_tests, frame_before, length-frame)
+      apart_before : one.is_stale ≡ false → IsTrue (draws_labels s'.input.mode)
+          → length one.frame.items ≡ length painter.raw.items
+      apart_before fresh m = grind (arith, nat_tests, frame_before, length-frame)
 
       -- and the labels stand where they stood
-      placed_before : (part : Option Rectangle) → IsPartOf part call → IsTrue (draws_labels s'.input.mode)
-          → ArePlaced s' one
-      placed_before part on m = still_placed s s' one hb ha (same_config served) (served.seats (part_keeps part call on))
-          (made.pixels.3 (rw (← mode_stays other served) m))
+      placed_before : (part : Option Rectangle) → IsPartOf part call → one.is_stale ≡ false
+          → IsTrue (draws_labels s'.input.mode) → ArePlaced s' one
+      placed_before part on fresh m = still_placed s s' one hb ha (same_config served) (served.seats (part_keeps part call on))
+          (made.pixels.3 fresh (rw (← mode_stays other served) m))
 
       -- the chosen pixels of a frame apart were shown again
-      part_is_shown : (now : Pixels) (part : Option Rectangle) → IsPartOf part call
+      part_is_shown : (now : Pixels) (part : Option Rectangle) → IsPartOf part call → one.is_stale ≡ false
           → IsTrue (draws_labels s'.input.mode) → IsPartShown s' chosen loaded now → IsShown s' loaded now
-      part_is_shown now part on m e =
+      part_is_shown now part on fresh m e =
           let apart = e.kept.0 ∙ labelled_before m in
           let same = same_scenery s s' sid call reply can.unrefused.accepted served other
           (λ stack. part_stays (layer s.config) sid part call reply stack on) in
@@ -175,10 +177,10 @@ module _ (sights sights' : ℕ → Sight) {s s' : ServerModel} {t : StackModel} 
           record {
             pixels = (
               e.can,
-              rw apart (renewed (scenery_of (state_of s)) (scenery_of (state_of s')) chosen one.painter.raw.items
+              λ f. rw apart (renewed (scenery_of (state_of s)) (scenery_of (state_of s')) chosen one.painter.raw.items
                   now.painter.raw.items one.frame.items now.frame.items (record {
                     size = (ap (λ (sc : Scenery). sc.width) same, ap (λ (sc : Scenery). sc.height) same);
-                    count = e.shown.count ∙ ap length (frame_before m)
+                    count = e.shown.count ∙ ap length (frame_before fresh m)
                         ∙ length-frame (scenery_of (state_of s)) one.painter.raw.items ∙ sym area;
                     set = λ k l d. rw d at (e.shown.words k (omega (arith, l, area, long)));
                     left = λ k l d. rw d at (e.shown.words k (omega (arith, l, area, long)));
@@ -187,9 +189,10 @@ module _ (sights sights' : ℕ → Sight) {s s' : ServerModel} {t : StackModel} 
                         ∙ ap (shown (scenery_of (state_of s)) (pixel s'.config.width k))
                         (ap (λ w. slice_index w.items k) e.raw
                         ∙ dirty_painted.others k (λ lt. sym (is_dirty k) ∙ d));
-                  }) (frame_before m)),
+                  }) (frame_before fresh m)),
               λ d. apart,
-              λ d. rw e.labels (placed_before part on d),
+              λ f d. rw e.labels (placed_before part on fresh d),
+              λ o. e.kept.2 ∙ fresh,
             );
             raw = rw (e.kept.0, e.kept.1, e.raw) refl;
           }
@@ -197,7 +200,17 @@ module _ (sights sights' : ℕ → Sight) {s s' : ServerModel} {t : StackModel} 
       loaded_shown : (now : Pixels) → (s'.input.mode ≡ Flat → now ≡ loaded)
           → (IsTrue (draws_labels s'.input.mode) → IsShown s' loaded now) → Done now
       loaded_shown now same labelled = all_shown made served dirty_painted
-          (shown_by_mode s' loaded now can_show_call flat_frame same labelled)
+          (shown_by_mode s' loaded now can_show_call made.pixels.4 flat_frame same labelled)
+
+      -- a frame that is still to be made stays so
+      stale_shown : one.is_stale ≡ true → IsTrue (draws_labels s'.input.mode) → IsShown s' loaded loaded
+      stale_shown stale m = still_shown s' loaded (
+        can_show_call,
+        λ f. absurd (false≢true (sym f ∙ stale)),
+        labelled_before,
+        λ f. absurd (false≢true (sym f ∙ stale)),
+        made.pixels.4,
+      )
 
     -- what a view owned before a call on it, or owns after it, was loaded
     pub view_call : {handle slot place : ℕ} {rect : Rectangle} → IsOn handle call
@@ -218,10 +231,11 @@ module _ (sights sights' : ℕ → Sight) {s s' : ServerModel} {t : StackModel} 
     -- what is wanted of a session's views was loaded
     pub part_call : (part : Option Rectangle) → IsPartOf part call → Loaded t (λ k. wanted sid part t (pixel t.width k))
         → CanShowBy s' loaded
-        × (IsTrue (draws_labels s'.input.mode) → length one.frame.items ≡ length painter.raw.items)
-        × (IsTrue (draws_labels s'.input.mode) → ArePlaced s' loaded)
-        × ((now : Pixels) → (s'.input.mode ≡ Flat → now ≡ loaded)
-        → (IsTrue (draws_labels s'.input.mode)
+        × (one.is_stale ≡ false → IsTrue (draws_labels s'.input.mode)
+        → length one.frame.items ≡ length painter.raw.items)
+        × (one.is_stale ≡ false → IsTrue (draws_labels s'.input.mode) → ArePlaced s' loaded)
+        × ((now : Pixels) → (s'.input.mode ≡ Flat → now ≡ loaded) → (one.is_stale ≡ true → now ≡ loaded)
+        → (one.is_stale ≡ false → IsTrue (draws_labels s'.input.mode)
         → IsPartShown s' (λ k. wanted sid part s'.stack (pixel s'.stack.width k)) loaded now) → Done now)
     part_call part on painted =
         let other : call ≡ Close → ⊥ = λ q. subst (IsPartOf part) q on in
@@ -230,8 +244,11 @@ module _ (sights sights' : ℕ → Sight) {s s' : ServerModel} {t : StackModel} 
           can_show_call other is_dirty seen,
           apart_before other is_dirty seen,
           placed_before other is_dirty seen part on,
-          λ now flat labelled. loaded_shown other is_dirty seen now flat
-              (λ m. part_is_shown other is_dirty seen now part on m (labelled m)),
+          λ now flat stays labelled. loaded_shown other is_dirty seen now flat
+              (λ m. elim (cases_Bool one.is_stale) [
+                | inl stale ↦ rw (stays stale) (stale_shown other is_dirty seen stale m)
+                | inr fresh ↦ part_is_shown other is_dirty seen now part on fresh m (labelled fresh m)
+              ]),
         )
 
 -- ---- a session closes
@@ -267,10 +284,11 @@ module _ {s s' : ServerModel} (p : Pixels) {sid : ℕ} {call : Call} {r : Reply}
       (λ stack. quiet_stays (layer s.config) sid call r stack quiet) in
       still_shown s' p (
         can_be_shown,
-        h.1 ∙ ap (λ (sc : Scenery). frame sc (raw_of p)) (sym same),
+        λ f. h.1 f ∙ ap (λ (sc : Scenery). frame sc (raw_of p)) (sym same),
         λ d. h.2 (rw (← ap (λ (sc : Scenery). sc.mode) same) d),
-        λ d. still_placed s s' p hb ha (same_config served) (served.seats (quiet_keeps call quiet))
-            (h.3 (rw (← ap (λ (sc : Scenery). sc.mode) same) d)),
+        λ f d. still_placed s s' p hb ha (same_config served) (served.seats (quiet_keeps call quiet))
+            (h.3 f (rw (← ap (λ (sc : Scenery). sc.mode) same) d)),
+        h.4,
       )
 
   -- the titles or the number of the views may be others, which mode Flat does not show
@@ -279,10 +297,10 @@ module _ {s s' : ServerModel} (p : Pixels) {sid : ℕ} {call : Call} {r : Reply}
   clean_shown now clean =
       let none : ℕ → Sight = λ t. no_sight in
       let no_pixel = λ (p : Point). clean_call (state_of s) (state_of s') sid call r p clean in
-      shown_by_mode s' p now can_be_shown
-      (λ m. kept_served s s' sid call r none none (raw_of p) (raw_of p) (kept_frame p) (kept_frame p) (λ k. false)
+      shown_by_mode s' p now can_be_shown h.4
+      (λ m f. kept_served s s' sid call r none none (raw_of p) (raw_of p) (kept_frame p) (kept_frame p) (λ k. false)
       (λ q. subst IsClean q clean) served
       (unpainted (state_of s) (entry.Call sid call r) (state_of s') no_pixel)
       (raw_long p.is_apart p.bar p.painter.raw.items h.0.fits ∙ h.0.pixels)
       (λ k. sym (no_pixel (pixel s.config.width k))) m
-      (nothing_set (λ k. false) (length (raw_of p)) (slice_index (raw_of p)) (kept_frame p) (λ k l. refl)) h.1)
+      (nothing_set (λ k. false) (length (raw_of p)) (slice_index (raw_of p)) (kept_frame p) (λ k l. refl)) (h.1 f))

@@ -26,13 +26,16 @@ pub use Rattle.nit_screen.proofs.KeptFrames.{clean_call, held_is_raw, keeps_each
 pub use Rattle.nit_screen.proofs.KeptFrames.{keeps_source, no_repaint, painted_bare, part_shown}
 pub use Rattle.nit_screen.proofs.KeptFrames.{quiet_call, repaint_more}
 pub use Rattle.nit_screen.proofs.OneList.{bar_again, bar_is_bare, bare_unbarred, entry_painted_in}
-pub use Rattle.nit_screen.proofs.OneList.{flat_below, made_one, other_focus, painted_in}
+pub use Rattle.nit_screen.proofs.OneList.{bare_word_at, flat_below, other_focus, painted_in, raw_unbarred}
 pub use Rattle.nit_screen.proofs.OneViewChanges.{change_of_call, ended_painted, ended_server}
 pub use Rattle.nit_screen.proofs.OneViewChanges.{gone_by_slot}
 pub use Rattle.nit_screen.proofs.Basics.{AreSkips, is_between, is_filled, numbered}
-pub use Rattle.nit_screen.proofs.MapRows.{MapUnderWay, RowUnderWay, columns_same}
-pub use Rattle.nit_screen.proofs.MapRows.{RowsCopied, map_done, next_rows, no_copy, no_map_row}
-pub use Rattle.nit_screen.proofs.MapRows.{one_copy, next_view, row_mapped, rows_alike}
+pub use Rattle.nit_screen.proofs.Basics.{AreOfViews, ArePatches, IsBegun, first_at, number_in}
+pub use Rattle.nit_screen.proofs.MapRows.{BandUnderWay, MapUnderWay, RowsCopied, columns_same}
+pub use Rattle.nit_screen.proofs.MapRows.{map_done, next_band, next_rows, no_copy, no_map_row}
+pub use Rattle.nit_screen.proofs.MapRows.{one_copy, begun_below}
+pub use Rattle.nit_screen.proofs.PatchLemmas.{are_kept, full_on, next_begun, patch_at, same_dropped}
+pub use Rattle.nit_screen.proofs.PatchLemmas.{and_swap, same_kept, views_next, whole}
 pub use Rattle.nit_screen.proofs.OwnerMapLemmas.{all_placed, seat_slot, written}
 pub use Rattle.nit_screen.proofs.ScreenLemmas.{can_relabel, few_views, kill_alone, kill_is_live}
 pub use Rattle.nit_screen.proofs.ScreenLemmas.{killed_painted, killed_state, no_kill, none_dirty}

@@ -4,6 +4,7 @@ pub mod KeptFrames
 pub mod FrameLabelLemmas
 pub mod OwnerMapLemmas
 pub mod MapRows
+pub mod PatchLemmas
 pub mod Handles
 pub mod ScreenLemmas
 pub mod OneList

@@ -1,5 +1,5 @@
 -- The raw words of a list that has the bar in its first words.
-use Rattle.nit_screen.proofs.Basics.{All-append, All-drop, All-replicate, ArePixels, AreRaw, Bare}
+use Rattle.nit_screen.proofs.Basics.{All-append, All-drop, All-replicate, AreRaw, Bare}
 use Rattle.nit_screen.proofs.Basics.{Call, CanShowBy, Close, Entry, Flat, IsAmongLoads, IsCopied}
 use Rattle.nit_screen.proofs.Basics.{IsServed, IsShown, IsWord, IsWordOfSource, Painted, Painter}
 use Rattle.nit_screen.proofs.Basics.{PixelSource, Pixels, Repainted, Reply, ServerModel, ShowsBelow}
@@ -8,7 +8,7 @@ use Rattle.nit_screen.proofs.Basics.{draws_labels, drop-replicate, flat_same, fr
 use Rattle.nit_screen.proofs.Basics.{get_or-append_right, get_or-frame, get_or-replicate}
 use Rattle.nit_screen.proofs.Basics.{get_or_append_left, in_bar, ints, le-div, length-frame}
 use Rattle.nit_screen.proofs.Basics.{length-replicate, nat_tests, pixel, pixel_count, raw_in}
-use Rattle.nit_screen.proofs.Basics.{raw_of, replicate-append-replicate, rows, scenery_of, shown}
+use Rattle.nit_screen.proofs.Basics.{replicate-append-replicate, rows, scenery_of, shown}
 use Rattle.nit_screen.proofs.Basics.{source_at, state_of, unbarred}
 use Rattle.std.proofs.Common.{All, Bool, List, Option, ap, arith, cond, ext_get_or, false}
 use Rattle.std.proofs.Common.{get_or-drop, inl, inr, length, length-append, length-drop, nat_lt}
@@ -104,64 +104,24 @@ one_copied chosen n m raw raw' below others long =
 
 -- ---- the frame
 
--- the raw words of the frame in mode Flat are those that it was made of
-pub flat_raw : (s : State) (bar : ℕ) (raw : List ℕ) → s.input.mode ≡ Flat → bar ≡ s.config.width * bar_rows s.config
-    → bar ≤ length raw → length raw ≡ pixel_count s → AreRaw s raw → unbarred bar (frame (scenery_of s) raw) ≡ raw
-flat_raw s bar raw flat is fits many raws =
-    ext_get_or 0 (unbarred bar (frame (scenery_of s) raw)) raw same
-    (λ k l. unbarred_at bar (frame (scenery_of s) raw) k ∙ by_bar k (omega (arith, l, same, many)) (nat_lt k bar) refl)
+-- a bare pixel's raw word is the bare one
+pub bare_word_at : (s : State) (raw : List ℕ) (k : ℕ) → AreRaw s raw → k < pixel_count s → source_at s k ≡ Bare
+    → slice_index raw k ≡ bare_word
+bare_word_at s raw k raws l e = rw e at (raws k l)
+
+-- so raw words have the bare word where the bar stands
+pub raw_unbarred : (s : State) (bar : ℕ) (raw : List ℕ) → bar ≡ s.config.width * bar_rows s.config
+    → bar ≤ length raw → length raw ≡ pixel_count s → AreRaw s raw → unbarred bar raw ≡ raw
+raw_unbarred s bar raw is fits many raws =
+    ext_get_or 0 (unbarred bar raw) raw (unbarred_long bar raw fits)
+    (λ k l. unbarred_at bar raw k ∙ by_bar k (omega (arith, l, many, unbarred_long bar raw fits)) (nat_lt k bar) refl)
   where
-    long : length (frame (scenery_of s) raw) ≡ length raw
-    long = length-frame (scenery_of s) raw ∙ sym many
-
-    same : length (unbarred bar (frame (scenery_of s) raw)) ≡ length raw
-    same = unbarred_long bar (frame (scenery_of s) raw) (omega (arith, fits, long)) ∙ long
-
-    bare : (k : ℕ) → k < pixel_count s → source_at s k ≡ Bare → slice_index raw k ≡ bare_word
-    bare k l e = rw e at (raws k l)
-
     by_bar : (k : ℕ) → k < pixel_count s → (b : Bool) → nat_lt k bar ≡ b
-        → cond b bare_word (slice_index (frame (scenery_of s) raw) k) ≡ slice_index raw k
-    by_bar k l true e = let m : k < bar = grind (arith, nat_tests) in sym (bare k l (bar_is_bare s k (rw is at m)))
-    by_bar k l false e = grind (arith, nat_tests, get_or-frame, flat_word, bar_first)
-
--- the frame takes the place of the raw words, in mode Flat
-pub made_one : (s : ServerModel) (p : Pixels) → p.is_apart ≡ true → s.input.mode ≡ Flat
-    → ArePixels s p → AreRaw (state_of s) (raw_of p)
-    → IsShown s p (record p { painter = record p.painter { raw = p.frame }; frame = p.painter.raw; is_apart = false })
-made_one s p is flat (h, was, apart, placed) raws =
-    record {
-      pixels = (
-        record {
-          words = rw e (frame_fits (scenery_of (state_of s)) raw h.pixels h.words);
-          pixels = many;
-          few = omega (arith, h.pixels);
-          spare = omega (arith, h.pixels, p.painter.raw.ok);
-          cuts = h.cuts;
-          named = h.named;
-          placed = h.placed;
-          mapped = h.mapped;
-          bar = h.bar;
-          fits = omega (arith, h.fits, h.pixels, many);
-        },
-        rw back e,
-        λ m. cc (ap draws_labels flat),
-        λ m. cc (ap draws_labels flat),
-      );
-      raw = rw is back;
-    }
-  where
-    raw : List ℕ
-    raw = p.painter.raw.items
-
-    e : p.frame.items ≡ frame (scenery_of (state_of s)) raw
-    e = rw is at was
-
-    many : length p.frame.items ≡ pixel_count (state_of s)
-    many = ap length e ∙ length-frame (scenery_of (state_of s)) raw
-
-    back : unbarred p.bar p.frame.items ≡ raw
-    back = ap (unbarred p.bar) e ∙ flat_raw (state_of s) p.bar raw flat h.bar h.fits h.pixels (rw is at raws)
+        → cond b bare_word (slice_index raw k) ≡ slice_index raw k
+    by_bar k l true e =
+        let m : k < bar = grind (arith, nat_tests) in
+        sym (bare_word_at s raw k raws l (bar_is_bare s k (rw is at m)))
+    by_bar k l false e = refl
 
 -- ---- the bar is drawn
 
@@ -206,12 +166,12 @@ module _ (s : State) (bar : ℕ) (raw now : List ℕ) (is : bar ≡ s.config.wid
 
 -- so a server's frame can be made of it again
 pub bar_again : (s : ServerModel) (p : Pixels) (painter : Painter) → p.is_apart ≡ false
-    → s.input.mode ≡ Flat → CanShowBy s p → painter ≡ record p.painter { raw = painter.raw }
+    → p.is_stale ≡ false → s.input.mode ≡ Flat → CanShowBy s p → painter ≡ record p.painter { raw = painter.raw }
     → length painter.raw.items ≡ length p.painter.raw.items
     → ((k : ℕ) → slice_index painter.raw.items k ≡ cond (nat_lt k (s.config.width * bar_rows s.config))
     (bar_word (scenery_of (state_of s)) (pixel s.config.width k)) (slice_index p.painter.raw.items k))
     → ShowsBelow (state_of s) p.painter.raw.items → IsShown s p (record p { painter = painter })
-bar_again s p painter one flat h other long drawn below =
+bar_again s p painter one fresh flat h other long drawn below =
     let raw = p.painter.raw.items in
     let now = painter.raw.items in
     let drawn' = λ (k : ℕ). rw (← h.bar) at (drawn k) in
@@ -224,9 +184,10 @@ bar_again s p painter one flat h other long drawn below =
     record {
       pixels = (
         can_still s s p painter refl refl long words (ap (λ q. q.cutter.room) other) h,
-        rw one is,
+        λ f. rw one is,
         λ m. cc (ap draws_labels flat),
-        λ m. cc (ap draws_labels flat),
+        λ f m. cc (ap draws_labels flat),
+        λ o. fresh,
       );
       raw = rw one same;
     }

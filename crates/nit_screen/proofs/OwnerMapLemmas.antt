@@ -4,7 +4,7 @@ use Rattle.std.proofs.Common.{length, option_map, drop, refl, slice_get}
 use Rattle.std.proofs.Common.{slice_index_or, take, ◌++◌, true, ℕ}
 use Rattle.std.proofs.Common.{◌*◌, ◌+◌, ◌<◌, ◌==◌, ◌∙◌, ◌≡◌, ◌≤◌}
 use Rattle.nit_screen.proofs.Basics.{All_found, AreLabelled, AreMeasured}
-use Rattle.nit_screen.proofs.Basics.{IsFree, IsLeastPlace, IsMap, IsNumberOf}
+use Rattle.nit_screen.proofs.Basics.{OwnsArea, IsLeastPlace, IsMap, IsNumberOf}
 use Rattle.nit_screen.proofs.Basics.{IsSlotView, IsStack, Point, SlotView, StackModel}
 use Rattle.nit_screen.proofs.Basics.{View, agree_by}
 use Rattle.nit_screen.proofs.Basics.{eqb-true, found_passes, found_some, get_or_from_slice_get}
@@ -66,7 +66,7 @@ number_is s map i v standing slot at mapped x y left above =
 pub all_placed : (l : Lettering) → IsLettering l → (s : StackModel) (labels : List (List ℕ)) (map widths : List ℕ) (found : List (Option Point))
     → IsStack s → s.most ≤ length found → length found ≡ length widths → IsMap s map → AreMeasured l s labels widths
     → ((o : ℕ) → o < length widths → 1 ≤ slice_index_or widths o 0
-    → IsLeastPlace (IsFree (owner_at map s.width) s.width s.height o (slice_index_or widths o 0)
+    → IsLeastPlace (OwnsArea (owner_at map s.width) s.width s.height o (slice_index_or widths o 0)
     (picture_height l))
     (slice_index_or found o None))
     → AreLabelled l s labels found

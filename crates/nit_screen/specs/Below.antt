@@ -34,7 +34,7 @@ pub use Rattle.nit_journal.specs.State.{State, after, buffer_size, delivered, fi
 pub use Rattle.nit_journal.specs.State.{input_after_call, layer, owner_of, route, session}
 pub use Rattle.nit_journal.specs.State.{session_in, source_of}
 pub use Rattle.nit_journal.specs.Steps.{IsFreeLabel, opened}
-pub use Rattle.nit_labels.specs.Places.{IsFree, IsLeastPlace, owner_at}
+pub use Rattle.nit_labels.specs.Places.{OwnsArea, IsLeastPlace, owner_at}
 pub use Rattle.nit_overlay.specs.Frame.{Scenery, bar_word, frame, has_dot, ink_of, is_in_picture}
 pub use Rattle.nit_overlay.specs.Frame.{label_place_of, owner_word, shown, view_text, view_word}
 pub use Rattle.nit_overlay.specs.Look.{draws_labels, pixel_at}
@@ -80,6 +80,7 @@ pub use Rattle.nit_word.specs.Channels.{bare_word}
 pub use Rattle.nit_word.specs.Inks.{IsInked, IsWord}
 pub use Rattle.nit_word.specs.Sight.{Sight, seen}
 pub use Rattle.nit_word.specs.Sights.{no_sight}
+pub use Rattle.nit_word.specs.Updates.{is_between}
 pub use Rattle.std.specs.List.{AllByRecursion, list_any, position_or_len, range_with_len}
 pub use Rattle.std.specs.Option.{option_map_or}
 pub use Rattle.std.specs.Prelude.{AllPairs, IfSome, IsTrue, Some, drop, false, length, map}

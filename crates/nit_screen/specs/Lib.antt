@@ -21,6 +21,7 @@ pub mod LabelSlots
 pub mod MapRoom
 pub mod LabelWidths
 pub mod MapRow
+pub mod Patches
 pub mod Pixels
 pub mod RawWords
 pub mod Screen

@@ -59,24 +59,26 @@ CanShowBy s p =
     p.painter.cutter.room p.labels.texts.items
     (length p.labels.places.items) p.labels.owners p.bar
 
--- the frame is the one of the server's state and of the raw words
+-- the frame is the one of the server's state and of the raw words, if it is not still to be made
 abbrev pub IsFrameOf : ServerModel → Pixels → Type 0
-IsFrameOf s p = kept_frame p ≡ frame (scenery_of (state_of s)) (raw_of p)
+IsFrameOf s p = p.is_stale ≡ false → kept_frame p ≡ frame (scenery_of (state_of s)) (raw_of p)
 
 -- at the slot of each view stands the place of its label
 abbrev pub ArePlaced : ServerModel → Pixels → Type 0
 ArePlaced s p =
     AreLabelled s.config.lettering s.stack p.labels.texts.items p.labels.places.items
 
--- and so it is; where labels are drawn, the raw words stand apart, and the places of the labels are
--- those of the views as they stand
+-- And so it is. Where labels are drawn, the raw words stand apart, and so they do from a frame that
+-- is still to be made. Where the frame is made and labels are drawn, the places of the labels are
+-- those of the views as they stand.
 abbrev pub ArePixels : ServerModel → Pixels → Type 0
 ArePixels s p =
     CanShowBy s p × IsFrameOf s p × (IsTrue (draws_labels s.input.mode) → p.is_apart ≡ true)
-    × (IsTrue (draws_labels s.input.mode) → ArePlaced s p)
+    × (p.is_stale ≡ false → IsTrue (draws_labels s.input.mode) → ArePlaced s p)
+    × (p.is_apart ≡ false → p.is_stale ≡ false)
 
--- All is shown: the frame is the one of the server's state and of the raw words, which are as they
--- were.
+-- All is shown, or is still to be shown, by the server's state and by the raw words, which are as
+-- they were.
 pub record IsShown (s : ServerModel) (before now : Pixels) : Type 0 where
   pub pixels : ArePixels s now
   pub raw : raw_of now ≡ raw_of before
@@ -87,6 +89,7 @@ pub record IsPartShown (s : ServerModel) (chosen : ℕ → Bool) (before now : P
   pub can : CanShowBy s now
   pub raw : now.painter.raw ≡ before.painter.raw
   pub kept : (now.is_apart ≡ before.is_apart) × (now.bar ≡ before.bar)
+      × (now.is_stale ≡ before.is_stale)
   pub labels : now.labels ≡ before.labels
   pub shown : AreSet chosen (length now.painter.raw.items)
       (shown_by (state_of s) now.painter.raw.items) before.frame.items now.frame.items

@@ -4,7 +4,7 @@ pub use Rattle.nit_screen.specs.Below.{Buffer, Call, CanRepaint, Close, Configur
 pub use Rattle.nit_screen.specs.Below.{Delivery, Destroy, Device, Entry, Event, FitsStack, Flat}
 pub use Rattle.nit_screen.specs.Below.{Front, HoldBuffers, InputState, IsAmongLoads}
 pub use Rattle.nit_screen.specs.Below.{IsConfiguration, IsCopied, IsDevice, IsForgottenIfKilled}
-pub use Rattle.nit_screen.specs.Below.{IsFree, IsFreeLabel, IsKillAlone, IsLeastPlace, IsLegal}
+pub use Rattle.nit_screen.specs.Below.{OwnsArea, IsFreeLabel, IsKillAlone, IsLeastPlace, IsLegal}
 pub use Rattle.nit_screen.specs.Below.{IsLive, IsNamedBy, IsNumberOf, IsOnScreen, IsOnlyCut}
 pub use Rattle.nit_screen.specs.Below.{IsRemovedFrom, IsRepaint, IsScreenRectangle, IsScreenSize}
 pub use Rattle.nit_screen.specs.Below.{IsServed, IsServer, IsSlotView, IsStack, IsViewChange}
@@ -47,10 +47,11 @@ pub use Rattle.nit_screen.specs.FrameLabels.{AreLabelsApart, IsLabelShown, Shows
 pub use Rattle.nit_screen.specs.LabelSlots.{AreLabelled, label_scenery}
 pub use Rattle.nit_screen.specs.LabelWidths.{AreMeasured}
 pub use Rattle.nit_screen.specs.MapRoom.{IsRoomFor, MapRoom}
-pub use Rattle.nit_screen.specs.MapRow.{AreNumbered, AreRects, AreRowsAlike, AreRowsOfRect}
-pub use Rattle.nit_screen.specs.MapRow.{AreSkips}
-pub use Rattle.nit_screen.specs.MapRow.{IsMapRow, IsRowOfMap, IsSkip, is_between, is_filled}
-pub use Rattle.nit_screen.specs.MapRow.{numbered}
+pub use Rattle.nit_screen.specs.Below.{is_between}
+pub use Rattle.nit_screen.specs.MapRow.{AreNumbered, AreSkips, IsRowOfMap, SkipsFilled}
+pub use Rattle.nit_screen.specs.MapRow.{is_filled, numbered}
+pub use Rattle.nit_screen.specs.Patches.{ArePatches, IsBegun, IsPatch, first_at, has, number_in}
+pub use Rattle.nit_screen.specs.Patches.{AreOfViews, number_or_none}
 pub use Rattle.nit_screen.specs.Below.{IsMap, IsMapOf, no_slot, number_at, number_of}
 pub use Rattle.nit_screen.specs.Pixels.{ArePixels, ArePlaced, CanShow, CanShowBy, IsFrameOf}
 pub use Rattle.nit_screen.specs.Pixels.{IsPartShown, IsShown, ShowsBelow, kept_frame, raw_in}

@@ -14,7 +14,9 @@ mod lists;
 mod map;
 mod opening;
 mod owners;
+mod patches;
 mod pixels;
+mod rows;
 mod seats;
 mod sessions;
 mod views;
@@ -36,7 +38,11 @@ impl Model for Screen {
 
     ghost Value = { ScreenModel };
 
-    ghost view = { λ s. record { serving = s.server; raw = raw_of s.pixels } };
+    ghost view = { λ s. record {
+      serving = s.server;
+      raw = raw_of s.pixels;
+      is_stale = s.pixels.is_stale;
+    } };
 
     ghost invariant = { λ s. ArePixels s.server s.pixels };
 }

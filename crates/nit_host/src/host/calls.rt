@@ -10,7 +10,8 @@ ghost use Rattle.nit_events.specs.declared.call.Call.TheVariants as call;
 use crate::client::Client;
 use crate::host::Host;
 use crate::host::handing::hand_in;
-use crate::host::touch::{add_touched, touch_of};
+use crate::host::shown::still_stand;
+use crate::host::touch::{add_touched, moves_views, touch_of};
 use crate::refusal::Unserved;
 use nit_events::{Call, Entry, Reply};
 use nit_rect::Rect;
@@ -62,6 +63,7 @@ impl Host {
         add_touched(&mut self.changed, &self.desktop, seat, &touch);
         let reply = self.desktop.call(seat, call, &mut self.sheets);
         add_touched(&mut self.changed, &self.desktop, seat, &touch);
+        self.stand = still_stand(self.stand, moves_views(call));
         reply
     }
 
@@ -102,7 +104,6 @@ impl Host {
         let part = self.part(seat, place, size);
         let buffer = self.desktop.buffer(seat);
         let touch = touch_of(&self.desktop, seat, &call);
-        add_touched(&mut self.changed, &self.desktop, seat, &touch);
         hand_in(&mut self.sheets[seat as usize], buffer, &part, words);
         let reply = self.desktop.call(seat, &call, &mut self.sheets);
         add_touched(&mut self.changed, &self.desktop, seat, &touch);

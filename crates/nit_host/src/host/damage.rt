@@ -27,7 +27,8 @@ impl Host {
         ensures act { self.new ≡ after_act self.old Looks }
     {
         let parts = replace(&mut self.changed, Parts::none());
-        remember(&self.desktop, &mut self.shown);
+        remember(&self.desktop, self.stand, &mut self.shown);
+        self.stand = true;
         self.came = [false; MOST_SESSIONS];
         self.seen = Some(Seen {
             desktop: Snapshot::of(&self.desktop),
@@ -38,26 +39,28 @@ impl Host {
 
     /// Puts the part of the frame with its left upper pixel at `place`, `size.0` pixels wide and
     /// `size.1` high, into `out`, row by row from its first word on, each row `pitch` words behind
-    /// the one above. All other words of `out` stay. A part without pixels changes nothing.
+    /// the one above. All other words of `out` stay, and so does what is seen of the host. A part
+    /// without pixels changes nothing.
     ///
     /// # Errors
     ///
     /// `BadRect` and `WrongFrame`, the first of them that applies. Then nothing changes.
     pub fn copy(
-        &self,
+        &mut self,
         place: (u32, u32),
         size: (u32, u32),
         out: &mut [u32],
         pitch: usize,
     ) -> Result<(), Uncopied>
         ensures copied { let area = area_at place.0 place.1 size.0 size.1 in
-            uncopied self.now area pitch (length out.old) ≡ None
+            uncopied self.old area pitch (length out.old) ≡ None
             → (result ≡ Ok tt)
-            × IsPartPut self.now.state.config.width area pitch (frame_shown self.now)
+            × IsPartPut self.old.state.config.width area pitch (frame_shown self.old)
             out.old out.new }
         ensures uncopied { (why : Uncopied) →
-            uncopied self.now (area_at place.0 place.1 size.0 size.1) pitch (length out.old)
+            uncopied self.old (area_at place.0 place.1 size.0 size.1) pitch (length out.old)
             ≡ Some why → (result ≡ Err why) × (out.new ≡ out.old) }
+        ensures same { self.new ≡ self.old }
     {
         self.facts();
         let (width, height) = self.size();

@@ -2,7 +2,8 @@
 
 ghost use Rattle.std.specs.Prelude.{◌≡◌, ◌*◌, ◌↔◌, None, IfOk, IfSome, length};
 ghost use Rattle.nit_host.specs.Terms.{AgreeIn, CoversChange, IsAsSeen, IsTouched, LiesOn, Looks};
-ghost use Rattle.nit_host.specs.Terms.{after_act, forgotten, frame_shown, last_text, looked};
+ghost use Rattle.nit_host.specs.Terms.{ShowsLabels, after_act, forgotten, frame_shown, last_text};
+ghost use Rattle.nit_host.specs.Terms.{looked, scenery_of};
 
 use crate::host::Host;
 use crate::host::area::whole;
@@ -22,6 +23,8 @@ impl Host {
     pub fn look(&mut self, out: &mut [u32]) -> Option<Rect>
         requires { length out.old ≡ self.old.state.config.width * self.old.state.config.height }
         ensures frame { IsAsSeen self.old out.old → out.new ≡ frame_shown self.old }
+        ensures labels { IsAsSeen self.old out.old
+            → ShowsLabels (scenery_of self.old.state) out.new }
         ensures none { result ≡ None ↔ out.old ≡ out.new }
         ensures screen { let config = self.old.state.config in
             IfSome result (λ r. LiesOn config.width config.height r) }
@@ -47,6 +50,7 @@ impl Host {
     pub fn look_anew(&mut self, out: &mut [u32]) -> Option<Rect>
         requires { length out.old ≡ self.old.state.config.width * self.old.state.config.height }
         ensures frame { out.new ≡ frame_shown self.old }
+        ensures labels { ShowsLabels (scenery_of self.old.state) out.new }
         ensures none { result ≡ None ↔ out.old ≡ out.new }
         ensures screen { let config = self.old.state.config in
             IfSome result (λ r. LiesOn config.width config.height r) }

@@ -1,7 +1,7 @@
 //! A host before its first step.
 
 ghost use Rattle.std.specs.Prelude.{◌≡◌, ◌≤◌, IfOk, length};
-ghost use Rattle.nit_host.specs.Terms.{All, AreBlank, AreSheets, IsConfiguration, IsMember};
+ghost use Rattle.nit_host.specs.Terms.{All, AreBlankSheets, AreSheets, IsConfiguration, IsMember};
 ghost use Rattle.nit_host.specs.Terms.{first_host, first_state, lettered, most_sessions, no_turns};
 ghost use Rattle.nit_host.specs.Terms.{vacant_state};
 
@@ -34,6 +34,7 @@ impl Host {
             last: None,
             changed: whole(config.width, config.height),
             shown,
+            stand: false,
             came: [false; MOST_SESSIONS],
             seen: None,
         })
@@ -55,6 +56,7 @@ impl Host {
             last: None,
             changed: whole(config.width, config.height),
             shown,
+            stand: false,
             came: [false; MOST_SESSIONS],
             seen: None,
         })
@@ -75,7 +77,7 @@ fn no_turns() -> Turns
 fn sheets(alloc: Global, config: &Config) -> Result<Vec<Sheet>, NoMemory>
     requires few { length config.now.clients ≤ most_sessions }
     requires clients { All IsMember config.now.clients }
-    ensures blank { IfOk result (λ v. AreBlank config.now v.items) }
+    ensures blank { IfOk result (λ v. AreBlankSheets config.now v.items) }
     ensures room { IfOk result (λ v. AreSheets config.now v.items) }
 {
     let clients = config.clients.as_slice();

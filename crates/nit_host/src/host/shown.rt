@@ -1,6 +1,6 @@
 //! What is remembered of the last look: whose view each pixel showed.
 
-ghost use Rattle.std.specs.Prelude.{◌≡◌, ◌≤◌, drop, find, vec_capacity};
+ghost use Rattle.std.specs.Prelude.{◌≡◌, ◌≤◌, drop, false, find, true, vec_capacity};
 ghost use Rattle.nit_host.specs.Terms.{covers, is_same_client, most_picture_height, most_slots};
 ghost use Rattle.nit_host.specs.Terms.{owner, owner_shown};
 
@@ -29,16 +29,29 @@ impl Host {
 }
 
 /// Remembers the views as they stand, front first, in place of those that were shown. It takes no
-/// memory.
-pub(crate) fn remember(desktop: &Desktop, shown: &mut Vec<View>)
-    requires { most_slots ≤ vec_capacity shown.old }
+/// memory, and no time where these are known to `stand` so.
+pub(crate) fn remember(desktop: &Desktop, stand: bool, shown: &mut Vec<View>)
+    requires room { most_slots ≤ vec_capacity shown.old }
+    requires stand { stand ≡ true → shown.old.items ≡ desktop.now.state.stack }
     ensures views { shown.new.items ≡ desktop.now.state.stack }
     ensures room { vec_capacity shown.new ≡ vec_capacity shown.old }
 {
+    if stand {
+        return;
+    }
     shown.clear();
     'views: for i in 0..desktop.views() {
         shown.push_reserved(desktop.view(i));
     }
+}
+
+/// Whether views are known to stand as they did, by whether they were before a step that may have
+/// moved them.
+pub(crate) fn still_stand(stand: bool, may_move: bool) -> bool
+    ensures stand { result ≡ true → stand ≡ true }
+    ensures still { result ≡ true → may_move ≡ false }
+{
+    stand && !may_move
 }
 
 /// The view that owns a pixel among these, front first, below a bar of so many rows.

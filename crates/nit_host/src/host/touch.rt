@@ -7,6 +7,7 @@ ghost use Rattle.nit_host.specs.Terms.{IsToldArea, View, bar_rows, covers, deliv
 ghost use Rattle.nit_host.specs.Terms.{has_place, in_bar, is_kill, is_touched, kills};
 ghost use Rattle.nit_host.specs.Terms.{option_map_or, part_touched, point, shows_place, touch_of};
 ghost use Rattle.nit_host.specs.Terms.{touched_by, touched_in, touched_over};
+ghost use Rattle.nit_host.specs.Touch.{moves_views};
 
 use crate::host::area::of_rect;
 use crate::host::handing::clip;
@@ -99,6 +100,24 @@ fn part_touched(x: i32, y: i32, w: u32, h: u32) -> Touch
     }
 }
 
+/// Whether a call can move views, or make or end them.
+pub(crate) fn moves_views(call: &Call) -> bool
+    ensures { result ≡ moves_views call.now }
+{
+    match *call {
+        Call::Buffer(..) | Call::Refresh(..) | Call::Take | Call::Upgrade(_) => false,
+        Call::View
+        | Call::Place(..)
+        | Call::Offset(..)
+        | Call::Front(_)
+        | Call::Back(_)
+        | Call::Above(..)
+        | Call::Title(..)
+        | Call::Destroy(_)
+        | Call::Close => true,
+    }
+}
+
 /// Adds all pixels of the screen that are touched as the views stand.
 pub(crate) fn add_touched(parts: &mut Parts, desktop: &Desktop, seat: u32, touch: &Touch)
     ensures { HasTouched desktop.now.state seat touch.now parts.old parts.new }
@@ -165,11 +184,14 @@ fn part_shown(is_meant: bool, part: &Rect, view: &View, size: (u32, u32)) -> Are
     ensures { HoldsWhere size.0 size.1 (λ x y. is_meant && (covers view.now.rect (point x y)
         && shows_place part.now view.now (point x y))) result }
 {
+    if !is_meant {
+        return Area::none();
+    }
     let column = view.rect.x() + view.ox + part.x();
     let row = view.rect.y() + view.oy + part.y();
     let (left, right) = clip(column, part.w(), size.0);
     let (top, bottom) = clip(row, part.h(), size.1);
-    where_named(is_meant, view, size).meet(&Area {
+    of_rect(&view.rect, size).meet(&Area {
         left,
         top,
         right,
@@ -238,7 +260,7 @@ pub(crate) fn shows_the_same(
 }
 
 /// Whether a client is locked out.
-fn locks_out(routed: &Routed) -> bool
+pub(crate) fn locks_out(routed: &Routed) -> bool
     ensures { result ≡ kills (deliveries_of routed.now) }
 {
     kills(&routed.a) || kills(&routed.b) || kills(&routed.c)

@@ -2,13 +2,13 @@
 
 ghost use Rattle.std.specs.Prelude.{◌≡◌, None, Some, Ok, Err};
 ghost use Rattle.nit_host.specs.Terms.{Does, Unserved, after_act, holds_nothing, is_as_shown};
-ghost use Rattle.nit_host.specs.Terms.{is_button, is_device, is_moved, option_map, routed_of, told};
+ghost use Rattle.nit_host.specs.Terms.{is_button, is_input, is_moved, option_map, routed_of, told};
 ghost use Rattle.nit_host.specs.Terms.{unserved_input};
 
 use crate::host::Host;
 use crate::host::area::add_unless;
-use crate::host::shown::{is_same_client, owner_among};
-use crate::host::touch::{bar_or_screen, bar_tells, shows_the_same, told};
+use crate::host::shown::{is_same_client, owner_among, still_stand};
+use crate::host::touch::{bar_or_screen, bar_tells, locks_out, shows_the_same, told};
 use crate::refusal::Unserved;
 use nit_events::{Device, Entry, Routed};
 use nit_rect::Point;
@@ -57,6 +57,7 @@ impl Host {
         let after = told(&self.desktop, &routed);
         let is_same = shows_the_same(bar, bar_tells(&self.desktop), &routed);
         add_unless(&mut self.changed, is_same, &before, &after);
+        self.stand = still_stand(self.stand, locks_out(&routed));
         self.last = Some(Entry::Input {
             dev: device,
             routed,
@@ -68,7 +69,7 @@ impl Host {
     fn unserved_input(&self, device: Device) -> Option<Unserved>
         ensures { result ≡ unserved_input self.now device }
     {
-        if !is_device(device) {
+        if !is_input(device) {
             Some(Unserved::BadDevice)
         } else if self.is_moved(device) {
             Some(Unserved::Moved)
@@ -128,8 +129,8 @@ fn is_button(code: u16) -> bool
 }
 
 /// Whether the numbers of a device event are in range.
-fn is_device(device: Device) -> bool
-    ensures { result ≡ is_device device }
+fn is_input(device: Device) -> bool
+    ensures { result ≡ is_input device }
 {
     match device {
         Device::Press(code) | Device::Release(code) => code <= MOST_CODE,

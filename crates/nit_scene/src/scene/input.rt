@@ -7,6 +7,7 @@ ghost use Rattle.nit_scene.specs.Terms.{routed_as, state_now};
 ghost use Rattle.nit_events.specs.declared.entry.Entry.TheVariants as entry;
 
 use crate::scene::Scene;
+use crate::scene::beside::input_shown;
 use nit_events::{Device, Entry, Routed};
 use nit_journal::laws::{deliveries_go_to_live_sessions, isolation, releases_follow_presses};
 use nit_screen::laws::{ink_stays, raw_stays_raw};
@@ -43,7 +44,7 @@ impl<G: Glass + Drop> Scene<G> {
         isolation();
         releases_follow_presses();
         deliveries_go_to_live_sessions();
-        let routed = self.screen.input(dev, &mut self.glasses);
+        let routed = input_shown(&mut self.screen, dev, &mut self.glasses);
         self.journal.append(Entry::Input { dev, routed });
         routed
     }

@@ -8,7 +8,6 @@ use crate::screen::pixels::Pixels;
 use nit_events::Mode;
 use nit_server::Server;
 use nit_word::BARE;
-use std::mem::swap;
 
 /// Gives the first words the bare word.
 fn bare_first(words: &mut [u32], count: usize)
@@ -44,7 +43,7 @@ pub(crate) fn take_bar_off(raw: &mut Vec<u32>, is_apart: bool, bar: usize)
 }
 
 impl Pixels {
-    /// In mode Flat, makes the frame the one list of which both are seen.
+    /// In mode Flat, makes the raw words the one list of which both are seen, by drawing the bar.
     pub(crate) fn make_one(&mut self, server: &Server)
         requires pixels { ArePixels server.now self.old }
         requires raw { AreRaw (state_of server.now) (raw_of self.old) }
@@ -58,7 +57,8 @@ impl Pixels {
         if server.mode() != Mode::Flat {
             return;
         }
-        swap(&mut self.painter.raw, &mut self.frame);
         self.is_apart = false;
+        self.is_stale = false;
+        self.show_again(server);
     }
 }

@@ -26,6 +26,7 @@ impl Screen {
             (λ s. state_of s.serving ≡ first_state (lettered lettering config.now)) }
         ensures raw { IfOk result (λ s. s.raw ≡ replicate
             (config.now.width * config.now.height) bare_word) }
+        ensures fresh { IfOk result (λ s. s.is_stale ≡ false) }
     {
         let server = Server::new(alloc, config, lettering)?;
         server.facts();
@@ -40,7 +41,7 @@ fn bare_pixels(alloc: Global, config: &Config, bar: usize) -> Result<Pixels, NoM
     requires { IsScreenSize config.now.width config.now.height }
     ensures raw { IfOk result (λ p. p.painter.raw.items
         ≡ replicate (config.now.width * config.now.height) bare_word) }
-    ensures one { IfOk result (λ p. p.is_apart ≡ false) }
+    ensures one { IfOk result (λ p. (p.is_apart ≡ false) × (p.is_stale ≡ false)) }
     ensures bar { IfOk result (λ p. p.bar ≡ bar) }
     ensures none { IfOk result (λ p. length p.frame.items ≡ 0) }
     ensures spare { IfOk result (λ p.
@@ -65,6 +66,7 @@ fn bare_pixels(alloc: Global, config: &Config, bar: usize) -> Result<Pixels, NoM
         painter,
         frame,
         is_apart: false,
+        is_stale: false,
         bar,
         labels,
     })

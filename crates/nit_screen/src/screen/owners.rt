@@ -6,11 +6,12 @@ ghost use Rattle.nit_screen.specs.Terms.{AreLabelled, AreMeasured, IsLettering, 
 ghost use Rattle.nit_screen.specs.Terms.{IsStack, SlotView, label_scenery, label_width};
 ghost use Rattle.nit_screen.specs.Terms.{most_height, most_slots, most_width};
 
-use crate::screen::map::{collect, map_owners};
+use crate::screen::map::map_owners;
+use crate::screen::patches::Patch;
 use nit_glyph::{Label, Lettering, label_text, text_size};
 use nit_labels::places;
 use nit_overlay::NO_SLOT;
-use nit_rect::{NoMemory, Point, Rect};
+use nit_rect::{NoMemory, Point};
 use nit_stack::Stack;
 use std::alloc::Global;
 use std::marker::Model;
@@ -25,10 +26,12 @@ pub struct OwnerMap {
     widths: Vec<u32>,
     /// How far down the pixels of a row go on with one owner.
     down: Vec<u8>,
-    /// From each column of a row, one to which all pixels between have their owners.
-    next: Vec<u16>,
-    /// The rectangles of the views, front first.
-    rects: Vec<Rect>,
+    /// Room for two rows of the map, and for the columns to go on at in them.
+    work: Vec<u16>,
+    /// The patches of the views, front first.
+    patches: Vec<Patch>,
+    /// Those of them that meet a band of rows.
+    kept: Vec<Patch>,
     height: u32,
 }
 
@@ -47,8 +50,9 @@ impl Model for OwnerMap {
 
     ghost invariant = { λ m. (length m.owners.items ≤ length m.down.items * m.height)
         × (length m.down.items * m.height ≤ vec_capacity m.owners)
-        × (length m.next.items ≡ length m.down.items)
-        × (length m.rects.items ≡ length m.widths.items) };
+        × (length m.work.items ≡ length m.down.items * 3)
+        × (length m.patches.items ≡ length m.widths.items)
+        × (length m.kept.items ≡ length m.widths.items) };
 }
 
 impl OwnerMap {
@@ -66,14 +70,16 @@ impl OwnerMap {
         let owners = Vec::with_capacity(alloc, width as usize * height as usize)?;
         let widths = vec![in alloc; 0; slots]?;
         let down = vec![in alloc; 0; width as usize]?;
-        let next = vec![in alloc; 0; width as usize]?;
-        let rects = vec![in alloc; Rect::of(0, 0, 0, 0); slots]?;
+        let work = vec![in alloc; 0; width as usize * 3]?;
+        let patches = vec![in alloc; Patch::nothing(); slots]?;
+        let kept = vec![in alloc; Patch::nothing(); slots]?;
         Ok(OwnerMap {
             owners,
             widths,
             down,
-            next,
-            rects,
+            work,
+            patches,
+            kept,
             height,
         })
     }
@@ -88,12 +94,12 @@ impl OwnerMap {
     {
         let (width, height) = stack.size();
         reach(&mut self.owners, width as usize * height as usize);
-        collect(stack, self.rects.as_mut_slice());
         map_owners(
             stack,
-            self.rects.as_slice(),
+            self.patches.as_mut_slice(),
+            self.kept.as_mut_slice(),
             self.owners.as_mut_slice(),
-            self.next.as_mut_slice(),
+            self.work.as_mut_slice(),
         );
     }
 

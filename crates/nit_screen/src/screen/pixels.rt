@@ -2,8 +2,9 @@
 
 ghost use Rattle.std.specs.Prelude.{◌≡◌, ℕ, ◌*◌, ◌<◌, ◌≤◌, All, IsTrue, Option, false, length, map};
 ghost use Rattle.std.specs.Prelude.{nat_lt, slice_index, true, if◌then◌else◌};
-ghost use Rattle.nit_screen.specs.Terms.{AreLabelled, ArePlaced, CanShowBy, Flat, IsOnlyCut};
-ghost use Rattle.nit_screen.specs.Terms.{IsPartShown, IsServer, IsShown, IsWord, ShowsBelow};
+ghost use Rattle.nit_screen.specs.Terms.{AreLabelled, ArePixels, ArePlaced, AreRaw, CanShowBy};
+ghost use Rattle.nit_screen.specs.Terms.{Flat, IsOnlyCut, IsPartShown, IsServer, IsShown, IsWord};
+ghost use Rattle.nit_screen.specs.Terms.{ServerModel, ShowsBelow};
 ghost use Rattle.nit_screen.specs.Terms.{bar_rows, bar_word, draws_labels, frame, kept_frame};
 ghost use Rattle.nit_screen.specs.Terms.{pixel, raw_of, scenery_of, state_of, wanted};
 
@@ -24,14 +25,17 @@ use nit_server::Server;
 /// alone, and the words of `frame` have no meaning. So a pixel is written once when it is loaded,
 /// and `frame` is room alone until labels are drawn for the first time.
 ///
-/// Where labels are drawn, their places are those of the views as they stand. So a refresh, which
-/// moves no view, places no label anew.
+/// What changes more of the frame than it loads marks the frame as stale, and the frame is made
+/// when it is asked for, once, however many such changes there were. A frame that is not stale has
+/// the labels of the views as they stand. So a refresh, which moves no view, places no label anew.
 #[derive(Drop)]
 pub struct Pixels {
     pub painter: Painter,
     pub frame: Vec<u32>,
     /// Whether the raw words stand apart from the frame.
     pub is_apart: bool,
+    /// Whether the frame is still to be made. The raw words stand apart then.
+    pub is_stale: bool,
     /// How many pixels the bar has. They are the first ones.
     pub bar: usize,
     pub labels: Labels,
@@ -49,13 +53,40 @@ impl Pixels {
         }
     }
 
-    /// Makes the whole frame again, apart from the raw words.
-    pub(crate) fn redraw(&mut self, server: &Server)
-        requires { CanShowBy server.now self.old }
-        ensures { IsShown server.now self.old self.new }
+    /// Leaves the whole frame to be made when it is asked for. The raw words stay.
+    pub(crate) fn mark(&mut self)
+        requires { self.old.bar ≤ length self.old.painter.raw.items }
+        ensures { (s : ServerModel) → CanShowBy s self.old → IsShown s self.old self.new }
     {
         take_bar_off(&mut self.painter.raw, self.is_apart, self.bar);
         self.is_apart = true;
+        self.is_stale = true;
+    }
+
+    /// Makes the frame, if it is still to be made.
+    pub(crate) fn show(&mut self, server: &Server)
+        requires pixels { ArePixels server.now self.old }
+        requires raw { AreRaw (state_of server.now) (raw_of self.old) }
+        ensures shown { IsShown server.now self.old self.new }
+        ensures fresh { self.new.is_stale ≡ false }
+    {
+        if !self.is_stale {
+            return;
+        }
+        match server.mode() {
+            Mode::Flat => self.make_one(server),
+            _ => self.redraw(server),
+        }
+    }
+
+    /// Makes the whole frame, apart from the raw words.
+    fn redraw(&mut self, server: &Server)
+        requires can { CanShowBy server.now self.old }
+        requires apart { self.old.is_apart ≡ true }
+        ensures shown { IsShown server.now self.old self.new }
+        ensures fresh { self.new.is_stale ≡ false }
+    {
+        self.is_stale = false;
         reach(&mut self.frame, self.painter.raw.len());
         frame_of(
             server,
@@ -66,19 +97,21 @@ impl Pixels {
     }
 
     /// Shows again, after the input went on, what was shown in this mode with this focus: the bar
-    /// where the focus moved in mode Flat, the whole frame where the mode changed or the focus
-    /// moved in another mode, and nothing else.
+    /// where the focus moved in mode Flat, and nothing else there. Where the mode changed, or the
+    /// focus moved in another mode, the frame is stale.
     pub(crate) fn show_input(&mut self, server: &Server, mode: Mode, focus: Option<u32>)
         requires can { CanShowBy server.now self.old }
-        requires before { kept_frame self.old
+        requires before { self.old.is_stale ≡ false → kept_frame self.old
             ≡ frame (record (scenery_of (state_of server.now)) { mode = mode; focus = focus })
             (raw_of self.old) }
         requires apart { IsTrue (draws_labels mode) → self.old.is_apart ≡ true }
-        requires placed { IsTrue (draws_labels mode) → ArePlaced server.now self.old }
+        requires placed { self.old.is_stale ≡ false → IsTrue (draws_labels mode)
+            → ArePlaced server.now self.old }
+        requires fresh { self.old.is_apart ≡ false → self.old.is_stale ≡ false }
         ensures { IsShown server.now self.old self.new }
     {
         if server.mode() != mode {
-            self.redraw(server);
+            self.mark();
             return;
         }
         if server.focus() == focus {
@@ -87,26 +120,29 @@ impl Pixels {
         self.show_again(server);
     }
 
-    /// Shows again, where one list is both and is right below the bar in mode Flat, the bar, and
-    /// else the whole frame.
+    /// Shows again the bar, where one list is both and is right below the bar in mode Flat. Else
+    /// the frame is stale.
     pub(crate) fn show_again(&mut self, server: &Server)
         requires can { CanShowBy server.now self.old }
         requires below { server.now.input.mode ≡ Flat → self.old.is_apart ≡ false
             → ShowsBelow (state_of server.now) self.old.painter.raw.items }
-        ensures { IsShown server.now self.old self.new }
+        requires fresh { self.old.is_apart ≡ false → self.old.is_stale ≡ false }
+        ensures shown { IsShown server.now self.old self.new }
+        ensures one { server.now.input.mode ≡ Flat → self.old.is_apart ≡ false
+            → self.new.is_apart ≡ false }
     {
         if self.is_apart {
-            self.redraw(server);
+            self.mark();
             return;
         }
         match server.mode() {
             Mode::Flat => draw_bar(server, &self.labels, &mut self.painter.raw),
-            _ => self.redraw(server),
+            _ => self.mark(),
         }
     }
 
-    /// Shows again all, in the modes that draw labels, where views or their titles changed.
-    /// In mode Flat nothing is to be done: one list has the words that were loaded and the frame.
+    /// Where views or their titles changed, the frame is stale in the modes that draw labels. In
+    /// mode Flat nothing is to be done: one list has the words that were loaded and the frame.
     pub(crate) fn show_views(&mut self, server: &Server)
         requires { CanShowBy server.now self.old }
         ensures flat { server.now.input.mode ≡ Flat → self.new ≡ self.old }
@@ -115,23 +151,29 @@ impl Pixels {
     {
         match server.mode() {
             Mode::Flat => {}
-            _ => self.redraw(server),
+            _ => self.mark(),
         }
     }
 
     /// Shows again, in the modes that draw labels, what views of a session own and what of it shows
-    /// this part of its buffer, or all of it, once it was loaded. In mode Flat the frame stays.
+    /// this part of its buffer, or all of it, once it was loaded. In mode Flat the frame stays, and
+    /// so does one that is stale.
     pub(crate) fn show_part(&mut self, server: &Server, of: u32, part: &Option<Rect>)
         requires can { CanShowBy server.now self.old }
-        requires apart { IsTrue (draws_labels server.now.input.mode)
+        requires apart { self.old.is_stale ≡ false → IsTrue (draws_labels server.now.input.mode)
             → length self.old.frame.items ≡ length self.old.painter.raw.items }
-        requires placed { IsTrue (draws_labels server.now.input.mode)
+        requires placed { self.old.is_stale ≡ false → IsTrue (draws_labels server.now.input.mode)
             → ArePlaced server.now self.old }
         ensures flat { server.now.input.mode ≡ Flat → self.new ≡ self.old }
-        ensures labelled { IsTrue (draws_labels server.now.input.mode) → IsPartShown server.now
+        ensures stale { self.old.is_stale ≡ true → self.new ≡ self.old }
+        ensures labelled { self.old.is_stale ≡ false → IsTrue (draws_labels server.now.input.mode)
+            → IsPartShown server.now
             (λ k. wanted of part.now server.now.stack (pixel server.now.stack.width k))
             self.old self.new }
     {
+        if self.is_stale {
+            return;
+        }
         match server.mode() {
             Mode::Flat => {}
             _ => self.overlay_part(server, of, part),

@@ -30,6 +30,6 @@ impl Screen {
         kill_session(&mut self.server, sid, &mut self.pixels, glasses);
         self.server.open(sid, label);
         self.pixels.labels.texts[sid as usize] = label;
-        self.pixels.redraw(&self.server);
+        self.pixels.mark();
     }
 }

@@ -53,7 +53,7 @@ impl Screen {
         take_views_away(&mut self.server, sid, &mut self.pixels.painter, glasses);
         self.server.end_session(sid, Status::Closed);
         self.server.facts();
-        self.pixels.redraw(&self.server);
+        self.pixels.mark();
         Reply::Done
     }
 }
@@ -80,5 +80,5 @@ pub(crate) fn kill_session<L: Glasses>(
     take_views_away(server, of, &mut pixels.painter, glasses);
     server.end_session(of, Status::Killed);
     server.facts();
-    pixels.redraw(server);
+    pixels.mark();
 }

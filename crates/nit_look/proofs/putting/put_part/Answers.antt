@@ -10,6 +10,12 @@ slice_bounds-copy_from_slice-end-in-rows c =
           c.rows-test.true c.requires.high,
     )
 
+pub returns-then-wide-pitch : goal.returns-then-wide-pitch
+returns-then-wide-pitch c =
+    let width : c.args.width ≡ c.args.part.now.right = omega (arith, c.if-wide-width.true, c.requires) in
+    let pitch : c.args.pitch ≡ c.args.part.now.right = omega (arith, c.if-wide-pitch.true, c.if-wide-width.true, width) in
+    rw width (rw pitch c.put_at_once.ensures)
+
 pub rows-preserved : goal.rows-preserved
 rows-preserved c =
     let a = c.args.part.now in

@@ -1,12 +1,6 @@
-use Rattle.nit_overlay.proofs.Lemmas.{All_found, IsPlaced, IsSlotView, arith, is_slot, length}
+use Rattle.nit_overlay.proofs.Lemmas.{All_found, IsSlotView, arith, is_slot, length}
 use Rattle.nit_overlay.proofs.Lemmas.{no_owner, owner_in_slot, sym, ◌∙◌}
 use Rattle.nit_overlay.proofs.owner.owner_of.Goals as goal
-
-pub place_at-place-requires : goal.place_at-place-requires
-place_at-place-requires c draws =
-    All_found (IsPlaced c.args.lettered.now) (is_slot c.in-Some.v.0) c.args.lettered.now.look.stack.now.views
-    (record { slot = c.in-Some.v.0; view = c.view-view.result }) (c.requires.look.places draws)
-    c.view-view.ensures.value
 
 pub returns-in-Some-clause-owner : goal.returns-in-Some-clause-owner
 returns-in-Some-clause-owner c p owned =
@@ -22,7 +16,7 @@ returns-in-Some-clause-placed c = record {
       (record { slot = c.in-Some.v.0; view = c.view-view.result }) c.view-view.ensures.standing.seats
       c.view-view.ensures.value in
       omega (arith, seat.session, c.requires.look.labels);
-  place = c.place_at-place.ensures;
+  place = λ draws. c.place_at-place.ensures draws c.view-view.result c.view-view.ensures.value;
 }
 
 pub returns-in-None-clause-owner : goal.returns-in-None-clause-owner

@@ -1,4 +1,4 @@
-use Rattle.std.proofs.Common.{[], ap, arith, pos, sym, ℕ, ◌∙◌, ◌≡◌}
+use Rattle.std.proofs.Common.{[], ap, arith, pos, sym, ◌∙◌, ◌≡◌}
 use Rattle.nit_overlay.proofs.Basics.{Point, get_or_default, ints, label_place_of, scenery, view_text}
 use Rattle.nit_overlay.proofs.StripeLemmas.{drawn}
 use Rattle.nit_overlay.specs.Below.{label_text_of}

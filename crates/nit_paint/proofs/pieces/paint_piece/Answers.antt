@@ -1,4 +1,4 @@
-use Rattle.nit_paint.proofs.Lemmas.{arith, bare_told, ints, no_sight, repainted_words, rows_fit}
+use Rattle.nit_paint.proofs.Lemmas.{arith, bare_told, ints, repainted_words, rows_fit}
 use Rattle.nit_paint.proofs.Lemmas.{seat_stands, view_told, whole_piece}
 use Rattle.nit_paint.proofs.pieces.paint_piece.Goals as goal
 

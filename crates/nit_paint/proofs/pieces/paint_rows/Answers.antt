@@ -1,6 +1,6 @@
 use Rattle.std.proofs.Common.{ap, arith, refl, sym, ◌*◌, ◌∙◌, ◌≡◌}
 use Rattle.nit_paint.proofs.Lemmas.{among, ints, option_map, row_told, rows_more, rows_none}
-use Rattle.nit_paint.proofs.Lemmas.{to_z-of_z}
+use Rattle.nit_paint.proofs.Lemmas.{rows_within, run_of_rows, to_z-of_z, words_shown}
 use mir.Syntax.{w32}
 use mir.Val.{of_z, to_z}
 use Rattle.nit_paint.proofs.pieces.paint_rows.Goals as goal
@@ -33,3 +33,22 @@ returns-clause-painted g c source told =
     let same : c.args.row ≡ to_z w32 (of_z w32 c.args.row) = sym (to_z-of_z w32 c.args.row c.ranges.row) in
     let done : c.rows.j ≡ c.args.block.now.tall = omega arith in
     rw done at (c.rows.invariant.painted source (λ j i l m. rw same at (told j i l m)))
+
+-- ---- whole rows
+
+pub load_run-requires-clause-words : goal.load_run-requires-clause-words
+load_run-requires-clause-words g c =
+    let shows = c.shows_whole_rows.ensures.0 c.if-shows_whole_rows.true in
+    rows_within _ _ _ _ c.args.size.1 _ shows.0.1 (omega (arith, ints)) c.requires.words
+
+pub returns-then-shows_whole_rows-clause-painted : goal.returns-then-shows_whole_rows-clause-painted
+returns-then-shows_whole_rows-clause-painted g c source told =
+    let b = c.args.block.now in
+    let shows = c.shows_whole_rows.ensures.0 c.if-shows_whole_rows.true in
+    let left : b.left ≡ 0 = omega arith in
+    let wide : b.wide ≡ b.width = omega arith in
+    let same : c.args.row ≡ to_z w32 (of_z w32 c.args.row) = sym (to_z-of_z w32 c.args.row c.ranges.row) in
+    run_of_rows b left wide (omega arith) source _ _ _ _ _
+    (c.load_run.ensures.painted source
+    (words_shown b left wide (omega arith) source c.args.reach.now _ _ c.args.size.0 c.args.size.1 c.args.sid
+    c.requires.long c.requires.columns shows (omega (arith, ints)) (λ j i l m. rw same at (told j i l m))))

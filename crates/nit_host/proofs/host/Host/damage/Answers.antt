@@ -10,6 +10,7 @@ invariant_of-self c =
       rw (c.replace-parts.ensures.after, c.none.ensures) (All-nil (IsAreaOf d.state.config.width d.state.config.height)),
       omega (arith, c.remember.ensures.room, c.self.invariant.3),
       c.self.invariant.4,
+      λ _. c.remember.ensures.views,
     )
 
 pub returns-clause-changed : goal.returns-clause-changed

@@ -12,4 +12,4 @@ invariant_of-self c =
     c.whole-self-inside.ensures.all in
     let area = subst (λ (z : ℕ × ℕ). All (IsAreaOf z.0 z.1) a) size
     c.whole-self-inside.ensures.screen in
-    (c.self.invariant.0, seen_none d.state (sheets_of c.self.inside.sheets.items) (has_any a) all, area, c.self.invariant.3, c.self.invariant.4)
+    (c.self.invariant.0, seen_none d.state (sheets_of c.self.inside.sheets.items) (has_any a) all, area, c.self.invariant.3, c.self.invariant.4, c.self.invariant.5)

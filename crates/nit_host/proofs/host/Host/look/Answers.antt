@@ -16,6 +16,11 @@ returns-clause-frame c = λ as_seen.
     (sym c.size-width.ensures) (rw (framed, c.rect-part.ensures) agree))
     ∙ c.frame.ensures.shown.frame
 
+pub returns-clause-labels : goal.returns-clause-labels
+returns-clause-labels c = λ as_seen.
+    let shown = c.frame.ensures.shown in
+    rw (returns-clause-frame c as_seen, ← shown.frame) shown.labels
+
 pub look-found-requires-clause-part : goal.look-found-requires-clause-part
 look-found-requires-clause-part c =
     let d = c.self.inside.desktop in

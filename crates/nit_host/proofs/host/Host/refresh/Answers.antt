@@ -1,8 +1,8 @@
-use Rattle.std.proofs.Common.{Ok, ap, arith, length, set, subst, ◌<◌, ◌∙◌, ◌≡◌}
+use Rattle.std.proofs.Common.{Ok, ap, arith, length, refl, set, subst, ◌<◌, ◌∙◌, ◌≡◌}
 use Rattle.nit_host.proofs.Lemmas.{Call, IsPlainOf, WasCalled, WasServed, after, after_handing}
-use Rattle.nit_host.proofs.Lemmas.{are_glasses, frame_at, handed_plain, is_seat, option_map}
+use Rattle.nit_host.proofs.Lemmas.{are_glasses, frame_at, handed_plain, is_seat, option_map, refresh_touches}
 use Rattle.nit_host.proofs.Lemmas.{own_plain, own_room, plain_by_owner, plain_sight, refreshed}
-use Rattle.nit_host.proofs.Lemmas.{seen_called, serve, session, sheets_of, sheets_with, told_words}
+use Rattle.nit_host.proofs.Lemmas.{seen_called, serve, session, sheets_of, sheets_with, stand_after, told_words}
 use Rattle.nit_host.proofs.Lemmas.{touch_of, was_refreshed, when_served}
 use Rattle.nit_events.specs.declared.call.Call.TheVariants as call
 use Rattle.nit_events.specs.declared.entry.Entry.TheVariants as entry
@@ -75,13 +75,19 @@ invariant_of-self c =
     let d = c.self.inside.desktop in
     let e = c.call-reply.ensures in
     let call_is = c.refresh_of-call.ensures in
+    let is = e.served.state ∙ ap (λ (k : Call). after d.state (entry.Call c.args.client.seat k c.call-reply.result)) call_is in
+    let touches = refresh_touches c.args.place.0 c.args.place.1 c.args.size.0 c.args.size.1 _ is c.add_touched.ensures in
     let kept = seen_called (asked c) (sheets_of c.self.inside.sheets.items) (sheets_of c.call-reply.new.glasses.items) _
-    c.add_touched.ensures c.add_touched-2.ensures
-    c.self.invariant.1 c.self.invariant.2 (c.touch_of-touch.ensures ∙ ap (touch_of d.state c.args.client.seat) call_is)
-    (e.served.state ∙ ap (λ (k : Call). after d.state (entry.Call c.args.client.seat k c.call-reply.result)) call_is)
-    (e.reply ∙ ap (λ (k : Call). (serve (session d.state c.args.client.seat) k).reply) call_is)
-    (done c).shown (known c) c.clean_pixels_keep_their_source.ensures in
-    ((done c).is_host, kept.0, kept.1, c.self.invariant.3, c.self.invariant.4)
+    touches.0 touches.1 c.self.invariant.1 c.self.invariant.2
+    (c.touch_of-touch.ensures ∙ ap (touch_of d.state c.args.client.seat) call_is) is (e.reply ∙ ap (λ (k : Call). (serve (session d.state c.args.client.seat) k).reply) call_is)
+    (done c).shown (known c) c.clean_pixels_keep_their_source.ensures in (
+      (done c).is_host,
+      kept.0,
+      kept.1,
+      c.self.invariant.3,
+      c.self.invariant.4,
+      λ now. stand_after _ _ (asked c) _ is refl (c.self.invariant.5 now),
+    )
 
 pub returns-clause-served : goal.returns-clause-served
 returns-clause-served c = λ _. rw c.refresh_of-call.ensures (ap Ok (done c).replied, (done c).now_is)

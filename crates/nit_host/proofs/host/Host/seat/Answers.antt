@@ -1,7 +1,7 @@
 use Rattle.std.proofs.Common.{Ok, ap, length, ◌<◌}
 use Rattle.nit_host.proofs.Lemmas.{HostModel, WasSeated, are_glasses, arith, blank_again_of}
 use Rattle.nit_host.proofs.Lemmas.{blank_plain, frame_at, free_of, may_sit, nat_tests, next_client}
-use Rattle.nit_host.proofs.Lemmas.{option_map, own_room, refl, seen_seated, set, sheets_of}
+use Rattle.nit_host.proofs.Lemmas.{option_map, own_room, seen_seated, set, sheets_of}
 use Rattle.nit_host.proofs.Lemmas.{sheets_with, turn_given, was_seated, when_served}
 use Rattle.nit_host.proofs.Seatings.{Opens}
 use Rattle.nit_host.proofs.host.Host.seat.Goals as goal
@@ -41,8 +41,14 @@ invariant_of-self c =
     let kept = seen_seated d.state c.reopen.new.self.state c.args.seat c.args.label
     (sheets_of c.self.inside.sheets.items) (sheets_of c.reopen.new.glasses.items) c.self.inside.changed
     c.bar_or_screen-part.result c.add.new.self _ c.reopen.ensures.state (done c).words
-    c.bar_or_screen-part.ensures c.add.ensures.added c.add.ensures.parts c.self.invariant.1 c.self.invariant.2 in
-    ((done c).host, kept.0, kept.1, c.self.invariant.3, turn_given c.self.inside.turns c.args.seat c.self.invariant.4 (may_sit c.self.view_is c.in_default.ensures).more)
+    c.bar_or_screen-part.ensures c.add.ensures.added c.add.ensures.parts c.self.invariant.1 c.self.invariant.2 in (
+      (done c).host,
+      kept.0,
+      kept.1,
+      c.self.invariant.3,
+      turn_given c.self.inside.turns c.args.seat c.self.invariant.4 (may_sit c.self.view_is c.in_default.ensures).more,
+      λ now. rw c.reopen.ensures.state (c.self.invariant.5 now),
+    )
 
 pub returns-clause-seated : goal.returns-clause-seated
 returns-clause-seated c = λ _.

@@ -1,3 +1,4 @@
+use Rattle.nit_host.proofs.Basics.{false≢true}
 use Rattle.nit_host.proofs.Lemmas.{DesktopModel, ap, arith, begun, first_now, first_state}
 use Rattle.nit_host.proofs.Lemmas.{drawn_blank, drawn_sheets, lettered, refl, turns_begin}
 use Rattle.nit_host.proofs.host.Host.seated.Goals as goal
@@ -9,7 +10,7 @@ invariant_of-result c =
     (ap (λ (d : DesktopModel). d.raw) made) refl refl c.whole.result
     (rw (← c.config.view_is) c.whole.ensures.all)
     (rw (← c.config.view_is) c.whole.ensures.screen) in
-    (first.0, first.1, first.2, omega (arith, c.in_ok-shown.ensures), turns_begin c.no_turns.ensures)
+    (first.0, first.1, first.2, omega (arith, c.in_ok-shown.ensures), turns_begin c.no_turns.ensures, λ now. absurd (false≢true now))
 
 pub returns : goal.returns
 returns c =

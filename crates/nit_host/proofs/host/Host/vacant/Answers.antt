@@ -1,3 +1,4 @@
+use Rattle.nit_host.proofs.Basics.{false≢true}
 use Rattle.nit_host.proofs.Lemmas.{DesktopModel, ap, are_glasses, arith, begun, first_now}
 use Rattle.nit_host.proofs.Lemmas.{drawn_blank, drawn_sheets, lettered, refl, same_sheets, turns_begin, vacant_state}
 use Rattle.nit_host.proofs.host.Host.vacant.Goals as goal
@@ -12,7 +13,7 @@ invariant_of-result c =
     (ap (λ (d : DesktopModel). d.state) made) (ap (λ (d : DesktopModel). d.raw) made) refl refl c.whole.result
     (rw (← c.config.view_is) c.whole.ensures.all)
     (rw (← c.config.view_is) c.whole.ensures.screen) in
-    rw (same_sheets c.in_ok-vacant.ensures.rest) (first.0, first.1, first.2, omega (arith, c.in_ok-shown.ensures), turns_begin c.no_turns.ensures)
+    rw (same_sheets c.in_ok-vacant.ensures.rest) (first.0, first.1, first.2, omega (arith, c.in_ok-shown.ensures), turns_begin c.no_turns.ensures, λ now. absurd (false≢true now))
 
 pub returns : goal.returns
 returns c =

@@ -7,6 +7,7 @@ invariant_of-self g c = (
   listed_set c.args.sid c.swap.new.x
       (rw c.swap.ensures.x_after (rw (← c.self.view_is) at c.requires.glass))
       (rw (← c.self.view_is) at c.requires.session) c.self.invariant.1,
+  c.self.invariant.2,
 )
 
 pub returns-clause-out : goal.returns-clause-out

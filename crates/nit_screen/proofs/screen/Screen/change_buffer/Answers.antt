@@ -23,7 +23,7 @@ invariant_of-self g c =
     let e = c.paint_session.ensures.painted in
     ((part_call _ _ c.facts.ensures c.stack-stack.ensures.facts can c.accept-reply.ensures made.shown made.one
     c.stack-stack.ensures.stack e.kept c.args.part.now c.requires.on e.painted).3
-    c.show_part.new.self c.show_part.ensures.flat c.show_part.ensures.labelled).0
+    c.show_part.new.self c.show_part.ensures.flat c.show_part.ensures.stale c.show_part.ensures.labelled).0
 
 pub returns-clause-shown : goal.returns-clause-shown
 returns-clause-shown g c =
@@ -32,4 +32,4 @@ returns-clause-shown g c =
     let e = c.paint_session.ensures.painted in
     rw (← c.self.view_is) ((part_call _ _ c.facts.ensures c.stack-stack.ensures.facts can c.accept-reply.ensures made.shown
     made.one c.stack-stack.ensures.stack e.kept c.args.part.now c.requires.on e.painted).3
-    c.show_part.new.self c.show_part.ensures.flat c.show_part.ensures.labelled).1
+    c.show_part.new.self c.show_part.ensures.flat c.show_part.ensures.stale c.show_part.ensures.labelled).1

@@ -22,7 +22,7 @@ returns-clause-painted g c =
     let s = c.self.inside.server in
     let p = c.self.inside.pixels in
     let raw' = c.paint_whole.new.self.raw.items in
-    rw (← c.self.view_is) (rw c.show_again.ensures.raw
+    rw (← c.self.view_is) (rw c.show_again.ensures.shown.raw
     (entry_painted_in p.is_apart p.bar (state_of s) entry.Final (state_of s) c.self.invariant.0.bar
     (painted_whole s (length p.painter.raw.items) _ _ p.painter.raw.items raw' c.facts.ensures
     c.self.invariant.0.pixels (rw c.stack.ensures.stack at c.paint_whole.ensures.painted.painted))))

@@ -1,9 +1,12 @@
-use Rattle.std.proofs.Common.{◌-◌}
+use Rattle.std.proofs.Common.{length, ◌≡◌, ◌-◌}
 use Rattle.nit_screen.proofs.Lemmas.{MapUnderWay}
 use Rattle.nit_screen.proofs.screen.map.map_owners.Given as goal
 
-abbrev pub invariant-rows : goal.invariant-rows
-invariant-rows l = MapUnderWay l.stack l.y l.map l.next
+abbrev pub invariant-bands : goal.invariant-bands
+invariant-bands l = record {
+  far : MapUnderWay l.stack l.y l.map;
+  work : length l.work ≡ length l.initial.work;
+}
 
-abbrev pub decreases-rows : goal.decreases-rows
-decreases-rows l = l.height - l.y
+abbrev pub decreases-bands : goal.decreases-bands
+decreases-bands l = l.height - l.y

@@ -6,4 +6,5 @@ invariant_of-self c = (
   c.self.invariant.0,
   listed_changed c.args.sid _ c.copy.new.self c.index_mut.ensures.value
       (rw (← c.self.view_is) at c.requires.session) (rw c.copy.ensures refl) (rw c.copy.ensures refl) c.self.invariant.1,
+  c.self.invariant.2,
 )

@@ -1,5 +1,12 @@
 use Rattle.nit_screen.proofs.Lemmas.{MapRoom, all_placed, ap, arith, length, written, ◌∙◌}
+use Rattle.nit_screen.proofs.Basics.{mul_comm}
 use Rattle.nit_screen.proofs.screen.owners.OwnerMap.place_labels.Goals as goal
+
+pub places-requires-clause-map : goal.places-requires-clause-map
+places-requires-clause-map c =
+    let map = c.as_slice.ensures.value ∙ ap (λ (m : MapRoom). m.map) c.self.view_is in
+    rw c.size-width.ensures.size
+    (ap length map ∙ c.requires.map.count ∙ mul_comm c.args.stack.now.width c.args.stack.now.height)
 
 pub returns-clause-placed : goal.returns-clause-placed
 returns-clause-placed c =

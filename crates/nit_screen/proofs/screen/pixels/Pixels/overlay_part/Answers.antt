@@ -28,7 +28,7 @@ returns c =
     record {
       can = rw back (search rules);
       raw = e.kept.raw;
-      kept = (refl, refl);
+      kept = (refl, refl, refl);
       labels = refl;
       shown = rw (back, e.kept.raw, ← c.as_mut_slice.ensures.value) shown;
     }

@@ -8,4 +8,4 @@ show_again-requires-clause-below c = λ flat one.
     let p = c.args.self.now in
     let same : c.args.mode ≡ s.input.mode = search rules in
     other_focus (state_of s) c.args.focus p.bar p.painter.raw.items flat c.requires.can.bar
-    (rw (one, same) at c.requires.before)
+    (rw (one, same) at (c.requires.before (c.requires.fresh one)))
