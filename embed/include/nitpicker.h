@@ -351,10 +351,10 @@ uint32_t nit_open_config_3(struct nit_server *server, const char *text, size_t l
 /* Opens a server by a plan. Its seats are all free.
  *
  * All memory that the server will ever use is taken here, but for nit_entry's: up to 770 KB; for
- * each pixel of the screen 10 bytes, of which 8 are written at once, and 2 where X-ray or kill mode
- * first shows more than 16 views; and for each seat as many as its donation has units, at most
- * 4 MiB, or 128 MiB where that is over 8,388,608: these are written as far as clients hand in
- * words. So it is at most 8,352 MiB and these 770 KB.
+ * each pixel of the screen 10 bytes, of which 4 are written at once, 4 where X-ray or kill mode is
+ * first shown, and 2 where that has more than 16 views; and for each seat as many as its donation
+ * has units, at most 4 MiB, or 128 MiB where that is over 8,388,608: these are written as far as
+ * clients hand in words. So it is at most 8,352 MiB and these 770 KB.
  *
  * Answers NIT_DONE; and the first that applies of NIT_IS_OPEN, NIT_BAD_PLAN, NIT_NO_MEMORY: then
  * the handle is as it was before. */
@@ -546,12 +546,14 @@ struct nit_rect nit_look_anew(struct nit_server *server, uint32_t *out, size_t c
 struct nit_damage nit_damage(struct nit_server *server);
 
 /* Puts the words of this part of the screen, as it is now: that of column x + c and row y + r at
- * out[r * pitch + c]. No other word of `out` changes, whatever is answered. It is no look.
+ * out[r * pitch + c]. No other word of `out` changes, whatever is answered. It is no look, and
+ * nothing that a call answers changes by it. But where the frame has to be made it is made here,
+ * so the server is not const.
  * Answers NIT_DONE, also where w or h is 0: then nothing is put; and the first that applies of
  * NIT_NO_SERVER, NIT_BAD_RECT (x + w is over the screen's width, or y + h over its height),
  * NIT_WRONG_FRAME (the part has pixels, and w is over `pitch` where h is over 1, or
  * (h - 1) * pitch + w is over `count`). */
-uint32_t nit_copy(const struct nit_server *server, uint32_t x, uint32_t y, uint32_t w, uint32_t h,
+uint32_t nit_copy(struct nit_server *server, uint32_t x, uint32_t y, uint32_t w, uint32_t h,
                   uint32_t *out, size_t count, size_t pitch);
 
 /* ---- Reading */

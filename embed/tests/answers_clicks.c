@@ -12,7 +12,7 @@ static uint32_t frame[WIDTH * HEIGHT];
 
 static void look(void)
 {
-    CHECK(nit_look(&server, frame, WIDTH * HEIGHT).kind == NIT_DONE);
+    look_whole(&server, frame, WIDTH, HEIGHT);
 }
 
 static void placed(uint32_t seat, uint32_t view, int32_t x)

@@ -18,7 +18,7 @@ static void sits(uint32_t seat, const char *label, int32_t x)
 static void look(void)
 {
     static uint32_t frame[64 * 32];
-    CHECK(nit_look(&server, frame, 64 * 32).kind == NIT_DONE);
+    look_whole(&server, frame, 64, 32);
 }
 
 static void begin(void)

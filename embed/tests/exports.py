@@ -46,7 +46,7 @@ from exports_read import Binding, Header, Sources, asserts, lengths_in, named_by
 from exports_samples import BINDING, BINDINGS, CHANGES, HEADER, OBJECTS, SOURCES
 
 READERS = {"nit_state", "nit_seat_state", "nit_account", "nit_label", "nit_view_at", "nit_title_at",
-           "nit_owner", "nit_shown", "nit_held", "nit_entry", "nit_seat_for", "nit_copy"}
+           "nit_owner", "nit_shown", "nit_held", "nit_entry", "nit_seat_for"}
 WANTED = {"malloc", "realloc", "free", "memcpy", "memmove", "memset", "memcmp", "bcmp"}
 
 

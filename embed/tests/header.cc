@@ -23,7 +23,7 @@ public:
     }
 
     // What reads takes a const server.
-    size_t read(uint32_t *frame) const
+    size_t read() const
     {
         char text[NIT_LINE];
         const struct nit_state state = nit_state(&server);
@@ -32,12 +32,16 @@ public:
                                                nit_shown(&server, 0, 0)};
         const bool is_there = state.kind == NIT_DONE && seat.client == client
             && views[0].kind == NIT_DONE && nit_account(&server, 0).kind == NIT_DONE
-            && nit_seat_for(&server, "b", 1, 0).kind == NIT_NO_FREE_SEAT
-            && nit_copy(&server, 0, 0, 8, 8, frame, 64, 8) == NIT_DONE;
+            && nit_seat_for(&server, "b", 1, 0).kind == NIT_NO_FREE_SEAT;
         return is_there ? nit_label(&server, 0, text, sizeof text)
                 + nit_title_at(&server, 0, text, sizeof text) + nit_held(&server, 0)
                 + nit_entry(&server, text, sizeof text)
                         : 0;
+    }
+
+    bool copies(uint32_t *frame)
+    {
+        return nit_copy(&server, 0, 0, 8, 8, frame, 64, 8) == NIT_DONE;
     }
 
     nit_server server = NIT_CLOSED;
@@ -54,8 +58,8 @@ int main()
     struct nit_damage damage = nit_damage(&screen.server);
     struct nit_routed routed = nit_press(&screen.server, 272);
     return reply.kind == NIT_HANDLE && routed.kind == NIT_DONE && damage.count == 1
-            && nit_raise(&screen.server, screen.client, 1) == NIT_DONE && screen.read(frame) > 0
-            && nit_text(NIT_DONE)[0] == 'N'
+            && nit_raise(&screen.server, screen.client, 1) == NIT_DONE && screen.copies(frame)
+            && screen.read() > 0 && nit_text(NIT_DONE)[0] == 'N'
         ? 0
         : 1;
 }

@@ -205,3 +205,16 @@ void close_plain(struct nit_server *server)
     CHECK(server->at == NULL && server->mark == 0);
     CHECK(nit_close(server) == NIT_NO_SERVER);
 }
+
+struct nit_rect look_whole(struct nit_server *server, uint32_t *frame, uint32_t width,
+                           uint32_t height)
+{
+    size_t count = (size_t)width * height;
+    uint32_t *copied = calloc(count, sizeof *copied);
+    struct nit_rect part = nit_look(server, frame, count);
+    CHECK(copied && part.kind == NIT_DONE);
+    CHECK(nit_copy(server, 0, 0, width, height, copied, count, width) == NIT_DONE);
+    CHECK(memcmp(frame, copied, count * sizeof *copied) == 0);
+    free(copied);
+    return part;
+}

@@ -81,4 +81,8 @@ uint32_t room_of(uint32_t donation);
 /* Closes it, which has to be done. */
 void close_plain(struct nit_server *server);
 
+/* A look, which leaves the words of a copy of the screen, and the part that changed. */
+struct nit_rect look_whole(struct nit_server *server, uint32_t *frame, uint32_t width,
+                           uint32_t height);
+
 #endif

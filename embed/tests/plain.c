@@ -1,6 +1,10 @@
 /* A plain compositor behind the library's header, for measures alone: the host over this is what
  * the host over the library is measured beside. It has views, a focus and damage, and nothing of
- * what the library is for: no modes, no labels, no quotas, no layers. */
+ * what the library is for: no modes, no labels, no quotas, no layers.
+ *
+ * A word goes from the client's words to the seat's, and at a look or a copy from there to the
+ * host's. Made with -DKEPT it has a screen of its own between, as the library has: each call
+ * composites there what it changed, and a look or a copy takes it from there. */
 #include "plain.h"
 
 /* ---- Opening and seats */
@@ -13,9 +17,12 @@ uint32_t nit_open_seats_3(struct nit_server *server, uint32_t w, uint32_t h, uin
         if (!(seats[seat].words = calloc(seats[seat].most, sizeof(uint32_t))))
             return NIT_NO_MEMORY;
     }
+    if (KEPT && !(screen = malloc((size_t)w * h * sizeof *screen)))
+        return NIT_NO_MEMORY;
     width = w;
     height = h;
     hurt(0, 0, (int32_t)w, (int32_t)h);
+    composite();
     return NIT_DONE;
 }
 
@@ -25,6 +32,8 @@ uint32_t nit_close(struct nit_server *server)
         free(seats[seat].words);
         seats[seat] = (struct seat){ 0 };
     }
+    free(screen);
+    screen = NULL;
     count = 0;
     focus = hover = NIT_NONE;
     damage = (struct damage){ 0, 0, 0, 0 };
@@ -61,6 +70,7 @@ struct nit_reply nit_leave(struct nit_server *server, nit_client client)
     for (uint32_t at = count; at-- > 0;)
         if (views[at].seat == seat)
             drop(at);
+    composite();
     seats[seat].taken = false;
     focus = focus == seat ? NIT_NONE : focus;
     hover = hover == seat ? NIT_NONE : hover;
@@ -101,6 +111,7 @@ struct nit_reply nit_place(struct nit_server *server, nit_client client, uint32_
     views[at].w = w & 0x7FFF;
     views[at].h = h & 0x7FFF;
     hurt_view(&views[at]);
+    composite();
     return reply(NIT_DONE);
 }
 
@@ -113,6 +124,7 @@ struct nit_reply nit_offset(struct nit_server *server, nit_client client, uint32
     views[at].across = x;
     views[at].down = y;
     hurt_view(&views[at]);
+    composite();
     return reply(NIT_DONE);
 }
 
@@ -122,6 +134,7 @@ static struct nit_reply restack(nit_client client, uint32_t view, uint32_t to)
     if (at == NIT_NONE || to == NIT_NONE)
         return reply(NIT_NO_SUCH_VIEW);
     move(at, to);
+    composite();
     return reply(NIT_DONE);
 }
 
@@ -165,6 +178,7 @@ struct nit_reply nit_destroy(struct nit_server *server, nit_client client, uint3
     if (at == NIT_NONE)
         return reply(NIT_NO_SUCH_VIEW);
     drop(at);
+    composite();
     return reply(NIT_DONE);
 }
 
@@ -197,6 +211,7 @@ struct nit_reply nit_refresh(struct nit_server *server, nit_client client, int32
         if (views[at].seat == nit_seat_of(client))
             hurt(views[at].x + views[at].across + x, views[at].y + views[at].down + y,
                  (int32_t)(w & 0x7FFF), (int32_t)(h & 0x7FFF));
+    composite();
     return reply(NIT_DONE);
 }
 
@@ -270,60 +285,6 @@ struct nit_routed nit_wheel(struct nit_server *server, int32_t turn)
 
 /* ---- Looking */
 
-/* Where the words of a part go: the first one to `out`, and rows `pitch` apart. */
-struct target {
-    uint32_t *out;
-    size_t pitch;
-    struct damage part;
-};
-
-static uint32_t *word_at(const struct target *to, int32_t x, int32_t y)
-{
-    return to->out + (size_t)(y - to->part.top) * to->pitch + (size_t)(x - to->part.left);
-}
-
-static void paint(const struct target *to, const struct view *view)
-{
-    const struct seat *of = &seats[view->seat];
-    int32_t x = view->x + view->across, y = view->y + view->down;
-    int32_t left = most(to->part.left, most(view->x, x));
-    int32_t top = most(to->part.top, most(view->y, y));
-    int32_t right = least(to->part.right, least(view->x + (int32_t)view->w, x + (int32_t)of->w));
-    int32_t bottom = least(to->part.bottom, least(view->y + (int32_t)view->h, y + (int32_t)of->h));
-    for (int32_t at = top; at < bottom && left < right; at++)
-        memcpy(word_at(to, left, at),
-               of->words + (at - y) * (int32_t)of->w + left - x,
-               (size_t)(right - left) * sizeof *to->out);
-}
-
-/* Whether the words of a view are shown at each pixel of the part, but for views in front. */
-static bool fills(const struct damage *part, const struct view *view)
-{
-    int32_t x = view->x + view->across, y = view->y + view->down;
-    const struct seat *of = &seats[view->seat];
-    return part->left >= most(view->x, x) && part->top >= most(view->y, y) &&
-           part->right <= least(view->x + (int32_t)view->w, x + (int32_t)of->w) &&
-           part->bottom <= least(view->y + (int32_t)view->h, y + (int32_t)of->h);
-}
-
-static void clear(const struct target *to)
-{
-    for (int32_t y = to->part.top; y < to->part.bottom; y++)
-        for (int32_t x = to->part.left; x < to->part.right; x++)
-            *word_at(to, x, y) = BARE;
-}
-
-static void draw(const struct target *to)
-{
-    uint32_t behind = 0;
-    while (behind < count && !fills(&to->part, &views[behind]))
-        behind++;
-    if (behind == count)
-        clear(to);
-    for (uint32_t at = behind < count ? behind + 1 : count; at-- > 0;)
-        paint(to, &views[at]);
-}
-
 struct nit_damage nit_damage(struct nit_server *server)
 {
     struct nit_damage told = { .kind = NIT_DONE, .count = damage.left < damage.right };
@@ -335,18 +296,18 @@ struct nit_damage nit_damage(struct nit_server *server)
     return told;
 }
 
-uint32_t nit_copy(const struct nit_server *server, uint32_t x, uint32_t y, uint32_t w, uint32_t h,
+uint32_t nit_copy(struct nit_server *server, uint32_t x, uint32_t y, uint32_t w, uint32_t h,
                   uint32_t *out, size_t size, size_t pitch)
 {
     struct damage part = { (int32_t)x, (int32_t)y, (int32_t)(x + w), (int32_t)(y + h) };
-    draw(&(struct target){ out, pitch, part });
+    put(&(struct target){ out, pitch, part });
     return NIT_DONE;
 }
 
 struct nit_rect nit_look(struct nit_server *server, uint32_t *out, size_t size)
 {
     size_t first = (size_t)damage.top * width + (size_t)damage.left;
-    draw(&(struct target){ out + first, width, damage });
+    put(&(struct target){ out + first, width, damage });
     struct nit_part part = nit_damage(server).part[0];
     return (struct nit_rect){ NIT_DONE, part.x, part.y, part.w, part.h };
 }

@@ -28,8 +28,8 @@ uint32_t __real_nit_close(struct nit_server *server);
 struct nit_damage __real_nit_damage(struct nit_server *server);
 struct nit_rect __real_nit_look(struct nit_server *server, uint32_t *out, size_t count);
 struct nit_rect __real_nit_look_anew(struct nit_server *server, uint32_t *out, size_t count);
-uint32_t __real_nit_copy(const struct nit_server *server, uint32_t x, uint32_t y, uint32_t w,
-                         uint32_t h, uint32_t *out, size_t count, size_t pitch);
+uint32_t __real_nit_copy(struct nit_server *server, uint32_t x, uint32_t y, uint32_t w, uint32_t h,
+                         uint32_t *out, size_t count, size_t pitch);
 struct nit_state __real_nit_state(const struct nit_server *server);
 struct nit_seat_state __real_nit_seat_state(const struct nit_server *server, uint32_t seat);
 struct nit_account __real_nit_account(const struct nit_server *server, uint32_t seat);

@@ -5,10 +5,15 @@
  *
  * A work is done again and again for LONG nanoseconds or more, TIMES times.
  *
- * usage: speed */
+ * With `moves` the moves of a word are works by themselves: it is handed in, where no view shows it
+ * and where one does, and it is copied to the host's words. Given STEPS, each work is done as many
+ * times in one call of `steps_take`, to be counted there by valgrind, and its name is printed.
+ *
+ * usage: speed [moves [STEPS]] */
 #include "nitpicker.h"
 #include <stdio.h>
 #include <stdlib.h>
+#include <string.h>
 #include <time.h>
 
 enum { MOST = 3840 * 2160, TIMES = 20, LONG = 2000000, VIEWS = 64 };
@@ -19,6 +24,8 @@ static uint32_t width, height, frame[MOST];
 /* What a client draws by turns, so that each refresh changes each pixel. */
 static uint32_t words[2][MOST];
 static uint32_t turn;
+/* How many steps of a work are counted, where it is not timed. */
+static uint32_t counted;
 
 static void must(int holds, const char *what)
 {
@@ -107,6 +114,32 @@ static void whole_copy(void)
     copy();
 }
 
+static void small_refresh(void)
+{
+    refresh(200, 200);
+}
+
+static void whole_refresh(void)
+{
+    refresh(width, height);
+}
+
+static void copy_part(uint32_t w, uint32_t h)
+{
+    must(nit_copy(&server, 0, 0, w, h, frame, (size_t)width * height, width) == NIT_DONE,
+         "not copied");
+}
+
+static void small_part(void)
+{
+    copy_part(200, 200);
+}
+
+static void whole_part(void)
+{
+    copy_part(width, height);
+}
+
 /* The first pixel changes. */
 static void one_corner(void)
 {
@@ -160,7 +193,8 @@ static void move_copy(void)
 
 /* ---- Timing. */
 
-static double steps_take(void (*step)(void), uint32_t steps)
+/* It is a function of its own also in what valgrind sees. */
+__attribute__((noinline)) static double steps_take(void (*step)(void), uint32_t steps)
 {
     double begun = now();
     for (uint32_t at = 0; at < steps; at++)
@@ -168,11 +202,10 @@ static double steps_take(void (*step)(void), uint32_t steps)
     return now() - begun;
 }
 
-static void tell(const char *name, void (*step)(void))
+static void time_steps(const char *name, void (*step)(void))
 {
     double least = 1e18;
     uint32_t steps = 1;
-    step();
     while (steps_take(step, steps) < LONG)
         steps *= 2;
     for (int k = 0; k < TIMES; k++) {
@@ -180,6 +213,17 @@ static void tell(const char *name, void (*step)(void))
         least = took < least ? took : least;
     }
     printf("%s\t%.1f\n", name, least);
+}
+
+static void tell(const char *name, void (*step)(void))
+{
+    step();
+    if (counted == 0) {
+        time_steps(name, step);
+        return;
+    }
+    steps_take(step, counted);
+    printf("%s\n", name);
 }
 
 /* ---- Screens: one client's large view, and another one's 64 small ones behind it. */
@@ -284,6 +328,20 @@ static void large_screen(uint32_t w, uint32_t h)
     close_screen();
 }
 
+/* No view shows what is handed in before there is the large one. */
+static void moves(void)
+{
+    open_screen(3840, 2160, 0);
+    tell("200 by 200 handed in", small_refresh);
+    tell("3840 by 2160 handed in", whole_refresh);
+    open_large_view(0, 0, width, height);
+    tell("200 by 200 handed in and shown", small_refresh);
+    tell("3840 by 2160 handed in and shown", whole_refresh);
+    tell("200 by 200 copied", small_part);
+    tell("3840 by 2160 copied", whole_part);
+    close_screen();
+}
+
 /* ---- Opening, before anything else has touched memory. */
 
 static long resident(void)
@@ -319,8 +377,15 @@ static void opening(void)
     printf("3840 by 2160 opened, with eight seats of 2^26 units\t%.1f\t%ld\n", least, kilobytes);
 }
 
-int main(void)
+int main(int argc, char **argv)
 {
+    if (argc > 1) {
+        must(strcmp(argv[1], "moves") == 0, "usage: speed [moves [STEPS]]");
+        counted = argc > 2 ? (uint32_t)strtoul(argv[2], NULL, 10) : 0;
+        draw_words();
+        moves();
+        return 0;
+    }
     opening();
     draw_words();
     plain_screen();

@@ -127,7 +127,7 @@ static void comes_again(struct storm *s)
         return;
     nit_client before = there->client;
     uint32_t seat = nit_seat_of(before);
-    shown_look(s);
+    whole_look(s);
     CHECK(nit_leave(&s->server, before).kind == NIT_DONE);
     shown_gone(s, before);
     sits(s, seat, s->label[seat]);

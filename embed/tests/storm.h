@@ -94,6 +94,7 @@ struct nit_reply shown_above(struct storm *s, nit_client client, uint32_t handle
 struct nit_reply shown_destroy(struct storm *s, nit_client client, uint32_t handle);
 void shown_gone(struct storm *s, nit_client client);
 struct nit_rect shown_look(struct storm *s);
+void whole_look(struct storm *s);
 void shown_damage(struct storm *s);
 uint32_t shown_held(const struct storm *s);
 const struct placed *shown_owner(const struct storm *s, struct nit_state state);

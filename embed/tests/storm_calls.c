@@ -250,7 +250,7 @@ static struct nit_routed press_or_release(struct storm *s, bool *is_served)
     if (below(s, 2) == 0 && below(s, 2) == 0)
         shown_damage(s);
     else if (below(s, 2) == 0)
-        shown_look(s);
+        whole_look(s);
     struct nit_routed routed = shown_press(s, code);
     *is_served = routed.kind == NIT_DONE;
     return routed;

@@ -20,8 +20,24 @@ static void is_outside_the_same(const struct storm *s, struct nit_rect part, con
     CHECK(bits <= 0xFFFFFF);
 }
 
-/* A look tells where something changed, and leaves words at which a second look finds nothing, and
- * which have the texts of the screen. One at a wrong number of words is none. */
+/* The whole screen is copied beside the words of looks. */
+static void copy_whole(struct storm *s)
+{
+    CHECK(nit_copy(&s->server, 0, 0, s->width, s->height, s->other,
+                   (size_t)s->width * s->height, s->width) == NIT_DONE);
+}
+
+/* A look leaves the words of a copy of the screen. */
+void whole_look(struct storm *s)
+{
+    shown_look(s);
+    copy_whole(s);
+    CHECK(memcmp(s->frame, s->other, 4 * (size_t)s->width * s->height) == 0);
+}
+
+/* A look tells where something changed, and leaves the words of a copy of the screen, at which a
+ * second look finds nothing, and which have the texts of the screen. One at a wrong number of words
+ * is none. */
 void looks(struct storm *s)
 {
     size_t count = (size_t)s->width * s->height;
@@ -34,7 +50,7 @@ void looks(struct storm *s)
     struct nit_rect part = shown_look(s);
     CHECK(part.x + part.w <= s->width && part.y + part.h <= s->height);
     is_outside_the_same(s, part, other);
-    memcpy(other, frame, 4 * count);
+    copy_whole(s);
     part = shown_look(s);
     CHECK(part.w == 0 && part.h == 0);
     CHECK(memcmp(frame, other, 4 * count) == 0);
@@ -101,15 +117,12 @@ void copies(struct storm *s)
 {
     struct copy c = any_copy(s);
     uint32_t *out = s->scratch - c.count, answer = answer_of(s, c);
-    CHECK(nit_copy(&s->server, 0, 0, s->width, s->height, s->other,
-                   (size_t)s->width * s->height, s->width) == NIT_DONE);
+    copy_whole(s);
     for (size_t k = 0; k < c.count; k++)
         out[k] = KEPT;
     CHECK(nit_copy(&s->server, c.x, c.y, c.w, c.h, out, c.count, c.pitch) == answer);
     has_copied(s, c, answer);
     told(s, false, "");
     if (below(s, 2) == 0)
-        return;
-    shown_look(s);
-    CHECK(memcmp(s->frame, s->other, 4 * (size_t)s->width * s->height) == 0);
+        whole_look(s);
 }

@@ -58,7 +58,7 @@ static void is_all(const struct nit_damage *damage, const struct surface *s)
     }
 }
 
-static void copy_parts(const struct nit_server *server, const struct nit_damage *damage,
+static void copy_parts(struct nit_server *server, const struct nit_damage *damage,
                        struct surface *s)
 {
     size_t count = (size_t)s->pitch * s->height;

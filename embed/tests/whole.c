@@ -1,7 +1,7 @@
 /* What whole.h says. */
 #include "whole.h"
 
-void read_whole(const struct nit_server *server, struct whole *whole)
+void read_whole(struct nit_server *server, struct whole *whole)
 {
     memset(whole, 0, sizeof *whole);
     whole->state = nit_state(server);
@@ -23,8 +23,7 @@ void read_whole(const struct nit_server *server, struct whole *whole)
     whole->length = nit_entry(server, whole->line, sizeof whole->line);
 }
 
-void is_unchanged(const struct nit_server *server, const struct whole *was, const char *file,
-                  int line)
+void is_unchanged(struct nit_server *server, const struct whole *was, const char *file, int line)
 {
     static struct whole now;
     read_whole(server, &now);

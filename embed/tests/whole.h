@@ -16,11 +16,10 @@ struct whole {
 };
 
 /* Reads it; nothing changes by that. */
-void read_whole(const struct nit_server *server, struct whole *whole);
+void read_whole(struct nit_server *server, struct whole *whole);
 
 /* That all is as it was. */
 #define UNCHANGED(server, was) is_unchanged((server), (was), __FILE__, __LINE__)
-void is_unchanged(const struct nit_server *server, const struct whole *was, const char *file,
-                  int line);
+void is_unchanged(struct nit_server *server, const struct whole *was, const char *file, int line);
 
 #endif

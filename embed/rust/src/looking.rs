@@ -1,7 +1,7 @@
 //! What the screen shows.
 
 use crate::raw;
-use crate::{done, read, Refusal, Reply, Server};
+use crate::{done, Refusal, Reply, Server};
 use std::ops::Deref;
 
 /// A part of the screen.
@@ -105,15 +105,16 @@ impl Server {
     }
 
     /// Puts the words of this part of the screen, as it is now: that of row r and column c of the
-    /// part at `out[r * pitch + c]`. No other word changes. It is no look.
+    /// part at `out[r * pitch + c]`. No other word changes. It is no look, and nothing that a call
+    /// answers changes by it; but where the frame has to be made, it is made here.
     ///
     /// # Errors
     /// [`Refusal::BadRect`] where the part reaches beyond the screen, [`Refusal::WrongFrame`]
     /// where the words do not hold it.
-    pub fn copy(&self, part: Rect, out: &mut [u32], pitch: usize) -> Reply {
+    pub fn copy(&mut self, part: Rect, out: &mut [u32], pitch: usize) -> Reply {
         let Rect { x, y, w, h } = part;
         let (at, count) = (out.as_mut_ptr(), out.len());
         // SAFETY: the handle is ours, and the words are so many that nobody else has.
-        done(unsafe { raw::nit_copy(read(self), x, y, w, h, at, count, pitch) })
+        done(unsafe { raw::nit_copy(self.raw.get_mut(), x, y, w, h, at, count, pitch) })
     }
 }

@@ -260,7 +260,7 @@ extern "C" {
     pub fn nit_lower(server: *mut Server, client: u64, view: u32) -> u32;
     pub fn nit_damage(server: *mut Server) -> Damage;
     pub fn nit_copy(
-        server: *const Server,
+        server: *mut Server,
         x: u32,
         y: u32,
         w: u32,
