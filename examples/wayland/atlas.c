@@ -29,17 +29,12 @@ bool atlas_take(struct surface *surface)
     bool any = is_free(surface, found);
     wl_list_for_each(other, &surface->client->surfaces, link) {
         const struct box by = other->room;
-        const struct box right = { by.x + by.w, by.y, w, h }, below = { by.x, by.y + by.h, w, h };
-        if (by.w == 0 || other == surface)
-            continue;
-        if ((!any || right.y < found.y) && is_free(surface, right)) {
-            found = right;
-            any = true;
-        }
-        if ((!any || below.y < found.y) && is_free(surface, below)) {
-            found = below;
-            any = true;
-        }
+        const struct box beside[] = { { by.x + by.w, by.y, w, h }, { by.x, by.y + by.h, w, h } };
+        for (int at = 0; at < 2 && by.w > 0 && other != surface; at++)
+            if ((!any || beside[at].y < found.y) && is_free(surface, beside[at])) {
+                found = beside[at];
+                any = true;
+            }
     }
     surface->room = any ? found : (struct box){ 0 };
     return any;

@@ -113,13 +113,12 @@ static void offer_request(struct wl_resource *self, uint32_t number, union wl_ar
         close(with[1].h);
 }
 
-static const struct kind OFFER = { &wl_data_offer_interface, offer_request, NULL };
+static const struct kind OFFER = { &wl_data_offer_interface, .request = offer_request };
 
 static void offer(struct wl_resource *device)
 {
     struct wl_resource *it = here.count > 0 ?
-        object_new(client_of(device), &OFFER, (uint32_t)wl_resource_get_version(device), 0,
-                   (void *)turns) : NULL;
+        object_new(device, &OFFER, 0, (void *)turns) : NULL;
     if (it)
         wl_data_device_send_data_offer(device, it);
     for (int at = 0; it && at < here.count; at++)
@@ -268,10 +267,10 @@ static void source_gone(struct wl_resource *self)
 {
     if (origin == self)
         origin = NULL;
-    free(object_data(self));
 }
 
-static const struct kind SOURCE = { &wl_data_source_interface, source_request, source_gone };
+static const struct kind SOURCE = { &wl_data_source_interface, .request = source_request,
+                                    .gone = source_gone, .size = sizeof(struct source) };
 
 /* ---- Devices. Nothing is dragged from one client to another, and what a client sets while what it
  * set before still comes is refused. */
@@ -289,19 +288,22 @@ static void device_request(struct wl_resource *self, uint32_t number, union wl_a
         wl_data_source_send_cancelled(source);
 }
 
-static const struct kind DEVICE = { &wl_data_device_interface, device_request, object_unlisted };
+static void device_begun(struct wl_resource *self)
+{
+    if (client_of(self)->focused)
+        offer(self);
+}
+
+static const struct kind DEVICE = { &wl_data_device_interface, .request = device_request,
+                                    .begun = device_begun,
+                                    .list = offsetof(struct client, devices) };
 
 static void clipboard_request(struct wl_resource *self, uint32_t number, union wl_argument *with)
 {
-    struct client *client = client_of(self);
-    if (number == WL_DATA_DEVICE_MANAGER_CREATE_DATA_SOURCE) {
-        object_with(client, &SOURCE, (uint32_t)wl_resource_get_version(self), with[0].n,
-                    sizeof(struct source));
-    } else if (number == WL_DATA_DEVICE_MANAGER_GET_DATA_DEVICE) {
-        struct wl_resource *device = listener_new(self, &DEVICE, with[0].n, &client->devices);
-        if (device && client->focused)
-            offer(device);
-    }
+    if (number == WL_DATA_DEVICE_MANAGER_CREATE_DATA_SOURCE)
+        object_new(self, &SOURCE, with[0].n, NULL);
+    else if (number == WL_DATA_DEVICE_MANAGER_GET_DATA_DEVICE)
+        object_new(self, &DEVICE, with[0].n, NULL);
 }
 
-const struct kind CLIPBOARD = { &wl_data_device_manager_interface, clipboard_request, NULL };
+const struct kind CLIPBOARD = { &wl_data_device_manager_interface, .request = clipboard_request };

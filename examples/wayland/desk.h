@@ -22,11 +22,14 @@ enum {
     MOVE_KEY = 125            /* the left logo key: with a button held it moves a window */
 };
 
-/* What an interface of Wayland does: its requests by their numbers, and the end of an object. */
+/* What an interface of Wayland does: its requests by their numbers, the beginning and the end of an
+ * object. What is 0 is nothing. */
 struct kind {
     const struct wl_interface *interface;
     void (*request)(struct wl_resource *self, uint32_t number, union wl_argument *with);
-    wl_resource_destroy_func_t gone;
+    void (*begun)(struct wl_resource *self), (*gone)(struct wl_resource *self);
+    size_t size;              /* of data that each object has for itself, which are 0 at first */
+    size_t list;              /* where the client has its list of such objects */
 };
 
 struct box {
@@ -97,7 +100,7 @@ struct client {
     struct wl_listener left, made;
     nit_client name;          /* by which the library knows it */
     uint32_t serial, turn;
-    uint32_t surface_count, pools, objects, registries;
+    uint32_t pools, objects, registries;
     char label[LABEL];
     struct program *program;
     pid_t porter;             /* the process between its connection and the host */
@@ -160,16 +163,8 @@ int32_t box_clamp(int64_t value);
 struct client *client_of(struct wl_resource *any);
 void *object_data(struct wl_resource *any);
 void object_forget(struct wl_resource *any);
-struct wl_resource *object_new(struct client *client, const struct kind *kind, uint32_t version,
-                               uint32_t id, void *data);
-struct wl_resource *object_with(struct client *client, const struct kind *kind, uint32_t version,
-                                uint32_t id, size_t size);
-void object_free(struct wl_resource *self);
-void object_listed(struct wl_resource *any, struct wl_list *list);
-struct wl_resource *listener_new(struct wl_resource *from, const struct kind *kind, uint32_t id,
-                                 struct wl_list *list);
-void object_unlisted(struct wl_resource *any);
-void object_ignores(struct wl_resource *self, uint32_t number, union wl_argument *with);
+struct wl_resource *object_new(struct wl_resource *from, const struct kind *kind, uint32_t id,
+                               void *data);
 void objects_start(void);
 void objects_watch(struct client *client);
 static inline uint32_t serial(struct client *client) { return ++client->serial; }
@@ -202,13 +197,12 @@ void atlas_fill(struct surface *surface);
 void atlas_copy(struct surface *surface);
 
 /* shell.c, popups.c, drag.c */
-extern const struct kind SHELL, DECORATIONS;
+extern const struct kind SHELL, DECORATIONS, POSITIONER;
 bool shell_commit(struct surface *surface);
 void shell_configure(struct surface *surface, int32_t w, int32_t h);
 void shell_place(struct surface *surface);
 void shell_drop(struct surface *surface);
 void role_gone(struct wl_resource *self);
-struct wl_resource *positioner_new(struct wl_resource *shell, uint32_t id);
 void popup_new(struct surface *surface, union wl_argument *with);
 void popups_dismiss(struct client *client);
 void drag_begin(struct surface *surface, uint32_t edges);
@@ -223,7 +217,6 @@ void input_forget(struct surface *surface);
 void input_leave(struct client *client);
 struct surface *input_surface(const struct nit_view_state *view);
 bool keyboard_start(void);
-void keyboard_tell(struct wl_resource *keyboard);
 void keyboard_key(struct client *client, uint32_t code, bool down);
 void keyboard_choose(struct client *client);
 void keyboard_into(struct client *client, struct surface *surface);
@@ -241,6 +234,6 @@ void program_forget(struct program *program);
 void program_end(struct program *program);
 void programs_reap(void);
 bool sandbox_is_there(void);
-pid_t sandbox_spawn(const struct program *program, const char *words, const char *command);
+pid_t sandbox_spawn(struct program *program, const char *words, const char *command);
 
 #endif

@@ -240,21 +240,24 @@ static void cursor_request(struct wl_resource *self, uint32_t number, union wl_a
         surface->role = CURSOR;
 }
 
-static const struct kind POINTER = { &wl_pointer_interface, cursor_request, object_unlisted };
+static const struct kind POINTER = { &wl_pointer_interface, .request = cursor_request,
+                                     .list = offsetof(struct client, pointers) };
+
+static void seat_begun(struct wl_resource *self)
+{
+    wl_seat_send_capabilities(self, WL_SEAT_CAPABILITY_POINTER | WL_SEAT_CAPABILITY_KEYBOARD);
+    if (wl_resource_get_version(self) >= WL_SEAT_NAME_SINCE_VERSION)
+        wl_seat_send_name(self, "seat0");
+}
 
 static void seat_request(struct wl_resource *self, uint32_t number, union wl_argument *with)
 {
-    struct client *client = client_of(self);
-    if (number == WL_SEAT_GET_POINTER) {
-        listener_new(self, &POINTER, with[0].n, &client->pointers);
-    } else if (number == WL_SEAT_GET_KEYBOARD) {
-        struct wl_resource *keyboard =
-            listener_new(self, &KEYBOARD, with[0].n, &client->keyboards);
-        if (keyboard)
-            keyboard_tell(keyboard);
-    } else if (number == WL_SEAT_GET_TOUCH) {
+    if (number == WL_SEAT_GET_POINTER)
+        object_new(self, &POINTER, with[0].n, NULL);
+    else if (number == WL_SEAT_GET_KEYBOARD)
+        object_new(self, &KEYBOARD, with[0].n, NULL);
+    else if (number == WL_SEAT_GET_TOUCH)
         wl_resource_post_error(self, WL_SEAT_ERROR_MISSING_CAPABILITY, "no touch");
-    }
 }
 
-const struct kind SEAT = { &wl_seat_interface, seat_request, NULL };
+const struct kind SEAT = { &wl_seat_interface, .request = seat_request, .begun = seat_begun };

@@ -104,7 +104,7 @@ static void map_tell(struct wl_resource *keyboard)
         close(file);
 }
 
-void keyboard_tell(struct wl_resource *keyboard)
+static void keyboard_begun(struct wl_resource *keyboard)
 {
     struct client *client = client_of(keyboard);
     struct wl_array none = { 0 };
@@ -117,7 +117,8 @@ void keyboard_tell(struct wl_resource *keyboard)
     }
 }
 
-const struct kind KEYBOARD = { &wl_keyboard_interface, object_ignores, object_unlisted };
+const struct kind KEYBOARD = { &wl_keyboard_interface, .begun = keyboard_begun,
+                               .list = offsetof(struct client, keyboards) };
 
 bool keyboard_start(void)
 {

@@ -13,6 +13,7 @@ struct object {
     const struct kind *kind;
     struct client *client;
     void *data;
+    max_align_t own[];
 };
 
 struct client *client_of(struct wl_resource *any)
@@ -25,7 +26,7 @@ void *object_data(struct wl_resource *any)
     return ((struct object *)wl_resource_get_user_data(any))->data;
 }
 
-/* The object stands for nothing any more. */
+/* What the object stands for is gone. It does nothing any more, and its end does nothing. */
 void object_forget(struct wl_resource *any)
 {
     ((struct object *)wl_resource_get_user_data(any))->data = NULL;
@@ -35,7 +36,8 @@ static int dispatch(const void *implementation, void *target, uint32_t number,
                     const struct wl_message *message, union wl_argument *with)
 {
     const struct object *object = implementation;
-    object->kind->request(target, number, with);
+    if (object->data && object->kind->request)
+        object->kind->request(target, number, with);
     if (!strcmp(message->name, "destroy") || !strcmp(message->name, "release"))
         wl_resource_destroy(target);
     return 0;
@@ -44,79 +46,47 @@ static int dispatch(const void *implementation, void *target, uint32_t number,
 static void gone(struct wl_resource *any)
 {
     struct object *object = wl_resource_get_user_data(any);
-    if (object->kind->gone)
+    if (object->data && object->kind->gone)
         object->kind->gone(any);
+    wl_list_remove(wl_resource_get_link(any));
     object->client->objects--;
     free(object);
 }
 
-/* A new object of a client, or NULL and the end of the client where it has too many. */
-struct wl_resource *object_new(struct client *client, const struct kind *kind, uint32_t version,
-                               uint32_t id, void *data)
+/* A new object of a client, or NULL and the end of the client where it has too many. It has few of
+ * those that are told of what happens, since each costs something whenever something happens. */
+static struct wl_resource *make(struct client *client, const struct kind *kind, int version,
+                                uint32_t id, void *data)
 {
-    struct object *object = client->objects < OBJECTS ? malloc(sizeof *object) : NULL;
+    struct wl_list *list = kind->list ? (struct wl_list *)((char *)client + kind->list) : NULL;
+    bool many = client->objects >= OBJECTS || (list && wl_list_length(list) >= LISTENERS);
+    struct object *object = many ? NULL : calloc(1, sizeof *object + kind->size);
     struct wl_resource *any = object ?
-        wl_resource_create(client->wl, kind->interface, (int)version, id) : NULL;
+        wl_resource_create(client->wl, kind->interface, version, id) : NULL;
     if (!any) {
         free(object);
         wl_client_post_no_memory(client->wl);
         return NULL;
     }
-    *object = (struct object){ kind, client, data };
+    object->kind = kind;
+    object->client = client;
+    object->data = kind->size ? object->own : data ? data : client;
     client->objects++;
     wl_resource_set_dispatcher(any, dispatch, object, object, gone);
-    return any;
-}
-
-/* The same with data of its own, which is 0 at first. */
-struct wl_resource *object_with(struct client *client, const struct kind *kind, uint32_t version,
-                                uint32_t id, size_t size)
-{
-    void *data = calloc(1, size);
-    struct wl_resource *any = data ? object_new(client, kind, version, id, data) : NULL;
-    if (!data)
-        wl_client_post_no_memory(client->wl);
-    if (!any)
-        free(data);
-    return any;
-}
-
-void object_free(struct wl_resource *self)
-{
-    free(object_data(self));
-}
-
-void object_listed(struct wl_resource *any, struct wl_list *list)
-{
-    if (any)
+    if (list)
         wl_list_insert(list, wl_resource_get_link(any));
-}
-
-/* A new object that is told of what happens, of the version of another one. A client has few of
- * each kind, since each costs something whenever something happens. */
-struct wl_resource *listener_new(struct wl_resource *from, const struct kind *kind, uint32_t id,
-                                 struct wl_list *list)
-{
-    struct client *client = client_of(from);
-    uint32_t version = (uint32_t)wl_resource_get_version(from);
-    if (wl_list_length(list) >= LISTENERS) {
-        wl_client_post_no_memory(client->wl);
-        return NULL;
-    }
-    struct wl_resource *any = object_new(client, kind, version, id, NULL);
-    object_listed(any, list);
+    else
+        wl_list_init(wl_resource_get_link(any));
+    if (kind->begun)
+        kind->begun(any);
     return any;
 }
 
-void object_unlisted(struct wl_resource *any)
+/* The same by a request to another object, whose version it has. */
+struct wl_resource *object_new(struct wl_resource *from, const struct kind *kind, uint32_t id,
+                               void *data)
 {
-    wl_list_remove(wl_resource_get_link(any));
-}
-
-/* An interface whose requests do nothing, but for the end of an object. */
-void object_ignores(struct wl_resource *self, uint32_t number, union wl_argument *with)
-{
-    (void)self, (void)number, (void)with;
+    return make(client_of(from), kind, wl_resource_get_version(from), id, data);
 }
 
 /* What libwayland makes by itself is bounded too: registries, which nothing ends, and the numbers
@@ -139,9 +109,7 @@ void objects_watch(struct client *client)
 
 /* ---- The output */
 
-static const struct kind OUTPUT = { &wl_output_interface, object_ignores, object_unlisted };
-
-static void output_tell(struct wl_resource *output)
+static void output_begun(struct wl_resource *output)
 {
     wl_output_send_geometry(output, 0, 0, host.width / 4, host.height / 4, 0, "nitpicker", "screen",
                             WL_OUTPUT_TRANSFORM_NORMAL);
@@ -153,29 +121,17 @@ static void output_tell(struct wl_resource *output)
     }
 }
 
+static const struct kind OUTPUT = { &wl_output_interface, .begun = output_begun,
+                                    .list = offsetof(struct client, outputs) };
+
 /* ---- The globals */
 
 static void bind(struct wl_client *wl, void *data, uint32_t version, uint32_t id)
 {
-    const struct kind *kind = data;
     struct client *client = desk.clients;
     while (client->wl != wl)
         client++;
-    bool many = kind == &OUTPUT && wl_list_length(&client->outputs) >= LISTENERS;
-    if (many)
-        wl_client_post_no_memory(wl);
-    struct wl_resource *any = many ? NULL : object_new(client, kind, version, id, NULL);
-    if (any && kind == &OUTPUT) {
-        object_listed(any, &client->outputs);
-        output_tell(any);
-    } else if (any && kind == &SEAT) {
-        wl_seat_send_capabilities(any, WL_SEAT_CAPABILITY_POINTER | WL_SEAT_CAPABILITY_KEYBOARD);
-        if (version >= 2)
-            wl_seat_send_name(any, "seat0");
-    } else if (any && kind == &SHM) {
-        wl_shm_send_format(any, WL_SHM_FORMAT_ARGB8888);
-        wl_shm_send_format(any, WL_SHM_FORMAT_XRGB8888);
-    }
+    make(client, data, (int)version, id, NULL);
 }
 
 void objects_start(void)

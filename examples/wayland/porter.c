@@ -20,68 +20,63 @@
 #include <unistd.h>
 
 enum { LISTENER = 3, HOST = 4, BELL = 5 };
-enum { ROOM = 4096, FILES = 28, PIPES = 32, SECONDS = 2, FIXED = 4 };
+enum { ROOM = 4096, FILES = 28, SECONDS = 2 };
+enum { ASKS, TELLS, PIPES, WAYS = PIPES + 32, RUNG = WAYS, LEFT, WAITS };
 
-/* What goes one way and is not handed on yet. */
+/* What goes one way and is not handed on yet: by the connection, or from a pipe of the porter's to
+ * a descriptor of another's. */
 struct way {
-    int from, to;
-    size_t begin, end, count;
-    int files[FILES];
-    char bytes[ROOM];
-};
-
-/* What is written into a pipe of the porter's goes on to a descriptor of another's. */
-struct pump {
     bool used;
     int from, to;
-    size_t begin, end;
+    size_t begin, end, count;
+    int files[FILES];         /* by the connection alone */
     char bytes[ROOM];
 };
 
-static struct way ways[2];
-static struct pump pumps[PIPES];
-static bool may_ask, ending, over;
+union control {
+    struct cmsghdr head;
+    char room[CMSG_SPACE(FILES * sizeof(int))];
+};
+
+static struct way ways[WAYS];
+static bool may_ask, ending;
 
 /* ---- Descriptors */
+
+/* The first way from this one on that is used, or that is not; WAYS where there is none. */
+static int find(int at, bool used)
+{
+    while (at < WAYS && ways[at].used != used)
+        at++;
+    return at;
+}
 
 /* What the other side gets for a descriptor that one side has sent: itself where it is memory, and
  * else the end of a pipe. -1 where there are too many. */
 static int vetted(int file)
 {
-    int pair[2], at = 0;
+    int pair[2], at = find(PIPES, false);
     if (fcntl(file, F_GET_SEALS) >= 0)
         return file;
-    while (at < PIPES && pumps[at].used)
-        at++;
-    if (at == PIPES || pipe2(pair, O_CLOEXEC) < 0)
+    if (at == WAYS || pipe2(pair, O_CLOEXEC) < 0)
         return -1;
     fcntl(pair[0], F_SETFL, O_NONBLOCK);
-    pumps[at] = (struct pump){ .used = true, .from = pair[0], .to = file };
+    ways[at] = (struct way){ .used = true, .from = pair[0], .to = file };
     return pair[1];
 }
 
 /* Hands on what a pipe has. False where it is over. */
-static bool pump(struct pump *pump)
+static bool pump(struct way *way)
 {
-    if (pump->begin == pump->end) {
-        ssize_t got = read(pump->from, pump->bytes, ROOM);
-        pump->begin = 0;
-        pump->end = got > 0 ? (size_t)got : 0;
+    if (way->begin == way->end) {
+        ssize_t got = read(way->from, way->bytes, ROOM);
+        way->begin = 0;
+        way->end = got > 0 ? (size_t)got : 0;
         return got > 0 || (got < 0 && errno == EAGAIN);
     }
-    ssize_t put = write(pump->to, pump->bytes + pump->begin, pump->end - pump->begin);
-    pump->begin += put > 0 ? (size_t)put : 0;
+    ssize_t put = write(way->to, way->bytes + way->begin, way->end - way->begin);
+    way->begin += put > 0 ? (size_t)put : 0;
     return put > 0 || (put < 0 && errno == EAGAIN);
-}
-
-static void pump_all(const struct pollfd *any)
-{
-    for (int at = 0; at < PIPES; at++)
-        if (pumps[at].used && any[at].revents != 0 && !pump(&pumps[at])) {
-            close(pumps[at].from);
-            close(pumps[at].to);
-            pumps[at].used = false;
-        }
 }
 
 /* ---- Messages */
@@ -89,10 +84,7 @@ static void pump_all(const struct pollfd *any)
 /* Takes what has come. False at the end of the connection. */
 static bool take(struct way *way)
 {
-    union {
-        struct cmsghdr head;
-        char room[CMSG_SPACE(FILES * sizeof(int))];
-    } control;
+    union control control;
     struct iovec part = { way->bytes, ROOM };
     struct msghdr message = { .msg_iov = &part, .msg_iovlen = 1, .msg_control = &control,
                               .msg_controllen = sizeof control };
@@ -115,10 +107,7 @@ static bool take(struct way *way)
 /* Hands on what waits. False where the other side has gone. */
 static bool give(struct way *way)
 {
-    union {
-        struct cmsghdr head;
-        char room[CMSG_SPACE(FILES * sizeof(int))];
-    } control;
+    union control control;
     struct iovec part = { way->bytes + way->begin, way->end - way->begin };
     struct msghdr message = { .msg_iov = &part, .msg_iovlen = 1 };
     if (way->count > 0) {
@@ -144,63 +133,53 @@ static bool give(struct way *way)
  * program sends is not looked at before the bell has rung. */
 static void ask(struct pollfd *any)
 {
-    for (int at = 0; at < 2; at++) {
-        bool full = ways[at].begin < ways[at].end, allowed = at == 1 || may_ask;
-        any[at] = (struct pollfd){ over || (!full && !allowed) ? -1 :
-                                   full ? ways[at].to : ways[at].from,
+    for (int at = 0; at < WAYS; at++) {
+        const struct way *way = &ways[at];
+        bool full = way->begin < way->end, waits = full || at != ASKS || may_ask;
+        any[at] = (struct pollfd){ !way->used || !waits ? -1 : full ? way->to : way->from,
                                    full ? POLLOUT : POLLIN, 0 };
     }
-    any[2] = (struct pollfd){ may_ask || over ? -1 : BELL, POLLIN, 0 };
-    any[3] = (struct pollfd){ ending || over ? -1 : HOST, 0, 0 };
+    any[RUNG] = (struct pollfd){ may_ask || !ways[ASKS].used ? -1 : BELL, POLLIN, 0 };
+    any[LEFT] = (struct pollfd){ ending ? -1 : HOST, 0, 0 };
 }
 
-static void ask_pumps(struct pollfd *any)
+/* A way is over. So is the connection with either of its two; what is in pipes still goes on, for a
+ * while. */
+static void end(struct way *way)
 {
-    for (int at = 0; at < PIPES; at++) {
-        bool full = pumps[at].begin < pumps[at].end;
-        any[at] = (struct pollfd){ !pumps[at].used ? -1 : full ? pumps[at].to : pumps[at].from,
-                                   full ? POLLOUT : POLLIN, 0 };
+    way->used = false;
+    if (way >= ways + PIPES) {
+        close(way->from);
+        close(way->to);
+        return;
     }
-}
-
-static bool pumping(void)
-{
-    int at = 0;
-    while (at < PIPES && !pumps[at].used)
-        at++;
-    return at < PIPES;
-}
-
-/* The connection is over. What is in pipes still goes on, for a while. */
-static void end(void)
-{
-    over = ending = true;
+    ways[ASKS].used = ways[TELLS].used = false;
+    ending = true;
     close(HOST);
     alarm(SECONDS);
 }
 
+/* Does what can be done. Where the host has gone, what it said last may still be taken. */
 static void serve(const struct pollfd *any)
 {
     uint64_t rung;
-    bool good = true;
-    if (any[3].revents != 0)
-        ending = true;        /* the host has gone: what it said last may still be taken */
-    if (any[2].revents != 0)
+    ending |= any[LEFT].revents != 0;
+    if (any[RUNG].revents != 0)
         may_ask = read(BELL, &rung, sizeof rung) == sizeof rung;
-    for (int at = 0; at < 2 && good; at++) {
-        bool full = ways[at].begin < ways[at].end;
-        if (any[at].revents == 0)
+    for (int at = 0; at < WAYS; at++) {
+        struct way *way = &ways[at];
+        bool full = way->begin < way->end;
+        if (!way->used || any[at].revents == 0)
             continue;
-        good = full ? give(&ways[at]) : take(&ways[at]);
-        may_ask = may_ask && !(at == 0 && !full);
+        if (!(at >= PIPES ? pump(way) : full ? give(way) : take(way)))
+            end(way);
+        may_ask = may_ask && (at != ASKS || full);
     }
-    if (!good)
-        end();
 }
 
 int main(void)
 {
-    struct pollfd any[FIXED + PIPES];
+    struct pollfd any[WAITS];
     prctl(PR_SET_PDEATHSIG, SIGKILL);
     prctl(PR_SET_DUMPABLE, 0);
     signal(SIGPIPE, SIG_IGN);
@@ -208,17 +187,14 @@ int main(void)
     close(LISTENER);
     if (client < 0 || send(HOST, "", 1, MSG_NOSIGNAL) != 1)
         return 1;
-    ways[0] = (struct way){ .from = client, .to = HOST };
-    ways[1] = (struct way){ .from = HOST, .to = client };
-    while (!over || pumping()) {
+    ways[ASKS] = (struct way){ .used = true, .from = client, .to = HOST };
+    ways[TELLS] = (struct way){ .used = true, .from = HOST, .to = client };
+    while (find(0, true) < WAYS) {
         ask(any);
-        ask_pumps(any + FIXED);
-        poll(any, FIXED + PIPES, -1);
+        poll(any, WAITS, -1);
         if (!ending)
             alarm(SECONDS);
-        pump_all(any + FIXED);
-        if (!over)
-            serve(any);
+        serve(any);
         if (!ending)
             alarm(0);
     }

@@ -125,9 +125,6 @@ const char *host_starts(const char *word)
         return "another program has this name, or there are sixteen";
     *program = (struct program){ .x = 40, .y = 40, .door = -1 };
     memcpy(program->name, word, length);
-    const char *at = strstr(word, ",at:");
-    if (at && at < command)
-        sscanf(at, ",at:%5d:%5d", &program->x, &program->y);
     struct wl_event_loop *loop = wl_display_get_event_loop(desk.display);
     if (!listen_at(program))
         return strerror(errno);

@@ -5,42 +5,27 @@
  * no files of the user. Words of the user give it more. */
 #include "desk.h"
 #include <stdio.h>
-#include <stdlib.h>
 #include <string.h>
 #include <unistd.h>
 
-enum { WORDS = 160, TEXT = 8192 };
+enum { WORDS = 160, TEXT = 2048 };
 
-/* The words of a command line, and the room that they stand in. */
+/* The words of a command line. They are too many where the last place is taken. */
 struct line {
-    char *words[WORDS + 1];
-    char text[TEXT];
-    size_t count, used;
-    bool full, open;          /* a word did not fit; the program has no sandbox */
+    const char *words[WORDS + 1];
+    size_t count;
+    bool open;                /* the program has no sandbox */
 };
 
-static void add(struct line *line, const char *word, size_t length)
+static void add(struct line *line, const char *const *words, size_t count)
 {
-    if (line->count == WORDS || line->used + length + 1 > TEXT) {
-        line->full = true;
-        return;
-    }
-    char *to = line->text + line->used;
-    memcpy(to, word, length);
-    to[length] = 0;
-    line->used += length + 1;
-    line->words[line->count++] = to;
-}
-
-static void add_all(struct line *line, const char *const *words, size_t count)
-{
-    for (size_t at = 0; at < count; at++)
-        add(line, words[at], strlen(words[at]));
+    for (size_t at = 0; at < count && line->count < WORDS; at++)
+        line->words[line->count++] = words[at];
 }
 
 #define ADD(line, ...) \
-    add_all(line, (const char *const[]){ __VA_ARGS__ }, \
-            sizeof (const char *const[]){ __VA_ARGS__ } / sizeof(char *))
+    add(line, (const char *const[]){ __VA_ARGS__ }, \
+        sizeof (const char *const[]){ __VA_ARGS__ } / sizeof(char *))
 
 static const char *const PATH = "/usr/local/bin:/usr/bin:/bin:/usr/games";
 
@@ -73,79 +58,63 @@ static void common(struct line *line, const struct program *program)
         ADD(line, "--ro-bind-try", etc[at], etc[at]);
 }
 
-/* What a word of the user adds: a home that stays, a folder to read, the network. */
-static bool more(struct line *line, const char *word, size_t length)
+/* What a word of the user adds: a place, a home that stays, a folder to read, the network. */
+static bool more(struct line *line, struct program *program, const char *word)
 {
-    if (length > 5 && !strncmp(word, "home:", 5)) {
-        ADD(line, "--bind");
-        add(line, word + 5, length - 5);
-        ADD(line, "/home/me");
-    } else if (length > 4 && !strncmp(word, "see:", 4)) {
-        ADD(line, "--ro-bind");
-        add(line, word + 4, length - 4);
-        add(line, word + 4, length - 4);
-    } else if (length == 3 && !strncmp(word, "net", 3)) {
+    if (!strncmp(word, "home:", 5) && word[5])
+        ADD(line, "--bind", word + 5, "/home/me");
+    else if (!strncmp(word, "see:", 4) && word[4])
+        ADD(line, "--ro-bind", word + 4, word + 4);
+    else if (!strcmp(word, "net"))
         ADD(line, "--share-net", "--ro-bind-try", "/etc/resolv.conf", "/etc/resolv.conf",
             "--ro-bind-try", "/etc/ssl", "/etc/ssl", "--ro-bind-try", "/etc/hosts", "/etc/hosts");
-    } else if (length == 4 && !strncmp(word, "open", 4)) {
+    else if (!strcmp(word, "open"))
         line->open = true;
-    } else {
-        return length > 3 && !strncmp(word, "at:", 3);
-    }
+    else
+        return sscanf(word, "at:%5d:%5d", &program->x, &program->y) == 2;
     return true;
 }
 
-/* The command line of a program in a sandbox. False where a word is none, or too many are. */
-static bool boxed(struct line *line, const struct program *program, const char *words)
+/* The command line of a program in a sandbox, by the user's words, each behind a comma. False where
+ * one is wrong. */
+static bool boxed(struct line *line, struct program *program, char *words)
 {
     bool good = true;
     common(line, program);
-    for (size_t length; *words == ','; words += length + 1) {
-        length = strcspn(words + 1, ",=");
-        good = good && more(line, words + 1, length);
-    }
+    strsep(&words, ",");
+    for (const char *word; (word = strsep(&words, ",")) != NULL;)
+        good = good && more(line, program, word);
     ADD(line, "--chdir", "/home/me", "--");
-    return good && !line->full;
+    return good;
 }
 
-/* The environment of a program without one: that of the user, but for the display. */
-static void open_environment(struct line *line, const struct program *program)
-{
-    static const char *const kept[] = { "HOME", "PATH", "LANG", "USER" };
-    char text[256];
-    snprintf(text, sizeof text, "WAYLAND_DISPLAY=%s", program->path);
-    ADD(line, text);
-    snprintf(text, sizeof text, "XDG_RUNTIME_DIR=%s", desk.folder);
-    ADD(line, text, "GDK_BACKEND=wayland", "GSK_RENDERER=cairo");
-    for (size_t at = 0; at < sizeof kept / sizeof *kept; at++)
-        if (getenv(kept[at])) {
-            snprintf(text, sizeof text, "%s=%s", kept[at], getenv(kept[at]));
-            ADD(line, text);
-        }
-}
+/* That of one without, which has little of the user's environment; $0 is its socket. */
+static const char OPEN[] =
+    "exec /usr/bin/env -i HOME=\"$HOME\" PATH=\"$PATH\" LANG=\"$LANG\" USER=\"$USER\" "
+    "WAYLAND_DISPLAY=\"$0\" XDG_RUNTIME_DIR=\"$1\" GDK_BACKEND=wayland GSK_RENDERER=cairo "
+    "/bin/sh -c \"$2\"";
 
-/* Starts it with nothing of the host's: what it prints is lost. */
-static pid_t spawn(const struct line *line, const struct line *environment)
+/* Starts a program by its words, from the first comma to the =, and its command, with nothing of
+ * the host's: what it prints is lost. 0 where a word is wrong or it does not start. */
+pid_t sandbox_spawn(struct program *program, const char *words, const char *command)
 {
+    static char *const nothing[] = { NULL };
     static const int nowhere[] = { -1, -1, -1 };
-    const struct start start = { line->words[0], line->words, environment->words, nowhere, 3 };
-    pid_t process = 0;
-    return process_start(&start, &process) == 0 ? process : 0;
-}
-
-/* Starts a program by its words, from the first comma to the =, and its command. 0 where a word is
- * wrong or it does not start. */
-pid_t sandbox_spawn(const struct program *program, const char *words, const char *command)
-{
-    static struct line line, environment;
-    line = environment = (struct line){ 0 };
-    bool good = boxed(&line, program, words);
-    if (good && line.open && desk.sandboxes)
+    char text[TEXT];
+    struct line line = { .count = 0 };
+    int length = snprintf(text, sizeof text, "%.*s", (int)strcspn(words, "="), words);
+    if (length >= TEXT || !boxed(&line, program, text))
+        return 0;
+    if (line.open && desk.sandboxes)
         notice("%s: no sandbox", program->name);
-    if (line.open || !desk.sandboxes) {
-        line = (struct line){ 0 };
-        open_environment(&environment, program);
-    }
-    ADD(&line, "/bin/sh", "-c", command);
-    return good && !line.full ? spawn(&line, &environment) : 0;
+    const bool open = line.open || !desk.sandboxes;
+    line.count = open ? 0 : line.count;
+    ADD(&line, "/bin/sh", "-c");
+    if (open)
+        ADD(&line, OPEN, program->path, desk.folder);
+    ADD(&line, command);
+    const struct start start = { line.words[0], (char *const *)line.words,
+                                 open ? environ : nothing, nowhere, 3 };
+    pid_t process = 0;
+    return line.count < WORDS && process_start(&start, &process) == 0 ? process : 0;
 }

@@ -130,8 +130,6 @@ static void pull(struct surface *surface, uint32_t edges)
 static void toplevel_request(struct wl_resource *self, uint32_t number, union wl_argument *with)
 {
     struct surface *surface = object_data(self);
-    if (!surface)
-        return;
     switch (number) {
     case XDG_TOPLEVEL_SET_TITLE:
         title(surface, with[0].s);
@@ -159,8 +157,6 @@ static void toplevel_request(struct wl_resource *self, uint32_t number, union wl
 void role_gone(struct wl_resource *self)
 {
     struct surface *surface = object_data(self);
-    if (!surface)
-        return;
     surface->as = NULL;
     surface->grabs = false;
     surface->state = 0;
@@ -170,7 +166,8 @@ void role_gone(struct wl_resource *self)
     keyboard_choose(surface->client);
 }
 
-static const struct kind TOPLEVEL_KIND = { &xdg_toplevel_interface, toplevel_request, role_gone };
+static const struct kind TOPLEVEL_KIND = { &xdg_toplevel_interface, .request = toplevel_request,
+                                           .gone = role_gone };
 
 /* ---- The surfaces of windows */
 
@@ -182,8 +179,7 @@ static void role_new(struct surface *surface, enum role role, union wl_argument 
     } else if (role == POPUP) {
         popup_new(surface, with);
     } else {
-        uint32_t version = (uint32_t)wl_resource_get_version(surface->shell);
-        surface->as = object_new(surface->client, &TOPLEVEL_KIND, version, with[0].n, surface);
+        surface->as = object_new(surface->shell, &TOPLEVEL_KIND, with[0].n, surface);
         surface->role = TOPLEVEL;
     }
 }
@@ -192,8 +188,6 @@ static void shell_surface_request(struct wl_resource *self, uint32_t number,
                                   union wl_argument *with)
 {
     struct surface *surface = object_data(self);
-    if (!surface)
-        return;
     if (number == XDG_SURFACE_GET_TOPLEVEL)
         role_new(surface, TOPLEVEL, with);
     else if (number == XDG_SURFACE_GET_POPUP)
@@ -208,15 +202,13 @@ static void shell_surface_request(struct wl_resource *self, uint32_t number,
 static void shell_surface_gone(struct wl_resource *self)
 {
     struct surface *surface = object_data(self);
-    if (!surface)
-        return;
     surface->shell = NULL;
     surface->next.geometry = surface->geometry = (struct box){ 0 };
     surface_unmap(surface);
 }
 
-static const struct kind SHELL_SURFACE = { &xdg_surface_interface, shell_surface_request,
-                                           shell_surface_gone };
+static const struct kind SHELL_SURFACE = { &xdg_surface_interface, .request = shell_surface_request,
+                                           .gone = shell_surface_gone };
 
 /* The surface goes, before the objects that speak of it. */
 void shell_drop(struct surface *surface)
@@ -236,40 +228,41 @@ static void shell_surface_new(struct wl_resource *shell, uint32_t id, struct sur
     if (surface->shell || surface->as || (surface->role != NO_ROLE && !window))
         wl_resource_post_error(shell, XDG_WM_BASE_ERROR_ROLE, "it has a role");
     else
-        surface->shell = object_new(surface->client, &SHELL_SURFACE,
-                                    (uint32_t)wl_resource_get_version(shell), id, surface);
+        surface->shell = object_new(shell, &SHELL_SURFACE, id, surface);
 }
 
 static void shell_request(struct wl_resource *self, uint32_t number, union wl_argument *with)
 {
     if (number == XDG_WM_BASE_CREATE_POSITIONER)
-        positioner_new(self, with[0].n);
+        object_new(self, &POSITIONER, with[0].n, NULL);
     else if (number == XDG_WM_BASE_GET_XDG_SURFACE)
         shell_surface_new(self, with[0].n, object_data((struct wl_resource *)with[1].o));
 }
 
-const struct kind SHELL = { &xdg_wm_base_interface, shell_request, NULL };
+const struct kind SHELL = { &xdg_wm_base_interface, .request = shell_request };
 
 /* ---- Decorations: there are none but the labels of X-ray mode. */
+
+static void decoration_begun(struct wl_resource *self)
+{
+    zxdg_toplevel_decoration_v1_send_configure(self, BY_SERVER);
+}
 
 static void decoration_request(struct wl_resource *self, uint32_t number, union wl_argument *with)
 {
     (void)with;
     if (number != ZXDG_TOPLEVEL_DECORATION_V1_DESTROY)
-        zxdg_toplevel_decoration_v1_send_configure(self, BY_SERVER);
+        decoration_begun(self);
 }
 
-static const struct kind DECORATION = { &zxdg_toplevel_decoration_v1_interface, decoration_request,
-                                        NULL };
+static const struct kind DECORATION = { &zxdg_toplevel_decoration_v1_interface,
+                                        .request = decoration_request, .begun = decoration_begun };
 
 static void decorations_request(struct wl_resource *self, uint32_t number, union wl_argument *with)
 {
-    if (number != ZXDG_DECORATION_MANAGER_V1_GET_TOPLEVEL_DECORATION)
-        return;
-    struct wl_resource *any = object_new(client_of(self), &DECORATION, 1, with[0].n, NULL);
-    if (any)
-        zxdg_toplevel_decoration_v1_send_configure(any, BY_SERVER);
+    if (number == ZXDG_DECORATION_MANAGER_V1_GET_TOPLEVEL_DECORATION)
+        object_new(self, &DECORATION, with[0].n, NULL);
 }
 
-const struct kind DECORATIONS = { &zxdg_decoration_manager_v1_interface, decorations_request,
-                                  NULL };
+const struct kind DECORATIONS = { &zxdg_decoration_manager_v1_interface,
+                                  .request = decorations_request };

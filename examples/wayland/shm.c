@@ -56,10 +56,10 @@ static void buffer_gone(struct wl_resource *self)
 {
     struct buffer *buffer = object_data(self);
     pool_left(buffer->pool);
-    free(buffer);
 }
 
-static const struct kind BUFFER = { &wl_buffer_interface, object_ignores, buffer_gone };
+static const struct kind BUFFER = { &wl_buffer_interface, .gone = buffer_gone,
+                                    .size = sizeof(struct buffer) };
 
 /* Reads a part of a row. False where the client's file has no such words. */
 bool buffer_read(const struct buffer *buffer, int32_t x, int32_t y, int32_t w, uint32_t *words)
@@ -82,7 +82,7 @@ static void buffer_new(struct pool *pool, struct wl_resource *self, union wl_arg
         wl_resource_post_error(self, WL_SHM_ERROR_INVALID_STRIDE, "no such rows");
         return;
     }
-    struct wl_resource *any = object_with(pool->client, &BUFFER, 1, with[0].n, sizeof like);
+    struct wl_resource *any = object_new(self, &BUFFER, with[0].n, NULL);
     if (!any)
         return;
     *(struct buffer *)object_data(any) = like;
@@ -100,7 +100,14 @@ static void pool_gone(struct wl_resource *self)
     pool_left(object_data(self));
 }
 
-static const struct kind POOL = { &wl_shm_pool_interface, pool_request, pool_gone };
+static const struct kind POOL = { &wl_shm_pool_interface, .request = pool_request,
+                                  .gone = pool_gone };
+
+static void shm_begun(struct wl_resource *self)
+{
+    wl_shm_send_format(self, WL_SHM_FORMAT_ARGB8888);
+    wl_shm_send_format(self, WL_SHM_FORMAT_XRGB8888);
+}
 
 static void shm_request(struct wl_resource *self, uint32_t number, union wl_argument *with)
 {
@@ -111,7 +118,7 @@ static void shm_request(struct wl_resource *self, uint32_t number, union wl_argu
     struct pool *pool = client->pools < POOLS ? malloc(sizeof *pool) : NULL;
     if (fcntl(file, F_GET_SEALS) < 0)
         wl_resource_post_error(self, WL_SHM_ERROR_INVALID_FD, "a memfd, or shared memory");
-    else if (!pool || !object_new(client, &POOL, 1, with[0].n, pool))
+    else if (!pool || !object_new(self, &POOL, with[0].n, pool))
         wl_client_post_no_memory(client->wl);
     else {
         *pool = (struct pool){ file, 1, client };
@@ -122,4 +129,4 @@ static void shm_request(struct wl_resource *self, uint32_t number, union wl_argu
     free(pool);
 }
 
-const struct kind SHM = { &wl_shm_interface, shm_request, NULL };
+const struct kind SHM = { &wl_shm_interface, .request = shm_request, .begun = shm_begun };

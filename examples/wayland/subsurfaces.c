@@ -47,7 +47,7 @@ static void restack(struct surface *surface, struct surface *other, bool above)
 static void subsurface_request(struct wl_resource *self, uint32_t number, union wl_argument *with)
 {
     struct surface *surface = object_data(self);
-    if (!surface || !surface->parent)
+    if (!surface->parent)
         return;
     switch (number) {
     case WL_SUBSURFACE_SET_POSITION:
@@ -68,17 +68,8 @@ static void subsurface_request(struct wl_resource *self, uint32_t number, union 
     }
 }
 
-static void subsurface_gone(struct wl_resource *self)
-{
-    struct surface *surface = object_data(self);
-    if (surface) {
-        surface_unmap(surface);
-        surface_adopt(surface, NULL);
-        surface->as = NULL;
-    }
-}
-
-static const struct kind KIND = { &wl_subsurface_interface, subsurface_request, subsurface_gone };
+static const struct kind KIND = { &wl_subsurface_interface, .request = subsurface_request,
+                                  .gone = role_gone };
 
 static void subcompositor_request(struct wl_resource *self, uint32_t number,
                                   union wl_argument *with)
@@ -92,7 +83,7 @@ static void subcompositor_request(struct wl_resource *self, uint32_t number,
         wl_resource_post_error(self, WL_SUBCOMPOSITOR_ERROR_BAD_SURFACE, "it has a role");
         return;
     }
-    surface->as = object_new(surface->client, &KIND, 1, with[0].n, surface);
+    surface->as = object_new(self, &KIND, with[0].n, surface);
     if (!surface->as)
         return;
     surface->role = SUBSURFACE;
@@ -101,4 +92,4 @@ static void subcompositor_request(struct wl_resource *self, uint32_t number,
     surface_adopt(surface, parent);
 }
 
-const struct kind SUBCOMPOSITOR = { &wl_subcompositor_interface, subcompositor_request, NULL };
+const struct kind SUBCOMPOSITOR = { &wl_subcompositor_interface, .request = subcompositor_request };

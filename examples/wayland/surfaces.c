@@ -227,13 +227,21 @@ static void region_request(struct wl_resource *self, uint32_t number, union wl_a
                                               box_clamp(with[2].i), box_clamp(with[3].i) });
 }
 
-static const struct kind REGION = { &wl_region_interface, region_request, object_free };
+static const struct kind REGION = { &wl_region_interface, .request = region_request,
+                                    .size = sizeof(struct box) };
 
 /* ---- Requests */
 
 static const struct box EVERYWHERE = { -32768, -32768, 65535, 65535 };
 
-static const struct kind CALLBACK = { &wl_callback_interface, object_ignores, object_unlisted };
+static const struct kind CALLBACK = { .interface = &wl_callback_interface };
+
+static void frame(struct surface *surface, uint32_t id)
+{
+    struct wl_resource *callback = object_new(surface->self, &CALLBACK, id, NULL);
+    if (callback)
+        wl_list_insert(&surface->next.frames, wl_resource_get_link(callback));
+}
 
 static void surface_request(struct wl_resource *self, uint32_t number, union wl_argument *with)
 {
@@ -251,7 +259,7 @@ static void surface_request(struct wl_resource *self, uint32_t number, union wl_
                      (struct box){ 0, 0, 32767, 32767 }));
         break;
     case WL_SURFACE_FRAME:
-        object_listed(object_new(surface->client, &CALLBACK, 1, with[0].n, NULL), &next->frames);
+        frame(surface, with[0].n);
         break;
     case WL_SURFACE_SET_INPUT_REGION:
         next->input = with[0].o ?
@@ -297,41 +305,37 @@ static void surface_gone(struct wl_resource *self)
     drop(&surface->next);
     drop(&surface->committed);
     wl_list_remove(&surface->link);
-    surface->client->surface_count--;
-    free(surface);
 }
 
-static const struct kind SURFACE = { &wl_surface_interface, surface_request, surface_gone };
-
-/* ---- The compositor */
-
-static void surface_new(struct client *client, uint32_t version, uint32_t id)
+static void surface_begun(struct wl_resource *self)
 {
-    struct wl_resource *self = client->surface_count < SURFACES ?
-        object_with(client, &SURFACE, version, id, sizeof(struct surface)) : NULL;
-    if (!self) {
-        wl_client_post_no_memory(client->wl);
-        return;
-    }
     struct surface *surface = object_data(self);
     surface->self = self;
-    surface->client = client;
+    surface->client = client_of(self);
     surface->next.input = surface->committed.input = EVERYWHERE;
     struct wl_list *lists[] = { &surface->children, &surface->sibling, &surface->order,
                                 &surface->place, &surface->next.frames,
                                 &surface->committed.frames };
     for (size_t at = 0; at < sizeof lists / sizeof *lists; at++)
         wl_list_init(lists[at]);
-    wl_list_insert(&client->surfaces, &surface->link);
-    client->surface_count++;
+    wl_list_insert(&surface->client->surfaces, &surface->link);
 }
+
+static const struct kind SURFACE = { &wl_surface_interface, .request = surface_request,
+                                     .begun = surface_begun, .gone = surface_gone,
+                                     .size = sizeof(struct surface) };
+
+/* ---- The compositor */
 
 static void compositor_request(struct wl_resource *self, uint32_t number, union wl_argument *with)
 {
-    if (number == WL_COMPOSITOR_CREATE_SURFACE)
-        surface_new(client_of(self), (uint32_t)wl_resource_get_version(self), with[0].n);
-    else if (number == WL_COMPOSITOR_CREATE_REGION)
-        object_with(client_of(self), &REGION, 1, with[0].n, sizeof(struct box));
+    struct client *client = client_of(self);
+    if (number == WL_COMPOSITOR_CREATE_REGION)
+        object_new(self, &REGION, with[0].n, NULL);
+    else if (wl_list_length(&client->surfaces) < SURFACES)
+        object_new(self, &SURFACE, with[0].n, NULL);
+    else
+        wl_client_post_no_memory(client->wl);
 }
 
-const struct kind COMPOSITOR = { &wl_compositor_interface, compositor_request, NULL };
+const struct kind COMPOSITOR = { &wl_compositor_interface, .request = compositor_request };

@@ -109,6 +109,7 @@ static const char *serve(struct client *client, const struct call *call)
         reply = ask(client->name, call);
     }
     host.changed |= call->call != CALL_TAKE;
+    client->stirred |= call->call != CALL_TAKE && call->call != CALL_REFRESH;
     return answer(client, &reply) ? NULL : "closed: it does not read its replies";
 }
 
@@ -128,6 +129,22 @@ static void serve_client(uint32_t seat)
         client->rest = now() + (used < SLICE ? 0 : (SEATS - 1) * used);
     if (why)
         seats_close(seat, why);
+}
+
+/* After a look that took so long. Outside of mode Flat it makes the whole picture where views have
+ * changed: who has called for that pays for it, as for calls. */
+void calls_pay(uint64_t used)
+{
+    const bool whole = used >= SLICE && nit_state(&host.server).mode != NIT_MODE_FLAT;
+    uint64_t payers = 0;
+    for (int seat = 0; seat < SEATS; seat++)
+        payers += clients[seat].stirred;
+    for (int seat = 0; seat < SEATS; seat++) {
+        struct client *client = &clients[seat];
+        if (whole && client->stirred)
+            client->rest = SDL_max(client->rest, now() + (SEATS - 1) * used / payers);
+        client->stirred = false;
+    }
 }
 
 /* The seat whose client has rested longest, of those that may be served and are not yet. */

@@ -24,6 +24,7 @@ struct client {
     uint32_t w, h;           /* of its buffer */
     bool woken;              /* it was told that events wait, and has not found none since */
     char gone[40];           /* where not empty: why it is closed as soon as calls are served */
+    bool stirred;            /* since the last look it has called what the next may cost all for */
     uint64_t rest;           /* it has used up its slice, and is not served before */
 };
 
@@ -35,5 +36,6 @@ void seats_close(uint32_t seat, const char *why);
 void seats_left(struct client *client);
 void seats_reap(void);
 void calls_serve(void);
+void calls_pay(uint64_t used);
 
 #endif

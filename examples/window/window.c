@@ -109,6 +109,7 @@ static void show(void)
         return;
     for (int seat = 0; seat < SEATS; seat++)
         seen[seat] = clients[seat].name;
+    calls_pay(spent() - used);
     host.next = SDL_max(host.next, now() + spent() - used);
 }
 

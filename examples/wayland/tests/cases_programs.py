@@ -174,13 +174,13 @@ def case_mpv(screen, folder):
 def case_fullscreen(screen, folder):
     """mpv shows thirty pictures a second on the whole of a screen of 1920 by 1080."""
     with Desk(screen, folder, ["--size=1920x1080"]) as desk:
-        video.make(desk.folder)
-        desk.tell("+mpv,home:HOME=" + video.PLAY.format("numbers.mp4", "said"))
-        video.seen(screen, 1)
+        video.make(desk.folder, 30)
+        desk.tell("+mpv,home:HOME=" + video.PLAY.format(30, "--fs"))
+        where = video.found(screen)
         for _ in range(5):  # other work on the machine is not the host's
             before = video.dropped(desk.wrote("said"))
-            rate = video.seen(screen, 5)
-            given = video.RATE - (video.dropped(desk.wrote("said")) - before) / 5
+            rate = video.seen(screen, where, 5) / 5
+            given = 30 - (video.dropped(desk.wrote("said")) - before) / 5
             print(f"    mpv gives {given:.1f} a second, and {rate:.1f} were seen by looking")
             if given > 29 and rate > 15:
                 return

@@ -37,14 +37,14 @@ BUGS = {
     "the clipboard is set without the focus": (
         "misdeeds", "clip.c", "SET_SELECTION && client->focused;", "SET_SELECTION;"),
     "the clipboard is read without the focus": (
-        "clipboard", "clip.c", "if (device && client->focused)", "if (device)"),
+        "clipboard", "clip.c", "    if (client_of(self)->focused)\n", ""),
     "the porter hands each descriptor on": (
         "lingering", "porter.c", "if (fcntl(file, F_GET_SEALS) >= 0)",
         "if (fcntl(file, F_GETFD) >= 0)"),
     "rows may overlap": (
         "misdeeds", "shm.c", "like.stride / 4 < like.w", "like.stride < 4"),
     "surfaces are not counted": (
-        "misdeeds", "surfaces.c", "client->surface_count < SURFACES", "true"),
+        "misdeeds", "surfaces.c", "wl_list_length(&client->surfaces) < SURFACES", "true"),
     "who is locked out comes again": (
         "kill", "clients.c", "    program_end(program);\n}", "    program_forget(program);\n}"),
     "a window that is let go of has no edge any more": (

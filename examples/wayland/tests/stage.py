@@ -17,6 +17,8 @@ FOOT = "foot{},home:{}={} sh -c 'clear; exec cat > typed'"
 class Desk(Running):
     """The host in a screen. `folder` is a home for programs."""
 
+    program = "desk"
+
     def __init__(self, screen, programs, words, **more):
         self.screen = screen
         self.made = tempfile.TemporaryDirectory(prefix="desk-")
@@ -24,7 +26,7 @@ class Desk(Running):
         self.programs = Path(programs).resolve()
         environment = dict(screen.environment, XDG_RUNTIME_DIR=self.made.name)
         words = [word.replace("HOME", self.made.name) for word in words]
-        super().__init__(self.programs / "desk", words, env=environment, **more)
+        super().__init__(self.programs / self.program, words, env=environment, **more)
         last = screen.width - 1, screen.height - 1
         until("the host's window", lambda: screen.pixel(*last) == BARE)
 

@@ -5,18 +5,19 @@ import time
 
 from stage import until
 
-RATE, SECONDS, BITS = 30, 34, 10
-SHADE = "if(mod(floor(N/pow(2\\,floor(X/4)))\\,2)\\,235\\,16)"
-MAKE = (f"ffmpeg -loglevel error -f lavfi -i nullsrc=s=40x2:r={RATE}:d={SECONDS} -vf "
-        f"\"geq=lum='{SHADE}':cb=128:cr=128,scale=320:180:flags=neighbor,setsar=1\" "
-        "-pix_fmt yuv420p {}/numbers.mp4")
-PLAY = ("mpv --fs --no-audio --no-config --osd-level=0 --profile=sw-fast --vo=wlshm "
-        "--term-status-msg='dropped ${{frame-drop-count}}' {} > {} 2>&1")
+SECONDS, BITS, RUN = 34, 11, 100
+SHADE = "if(gte(Y\\,1)*mod(floor(N/pow(2\\,floor(X/4)))\\,2)\\,235\\,16)"
+MAKE = ("ffmpeg -loglevel error -f lavfi -i nullsrc=s=44x4:r={1}:d={2} -vf "
+        "\"geq=lum='if(Y\\,{3}\\,81)':cb='if(Y\\,128\\,90)':cr='if(Y\\,128\\,240)',"
+        "scale=640:360:flags=neighbor,setsar=1\" -pix_fmt yuv420p {0}/numbers{1}.mp4")
+PLAY = ("mpv {1} --no-audio --no-config --osd-level=0 --profile=sw-fast --vo=wlshm "
+        "--term-status-msg='dropped ${{frame-drop-count}}' numbers{0}.mp4 > said 2>&1")
 
 
-def make(folder):
-    """Makes the video: ten bars, each white where its bit of the picture's number is set."""
-    subprocess.run(MAKE.format(folder), shell=True, check=True)
+def make(folder, rate):
+    """Makes the video: under a red beam eleven bars, each white where its bit of the picture's
+    number is set."""
+    subprocess.run(MAKE.format(folder, rate, SECONDS, SHADE), shell=True, check=True)
 
 
 def dropped(said):
@@ -24,20 +25,42 @@ def dropped(said):
     return int(said.split("dropped ")[-1].split()[0]) if "dropped" in said else 0
 
 
-def number(screen):
-    """The number of the picture that is seen on the whole screen, or None."""
-    row = screen.part(0, screen.height // 2, screen.width, 1)[0]
-    bars = [row[(2 * bar + 1) * screen.width // (2 * BITS)] & 0xFF for bar in range(BITS)]
+def is_red(word):
+    """A word of the beam."""
+    return word >> 16 > 200 and word >> 8 & 0xFF < 60 and word & 0xFF < 60
+
+
+def place(screen):
+    """Where the video is seen: its first column, a row of the bars, and its width; or None."""
+    for y, row in enumerate(screen.part(0, 0, screen.width, screen.height)):
+        red = [x for x, word in enumerate(row) if is_red(word)]
+        if len(red) > RUN:
+            wide = red[-1] + 1 - red[0]
+            return red[0], y + wide * 9 // 32, wide
+    return None
+
+
+def number(screen, where):
+    """The number of the picture that is seen there, or None."""
+    x, y, wide = where
+    row = screen.part(x, y, wide, 1)[0]
+    bars = [row[(2 * bar + 1) * wide // (2 * BITS)] & 0xFF for bar in range(BITS)]
     if any(40 < bar < 210 for bar in bars):
         return None
     return sum((bar > 128) << at for at, bar in enumerate(bars))
 
 
-def seen(screen, seconds):
-    """How many pictures a second are seen, for so long."""
-    until("the video", lambda: number(screen), 60)
-    end, found = time.monotonic() + seconds, set()
+def found(screen):
+    """Waits for the video, and answers where it is."""
+    until("the video", lambda: place(screen), 60)
+    time.sleep(1)
+    return place(screen)
+
+
+def seen(screen, where, seconds):
+    """How many pictures are seen there, for so long."""
+    end, numbers = time.monotonic() + seconds, set()
     while time.monotonic() < end:
-        found.add(number(screen))
+        numbers.add(number(screen, where))
         time.sleep(0.002)
-    return len(found - {None}) / seconds
+    return len(numbers - {None})
