@@ -1,25 +1,32 @@
-"""Times the library for hosts beside a plain compositor: the rows of `tools/bench --library`."""
+"""Times the library for hosts beside two plain compositors: the rows of `tools/bench --library`.
+One moves each word twice, the other one three times, as the library does."""
 import statistics
 import subprocess
 import sys
 
+import library_moves
 import runs
-from tables import heading
 
 EMBED = runs.TOP / "embed"
+PROGRAMS = ["speed", "speed-plain", "speed-kept"]
+# The plain compositor without and with a screen of its own, by their places there.
+PLAIN, KEPT = 1, 2
 ROUNDS = 5
-# What a row may be: so many times the plain compositor's time, so many times another row's, or so
-# many nanoseconds.
-MOST_RATIO = {"a refresh of 200 by 200, and a look": 2, "a refresh of 1000 by 700, and a look": 2,
-              "a refresh of 200 by 200, and damage copied": 2,
-              "a refresh of 1000 by 700, and damage copied": 2}
-CORNER, CORNERS = "a corner refreshed, and damage copied", "two corners refreshed, and damage copied"
+# The two ways in which a host looks at what a work changed, as its name ends.
+LOOKED, COPIED = ", and a look", ", and damage copied"
+# What a row may be: so many times the time of the plain compositor with three moves, so many times
+# another row's, or so many nanoseconds.
+MOST_RATIO = {work + way: most for way in (LOOKED, COPIED) for work, most in (
+    ("a refresh of 200 by 200", 1.3), ("a refresh of 1000 by 700", 1.3),
+    ("3840 by 2160: all refreshed", 1.2))}
+CORNER = "a corner refreshed, and damage copied"
+CORNERS = "two corners refreshed, and damage copied"
 MOST_BESIDE = {f"{size}: {CORNERS}": (f"{size}: {CORNER}", 3)
                for size in ("1920 by 1080", "3840 by 2160")}
 MOST_TIME = {"a call that changes nothing": 200}
 # The row of which it is told what a host takes that shows so many pictures a second.
 PICTURES, PICTURE = 60, "1920 by 1080: all refreshed, and damage copied"
-LIMITED = MOST_RATIO.keys() | MOST_BESIDE.keys() | MOST_TIME.keys() | {PICTURE}
+LIMITED = {*MOST_RATIO, *MOST_BESIDE, *MOST_TIME, PICTURE}
 
 
 class NoTimes(Exception):
@@ -47,22 +54,22 @@ class Rows:
 
     def least(self, work):
         """The numbers of each program where it took least."""
-        return [min(times[k][work] for times in self.rounds) for k in range(2)]
+        return [min(times[k][work] for times in self.rounds) for k in range(len(PROGRAMS))]
 
-    def ratio(self, work):
-        """Our time by the other one's in one round: the median of all."""
-        return statistics.median(ours[work][0] / theirs[work][0] for ours, theirs in self.rounds)
+    def ratio(self, work, by):
+        """Our time by another program's in one round: the median of all."""
+        return statistics.median(times[0][work][0] / times[by][work][0] for times in self.rounds)
 
     def beside(self, work, other):
         """Our time of a work by that of another one in the same round: the median of all."""
-        return statistics.median(ours[work][0] / ours[other][0] for ours, _ in self.rounds)
+        return statistics.median(times[0][work][0] / times[0][other][0] for times in self.rounds)
 
 
 def beyond_limits(rows):
     """What takes longer than it may."""
     for work, most in MOST_RATIO.items():
-        if rows.ratio(work) > most:
-            yield f"{work}: over {most} times the plain compositor's time"
+        if rows.ratio(work, KEPT) > most:
+            yield f"{work}: over {most} times the time of three moves"
     for work, (other, most) in MOST_BESIDE.items():
         if rows.beside(work, other) > most:
             yield f"{work}: over {most} times what one takes"
@@ -71,39 +78,66 @@ def beyond_limits(rows):
             yield f"{work}: over {most} ns"
 
 
+def shown(number):
+    digits = 2 if number < 10 else 1 if number < 100 else 0
+    return f"{number:,.{digits}f}"
+
+
+def cells(rows, work):
+    """What a work takes in microseconds, and each plain compositor, with our time by its own."""
+    if work not in rows.works:
+        return [""] * len(PROGRAMS)
+    ours, *theirs = [shown(numbers[0] / 1000) for numbers in rows.least(work)]
+    return [ours] + [f"{time}, {rows.ratio(work, by):.2f}" for by, time in enumerate(theirs, PLAIN)]
+
+
+def work_of(name):
+    """A work without the way in which what it changed is looked at."""
+    return name.replace(LOOKED, "").replace(COPIED, "")
+
+
 def print_tables(rows):
-    print("\n".join(heading([0, 1], "the library, µs", "a plain compositor, µs")))
-    for work in rows.works:
-        ours, theirs = (f"{numbers[0] / 1000:,.2f}" for numbers in rows.least(work))
-        print(f"| {work} | {ours} | {theirs} | {rows.ratio(work):.2f} |")
-    print("\n" + "\n".join(heading([0, 1], "the library, MB", "a plain compositor, MB")))
+    """A row for each work, with a look in the one half and with copies in the other one."""
+    more = "two moves: µs, ratio | three moves: µs, ratio"
+    print(f"| work | by look: the library, µs | {more} | by copies: the library, µs | {more} |")
+    print("|---" * 7 + "|")
+    for work in dict.fromkeys(map(work_of, rows.works)):
+        looked = work + LOOKED if work + LOOKED in rows.works else work
+        row = [work, *cells(rows, looked), *cells(rows, work + COPIED)]
+        print(f"| {' | '.join(row)} |")
+    print("\n| work | the library, MB | two moves, MB | three moves, MB |\n|---|---|---|---|")
     for work in rows.works:
         if len(rows.least(work)[0]) > 1:
-            ours, theirs = (numbers[1] / 1024 for numbers in rows.least(work))
-            print(f"| {work} | {ours:,.1f} | {theirs:,.1f} | {ours / theirs:.2f} |")
+            sizes = [f"{numbers[1] / 1024:,.1f}" for numbers in rows.least(work)]
+            print(f"| {work} | {' | '.join(sizes)} |")
 
 
 def print_notes(rows):
     shares = [f"{numbers[0] * PICTURES / 1e7:.0f} %" for numbers in rows.least(PICTURE)]
-    print(f"\n{PICTURES} pictures a second of {PICTURE}: {shares[0]} of a processor, over the plain")
-    print(f"compositor {shares[1]}.\n")
+    print(f"\n{PICTURES} pictures a second of {PICTURE}: {shares[0]} of a processor, over the")
+    print(f"plain compositor {shares[PLAIN]} with two moves, and {shares[KEPT]} with three.\n")
     for work, (other, _) in MOST_BESIDE.items():
         print(f"{work}, by {other}: {rows.beside(work, other):.2f}.")
 
 
-def main():
-    """Prints the tables. The status is 1 where a work has no time, or takes longer than it may."""
-    command = ["make", "-s", "-C", EMBED, "out/speed", "out/speed-plain"]
+def print_rows():
+    """Prints the tables, and answers what takes longer than it may."""
+    rows = Rows([EMBED / "out" / name for name in PROGRAMS])
+    print_tables(rows)
+    print_notes(rows)
+    return list(beyond_limits(rows))
+
+
+def main(is_of_moves):
+    """Prints the tables, or that of moves. The status is 1 where a work has no time, or takes
+    longer than it may."""
+    command = ["make", "-s", "-C", EMBED, *(f"out/{name}" for name in PROGRAMS)]
     if subprocess.run(command, check=False, stdout=sys.stderr).returncode != 0:
         return 1
     try:
-        rows = Rows([EMBED / "out" / "speed", EMBED / "out" / "speed-plain"])
-    except NoTimes as why:
-        print(f"Not as it should be:\n\n- {why}")
-        return 1
-    print_tables(rows)
-    print_notes(rows)
-    notes = list(beyond_limits(rows))
+        notes = library_moves.print_moves() if is_of_moves else print_rows()
+    except (NoTimes, library_moves.NoMoves) as why:
+        notes = [str(why)]
     if notes:
         print("\nNot as it should be:\n\n" + "\n".join(f"- {note}" for note in notes))
     return 1 if notes else 0
